@@ -1,0 +1,6 @@
+use Rattle.std.proofs.Common.{rules}
+use Rattle.sd_base.proofs.Bytes.{byte-has}
+use Rattle.sd_base.proofs.set.InstSet.has.Goals as goal
+
+pub returns : goal.returns
+returns c = byte-has c.args.self.bits c.args.i c.bit.result (search rules) c.bit.ensures.low c.bit.ensures.high c.bit.ensures.value

@@ -1,0 +1,5 @@
+use Rattle.sd_base.proofs.Bytes.{byte-only}
+use Rattle.sd_base.proofs.set.InstSet.only.Goals as goal
+
+pub returns : goal.returns
+returns c = byte-only c.args.i c.bit.result c.bit.ensures.low c.bit.ensures.high c.bit.ensures.value

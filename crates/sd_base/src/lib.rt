@@ -1,0 +1,41 @@
+//! The words that every layer speaks: names of things, refusals, and the traits of what is outside.
+//!
+//! Meaning: `Sequence` is a list, `InstNo` and `PageNo` are numbers in their range, `InstSet` is a rising list
+//! of instances (`specs/Sets.antt`).
+//! Keeps: an instance is 1 to 8, a page is 0 to 1,023.
+//! Promises: `Source::take` and `Sink::put` answer `Failed` only where their count of faults rose
+//! (`specs/Streams.antt`); `MemSource` and `MemSink` fail exactly where they were told to.
+//! Refuses: nothing by itself; `Refusal` lists what the crates above refuse.
+//! Knows nothing of: devices, pages, logs, scripts.
+//! On it stand: all other crates.
+//!
+//! To change:
+//! - free: bodies, `MemSource` and `MemSink` inside
+//! - dear: the clauses of `Source` and `Sink`, the fields of `Place` and `Status`
+//! - frozen: the variants of `Refusal` and their fields (docs/REFUSALS.md)
+#![tactic(auto)]
+
+mod gate;
+mod ids;
+mod memory_streams;
+mod place;
+mod refusal;
+mod sequence;
+mod set;
+mod standard_streams;
+mod streams;
+mod trouble;
+
+pub use gate::{Gate, OpenGate};
+pub use ids::{InstNo, Lsn, PageNo, Rid, TxnId};
+pub use memory_streams::{MemSink, MemSource};
+pub use place::{Mode, Place, Status};
+pub use refusal::{Cause, Failed, Memory, Refusal};
+pub use sequence::{Bytes, Cycle, Duplicate, Sequence, Word};
+pub use set::InstSet;
+pub use standard_streams::{StdSink, StdSource};
+pub use streams::{Sink, Source};
+pub use trouble::{Pick, Trouble};
+
+#[cfg(test)]
+mod tests;
