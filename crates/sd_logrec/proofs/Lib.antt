@@ -1,0 +1,9 @@
+pub mod Formats
+pub mod Lengths
+pub mod Lists
+pub mod Numbers
+pub mod Parts
+pub mod Places
+pub mod Records
+pub mod Rising
+pub mod Writes

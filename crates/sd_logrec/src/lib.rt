@@ -1,0 +1,33 @@
+//! The records of a log, and the bytes that spell them.
+//!
+//! Meaning: a `Record` is its fields; `spelling` gives its bytes by one table, and `HasSpelling` says which records
+//! have any (`specs/Spelling.antt`); `flat` is the same record with the same fields whatever its kind, for laws on
+//! chains of records (`specs/View.antt`).
+//! Keeps: nothing behind a call.
+//! Promises: `put` appends a record's spelling, and takes no memory where there is room; `take` reads a record exactly
+//! where its spelling stands, whatever follows; each record has one spelling and none begins another (`no_prefix`).
+//! Refuses: `BadRecord` in `take`.
+//! Knows nothing of: groups and gates of a log, the order of records, what a record does to a page.
+//! Stands on: sd_base.
+//!
+//! To change:
+//! - free: bodies, `fields.rt`, `miss.rt`, `specs/Reading.antt`, `specs/Writing.antt`
+//! - dear: `HasSpelling`, `flat`, the clauses of `put` and `take`
+//! - frozen: the table in `specs/Spelling.antt` (docs/FORMATS.md); a new type of record is a new row
+#![tactic(auto)]
+
+mod copy;
+mod fields;
+mod laws;
+mod miss;
+mod put;
+mod record;
+mod rows;
+mod take;
+
+pub use laws::{no_prefix, one_spelling, spelling_length};
+pub use record::Record;
+pub use rows::{Recs, Rows, Spans};
+
+#[cfg(test)]
+mod tests;

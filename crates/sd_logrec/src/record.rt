@@ -1,0 +1,107 @@
+//! A log record as a value.
+
+ghost use Rattle.std.specs.Prelude.{◌≡◌, length, IfOk};
+ghost use Rattle.sd_logrec.specs.Spelling.{spelling, spelled_length, size, HasSpelling};
+ghost use Rattle.sd_logrec.specs.View.{flat};
+
+use crate::{Recs, Spans};
+use sd_base::{Bytes, Lsn, PageNo, TxnId};
+
+/// A record of an instance's log. `prev` is the LSN of the transaction's former record, or 0.
+#[derive(Debug, Drop)]
+pub enum Record {
+    /// The instance starts an epoch.
+    Start {
+        lsn: Lsn,
+        epoch: u32,
+    },
+    /// A slot's value is changed, or a slot of `capacity` bytes is made; a value of `None` is a dead slot.
+    Update {
+        lsn: Lsn,
+        txn: TxnId,
+        prev: Lsn,
+        page: PageNo,
+        slot: u16,
+        capacity: u16,
+        before: Option<Bytes>,
+        after: Option<Bytes>,
+    },
+    /// An update is undone; `undo_next` is the LSN of the next record to undo, or 0.
+    Clr {
+        lsn: Lsn,
+        txn: TxnId,
+        prev: Lsn,
+        undo_next: Lsn,
+        page: PageNo,
+        slot: u16,
+        after: Option<Bytes>,
+    },
+    /// The transaction commits.
+    Commit {
+        lsn: Lsn,
+        txn: TxnId,
+        prev: Lsn,
+    },
+    /// The transaction is rolled back.
+    End {
+        lsn: Lsn,
+        txn: TxnId,
+        prev: Lsn,
+    },
+    /// A checkpoint begins.
+    BeginCheck {
+        lsn: Lsn,
+    },
+    /// The checkpoint that began at `begin` ends.
+    EndCheck {
+        lsn: Lsn,
+        begin: Lsn,
+        spans: Spans,
+        recs: Recs,
+    },
+}
+
+impl Record {
+    /// Its LSN.
+    pub fn lsn(&self) -> Lsn
+        ensures { result ≡ (flat self.now).lsn }
+    {
+        match self {
+            Record::Start { lsn, .. }
+            | Record::Update { lsn, .. }
+            | Record::Clr { lsn, .. }
+            | Record::Commit { lsn, .. }
+            | Record::End { lsn, .. }
+            | Record::BeginCheck { lsn }
+            | Record::EndCheck { lsn, .. } => *lsn,
+        }
+    }
+
+    /// The length of its spelling in bytes.
+    pub fn len(&self) -> usize
+        requires { HasSpelling self.now }
+        ensures { result ≡ length (spelling self.now) }
+    {
+        match self {
+            Record::Start { .. } => 13,
+            Record::Update { before, after, .. } => 38 + size(before) + size(after),
+            Record::Clr { after, .. } => 42 + size(after),
+            Record::Commit { .. } => 26,
+            Record::End { .. } => 26,
+            Record::BeginCheck { .. } => 9,
+            Record::EndCheck { spans, recs, .. } => {
+                21 + 25 * spans.items().len() + 12 * recs.items().len()
+            }
+        }
+    }
+}
+
+// The bytes of a value, 0 of none.
+fn size(value: &Option<Bytes>) -> usize
+    ensures { result ≡ size value.now }
+{
+    match value {
+        None => 0,
+        Some(bytes) => bytes.items().len(),
+    }
+}

@@ -1,0 +1,74 @@
+//! Laws of the serial table, for proofs above: each call does nothing, and its clauses hold of all states.
+
+ghost use Rattle.sd_model.specs.StepLaws.{JoinedSteps, BeganSteps, InsertedSteps, FullSteps, TooLongSteps, NoTxnSteps, CommittedSteps, ListedSteps};
+ghost use Rattle.sd_model.specs.ViewLaws.{PartHere, PartElsewhere, ViewAfterWrite, NowAfterWrite, NowAfterCommit, ViewAfterBegin, NoneCounted};
+ghost use Rattle.sd_model.specs.RunLaws.{RunGrows, RunSplits, RunsJoin};
+ghost use Rattle.sd_model.specs.SerialLaws.{RunIsSerial, RunIsKept, FreshIsOpening, StepKeeps, RunKeeps, PutsCommute, LateIsEarly, MayCommitApart, CommitBeforeDoubt, BeginCounts, RollbackGoesOn};
+ghost use Rattle.sd_model.specs.Kept.{Kept};
+ghost use Rattle.sd_model.specs.Placed.{Placed};
+ghost use Rattle.sd_model.specs.Listed.{Listed};
+ghost use Rattle.sd_model.specs.Marks.{Marked};
+
+/// Joins and lists of instances are steps.
+pub fn instance_steps()
+    ensures joined { JoinedSteps }
+    ensures listed { ListedSteps }
+{}
+
+/// Begins, inserts and commits are steps, and so are their refusals.
+pub fn transaction_steps()
+    ensures began { BeganSteps }
+    ensures inserted { InsertedSteps }
+    ensures full { FullSteps }
+    ensures too_long { TooLongSteps }
+    ensures no_txn { NoTxnSteps }
+    ensures committed { CommittedSteps }
+{}
+
+/// What each transaction sees after each change.
+pub fn views()
+    ensures part_here { PartHere }
+    ensures part_elsewhere { PartElsewhere }
+    ensures view_after_write { ViewAfterWrite }
+    ensures now_after_write { NowAfterWrite }
+    ensures now_after_commit { NowAfterCommit }
+    ensures view_after_begin { ViewAfterBegin }
+    ensures none_counted { NoneCounted }
+{}
+
+/// Runs grow by a step, split, and follow one another.
+pub fn runs()
+    ensures grows { RunGrows }
+    ensures splits { RunSplits }
+    ensures join { RunsJoin }
+{}
+
+/// The committed transactions of a run from an opening are in a serial order: each read what it reads where they
+/// run one after another, and so does each that may still commit.
+pub fn serial_order()
+    ensures serial { RunIsSerial }
+    ensures kept { RunIsKept }
+    ensures fresh { FreshIsOpening }
+    ensures each_step { StepKeeps Kept }
+    ensures each_run { RunKeeps Kept }
+{}
+
+/// Transactions that share no record may be applied in either order.
+pub fn commuting()
+    ensures puts { PutsCommute }
+    ensures late { LateIsEarly }
+    ensures apart { MayCommitApart }
+    ensures doubt { CommitBeforeDoubt }
+{}
+
+/// Transactions stand where their instances let them, ids are at most the begins, marks at most the live puts.
+pub fn whereabouts()
+    ensures placed { StepKeeps Placed }
+    ensures placed_all { RunKeeps Placed }
+    ensures listed { StepKeeps Listed }
+    ensures listed_all { RunKeeps Listed }
+    ensures marked { StepKeeps Marked }
+    ensures marked_all { RunKeeps Marked }
+    ensures counts { BeginCounts }
+    ensures goes_on { RollbackGoesOn }
+{}

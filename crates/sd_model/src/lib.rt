@@ -1,0 +1,49 @@
+//! The serial table: what each event and its reply mean, one after another.
+//!
+//! Meaning: a `Table` is a finite map (`specs/Tables.antt`); a `Book` is the opening table with the entries since
+//! (`specs/History.antt`); `Step` says which reply may follow in a state, and what it leaves (`specs/Step.antt`).
+//! Keeps: `Kept`, which each step keeps (`specs/Kept.antt`).
+//! Promises: a run from an opening leaves transactions that read as if they ran one after another (`laws.rt`).
+//! Refuses: nothing but for want of memory; which refusal an event gets is `specs/Applies.antt`.
+//! Knows nothing of: pages' bytes, pools, logs, devices, scripts.
+//! Stands on: sd_base. On it stand: sd_chain, sd_state and all that steps.
+//!
+//! To change:
+//! - free: bodies, proofs
+//! - dear: `Step` and the parts of `State`; an event more is a clause more
+//! - frozen: the variants of `Event` and `Reply`
+#![tactic(auto)]
+
+mod act;
+mod answering;
+mod asking;
+mod book;
+mod cause;
+mod copies;
+mod event;
+mod fields;
+mod judging;
+pub mod laws;
+mod listing;
+mod lists;
+mod rows;
+mod says;
+mod serial_table;
+mod sight;
+mod standing;
+mod step;
+mod table;
+mod verdict;
+
+pub use act::{Act, Claim, Cut, Done, Inst, Life};
+pub use book::Book;
+pub use cause::Cause;
+pub use copies::copy_refusal;
+pub use event::{Entry, Event, Reply};
+pub use rows::Rows;
+pub use serial_table::SerialTable;
+pub use table::Table;
+pub use verdict::Verdict;
+
+#[cfg(test)]
+mod tests;

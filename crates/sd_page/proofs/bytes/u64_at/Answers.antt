@@ -1,0 +1,6 @@
+use Rattle.std.proofs.Common.{add-zero}
+use Rattle.sd_page.proofs.Pieces.{eight_at-bytes}
+use Rattle.sd_page.proofs.bytes.u64_at.Goals as goal
+
+pub returns : goal.returns
+returns c = rw (← eight_at-bytes c.args.bytes.now c.args.at, add-zero) c.from_be_bytes.ensures

@@ -1,0 +1,6 @@
+pub mod Answered
+pub mod Entries
+pub mod Facts
+pub mod Places
+pub mod Replays
+pub mod Steps

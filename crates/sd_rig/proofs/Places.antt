@@ -1,0 +1,164 @@
+-- A device place by place. It serves the goals of disk.rt, and the lemmas on what a crash may leave.
+use Rattle.std.proofs.Common.{◌≡◌, ◌⊎◌, ⊎_elim, inl, inr, ℕ, ◌+◌, ◌-◌, ◌*◌, ◌/◌, ◌%◌, ◌<◌, ◌≤◌, max, Bool, true, false, List, ◌++◌, length, take, drop, map, get_or, refl, sym, ap, ◌∙◌, arith, length-append, length-take-le, length-drop}
+use Rattle.std.proofs.lemmas.List.{ext_get_or, get_or-replicate, get_or_past, get_or-take, get_or-drop, get_or_append_left, get_or-append_right, replicate-append-replicate, take-replicate}
+use Rattle.std.proofs.lemmas.List.FromFn.{fill_by_all}
+use Rattle.std.proofs.lemmas.Bool.{cases_lt, true≢false}
+use Rattle.std.specs.List.{range_with_len}
+use Rattle.sd_base.specs.declared.trouble.Pick.{Pick}
+use Rattle.sd_rig.specs.Devices.{overwritten}
+use Rattle.sd_rig.specs.Disk.{DiskState, IsSound, Lies, SameAt, SettledAt, Settles, blank, copies, length-copies, copies-is, marked, written, left_at, settled}
+
+pub get_or-copies : {X : Type 0} (n i : ℕ) (x d : X) → i < n → get_or (copies n x) i d ≡ x
+get_or-copies n i x d h = ap (λ xs. get_or xs i d) (copies-is n x) ∙ get_or-replicate n i x d h
+
+pub get_or-copies_any : {X : Type 0} (n i : ℕ) (x : X) → get_or (copies n x) i x ≡ x
+get_or-copies_any n i x = ⊎_elim (λ h. get_or-copies n i x x h) (λ h. get_or_past (copies n x) i x (omega (arith, length-copies n x))) (cases_lt i n)
+
+-- a place before, in, or behind what was put in the middle
+pub get_or-before : {X : Type 0} (at i : ℕ) (xs old : List X) (d : X) → at ≤ length old → i < at → get_or (take at old ++ xs ++ drop (at + length xs) old) i d ≡ get_or old i d
+get_or-before at i xs old d h lt =
+    let front = length-take-le at old h in
+    get_or_append_left (take at old ++ xs) (drop (at + length xs) old) d i (omega (arith, length-append (take at old) xs)) ∙ get_or_append_left (take at old) xs d i (omega arith) ∙ get_or-take at old i d lt
+
+pub get_or-inside : {X : Type 0} (at i : ℕ) (xs old : List X) (d : X) → at ≤ length old → at ≤ i → i < at + length xs → get_or (take at old ++ xs ++ drop (at + length xs) old) i d ≡ get_or xs (i - at) d
+get_or-inside at i xs old d h le lt =
+    let front = length-take-le at old h in
+    get_or_append_left (take at old ++ xs) (drop (at + length xs) old) d i (omega (arith, length-append (take at old) xs)) ∙ get_or-append_right (take at old) xs at i d front le
+
+pub get_or-behind : {X : Type 0} (at i : ℕ) (xs old : List X) (d : X) → at + length xs ≤ length old → at + length xs ≤ i → get_or (take at old ++ xs ++ drop (at + length xs) old) i d ≡ get_or old i d
+get_or-behind at i xs old d h le =
+    let front = length-take-le at old (omega arith) in
+    let place : at + length xs + (i - (at + length xs)) ≡ i = omega arith in
+    get_or-append_right (take at old ++ xs) (drop (at + length xs) old) (at + length xs) i d (omega (arith, length-append (take at old) xs)) le ∙ get_or-drop (at + length xs) old (i - (at + length xs)) d ∙ ap (λ j. get_or old j d) place
+
+pub length-middle : {X : Type 0} (at : ℕ) (xs old : List X) → at + length xs ≤ length old → length (take at old ++ xs ++ drop (at + length xs) old) ≡ length old
+length-middle at xs old h =
+    omega (arith, length-append (take at old ++ xs) (drop (at + length xs) old), length-append (take at old) xs, length-take-le at old (omega arith), length-drop (at + length xs) old)
+
+-- what a crash leaves at a place where nothing is pending
+pub left_at-settled : (pick : Pick) (k : DiskState) (i : ℕ) → IsSound k → get_or k.pending i false ≡ false → left_at pick k i ≡ get_or k.seen i 0
+left_at-settled pick k i sound h = rw h (sym (sound.same i h))
+
+-- each place of a settled range is as a crash leaves it
+pub settled_places : (pick : Pick) (low high : ℕ) (old new : DiskState) → IsSound old → Lies old.pending low high → Settles pick low high old new → (i : ℕ) → SettledAt pick i old new
+settled_places pick low high old new sound lies s i = ⊎_elim
+    (λ h. outside (s.below i h) (lies.below i h))
+    (λ h. ⊎_elim (λ g. s.inside i h g) (λ g. outside (s.above i g) (lies.above i g)) (cases_lt i high))
+    (cases_lt i low)
+  where
+    outside : SameAt i old new → get_or old.pending i false ≡ false → SettledAt pick i old new
+    outside same none =
+        let left = left_at-settled pick old i sound none in
+        record { seen = same.seen ∙ sym left; synced = same.synced ∙ sym (sound.same i none) ∙ sym left; pending = same.pending ∙ none }
+
+pub settles-is : (pick : Pick) (low high : ℕ) (old : DiskState) (seen synced : List ℕ) (pending : List Bool) → IsSound old → Lies old.pending low high → length seen ≡ length old.seen → length synced ≡ length old.synced → length pending ≡ length old.pending → Settles pick low high old (record { seen = seen; synced = synced; pending = pending }) → record { seen = seen; synced = synced; pending = pending } ≡ settled pick old
+settles-is pick low high old seen synced pending sound lies l1 l2 l3 s =
+    let each = settled_places pick low high old (record { seen = seen; synced = synced; pending = pending }) sound lies s in
+    let e1 : seen ≡ map (left_at pick old) (range_with_len 0 (length old.synced)) = fill_by_all (left_at pick old) seen (length old.synced) 0 (l1 ∙ sym sound.synced_len) (λ i h. (each i).seen) in
+    let e2 : synced ≡ map (left_at pick old) (range_with_len 0 (length old.synced)) = fill_by_all (left_at pick old) synced (length old.synced) 0 l2 (λ i h. (each i).synced) in
+    let e3 : pending ≡ copies (length old.pending) false = ext_get_or false pending (copies (length old.pending) false) (l3 ∙ sym (length-copies (length old.pending) false)) (λ i h. (each i).pending ∙ sym (get_or-copies_any (length old.pending) i false)) in
+    cc
+
+-- a mark before, in, or behind a marked range
+pub marked-before : (at n i : ℕ) (marks : List Bool) → at + n ≤ length marks → i < at → get_or (marked at n marks) i false ≡ get_or marks i false
+marked-before at n i marks h lt =
+    let len = length-copies n true in
+    let shown : get_or (take at marks ++ copies n true ++ drop (at + length (copies n true)) marks) i false ≡ get_or marks i false = get_or-before at i (copies n true) marks false (omega arith) lt in
+    ap (λ m. get_or (take at marks ++ copies n true ++ drop (at + m) marks) i false) (sym len) ∙ shown
+
+pub marked-inside : (at n i : ℕ) (marks : List Bool) → at + n ≤ length marks → at ≤ i → i < at + n → get_or (marked at n marks) i false ≡ true
+marked-inside at n i marks h le lt =
+    let len = length-copies n true in
+    let shown : get_or (take at marks ++ copies n true ++ drop (at + length (copies n true)) marks) i false ≡ get_or (copies n true) (i - at) false = get_or-inside at i (copies n true) marks false (omega arith) le (omega arith) in
+    ap (λ m. get_or (take at marks ++ copies n true ++ drop (at + m) marks) i false) (sym len) ∙ shown ∙ get_or-copies n (i - at) true false (omega arith)
+
+pub marked-behind : (at n i : ℕ) (marks : List Bool) → at + n ≤ length marks → at + n ≤ i → get_or (marked at n marks) i false ≡ get_or marks i false
+marked-behind at n i marks h le =
+    let len = length-copies n true in
+    let shown : get_or (take at marks ++ copies n true ++ drop (at + length (copies n true)) marks) i false ≡ get_or marks i false = get_or-behind at i (copies n true) marks false (omega arith) (omega arith) in
+    ap (λ m. get_or (take at marks ++ copies n true ++ drop (at + m) marks) i false) (sym len) ∙ shown
+
+pub length-marked : (at n : ℕ) (marks : List Bool) → at + n ≤ length marks → length (marked at n marks) ≡ length marks
+length-marked at n marks h =
+    let len = length-copies n true in
+    let shown : length (take at marks ++ copies n true ++ drop (at + length (copies n true)) marks) ≡ length marks = length-middle at (copies n true) marks (omega arith) in
+    ap (λ m. length (take at marks ++ copies n true ++ drop (at + m) marks)) (sym len) ∙ shown
+
+-- what isn't pending after a write wasn't before, and is outside the range
+pub outside_marks : (at n i : ℕ) (marks : List Bool) → at + n ≤ length marks → get_or (marked at n marks) i false ≡ false → ((i < at) ⊎ (at + n ≤ i)) × (get_or marks i false ≡ false)
+outside_marks at n i marks h none = ⊎_elim
+    (λ lt. (inl lt, sym (marked-before at n i marks h lt) ∙ none))
+    (λ ge. ⊎_elim
+    (λ lt. absurd (true≢false (sym (marked-inside at n i marks h ge lt) ∙ none)))
+    (λ le. (inr le, sym (marked-behind at n i marks h le) ∙ none))
+    (cases_lt i (at + n)))
+    (cases_lt i at)
+
+pub get_or-overwritten : (at i : ℕ) (bytes old : List ℕ) → at + length bytes ≤ length old → (i < at) ⊎ (at + length bytes ≤ i) → get_or (overwritten at bytes old) i 0 ≡ get_or old i 0
+get_or-overwritten at i bytes old h = ⊎_elim
+    (λ lt. get_or-before at i bytes old 0 (omega arith) lt)
+    (λ le. get_or-behind at i bytes old 0 h le)
+
+pub written-sound : (at : ℕ) (bytes : List ℕ) (k : DiskState) → at + length bytes ≤ length k.seen → IsSound k → IsSound (written at bytes k)
+written-sound at bytes k h sound =
+    let fits : at + length bytes ≤ length k.pending = omega (arith, sound.pending_len) in
+    let size : length (overwritten at bytes k.seen) ≡ length k.seen = length-middle at bytes k.seen h in
+    record {
+      synced_len = sound.synced_len ∙ sym size;
+      pending_len = length-marked at (length bytes) k.pending fits ∙ sound.pending_len ∙ sym size;
+      same = λ i none. let where_is = outside_marks at (length bytes) i k.pending fits none in get_or-overwritten at i bytes k.seen h where_is.0 ∙ sound.same i where_is.1;
+    }
+
+pub marked-lies : (at n low high low' high' : ℕ) (marks : List Bool) → at + n ≤ length marks → Lies marks low high → low' ≤ high' → high' ≤ max high (at + n) → (low < high → (low' ≤ low) × (high ≤ high')) → (at < at + n → (low' ≤ at) × (at + n ≤ high')) → Lies (marked at n marks) low' high'
+marked-lies at n low high low' high' marks h lies ordered within first second = record {
+  ordered = ordered;
+  within = let size = length-marked at n marks h in let le = lies.within in omega arith;
+  below = λ i lt. none i (λ a b. (omega (arith, (first (omega arith)).0, lt))) (λ a b. omega (arith, (second (omega arith)).0, lt));
+  above = λ i le. none i (λ a b. (omega (arith, (first (omega arith)).1, le))) (λ a b. omega (arith, (second (omega arith)).1, le));
+}
+  where
+    unmarked : (i : ℕ) → (low ≤ i → i < high → ⊥) → get_or marks i false ≡ false
+    unmarked i f = ⊎_elim (λ lt. lies.below i lt) (λ ge. ⊎_elim (λ lt. absurd (f ge lt)) (λ le. lies.above i le) (cases_lt i high)) (cases_lt i low)
+
+    none : (i : ℕ) → (low ≤ i → i < high → ⊥) → (at ≤ i → i < at + n → ⊥) → get_or (marked at n marks) i false ≡ false
+    none i f g = ⊎_elim
+        (λ lt. marked-before at n i marks h lt ∙ unmarked i f)
+        (λ ge. ⊎_elim (λ lt. absurd (g ge lt)) (λ le. marked-behind at n i marks h le ∙ unmarked i f) (cases_lt i (at + n)))
+        (cases_lt i at)
+
+-- blocks of copies make copies
+pub copies-more : {X : Type 0} (m n : ℕ) (x : X) → copies m x ++ copies n x ≡ copies (m + n) x
+unfolding copies
+copies-more m n x = replicate-append-replicate m n x
+
+pub take-copies : {X : Type 0} (m n : ℕ) (x : X) → m ≤ n → take m (copies n x) ≡ copies m x
+unfolding copies
+take-copies m n x h = take-replicate m n x h
+
+pub blank-sound : (n : ℕ) → IsSound (blank n)
+blank-sound n = record {
+  synced_len = refl;
+  pending_len = length-copies n false ∙ sym (length-copies n 0);
+  same = λ i none. refl;
+}
+
+pub blank-lies : (n : ℕ) → Lies (blank n).pending 0 0
+blank-lies n = record { ordered = omega arith; within = omega arith; below = λ i h. get_or-copies_any n i false; above = λ i h. get_or-copies_any n i false }
+
+-- one more block, and the rest
+pub filled-more : {X : Type 0} (x : X) (turn : ℕ) (v v' now block : List X) → v ≡ copies (4096 * turn) x → v' ≡ v ++ now → now ≡ block → block ≡ copies 4096 x → v' ≡ copies (4096 * (turn + 1)) x
+filled-more x turn v v' now block before more is repeats =
+    let len : 4096 * turn + 4096 ≡ 4096 * (turn + 1) = omega arith in
+    more ∙ ap (λ l. l ++ now) before ∙ ap (λ l. copies (4096 * turn) x ++ l) (is ∙ repeats) ∙ copies-more (4096 * turn) 4096 x ∙ ap (λ n. copies n x) len
+
+pub filled-rest : {X : Type 0} (x : X) (turn len : ℕ) (v v' now block : List X) → v ≡ copies (4096 * turn) x → v' ≡ v ++ take (len % 4096) now → now ≡ block → block ≡ copies 4096 x → turn ≡ len / 4096 → v' ≡ copies len x
+filled-rest x turn len v v' now block before more is repeats end =
+    let whole : 4096 * turn + len % 4096 ≡ len = omega arith in
+    let small : len % 4096 ≤ 4096 = omega arith in
+    more ∙ ap (λ l. l ++ take (len % 4096) now) before ∙ ap (λ l. copies (4096 * turn) x ++ take (len % 4096) l) (is ∙ repeats)
+    ∙ ap (λ l. copies (4096 * turn) x ++ l) (take-copies (len % 4096) 4096 x small) ∙ copies-more (4096 * turn) (len % 4096) x ∙ ap (λ n. copies n x) whole
+
+pub length-rest : {X : Type 0} (x : X) (len : ℕ) (now block : List X) → now ≡ block → block ≡ copies 4096 x → len % 4096 ≡ length (take (len % 4096) now)
+length-rest x len now block is repeats =
+    let size : length now ≡ 4096 = ap length (is ∙ repeats) ∙ length-copies 4096 x in
+    sym (length-take-le (len % 4096) now (omega arith))

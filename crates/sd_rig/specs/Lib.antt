@@ -1,0 +1,9 @@
+pub mod Devices
+pub mod Disk
+pub mod History
+pub mod Laws
+pub mod Ranges
+pub mod Replay
+pub mod Rigs
+pub mod Spans
+pub mod Troubles

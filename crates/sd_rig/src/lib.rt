@@ -1,0 +1,30 @@
+//! Nine devices, and what a crash may leave of them: the data device, number 0, and the logs of instances 1 to 8.
+//!
+//! Meaning: `Rig` tells what a read gives, what a crash now may leave, and what crashes since a moment may have
+//! left (`specs/Devices.antt`, `specs/Spans.antt`); `MemRig` tells them from a record of what was done
+//! (`specs/Replay.antt`).
+//! Keeps: after a sync that succeeds a crash leaves what a read gives; a crash touches only ranges that were written.
+//! Promises: `Failed` only where the count of faults rose (`cause`); a `MemRig` fails exactly where its armed trouble
+//! meets the call or `short` rose (`met`, `fails`), never in a call whose memory was reserved (`found`).
+//! Refuses: nothing; the range lies in the device by condition.
+//! Knows nothing of: pages, logs, what the bytes mean.
+//! Stands on: sd_base. On it stand: sd_twin, sd_log, sd_filerig, sd_state.
+//!
+//! To change:
+//! - free: bodies, `Disk`, `History` and `Drives` inside
+//! - dear: the clauses and laws of `Rig`, the lengths of the devices
+//! - frozen: which bytes a pick leaves (tests above name them)
+#![tactic(auto)]
+
+mod disk;
+mod drives;
+mod history;
+mod memory_rig;
+mod rig;
+mod troubles;
+
+pub use memory_rig::MemRig;
+pub use rig::Rig;
+
+#[cfg(test)]
+mod tests;

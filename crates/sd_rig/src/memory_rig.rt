@@ -1,0 +1,233 @@
+//! Devices in memory, whose calls fail where a test arms trouble, and whose crashes a test picks.
+
+ghost use Rattle.std.specs.Prelude.{◌≡◌, ◌≢◌, ◌+◌, ◌<◌, ◌≤◌, ◌⊎◌, ◌↔◌, [], ℕ, true, false, length, map, is_ok, slice_range, IfOk, IsErr, IsTrue, OnErr, OnOk, if◌then◌else◌};
+ghost use Rattle.sd_base.specs.Streams.{Rises};
+ghost use Rattle.sd_base.specs.declared.trouble.Trouble.TheVariants.{Clear};
+ghost use Rattle.sd_rig.specs.Devices.{device_len};
+ghost use Rattle.sd_rig.specs.History.{Crashed, Poked, Synced, Wrote};
+ghost use Rattle.sd_rig.specs.Replay.{Notes, NotesNothing};
+ghost use Rattle.sd_rig.specs.Troubles.{after_call, meets, raised};
+
+use crate::drives::Drives;
+use crate::rig::Rig;
+use crate::troubles::{answer, next_call, raise};
+use sd_base::{Failed, Memory, Pick, Trouble};
+use std::alloc::Global;
+
+/// Nine devices in memory. Their record takes memory with each write and each sync: one that finds none fails.
+#[derive(Drop)]
+pub struct MemRig {
+    drives: Drives,
+    trouble: Trouble,
+    faults: u64,
+    short: u64,
+}
+
+impl MemRig {
+    ghost use Rattle.std.specs.Prelude.{All};
+    ghost use Rattle.sd_rig.specs.Devices.{LeavesOnly};
+    ghost use Rattle.sd_rig.specs.Disk.{blank};
+    ghost use Rattle.sd_rig.specs.Replay.{left_of};
+    ghost use Rattle.sd_rig.specs.Rigs.{armed, device, devices, done, fault_count, short_count, spare};
+
+    /// Nine devices of zeros, on which nothing was done and no trouble is armed.
+    pub fn blank(alloc: Global) -> Result<MemRig, Memory>
+        ensures devices { IfOk result (λ rig. (d : ℕ) → d ≤ 8 → device rig d ≡ blank (device_len d)) }
+        ensures zeros { IfOk result (λ rig. (d : ℕ) → d ≤ 8 → All (λ byte. byte ≡ 0) (device rig d).seen) }
+        ensures durable { IfOk result (λ rig. (d : ℕ) → d ≤ 8 → LeavesOnly (device rig d).seen (left_of (devices rig) d)) }
+        ensures done { IfOk result (λ rig. done rig ≡ []) }
+        ensures armed { IfOk result (λ rig. armed rig ≡ Clear) }
+        ensures faults { IfOk result (λ rig. fault_count rig ≡ 0) }
+        ensures short { IfOk result (λ rig. short_count rig ≡ 0) }
+    {
+        Ok(MemRig {
+            drives: Drives::blank(alloc)?,
+            trouble: Trouble::Clear,
+            faults: 0,
+            short: 0,
+        })
+    }
+
+    /// What the device reads.
+    pub fn image(&self, dev: u8) -> &[u8]
+        requires { dev ≤ 8 }
+        ensures bytes { result.now ≡ (device self.now dev).seen }
+        ensures len { length result.now ≡ device_len dev }
+    {
+        self.drives.image(dev)
+    }
+
+    /// How many writes and syncs failed since there was no memory for the record. It stays at the greatest u64.
+    pub fn short(&self) -> u64
+        ensures { result ≡ short_count self.now }
+    {
+        self.short
+    }
+}
+
+impl MemRig {
+    ghost use Rattle.sd_rig.specs.Rigs.{KeepsAll, armed, device, devices, done, fault_count, short_count, spare};
+
+    /// Sets a byte of a device, stable. It is no call that trouble meets.
+    pub fn poke(&mut self, dev: u8, at: u32, byte: u8) -> Result<(), Memory>
+        requires device { dev ≤ 8 }
+        requires range { at < device_len dev }
+        ensures done { OnOk result (Notes (Poked dev at byte) (done self.old) (done self.new) (devices self.old) (devices self.new)) }
+        ensures stays { OnErr result (NotesNothing (done self.old) (done self.new) (devices self.old) (devices self.new)) }
+        ensures armed { armed self.new ≡ armed self.old }
+        ensures faults { fault_count self.new ≡ fault_count self.old }
+        ensures short { short_count self.new ≡ short_count self.old }
+    {
+        self.drives.poke(dev, at, byte)
+    }
+
+    /// Makes room in the record for so many bytes: `room` is the sum, over the writes to come, of their bytes and 32
+    /// each, and 32 for each sync. It changes nothing else.
+    pub fn reserve(&mut self, room: u64) -> Result<(), Memory>
+        ensures room { OnOk result (room ≤ spare self.new) }
+        ensures spare { spare self.old ≤ spare self.new }
+        ensures stays { NotesNothing (done self.old) (done self.new) (devices self.old) (devices self.new) }
+        ensures armed { armed self.new ≡ armed self.old }
+        ensures faults { fault_count self.new ≡ fault_count self.old }
+        ensures short { short_count self.new ≡ short_count self.old }
+    {
+        self.drives.reserve(room as usize)
+    }
+}
+
+impl Rig for MemRig {
+    ghost use Rattle.sd_rig.specs.Replay.{AreSettled, LeftSince, left_of};
+    ghost use Rattle.sd_rig.specs.Disk.{settled};
+    ghost use Rattle.sd_rig.specs.Devices.{AgreesOutside, Elapses, IsOneStep, Leaves, LeavesOnly, LeavesTorn, MayTear};
+    ghost use Rattle.sd_rig.specs.Laws.{leaves_what_is_seen, leaves_whole, left_earlier, left_now, left_only_now};
+    ghost use Rattle.sd_rig.specs.Rigs.{Does, KeepsAll, Lacks, armed, device, devices, done, fault_count, short_count, spare};
+
+    ghost told = { true };
+
+    ghost seen = { λ rig dev. (device rig dev).seen };
+
+    ghost leaves = { λ rig. left_of (devices rig) };
+
+    ghost moment = { λ rig. length (done rig) };
+
+    ghost since = { λ rig. LeftSince (done rig) };
+
+    ghost faults = { λ rig. fault_count rig };
+
+    ghost counts_now = { λ rig t img told le left. left_now (done rig) (devices rig) rig.drives.told t img le left };
+
+    ghost only_now = { λ rig img told since. left_only_now (done rig) (devices rig) rig.drives.told img since };
+
+    ghost earlier = { λ rig t u img told le since. left_earlier (done rig) t u img le since };
+
+    ghost leaves_seen = { λ rig dev told le. leaves_what_is_seen (devices rig) rig.drives.devices dev le };
+
+    ghost whole = { λ rig dev bytes told le left. leaves_whole (devices rig) rig.drives.devices dev bytes le left };
+
+    /// Fails exactly where the armed trouble meets it.
+    fn read(&mut self, dev: u8, at: u32, out: &mut [u8]) -> Result<(), Failed>
+        requires device { dev ≤ 8 }
+        requires range { at + length out.old ≤ device_len dev }
+        ensures fails { IsErr result ↔ IsTrue (meets (armed self.old)) }
+        ensures bytes { OnOk result (out.new ≡ slice_range (device self.old dev).seen at (at + length out.old)) }
+        ensures armed { armed self.new ≡ after_call (armed self.old) }
+        ensures faults { fault_count self.new ≡ (if is_ok result then fault_count self.old else raised (fault_count self.old)) }
+        ensures cause { OnErr result (Rises (fault_count self.old) (fault_count self.new)) }
+        ensures count { fault_count self.old ≤ fault_count self.new }
+        ensures keeps { KeepsAll self.old self.new }
+    {
+        if next_call(&mut self.trouble) {
+            raise(&mut self.faults);
+            return Err(Failed);
+        }
+        self.drives.read(dev, at, out);
+        Ok(())
+    }
+
+    /// Fails exactly where the armed trouble meets it, and then leaves the new bytes, pending, or where there was no
+    /// memory for the record, and then changes no byte.
+    fn write(&mut self, dev: u8, at: u32, bytes: &[u8]) -> Result<(), Failed>
+        requires device { dev ≤ 8 }
+        requires range { at + length bytes.now ≤ device_len dev }
+
+        ensures met { IsTrue (meets (armed self.old)) → IsErr result }
+        ensures short { short_count self.old < short_count self.new → IsErr result }
+        ensures done { OnOk result (Does (Wrote dev at bytes.now true) self.old self.new) }
+        ensures fails { OnErr result ((IsTrue (meets (armed self.old)) × Does (Wrote dev at bytes.now false) self.old self.new) ⊎ Lacks self.old self.new) }
+        ensures found { length bytes.now + 32 ≤ spare self.old → Does (Wrote dev at bytes.now (is_ok result)) self.old self.new }
+        ensures not_short { length bytes.now + 32 ≤ spare self.old → short_count self.new ≡ short_count self.old }
+        ensures spare { spare self.old ≤ spare self.new + (length bytes.now + 32) }
+        ensures short_count { short_count self.old ≤ short_count self.new }
+        ensures armed { armed self.new ≡ after_call (armed self.old) }
+        ensures faults { fault_count self.new ≡ (if is_ok result then fault_count self.old else raised (fault_count self.old)) }
+        ensures cause { OnErr result (Rises (fault_count self.old) (fault_count self.new)) }
+        ensures count { fault_count self.old ≤ fault_count self.new }
+
+        ensures torn { OnOk result (LeavesTorn at (length bytes.now) (left_of (devices self.old) dev) (left_of (devices self.new) dev)) }
+        ensures torn_err { OnErr result (MayTear at (length bytes.now) (left_of (devices self.old) dev) (left_of (devices self.new) dev)) }
+        ensures outside { AgreesOutside at (length bytes.now) (device self.old dev).seen (device self.new dev).seen }
+        ensures others { (d : ℕ) → d ≢ dev → device self.new d ≡ device self.old d }
+        ensures time { Elapses (length (done self.old)) (length (done self.new)) (LeftSince (done self.old)) (LeftSince (done self.new)) }
+        ensures step { IsOneStep (length (done self.old)) (LeftSince (done self.new)) (left_of (devices self.old)) (left_of (devices self.new)) }
+    {
+        let met = next_call(&mut self.trouble);
+        let found = self.drives.write(dev, at, bytes, !met).is_ok();
+        answer(&mut self.faults, &mut self.short, met, found)
+    }
+
+    /// Fails exactly where the armed trouble meets it, or where there was no memory for the record.
+    fn sync(&mut self, dev: u8) -> Result<(), Failed>
+        requires device { dev ≤ 8 }
+
+        ensures met { IsTrue (meets (armed self.old)) → IsErr result }
+        ensures short { short_count self.old < short_count self.new → IsErr result }
+        ensures done { OnOk result (Does (Synced dev true) self.old self.new) }
+        ensures fails { OnErr result ((IsTrue (meets (armed self.old)) × Does (Synced dev false) self.old self.new) ⊎ Lacks self.old self.new) }
+        ensures found { 32 ≤ spare self.old → Does (Synced dev (is_ok result)) self.old self.new }
+        ensures not_short { 32 ≤ spare self.old → short_count self.new ≡ short_count self.old }
+        ensures spare { spare self.old ≤ spare self.new + 32 }
+        ensures short_count { short_count self.old ≤ short_count self.new }
+        ensures armed { armed self.new ≡ after_call (armed self.old) }
+        ensures faults { fault_count self.new ≡ (if is_ok result then fault_count self.old else raised (fault_count self.old)) }
+        ensures cause { OnErr result (Rises (fault_count self.old) (fault_count self.new)) }
+        ensures count { fault_count self.old ≤ fault_count self.new }
+
+        ensures durable { OnOk result (LeavesOnly (device self.old dev).seen (left_of (devices self.new) dev)) }
+        ensures stays { OnErr result (devices self.new ≡ devices self.old) }
+        ensures seen { (d : ℕ) → (device self.new d).seen ≡ (device self.old d).seen }
+        ensures others { (d : ℕ) → d ≢ dev → device self.new d ≡ device self.old d }
+        ensures time { Elapses (length (done self.old)) (length (done self.new)) (LeftSince (done self.old)) (LeftSince (done self.new)) }
+        ensures step { IsOneStep (length (done self.old)) (LeftSince (done self.new)) (left_of (devices self.old)) (left_of (devices self.new)) }
+    {
+        let met = next_call(&mut self.trouble);
+        let found = self.drives.sync(dev, !met).is_ok();
+        answer(&mut self.faults, &mut self.short, met, found)
+    }
+
+    /// Each device becomes what the pick makes of it. It takes no memory, and isn't noted where no byte is pending.
+    fn crash(&mut self, pick: Pick)
+        ensures made { devices self.new ≡ map (settled pick) (devices self.old) }
+        ensures done { AreSettled (devices self.old) → done self.new ≡ done self.old }
+        ensures settles { AreSettled (devices self.new) }
+        ensures armed { armed self.new ≡ Clear }
+        ensures spare { spare self.old ≤ spare self.new }
+        ensures faults { fault_count self.new ≡ fault_count self.old }
+        ensures short { short_count self.new ≡ short_count self.old }
+
+        ensures left { Leaves (left_of (devices self.old)) (λ d. (device self.new d).seen) }
+        ensures durable { (d : ℕ) → d ≤ 8 → LeavesOnly (device self.new d).seen (left_of (devices self.new) d) }
+        ensures time { Elapses (length (done self.old)) (length (done self.new)) (LeftSince (done self.old)) (LeftSince (done self.new)) }
+        ensures step { IsOneStep (length (done self.old)) (LeftSince (done self.new)) (left_of (devices self.old)) (left_of (devices self.new)) }
+    {
+        self.drives.crash(pick);
+        self.trouble = Trouble::Clear;
+    }
+
+    fn arm(&mut self, trouble: Trouble)
+        ensures armed { armed self.new ≡ trouble }
+        ensures faults { fault_count self.new ≡ fault_count self.old }
+        ensures keeps { KeepsAll self.old self.new }
+    {
+        self.trouble = trouble;
+    }
+}

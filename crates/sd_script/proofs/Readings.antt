@@ -1,0 +1,109 @@
+-- A text is read in one way. It serves the laws on readings, and the reader's goals.
+use Rattle.std.proofs.Common.{◌≡◌, ℕ, zero, suc, ◌<◌, ◌≤◌, ◌+◌, List, [], ◌∷◌, ◌++◌, length, take, Some, refl, sym, ap, ◌∙◌, subst, arith, ⊎_elim, length-append, length-take}
+use Rattle.std.proofs.lemmas.Bool.{cases_lt}
+use Rattle.std.proofs.lemmas.List.{take_all}
+use Rattle.std.proofs.lemmas.Option.{slice_get_within}
+use Rattle.std.specs.Prelude.{slice_get}
+use Rattle.sd_script.specs.declared.line.Form.{Form}
+use Rattle.sd_script.specs.declared.line.Line.{Line}
+use Rattle.sd_script.specs.Forms.{form_words, IsForm}
+use Rattle.sd_script.specs.Order.{Follows}
+use Rattle.sd_script.specs.Text.{lines_of, words_of, end_of}
+use Rattle.sd_script.specs.Reading.{ReadsAs, Reads, IsRead, IsScript, IsBadAt}
+use Rattle.sd_script.proofs.Lists.{stands_at, slice_get-append_left, slice_get-push, take-push, take-append_left, take_next}
+use Rattle.sd_script.proofs.OneForm.{one_form}
+
+abbrev made : ℕ → ℕ → Form → Line
+made number session form = record { number = number; session = session; form = form }
+
+pub one_line_as : (before : List Line) (bytes : List ℕ) (end : ℕ) (line other : Line) → ReadsAs before bytes end line → ReadsAs before bytes end other → line ≡ other
+one_line_as before bytes end line other a b =
+    let form : line.form ≡ other.form = one_form line.form other.form a.form b.form (sym a.words ∙ b.words) in
+    let number : line.number ≡ other.number = a.number ∙ sym b.number in
+    let session : line.session ≡ other.session = a.session ∙ sym b.session in
+    ap (λ (n : ℕ). made n line.session line.form) number ∙ ap (λ (n : ℕ). made other.number n line.form) session
+    ∙ ap (λ (f : Form). made other.number other.session f) form
+
+-- where the form of the words may not follow, no line reads
+pub refused_by_order : (before : List Line) (bytes : List ℕ) (end : ℕ) (form : Form) → IsForm form → form_words form ≡ words_of bytes → (Follows before form → ⊥) → (line : Line) → ReadsAs before bytes end line → ⊥
+refused_by_order before bytes end form is words refused line reads =
+    let same : line.form ≡ form = one_form line.form form reads.form is (sym reads.words ∙ sym words) in
+    refused (subst (Follows before) same reads.follows)
+
+pub one_line : (text : List ℕ) (before : List Line) (line other : Line) → Reads text before line → Reads text before other → line ≡ other
+one_line text before line other a b =
+    let same : a.bytes ≡ b.bytes = let both : Some a.bytes ≡ Some b.bytes = sym a.stands ∙ b.stands in cc in
+    one_line_as before b.bytes (end_of text (length before + 1)) line other (subst (λ bytes. ReadsAs before bytes (end_of text (length before + 1)) line) same a.reads) b.reads
+
+-- what is read goes on by what reads behind it
+pub IsRead-push : (text : List ℕ) (before : List Line) (line : Line) → IsRead text before → Reads text before line → IsRead text (before ++ line ∷ [])
+IsRead-push text before line read next k other e =
+    ⊎_elim
+    (λ lt. subst (λ front. Reads text front other) (sym (take-append_left before (line ∷ []) k (omega arith))) (read k other (sym (slice_get-append_left before (line ∷ []) k lt) ∙ e)))
+    (λ ge. let short : k < length (before ++ line ∷ []) = slice_get_within (before ++ line ∷ []) k other e in
+    let last : k ≡ length before = omega (arith, length-append before (line ∷ [])) in
+    let there : slice_get (before ++ line ∷ []) k ≡ Some line = ap (λ n. slice_get (before ++ line ∷ []) n) last ∙ slice_get-push before line in
+    let same : line ≡ other = let both : Some line ≡ Some other = sym there ∙ e in cc in
+    let front : take k (before ++ line ∷ []) ≡ before = ap (λ n. take n (before ++ line ∷ [])) last ∙ take-push before line in
+    subst (λ l. Reads text l other) (sym front) (subst (λ x. Reads text before x) same next))
+    (cases_lt k (length before))
+
+-- two readings begin alike
+pub same_fronts : (text : List ℕ) (lines others : List Line) → IsRead text lines → IsRead text others → (n : ℕ) → n ≤ length lines → n ≤ length others → take n lines ≡ take n others
+same_fronts text lines others a b zero le le' = refl
+same_fronts text lines others a b (suc n) le le' =
+    let before : take n lines ≡ take n others = same_fronts text lines others a b n (omega arith) (omega arith) in
+    let x = stands_at lines n (omega arith) in
+    let y = stands_at others n (omega arith) in
+    let left : Reads text (take n others) x.0 = subst (λ l. Reads text l x.0) before (a n x.0 x.1) in
+    let same : x.0 ≡ y.0 = one_line text (take n others) x.0 y.0 left (b n y.0 y.1) in
+    take_next lines n x.0 x.1 ∙ ap (λ l. l ++ x.0 ∷ []) before ∙ ap (λ z. take n others ++ z ∷ []) same ∙ sym (take_next others n y.0 y.1)
+
+-- a reading that is longer goes on where the shorter ends
+pub goes_on : (text : List ℕ) (lines others : List Line) → IsRead text lines → IsRead text others → length lines < length others → (x : Line) × Reads text lines x
+goes_on text lines others a b lt =
+    let x = stands_at others (length lines) lt in
+    let front : take (length lines) others ≡ lines = sym (same_fronts text lines others a b (length lines) (omega arith) (omega arith)) ∙ take_all (length lines) lines (omega arith) in
+    (x.0, subst (λ l. Reads text l x.0) front (b (length lines) x.0 x.1))
+
+pub same_readings : (text : List ℕ) (lines others : List Line) → IsRead text lines → IsRead text others → length lines ≡ length others → lines ≡ others
+same_readings text lines others a b e =
+    sym (take_all (length lines) lines (omega arith)) ∙ same_fronts text lines others a b (length lines) (omega arith) (omega arith) ∙ take_all (length lines) others (omega arith)
+
+-- no line reads behind the last line of the text
+pub none_behind : (text : List ℕ) (lines : List Line) (line : Line) → length (lines_of text) ≤ length lines → Reads text lines line → ⊥
+none_behind text lines line le next =
+    let lt : length lines < length (lines_of text) = slice_get_within (lines_of text) (length lines) next.bytes next.stands in
+    absurd (omega arith)
+
+-- no more lines read than the text has
+pub read-le : (text : List ℕ) (lines : List Line) → IsRead text lines → (n : ℕ) → n ≤ length lines → n ≤ length (lines_of text)
+read-le text lines read zero le = omega arith
+read-le text lines read (suc n) le =
+    let x = stands_at lines n (omega arith) in
+    let last = read n x.0 x.1 in
+    let lt = slice_get_within (lines_of text) (length (take n lines)) last.bytes last.stands in
+    omega (arith, length-take n lines)
+
+pub one_reading : (text : List ℕ) (lines others : List Line) → IsScript text lines → IsScript text others → lines ≡ others
+one_reading text lines others a b = same_readings text lines others a.read b.read (a.whole ∙ sym b.whole)
+
+pub no_bad_script : (text : List ℕ) (lines : List Line) (n : ℕ) → IsScript text lines → IsBadAt text n → ⊥
+no_bad_script text lines n script bad =
+    ⊎_elim
+    (λ lt. let next = goes_on text bad.before lines bad.read script.read lt in bad.unread next.0 next.1)
+    (λ ge. ⊎_elim
+    (λ lt. let next = goes_on text lines bad.before script.read bad.read lt in none_behind text lines next.0 (omega (arith, script.whole)) next.1)
+    (λ le. bad.unfinished (subst (IsScript text) (same_readings text lines bad.before script.read bad.read (omega arith)) script))
+    (cases_lt (length lines) (length bad.before)))
+    (cases_lt (length bad.before) (length lines))
+
+pub one_bad_line : (text : List ℕ) (m n : ℕ) → IsBadAt text m → IsBadAt text n → m ≡ n
+one_bad_line text m n a b =
+    ⊎_elim
+    (λ lt. let next = goes_on text a.before b.before a.read b.read lt in absurd (a.unread next.0 next.1))
+    (λ ge. ⊎_elim
+    (λ lt. let next = goes_on text b.before a.before b.read a.read lt in absurd (b.unread next.0 next.1))
+    (λ le. a.number_is ∙ ap (λ k. k + 1) (let e : length a.before ≡ length b.before = omega arith in e) ∙ sym b.number_is)
+    (cases_lt (length b.before) (length a.before)))
+    (cases_lt (length a.before) (length b.before))

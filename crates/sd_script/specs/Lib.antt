@@ -1,0 +1,5 @@
+pub mod Text
+pub mod Forms
+pub mod Order
+pub mod Reading
+pub mod Remembered

@@ -1,0 +1,70 @@
+-- Which form may stand behind which lines.
+use Rattle.std.specs.Prelude.{◌≡◌, ◌≢◌, ℕ, ◌<◌, ◌≤◌, Bool, true, false, not, IsTrue, List, [], ◌∷◌, filter, count_by}
+use Rattle.std.specs.List.{list_any, flat_map}
+use Rattle.std.specs.Str.{bytes_eq}
+use Rattle.sd_script.specs.declared.line.Form.{Form}
+use Rattle.sd_script.specs.declared.line.Form.TheVariants.{Complex, Begin, Insert, Commit, Table}
+use Rattle.sd_script.specs.declared.line.Line.{Line}
+
+-- the name that a form begins, and the name that it ends
+abbrev pub begun_by : Form → List (List ℕ)
+begun_by (Begin inst name) = name ∷ []
+begun_by _ = []
+
+abbrev pub ended_by : Form → List (List ℕ)
+ended_by (Commit name) = name ∷ []
+ended_by _ = []
+
+-- the names of the begin lines, and of the commit lines
+abbrev pub begun : List Line → List (List ℕ)
+begun lines = flat_map (λ line. begun_by line.form) lines
+
+abbrev pub ended : List Line → List (List ℕ)
+ended lines = flat_map (λ line. ended_by line.form) lines
+
+-- whether the name is one of these
+abbrev pub has : List (List ℕ) → List ℕ → Bool
+has names name = list_any (bytes_eq name) names
+
+-- the names that are begun and have no commit line yet
+abbrev pub open_names : List Line → List (List ℕ)
+open_names lines = filter (λ name. not (has (ended lines) name)) (begun lines)
+
+-- the name was begun on one of these lines
+abbrev pub IsBegun : List ℕ → List Line → Type 0
+IsBegun name lines = IsTrue (has (begun lines) name)
+
+-- the instances and the pages that a first line of this form gives
+abbrev pub insts_in : Form → ℕ
+insts_in (Complex insts pages frames) = insts
+insts_in _ = 0
+
+abbrev pub pages_in : Form → ℕ
+pages_in (Complex insts pages frames) = pages
+pages_in _ = 0
+
+abbrev pub insts_of : List Line → ℕ
+insts_of [] = 0
+insts_of (line ∷ lines) = insts_in line.form
+
+abbrev pub pages_of : List Line → ℕ
+pages_of [] = 0
+pages_of (line ∷ lines) = pages_in line.form
+
+abbrev pub is_table : Form → Bool
+is_table Table = true
+is_table _ = false
+
+-- how many lines are table lines
+abbrev pub table_count : List Line → ℕ
+table_count lines = count_by (λ line. is_table line.form) lines
+
+-- A line of this form may stand behind these lines. The first line alone is a complex line. An instance and a page
+-- are of those that it gives. A name is begun once, and used behind its begin line. No name is open at a begin or
+-- a table line, and 64 table lines are the most.
+abbrev pub Follows : List Line → Form → Type 0
+Follows before (Complex insts pages frames) = before ≡ []
+Follows before (Begin inst name) = (inst ≤ insts_of before) × ¬ IsBegun name before × (open_names before ≡ [])
+Follows before (Insert name page value) = IsBegun name before × (page < pages_of before)
+Follows before (Commit name) = IsBegun name before
+Follows before Table = (before ≢ []) × (open_names before ≡ []) × (table_count before < 64)

@@ -1,0 +1,54 @@
+-- Which lines a text reads as, and at which line it is bad.
+use Rattle.std.specs.Prelude.{◌≡◌, ℕ, ◌+◌, ◌<◌, ◌≤◌, ◌⊎◌, List, length, take, slice_get, Result, Err, Some}
+use Rattle.sd_base.specs.declared.refusal.Refusal.{Refusal}
+use Rattle.sd_base.specs.declared.refusal.Refusal.TheVariants as refusal
+use Rattle.sd_base.specs.declared.refusal.Cause.TheVariants.{Word}
+use Rattle.sd_script.specs.declared.line.Line.{Line}
+use Rattle.sd_script.specs.Text.{lines_of, words_of, end_of}
+use Rattle.sd_script.specs.Forms.{form_words, IsForm}
+use Rattle.sd_script.specs.Order.{Follows}
+
+-- The bytes of a line, which ends at this byte of the text, read as this line behind those before.
+pub record ReadsAs (before : List Line) (bytes : List ℕ) (end : ℕ) (line : Line) : Type 0 where
+  pub words : words_of bytes ≡ form_words line.form
+  pub form : IsForm line.form
+  pub follows : Follows before line.form
+  pub number : line.number ≡ length before + 1
+  pub session : line.session ≡ 0
+  pub bytes_most : length bytes ≤ 1024
+  pub lines_most : line.number ≤ 100000
+  pub text_most : end ≤ 4194304
+
+-- The line of the text that comes behind those before reads as this line.
+pub record Reads (text : List ℕ) (before : List Line) (line : Line) : Type 0 where
+  pub bytes : List ℕ
+  pub stands : slice_get (lines_of text) (length before) ≡ Some bytes
+  pub reads : ReadsAs before bytes (end_of text (length before + 1)) line
+
+-- Each of these lines reads so behind those before it.
+abbrev pub IsRead : List ℕ → List Line → Type 0
+IsRead text lines = (k : ℕ) (line : Line) → slice_get lines k ≡ Some line → Reads text (take k lines) line
+
+-- The text is a script of these lines: they are all that it has, and there is one.
+pub record IsScript (text : List ℕ) (lines : List Line) : Type 0 where
+  pub read : IsRead text lines
+  pub whole : length lines ≡ length (lines_of text)
+  pub some : 0 < length lines
+
+-- The lines before this number read, and are no script; and no line reads behind them.
+pub record IsBadAt (text : List ℕ) (number : ℕ) : Type 0 where
+  pub before : List Line
+  pub read : IsRead text before
+  pub number_is : number ≡ length before + 1
+  pub unfinished : ¬ IsScript text before
+  pub unread : (line : Line) → ¬ Reads text before line
+
+-- With what a text may be refused: its bad line, whose cause is Word, or want of memory.
+abbrev pub IsRefusedWith : List ℕ → Refusal → Type 0
+IsRefusedWith text (refusal.BadLine line cause) = (cause ≡ Word) × IsBadAt text line
+IsRefusedWith text refusal.Memory = Unit {0}
+IsRefusedWith text _ = ⊥
+
+-- the answer is this, unless there was no memory
+abbrev pub UnlessMemory : Result (List Line) Refusal → Result (List Line) Refusal → Type 0
+UnlessMemory answer due = (answer ≡ due) ⊎ (answer ≡ Err refusal.Memory)

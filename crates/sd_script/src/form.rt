@@ -1,0 +1,118 @@
+//! From the words of a line to its form. It sees no other line.
+
+ghost use Rattle.std.specs.Prelude.{◌≡◌, ◌≢◌, ℕ, ◌≤◌, ◌<◌, [], ◌∷◌, map, codes, IfSome, IfNone, IfOk};
+ghost use Rattle.std.specs.Fmt.{decimal};
+ghost use Rattle.sd_script.specs.Forms.{IsFormOf};
+
+use crate::Form;
+use crate::word::{is_name, is_value, number_within};
+use sd_base::{InstNo, Memory, PageNo, Sequence};
+use std::alloc::Global;
+
+/// The form of a line of these words; `None` exactly where it has none.
+pub(crate) fn form_of(alloc: Global, words: &[&[u8]]) -> Result<Option<Form>, Memory>
+    ensures { IfOk result (IsFormOf (map (λ word. word.now) words.now)) }
+{
+    match words {
+        [verb] => Ok(table_of(verb)),
+        [verb, name] => commit_of(alloc, verb, name),
+        [inst, verb, name] => begin_of(alloc, inst, verb, name),
+        [verb, first, second, third] => long_form_of(alloc, verb, first, second, third),
+        _ => Ok(None),
+    }
+}
+
+fn long_form_of(
+    alloc: Global,
+    verb: &[u8],
+    first: &[u8],
+    second: &[u8],
+    third: &[u8],
+) -> Result<Option<Form>, Memory>
+    ensures { IfOk result (IsFormOf (verb.now ∷ first.now ∷ second.now ∷ third.now ∷ [])) }
+{
+    if verb == b"complex".as_slice() {
+        Ok(complex_of(first, second, third))
+    } else if verb == b"insert".as_slice() {
+        insert_of(alloc, first, second, third)
+    } else {
+        Ok(None)
+    }
+}
+
+fn complex_of(insts: &[u8], pages: &[u8], frames: &[u8]) -> Option<Form>
+    ensures { IsFormOf (codes "complex" ∷ insts.now ∷ pages.now ∷ frames.now ∷ []) result }
+{
+    Some(Form::Complex {
+        insts: inst_of(insts, 1)?,
+        pages: number_within(pages, 1, 1024)? as u16,
+        frames: number_within(frames, 1, 1024)? as u16,
+    })
+}
+
+fn begin_of(alloc: Global, inst: &[u8], verb: &[u8], name: &[u8]) -> Result<Option<Form>, Memory>
+    ensures { IfOk result (IsFormOf (inst.now ∷ verb.now ∷ name.now ∷ [])) }
+{
+    if verb != b"begin".as_slice() || !is_name(name) {
+        return Ok(None);
+    }
+    let Some(inst) = inst_of(inst, 8) else {
+        return Ok(None);
+    };
+    let name = Sequence::of(name.to_vec(alloc)?);
+    Ok(Some(Form::Begin { inst, name }))
+}
+
+fn insert_of(alloc: Global, name: &[u8], page: &[u8], value: &[u8]) -> Result<Option<Form>, Memory>
+    ensures { IfOk result (IsFormOf (codes "insert" ∷ name.now ∷ page.now ∷ value.now ∷ [])) }
+{
+    if !is_name(name) || !is_value(value) {
+        return Ok(None);
+    }
+    let Some(page) = page_of(page) else {
+        return Ok(None);
+    };
+    let name = Sequence::of(name.to_vec(alloc)?);
+    let value = Sequence::of(value.to_vec(alloc)?);
+    Ok(Some(Form::Insert { name, page, value }))
+}
+
+fn commit_of(alloc: Global, verb: &[u8], name: &[u8]) -> Result<Option<Form>, Memory>
+    ensures { IfOk result (IsFormOf (verb.now ∷ name.now ∷ [])) }
+{
+    if verb != b"commit".as_slice() || !is_name(name) {
+        return Ok(None);
+    }
+    let name = Sequence::of(name.to_vec(alloc)?);
+    Ok(Some(Form::Commit { name }))
+}
+
+fn table_of(verb: &[u8]) -> Option<Form>
+    ensures { IsFormOf (verb.now ∷ []) result }
+{
+    if verb == b"table".as_slice() {
+        Some(Form::Table)
+    } else {
+        None
+    }
+}
+
+// The instance that the word names, up to this number.
+fn inst_of(word: &[u8], most: u8) -> Option<InstNo>
+    requires { most ≤ 8 }
+    ensures found { IfSome result (λ i. decimal i ≡ word.now) }
+    ensures low { IfSome result (λ i. 1 ≤ i) }
+    ensures high { IfSome result (λ i. i ≤ most) }
+    ensures none { IfNone result ((i : ℕ) → 1 ≤ i → i ≤ most → decimal i ≢ word.now) }
+{
+    InstNo::new(number_within(word, 1, u64::from(most))? as u8)
+}
+
+// The page that the word names.
+fn page_of(word: &[u8]) -> Option<PageNo>
+    ensures found { IfSome result (λ p. decimal p ≡ word.now) }
+    ensures range { IfSome result (λ p. p < 1024) }
+    ensures none { IfNone result ((p : ℕ) → p < 1024 → decimal p ≢ word.now) }
+{
+    PageNo::new(number_within(word, 0, 1023)? as u16)
+}

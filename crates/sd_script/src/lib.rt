@@ -1,0 +1,31 @@
+//! The reader of scripts: a text becomes lines, or the first bad line is told.
+//!
+//! Meaning: a `Script` is a list of lines; `IsScript` and `IsBadAt` (`specs/Reading.antt`) say which text is which.
+//! Keeps: nothing behind a call.
+//! Promises: `Script::read` reads each script and nothing else (`found`, `exact`); it names the first bad line
+//! (`bad`, `exact_bad`); a text has one reading (`one_reading`, `no_bad_script`, `one_bad_line`).
+//! Refuses: `BadLine` with the cause `Word`, and `Memory`.
+//! Knows nothing of: what a line does, replies, devices.
+//! Stands on: sd_base. On it stand: sdaries.
+//!
+//! To change:
+//! - free: bodies, the reader inside (`reader.rt`)
+//! - dear: the clauses of `Script::read`, `IsScript`
+//! - frozen: the words of the forms (`specs/Forms.antt`)
+#![tactic(auto)]
+
+mod form;
+mod laws;
+mod line;
+mod names;
+mod reader;
+mod script;
+mod text;
+mod word;
+
+pub use laws::{no_bad_script, one_bad_line, one_reading};
+pub use line::{Form, Line};
+pub use script::{Kind, Script};
+
+#[cfg(test)]
+mod tests;

@@ -1,0 +1,87 @@
+//! A script: the lines that a text reads as.
+
+ghost use Rattle.std.specs.Prelude.{◌≡◌, ℕ, ◌⊎◌, List, length, Ok, Err, IfOk, IfErr};
+ghost use Rattle.sd_base.specs.declared.refusal.Refusal.TheVariants as refusal;
+ghost use Rattle.sd_base.specs.declared.refusal.Cause.TheVariants.{Word};
+ghost use Rattle.sd_script.specs.declared.line.Line.{Line};
+ghost use Rattle.sd_script.specs.Text.{lines_of};
+ghost use Rattle.sd_script.specs.Reading.{IsRead, IsScript, IsBadAt, IsRefusedWith, UnlessMemory};
+
+use crate::Line;
+use crate::reader::Reader;
+use crate::text::first_line;
+use sd_base::{Cause, Refusal};
+use std::alloc::Global;
+use std::marker::Model;
+
+/// What a script is read for.
+#[derive(Clone, Copy, Debug, PartialEq, Eq)]
+pub enum Kind {
+    /// Its lines are done one after another.
+    Replay,
+}
+
+/// A script. Contracts see the list of its lines.
+#[derive(Debug, Drop)]
+pub struct Script {
+    lines: Vec<Line>,
+}
+
+impl Model for Script {
+    ghost use Rattle.std.specs.Prelude.{List};
+    ghost use Rattle.sd_script.specs.declared.line.Line.{Line};
+
+    ghost Value = { List Line };
+
+    ghost view = { λ s. s.lines.items };
+}
+
+impl Script {
+    /// Reads a whole text. `BadLine` comes exactly where the text is no script: it names the first bad line, counted
+    /// from 1, with the cause `Word`; an empty text is bad at line 1. `Memory` comes where there is none. A line has
+    /// at most 1,024 bytes without its LF, a text 100,000 lines, 4,194,304 bytes and 64 table lines.
+    pub fn read(alloc: Global, text: &[u8], kind: Kind) -> Result<Script, Refusal>
+        // What is read is the script that the text is.
+        ensures found { IfOk result (IsScript text.now) }
+        // What is refused is bad at that line.
+        ensures bad { IfErr result (IsRefusedWith text.now) }
+        // A script is read.
+        ensures exact { (lines : List Line) → IsScript text.now lines → UnlessMemory result (Ok lines) }
+        // A bad line is told.
+        ensures exact_bad { (n : ℕ) → IsBadAt text.now n → UnlessMemory result (Err (refusal.BadLine n Word)) }
+    {
+        let lines = match kind {
+            Kind::Replay => read_lines(alloc, text)?,
+        };
+        if lines.is_empty() {
+            return Err(Refusal::BadLine {
+                line: 1,
+                cause: Cause::Word,
+            });
+        }
+        Ok(Script { lines })
+    }
+
+    /// Its lines, in their order.
+    pub fn lines(&self) -> &[Line]
+        ensures { result.now ≡ self.now }
+    {
+        &self.lines
+    }
+}
+
+// Reads line after line, to the end of the text.
+fn read_lines(alloc: Global, text: &[u8]) -> Result<Vec<Line>, Refusal>
+    ensures read { IfOk result (λ lines. IsRead text.now lines.items) }
+    ensures whole { IfOk result (λ lines. length lines.items ≡ length (lines_of text.now)) }
+    ensures refused { IfErr result (IsRefusedWith text.now) }
+{
+    let mut reader = Reader::new(alloc);
+    let mut rest = text;
+    while !rest.is_empty() {
+        let (line, after) = first_line(rest);
+        reader = reader.read_line(alloc, line, text.len() - after.len())?;
+        rest = after;
+    }
+    Ok(reader.into_lines())
+}

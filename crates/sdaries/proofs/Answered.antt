@@ -1,0 +1,87 @@
+-- What the calls of top.rt answer. It serves the goals of top.rt.
+use Rattle.std.proofs.Common.{◌≡◌, ◌⊎◌, ℕ, ◌<◌, ◌≤◌, ◌+◌, Bool, true, List, [], ◌∷◌, ◌++◌, length, map, drop, get_or, inl, inr, refl, sym, ap, ◌∙◌, subst, arith, length-append}
+use Rattle.std.specs.Prelude.{Option, None, Some}
+use Rattle.std.specs.Str.{bytes_eq}
+use Rattle.std.specs.Cmp.Lexicographic.{bytes_decides}
+use Rattle.std.proofs.lemmas.List.{append-nil}
+use Rattle.sd_base.specs.Streams.{Rises}
+use Rattle.sd_model.specs.History.{History}
+use Rattle.sd_script.specs.declared.line.Line.{Line}
+use Rattle.sd_script.specs.Reading.{IsScript, IsBadAt}
+use Rattle.sd_script.proofs.Readings.{no_bad_script}
+use Rattle.sdaries.specs.declared.status.Status.{Status}
+use Rattle.sdaries.specs.declared.status.Status.TheVariants as status
+use Rattle.sdaries.specs.declared.replay.Replay.{Replay}
+use Rattle.sdaries.specs.Input.{IsAtEnd}
+use Rattle.sdaries.specs.Progress.{ahead, IsTold}
+use Rattle.sdaries.specs.World.{World, opening, Leads}
+use Rattle.sdaries.specs.Report.{report}
+use Rattle.sdaries.specs.Reaching.{Reached}
+use Rattle.sdaries.specs.Outcome.{Gave, Replayed, Answers, Outcome, Delivers}
+use Rattle.sdaries.proofs.Scripts.{script_size}
+
+-- one word, and no other
+pub one_word : {A : Type 0} (f : A → List ℕ) (words : List A) (word : A) (due : List ℕ) (b : Bool) → 1 ≤ length words → length words < 2 → word ≡ get_or words 0 word → b ≡ bytes_eq (f word) due
+    → (b ≡ true → map f words ≡ due ∷ []) × (map f words ≡ due ∷ [] → b ≡ true)
+one_word f [] word due b ge lt is e = absurd (omega (arith, ge))
+one_word f (w ∷ v ∷ ws) word due b ge lt is e = absurd (omega (arith, lt))
+one_word f (w ∷ []) word due b ge lt is e = (
+  λ yes. ap (λ (x : List ℕ). x ∷ []) (ap f (sym is) ∙ (bytes_decides (f word) due).0 (sym e ∙ yes)),
+  λ same. let here : f w ≡ due = cc in e ∙ (bytes_decides (f word) due).1 (ap f is ∙ here),
+)
+
+-- behind the last line there is none
+drop_all : {A : Type 0} (xs : List A) → drop (length xs) xs ≡ []
+drop_all [] = refl
+drop_all (x ∷ xs) = drop_all xs
+
+all_told : (lines : List Line) (replay : Replay) (world : World) → Reached lines (length lines) 0 replay world → IsTold world.told
+all_told lines replay world reached = (reached.joined, reached.left ∙ ap (ahead world.told) (drop_all lines))
+
+replayed : (text : List ℕ) (lines : List Line) (book : History) (world : World) → IsScript text lines → book.opening ≡ [] → Leads (opening lines) book.entries world → Replayed (Some book) text lines book world
+replayed text lines book world script blank leads = record { script = script; book_is = refl; blank = blank; leads = leads }
+
+-- the report is delivered
+pub answers_reached : (s : Status) (text : List ℕ) (lines : List Line) (replay : Replay) (world : World) (written after : Option (List ℕ)) (faults faults' : ℕ)
+    → IsScript text lines → Reached lines (length lines) 0 replay world → Delivers s written (report lines replay.book.entries) after faults faults' → Answers s text written after faults faults' (Some replay.book)
+answers_reached status.Done text lines replay world written after faults faults' script reached delivers =
+    (lines, replay.book, world, replayed text lines replay.book world script reached.blank reached.leads, record { told = all_told lines replay world reached; report = delivers })
+answers_reached status.WriteFault text lines replay world written after faults faults' script reached delivers =
+    (lines, replay.book, world, replayed text lines replay.book world script reached.blank reached.leads, record { told = all_told lines replay world reached; front = delivers.1 }, delivers.0)
+answers_reached status.NoMemory text lines replay world written after faults faults' script reached delivers =
+    ((lines, world, replayed text lines replay.book world script reached.blank reached.leads), delivers)
+answers_reached status.Usage text lines replay world written after faults faults' script reached delivers = delivers
+answers_reached status.BadLine text lines replay world written after faults faults' script reached delivers = absurd (delivers)
+answers_reached status.ReadFault text lines replay world written after faults faults' script reached delivers = delivers
+
+-- there was no memory for the rest
+pub answers_partial : (text : List ℕ) (lines : List Line) (book : History) (world : World) (written after : Option (List ℕ)) (faults faults' : ℕ)
+    → IsScript text lines → book.opening ≡ [] → Leads (opening lines) book.entries world → after ≡ written → Answers status.NoMemory text written after faults faults' (Some book)
+answers_partial text lines book world written after faults faults' script blank leads kept = ((lines, world, replayed text lines book world script blank leads), kept)
+
+-- a source that tells its bytes gave them all, where they are a script
+gave_all : (left then : Option (List ℕ)) (got text : List ℕ) → Gave left then got → left ≡ Some text → length text ≤ 4194304 → got ≡ text
+gave_all None then got text gave is most = absurd (cc)
+gave_all (Some all) then got text gave is most =
+    let (rest, parts, after) = gave.taken in
+    let same : all ≡ text = cc in
+    let sum : length all ≡ length got + length rest = ap length parts ∙ length-append got rest in
+    let few : length got < 4194305 = omega (arith, sum, most, ap length same) in
+    let none : rest ≡ [] = subst IsAtEnd after (gave.whole few) in
+    sym (append-nil got) ∙ ap (λ (l : List ℕ). got ++ l) (sym none) ∙ sym parts ∙ same
+
+pub completes : (s : Status) (left then : Option (List ℕ)) (from to : ℕ) (written after : Option (List ℕ)) (faults faults' : ℕ) (book : Option History) (text : List ℕ) (lines : List Line)
+    → Outcome s left then from to written after faults faults' book → left ≡ Some text → IsScript text lines → (Rises from to → ⊥) → (Rises faults faults' → ⊥) → (s ≡ status.Done) ⊎ (s ≡ status.NoMemory)
+completes status.Done left then from to written after faults faults' book text lines outcome is script reads writes = inl refl
+completes status.NoMemory left then from to written after faults faults' book text lines outcome is script reads writes = inr refl
+completes status.Usage left then from to written after faults faults' book text lines outcome is script reads writes = absurd (outcome)
+completes status.ReadFault left then from to written after faults faults' book text lines outcome is script reads writes = absurd (reads outcome.0)
+completes status.WriteFault left then from to written after faults faults' book text lines outcome is script reads writes =
+    let (got, gave, run) = outcome in
+    let (ls, history, world, replays, cut, rises) = run in
+    absurd (writes rises)
+completes status.BadLine left then from to written after faults faults' book text lines outcome is script reads writes =
+    let (got, gave, refused) = outcome in
+    let (line, bad, tells) = refused in
+    let same : got ≡ text = gave_all left then got text gave is (script_size text lines script) in
+    absurd (no_bad_script text lines line script (subst (λ (t : List ℕ). IsBadAt t line) same bad))

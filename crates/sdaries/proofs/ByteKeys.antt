@@ -1,0 +1,47 @@
+-- A map whose keys are bytes, read at any bytes. It serves the goals of names.rt.
+use Rattle.std.proofs.Common.{◌≡◌, ℕ, List, Bool, true, false, cond, sym, subst, ◌∙◌, ⊎_elim}
+use Rattle.std.specs.Prelude.{Option}
+use Rattle.std.specs.declared.cmp.Ordering.{Ordering}
+use Rattle.std.specs.Ordering.{is_eq, nat_cmp}
+use Rattle.std.specs.Cmp.{eq_by_cmp_equiv}
+use Rattle.std.specs.Cmp.Lexicographic.{slice_cmp, bytes_decides, nat_list_eq_equiv}
+use Rattle.std.specs.Str.{bytes_eq}
+use Rattle.std.specs.Map.{update, lookup, IsKeyTest, AreApart, KeepsOthers}
+use Rattle.std.specs.BTreeMap.{BTreeMap, get_by, UpdatesBy}
+use Rattle.std.specs.Global.{Vec}
+use Rattle.std.proofs.lemmas.Bool.{cases_Bool, cond-true, cond-false}
+use Rattle.std.proofs.lemmas.Cmp.{nat_list_cmp_total}
+use Rattle.std.proofs.lemmas.Map.Text.{is_eq-slice_cmp}
+
+abbrev Key : Type 0
+Key = Vec ℕ
+
+abbrev pub at_bytes : {X : Type 0} → BTreeMap Key X → List ℕ → Option X
+at_bytes m q = get_by (λ k. slice_cmp nat_cmp q k.items) m
+
+-- the order of the keys
+abbrev pub key_cmp : Key → Key → Ordering
+key_cmp x y = slice_cmp nat_cmp x.items y.items
+
+apart : (bs cs ks : List ℕ) → bytes_eq bs cs ≡ false → bytes_eq bs ks ≡ true → bytes_eq cs ks ≡ false
+apart bs cs ks n y = nat_list_eq_equiv.symm cs ks ∙ sym (nat_list_eq_equiv.congr bs ks cs y) ∙ n
+
+apart_in_order : (bs cs ks : List ℕ) → bytes_eq bs cs ≡ false → is_eq (slice_cmp nat_cmp bs ks) ≡ true → is_eq (slice_cmp nat_cmp cs ks) ≡ false
+apart_in_order bs cs ks n y = is_eq-slice_cmp cs ks ∙ apart bs cs ks n (sym (is_eq-slice_cmp bs ks) ∙ y)
+
+other_entries : {K X : Type 0} (eq : K → K → Bool) (test : K → Bool) (old new : List (K × X)) → KeepsOthers eq test old new → (other : K → Bool) → IsKeyTest eq other → AreApart test other → lookup other new ≡ lookup other old
+unfolding KeepsOthers
+other_entries eq test old new h = h
+
+-- g is w at bs, and f at other bytes
+by_bytes : {W : Type 0} (f g : List ℕ → W) (bs : List ℕ) (w : W) → g bs ≡ w → ((cs : List ℕ) → bytes_eq bs cs ≡ false → g cs ≡ f cs) → (cs : List ℕ) → g cs ≡ cond (bytes_eq bs cs) w (f cs)
+by_bytes f g bs w here other cs =
+    ⊎_elim
+    (λ y. subst (λ l. g l ≡ w) ((bytes_decides bs cs).0 y) here ∙ sym (cond-true (bytes_eq bs cs) w (f cs) y))
+    (λ n. other cs n ∙ sym (cond-false (bytes_eq bs cs) w (f cs) n))
+    (cases_Bool (bytes_eq bs cs))
+
+-- what a change at the bytes bs leaves at any bytes
+pub updates_at_bytes : {X : Type 0} (bs : List ℕ) (m n : BTreeMap Key X) (w : Option X) → UpdatesBy key_cmp (λ k. slice_cmp nat_cmp bs k.items) m n w
+    → (cs : List ℕ) → at_bytes n cs ≡ update bytes_eq (at_bytes m) bs w cs
+updates_at_bytes bs m n w h = by_bytes (at_bytes m) (at_bytes n) bs w h.1 (λ cs e. other_entries _ _ _ _ h.3 _ (λ x y. (eq_by_cmp_equiv nat_list_cmp_total).congr cs x.items y.items) (λ k. apart_in_order bs cs k.items e))

@@ -1,0 +1,10 @@
+pub mod ByteKeys
+pub mod LineOrder
+pub mod Puts
+pub mod Takes
+pub mod Slots
+pub mod Serves
+pub mod Reaches
+pub mod Arms
+mod Scripts
+mod Answered

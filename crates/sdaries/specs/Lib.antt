@@ -1,0 +1,11 @@
+pub mod Input
+pub mod Output
+pub mod Names
+pub mod Progress
+pub mod Capacities
+pub mod World
+pub mod Report
+pub mod Pages
+pub mod Serving
+pub mod Reaching
+pub mod Outcome
