@@ -1,0 +1,4 @@
+pub mod Choice
+pub mod Filling
+pub mod Images
+pub mod Parts

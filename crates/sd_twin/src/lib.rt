@@ -1,0 +1,26 @@
+//! Twins: two slots of a device, of which one counts. A put fills the other one, so that a crash at any moment leaves
+//! the old body or the new one, whole.
+//!
+//! Meaning: `chosen_slot` and `chosen_body` (`specs/Twin.antt`), what the bytes of a twin stand for.
+//! Keeps: a gate is opened only once its body is stable, and a body is written only behind a closed gate.
+//! Promises: `put` leaves the old body or the new one at any moment (`any_moment`), and the new one at `Ok` (`body`,
+//! `durable`); `choose` answers the slot that counts (`chosen`) and changes nothing (`stays`).
+//! Refuses: `Failed` only where the rig's count of faults rose; no call takes memory.
+//! Knows nothing of: what a body means but its number; how a device is settled after a failure.
+//! Stands on: sd_base, sd_rig. On it stand: sd_state, sd_moves.
+//! Held by the caller: a crash leaves of the device what it reads (`put`, `stable`).
+//!
+//! To change:
+//! - free: bodies and private helpers
+//! - dear: the clauses of `put`, and `Puts` (`specs/Puts.antt`)
+//! - frozen: the open gate, 0xA5, and where the gates stand (docs/FORMATS.md)
+#![tactic(auto)]
+
+mod putting;
+mod twin;
+
+pub use putting::put;
+pub use twin::{Chosen, Twin, choose};
+
+#[cfg(test)]
+mod tests;

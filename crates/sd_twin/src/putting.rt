@@ -1,0 +1,123 @@
+//! How a body is put: the slot that doesn't count is closed, filled, and opened, with a sync behind each write.
+
+ghost use Rattle.std.specs.Prelude.{◌≡◌, ◌≢◌, ◌⊎◌, ℕ, Some, ◌+◌, ◌<◌, ◌≤◌, true, false, length, IfSome, IsTrue, OnErr, OnOk};
+ghost use Rattle.sd_base.specs.Streams.{Rises};
+ghost use Rattle.sd_twin.specs.Twin as twin;
+ghost use Rattle.sd_rig.specs.Devices.{AgreesOutside, Elapses, LeavesOnly, LeavesSame, Span, device_len, overwritten};
+ghost use Rattle.sd_twin.specs.Puts.{Closes, Fills, Puts, Writes, after_put, filled_gate, filled_open, slot, twin_len};
+
+use crate::twin::{Chosen, OPEN, Twin};
+use sd_base::Failed;
+use sd_rig::Rig;
+
+// Writes and syncs.
+fn write_synced<G: Rig>(rig: &mut G, dev: u8, at: u32, bytes: &[u8]) -> Result<(), Failed>
+    requires device { dev ≤ 8 }
+    requires range { at + length bytes.now ≤ device_len dev }
+    requires stable { IsTrue G.told → LeavesOnly (G.seen rig.old dev) (G.leaves rig.old dev) }
+    ensures written { IsTrue G.told → OnOk result (G.seen rig.new dev ≡ overwritten at bytes.now (G.seen rig.old dev)) }
+    ensures durable { IsTrue G.told → OnOk result (LeavesOnly (G.seen rig.new dev) (G.leaves rig.new dev)) }
+    ensures outside { IsTrue G.told → AgreesOutside at (length bytes.now) (G.seen rig.old dev) (G.seen rig.new dev) }
+    ensures any_moment { IsTrue G.told → Span (G.moment rig.old) (G.since rig.new) (Writes dev at (length bytes.now) (G.seen rig.old) (G.leaves rig.old)) }
+    ensures others { IsTrue G.told → (d : ℕ) → d ≢ dev → G.seen rig.new d ≡ G.seen rig.old d }
+    ensures others_leave { IsTrue G.told → (d : ℕ) → d ≢ dev → LeavesSame (G.leaves rig.old d) (G.leaves rig.new d) }
+    ensures time { IsTrue G.told → Elapses (G.moment rig.old) (G.moment rig.new) (G.since rig.old) (G.since rig.new) }
+    ensures cause { OnErr result (Rises (G.faults rig.old) (G.faults rig.new)) }
+    ensures count { G.faults rig.old ≤ G.faults rig.new }
+{
+    rig.write(dev, at, bytes)?;
+    rig.sync(dev)
+}
+
+// Closes the gate of a slot, if it is to be closed.
+fn close<G: Rig>(rig: &mut G, dev: u8, gate: u32, closing: bool) -> Result<(), Failed>
+    requires device { dev ≤ 8 }
+    requires range { gate + 1 ≤ device_len dev }
+    requires stable { IsTrue G.told → LeavesOnly (G.seen rig.old dev) (G.leaves rig.old dev) }
+    requires open { IsTrue G.told → twin.is_open gate (G.seen rig.old dev) ≡ closing }
+    ensures closed { IsTrue G.told → OnOk result (twin.is_open gate (G.seen rig.new dev) ≡ false) }
+    ensures durable { IsTrue G.told → OnOk result (LeavesOnly (G.seen rig.new dev) (G.leaves rig.new dev)) }
+    ensures outside { IsTrue G.told → AgreesOutside gate 1 (G.seen rig.old dev) (G.seen rig.new dev) }
+    ensures shut { IsTrue G.told → twin.is_open gate (G.seen rig.new dev) ≡ true → twin.is_open gate (G.seen rig.old dev) ≡ true }
+    ensures any_moment { IsTrue G.told → Span (G.moment rig.old) (G.since rig.new) (Closes dev gate (G.seen rig.old) (G.leaves rig.old)) }
+    ensures others { IsTrue G.told → (d : ℕ) → d ≢ dev → G.seen rig.new d ≡ G.seen rig.old d }
+    ensures others_leave { IsTrue G.told → (d : ℕ) → d ≢ dev → LeavesSame (G.leaves rig.old d) (G.leaves rig.new d) }
+    ensures time { IsTrue G.told → Elapses (G.moment rig.old) (G.moment rig.new) (G.since rig.old) (G.since rig.new) }
+    ensures cause { OnErr result (Rises (G.faults rig.old) (G.faults rig.new)) }
+    ensures count { G.faults rig.old ≤ G.faults rig.new }
+{
+    if !closing {
+        return Ok(());
+    }
+    write_synced(rig, dev, gate, &[0])
+}
+
+// Fills a slot whose gate is closed, and then opens it.
+fn fill<G: Rig>(rig: &mut G, dev: u8, gate: u32, body: &[u8]) -> Result<(), Failed>
+    requires device { dev ≤ 8 }
+    requires range { gate + 1 + length body.now ≤ device_len dev }
+    requires stable { IsTrue G.told → LeavesOnly (G.seen rig.old dev) (G.leaves rig.old dev) }
+    requires closed { IsTrue G.told → twin.is_open gate (G.seen rig.old dev) ≡ false }
+    ensures filled { IsTrue G.told → OnOk result ((twin.is_open gate (G.seen rig.new dev) ≡ true) × (twin.body_at (length body.now) gate (G.seen rig.new dev) ≡ body.now)) }
+    ensures durable { IsTrue G.told → OnOk result (LeavesOnly (G.seen rig.new dev) (G.leaves rig.new dev)) }
+    ensures outside { IsTrue G.told → AgreesOutside gate (length body.now + 1) (G.seen rig.old dev) (G.seen rig.new dev) }
+    ensures whole { IsTrue G.told → (twin.is_open gate (G.seen rig.new dev) ≡ false) ⊎ (twin.body_at (length body.now) gate (G.seen rig.new dev) ≡ body.now) }
+    ensures any_moment { IsTrue G.told → Span (G.moment rig.old) (G.since rig.new) (Fills dev gate (length body.now) body.now (G.seen rig.old) (G.leaves rig.old)) }
+    ensures others { IsTrue G.told → (d : ℕ) → d ≢ dev → G.seen rig.new d ≡ G.seen rig.old d }
+    ensures others_leave { IsTrue G.told → (d : ℕ) → d ≢ dev → LeavesSame (G.leaves rig.old d) (G.leaves rig.new d) }
+    ensures time { IsTrue G.told → Elapses (G.moment rig.old) (G.moment rig.new) (G.since rig.old) (G.since rig.new) }
+    ensures cause { OnErr result (Rises (G.faults rig.old) (G.faults rig.new)) }
+    ensures count { G.faults rig.old ≤ G.faults rig.new }
+{
+    write_synced(rig, dev, gate + 1, body)?;
+    write_synced(rig, dev, gate, &[OPEN])
+}
+
+// The gate of the slot that a put fills, and whether it is open.
+fn target(t: Twin, old: Chosen) -> (u32, bool)
+    requires range { t.at + twin_len t.body ≤ device_len t.dev }
+    ensures gate { result.0 ≡ filled_gate (slot old) t.at t.body }
+    ensures open { result.1 ≡ filled_open (slot old) }
+{
+    match old {
+        Chosen::First { other } => (t.at + t.body as u32 + 1, other),
+        Chosen::Second { other } => (t.at, other),
+        Chosen::Neither | Chosen::Same => (t.at, false),
+    }
+}
+
+/// Puts a body into the slot that doesn't count, the first where neither does: it closes the slot, if it is open,
+/// writes the body, and opens it, with a sync behind each write. A crash at any moment leaves the old body or the new
+/// one, whole, and after `Ok` the new one. It takes no memory. `Failed` comes only where the rig's count of faults rose;
+/// the device is then to be synced before anything is read of it.
+///
+/// `old` is what `choose` answers now, and the body's number is greater than that of the slot that counts.
+pub fn put<G: Rig>(rig: &mut G, t: Twin, old: Chosen, body: &[u8]) -> Result<(), Failed>
+    requires device { t.dev ≤ 8 }
+    requires numbered { 8 ≤ t.body }
+    requires range { t.at + twin_len t.body ≤ device_len t.dev }
+    requires length { length body.now ≡ t.body }
+    requires stable { IsTrue G.told → LeavesOnly (G.seen rig.old t.dev) (G.leaves rig.old t.dev) }
+    requires chosen { IsTrue G.told → twin.chosen_slot t.at t.body (G.seen rig.old t.dev) ≡ slot old }
+    requires differs { old ≢ Chosen.Same }
+    requires greater { IsTrue G.told → IfSome (twin.chosen_body t.at t.body (G.seen rig.old t.dev)) (λ b. twin.number_of b < twin.number_of body.now) }
+
+    ensures body { IsTrue G.told → OnOk result (twin.chosen_body t.at t.body (G.seen rig.new t.dev) ≡ Some body.now) }
+    ensures slot { IsTrue G.told → OnOk result (twin.chosen_slot t.at t.body (G.seen rig.new t.dev) ≡ after_put (slot old)) }
+    ensures durable { IsTrue G.told → OnOk result (LeavesOnly (G.seen rig.new t.dev) (G.leaves rig.new t.dev)) }
+
+    // A crash during the call, or after it, leaves the old body or the new one, and so does a read.
+    ensures any_moment { IsTrue G.told → Span (G.moment rig.old) (G.since rig.new) (Puts t.dev t.at t.body body.now (G.seen rig.old) (G.leaves rig.old)) }
+    ensures whole { IsTrue G.told → (twin.chosen_body t.at t.body (G.seen rig.new t.dev) ≡ twin.chosen_body t.at t.body (G.seen rig.old t.dev)) ⊎ (twin.chosen_body t.at t.body (G.seen rig.new t.dev) ≡ Some body.now) }
+    ensures outside { IsTrue G.told → AgreesOutside t.at (twin_len t.body) (G.seen rig.old t.dev) (G.seen rig.new t.dev) }
+    ensures others { IsTrue G.told → (d : ℕ) → d ≢ t.dev → G.seen rig.new d ≡ G.seen rig.old d }
+    ensures others_leave { IsTrue G.told → (d : ℕ) → d ≢ t.dev → LeavesSame (G.leaves rig.old d) (G.leaves rig.new d) }
+    ensures time { IsTrue G.told → Elapses (G.moment rig.old) (G.moment rig.new) (G.since rig.old) (G.since rig.new) }
+
+    ensures cause { OnErr result (Rises (G.faults rig.old) (G.faults rig.new)) }
+    ensures count { G.faults rig.old ≤ G.faults rig.new }
+{
+    let (gate, closing) = target(t, old);
+    close(rig, t.dev, gate, closing)?;
+    fill(rig, t.dev, gate, body)
+}
