@@ -59,7 +59,8 @@ impl Runs {
 #[test]
 fn scripts_have_their_reports(rt: HostRuntime) -> Result<(), Fail> {
     let mut runs = Runs::new(rt.alloc())?;
-    let scripts: [(&[u8], &[u8]); 4] = [
+    let scripts: [(&[u8], &[u8]); 5] = [
+        (b"complex 1 1 2\n", b"complex 1 1 2\n"),
         (FIVE_LINES, FIVE_REPLIES),
         (
             b"complex 1 2 2\n1 begin a\ninsert a 1 blue\ninsert a 0 red\ninsert a 1 green\ncommit a\ntable\n1 begin b\ninsert b 0 x\ncommit b\ntable",
@@ -79,29 +80,54 @@ fn scripts_have_their_reports(rt: HostRuntime) -> Result<(), Fail> {
     Ok(())
 }
 
-// A script that inserts values of so many bytes, one for each length.
+// Appends a line of these words and a value of so many bytes.
+fn push_value(text: &mut Vec<u8>, words: &[u8], length: usize) -> Result<(), Fail> {
+    text.extend_from_slice(words)?;
+    for _ in 0..length {
+        text.push(b'v')?;
+    }
+    text.push(b'\n')?;
+    Ok(())
+}
+
+// A script that inserts values of so many bytes into page 0.
 fn inserts(alloc: Global, lengths: &[usize]) -> Result<Vec<u8>, Fail> {
     let mut text = b"complex 1 1 2\n1 begin a\n".to_vec(alloc)?;
     for length in lengths {
-        text.extend_from_slice(b"insert a 0 ")?;
-        for _ in 0..*length {
-            text.push(b'v')?;
-        }
-        text.push(b'\n')?;
+        push_value(&mut text, b"insert a 0 ", *length)?;
     }
+    text.extend_from_slice(b"commit a\ntable\n")?;
     Ok(text)
 }
 
 #[test]
-fn a_page_fills_and_a_long_value_is_refused(rt: HostRuntime) -> Result<(), Fail> {
+fn a_page_is_full_for_a_fifth_value(rt: HostRuntime) -> Result<(), Fail> {
     let alloc = rt.alloc();
     let mut runs = Runs::new(alloc)?;
-    let text = inserts(alloc, &[257, 256, 256, 256, 210, 1])?;
-    let (status, written) = runs.replayed(&text)?;
+    let (status, written) = runs.replayed(&inserts(alloc, &[256, 256, 256, 216, 1])?)?;
+    let mut report =
+        b"complex 1 1 2\na begin 1.1.1\na insert 0.0\na insert 0.1\na insert 0.2\na insert 0.3\na full\na commit\n".to_vec(
+            alloc,
+        )?;
+    push_value(&mut report, b"0.0 ", 256)?;
+    push_value(&mut report, b"0.1 ", 256)?;
+    push_value(&mut report, b"0.2 ", 256)?;
+    push_value(&mut report, b"0.3 ", 216)?;
+    report.extend_from_slice(b"table 4\n")?;
+    assert_eq!(rt; status, Status::Done);
+    assert!(rt; written == report);
+    Ok(())
+}
+
+#[test]
+fn a_value_of_257_bytes_is_too_long(rt: HostRuntime) -> Result<(), Fail> {
+    let alloc = rt.alloc();
+    let mut runs = Runs::new(alloc)?;
+    let (status, written) = runs.replayed(&inserts(alloc, &[257])?)?;
     assert_eq!(rt; status, Status::Done);
     assert_eq!(rt;
         &written[..],
-        b"complex 1 1 2\na begin 1.1.1\na too long\na insert 0.0\na insert 0.1\na insert 0.2\na insert 0.3\na full\n".as_slice()
+        b"complex 1 1 2\na begin 1.1.1\na too long\na commit\ntable 0\n".as_slice()
     );
     Ok(())
 }
