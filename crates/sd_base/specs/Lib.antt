@@ -1,2 +1,5 @@
 pub mod Sets
 pub mod Streams
+pub mod Twin
+pub mod Ids
+pub mod Waits

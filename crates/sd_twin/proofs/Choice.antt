@@ -2,7 +2,7 @@
 use Rattle.std.proofs.Common.{◌≡◌, ◌≢◌, ◌⊎◌, ⊎_elim, inl, inr, ℕ, ◌+◌, ◌<◌, ◌≤◌, Bool, true, false, cond, List, Option, Some, refl, sym, ap, ◌∙◌, subst, arith}
 use Rattle.std.specs.Prelude.{IfSome, nat_lt}
 use Rattle.std.proofs.lemmas.Bool.{cases_Bool, le-ltb, lt-ltb}
-use Rattle.sd_twin.specs.Twin.{Slot, Neither, First, Second, Same, body_at, body_of, chosen_body, chosen_slot, is_open, newer, number_of, slot_of}
+use Rattle.sd_base.specs.Twin.{Slot, Neither, First, Second, Same, body_at, body_of, chosen_body, chosen_slot, is_open, newer, number_of, slot_of}
 use Rattle.sd_rig.specs.Devices.{AgreesOutside}
 use Rattle.sd_rig.specs.Ranges.{outside_before, outside_behind, outside_wider}
 use Rattle.sd_twin.specs.Puts.{after_put, filled_gate, kept_gate, twin_len}

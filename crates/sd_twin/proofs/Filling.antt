@@ -2,7 +2,7 @@
 use Rattle.std.proofs.Common.{◌≡◌, ◌≢◌, ◌⊎◌, inl, inr, ℕ, ◌+◌, ◌<◌, ◌≤◌, true, false, List, [], ◌∷◌, length, take, drop, get_or, sym, ap, ◌∙◌, subst, arith}
 use Rattle.std.specs.Prelude.{◌==◌, Result, Ok, Err, OnOk}
 use Rattle.std.proofs.lemmas.List.{get_or-drop, get_or-take}
-use Rattle.sd_twin.specs.Twin.{body_at, is_open}
+use Rattle.sd_base.specs.Twin.{body_at, is_open}
 use Rattle.sd_rig.specs.Devices.{AgreesOutside, Image, Leaves, LeavesOnly, LeavesSame, overwritten}
 use Rattle.sd_rig.specs.Ranges.{outside_behind, outside_place, outside_same, outside_then, outside_wider, written_part}
 use Rattle.sd_twin.specs.Puts.{Closes, Fills, LeavesOthers, Writes}

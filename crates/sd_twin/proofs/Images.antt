@@ -1,7 +1,7 @@
 -- What crashes leave of a twin during a put. It serves the goals of putting.rt.
 use Rattle.std.proofs.Common.{◌≡◌, ◌≢◌, inl, ℕ, ◌+◌, ◌<◌, ◌≤◌, List, length, refl, subst, arith}
 use Rattle.std.specs.Prelude.{IfSome}
-use Rattle.sd_twin.specs.Twin.{Slot, Same, chosen_body, chosen_slot, number_of}
+use Rattle.sd_base.specs.Twin.{Slot, Same, chosen_body, chosen_slot, number_of}
 use Rattle.sd_rig.specs.Devices.{AgreesOutside, Image, LeavesSame}
 use Rattle.sd_rig.specs.Ranges.{outside_then, outside_wider}
 use Rattle.sd_twin.specs.declared.twin.Chosen.{Chosen}

@@ -2,7 +2,7 @@
 use Rattle.std.proofs.Common.{◌≡◌, ℕ, ◌+◌, ◌-◌, ◌<◌, ◌≤◌, List, take, drop, get_or, sym, ap, ◌∙◌, arith}
 use Rattle.std.specs.Prelude.{◌==◌, slice_range}
 use Rattle.std.proofs.lemmas.List.{drop-drop, drop-take, get_or-drop, get_or-take, take-take}
-use Rattle.sd_twin.specs.Twin.{Slot, body_at, body_of, chosen_body, chosen_slot, is_open, number_of, slot_of}
+use Rattle.sd_base.specs.Twin.{Slot, body_at, body_of, chosen_body, chosen_slot, is_open, number_of, slot_of}
 use Rattle.sd_twin.specs.declared.twin.Chosen.{Chosen}
 use Rattle.sd_twin.specs.Puts.{named_body, slot, twin_len}
 

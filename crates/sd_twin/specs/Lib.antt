@@ -1,2 +1,1 @@
-pub mod Twin
 pub mod Puts

@@ -1,6 +1,6 @@
 -- What choosing answers, and what a crash may leave of a twin that is put. The definition of the slot that counts is sd_base's.
 use Rattle.std.specs.Prelude.{◌≡◌, ◌≢◌, ◌⊎◌, ℕ, ◌+◌, ◌*◌, ◌≤◌, Bool, true, false, List, Option, Some}
-use Rattle.sd_twin.specs.Twin.{Slot, Neither, First, Second, Same, body_at, body_of, chosen_body, is_open}
+use Rattle.sd_base.specs.Twin.{Slot, Neither, First, Second, Same, body_at, body_of, chosen_body, is_open}
 use Rattle.sd_rig.specs.Devices.{AgreesOutside, Image}
 use Rattle.sd_twin.specs.declared.twin.Chosen.{Chosen}
 use Rattle.sd_twin.specs.declared.twin.Chosen.TheVariants as C

@@ -1,7 +1,7 @@
 //! Twins: two slots of a device, of which one counts. A put fills the other one, so that a crash at any moment leaves
 //! the old body or the new one, whole.
 //!
-//! Meaning: `chosen_slot` and `chosen_body` (`specs/Twin.antt`), what the bytes of a twin stand for.
+//! Meaning: `chosen_slot` and `chosen_body` (`specs/Twin.antt` of sd_base), what the bytes of a twin stand for.
 //! Keeps: a gate is opened only once its body is stable, and a body is written only behind a closed gate.
 //! Promises: `put` leaves the old body or the new one at any moment (`any_moment`), and the new one at `Ok` (`body`,
 //! `durable`); `choose` answers the slot that counts (`chosen`) and changes nothing (`stays`).

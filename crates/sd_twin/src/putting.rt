@@ -2,7 +2,7 @@
 
 ghost use Rattle.std.specs.Prelude.{◌≡◌, ◌≢◌, ◌⊎◌, ℕ, Some, ◌+◌, ◌<◌, ◌≤◌, true, false, length, IfSome, IsTrue, OnErr, OnOk};
 ghost use Rattle.sd_base.specs.Streams.{Rises};
-ghost use Rattle.sd_twin.specs.Twin as twin;
+ghost use Rattle.sd_base.specs.Twin as twin;
 ghost use Rattle.sd_rig.specs.Devices.{AgreesOutside, Elapses, LeavesOnly, LeavesSame, Span, device_len, overwritten};
 ghost use Rattle.sd_twin.specs.Puts.{Closes, Fills, Puts, Writes, after_put, filled_gate, filled_open, slot, twin_len};
 

@@ -2,7 +2,7 @@
 
 ghost use Rattle.std.specs.Prelude.{◌≡◌, ◌*◌, ◌<◌, ◌≤◌, length, option_copied, IfSome, IsTrue, OnOk};
 ghost use Rattle.sd_rig.specs.Devices.{LeavesOnly};
-ghost use Rattle.sd_twin.specs.Twin.{number_of};
+ghost use Rattle.sd_base.specs.Twin.{number_of};
 
 use super::*;
 use crate::twin::{OPEN, number_at};

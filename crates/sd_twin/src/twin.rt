@@ -2,7 +2,7 @@
 
 ghost use Rattle.std.specs.Prelude.{◌≡◌, ℕ, ◌+◌, ◌≤◌, drop, length, slice_range, IfOk, IsTrue, OnErr, OnOk};
 ghost use Rattle.sd_base.specs.Streams.{Rises};
-ghost use Rattle.sd_twin.specs.Twin.{chosen_body, chosen_slot, newer, number_of};
+ghost use Rattle.sd_base.specs.Twin.{chosen_body, chosen_slot, newer, number_of};
 ghost use Rattle.sd_rig.specs.Devices.{IsUnchanged, device_len};
 ghost use Rattle.sd_twin.specs.Puts.{named_body, slot, twin_len};
 

@@ -1,5 +1,5 @@
 use Rattle.std.proofs.Common.{◌≡◌, ◌+◌, length, ◌∙◌, arith}
-use Rattle.sd_twin.specs.Twin.{body_at}
+use Rattle.sd_base.specs.Twin.{body_at}
 use Rattle.sd_rig.specs.Spans.{elapses-then, span-then, span-weaker}
 use Rattle.sd_twin.specs.Puts.{Fills, Writes}
 use Rattle.sd_twin.proofs.Filling.{fills_first, fills_second, on_ok_from, outside_slot, same_body, written_body, written_gate}

@@ -1,5 +1,5 @@
 use Rattle.std.proofs.Common.{◌≡◌, ◌⊎◌, ◌+◌, ℕ, List, length, true, false, inl, subst, arith}
-use Rattle.sd_twin.specs.Twin.{body_at, is_open}
+use Rattle.sd_base.specs.Twin.{body_at, is_open}
 use Rattle.sd_rig.specs.Devices.{AgreesOutside}
 use Rattle.sd_rig.specs.Spans.{elapses-then, span-then, span-weaker}
 use Rattle.sd_twin.specs.Puts.{Closes, Fills, Puts, filled_gate, slot}
