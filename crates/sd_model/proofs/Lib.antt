@@ -25,3 +25,4 @@ pub mod Search
 pub mod Parts
 pub mod RowsWhole
 pub mod Firsts
+pub mod WaitAnswers

@@ -1,12 +1,12 @@
 -- What the plain program judges, and what its verdict says.
-use Rattle.std.specs.Prelude.{◌≡◌, ℕ, Bool, true, false, List, Some}
+use Rattle.std.specs.Prelude.{◌≡◌, ◌⊎◌, ℕ, Bool, true, false, List, Some}
 use Rattle.sd_base.specs.declared.ids.TxnId.{TxnId}
 use Rattle.sd_base.specs.declared.ids.Rid.{Rid}
 use Rattle.sd_base.specs.declared.refusal.Refusal.{Refusal}
 use Rattle.sd_base.specs.declared.refusal.Refusal.TheVariants as R
 use Rattle.sd_model.specs.declared.cause.Cause.{Cause}
 use Rattle.sd_model.specs.declared.event.Event.{Event}
-use Rattle.sd_model.specs.declared.event.Event.TheVariants.{Begin, Read, Write, Add, Insert, Delete, Commit, List as Listing, Join}
+use Rattle.sd_model.specs.declared.event.Event.TheVariants.{Begin, Read, Write, Add, Insert, Delete, Commit, List as Listing, Join, RecoverBegin, Ask, Give, Take, Evict, Flush, Force, CheckBegin, CheckEnd, Show, Arm}
 use Rattle.sd_model.specs.declared.event.Reply.{Reply}
 use Rattle.sd_model.specs.declared.event.Reply.TheVariants.{Refused}
 use Rattle.sd_model.specs.declared.verdict.Verdict.{Verdict}
@@ -42,17 +42,40 @@ IsFirstOf m e c causes = (has c causes ≡ true) × First m e c
 abbrev pub NoneFirst : State → Event → List Cause → Type 0
 NoneFirst m e causes = (c : Cause) → IsFirstOf m e c causes → ⊥
 
+-- events of transactions whose answers are judged
+abbrev pub IsOfRecords : Event → Type 0
+IsOfRecords (Begin i) = Unit {0}
+IsOfRecords (Read t r) = Unit {0}
+IsOfRecords (Write t r v) = Unit {0}
+IsOfRecords (Insert t p v n) = Unit {0}
+IsOfRecords (Delete t r) = Unit {0}
+IsOfRecords (Commit t) = Unit {0}
+IsOfRecords e = ⊥
+
+-- events of instances and pages whose answers are judged
+abbrev pub IsOfInstances : Event → Type 0
+IsOfInstances (Listing i p) = Unit {0}
+IsOfInstances (Join i) = Unit {0}
+IsOfInstances (RecoverBegin i by) = Unit {0}
+IsOfInstances e = ⊥
+
+-- events of pages, logs and devices, which leave the state
+abbrev pub IsOfPages : Event → Type 0
+IsOfPages (Ask i p mode) = Unit {0}
+IsOfPages (Give i p) = Unit {0}
+IsOfPages (Take i p) = Unit {0}
+IsOfPages (Evict i p) = Unit {0}
+IsOfPages (Flush i p) = Unit {0}
+IsOfPages (Force i) = Unit {0}
+IsOfPages (CheckBegin i) = Unit {0}
+IsOfPages (CheckEnd i) = Unit {0}
+IsOfPages (Show p) = Unit {0}
+IsOfPages (Arm trouble) = Unit {0}
+IsOfPages e = ⊥
+
 -- the answers of these events are judged
 abbrev pub IsAnswered : Event → Type 0
-IsAnswered (Begin i) = Unit {0}
-IsAnswered (Read t r) = Unit {0}
-IsAnswered (Write t r v) = Unit {0}
-IsAnswered (Insert t p v n) = Unit {0}
-IsAnswered (Delete t r) = Unit {0}
-IsAnswered (Commit t) = Unit {0}
-IsAnswered (Listing i p) = Unit {0}
-IsAnswered (Join i) = Unit {0}
-IsAnswered e = ⊥
+IsAnswered e = IsOfRecords e ⊎ (IsOfInstances e ⊎ IsOfPages e)
 
 abbrev pub IsJudged : Event → Reply → Type 0
 IsJudged e (Refused n) = IsPlain e × IsPlainRefusal n

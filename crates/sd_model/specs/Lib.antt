@@ -24,3 +24,5 @@ pub mod Apart
 pub mod SerialLaws
 pub mod Lists
 pub mod Judging
+pub mod Waits
+pub mod WaitLaws

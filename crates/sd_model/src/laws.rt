@@ -4,6 +4,7 @@ ghost use Rattle.sd_model.specs.StepLaws.{JoinedSteps, BeganSteps, InsertedSteps
 ghost use Rattle.sd_model.specs.ViewLaws.{PartHere, PartElsewhere, ViewAfterWrite, NowAfterWrite, NowAfterCommit, ViewAfterBegin, NoneCounted};
 ghost use Rattle.sd_model.specs.RunLaws.{RunGrows, RunSplits, RunsJoin};
 ghost use Rattle.sd_model.specs.SerialLaws.{RunIsSerial, RunIsKept, FreshIsOpening, StepKeeps, RunKeeps, PutsCommute, LateIsEarly, MayCommitApart, CommitBeforeDoubt, BeginCounts, RollbackGoesOn};
+ghost use Rattle.sd_model.specs.WaitLaws.{BlockedIsLocked, DeadlockIsLocked, BlockedOrDeadlock};
 ghost use Rattle.sd_model.specs.Kept.{Kept};
 ghost use Rattle.sd_model.specs.Placed.{Placed};
 ghost use Rattle.sd_model.specs.Listed.{Listed};
@@ -71,4 +72,11 @@ pub fn whereabouts()
     ensures marked_all { RunKeeps Marked }
     ensures counts { BeginCounts }
     ensures goes_on { RollbackGoesOn }
+{}
+
+/// An asked claim that is answered as blocked or as a deadlock conflicts with another's, and isn't both.
+pub fn waits()
+    ensures blocked { BlockedIsLocked }
+    ensures deadlock { DeadlockIsLocked }
+    ensures either { BlockedOrDeadlock }
 {}

@@ -45,9 +45,9 @@ impl SerialTable {
         }
     }
 
-    /// Judges the reply to the event, and moves on where it follows. Begin, Read, Write, Insert, Delete, Commit, List
-    /// and Join are judged with each answer, and each event but Add with each refusal but Failed and CutCommit; of the
-    /// rest it says `Unjudged`. After `Memory` the state is as before.
+    /// Judges the reply to the event, and moves on where it follows. Begin, Read, Write, Insert, Delete, Commit, List,
+    /// Join, RecoverBegin and the events of pages, logs and devices are judged with each answer, and each event but Add
+    /// with each refusal but Failed and CutCommit; of the rest it says `Unjudged`. After `Memory` the state is as before.
     pub fn step(&mut self, event: &Event, reply: &Reply) -> Result<Verdict, Memory>
         ensures judged { IfOk result (λ v. Judges v (state_of self.old) event.now reply.now (state_of self.new)) }
         ensures same { OnErr result (state_of self.new ≡ state_of self.old) }

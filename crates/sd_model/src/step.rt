@@ -4,9 +4,11 @@ ghost use Rattle.std.specs.Prelude.{◌≡◌, ◌↔◌, IsTrue, IfOk, OnOk, On
 ghost use Rattle.sd_model.specs.declared.verdict.Verdict.TheVariants.{Follows, Differs};
 ghost use Rattle.sd_model.specs.Applies.{Clear};
 ghost use Rattle.sd_model.specs.Refusing.{Refuses, found};
+ghost use Rattle.sd_base.specs.declared.place.Status.TheVariants.{Recovering};
+ghost use Rattle.sd_model.specs.State.{put_inst, with_status};
 ghost use Rattle.sd_model.specs.Lists.{meaning};
 ghost use Rattle.sd_model.specs.declared.event.Reply.TheVariants as R;
-ghost use Rattle.sd_model.specs.Judging.{IsPlain, IsPlainRefusal, IsPlainCause, NoneFirst, IsFirstOf, Judges, JudgesRow};
+ghost use Rattle.sd_model.specs.Judging.{IsPlain, IsPlainRefusal, IsPlainCause, NoneFirst, IsFirstOf, IsOfRecords, IsOfInstances, Judges, JudgesRow};
 
 use crate::act::Claim;
 use crate::answering::{owned, read_alone};
@@ -15,7 +17,7 @@ use crate::event::{Event, Reply};
 use crate::fields::{rid_of, txn_of};
 use crate::lists::Lists;
 use crate::verdict::Verdict;
-use sd_base::{Duplicate, Memory, Refusal};
+use sd_base::{Duplicate, InstNo, Memory, Refusal, Status};
 
 impl Lists {
     /// Judges the reply, and does the event where the reply follows. After `Memory` nothing is changed.
@@ -141,6 +143,18 @@ impl Lists {
                 Reply::Did => Ok(verdict(self.answer_commit(txn)?)),
                 _ => Ok(Verdict::Differs),
             },
+            other => self.answer_instance(other, reply),
+        }
+    }
+
+    // An answer of an event of instances or pages.
+    fn answer_instance(&mut self, event: &Event, reply: &Reply) -> Result<Verdict, Memory>
+        requires clear { Clear (meaning self.old) event.now }
+        requires other { IsOfRecords event.now → ⊥ }
+        ensures judged { IfOk result (λ v. JudgesRow v (meaning self.old) event.now reply.now (meaning self.new)) }
+        ensures same { OnErr result (meaning self.new ≡ meaning self.old) }
+    {
+        match event {
             Event::List { page, .. } => match reply {
                 Reply::Rows(rows) => Ok(verdict(self.are_rows(*page, rows.items()))),
                 _ => Ok(Verdict::Differs),
@@ -149,8 +163,58 @@ impl Lists {
                 Reply::Joined { epoch } => Ok(verdict(self.answer_join(*inst, *epoch)?)),
                 _ => Ok(Verdict::Differs),
             },
-            _ => Ok(Verdict::Unjudged),
+            Event::RecoverBegin { inst, by } => match reply {
+                Reply::Did => {
+                    self.recover(*inst, *by)?;
+                    Ok(Verdict::Follows)
+                }
+                _ => Ok(Verdict::Differs),
+            },
+            other => self.answer_page(other, reply),
         }
+    }
+
+    // An answer of an event that leaves the state.
+    fn answer_page(&self, event: &Event, reply: &Reply) -> Result<Verdict, Memory>
+        requires records { IsOfRecords event.now → ⊥ }
+        requires instances { IsOfInstances event.now → ⊥ }
+        ensures judged { IfOk result (λ v. JudgesRow v (meaning self.now) event.now reply.now (meaning self.now)) }
+    {
+        Ok(match event {
+            Event::Ask { .. } => match reply {
+                Reply::Have | Reply::Asked { .. } => Verdict::Follows,
+                _ => Verdict::Differs,
+            },
+            Event::Give { .. } => match reply {
+                Reply::Gave { .. } => Verdict::Follows,
+                _ => Verdict::Differs,
+            },
+            Event::Show { .. } => match reply {
+                Reply::Shown { .. } => Verdict::Follows,
+                _ => Verdict::Differs,
+            },
+            Event::Take { .. }
+            | Event::Evict { .. }
+            | Event::Flush { .. }
+            | Event::Force { .. }
+            | Event::CheckBegin { .. }
+            | Event::CheckEnd { .. }
+            | Event::Arm { .. } => match reply {
+                Reply::Did => Verdict::Follows,
+                _ => Verdict::Differs,
+            },
+            _ => Verdict::Unjudged,
+        })
+    }
+
+    // The instance is being recovered.
+    fn recover(&mut self, inst: InstNo, by: InstNo) -> Result<(), Memory>
+        ensures recovers { OnOk result (meaning self.new ≡ put_inst inst (with_status (Recovering by) ((meaning self.old).inst inst)) (meaning self.old)) }
+        ensures same { OnErr result (meaning self.new ≡ meaning self.old) }
+    {
+        let mut state = self.inst(inst);
+        state.status = Status::Recovering { by };
+        self.set_inst(inst, state)
     }
 }
 
