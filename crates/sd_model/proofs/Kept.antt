@@ -5,7 +5,7 @@ use Rattle.sd_base.specs.declared.ids.Rid.{Rid}
 use Rattle.sd_model.specs.declared.act.Done.{Done}
 use Rattle.sd_model.specs.declared.act.Life.{Life}
 use Rattle.sd_model.specs.declared.act.Life.TheVariants.{Gone, Running, Retained, Rolling, Doubt}
-use Rattle.sd_model.specs.Keys.{same_txn}
+use Rattle.sd_base.specs.Ids.{same_txn}
 use Rattle.sd_model.specs.Tables.{Contents}
 use Rattle.sd_model.specs.Acts.{live, Reads, after, Serial}
 use Rattle.sd_model.specs.Claims.{Clash}

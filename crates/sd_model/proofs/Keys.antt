@@ -3,7 +3,7 @@ use Rattle.std.proofs.Common.{◌≡◌, ◌≢◌, ◌⊎◌, inl, inr, ⊎_eli
 use Rattle.std.proofs.lemmas.Bool.{cases_eq}
 use Rattle.sd_base.specs.declared.ids.TxnId.{TxnId}
 use Rattle.sd_base.specs.declared.ids.Rid.{Rid}
-use Rattle.sd_model.specs.Keys.{same_txn, same_rid}
+use Rattle.sd_base.specs.Ids.{same_txn, same_rid}
 
 pub eq-same : (a b : TxnId) → a ≡ b → same_txn a b ≡ true
 unfolding same_txn

@@ -19,10 +19,4 @@ pub mod Listed
 pub mod ListedRun
 pub mod Marks
 pub mod MarksRun
-pub mod Loops
-pub mod Scans
-pub mod Search
-pub mod Parts
-pub mod RowsWhole
-pub mod Firsts
 pub mod WaitAnswers

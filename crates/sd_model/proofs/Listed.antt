@@ -2,7 +2,7 @@
 use Rattle.std.proofs.Common.{◌≡◌, ◌≢◌, ◌⊎◌, inl, inr, ⊎_elim, ℕ, ◌+◌, ◌≤◌, ◌<◌, Bool, true, false, cond, eqb, ◌&&◌, List, [], ◌∷◌, ◌++◌, refl, sym, ap, ◌∙◌, subst, arith, length, filter, eq-eqb}
 use Rattle.sd_base.specs.declared.ids.TxnId.{TxnId}
 use Rattle.sd_model.specs.declared.act.Inst.{Inst}
-use Rattle.sd_model.specs.Keys.{same_txn}
+use Rattle.sd_base.specs.Ids.{same_txn}
 use Rattle.sd_model.specs.State.{State, Part, started, began}
 use Rattle.sd_model.specs.Applies.{count_of, is_unresolved}
 use Rattle.sd_model.specs.Listed.{Below, EachBelow, Listed}

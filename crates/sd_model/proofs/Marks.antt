@@ -4,7 +4,7 @@ use Rattle.sd_base.specs.declared.ids.TxnId.{TxnId}
 use Rattle.sd_model.specs.declared.act.Act.{Act}
 use Rattle.sd_model.specs.declared.act.Life.{Life}
 use Rattle.sd_model.specs.declared.act.Life.TheVariants.{Gone, Running, Retained, Rolling, Doubt}
-use Rattle.sd_model.specs.Keys.{same_word}
+use Rattle.sd_model.specs.Words.{same_word}
 use Rattle.sd_model.specs.Acts.{Puts, undone, live}
 use Rattle.sd_model.specs.State.{State, Part, put_part, lost, lost_part}
 use Rattle.sd_model.specs.Changes.{mark_of, with_mark, goal, undid_part}

@@ -5,7 +5,7 @@ use Rattle.sd_model.specs.declared.act.Inst.{Inst}
 use Rattle.sd_model.specs.declared.act.Life.{Life}
 use Rattle.sd_model.specs.declared.act.Life.TheVariants.{Gone, Running, Retained, Rolling, Doubt}
 use Rattle.sd_model.specs.declared.act.Cut.TheVariants.{Committing}
-use Rattle.sd_model.specs.Keys.{same_txn}
+use Rattle.sd_base.specs.Ids.{same_txn}
 use Rattle.sd_base.specs.declared.place.Status.{Status}
 use Rattle.sd_base.specs.declared.place.Status.TheVariants.{Up, Down, Recovering, Clean, Restarting, Closed}
 use Rattle.sd_model.specs.State.{State, Part, gone, started, put_part, put_inst, with_status, fall, closed, committed, cut_commit, began}

@@ -7,7 +7,7 @@ use Rattle.std.specs.declared.cmp.Ordering.TheVariants.{Less, Equal, Greater}
 use Rattle.std.specs.Map.{lookup}
 use Rattle.sd_base.specs.declared.ids.Rid.{Rid}
 use Rattle.sd_base.specs.contracts.ids.RidOrd.TheImpl.{cmp-value}
-use Rattle.sd_model.specs.Keys.{same_rid}
+use Rattle.sd_base.specs.Ids.{same_rid}
 use Rattle.sd_model.specs.Tables.{Content, contents}
 
 then_eq : (a b : Ordering) → is_eq (ordering_then a b) ≡ (is_eq a && is_eq b)

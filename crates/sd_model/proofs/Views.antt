@@ -6,7 +6,7 @@ use Rattle.sd_model.specs.declared.act.Act.{Act}
 use Rattle.sd_model.specs.declared.act.Claim.TheVariants.{Excl}
 use Rattle.sd_model.specs.declared.act.Life.{Life}
 use Rattle.sd_model.specs.declared.act.Life.TheVariants.{Gone}
-use Rattle.sd_model.specs.Keys.{same_txn, same_rid}
+use Rattle.sd_base.specs.Ids.{same_txn, same_rid}
 use Rattle.sd_model.specs.Tables.{Content}
 use Rattle.sd_model.specs.Acts.{Puts, live, seen}
 use Rattle.sd_model.specs.State.{State, Part, now, view, started, put_part, took_part, began, wrote, committed}

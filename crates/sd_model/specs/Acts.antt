@@ -4,7 +4,7 @@ use Rattle.sd_base.specs.declared.ids.Rid.{Rid}
 use Rattle.sd_model.specs.declared.act.Act.{Act}
 use Rattle.sd_model.specs.declared.act.Act.TheVariants.{Read, Put, Undo}
 use Rattle.sd_model.specs.declared.act.Done.{Done}
-use Rattle.sd_model.specs.Keys.{same_rid}
+use Rattle.sd_base.specs.Ids.{same_rid}
 use Rattle.sd_model.specs.Tables.{Content, Contents}
 
 -- puts, the last one first

@@ -9,7 +9,7 @@ use Rattle.sd_model.specs.declared.act.Claim.TheVariants.{Free, Excl}
 use Rattle.sd_model.specs.declared.act.Cut.{Cut}
 use Rattle.sd_model.specs.declared.act.Life.{Life}
 use Rattle.sd_model.specs.declared.act.Life.TheVariants.{Gone, Running, Retained, Rolling, Doubt}
-use Rattle.sd_model.specs.Keys.{same_word}
+use Rattle.sd_model.specs.Words.{same_word}
 use Rattle.sd_model.specs.Acts.{live, undone}
 use Rattle.sd_model.specs.State.{State, Part, gone, put_part, put_inst, with_status, committed}
 

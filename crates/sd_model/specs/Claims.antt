@@ -3,7 +3,7 @@ use Rattle.std.specs.Prelude.{cond}
 use Rattle.sd_base.specs.declared.ids.Rid.{Rid}
 use Rattle.sd_model.specs.declared.act.Claim.{Claim}
 use Rattle.sd_model.specs.declared.act.Claim.TheVariants.{Free, Shared, Excl}
-use Rattle.sd_model.specs.Keys.{same_rid}
+use Rattle.sd_base.specs.Ids.{same_rid}
 
 abbrev pub Claims : Type 0
 Claims = Rid → Claim

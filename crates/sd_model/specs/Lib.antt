@@ -1,4 +1,4 @@
-pub mod Keys
+pub mod Words
 pub mod Tables
 pub mod History
 pub mod Acts
@@ -22,7 +22,5 @@ pub mod Listed
 pub mod Marks
 pub mod Apart
 pub mod SerialLaws
-pub mod Lists
-pub mod Judging
 pub mod Waits
 pub mod WaitLaws

@@ -1,7 +1,8 @@
 -- Which refusal names a cause, with what arguments, and what it leaves.
-use Rattle.std.specs.Prelude.{◌≡◌, ◌⊎◌, ℕ, ◌+◌, ◌<◌, true, List, [], ◌∷◌}
+use Rattle.std.specs.Prelude.{◌≡◌, ◌⊎◌, ℕ, ◌+◌, true, List, [], ◌∷◌}
 use Rattle.sd_base.specs.declared.ids.TxnId.{TxnId}
 use Rattle.sd_base.specs.declared.place.Status.{Status}
+use Rattle.sd_base.specs.Ids.{IsBelow}
 use Rattle.sd_base.specs.declared.refusal.Refusal.{Refusal}
 use Rattle.sd_base.specs.declared.refusal.Refusal.TheVariants as R
 use Rattle.sd_model.specs.declared.event.Event.{Event}
@@ -43,10 +44,6 @@ causes_of n = []
 
 abbrev pub Names : Cause → Refusal → Type 0
 Names c n = has c (causes_of n) ≡ true
-
--- the order of transactions: by instance, epoch and number
-abbrev pub IsBelow : TxnId → TxnId → Type 0
-IsBelow t u = (t.inst < u.inst) ⊎ ((t.inst ≡ u.inst) × ((t.epoch < u.epoch) ⊎ ((t.epoch ≡ u.epoch) × (t.seq < u.seq))))
 
 -- the lowest transaction with an exclusive claim on a record of the page
 abbrev pub IsLowestChanger : State → ℕ → TxnId → Type 0

@@ -11,7 +11,7 @@ use Rattle.sd_model.specs.declared.act.Claim.TheVariants.{Free, Shared, Excl}
 use Rattle.sd_model.specs.declared.act.Life.{Life}
 use Rattle.sd_model.specs.declared.act.Cut.TheVariants as Cut
 use Rattle.sd_model.specs.declared.act.Inst.{Inst}
-use Rattle.sd_model.specs.Keys.{same_txn}
+use Rattle.sd_base.specs.Ids.{same_txn}
 use Rattle.sd_model.specs.Tables.{Content, Contents}
 use Rattle.sd_model.specs.Acts.{live, seen, after}
 use Rattle.sd_model.specs.Claims.{Claims, with_claim}

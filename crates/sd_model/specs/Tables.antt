@@ -2,7 +2,7 @@
 use Rattle.std.specs.Prelude.{ℕ, List, Option}
 use Rattle.std.specs.Map.{lookup}
 use Rattle.sd_base.specs.declared.ids.Rid.{Rid}
-use Rattle.sd_model.specs.Keys.{same_rid}
+use Rattle.sd_base.specs.Ids.{same_rid}
 
 -- what a record has: bytes, or nothing where it is absent
 abbrev pub Content : Type 0

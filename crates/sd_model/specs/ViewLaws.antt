@@ -3,7 +3,7 @@ use Rattle.std.specs.Prelude.{◌≡◌, ◌≢◌, ℕ, cond}
 use Rattle.sd_base.specs.declared.ids.TxnId.{TxnId}
 use Rattle.sd_base.specs.declared.ids.Rid.{Rid}
 use Rattle.sd_model.specs.declared.act.Life.TheVariants.{Gone}
-use Rattle.sd_model.specs.Keys.{same_rid}
+use Rattle.sd_base.specs.Ids.{same_rid}
 use Rattle.sd_model.specs.Tables.{Content}
 use Rattle.sd_model.specs.State.{State, Part, now, view, put_part, began, wrote, committed}
 use Rattle.sd_model.specs.Applies.{count_of}

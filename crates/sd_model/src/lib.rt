@@ -5,8 +5,8 @@
 //! Keeps: `Kept`, which each step keeps (`specs/Kept.antt`).
 //! Promises: a run from an opening leaves transactions that read as if they ran one after another (`laws.rt`).
 //! Refuses: nothing but for want of memory; which refusal an event gets is `specs/Applies.antt`.
-//! Knows nothing of: pages' bytes, pools, logs, devices, scripts.
-//! Stands on: sd_base. On it stand: sd_chain, sd_state and all that steps.
+//! Knows nothing of: pages' bytes, pools, logs, devices, scripts; of a program that judges replies.
+//! Stands on: sd_base. On it stand: sd_oracle, sd_chain, sd_state and all that steps.
 //!
 //! To change:
 //! - free: bodies, proofs
@@ -15,35 +15,21 @@
 #![tactic(auto)]
 
 mod act;
-mod answering;
-mod asking;
 mod book;
 mod cause;
 mod copies;
 mod event;
-mod fields;
-mod judging;
 pub mod laws;
-mod listing;
-mod lists;
 mod rows;
-mod says;
-mod serial_table;
-mod sight;
-mod standing;
-mod step;
 mod table;
-mod verdict;
 
 pub use act::{Act, Claim, Cut, Done, Inst, Life};
 pub use book::Book;
-pub use cause::Cause;
-pub use copies::copy_refusal;
+pub use cause::{Cause, causes_of, order};
+pub use copies::{copy_bytes, copy_refusal};
 pub use event::{Entry, Event, Reply};
 pub use rows::Rows;
-pub use serial_table::SerialTable;
 pub use table::Table;
-pub use verdict::Verdict;
 
 #[cfg(test)]
 mod tests;

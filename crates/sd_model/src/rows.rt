@@ -1,7 +1,6 @@
 //! The rows of a list: records with their values.
 
-ghost use Rattle.std.specs.Prelude.{◌≡◌, IfOk, option_copied};
-ghost use Rattle.sd_model.specs.Tables.{contents};
+ghost use Rattle.std.specs.Prelude.{◌≡◌, IfOk};
 
 use sd_base::{Bytes, Duplicate, Memory, Rid};
 use std::marker::Model;
@@ -60,16 +59,4 @@ fn copy_all(rows: &Vec<(Rid, Bytes)>) -> Result<Vec<(Rid, Bytes)>, Memory>
         copied.push((row.0, row.1.copy()?))?;
     }
     Ok(copied)
-}
-
-/// The value of the first of the rows that is of the record.
-pub fn find_row<'a>(rows: &'a [(Rid, Bytes)], rid: &Rid) -> Option<&'a [u8]>
-    ensures { option_copied result ≡ contents rows.now rid.now }
-{
-    for (at, value) in rows {
-        if *rid == *at {
-            return Some(value.items());
-        }
-    }
-    None
 }

@@ -2,7 +2,7 @@
 
 ghost use Rattle.std.specs.Prelude.{◌≡◌, [], Some, OnOk, OnErr, cond, option_copied};
 ghost use Rattle.sd_model.specs.Tables.{contents};
-ghost use Rattle.sd_model.specs.Keys.{same_rid};
+ghost use Rattle.sd_base.specs.Ids.{same_rid};
 ghost use Rattle.sd_base.specs.declared.ids.Rid.{Rid};
 
 use sd_base::{Bytes, Memory, Rid};

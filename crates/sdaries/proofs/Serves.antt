@@ -21,7 +21,7 @@ use Rattle.sd_model.specs.declared.event.Reply.TheVariants as reply
 use Rattle.sd_model.specs.State.{State, Part, view, gone, committed, began, wrote}
 use Rattle.sd_model.specs.Step.{Step}
 use Rattle.sd_model.specs.StepLaws.{IsOpen, IsUp, IsReady, next_txn}
-use Rattle.sd_model.specs.Keys.{same_rid}
+use Rattle.sd_base.specs.Ids.{same_rid}
 use Rattle.sd_model.proofs.Keys.{each_txn, cases_rid, eq-same_rid, ne-same_rid}
 use Rattle.sd_model.proofs.Steps.{begin-step, insert-step, full-step, too_long-step, no_txn-step, commit-step, list-step}
 use Rattle.sd_model.proofs.Views.{view_after-write, now_after-commit, view_after-begin, none-counted}

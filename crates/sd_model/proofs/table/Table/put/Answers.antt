@@ -1,6 +1,6 @@
 use Rattle.std.proofs.Common.{◌≡◌, subst, List, ℕ, Some, cond}
 use Rattle.sd_base.specs.declared.ids.Rid.{Rid}
-use Rattle.sd_model.specs.Keys.{same_rid}
+use Rattle.sd_base.specs.Ids.{same_rid}
 use Rattle.sd_model.specs.Tables.{contents}
 use Rattle.sd_model.proofs.Tables.{put-look-up}
 use Rattle.sd_model.proofs.table.Table.put.Goals as goal

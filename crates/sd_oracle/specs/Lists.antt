@@ -1,0 +1,99 @@
+-- A state kept in lists: each change is appended, and the last one counts.
+use Rattle.std.specs.Prelude.{◌≡◌, ℕ, List, [], ◌∷◌, Option, None, Some, eqb, cond}
+use Rattle.sd_base.specs.declared.ids.TxnId.{TxnId}
+use Rattle.sd_base.specs.declared.ids.Rid.{Rid}
+use Rattle.sd_base.specs.declared.place.Status.TheVariants.{Clean}
+use Rattle.sd_model.specs.declared.act.Act.{Act}
+use Rattle.sd_model.specs.declared.act.Act.TheVariants.{Read, Put, Undo}
+use Rattle.sd_model.specs.declared.act.Done.{Done}
+use Rattle.sd_model.specs.declared.act.Claim.{Claim}
+use Rattle.sd_model.specs.declared.act.Claim.TheVariants.{Free, Excl}
+use Rattle.sd_model.specs.declared.act.Inst.{Inst}
+use Rattle.sd_oracle.specs.declared.standing.Standing.{Standing}
+use Rattle.sd_oracle.specs.declared.lists.Lists.{Lists}
+use Rattle.sd_base.specs.Ids.{same_txn, same_rid}
+use Rattle.sd_model.specs.Tables.{Contents, contents}
+use Rattle.sd_model.specs.Claims.{Claims, raised}
+use Rattle.sd_model.specs.State.{State, Part, gone, fresh}
+
+-- the strongest of the claims on a record, over one that was there before
+abbrev pub claim_from : Claim → List (Rid × Claim) → Rid → Claim
+claim_from c [] r = c
+claim_from c (x ∷ xs) r = claim_from (cond (same_rid x.0 r) (raised x.1 c) c) xs r
+
+abbrev pub claims_in : List (Rid × Claim) → Claims
+claims_in xs r = claim_from Free xs r
+
+abbrev pub part_of : Standing → Part
+part_of s = record { life = s.life; acts = s.acts; marks = s.marks; claims = claims_in s.claims }
+
+-- the part of one that has this standing, or none
+abbrev pub part_at : Option Standing → Part
+part_at None = gone
+part_at (Some s) = part_of s
+
+abbrev pub part_from : Part → List (TxnId × Standing) → TxnId → Part
+part_from p [] t = p
+part_from p (x ∷ xs) t = part_from (cond (same_txn x.0 t) (part_of x.1) p) xs t
+
+-- the part of a transaction: the last that was set, or gone
+abbrev pub part_in : List (TxnId × Standing) → TxnId → Part
+part_in xs t = part_from gone xs t
+
+abbrev pub inst_from : Inst → List (ℕ × Inst) → ℕ → Inst
+inst_from y [] i = y
+inst_from y (x ∷ xs) i = inst_from (cond (eqb x.0 i) x.1 y) xs i
+
+-- an instance at the opening of a fresh complex
+abbrev pub unjoined : Inst
+unjoined = record { status = Clean; epoch = 0; begins = 0; failed = 0 }
+
+abbrev pub inst_in : List (ℕ × Inst) → ℕ → Inst
+inst_in xs i = inst_from unjoined xs i
+
+-- what lists hold: each change of a transaction and of an instance is appended
+pub record Journal : Type 0 where
+  pub start : List (Rid × List ℕ)
+  pub done : List Done
+  pub begun : List TxnId
+  pub cuts : List TxnId
+  pub parts : List (TxnId × Standing)
+  pub insts : List (ℕ × Inst)
+
+-- the state that a journal stands for
+abbrev pub state_of : Journal → State
+state_of j = record { start = contents j.start; done = j.done; begun = j.begun; cuts = j.cuts; part = part_in j.parts; inst = inst_in j.insts }
+
+abbrev pub journal : Lists → Journal
+journal l = record { start = l.start; done = l.done.items; begun = l.begun.items; cuts = l.cuts.items; parts = l.parts.items; insts = l.insts.items }
+
+-- the state that the lists stand for
+abbrev pub meaning : Lists → State
+meaning l = state_of (journal l)
+
+-- a fresh complex with these records
+abbrev pub fresh_with : List (Rid × List ℕ) → State
+fresh_with rows = record fresh { start = contents rows }
+
+-- an exclusive claim on a record of the page is among the claims
+abbrev pub HasExcl : List (Rid × Claim) → ℕ → Type 0
+HasExcl claims p = (slot : ℕ) × (claims_in claims (record { page = p; slot = slot }) ≡ Excl)
+
+-- if the record is of the page, the rows have at it what the table has
+abbrev pub Agree : ℕ → Contents → List (Rid × List ℕ) → Rid → Type 0
+Agree p table rows r = r.page ≡ p → contents rows r ≡ table r
+
+-- they agree at the records of the list, at those that are put, and at those that committed transactions put
+abbrev pub AgreeAtRows : ℕ → Contents → List (Rid × List ℕ) → List (Rid × List ℕ) → Type 0
+AgreeAtRows p table rows [] = Unit {0}
+AgreeAtRows p table rows (x ∷ xs) = Agree p table rows x.0 × AgreeAtRows p table rows xs
+
+abbrev pub AgreeAtActs : ℕ → Contents → List (Rid × List ℕ) → List Act → Type 0
+AgreeAtActs p table rows [] = Unit {0}
+AgreeAtActs p table rows (Read r v ∷ acts) = AgreeAtActs p table rows acts
+AgreeAtActs p table rows (Put r v ∷ acts) = Agree p table rows r × AgreeAtActs p table rows acts
+AgreeAtActs p table rows (Undo ∷ acts) = AgreeAtActs p table rows acts
+
+abbrev pub AgreeAtDone : ℕ → Contents → List (Rid × List ℕ) → List Done → Type 0
+AgreeAtDone p table rows [] = Unit {0}
+AgreeAtDone p table rows (d ∷ done) = AgreeAtActs p table rows d.acts × AgreeAtDone p table rows done

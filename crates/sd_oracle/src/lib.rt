@@ -1,0 +1,33 @@
+//! A plain program of the serial table: it says of a reply whether the table allows it.
+//!
+//! Meaning: a `SerialTable` is a journal of lists, and `state_of` it a state of sd_model (`specs/Lists.antt`).
+//! Keeps: nothing; any lists stand for a state.
+//! Promises: a verdict is the step of sd_model, both ways (`SerialTable::step`, `Judges`).
+//! Refuses: nothing but for want of memory; what it doesn't judge it says (`Verdict::Unjudged`).
+//! Knows nothing of: pages' bytes, pools, logs, devices, scripts; how a complex comes to its replies.
+//! Stands on: sd_base, sd_model. On it stand: tests that compare a complex with the table.
+//!
+//! To change:
+//! - free: bodies, proofs, the lists
+//! - dear: `Judges`; an event more is one more answer
+//! - frozen: nothing
+#![tactic(auto)]
+
+mod answering;
+mod asking;
+mod fields;
+mod judging;
+mod listing;
+mod lists;
+mod says;
+mod serial_table;
+mod sight;
+mod standing;
+mod step;
+mod verdict;
+
+pub use serial_table::SerialTable;
+pub use verdict::Verdict;
+
+#[cfg(test)]
+mod tests;

@@ -1,0 +1,56 @@
+//! The serial table as a plain program: it says of each event and its reply whether the reply may follow.
+
+ghost use Rattle.std.specs.Prelude.{◌≡◌, IfOk, OnErr};
+
+use crate::lists::Lists;
+use crate::verdict::Verdict;
+use sd_base::Memory;
+use sd_model::{Event, Reply, Rows};
+use std::alloc::Global;
+use std::marker::Model;
+
+/// A complex as one table and a list of committed transactions. Contracts see its lists, and `state_of` them is its
+/// state (`specs/Lists.antt`).
+#[derive(Debug, Drop)]
+pub struct SerialTable {
+    lists: Lists,
+}
+
+impl Model for SerialTable {
+    ghost use Rattle.sd_oracle.specs.Lists.{Journal, journal};
+
+    ghost Value = { Journal };
+
+    ghost view = { λ s. journal s.lists };
+}
+
+impl SerialTable {
+    ghost use Rattle.sd_oracle.specs.Lists.{state_of, fresh_with};
+    ghost use Rattle.sd_oracle.specs.Judging.{Judges};
+
+    /// A fresh complex with these records: no transaction, each instance with nothing to recover. It takes no memory.
+    pub fn new(alloc: Global, start: Rows) -> SerialTable
+        ensures { state_of result ≡ fresh_with start }
+    {
+        SerialTable {
+            lists: Lists {
+                start,
+                done: Vec::new(alloc),
+                begun: Vec::new(alloc),
+                cuts: Vec::new(alloc),
+                parts: Vec::new(alloc),
+                insts: Vec::new(alloc),
+            },
+        }
+    }
+
+    /// Judges the reply to the event, and moves on where it follows. Begin, Read, Write, Insert, Delete, Commit, List,
+    /// Join, RecoverBegin and the events of pages, logs and devices are judged with each answer, and each event but Add
+    /// with each refusal but Failed and CutCommit; of the rest it says `Unjudged`. After `Memory` the state is as before.
+    pub fn step(&mut self, event: &Event, reply: &Reply) -> Result<Verdict, Memory>
+        ensures judged { IfOk result (λ v. Judges v (state_of self.old) event.now reply.now (state_of self.new)) }
+        ensures same { OnErr result (state_of self.new ≡ state_of self.old) }
+    {
+        self.lists.judge(event, reply)
+    }
+}

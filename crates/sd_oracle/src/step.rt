@@ -1,0 +1,245 @@
+//! One event with its reply, judged and done.
+
+ghost use Rattle.std.specs.Prelude.{◌≡◌, ◌↔◌, IsTrue, IfOk, OnOk, OnErr, MatchOption, if◌then◌else◌};
+ghost use Rattle.sd_oracle.specs.declared.verdict.Verdict.TheVariants.{Follows, Differs};
+ghost use Rattle.sd_model.specs.Applies.{Clear};
+ghost use Rattle.sd_model.specs.Refusing.{Refuses, found};
+ghost use Rattle.sd_base.specs.declared.place.Status.TheVariants.{Recovering};
+ghost use Rattle.sd_model.specs.State.{put_inst, with_status};
+ghost use Rattle.sd_oracle.specs.Lists.{meaning};
+ghost use Rattle.sd_model.specs.declared.event.Reply.TheVariants as R;
+ghost use Rattle.sd_oracle.specs.Judging.{IsPlain, IsPlainRefusal, IsPlainCause, NoneFirst, IsFirstOf, IsOfRecords, IsOfInstances, Judges, JudgesRow};
+
+use crate::answering::{owned, read_alone};
+use crate::fields::{rid_of, txn_of};
+use crate::lists::Lists;
+use crate::verdict::Verdict;
+use sd_base::{Duplicate, InstNo, Memory, Refusal, Status};
+use sd_model::{Cause, Claim, Event, Reply, causes_of, order};
+
+impl Lists {
+    /// Judges the reply, and does the event where the reply follows. After `Memory` nothing is changed.
+    pub fn judge(&mut self, event: &Event, reply: &Reply) -> Result<Verdict, Memory>
+        ensures judged { IfOk result (λ v. Judges v (meaning self.old) event.now reply.now (meaning self.new)) }
+        ensures same { OnErr result (meaning self.new ≡ meaning self.old) }
+    {
+        match reply {
+            Reply::Refused(refusal) => {
+                if !is_plain(event) || !is_plain_refusal(refusal) {
+                    return Ok(Verdict::Unjudged);
+                }
+                self.refuse(event, refusal)
+            }
+            other => {
+                if !is_plain(event) {
+                    return Ok(Verdict::Unjudged);
+                }
+                if !self.passes_all(event, order(event)) {
+                    return Ok(Verdict::Differs);
+                }
+                self.answer(event, other)
+            }
+        }
+    }
+
+    // A refusal of a plain event: it is the first that applies, with the arguments that the state decides.
+    fn refuse(&mut self, event: &Event, refusal: &Refusal) -> Result<Verdict, Memory>
+        requires event { IsPlain event.now }
+        requires refusal { IsPlainRefusal refusal.now }
+        ensures judged { IfOk result (λ v. Judges v (meaning self.old) event.now (R.Refused refusal.now) (meaning self.new)) }
+        ensures same { OnErr result (meaning self.new ≡ meaning self.old) }
+    {
+        if !self.tells(event, refusal) {
+            return Ok(Verdict::Differs);
+        }
+        match self.first_of(event, causes_of(refusal)) {
+            None => Ok(Verdict::Differs),
+            Some(cause) => {
+                self.suffer(event, cause)?;
+                Ok(Verdict::Follows)
+            }
+        }
+    }
+
+    // The one of the causes that is the first that applies.
+    fn first_of(&self, event: &Event, causes: &[Cause]) -> Option<Cause>
+        requires { IsPlain event.now }
+        ensures { MatchOption result (NoneFirst (meaning self.now) event.now causes.now) (λ c. IsFirstOf (meaning self.now) event.now c causes.now) }
+    {
+        match causes {
+            [] => None,
+            [first, rest @ ..] => {
+                if self.is_first(event, *first, order(event)) {
+                    return Some(*first);
+                }
+                self.first_of(event, rest)
+            }
+        }
+    }
+
+    // What a refusal for the cause leaves.
+    fn suffer(&mut self, event: &Event, cause: Cause) -> Result<(), Memory>
+        ensures refused { IfOk result (λ _. IsPlainCause cause → Refuses (meaning self.old) event.now cause (meaning self.new)) }
+        ensures same { OnErr result (meaning self.new ≡ meaning self.old) }
+    {
+        match cause {
+            Cause::NoRecord | Cause::NotNumber | Cause::Digits | Cause::Over => self.look(event),
+            _ => Ok(()),
+        }
+    }
+
+    // What was found is read, and its record claimed.
+    fn look(&mut self, event: &Event) -> Result<(), Memory>
+        ensures looked { OnOk result (meaning self.new ≡ found event.now (meaning self.old)) }
+        ensures same { OnErr result (meaning self.new ≡ meaning self.old) }
+    {
+        let txn = txn_of(event);
+        let rid = rid_of(event);
+        let value = owned(self.alloc(), self.view(&txn, &rid))?;
+        let acts = read_alone(self.alloc(), &rid, &value)?;
+        self.take(&txn, &rid, Claim::Excl, &acts)
+    }
+
+    // An answer of an event that nothing refuses.
+    fn answer(&mut self, event: &Event, reply: &Reply) -> Result<Verdict, Memory>
+        requires { Clear (meaning self.old) event.now }
+        ensures judged { IfOk result (λ v. JudgesRow v (meaning self.old) event.now reply.now (meaning self.new)) }
+        ensures same { OnErr result (meaning self.new ≡ meaning self.old) }
+    {
+        match event {
+            Event::Begin { inst } => match reply {
+                Reply::Began(txn) => Ok(verdict(self.answer_begin(*inst, txn)?)),
+                _ => Ok(Verdict::Differs),
+            },
+            Event::Read { txn, rid } => match reply {
+                Reply::Value(value) => Ok(verdict(self.answer_read(txn, rid, value)?)),
+                _ => Ok(Verdict::Differs),
+            },
+            Event::Write { txn, rid, value } => match reply {
+                Reply::Did => {
+                    let new = Some(value.copy()?);
+                    Ok(verdict(self.answer_put(txn, rid, &new)?))
+                }
+                _ => Ok(Verdict::Differs),
+            },
+            Event::Delete { txn, rid } => match reply {
+                Reply::Did => Ok(verdict(self.answer_put(txn, rid, &None)?)),
+                _ => Ok(Verdict::Differs),
+            },
+            Event::Insert {
+                txn,
+                page,
+                value,
+                capacity,
+            } => match reply {
+                Reply::At(rid) => {
+                    Ok(verdict(self.answer_insert(txn, *page, value, *capacity, rid)?))
+                }
+                _ => Ok(Verdict::Differs),
+            },
+            Event::Commit { txn } => match reply {
+                Reply::Did => Ok(verdict(self.answer_commit(txn)?)),
+                _ => Ok(Verdict::Differs),
+            },
+            other => self.answer_instance(other, reply),
+        }
+    }
+
+    // An answer of an event of instances or pages.
+    fn answer_instance(&mut self, event: &Event, reply: &Reply) -> Result<Verdict, Memory>
+        requires clear { Clear (meaning self.old) event.now }
+        requires other { IsOfRecords event.now → ⊥ }
+        ensures judged { IfOk result (λ v. JudgesRow v (meaning self.old) event.now reply.now (meaning self.new)) }
+        ensures same { OnErr result (meaning self.new ≡ meaning self.old) }
+    {
+        match event {
+            Event::List { page, .. } => match reply {
+                Reply::Rows(rows) => Ok(verdict(self.are_rows(*page, rows.items()))),
+                _ => Ok(Verdict::Differs),
+            },
+            Event::Join { inst } => match reply {
+                Reply::Joined { epoch } => Ok(verdict(self.answer_join(*inst, *epoch)?)),
+                _ => Ok(Verdict::Differs),
+            },
+            Event::RecoverBegin { inst, by } => match reply {
+                Reply::Did => {
+                    self.recover(*inst, *by)?;
+                    Ok(Verdict::Follows)
+                }
+                _ => Ok(Verdict::Differs),
+            },
+            other => self.answer_page(other, reply),
+        }
+    }
+
+    // An answer of an event that leaves the state.
+    fn answer_page(&self, event: &Event, reply: &Reply) -> Result<Verdict, Memory>
+        requires records { IsOfRecords event.now → ⊥ }
+        requires instances { IsOfInstances event.now → ⊥ }
+        ensures judged { IfOk result (λ v. JudgesRow v (meaning self.now) event.now reply.now (meaning self.now)) }
+    {
+        Ok(match event {
+            Event::Ask { .. } => match reply {
+                Reply::Have | Reply::Asked { .. } => Verdict::Follows,
+                _ => Verdict::Differs,
+            },
+            Event::Give { .. } => match reply {
+                Reply::Gave { .. } => Verdict::Follows,
+                _ => Verdict::Differs,
+            },
+            Event::Show { .. } => match reply {
+                Reply::Shown { .. } => Verdict::Follows,
+                _ => Verdict::Differs,
+            },
+            Event::Take { .. }
+            | Event::Evict { .. }
+            | Event::Flush { .. }
+            | Event::Force { .. }
+            | Event::CheckBegin { .. }
+            | Event::CheckEnd { .. }
+            | Event::Arm { .. } => match reply {
+                Reply::Did => Verdict::Follows,
+                _ => Verdict::Differs,
+            },
+            _ => Verdict::Unjudged,
+        })
+    }
+
+    // The instance is being recovered.
+    fn recover(&mut self, inst: InstNo, by: InstNo) -> Result<(), Memory>
+        ensures recovers { OnOk result (meaning self.new ≡ put_inst inst (with_status (Recovering by) ((meaning self.old).inst inst)) (meaning self.old)) }
+        ensures same { OnErr result (meaning self.new ≡ meaning self.old) }
+    {
+        let mut state = self.inst(inst);
+        state.status = Status::Recovering { by };
+        self.set_inst(inst, state)
+    }
+}
+
+fn verdict(follows: bool) -> Verdict
+    ensures { result ≡ (if follows then Follows else Differs) }
+{
+    if follows {
+        Verdict::Follows
+    } else {
+        Verdict::Differs
+    }
+}
+
+fn is_plain(event: &Event) -> bool
+    ensures { IsTrue result ↔ IsPlain event.now }
+{
+    match event {
+        Event::Add { .. } => false,
+        _ => true,
+    }
+}
+
+fn is_plain_refusal(refusal: &Refusal) -> bool
+    ensures { IsTrue result ↔ IsPlainRefusal refusal.now }
+{
+    match refusal {
+        Refusal::Failed | Refusal::CutCommit => false,
+        _ => true,
+    }
+}
