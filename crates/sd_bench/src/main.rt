@@ -1,0 +1,55 @@
+//! The loops that `benches/` times: each runs one layer many times over, and prints nothing.
+//!
+//! Meaning: none; what the layers do is said in their crates.
+//! Keeps: nothing.
+//! Promises: nothing but that it does nothing undefined.
+//! Refuses: words that name no loop, by exit status 2; a loop that a layer stops, by exit status 1.
+//! Knows nothing of: time, which `benches/` takes from outside.
+//! Stands on: sd_base, sd_rig. On it stand: none.
+//!
+//! To change:
+//! - free: all
+//! - dear: nothing
+//! - frozen: nothing
+#![tactic(auto)]
+
+mod devices;
+
+use std::alloc::{AllocError, Global};
+use std::process::ExitCode;
+use std::rt::Env;
+use std::{env, io};
+
+// The words behind the program's name.
+fn words(rt: &(impl Env + AllocGlobal)) -> io::Result<Vec<String>> {
+    let mut words = Vec::new(rt.alloc());
+    for word in env::args(rt)?.skip(1) {
+        words.push(word)?;
+    }
+    Ok(words)
+}
+
+// Runs the loop that the words name, and tells whether it went through; `None` where they name none.
+fn run(alloc: Global, words: &[String]) -> Option<bool> {
+    match words {
+        [name, times, dev] if name.as_str() == "devices" => {
+            let times = times.parse::<u32>().ok()?;
+            let dev = dev.parse::<u8>().ok().filter(|dev| *dev <= 8)?;
+            Some(devices::cycles(alloc, dev, times))
+        }
+        _ => None,
+    }
+}
+
+fn main(rt: HostRuntime) -> ExitCode {
+    let alloc = rt.alloc();
+    let status = match words(&rt) {
+        Err(_) => 1,
+        Ok(words) => match run(alloc, &words) {
+            Some(true) => 0,
+            Some(false) => 1,
+            None => 2,
+        },
+    };
+    ExitCode::from(status)
+}
