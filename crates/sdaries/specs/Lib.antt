@@ -9,3 +9,4 @@ pub mod Pages
 pub mod Serving
 pub mod Reaching
 pub mod Outcome
+pub mod ExitNumber

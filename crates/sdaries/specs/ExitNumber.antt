@@ -1,0 +1,12 @@
+-- The number with which the program ends.
+use Rattle.std.specs.Prelude.{ℕ}
+use Rattle.sdaries.specs.declared.status.Status.{Status}
+use Rattle.sdaries.specs.declared.status.Status.TheVariants as status
+
+abbrev pub exit_number : Status → ℕ
+exit_number status.Done = 0
+exit_number status.BadLine = 1
+exit_number status.Usage = 2
+exit_number status.ReadFault = 3
+exit_number status.WriteFault = 4
+exit_number status.NoMemory = 5
