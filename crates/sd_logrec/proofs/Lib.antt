@@ -1,4 +1,6 @@
+pub mod Example
 pub mod Formats
+pub mod Groups
 pub mod Lengths
 pub mod Lists
 pub mod Numbers

@@ -1,3 +1,4 @@
+pub mod Kept
 pub mod Reading
 pub mod Spelling
 pub mod View

@@ -2,18 +2,19 @@
 //!
 //! Meaning: a `Record` is its fields; `spelling` gives its bytes by one table, and `HasSpelling` says which records
 //! have any (`specs/Spelling.antt`); `flat` is the same record with the same fields whatever its kind, for laws on
-//! chains of records (`specs/View.antt`).
+//! chains of records (`specs/View.antt`). `kept` says what groups a log device stands for (`specs/Kept.antt`).
 //! Keeps: nothing behind a call.
 //! Promises: `put` appends a record's spelling, and takes no memory where there is room; `take` reads a record exactly
-//! where its spelling stands, whatever follows; each record has one spelling and none begins another (`no_prefix`).
+//! where its spelling stands, whatever follows; each record has one spelling and none begins another (`no_prefix`);
+//! a group that is written behind a log's groups is read behind them (`group_behind`).
 //! Refuses: `BadRecord` in `take`.
-//! Knows nothing of: groups and gates of a log, the order of records, what a record does to a page.
+//! Knows nothing of: how groups come onto a device, the order of records, what a record does to a page.
 //! Stands on: sd_base.
 //!
 //! To change:
 //! - free: bodies, `fields.rt`, `miss.rt`, `specs/Reading.antt`, `specs/Writing.antt`
 //! - dear: `HasSpelling`, `flat`, the clauses of `put` and `take`
-//! - frozen: the table in `specs/Spelling.antt` (docs/FORMATS.md); a new type of record is a new row
+//! - frozen: the tables in `specs/Spelling.antt` and `specs/Kept.antt` (docs/FORMATS.md); a new type of record is a new row
 #![tactic(auto)]
 
 mod copy;
@@ -25,7 +26,10 @@ mod record;
 mod rows;
 mod take;
 
-pub use laws::{no_prefix, one_spelling, spelling_length};
+pub use laws::{
+    gate_closed, group_behind, groups_end, master_in_front, no_prefix, one_spelling, read_again,
+    read_nothing, spelling_length,
+};
 pub use record::Record;
 pub use rows::{Recs, Rows, Spans};
 
