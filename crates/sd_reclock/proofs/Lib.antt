@@ -1,0 +1,11 @@
+pub mod Orders
+pub mod Lowest
+pub mod Writes
+pub mod Agreeing
+pub mod Levels
+pub mod Waiting
+pub mod Choosing
+pub mod Parting
+pub mod Walks
+pub mod Layers
+pub mod Noting

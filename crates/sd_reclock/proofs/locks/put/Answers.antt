@@ -1,0 +1,44 @@
+use Rattle.std.proofs.Common.{◌≡◌, Option, Some, ap, sym, subst, ◌∙◌, refl, cond}
+use Rattle.std.specs.Option.{IsSome}
+use Rattle.std.specs.Ordering.{is_eq}
+use Rattle.std.specs.Map.{set_value}
+use Rattle.std.proofs.lemmas.Map.Steps.{set_value_same}
+use Rattle.sd_base.specs.declared.ids.TxnId.{TxnId}
+use Rattle.sd_base.specs.declared.ids.Rid.{Rid}
+use Rattle.sd_base.specs.declared.place.Mode.{Mode}
+use Rattle.sd_base.specs.Ids.{same_txn}
+use Rattle.sd_reclock.specs.Locks.{Modes, held_in, mode_of, mode_among, raised}
+use Rattle.sd_reclock.proofs.Orders.{rid_cmp, put-rid, look-rid}
+use Rattle.sd_reclock.proofs.Writes.{no_mode, changes, on_ok, on_err_too}
+use Rattle.sd_reclock.proofs.locks.put.Goals as goal
+
+pub returns-in-Some-clause-put : goal.returns-in-Some-clause-put
+returns-in-Some-clause-put c =
+    let w = c.put.new.self in
+    let old = c.args.records.now.entries in
+    let P : Option Modes → Type 0 = λ o. IsSome o in
+    let had : (u : TxnId) → mode_of c.in-Some.holders.now u ≡ held_in old u c.args.wait.now.rid = λ u. ap (λ (o : Option Modes). mode_among o u) (c.in-Some.ensures.value ∙ look-rid c.args.wait.now.rid old) in
+    on_ok c.put.result _ _ (λ put. changes old (c.get_mut.follows.lender w).entries c.args.t.now c.args.wait.now.rid (Some w) (Some (raised (held_in old c.args.t.now c.args.wait.now.rid) c.args.wait.now.mode))
+    (λ q. put-rid c.args.wait.now.rid q (Some w) old (c.get_mut.follows.lender w).entries (((c.get_mut.follows.holds w).3 (subst P c.in-Some.ensures.value refl)).0 q))
+    (λ u. put u ∙ ap (λ (m : Option Mode). cond {A = Option Mode} (same_txn c.args.t.now u) (Some (raised m c.args.wait.now.mode)) (mode_of c.in-Some.holders.now u)) (had c.args.t.now)
+    ∙ ap (λ (m : Option Mode). cond {A = Option Mode} (same_txn c.args.t.now u) (Some (raised (held_in old c.args.t.now c.args.wait.now.rid) c.args.wait.now.mode)) m) (had u)))
+    c.put.ensures.put
+
+pub returns-in-Some-clause-same : goal.returns-in-Some-clause-same
+returns-in-Some-clause-same c =
+    let old = c.args.records.now.entries in
+    on_err_too c.put.result _ _ (λ same. (c.get_mut.follows.holds c.put.new.self).0
+    ∙ ap (λ (h : Modes). set_value (λ (k : Rid). is_eq (rid_cmp c.args.wait.now.rid k)) old h) same
+    ∙ set_value_same (λ (k : Rid). is_eq (rid_cmp c.args.wait.now.rid k)) old c.in-Some.holders.now (sym c.in-Some.ensures.value))
+    c.put.ensures.same
+
+pub returns-clause-put : goal.returns-clause-put
+returns-clause-put c =
+    let w = c.put-2.new.self in
+    let old = c.args.records.now.entries in
+    let none : (u : TxnId) → no_mode ≡ held_in old u c.args.wait.now.rid = λ u. ap (λ (o : Option Modes). mode_among o u) (c.in_default.ensures.value ∙ look-rid c.args.wait.now.rid old) in
+    changes old c.insert.new.self.entries c.args.t.now c.args.wait.now.rid (Some w) (Some (raised (held_in old c.args.t.now c.args.wait.now.rid) c.args.wait.now.mode))
+    (λ q. put-rid c.args.wait.now.rid q (Some w) old c.insert.new.self.entries (rw c.get_mut.follows.holds-at-none at (c.in_ok-insert.ensures.updates.0 q)))
+    (λ u. c.in_ok-put.ensures.put u ∙ ap (λ (h : Modes). cond {A = Option Mode} (same_txn c.args.t.now u) (Some (raised (mode_of h c.args.t.now) c.args.wait.now.mode)) (mode_of h u)) c.new-holders.ensures
+    ∙ ap (λ (m : Option Mode). cond {A = Option Mode} (same_txn c.args.t.now u) (Some (raised m c.args.wait.now.mode)) no_mode) (none c.args.t.now)
+    ∙ ap (λ (m : Option Mode). cond {A = Option Mode} (same_txn c.args.t.now u) (Some (raised (held_in old c.args.t.now c.args.wait.now.rid) c.args.wait.now.mode)) m) (none u))

@@ -1,0 +1,5 @@
+pub mod Locks
+pub mod Answers
+pub mod Indexing
+pub mod Reaching
+pub mod Searching

@@ -1,0 +1,75 @@
+-- What a table of record locks says: who holds what, who stands in whose way, and who waits for what.
+use Rattle.std.specs.Prelude.{◌≡◌, ◌≢◌, List, Option, None, Some, IsSome, option_map}
+use Rattle.std.specs.Map.{lookup}
+use Rattle.sd_base.specs.declared.ids.TxnId.{TxnId}
+use Rattle.sd_base.specs.declared.ids.Rid.{Rid}
+use Rattle.sd_base.specs.declared.place.Mode.{Mode}
+use Rattle.sd_base.specs.declared.place.Mode.TheVariants as modes
+use Rattle.sd_base.specs.Ids.{same_txn, same_rid, IsBelow}
+use Rattle.sd_base.specs.Waits.{Wait, Waits, Clash, Obstacles}
+use Rattle.sd_reclock.specs.declared.wait.Asked.{Asked}
+
+-- the locks on one record: each holder with its mode
+abbrev pub Modes : Type 0
+Modes = List (TxnId × Mode)
+
+abbrev pub mode_of : Modes → TxnId → Option Mode
+mode_of holders t = lookup (same_txn t) holders
+
+-- the locks on all records
+abbrev pub Held : Type 0
+Held = List (Rid × Modes)
+
+abbrev pub mode_among : Option Modes → TxnId → Option Mode
+mode_among None t = None
+mode_among (Some holders) t = mode_of holders t
+
+-- the mode in which t holds r
+abbrev pub held_in : Held → TxnId → Rid → Option Mode
+held_in locks t r = mode_among (lookup (same_rid r) locks) t
+
+-- u stands in the way of t, which would wait so: it is another one, and its lock on the record conflicts
+pub record StandsIn (locks : Held) (t : TxnId) (wait : Wait) (u : TxnId) : Type 0 where
+  pub other : t ≢ u
+  pub mode : Mode
+  pub holds : held_in locks u wait.rid ≡ Some mode
+  pub clashes : Clash wait.mode mode
+
+-- two locks of two transactions on one record never conflict
+abbrev pub Agree : Held → Type 0
+Agree locks = (r : Rid) (t u : TxnId) (m n : Mode) → t ≢ u → held_in locks t r ≡ Some m → held_in locks u r ≡ Some n → Clash m n → ⊥
+
+-- a lock that is asked for again: Excl stays
+abbrev pub raised : Option Mode → Mode → Mode
+raised (Some modes.Excl) mode = modes.Excl
+raised (Some modes.Shared) mode = mode
+raised None mode = mode
+
+-- of the transactions with a lock this is the lowest one other than `not`, or there is none
+abbrev pub IsLowestHolder : (TxnId → Option Mode) → TxnId → Option TxnId → Type 0
+IsLowestHolder modes_at not None = (u : TxnId) → not ≢ u → modes_at u ≡ None
+IsLowestHolder modes_at not (Some by) = (not ≢ by) × IsSome (modes_at by) × ((u : TxnId) → not ≢ u → IsSome (modes_at u) → IsBelow u by → ⊥)
+
+abbrev pub wait_of : Asked → Wait
+wait_of asked = record { rid = asked.rid; mode = asked.mode }
+
+abbrev pub wait_for : Rid → Mode → Wait
+wait_for r mode = record { rid = r; mode = mode }
+
+-- what each transaction of the list waits for
+abbrev pub waits_in : List (TxnId × Asked) → Waits
+waits_in waiting t = option_map wait_of (lookup (same_txn t) waiting)
+
+-- the locks and the waits
+pub record LockTable : Type 0 where
+  pub locks : Held
+  pub waiting : List (TxnId × Asked)
+
+abbrev pub held : LockTable → TxnId → Rid → Option Mode
+held table t r = held_in table.locks t r
+
+abbrev pub stands : LockTable → Obstacles
+stands table t wait u = StandsIn table.locks t wait u
+
+abbrev pub waits : LockTable → Waits
+waits table t = waits_in table.waiting t

@@ -1,0 +1,86 @@
+//! The locks on one record, in the order of their transactions. They see no other record and no wait.
+
+ghost use Rattle.std.specs.Prelude.{◌≡◌, [], None, Some, cond, IsTrue, OnOk, OnErr, ◌↔◌};
+ghost use Rattle.sd_base.specs.declared.ids.TxnId.{TxnId};
+ghost use Rattle.sd_base.specs.Ids.{same_txn};
+ghost use Rattle.sd_reclock.specs.Locks.{mode_of, raised, IsLowestHolder};
+
+use crate::wait::raise;
+use sd_base::{Memory, Mode, TxnId};
+use std::alloc::Global;
+use std::collections::BTreeMap;
+use std::marker::Model;
+use std::ops::Bound;
+
+/// The locks on one record. Contracts see the list of holders, each with its mode.
+#[derive(Debug, Drop)]
+pub struct Holders {
+    modes: BTreeMap<TxnId, Mode>,
+}
+
+impl Model for Holders {
+    ghost use Rattle.std.specs.Prelude.{List};
+    ghost use Rattle.sd_base.specs.declared.ids.TxnId.{TxnId};
+    ghost use Rattle.sd_base.specs.declared.place.Mode.{Mode};
+
+    ghost Value = { List (TxnId × Mode) };
+
+    ghost view = { λ h. h.modes.entries };
+}
+
+impl Holders {
+    /// No locks. It takes no memory.
+    pub fn new(alloc: Global) -> Holders
+        ensures { result ≡ [] }
+    {
+        Holders {
+            modes: BTreeMap::new(alloc),
+        }
+    }
+
+    /// Whether nobody has a lock.
+    pub fn is_empty(&self) -> bool
+        ensures { IsTrue result ↔ (self.now ≡ []) }
+    {
+        self.modes.is_empty()
+    }
+
+    /// The mode of a transaction's lock; `None` where it has none.
+    pub fn mode_of(&self, t: &TxnId) -> Option<Mode>
+        ensures { result ≡ mode_of self.now t.now }
+    {
+        self.modes.get(t).copied()
+    }
+
+    /// The lowest transaction with a lock, other than this one.
+    pub fn lowest_but(&self, not: &TxnId) -> Option<TxnId>
+        ensures { IsLowestHolder (mode_of self.now) not.now result }
+    {
+        let above = (Bound::Excluded(*not), Bound::Unbounded);
+        match self.modes.range(..*not).next() {
+            Some((t, _mode)) => Some(*t),
+            None => match self.modes.range(above).next() {
+                Some((t, _mode)) => Some(*t),
+                None => None,
+            },
+        }
+    }
+
+    /// Gives the lock, or raises one that is there. After `Memory` all is as before.
+    pub fn put(&mut self, t: &TxnId, mode: Mode) -> Result<(), Memory>
+        ensures put { OnOk result ((u : TxnId) → mode_of self.new u
+            ≡ cond (same_txn t.now u) (Some (raised (mode_of self.old t.now) mode)) (mode_of self.old u)) }
+        ensures same { OnErr result (self.new ≡ self.old) }
+    {
+        let mode = raise(self.mode_of(t), mode);
+        self.modes.insert(*t, mode)?;
+        Ok(())
+    }
+
+    /// Takes a transaction's lock away. It takes no memory.
+    pub fn remove(&mut self, t: &TxnId)
+        ensures { (u : TxnId) → mode_of self.new u ≡ cond (same_txn t.now u) None (mode_of self.old u) }
+    {
+        self.modes.remove(t);
+    }
+}

@@ -1,0 +1,29 @@
+//! Record locks: who holds which record in which mode, who waits for whom, and which wait would close a cycle.
+//!
+//! Meaning: a `LockTable` is the locks and the waits (`specs/Locks.antt`); who is blocked and which cycle is
+//! closed is said in sd_base (`specs/Waits.antt`).
+//! Keeps: two locks of two transactions on one record never conflict.
+//! Promises: `request` and `test` answer exactly (`refused`): the lowest obstacle, or a shortest cycle, the lowest
+//! by numbers; a lock is raised in place; `holder` is the lowest other holder; `release_all` and `retain` leave
+//! no lock or wait that they name.
+//! Refuses: `Blocked`, `Deadlock`, and `Memory`, which leaves all as before.
+//! Knows nothing of: pages, logs, what a transaction does with a record, when it ends.
+//! Stands on: sd_base.
+//!
+//! To change:
+//! - free: bodies, the search (`search.rt`), the index from a transaction to its records (`locks.rt`)
+//! - dear: `LockTable`, the clauses of `RecordLocks`
+//! - frozen: nothing; no byte on a device depends on it
+#![tactic(auto)]
+
+mod answer;
+mod holders;
+mod locks;
+mod search;
+mod table;
+mod wait;
+
+pub use table::RecordLocks;
+
+#[cfg(test)]
+mod tests;

@@ -1,0 +1,189 @@
+//! The locks on all records, and an index from a transaction to its records. They see no wait.
+
+ghost use Rattle.std.specs.Prelude.{◌≡◌, ◌≢◌, ◌↔◌, ◌||◌, ◌&&◌, [], None, Some, cond, IsTrue, OnOk, OnErr, MatchOption, ⊤};
+ghost use Rattle.std.specs.List.{list_any};
+ghost use Rattle.sd_base.specs.declared.ids.TxnId.{TxnId};
+ghost use Rattle.sd_base.specs.declared.ids.Rid.{Rid};
+ghost use Rattle.sd_base.specs.Ids.{same_txn, same_rid, IsBelow};
+ghost use Rattle.sd_reclock.specs.Locks.{held_in, raised, wait_of, Agree, IsLowestHolder, StandsIn};
+ghost use Rattle.sd_reclock.specs.Indexing.{names};
+
+use crate::holders::Holders;
+use crate::wait::{Asked, clashes};
+use sd_base::{Memory, Mode, Rid, TxnId};
+use std::alloc::Global;
+use std::collections::BTreeMap;
+use std::marker::Model;
+
+/// Who holds which record. Contracts see the list of locked records, each with its holders.
+#[derive(Debug, Drop)]
+pub struct Locks {
+    records: BTreeMap<Rid, Holders>,
+    // It may name a record too many, after a want of memory, and never one too few.
+    index: BTreeMap<TxnId, Vec<Rid>>,
+    alloc: Global,
+}
+
+impl Model for Locks {
+    ghost use Rattle.std.specs.Prelude.{List};
+    ghost use Rattle.sd_base.specs.declared.ids.TxnId.{TxnId};
+    ghost use Rattle.sd_base.specs.declared.ids.Rid.{Rid};
+    ghost use Rattle.sd_base.specs.declared.place.Mode.{Mode};
+
+    ghost Value = { List (Rid × List (TxnId × Mode)) };
+
+    ghost use Rattle.sd_reclock.specs.Indexing.{IsIndexed};
+    ghost use Rattle.sd_reclock.specs.Locks.{Agree};
+
+    ghost view = { λ l. l.records.entries };
+
+    ghost invariant = { λ l. IsIndexed l.records.entries l.index.entries × Agree l.records.entries };
+}
+
+impl Locks {
+    /// No locks. It takes no memory.
+    pub fn new(alloc: Global) -> Locks
+        ensures { result ≡ [] }
+    {
+        Locks {
+            records: BTreeMap::new(alloc),
+            index: BTreeMap::new(alloc),
+            alloc,
+        }
+    }
+
+    /// The mode in which a transaction holds a record; `None` where it doesn't.
+    pub fn mode_of(&self, t: &TxnId, r: &Rid) -> Option<Mode>
+        ensures { result ≡ held_in self.now t.now r.now }
+    {
+        match self.records.get(r) {
+            Some(holders) => holders.mode_of(t),
+            None => None,
+        }
+    }
+
+    /// The lowest transaction with a lock on the record, other than this one.
+    pub fn holder(&self, r: &Rid, not: &TxnId) -> Option<TxnId>
+        ensures lowest { IsLowestHolder (λ u. held_in self.now u r.now) not.now result }
+        ensures agree { Agree self.now }
+    {
+        match self.records.get(r) {
+            Some(holders) => holders.lowest_but(not),
+            None => None,
+        }
+    }
+
+    /// Whether a transaction stands in the way of another, which would wait so.
+    pub fn stands(&self, t: &TxnId, wait: &Asked, u: &TxnId) -> bool
+        ensures { IsTrue result ↔ StandsIn self.now t.now (wait_of wait.now) u.now }
+    {
+        if t == u {
+            return false;
+        }
+        match self.mode_of(u, &wait.rid) {
+            Some(mode) => clashes(wait.mode, mode),
+            None => false,
+        }
+    }
+
+    /// The lowest transaction that stands in the way. Where the lowest other holder doesn't, nobody does,
+    /// since the locks on a record agree.
+    pub fn obstacle(&self, t: &TxnId, wait: &Asked) -> Option<TxnId>
+        ensures none { MatchOption result ((u : TxnId) → StandsIn self.now t.now (wait_of wait.now) u → ⊥) (λ by. StandsIn self.now t.now (wait_of wait.now) by) }
+        ensures lowest { MatchOption result ⊤ (λ by. (u : TxnId) → StandsIn self.now t.now (wait_of wait.now) u → IsBelow u by → ⊥) }
+    {
+        let other = self.holder(&wait.rid, t)?;
+        if self.stands(t, wait, &other) {
+            Some(other)
+        } else {
+            None
+        }
+    }
+
+    /// Gives the lock, or raises one that is there. After `Memory` the locks are as before.
+    pub fn put(&mut self, t: &TxnId, wait: &Asked) -> Result<(), Memory>
+        requires free { (u : TxnId) → StandsIn self.old t.now (wait_of wait.now) u → ⊥ }
+        ensures put { OnOk result ((u : TxnId) (q : Rid) → held_in self.new u q ≡ cond (same_txn t.now u && same_rid wait.now.rid q)
+            (Some (raised (held_in self.old t.now wait.now.rid) wait.now.mode)) (held_in self.old u q)) }
+        ensures agree { Agree self.new }
+        ensures same { OnErr result (self.new ≡ self.old) }
+    {
+        name(self.alloc, &mut self.index, t, &wait.rid)?;
+        put(self.alloc, &mut self.records, t, wait)
+    }
+
+    /// Takes all locks of a transaction away. It takes no memory.
+    pub fn release_all(&mut self, t: &TxnId)
+        ensures released { (u : TxnId) (q : Rid) → held_in self.new u q ≡ cond (same_txn t.now u) None (held_in self.old u q) }
+        ensures agree { Agree self.new }
+    {
+        if let Some(rids) = self.index.remove(t) {
+            release_each(&mut self.records, t, &rids);
+        }
+    }
+}
+
+// Names the record at the transaction. After `Memory` the index is as before.
+fn name(
+    alloc: Global,
+    index: &mut BTreeMap<TxnId, Vec<Rid>>,
+    t: &TxnId,
+    r: &Rid,
+) -> Result<(), Memory>
+    ensures named { OnOk result ((u : TxnId) (q : Rid) → names index.new.entries u q
+        ≡ (names index.old.entries u q || (same_txn t.now u && same_rid q r.now))) }
+    ensures same { OnErr result ((u : TxnId) (q : Rid) → names index.new.entries u q ≡ names index.old.entries u q) }
+{
+    if let Some(rids) = index.get_mut(t) {
+        rids.push(*r)?;
+        return Ok(());
+    }
+    let mut rids = Vec::new(alloc);
+    rids.push(*r)?;
+    index.insert(*t, rids)?;
+    Ok(())
+}
+
+// Gives the lock, or raises one that is there. After `Memory` the records are as before.
+fn put(
+    alloc: Global,
+    records: &mut BTreeMap<Rid, Holders>,
+    t: &TxnId,
+    wait: &Asked,
+) -> Result<(), Memory>
+    ensures put { OnOk result ((u : TxnId) (q : Rid) → held_in records.new.entries u q ≡ cond (same_txn t.now u && same_rid wait.now.rid q)
+        (Some (raised (held_in records.old.entries t.now wait.now.rid) wait.now.mode)) (held_in records.old.entries u q)) }
+    ensures same { OnErr result (records.new.entries ≡ records.old.entries) }
+{
+    if let Some(holders) = records.get_mut(&wait.rid) {
+        return holders.put(t, wait.mode);
+    }
+    let mut holders = Holders::new(alloc);
+    holders.put(t, wait.mode)?;
+    records.insert(wait.rid, holders)?;
+    Ok(())
+}
+
+// Takes a transaction's locks on these records away.
+fn release_each(records: &mut BTreeMap<Rid, Holders>, t: &TxnId, rids: &[Rid])
+    ensures { (u : TxnId) (q : Rid) → held_in records.new.entries u q
+        ≡ cond (same_txn t.now u && list_any (same_rid q) rids.now) None (held_in records.old.entries u q) }
+{
+    for rid in rids {
+        release(records, t, rid);
+    }
+}
+
+// Takes a transaction's lock on a record away. A record without locks leaves the table.
+fn release(records: &mut BTreeMap<Rid, Holders>, t: &TxnId, r: &Rid)
+    ensures { (u : TxnId) (q : Rid) → held_in records.new.entries u q
+        ≡ cond (same_txn t.now u && same_rid r.now q) None (held_in records.old.entries u q) }
+{
+    let Some(holders) = records.get_mut(r) else {
+        return;
+    };
+    holders.remove(t);
+    if holders.is_empty() {
+        records.remove(r);
+    }
+}
