@@ -1,0 +1,9 @@
+pub mod Alone
+pub mod Members
+pub mod Falls
+pub mod Finds
+pub mod Forms
+pub mod Kept
+pub mod Lookups
+pub mod Queues
+pub mod Rowwise

@@ -1,0 +1,18 @@
+use Rattle.std.proofs.Common.{◌∙◌, ap, length, None, Option}
+use Rattle.std.proofs.lemmas.List.{length-replicate}
+use Rattle.sd_base.specs.declared.place.Place.TheVariants as variants
+use Rattle.sd_pagelock.specs.Places.{seen}
+use Rattle.sd_pagelock.proofs.Kept.{kept-new, blank}
+use Rattle.sd_pagelock.proofs.directory.Directory.new.Goals as goal
+
+pub invariant_of-result : goal.invariant_of-result
+invariant_of-result g c = kept-new _ _ _ c.in_ok-repeated.ensures c.in_ok-repeated-2.ensures (ap length c.in_ok-nothing.ensures ∙ length-replicate {A = Option g.row.I.Denot} 1024 None)
+
+pub returns-clause-free : goal.returns-clause-free
+returns-clause-free g c = λ p. ap seen (blank c.in_ok-repeated.field-0.items variants.Free c.in_ok-repeated.ensures p)
+
+pub returns-clause-clean : goal.returns-clause-clean
+returns-clause-clean g c = blank c.in_ok-repeated-2.field-0.items None c.in_ok-repeated-2.ensures
+
+pub returns-clause-still : goal.returns-clause-still
+returns-clause-still g c = blank c.in_ok-nothing.field-0.items None c.in_ok-nothing.ensures

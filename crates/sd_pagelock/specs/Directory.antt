@@ -1,0 +1,48 @@
+-- What the directory says of each page.
+use Rattle.std.specs.Prelude.{◌≡◌, ℕ, Bool, List, Option, None, is_some, get_or, length, ◌&&◌}
+use Rattle.sd_base.specs.declared.place.Place as coded
+use Rattle.sd_base.specs.declared.place.Place.TheVariants as variants
+use Rattle.sd_pagelock.specs.declared.queue.Ask.{Ask}
+use Rattle.sd_pagelock.specs.Places.{Entry, seen, holds, rests, changed, Formed, InRange}
+use Rattle.sd_pagelock.specs.Asks.{Queues, asks_for, oldest}
+
+-- by page: where it is, its RecLSN, and what of it is on its way; and the asked pages, rising, each with its asks
+pub record DirectoryState (I : Type 0) : Type 0 where
+  pub places : List coded.Place
+  pub rec_lsns : List (Option ℕ)
+  pub images : List (Option I)
+  pub queues : Queues
+
+-- where the page is
+abbrev pub entry_at : {I : Type 0} → DirectoryState I → ℕ → Entry
+entry_at state p = seen (get_or state.places p variants.Free)
+
+-- the LSN of the first change that the disk doesn't have
+abbrev pub rec_lsn_at : {I : Type 0} → DirectoryState I → ℕ → Option ℕ
+rec_lsn_at state p = get_or state.rec_lsns p None
+
+-- what of the page is on its way
+abbrev pub image_at : {I : Type 0} → DirectoryState I → ℕ → Option I
+image_at state p = get_or state.images p None
+
+-- the asks for the page, the oldest first
+abbrev pub asks_at : {I : Type 0} → DirectoryState I → ℕ → List Ask
+asks_at state p = asks_for state.queues p
+
+-- i has a copy of the page to give, and another asks for it
+abbrev pub can_give : {I : Type 0} → DirectoryState I → ℕ → ℕ → List Ask → Bool
+can_give state i p asks = rests (entry_at state p) && (holds (entry_at state p) i && is_some (oldest i asks))
+
+-- i can give the page to one who asks for it
+abbrev pub is_wanted : {I : Type 0} → DirectoryState I → ℕ → ℕ → Bool
+is_wanted state i p = can_give state i p (asks_at state p)
+
+-- What every directory keeps: 1,024 pages, their places well formed and over instances of the complex, and a RecLSN
+-- exactly where the page is changed.
+pub record IsKept (places : List coded.Place) (rec_lsns : List (Option ℕ)) (images : ℕ) : Type 0 where
+  pub pages : length places ≡ 1024
+  pub marks : length rec_lsns ≡ 1024
+  pub frames : images ≡ 1024
+  pub formed : (p : ℕ) → Formed (seen (get_or places p variants.Free))
+  pub in_range : (p : ℕ) → InRange (seen (get_or places p variants.Free))
+  pub marked : (p : ℕ) → is_some (get_or rec_lsns p None) ≡ changed (seen (get_or places p variants.Free))

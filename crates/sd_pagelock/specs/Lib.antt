@@ -1,0 +1,5 @@
+pub mod Places
+pub mod Rows
+pub mod Moves
+pub mod Asks
+pub mod Directory

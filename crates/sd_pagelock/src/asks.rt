@@ -1,0 +1,130 @@
+//! Who asks for which page. Only the pages that are asked for are listed.
+
+ghost use Rattle.std.specs.Prelude.{◌≡◌, ◌≢◌, ◌↔◌, ℕ, [], OnOk, OnErr, IsTrue, unwrap_or};
+ghost use Rattle.std.specs.Option.{option_map};
+ghost use Rattle.std.specs.Ordering.{nat_cmp};
+ghost use Rattle.std.specs.BTreeMap.{get};
+ghost use Rattle.sd_pagelock.specs.Places.{seen};
+ghost use Rattle.sd_pagelock.specs.Asks.{asks_for, queued, oldest, open_asks, asks_without, IsOneEach};
+
+use crate::queue::Queue;
+use sd_base::{InstNo, Memory, Mode, PageNo, Place};
+use std::alloc::Global;
+use std::collections::BTreeMap;
+use std::marker::Model;
+
+/// The asks for all pages. Contracts see the asked pages, rising, each with its asks.
+#[derive(Drop)]
+pub(crate) struct Asks {
+    pub(crate) queues: BTreeMap<PageNo, Queue>,
+}
+
+impl Model for Asks {
+    ghost use Rattle.sd_pagelock.specs.Asks.{Queues, AreAsked};
+
+    ghost Value = { Queues };
+
+    ghost view = { λ a. a.queues.entries };
+
+    ghost invariant = { λ a. AreAsked a.queues.entries };
+}
+
+impl Asks {
+    /// No asks. It takes no memory.
+    pub(crate) fn new(alloc: Global) -> Asks
+        ensures { result ≡ [] }
+    {
+        Asks {
+            queues: BTreeMap::new(alloc),
+        }
+    }
+
+    /// What holds of all asks: an instance asks once for a page.
+    pub(crate) fn keeps(&self)
+        ensures once { (p : ℕ) → IsOneEach (asks_for self.now p) }
+    {
+        let _opened = self.queues.is_empty();
+    }
+
+    /// One more ask for the page. After `Memory` all is as before.
+    pub(crate) fn add(
+        &mut self,
+        alloc: Global,
+        p: PageNo,
+        by: InstNo,
+        mode: Mode,
+    ) -> Result<(), Memory>
+        ensures here { OnOk result (asks_for self.new p ≡ queued by mode (asks_for self.old p)) }
+        ensures others { (q : ℕ) → q ≢ p → asks_for self.new q ≡ asks_for self.old q }
+        ensures err { OnErr result (asks_for self.new p ≡ asks_for self.old p) }
+    {
+        queue_ask(&mut self.queues, alloc, p, by, mode)
+    }
+
+    /// The oldest ask for the page of another instance than `not`.
+    pub(crate) fn oldest(&self, p: PageNo, not: InstNo) -> Option<(InstNo, Mode)>
+        ensures { result ≡ oldest not (asks_for self.now p) }
+    {
+        match self.queues.get(&p) {
+            Some(queue) => queue.oldest(not),
+            None => None,
+        }
+    }
+
+    /// Takes off the asks for the page that this place of it doesn't leave open.
+    pub(crate) fn close(&mut self, p: PageNo, place: &Place)
+        ensures here { asks_for self.new p ≡ open_asks (seen place.now) (asks_for self.old p) }
+        ensures others { (q : ℕ) → q ≢ p → asks_for self.new q ≡ asks_for self.old q }
+    {
+        if is_emptied(&mut self.queues, p, place) {
+            self.queues.remove(&p);
+        }
+    }
+
+    /// Takes off all asks of the instance.
+    pub(crate) fn forget(&mut self, i: InstNo)
+        ensures { (p : ℕ) → asks_for self.new p ≡ asks_without i (asks_for self.old p) }
+    {
+        self.queues.retain(|_, queue| {
+            queue.forget(i);
+            !queue.is_empty()
+        });
+    }
+}
+
+// One more ask for the page.
+fn queue_ask(
+    queues: &mut BTreeMap<PageNo, Queue>,
+    alloc: Global,
+    p: PageNo,
+    by: InstNo,
+    mode: Mode,
+) -> Result<(), Memory>
+    ensures here { OnOk result (get nat_cmp queues.new p ≡ Some (queued by mode (unwrap_or (get nat_cmp queues.old p) []))) }
+    ensures others { (q : ℕ) → q ≢ p → get nat_cmp queues.new q ≡ get nat_cmp queues.old q }
+    ensures err { OnErr result (get nat_cmp queues.new p ≡ get nat_cmp queues.old p) }
+{
+    match queues.get_mut(&p) {
+        Some(queue) => queue.add(by, mode),
+        None => {
+            let queue = Queue::of(alloc, by, mode)?;
+            queues.insert(p, queue)?;
+            Ok(())
+        }
+    }
+}
+
+// Takes off the asks for the page that this place of it doesn't leave open. Whether it is listed with none then.
+fn is_emptied(queues: &mut BTreeMap<PageNo, Queue>, p: PageNo, place: &Place) -> bool
+    ensures here { get nat_cmp queues.new p ≡ option_map (open_asks (seen place.now)) (get nat_cmp queues.old p) }
+    ensures others { (q : ℕ) → q ≢ p → get nat_cmp queues.new q ≡ get nat_cmp queues.old q }
+    ensures emptied { IsTrue result ↔ (get nat_cmp queues.new p ≡ Some []) }
+{
+    match queues.get_mut(&p) {
+        Some(queue) => {
+            queue.close(place);
+            queue.is_empty()
+        }
+        None => false,
+    }
+}

@@ -1,0 +1,262 @@
+//! The directory: each page's place and RecLSN, what of it is on its way, and the asks for it.
+
+ghost use Rattle.std.specs.Prelude.{◌≡◌, IfOk, replicate};
+
+use crate::asks::Asks;
+use crate::laws::users_are_instances;
+use crate::moves::{holds, rests};
+use crate::queue::Queue;
+use sd_base::{InstNo, Lsn, Memory, Mode, PageNo, Place};
+use std::alloc::Global;
+use std::marker::Model;
+
+/// The pages of the data device.
+const PAGES: usize = 1024;
+
+/// The page directory. `I` is what travels when a page moves from pool to pool.
+#[derive(Drop)]
+pub struct Directory<I> {
+    places: Vec<Place>,
+    rec_lsns: Vec<Option<Lsn>>,
+    images: Vec<Option<I>>,
+    asks: Asks,
+}
+
+impl<I> Model for Directory<I> {
+    ghost use Rattle.std.specs.Prelude.{length};
+    ghost use Rattle.sd_pagelock.specs.Directory.{DirectoryState, IsKept};
+
+    ghost Value = { DirectoryState I };
+
+    ghost view = { λ d. record {
+      places = d.places.items;
+      rec_lsns = d.rec_lsns.items;
+      images = d.images.items;
+      queues = d.asks;
+    } };
+
+    ghost invariant = { λ d. IsKept d.places.items d.rec_lsns.items (length d.images.items) };
+}
+
+impl<I: Drop> Directory<I> {
+    ghost use Rattle.std.specs.Prelude.{◌≡◌, ◌≢◌, ◌<◌, ℕ, [], None, Some, IsTrue, IfOk, is_some, option_copied};
+    ghost use Rattle.sd_pagelock.specs.Places.{Entry, seen, is_free, changed, Formed, InRange};
+    ghost use Rattle.sd_pagelock.specs.Moves.{IsMove};
+    ghost use Rattle.sd_pagelock.specs.Asks.{queued, oldest, open_asks, asks_without, IsOneEach};
+    ghost use Rattle.sd_pagelock.specs.Directory.{entry_at, rec_lsn_at, image_at, asks_at, can_give, is_wanted};
+
+    /// The directory of 1,024 free pages, with no asks and nothing on its way. It takes all memory that places and
+    /// images need.
+    pub fn new(alloc: Global) -> Result<Directory<I>, Memory>
+        ensures free { IfOk result (λ d. (p : ℕ) → entry_at d p ≡ Entry.Free) }
+        ensures clean { IfOk result (λ d. (p : ℕ) → rec_lsn_at d p ≡ None) }
+        ensures still { IfOk result (λ d. (p : ℕ) → image_at d p ≡ None) }
+        ensures unasked { IfOk result (λ d. (p : ℕ) → asks_at d p ≡ []) }
+    {
+        Ok(Directory {
+            places: repeated(alloc, Place::Free)?,
+            rec_lsns: repeated(alloc, None)?,
+            images: nothing(alloc)?,
+            asks: Asks::new(alloc),
+        })
+    }
+
+    /// What holds of every directory: its places are well formed, over instances of the complex; a page has a RecLSN
+    /// exactly where it is changed; an instance asks once for a page.
+    pub fn keeps(&self)
+        ensures formed { (p : ℕ) → Formed (entry_at self.now p) }
+        ensures in_range { (p : ℕ) → InRange (entry_at self.now p) }
+        ensures marked { (p : ℕ) → is_some (rec_lsn_at self.now p) ≡ changed (entry_at self.now p) }
+        ensures once { (p : ℕ) → IsOneEach (asks_at self.now p) }
+    {
+        self.asks.keeps();
+    }
+
+    /// The page's place.
+    pub fn entry(&self, p: PageNo) -> Place
+        ensures { seen result ≡ entry_at self.now p }
+    {
+        self.places[p.get() as usize]
+    }
+
+    /// The LSN of the page's first change that the disk doesn't have; `None` exactly where it is free or clean.
+    pub fn rec_lsn(&self, p: PageNo) -> Option<Lsn>
+        ensures value { result ≡ rec_lsn_at self.now p }
+        ensures changed { is_some result ≡ changed (entry_at self.now p) }
+    {
+        self.rec_lsns[p.get() as usize]
+    }
+
+    /// The page moves to this place, by a row of the table. The asks that it fulfils go, and all of them where the page
+    /// is lost; the others keep their order. It takes no memory.
+    pub fn set(&mut self, p: PageNo, to: Place, rec: Option<Lsn>)
+        requires lawful { IsMove (entry_at self.old p) (seen to) }
+        requires marked { is_some rec ≡ changed (seen to) }
+
+        ensures here { entry_at self.new p ≡ seen to }
+        ensures rec_lsn { rec_lsn_at self.new p ≡ rec }
+        ensures asks { asks_at self.new p ≡ open_asks (seen to) (asks_at self.old p) }
+        ensures images { (q : ℕ) → image_at self.new q ≡ image_at self.old q }
+        ensures others { (q : ℕ) → q ≢ p → entry_at self.new q ≡ entry_at self.old q }
+        ensures other_rec_lsns { (q : ℕ) → q ≢ p → rec_lsn_at self.new q ≡ rec_lsn_at self.old q }
+        ensures other_asks { (q : ℕ) → q ≢ p → asks_at self.new q ≡ asks_at self.old q }
+    {
+        self.asks.close(p, &to);
+        self.write(p, to, rec);
+    }
+
+    /// A restart finds that only logs have the page's changes, the first of them at `rec`. It takes no memory.
+    pub fn lose(&mut self, p: PageNo, rec: Lsn)
+        requires free { IsTrue (is_free (entry_at self.old p)) }
+        requires unasked { asks_at self.old p ≡ [] }
+
+        ensures here { entry_at self.new p ≡ Entry.Lost }
+        ensures rec_lsn { rec_lsn_at self.new p ≡ Some rec }
+        ensures images { (q : ℕ) → image_at self.new q ≡ image_at self.old q }
+        ensures asks { (q : ℕ) → asks_at self.new q ≡ asks_at self.old q }
+        ensures others { (q : ℕ) → q ≢ p → entry_at self.new q ≡ entry_at self.old q }
+        ensures other_rec_lsns { (q : ℕ) → q ≢ p → rec_lsn_at self.new q ≡ rec_lsn_at self.old q }
+    {
+        self.write(p, Place::Lost, Some(rec));
+    }
+
+    /// The page's image sets out, in place of one that was on its way. It takes no memory.
+    pub fn send(&mut self, p: PageNo, image: I)
+        ensures here { image_at self.new p ≡ Some image }
+        ensures others { (q : ℕ) → q ≢ p → image_at self.new q ≡ image_at self.old q }
+        ensures places { (q : ℕ) → entry_at self.new q ≡ entry_at self.old q }
+        ensures rec_lsns { (q : ℕ) → rec_lsn_at self.new q ≡ rec_lsn_at self.old q }
+        ensures asks { (q : ℕ) → asks_at self.new q ≡ asks_at self.old q }
+    {
+        self.images[p.get() as usize] = Some(image);
+    }
+
+    /// The page's image that is on its way; `None` exactly where there is none.
+    pub fn under_way(&self, p: PageNo) -> Option<&I>
+        ensures { option_copied result ≡ image_at self.now p }
+    {
+        self.images[p.get() as usize].as_ref()
+    }
+
+    /// The page's image arrives; `None` exactly where none was on its way. It takes no memory.
+    pub fn arrive(&mut self, p: PageNo) -> Option<I>
+        ensures value { result ≡ image_at self.old p }
+        ensures here { image_at self.new p ≡ None }
+        ensures others { (q : ℕ) → q ≢ p → image_at self.new q ≡ image_at self.old q }
+        ensures places { (q : ℕ) → entry_at self.new q ≡ entry_at self.old q }
+        ensures rec_lsns { (q : ℕ) → rec_lsn_at self.new q ≡ rec_lsn_at self.old q }
+        ensures asks { (q : ℕ) → asks_at self.new q ≡ asks_at self.old q }
+    {
+        self.images[p.get() as usize].take()
+    }
+}
+
+impl<I: Drop> Directory<I> {
+    ghost use Rattle.std.specs.Prelude.{◌≡◌, ◌≢◌, ◌<◌, ℕ, IfSome, IfNone, OnOk, OnErr, find, is_some, true, false};
+    ghost use Rattle.std.specs.Option.{option_map};
+    ghost use Rattle.std.specs.Ordering.{nat_cmp};
+    ghost use Rattle.std.specs.Map.{keys_of};
+    ghost use Rattle.std.specs.List.Sorted.{IsStrictlySortedBy};
+    ghost use Rattle.sd_pagelock.specs.Places.{seen, changed, holds, rests, Formed};
+    ghost use Rattle.sd_pagelock.specs.Asks.{queued, oldest, open_asks, asks_without};
+    ghost use Rattle.sd_pagelock.specs.Directory.{entry_at, rec_lsn_at, image_at, asks_at, can_give, is_wanted};
+
+    /// `i` asks for the page: at the end of its asks, or in the place of its older ask, which becomes the stronger of
+    /// both. After `Memory` all is as before.
+    pub fn ask(&mut self, i: InstNo, p: PageNo, mode: Mode) -> Result<(), Memory>
+        ensures here { OnOk result (asks_at self.new p ≡ queued i mode (asks_at self.old p)) }
+        ensures others { (q : ℕ) → q ≢ p → asks_at self.new q ≡ asks_at self.old q }
+        ensures err { OnErr result (asks_at self.new p ≡ asks_at self.old p) }
+        ensures places { (q : ℕ) → entry_at self.new q ≡ entry_at self.old q }
+        ensures rec_lsns { (q : ℕ) → rec_lsn_at self.new q ≡ rec_lsn_at self.old q }
+        ensures images { (q : ℕ) → image_at self.new q ≡ image_at self.old q }
+    {
+        self.asks.add(*self.places.allocator(), p, i, mode)
+    }
+
+    /// The oldest ask for the page of another instance than `not`; `None` exactly where there is none.
+    pub fn oldest_ask(&self, p: PageNo, not: InstNo) -> Option<(InstNo, Mode)>
+        ensures { result ≡ oldest not (asks_at self.now p) }
+    {
+        self.asks.oldest(p, not)
+    }
+
+    /// The lowest page that `i` can give to another who asks for it: shared or with one alone, and held by `i`. `None`
+    /// exactly where there is none. Only asked pages are looked at.
+    pub fn first_for(&self, i: InstNo) -> Option<PageNo>
+        ensures found { IfSome result (λ p. is_wanted self.now i p ≡ true) }
+        ensures lowest { IfSome result (λ p. (q : ℕ) → q < p → is_wanted self.now i q ≡ false) }
+        ensures none { IfNone result ((q : ℕ) → is_wanted self.now i q ≡ false) }
+    {
+        self.first_given(i)
+    }
+
+    /// All asks of `i` are gone; the others keep their order. It takes no memory.
+    pub fn forget(&mut self, i: InstNo)
+        ensures asks { (q : ℕ) → asks_at self.new q ≡ asks_without i (asks_at self.old q) }
+        ensures places { (q : ℕ) → entry_at self.new q ≡ entry_at self.old q }
+        ensures rec_lsns { (q : ℕ) → rec_lsn_at self.new q ≡ rec_lsn_at self.old q }
+        ensures images { (q : ℕ) → image_at self.new q ≡ image_at self.old q }
+    {
+        self.asks.forget(i);
+    }
+
+    // The first of the asked pages that `i` can give.
+    fn first_given(&self, i: InstNo) -> Option<PageNo>
+        ensures value { result ≡ option_map (λ e. e.0) (find (λ e. can_give self.now i e.0 e.1) self.now.queues) }
+        ensures rising { IsStrictlySortedBy nat_cmp (keys_of self.now.queues) }
+    {
+        self.asks
+            .queues
+            .iter()
+            .find(|(p, queue)| self.can_give(i, **p, queue))
+            .map(|(p, _)| *p)
+    }
+
+    // Whether `i` has a copy of the page to give, and another asks for it.
+    fn can_give(&self, i: InstNo, p: PageNo, queue: &Queue) -> bool
+        ensures { result ≡ can_give self.now i p queue.now }
+    {
+        let place = self.entry(p);
+        rests(&place) && holds(&place, i) && queue.oldest(i).is_some()
+    }
+
+    // Writes the page's place and RecLSN, and leaves its asks.
+    fn write(&mut self, p: PageNo, to: Place, rec: Option<Lsn>)
+        requires formed { Formed (seen to) }
+        requires marked { is_some rec ≡ changed (seen to) }
+        ensures here { entry_at self.new p ≡ seen to }
+        ensures rec_lsn { rec_lsn_at self.new p ≡ rec }
+        ensures images { self.new.images ≡ self.old.images }
+        ensures asks { self.new.queues ≡ self.old.queues }
+        ensures others { (q : ℕ) → q ≢ p → entry_at self.new q ≡ entry_at self.old q }
+        ensures other_rec_lsns { (q : ℕ) → q ≢ p → rec_lsn_at self.new q ≡ rec_lsn_at self.old q }
+    {
+        users_are_instances(&to);
+        let at = p.get() as usize;
+        self.places[at] = to;
+        self.rec_lsns[at] = rec;
+    }
+}
+
+// One value for each page.
+fn repeated<X: Copy>(alloc: Global, value: X) -> Result<Vec<X>, Memory>
+    ensures { IfOk result (λ values. values.items ≡ replicate 1024 value) }
+{
+    let mut values = Vec::with_capacity(alloc, PAGES)?;
+    while values.len() < PAGES {
+        values.push(value)?;
+    }
+    Ok(values)
+}
+
+// Nothing for each page.
+fn nothing<I: Drop>(alloc: Global) -> Result<Vec<Option<I>>, Memory>
+    ensures { IfOk result (λ values. values.items ≡ replicate 1024 None) }
+{
+    let mut values = Vec::with_capacity(alloc, PAGES)?;
+    while values.len() < PAGES {
+        values.push(None)?;
+    }
+    Ok(values)
+}
