@@ -1,0 +1,33 @@
+-- What a crash leaves, told log by log and page by page, and what it may leave while a log is forced or a page is written.
+use Rattle.std.specs.Prelude.{◌≡◌, ◌≢◌, ◌⊎◌, ℕ, ◌++◌}
+use Rattle.sd_page.specs.Page.{Page}
+use Rattle.sd_chain.specs.Records.{Val}
+use Rattle.sd_chain.specs.Image.{Image, Sound, Recovered}
+use Rattle.sd_chain.specs.Images.{Tails, Keeps}
+
+-- each log is left with its tail or without, and each page as one of its possible disk images
+pub record Leaves (tails : Tails) (may : ℕ → Page → Type 0) (img : Image) : Type 0 where
+  pub logs : (j : ℕ) → (img.logs j ≡ tails.base j) ⊎ (img.logs j ≡ tails.base j ++ tails.tail j)
+  pub disks : (p : ℕ) → may p (img.disk p)
+
+-- the image is sound, and recovery gives what belongs to the tails that it has
+pub record StandsFor (value : Keeps → ℕ → ℕ → Val) (img : Image) : Type 0 where
+  pub keeps : Keeps
+  pub sound : Sound img
+  pub recovered : (p s : ℕ) → Recovered img p s (value keeps p s)
+
+-- while log i is forced: that log either way, and all else as it might be left before
+pub record DuringForce (i : ℕ) (tails : Tails) (may : ℕ → Page → Type 0) (img : Image) : Type 0 where
+  pub before : Image
+  pub could : Leaves tails may before
+  pub here : (img.logs i ≡ tails.base i) ⊎ (img.logs i ≡ tails.base i ++ tails.tail i)
+  pub others : (j : ℕ) → j ≢ i → img.logs j ≡ before.logs j
+  pub disk : (p : ℕ) → img.disk p ≡ before.disk p
+
+-- while page p is written: its disk image is an old one or this one, and all else is as it might be left before
+pub record DuringPut (p : ℕ) (page : Page) (tails : Tails) (may : ℕ → Page → Type 0) (img : Image) : Type 0 where
+  pub before : Image
+  pub could : Leaves tails may before
+  pub here : (img.disk p ≡ before.disk p) ⊎ (img.disk p ≡ page)
+  pub others : (q : ℕ) → q ≢ p → img.disk q ≡ before.disk q
+  pub logs : (j : ℕ) → img.logs j ≡ before.logs j

@@ -1,0 +1,12 @@
+pub mod Records
+pub mod Pages
+pub mod Image
+pub mod Bytes
+pub mod Checks
+pub mod Changes
+pub mod Cuts
+pub mod Order
+pub mod Images
+pub mod Crashes
+pub mod Laws
+pub mod Undoing

@@ -1,0 +1,26 @@
+//! What the devices of a complex stand for: chains of records, newest pages, and the table that recovery gives.
+//!
+//! Meaning: `stable` is what the devices' bytes keep (`specs/Bytes.antt`); `newest` and `Recovered` say what that stands
+//! for, `Sound` when it does (`specs/Image.antt`); `IsSafe` says it of each image that a crash may leave
+//! (`specs/Images.antt`).
+//! Keeps: nothing.
+//! Promises: each event that its premises allow leaves all these images sound, and recovery gives what it should
+//! (`laws.rt`, `specs/Laws.antt`); `fits` tells whether a page is as a record found it, `redo` does what it says, and
+//! `replay` redoes a chain as far as it fits.
+//! Refuses: nothing but for want of memory.
+//! Knows nothing of: pools, locks, who holds what; how groups and twins are written.
+//! Stands on: sd_base, sd_page, sd_logrec, sd_rig. On it stand: sd_state.
+//!
+//! To change:
+//! - free: bodies, proofs
+//! - dear: `Sound`, `Recovered`, `IsSafe`, `Gives`, and the premises `MayChange`, `MayUndo`, `MaySeal`
+//! - frozen: nothing
+#![tactic(auto)]
+
+pub mod laws;
+mod redoing;
+
+pub use redoing::{fits, redo, replay};
+
+#[cfg(test)]
+mod tests;
