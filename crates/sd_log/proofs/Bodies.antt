@@ -1,0 +1,241 @@
+-- Records and groups read one after the other, as the loops do. It serves the goals of reading.rt.
+use Rattle.std.proofs.Common.{◌≡◌, ◌⊎◌, inl, inr, ℕ, zero, suc, ◌+◌, ◌-◌, ◌<◌, ◌≤◌, true, false, cond, List, [], ◌∷◌, ◌++◌, length, take, drop, get_or, refl, sym, ap, ◌∙◌, subst, arith, append_assoc, length-append, length-drop}
+use Rattle.std.specs.Prelude.{slice_range, Result, Ok, Err, Option, Some, None}
+use Rattle.std.proofs.Math.ListN.{drop_of_length-le}
+use Rattle.std.proofs.lemmas.List.{append-nil, drop-drop, drop-take, get_or-drop, take_at}
+use Rattle.sd_logrec.specs.declared.record.Record.{Record}
+use Rattle.sd_base.specs.Twin.{is_open}
+use Rattle.sd_base.specs.declared.refusal.Refusal.{Refusal}
+use Rattle.sd_base.specs.declared.refusal.Refusal.TheVariants as R
+use Rattle.sd_logrec.specs.Kept.{BadGroup, Group, NoRecord, Reading, Records, Whole, area, fits_area, group_before, group_len, group_then, groups_within, placed_from, reading, record_before, record_then, records_at, records_within, spelled}
+use Rattle.sd_logrec.specs.Reading.{record_at}
+use Rattle.sd_logrec.specs.Spelling.{HasSpelling, spelling}
+use Rattle.sd_logrec.proofs.Records.{record_again}
+use Rattle.sd_logrec.proofs.Groups.{opened, read_nothing, shut}
+use Rattle.sd_log.specs.JournalStates.{JournalState, pushed}
+use Rattle.sd_log.specs.Readings.{AddsGroup, AddsRecords}
+use Rattle.sd_log.proofs.Parted.{placed_from-more, spelled-more}
+use Rattle.sd_log.proofs.Tails.{least_spelling}
+
+-- records in front of those that are read behind them
+abbrev pub with_front : Records → Result Records ℕ → Result Records ℕ
+with_front front (Ok rs) = Ok (front ++ rs)
+with_front front (Err place) = Err place
+
+front_none : (read : Result Records ℕ) → with_front [] read ≡ read
+front_none (Ok rs) = refl
+front_none (Err place) = refl
+
+front_more : (front : Records) (p : ℕ) (r : Record) (read : Result Records ℕ) → with_front front (record_before p r read) ≡ with_front (front ++ (p, r) ∷ []) read
+front_more front p r (Ok rs) = ap (λ (l : Records). Ok l) (sym (append_assoc front ((p, r) ∷ []) rs))
+front_more front p r (Err place) = refl
+
+-- How far a body is read: the records of the tail stand up to there, and those behind it are still to be read.
+pub record ReadsTo (body : List ℕ) (at : ℕ) (old now : JournalState) : Type 0 where
+  pub within : at ≤ length body
+  pub start : now.start ≡ old.start
+  pub gate : now.gate ≡ old.gate
+  pub groups : now.groups ≡ old.groups
+  pub size : length (spelled now.tail) ≡ at
+  pub fuel : ℕ
+  pub enough : length (drop at body) ≤ fuel
+  pub read : with_front (placed_from (old.gate + 5) now.tail) (records_within fuel (old.gate + 5 + at) (drop at body)) ≡ records_at (old.gate + 5) body
+
+pub reads_none : (body : List ℕ) (old : JournalState) → old.tail ≡ [] → ReadsTo body 0 old old
+reads_none body old none = record {
+  within = omega arith;
+  start = refl;
+  gate = refl;
+  groups = refl;
+  size = ap (λ (t : List Record). length (spelled t)) none;
+  fuel = length body;
+  enough = omega arith;
+  read = let place : old.gate + 5 + 0 ≡ old.gate + 5 = omega arith in ap (λ (t : List Record). with_front (placed_from (old.gate + 5) t) (records_within (length body) (old.gate + 5 + 0) body)) none ∙ front_none _ ∙ ap (λ p. records_within (length body) p body) place;
+}
+
+above : (k : ℕ) → 0 < k → (j : ℕ) × (k ≡ suc j)
+above zero h = absurd (omega arith)
+above (suc j) h = (j, refl)
+
+one_step : (n p : ℕ) (bytes : List ℕ) → 0 < length bytes → records_within (suc n) p bytes ≡ record_then p (record_at bytes) (records_within n)
+unfolding records_within
+one_step n p [] h = absurd (omega arith)
+one_step n p (b ∷ bytes) h = refl
+
+no_step : (n p : ℕ) → records_within n p [] ≡ Ok []
+unfolding records_within
+no_step zero p = refl
+no_step (suc n) p = refl
+
+pub reads_one : (body : List ℕ) (at next room : ℕ) (r : Record) (old now : JournalState) → ReadsTo body at old now → HasSpelling r → drop at body ≡ spelling r ++ drop next body → next ≡ at + length (spelling r) → next ≤ length body
+    → ReadsTo body next old (record { start = now.start; gate = now.gate; groups = now.groups; tail = now.tail ++ r ∷ []; room = room })
+reads_one body at next room r old now h fits stands place within =
+    let some = least_spelling r in
+    let enough = h.enough in
+    let less = above h.fuel (omega (arith, length-drop at body)) in
+    let g : ℕ = old.gate + 5 in
+    let front : Records = placed_from g now.tail in
+    let size : length (spelled now.tail) ≡ at = h.size in
+    let found : record_at (drop at body) ≡ Some (r, drop next body) = ap record_at stands ∙ record_again r (drop next body) fits in
+    let behind : g + at + length (spelling r) ≡ g + next = omega arith in
+    let step : records_within h.fuel (g + at) (drop at body) ≡ record_before (g + at) r (records_within less.0 (g + next) (drop next body)) =
+    ap (λ k. records_within k (g + at) (drop at body)) less.1 ∙ one_step less.0 (g + at) (drop at body) (omega (arith, length-drop at body)) ∙ ap (λ x. record_then (g + at) x (records_within less.0)) found
+    ∙ ap (λ p. record_before (g + at) r (records_within less.0 p (drop next body))) behind in
+    let longer : placed_from g (now.tail ++ r ∷ []) ≡ front ++ (g + at, r) ∷ [] = placed_from-more g now.tail r ∙ ap (λ n. front ++ (g + n, r) ∷ []) size in
+    record {
+      within = within;
+      start = h.start;
+      gate = h.gate;
+      groups = h.groups;
+      size = omega (arith, ap length (spelled-more now.tail r), length-append (spelled now.tail) (spelling r));
+      fuel = less.0;
+      enough = omega (arith, less.1, length-drop at body, length-drop next body);
+      read = ap (λ (l : Records). with_front l (records_within less.0 (g + next) (drop next body))) longer ∙ sym (front_more front (g + at) r (records_within less.0 (g + next) (drop next body))) ∙ sym (ap (with_front front) step) ∙ h.read;
+    }
+
+pub reads_bad : (body : List ℕ) (at : ℕ) (old now : JournalState) → ReadsTo body at old now → at < length body → ((i : ℕ) → get_or body i 0 < 256) → ((r : Record) (rest : List ℕ) → HasSpelling r → drop at body ≡ spelling r ++ rest → ⊥)
+    → records_at (old.gate + 5) body ≡ Err (old.gate + 5 + at)
+reads_bad body at old now h lt are none =
+    let enough = h.enough in
+    let less = above h.fuel (omega (arith, length-drop at body)) in
+    let p : ℕ = old.gate + 5 + at in
+    let nothing : record_at (drop at body) ≡ None = read_nothing (drop at body) (λ i. subst (λ x. x < 256) (sym (get_or-drop at body i 0)) (are (at + i))) none in
+    sym h.read ∙ ap (λ k. with_front (placed_from (old.gate + 5) now.tail) (records_within k p (drop at body))) less.1
+    ∙ ap (with_front (placed_from (old.gate + 5) now.tail)) (one_step less.0 p (drop at body) (omega (arith, length-drop at body)) ∙ ap (λ x. record_then p x (records_within less.0)) nothing)
+
+pub reads_all : (body : List ℕ) (at : ℕ) (old now : JournalState) → ReadsTo body at old now → length body ≤ at → AddsRecords (records_at (old.gate + 5) body) (length body) old now
+reads_all body at old now h le =
+    let within = h.within in
+    let size = h.size in
+    let end : drop at body ≡ [] = drop_of_length-le body {i = at} le in
+    record {
+      start = h.start;
+      gate = h.gate;
+      groups = h.groups;
+      length_is = omega arith;
+      records = sym h.read ∙ ap (λ (l : List ℕ). with_front (placed_from (old.gate + 5) now.tail) (records_within h.fuel (old.gate + 5 + at) l)) end
+          ∙ ap (with_front (placed_from (old.gate + 5) now.tail)) (no_step h.fuel (old.gate + 5 + at)) ∙ ap (λ (l : Records). Ok l) (append-nil (placed_from (old.gate + 5) now.tail));
+    }
+
+-- ---- groups
+
+-- groups in front of what is read behind them
+abbrev pub groups_before : List Group → Reading → Reading
+groups_before [] r = r
+groups_before (g ∷ gs) r = group_before g (groups_before gs r)
+
+before_one : (gs : List Group) (g : Group) (r : Reading) → groups_before gs (group_before g r) ≡ groups_before (gs ++ g ∷ []) r
+before_one [] g r = refl
+before_one (x ∷ gs) g r = ap (group_before x) (before_one gs g r)
+
+before_whole : (gs : List Group) (gate : ℕ) → groups_before gs (Whole [] gate) ≡ Whole gs gate
+before_whole [] gate = refl
+before_whole (g ∷ gs) gate = ap (group_before g) (before_whole gs gate)
+
+before_bad : (gs : List Group) (at : ℕ) → groups_before gs (BadGroup at) ≡ BadGroup at
+before_bad [] at = refl
+before_bad (g ∷ gs) at = ap (group_before g) (before_bad gs at)
+
+before_none : (gs : List Group) (at : ℕ) → groups_before gs (NoRecord at) ≡ NoRecord at
+before_none [] at = refl
+before_none (g ∷ gs) at = ap (group_before g) (before_none gs at)
+
+-- an open gate, and what is amiss behind it
+bad_length : (n at : ℕ) (bytes : List ℕ) → is_open 0 bytes ≡ true → fits_area at (group_len bytes) ≡ false → groups_within (suc n) at bytes ≡ BadGroup at
+unfolding groups_within
+bad_length n at bytes shown bad =
+    ap (λ b. cond b (cond (fits_area at (group_len bytes)) (group_then at (records_at (at + 5) (take (group_len bytes) (drop 5 bytes))) (groups_within n (at + 5 + group_len bytes) (drop (5 + group_len bytes) bytes))) (BadGroup at)) (Whole [] at)) shown
+    ∙ ap (λ b. cond b (group_then at (records_at (at + 5) (take (group_len bytes) (drop 5 bytes))) (groups_within n (at + 5 + group_len bytes) (drop (5 + group_len bytes) bytes))) (BadGroup at)) bad
+
+bad_body : (n at len : ℕ) (bytes : List ℕ) (place : ℕ) → is_open 0 bytes ≡ true → group_len bytes ≡ len → fits_area at len ≡ true → records_at (at + 5) (take len (drop 5 bytes)) ≡ Err place → groups_within (suc n) at bytes ≡ NoRecord place
+unfolding groups_within
+bad_body n at len bytes place shown long fits bad =
+    ap (λ b. cond b (cond (fits_area at (group_len bytes)) (group_then at (records_at (at + 5) (take (group_len bytes) (drop 5 bytes))) (groups_within n (at + 5 + group_len bytes) (drop (5 + group_len bytes) bytes))) (BadGroup at)) (Whole [] at)) shown
+    ∙ ap (λ m. cond (fits_area at m) (group_then at (records_at (at + 5) (take m (drop 5 bytes))) (groups_within n (at + 5 + m) (drop (5 + m) bytes))) (BadGroup at)) long
+    ∙ ap (λ b. cond b (group_then at (records_at (at + 5) (take len (drop 5 bytes))) (groups_within n (at + 5 + len) (drop (5 + len) bytes))) (BadGroup at)) fits
+    ∙ ap (λ q. group_then at q (groups_within n (at + 5 + len) (drop (5 + len) bytes))) bad
+
+-- How far an area is read: the journal has the groups up to its gate, and those behind it are still to be read.
+pub record ReadsOn (bytes rest : List ℕ) (old now : JournalState) : Type 0 where
+  pub place : now.gate + length rest ≡ 1048576
+  pub some : 0 < length rest
+  pub tail : now.tail ≡ []
+  pub start : now.start ≡ old.start
+  pub fuel : ℕ
+  pub enough : length rest ≤ fuel
+  pub read : groups_before now.groups (groups_within fuel now.gate rest) ≡ groups_within (length bytes) old.gate bytes
+
+pub reads_first : (bytes : List ℕ) (old : JournalState) → old.gate + length bytes ≡ 1048576 → 0 < length bytes → old.groups ≡ [] → old.tail ≡ [] → ReadsOn bytes bytes old old
+reads_first bytes old place some groups tail = record {
+  place = place;
+  some = some;
+  tail = tail;
+  start = refl;
+  fuel = length bytes;
+  enough = omega arith;
+  read = ap (λ (gs : List Group). groups_before gs (groups_within (length bytes) old.gate bytes)) groups;
+}
+
+pub reads_group : (bytes rest behind body : List ℕ) (len : ℕ) (old now new : JournalState) → ReadsOn bytes rest old now → is_open 0 rest ≡ true → group_len rest ≡ len → fits_area now.gate len ≡ true → body ≡ take len (drop 5 rest) → behind ≡ drop (5 + len) rest
+    → 5 + len + 1 ≤ length rest → AddsGroup (records_at (now.gate + 5) body) len now new → ReadsOn bytes behind old new
+reads_group bytes rest behind body len old now new h shown long fits body_is behind_is within adds =
+    let enough = h.enough in
+    let place = h.place in
+    let gate = adds.gate in
+    let less = above h.fuel (omega arith) in
+    let size : length behind ≡ length rest - (5 + len) = ap length behind_is ∙ length-drop (5 + len) rest in
+    let g : Group = record { at = now.gate; records = placed_from (now.gate + 5) adds.rs } in
+    let step : groups_within h.fuel now.gate rest ≡ group_before g (groups_within less.0 new.gate behind) =
+    ap (λ k. groups_within k now.gate rest) less.1 ∙ opened less.0 now.gate rest len (placed_from (now.gate + 5) adds.rs) shown long fits (ap (records_at (now.gate + 5)) (sym body_is) ∙ adds.records)
+    ∙ ap (λ p. group_before g (groups_within less.0 p (drop (5 + len) rest))) (sym gate) ∙ ap (λ (l : List ℕ). group_before g (groups_within less.0 new.gate l)) (sym behind_is) in
+    record {
+      place = omega arith;
+      some = omega arith;
+      tail = adds.tail;
+      start = adds.start ∙ h.start;
+      fuel = less.0;
+      enough = omega (arith, less.1);
+      read = ap (λ (gs : List Group). groups_before gs (groups_within less.0 new.gate behind)) adds.groups ∙ sym (before_one now.groups g (groups_within less.0 new.gate behind)) ∙ ap (groups_before now.groups) (sym step) ∙ h.read;
+    }
+
+pub reads_to_gate : (bytes rest : List ℕ) (old now : JournalState) → ReadsOn bytes rest old now → is_open 0 rest ≡ false → groups_within (length bytes) old.gate bytes ≡ Whole now.groups now.gate
+reads_to_gate bytes rest old now h closed = sym h.read ∙ ap (groups_before now.groups) (shut h.fuel now.gate rest closed) ∙ before_whole now.groups now.gate
+
+pub reads_bad_length : (bytes rest : List ℕ) (old now : JournalState) → ReadsOn bytes rest old now → is_open 0 rest ≡ true → fits_area now.gate (group_len rest) ≡ false → groups_within (length bytes) old.gate bytes ≡ BadGroup now.gate
+reads_bad_length bytes rest old now h shown bad =
+    let enough = h.enough in
+    let some = h.some in
+    let less = above h.fuel (omega arith) in
+    sym h.read ∙ ap (λ k. groups_before now.groups (groups_within k now.gate rest)) less.1 ∙ ap (groups_before now.groups) (bad_length less.0 now.gate rest shown bad) ∙ before_bad now.groups now.gate
+
+pub reads_bad_body : (bytes rest body : List ℕ) (len place : ℕ) (old now : JournalState) → ReadsOn bytes rest old now → is_open 0 rest ≡ true → group_len rest ≡ len → fits_area now.gate len ≡ true → body ≡ take len (drop 5 rest)
+    → records_at (now.gate + 5) body ≡ Err place → groups_within (length bytes) old.gate bytes ≡ NoRecord place
+reads_bad_body bytes rest body len place old now h shown long fits body_is bad =
+    let enough = h.enough in
+    let some = h.some in
+    let less = above h.fuel (omega arith) in
+    sym h.read ∙ ap (λ k. groups_before now.groups (groups_within k now.gate rest)) less.1 ∙ ap (groups_before now.groups) (bad_body less.0 now.gate len rest place shown long fits (ap (records_at (now.gate + 5)) (sym body_is) ∙ bad)) ∙ before_none now.groups place
+
+-- ---- an area that is read from its start place on
+
+pub area_read : (start len size : ℕ) (device out items bytes : List ℕ) → start < 1048576 → len ≡ 1048576 - start → size ≡ len → length out ≡ size → out ≡ slice_range device (130 + start) (130 + start + size) → bytes ≡ take len (out ++ drop (length out) items)
+    → reading start (area device) ≡ groups_within (length bytes) start bytes
+unfolding reading area
+area_read start len size device out items bytes lt all same long read kept =
+    let whole : start + len ≡ 1048576 = omega arith in
+    let count : 130 + start + size - (130 + start) ≡ len = omega arith in
+    let part : drop start (take 1048576 (drop 130 device)) ≡ take len (drop (130 + start) device) =
+    ap (λ n. drop start (take n (drop 130 device))) (sym whole) ∙ drop-take start len (drop 130 device) ∙ ap (take len) (drop-drop start 130 device) in
+    let is : bytes ≡ take len (drop (130 + start) device) = kept ∙ take_at out (drop (length out) items) len (long ∙ same) ∙ read ∙ ap (λ n. take n (drop (130 + start) device)) count in
+    ap (λ (l : List ℕ). groups_within (length l) start l) (part ∙ sym is)
+
+-- which refusal a reading is
+pub same_log : (e : Refusal) (x y : ℕ) → e ≡ R.BadLog x → e ≡ R.BadLog y → x ≡ y
+same_log e x y p q = cc
+
+pub same_record : (e : Refusal) (x y : ℕ) → e ≡ R.BadRecord x → e ≡ R.BadRecord y → x ≡ y
+same_record e x y p q = cc
+
+-- what a call that hands a refusal on answers
+pub told_as : {T : Type 0} (result : Result T Refusal) (y x e : Refusal) → result ≡ Err y → y ≡ x → result ≡ Err e → x ≡ e
+told_as result y x e p q r = cc

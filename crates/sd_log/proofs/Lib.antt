@@ -1,0 +1,7 @@
+pub mod Forcing
+pub mod Gates
+pub mod Journaling
+pub mod Parted
+pub mod Bodies
+pub mod Starts
+pub mod Tails

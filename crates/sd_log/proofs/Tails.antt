@@ -1,0 +1,70 @@
+-- A record that comes into a log's tail. It serves the goals of `append`.
+use Rattle.std.proofs.Common.{◌≡◌, ℕ, ◌+◌, ◌*◌, ◌<◌, ◌≤◌, true, List, [], ◌∷◌, ◌++◌, length, sym, ap, ◌∙◌, arith, length-append}
+use Rattle.std.specs.List.{AllByRecursion}
+use Rattle.sd_logrec.specs.declared.record.Record.{Record}
+use Rattle.sd_logrec.specs.declared.record.Record.TheVariants as records
+use Rattle.sd_logrec.specs.Kept.{spelled}
+use Rattle.sd_logrec.specs.Spelling.{HasSpelling, spelled_length, spelling}
+use Rattle.sd_logrec.proofs.Lengths.{length-spelling}
+use Rattle.sd_log.specs.declared.log.Log.TheInside.{Inside}
+use Rattle.sd_log.specs.Buffers.{BufferState}
+use Rattle.sd_log.specs.JournalStates.{JournalState}
+use Rattle.sd_log.specs.LogInside.{IsLog}
+use Rattle.sd_log.specs.Logs.{is_reserved}
+use Rattle.sd_log.proofs.Parted.{spelled-more}
+
+all-more : {X : Type 0} (P : X → Type 0) (xs : List X) (x : X) → AllByRecursion P xs → P x → AllByRecursion P (xs ++ x ∷ [])
+all-more P [] x all p = (p, tt)
+all-more P (y ∷ ys) x all p = (all.0, all-more P ys x all.1 p)
+
+least_length : (r : Record) → 9 ≤ spelled_length r
+least_length (records.Start lsn epoch) = omega arith
+least_length (records.Update lsn txn prev page slot capacity before after) = omega arith
+least_length (records.Clr lsn txn prev undo_next page slot after) = omega arith
+least_length (records.Commit lsn txn prev) = omega arith
+least_length (records.End lsn txn prev) = omega arith
+least_length (records.BeginCheck lsn) = omega arith
+least_length (records.EndCheck lsn begin spans recs) = omega arith
+
+reserved_length : (r : Record) → is_reserved r ≡ true → 26 ≤ spelled_length r
+reserved_length (records.Start lsn epoch) e = absurd (cc)
+reserved_length (records.Update lsn txn prev page slot capacity before after) e = absurd (cc)
+reserved_length (records.Clr lsn txn prev undo_next page slot after) e = omega arith
+reserved_length (records.Commit lsn txn prev) e = omega arith
+reserved_length (records.End lsn txn prev) e = omega arith
+reserved_length (records.BeginCheck lsn) e = absurd (cc)
+reserved_length (records.EndCheck lsn begin spans recs) e = absurd (cc)
+
+pub least_spelling : (r : Record) → 9 ≤ length (spelling r)
+least_spelling r = omega (arith, length-spelling r, least_length r)
+
+pub reserved_spelling : (r : Record) → is_reserved r ≡ true → 26 ≤ length (spelling r)
+reserved_spelling r e = omega (arith, length-spelling r, reserved_length r e)
+
+-- what putting a record makes of the parts
+pub record Puts (l : Inside) (r : Record) (kept : ℕ) (journal : JournalState) (tail : BufferState) : Type 0 where
+  pub gate_is : journal.gate ≡ l.journal.gate
+  pub tail_is : journal.tail ≡ l.journal.tail ++ r ∷ []
+  pub text_is : tail.text ≡ l.tail.text ++ spelling r
+  pub fits_record : HasSpelling r
+  pub within : l.journal.gate + 5 + length l.tail.text + length (spelling r) + 1 ≤ 1048576
+  pub kept_small : kept ≤ 1048576
+  pub kept_text : kept ≤ tail.room
+  pub kept_records : kept < 26 * (journal.room + 1)
+
+pub put_is : (l : Inside) (r : Record) (kept : ℕ) (journal : JournalState) (tail : BufferState) → IsLog l → Puts l r kept journal tail → IsLog (record { inst = l.inst; journal = journal; tail = tail; spare = kept })
+put_is l r kept journal tail h p =
+    let size : length tail.text ≡ length l.tail.text + length (spelling r) = ap length p.text_is ∙ length-append l.tail.text (spelling r) in
+    let least = least_spelling r in
+    let within = p.within in
+    let gate = p.gate_is in
+    record {
+      text_is = p.text_is ∙ ap (λ (x : List ℕ). x ++ spelling r) h.text_is ∙ sym (spelled-more l.journal.tail r) ∙ ap spelled (sym p.tail_is);
+      spelled_ones = rw p.tail_is (all-more HasSpelling l.journal.tail r h.spelled_ones p.fits_record);
+      gate_within = omega arith;
+      fits = λ _. omega arith;
+      least = λ _. omega arith;
+      spare_small = p.kept_small;
+      spare_text = p.kept_text;
+      spare_records = p.kept_records;
+    }

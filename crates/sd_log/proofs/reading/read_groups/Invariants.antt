@@ -1,0 +1,9 @@
+use Rattle.std.proofs.Common.{length}
+use Rattle.sd_log.proofs.Bodies.{ReadsOn}
+use Rattle.sd_log.proofs.reading.read_groups.Given as goal
+
+abbrev pub invariant-loop-rest : goal.invariant-loop-rest
+invariant-loop-rest l = ReadsOn l.bytes l.rest l.fn.journal l.journal
+
+abbrev pub decreases-loop-rest : goal.decreases-loop-rest
+decreases-loop-rest l = length l.rest

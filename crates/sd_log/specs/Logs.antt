@@ -1,0 +1,119 @@
+-- What contracts see of a log: the groups that are forced, and the records of the tail.
+use Rattle.std.specs.Prelude.{◌≡◌, ℕ, ◌+◌, ◌-◌, ◌<◌, Bool, true, false, List, [], ◌∷◌, ◌++◌, length, map, slice_get}
+use Rattle.std.specs.List.{AllByRecursion, flat_map}
+use Rattle.std.specs.Option.{option_map_or}
+use Rattle.sd_logrec.specs.declared.record.Record.{Record}
+use Rattle.sd_logrec.specs.declared.record.Record.TheVariants as records
+use Rattle.sd_logrec.specs.Kept.{Group, Records, Whole, area, placed_from, reading, spelled}
+use Rattle.sd_logrec.specs.View.{flat}
+use Rattle.sd_log.specs.declared.placed.Placed.{Placed}
+
+-- The instance; the place where the log begins, and the place of the next gate, from the area's start; the forced groups
+-- between them; the records of the tail; and how many bytes of records find memory.
+pub record LogState : Type 0 where
+  pub inst : ℕ
+  pub start : ℕ
+  pub gate : ℕ
+  pub groups : List Group
+  pub tail : List Record
+  pub spare : ℕ
+
+-- the bytes of the tail's records
+abbrev pub tail_len : LogState → ℕ
+tail_len log = length (spelled log.tail)
+
+-- a record of the log with its place
+abbrev pub placed : Bool → ℕ × Record → Placed
+placed is_forced r = record { place = r.0; rec = r.1; forced = is_forced }
+
+-- the records of groups
+abbrev pub placed_groups : List Group → List Placed
+placed_groups groups = flat_map (λ g. map (placed true) g.records) groups
+
+-- the records of a tail, with the places that they get when they are forced
+abbrev pub placed_tail : ℕ → List Record → List Placed
+placed_tail gate tail = map (placed false) (placed_from (gate + 5) tail)
+
+-- all records of a log
+abbrev pub scanned : LogState → List Placed
+scanned log = placed_groups log.groups ++ placed_tail log.gate log.tail
+
+abbrev pub lsn_of : Placed → ℕ
+lsn_of p = (flat p.rec).lsn
+
+-- the LSN of the last record, or 0
+abbrev pub last_lsn : List Placed → ℕ
+last_lsn ps = option_map_or lsn_of (slice_get ps (length ps - 1)) 0
+
+-- the place behind the next gate, were the tail forced with n more bytes, and with these bytes reserved
+abbrev pub needed : LogState → ℕ → ℕ → ℕ
+needed log n reserve = log.gate + 5 + tail_len log + n + reserve + 1
+
+-- a record for which bytes were reserved: it ends what an earlier one began
+abbrev pub is_reserved : Record → Bool
+is_reserved (records.Start lsn epoch) = false
+is_reserved (records.Update lsn txn prev page slot capacity before after) = false
+is_reserved (records.Clr lsn txn prev undo_next page slot after) = true
+is_reserved (records.Commit lsn txn prev) = true
+is_reserved (records.End lsn txn prev) = true
+is_reserved (records.BeginCheck lsn) = false
+is_reserved (records.EndCheck lsn begin spans recs) = false
+
+-- the group of a tail
+abbrev pub tail_group : LogState → Group
+tail_group log = record { at = log.gate; records = placed_from (log.gate + 5) log.tail }
+
+-- the log with this tail as one more group, if there is one
+abbrev pub forced_with : LogState → List Record → LogState
+forced_with log [] = log
+forced_with log (r ∷ rs) = record {
+  inst = log.inst;
+  start = log.start;
+  gate = log.gate + 5 + tail_len log;
+  groups = log.groups ++ tail_group log ∷ [];
+  tail = [];
+  spare = log.spare;
+}
+
+-- the log once its tail is forced
+abbrev pub forced : LogState → LogState
+forced log = forced_with log log.tail
+
+-- the log without its tail
+abbrev pub without_tail : LogState → LogState
+without_tail log = record { inst = log.inst; start = log.start; gate = log.gate; groups = log.groups; tail = []; spare = log.spare }
+
+-- the log with one more record
+abbrev pub with_record : Record → ℕ → LogState → LogState
+with_record r spare log = record { inst = log.inst; start = log.start; gate = log.gate; groups = log.groups; tail = log.tail ++ r ∷ []; spare = spare }
+
+-- with this memory
+abbrev pub with_spare : ℕ → LogState → LogState
+with_spare spare log = record { inst = log.inst; start = log.start; gate = log.gate; groups = log.groups; tail = log.tail; spare = spare }
+
+-- The log's groups stand on its device, with a closed gate behind them.
+abbrev pub StandsOn : LogState → List ℕ → Type 0
+StandsOn log device = reading log.start (area device) ≡ Whole log.groups log.gate
+
+-- each record has an LSN below this one
+abbrev pub AreBelow : ℕ → Records → Type 0
+AreBelow low rs = AllByRecursion (λ r. (flat r.1).lsn < low) rs
+
+-- where the first of these groups stands, or else the next gate
+abbrev pub boundary : List Group → ℕ → ℕ
+boundary [] gate = gate
+boundary (g ∷ gs) gate = g.at
+
+-- the first of these groups, if there is one, has a record whose LSN isn't below this one
+abbrev pub BeginsAtOrAbove : ℕ → List Group → Type 0
+BeginsAtOrAbove low [] = Unit {0}
+BeginsAtOrAbove low (g ∷ gs) = AreBelow low g.records → ⊥
+
+-- The greatest boundary of groups before which each record has an LSN below low.
+pub record IsStartFor (low : ℕ) (groups : List Group) (gate place : ℕ) : Type 0 where
+  pub before : List Group
+  pub behind : List Group
+  pub parts : groups ≡ before ++ behind
+  pub place_is : place ≡ boundary behind gate
+  pub below : AllByRecursion (λ g. AreBelow low g.records) before
+  pub greatest : BeginsAtOrAbove low behind

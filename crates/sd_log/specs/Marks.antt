@@ -1,0 +1,45 @@
+-- Marks: where each group ends, how many records it has, and the greatest LSN up to there. They part a list of records into groups.
+use Rattle.std.specs.Prelude.{◌≡◌, ℕ, ◌+◌, ◌<◌, true, max, List, [], ◌∷◌, take, drop, map}
+use Rattle.sd_logrec.specs.declared.record.Record.{Record}
+use Rattle.sd_logrec.specs.Kept.{Group}
+use Rattle.sd_log.specs.declared.placed.Placed.{Placed}
+use Rattle.sd_log.specs.declared.journal.Mark.{Mark}
+use Rattle.sd_log.specs.Logs.{lsn_of}
+
+-- how many records the groups have
+abbrev pub counted : List Mark → ℕ
+counted [] = 0
+counted (m ∷ ms) = m.count + counted ms
+
+-- where the last group ends
+abbrev pub end_of : ℕ → List Mark → ℕ
+end_of at [] = at
+end_of at (m ∷ ms) = end_of m.end ms
+
+-- a record and its place
+abbrev pub entry : Placed → ℕ × Record
+entry p = (p.place, p.rec)
+
+-- the groups from this place on
+abbrev pub grouped : ℕ → List Mark → List Placed → List Group
+grouped at [] ps = []
+grouped at (m ∷ ms) ps = record { at = at; records = map entry (take m.count ps) } ∷ grouped m.end ms (drop m.count ps)
+
+-- the greatest LSN, or 0
+abbrev pub greatest_lsn : List Placed → ℕ
+greatest_lsn [] = 0
+greatest_lsn (p ∷ ps) = max (lsn_of p) (greatest_lsn ps)
+
+-- The groups stand one behind the other, each has a record, and each mark has the greatest LSN up to it.
+abbrev pub AreMarks : ℕ → ℕ → List Mark → List Placed → Type 0
+AreMarks at high [] ps = Unit {0}
+AreMarks at high (m ∷ ms) ps = (at < m.end) × (0 < m.count) × (m.high ≡ max high (greatest_lsn (take m.count ps))) × AreMarks m.end m.high ms (drop m.count ps)
+
+-- the greatest LSN up to the last mark
+abbrev pub high_of : ℕ → List Mark → ℕ
+high_of high [] = high
+high_of high (m ∷ ms) = high_of m.high ms
+
+-- the same record, forced
+abbrev pub as_forced : Placed → Placed
+as_forced p = record { place = p.place; rec = p.rec; forced = true }

@@ -1,0 +1,22 @@
+-- What reading a body adds to a journal.
+use Rattle.std.specs.Prelude.{◌≡◌, ℕ, ◌+◌, List, [], ◌∷◌, ◌++◌, length, Result, Ok}
+use Rattle.sd_logrec.specs.declared.record.Record.{Record}
+use Rattle.sd_logrec.specs.Kept.{Records, placed_from, spelled}
+use Rattle.sd_log.specs.JournalStates.{JournalState}
+
+-- The tail has the records that are read of a body of this length.
+pub record AddsRecords (read : Result Records ℕ) (len : ℕ) (old new : JournalState) : Type 0 where
+  pub start : new.start ≡ old.start
+  pub gate : new.gate ≡ old.gate
+  pub groups : new.groups ≡ old.groups
+  pub length_is : length (spelled new.tail) ≡ len
+  pub records : read ≡ Ok (placed_from (old.gate + 5) new.tail)
+
+-- A group has them.
+pub record AddsGroup (read : Result Records ℕ) (len : ℕ) (old new : JournalState) : Type 0 where
+  pub rs : List Record
+  pub start : new.start ≡ old.start
+  pub gate : new.gate ≡ old.gate + 5 + len
+  pub groups : new.groups ≡ old.groups ++ record { at = old.gate; records = placed_from (old.gate + 5) rs } ∷ []
+  pub tail : new.tail ≡ []
+  pub records : read ≡ Ok (placed_from (old.gate + 5) rs)

@@ -1,0 +1,30 @@
+//! The private log of one instance: records in order, of which those of the tail aren't forced yet.
+//!
+//! Meaning: a `Log` is its forced groups, the place of the next gate, and the tail (`LogState`, `specs/Logs.antt`); what
+//! its device stands for is `reading` (`specs/Kept.antt` of sd_logrec), and `StandsOn` says that it is these groups.
+//! Keeps: a closed gate stands behind the last group that is forced; no group passes the area's end.
+//! Promises: a crash at any moment of `force` leaves the log with its tail or without it (`any_moment`), and with it
+//! after `Ok` (`stands`, `durable`); `read_in` answers what the device stands for (`whole`, `bad_log`, `bad_record`).
+//! Refuses: `LogFull` in `append`; `BadLog` and `BadRecord` in `read_in`; `Failed` only where the rig's count of faults rose.
+//! Knows nothing of: pages, transactions, other logs, which record may follow which.
+//! Stands on: sd_base, sd_rig, sd_logrec. On it stand: sd_merge, sd_state.
+//! Held by the caller: a crash leaves of the device what it reads, and the log's groups stand there (`force`).
+//!
+//! To change:
+//! - free: bodies and private helpers, `Journal` and `Buffer` inside
+//! - dear: `LogState`, the clauses of `append` and `force`, `Forces` (`specs/Forces.antt`)
+//! - frozen: the bytes of a group, and the calls of a force in their order (docs/FORMATS.md)
+#![tactic(auto)]
+
+mod buffer;
+mod filling;
+mod journal;
+mod log;
+mod placed;
+mod reading;
+
+pub use log::Log;
+pub use placed::Placed;
+
+#[cfg(test)]
+mod tests;

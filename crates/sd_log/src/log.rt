@@ -1,0 +1,224 @@
+//! The log of an instance: its calls.
+
+ghost use Rattle.std.specs.Prelude.{◌≡◌, ◌≢◌, ◌⊎◌, ◌↔◌, [], ◌∷◌, ◌++◌, ℕ, ◌+◌, ◌-◌, ◌^◌, ◌<◌, ◌≤◌, false, true, max, if◌then◌else◌, length, Err, Ok, IsOk, IfErr, IfOk, IsTrue, OnErr, OnOk};
+ghost use Rattle.sd_base.specs.Streams.{Rises};
+ghost use Rattle.sd_base.specs.declared.refusal.Refusal.TheVariants as R;
+ghost use Rattle.sd_logrec.specs.Kept.{BadGroup, NoRecord, Whole, area, reading};
+ghost use Rattle.sd_logrec.specs.Spelling.{HasSpelling, spelling};
+ghost use Rattle.sd_rig.specs.Devices.{AgreesOutside, Elapses, IsUnchanged, LeavesOnly, LeavesSame, Span};
+ghost use Rattle.sd_log.specs.Forces.{Forces, StandsEither, forced_at, forced_len};
+ghost use Rattle.sd_log.specs.Logs.{IsStartFor, StandsOn, forced, is_reserved, last_lsn, needed, scanned, with_record, without_tail};
+
+use crate::buffer::Buffer;
+use crate::journal::Journal;
+use crate::placed::Placed;
+use crate::reading::{AREA, AREA_LEN, GROUP_HEAD, read_groups};
+use sd_base::{Failed, InstNo, Lsn, Memory, Refusal};
+use sd_logrec::Record;
+use sd_rig::Rig;
+use std::alloc::Global;
+use std::marker::Model;
+
+/// The length of the shortest record for which bytes are reserved.
+const SHORTEST: usize = 26;
+
+/// The log of an instance in memory: the groups that are forced, and the records of the tail, which aren't yet.
+#[derive(Debug, Drop)]
+pub struct Log {
+    inst: InstNo,
+    journal: Journal,
+    tail: Buffer,
+    spare: usize,
+}
+
+impl Model for Log {
+    ghost use Rattle.sd_log.specs.Logs.{LogState};
+
+    ghost Value = { LogState };
+
+    ghost use Rattle.sd_log.specs.LogInside.{log_view, IsLog};
+
+    ghost view = { log_view };
+
+    ghost invariant = { IsLog };
+}
+
+impl Log {
+    /// Reads the groups of the instance's log from the place `start` of its area, by one read of the device, which it
+    /// leaves as it is.
+    ///
+    /// `BadLog` comes exactly where a group's length is below 9 or passes the area's end, with the place of its gate, and
+    /// `BadRecord` exactly where no record starts at a place of a group, both counted from the area's start; the first
+    /// such place is told. `Failed` comes only where the rig's count of faults rose.
+    pub fn read_in<G: Rig>(
+        alloc: Global,
+        rig: &mut G,
+        inst: InstNo,
+        start: u32,
+    ) -> Result<Log, Refusal>
+        requires { start < 1048576 }
+        ensures whole { IsTrue G.told → IfOk result (λ log. reading start (area (G.seen rig.old inst)) ≡ Whole log.groups log.gate) }
+        ensures inst { IfOk result (λ log. log.inst ≡ inst) }
+        ensures start { IfOk result (λ log. log.start ≡ start) }
+        ensures tail { IfOk result (λ log. log.tail ≡ []) }
+
+        ensures bad_log { IsTrue G.told → (at : ℕ) → result ≡ Err (R.BadLog at) → reading start (area (G.seen rig.old inst)) ≡ BadGroup at }
+        ensures bad_record { IsTrue G.told → (at : ℕ) → result ≡ Err (R.BadRecord at) → reading start (area (G.seen rig.old inst)) ≡ NoRecord at }
+        ensures refusals { IfErr result (λ e. (e ≡ R.Failed) ⊎ (e ≡ R.Memory) ⊎ ((at : ℕ) × (e ≡ R.BadLog at)) ⊎ ((at : ℕ) × (e ≡ R.BadRecord at))) }
+        ensures cause { result ≡ Err R.Failed → Rises (G.faults rig.old) (G.faults rig.new) }
+
+        ensures stays { IsTrue G.told → IsUnchanged (G.seen rig.old) (G.seen rig.new) (G.leaves rig.old) (G.leaves rig.new)
+            (G.moment rig.old) (G.moment rig.new) (G.since rig.old) (G.since rig.new) }
+        ensures count { G.faults rig.old ≤ G.faults rig.new }
+    {
+        let mut bytes = Vec::from_elem(alloc, 0u8, AREA_LEN - start as usize)?;
+        rig.read(inst.get(), AREA + start, &mut bytes)?;
+        let mut journal = Journal::new(alloc, start);
+        read_groups(alloc, &mut journal, &bytes)?;
+        let tail = Buffer::new(alloc)?;
+        Ok(Log {
+            inst,
+            journal,
+            tail,
+            spare: 0,
+        })
+    }
+
+    /// The LSN of the next record, of a change to a page with this LSN: one more than the greater of this and the last
+    /// record's.
+    pub fn next_lsn(&self, page_lsn: Lsn) -> Lsn
+        requires { max (last_lsn (scanned self.now)) page_lsn + 1 < 2 ^ 62 }
+        ensures { result ≡ max (last_lsn (scanned self.now)) page_lsn + 1 }
+    {
+        self.journal.last_lsn().max(page_lsn) + 1
+    }
+
+    /// Puts a record at the end of the tail. `reserve` is how many bytes are reserved behind it, for records that end
+    /// what is open then.
+    ///
+    /// `LogFull` comes exactly where the tail as a group, with these bytes reserved, would pass the area's end. A record
+    /// for which bytes were reserved, a CLR, Commit or End, takes no memory where `spare` has its bytes, and lowers it by
+    /// them; each other one makes `spare` at least `reserve`.
+    pub fn append(&mut self, r: Record, reserve: u32) -> Result<(), Refusal>
+        requires { HasSpelling r }
+        ensures ok { OnOk result (self.new ≡ with_record r self.new.spare self.old) }
+        ensures stays { OnErr result (self.new ≡ self.old) }
+        ensures full { (result ≡ Err R.LogFull) ↔ (1048576 < needed self.old (length (spelling r)) reserve) }
+        ensures refusals { IfErr result (λ e. (e ≡ R.LogFull) ⊎ (e ≡ R.Memory)) }
+
+        ensures reserves { OnOk result (is_reserved r ≡ false → max self.old.spare reserve ≤ self.new.spare) }
+        ensures spends { is_reserved r ≡ true → self.old.spare ≤ self.new.spare + length (spelling r) }
+        ensures there { is_reserved r ≡ true → length (spelling r) ≤ self.old.spare → (result ≡ Ok tt) ⊎ (result ≡ Err R.LogFull) }
+    {
+        let len = r.len();
+        let reserve = reserve as usize;
+        let used = self.journal.gate() as usize + GROUP_HEAD + self.tail.len() + reserve + 1;
+        if used > AREA_LEN || len > AREA_LEN - used {
+            return Err(Refusal::LogFull);
+        }
+        let kept = spare_after(&r, self.spare, len, reserve);
+        self.put(r, len, kept)?;
+        Ok(())
+    }
+
+    // Takes memory for the record and for what is to spare behind it, and puts the record at the end of the tail.
+    fn put(&mut self, r: Record, len: usize, kept: usize) -> Result<(), Memory>
+        requires fits { HasSpelling r }
+        requires len { len ≡ length (spelling r) }
+        requires room { needed self.old len 0 ≤ 1048576 }
+        requires kept { kept ≤ 1048576 }
+        ensures ok { OnOk result (self.new ≡ with_record r kept self.old) }
+        ensures stays { OnErr result (self.new ≡ self.old) }
+        ensures there { max len 26 + kept ≤ self.old.spare → IsOk result }
+    {
+        let all = len.max(SHORTEST) + kept;
+        self.tail.reserve(all)?;
+        self.journal.reserve(all / SHORTEST)?;
+        let place = self.journal.gate() as usize + GROUP_HEAD + self.tail.len();
+        self.tail.put(&r);
+        self.journal.push(r, place as u32);
+        self.spare = kept;
+        Ok(())
+    }
+
+    /// The place of the next gate, in bytes from the area's start.
+    pub fn gate(&self) -> u32
+        ensures { result ≡ self.now.gate }
+    {
+        self.journal.gate()
+    }
+
+    /// The greatest boundary of groups before which each record has an LSN below `low`: where a log may begin of which
+    /// only records from `low` on are needed. It is never before the place where the log begins now.
+    pub fn start_for(&self, low: Lsn) -> u32
+        ensures exact { IsStartFor low self.now.groups self.now.gate result }
+        ensures start { self.now.start ≤ result }
+    {
+        self.journal.start_for(low)
+    }
+
+    /// Forces the tail: makes it a group behind the others. Where it is empty no device call is made; else there are four:
+    /// a write of the group with a closed gate behind, a sync, a write of its own gate, a sync. A crash at any moment
+    /// leaves the log with its tail or without it, and after `Ok` with it. It takes no memory.
+    ///
+    /// `Failed` comes only where the rig's count of faults rose. The tail is then as before, and the device is to be
+    /// synced and read again before anything is forced.
+    pub fn force<G: Rig>(&mut self, rig: &mut G) -> Result<(), Failed>
+        requires stable { IsTrue G.told → self.old.tail ≢ [] → LeavesOnly (G.seen rig.old self.old.inst) (G.leaves rig.old self.old.inst) }
+        requires stands { IsTrue G.told → self.old.tail ≢ [] → StandsOn self.old (G.seen rig.old self.old.inst) }
+
+        ensures ok { OnOk result (self.new ≡ forced self.old) }
+        ensures stays { OnErr result (self.new ≡ self.old) }
+        ensures stands { IsTrue G.told → self.old.tail ≢ [] → OnOk result (StandsOn self.new (G.seen rig.new self.old.inst)) }
+        ensures durable { IsTrue G.told → self.old.tail ≢ [] → OnOk result (LeavesOnly (G.seen rig.new self.old.inst) (G.leaves rig.new self.old.inst)) }
+
+        // A crash during the call, or after it, leaves the log with its tail or without it, and so does a read.
+        ensures any_moment { IsTrue G.told → self.old.tail ≢ [] → Span (G.moment rig.old) (G.since rig.new) (Forces self.old (G.seen rig.old) (G.leaves rig.old)) }
+        ensures whole { IsTrue G.told → self.old.tail ≢ [] → StandsEither self.old (G.seen rig.new self.old.inst) }
+        ensures outside { IsTrue G.told → AgreesOutside (forced_at self.old) (forced_len self.old) (G.seen rig.old self.old.inst) (G.seen rig.new self.old.inst) }
+        ensures others { IsTrue G.told → (d : ℕ) → d ≢ self.old.inst → G.seen rig.new d ≡ G.seen rig.old d }
+        ensures others_leave { IsTrue G.told → (d : ℕ) → d ≢ self.old.inst → LeavesSame (G.leaves rig.old d) (G.leaves rig.new d) }
+        ensures time { IsTrue G.told → Elapses (G.moment rig.old) (G.moment rig.new) (G.since rig.old) (G.since rig.new) }
+
+        ensures idle { self.old.tail ≡ [] → (result ≡ Ok tt) × (rig.new ≡ rig.old) }
+        ensures cause { OnErr result (Rises (G.faults rig.old) (G.faults rig.new)) }
+        ensures count { G.faults rig.old ≤ G.faults rig.new }
+    {
+        let len = self.tail.len();
+        if len == 0 {
+            return Ok(());
+        }
+        self.tail
+            .write(rig, self.inst.get(), AREA + self.journal.gate())?;
+        self.journal.settle(len as u32);
+        self.tail.clear();
+        Ok(())
+    }
+
+    /// All records, those of the groups and then those of the tail.
+    pub fn scan(&self) -> &[Placed]
+        ensures { result.now ≡ scanned self.now }
+    {
+        self.journal.placed()
+    }
+
+    /// Forgets the tail.
+    pub fn drop_tail(&mut self)
+        ensures { self.new ≡ without_tail self.old }
+    {
+        self.journal.drop_tail();
+        self.tail.clear();
+    }
+}
+
+// How much is to spare behind a record of `len` bytes.
+fn spare_after(r: &Record, spare: usize, len: usize, reserve: usize) -> usize
+    ensures { result ≡ (if is_reserved r.now then spare - len else max spare reserve) }
+{
+    match r {
+        Record::Clr { .. } | Record::Commit { .. } | Record::End { .. } => spare.saturating_sub(
+            len,
+        ),
+        _ => spare.max(reserve),
+    }
+}

@@ -1,0 +1,118 @@
+//! The groups of an area, read into a journal.
+
+ghost use Rattle.std.specs.Prelude.{◌≡◌, ◌≢◌, ◌⊎◌, [], ◌∷◌, ◌++◌, ℕ, ◌+◌, ◌^◌, ◌<◌, ◌≤◌, false, true, Err, Ok, length, IfErr, MatchOption, OnOk};
+ghost use Rattle.sd_base.specs.declared.refusal.Refusal.TheVariants as R;
+ghost use Rattle.sd_base.specs.Twin.{is_open};
+ghost use Rattle.sd_logrec.specs.Kept.{BadGroup, NoRecord, Whole, fits_area, group_len, groups_within, placed_from, records_at, spelled};
+ghost use Rattle.sd_log.specs.JournalStates.{JournalState};
+ghost use Rattle.sd_log.specs.Readings.{AddsRecords, AddsGroup};
+
+use crate::filling::OPEN;
+use crate::journal::Journal;
+use sd_base::Refusal;
+use sd_logrec::Record;
+use std::alloc::Global;
+
+/// The place of an area on its device, in bytes.
+pub const AREA: u32 = 130;
+
+/// The length of an area, in bytes.
+pub const AREA_LEN: usize = 1_048_576;
+
+/// The bytes of a group before its body: the gate and the length.
+pub const GROUP_HEAD: usize = 5;
+
+/// The least length of a body: that of the shortest record.
+const LEAST_BODY: usize = 9;
+
+// Whether the gate at the front is open.
+fn is_open(bytes: &[u8]) -> bool
+    ensures { result ≡ is_open 0 bytes.now }
+{
+    match bytes {
+        [] => false,
+        [gate, ..] => *gate == OPEN,
+    }
+}
+
+// The length of the group at the front, where it lies in the area with the next gate.
+fn group_len(bytes: &[u8], at: usize) -> Option<usize>
+    requires { at + length bytes.now ≡ AREA_LEN }
+    ensures { MatchOption result (fits_area at (group_len bytes.now) ≡ false) (λ n. (n ≡ group_len bytes.now) × (fits_area at n ≡ true)) }
+{
+    if bytes.len() < GROUP_HEAD {
+        return None;
+    }
+    let head = &bytes[1..GROUP_HEAD];
+    let len = u32::from_be_bytes([head[0], head[1], head[2], head[3]]) as usize;
+    if len < LEAST_BODY || at + GROUP_HEAD + len + 1 > AREA_LEN {
+        return None;
+    }
+    Some(len)
+}
+
+// Puts the records of a body at the end of the tail.
+fn read_records(alloc: Global, journal: &mut Journal, body: &[u8]) -> Result<(), Refusal>
+    requires place { journal.old.gate + 5 + length body.now < 2 ^ 32 }
+    requires tail { journal.old.tail ≡ [] }
+    ensures ok { OnOk result (AddsRecords (records_at (journal.old.gate + 5) body.now) (length body.now) journal.old journal.new) }
+    ensures err { IfErr result (λ e. (e ≡ R.Memory) ⊎ ((place : ℕ) × (e ≡ R.BadRecord place) × (records_at (journal.old.gate + 5) body.now ≡ Err place))) }
+{
+    let place = journal.gate() as usize + GROUP_HEAD;
+    let mut at = 0;
+    while at < body.len() {
+        match Record::take(alloc, body, at) {
+            Ok((rec, next)) => {
+                journal.reserve(1)?;
+                journal.push(rec, (place + at) as u32);
+                at = next;
+            }
+            Err(Refusal::BadRecord { .. }) => {
+                let at = (place + at) as u64;
+                return Err(Refusal::BadRecord { at });
+            }
+            Err(e) => return Err(e),
+        }
+    }
+    Ok(())
+}
+
+// Reads a body as one more group.
+fn read_group(alloc: Global, journal: &mut Journal, body: &[u8]) -> Result<(), Refusal>
+    requires place { journal.old.gate + 5 + length body.now < 2 ^ 32 }
+    requires some { 0 < length body.now }
+    requires tail { journal.old.tail ≡ [] }
+    ensures ok { OnOk result (AddsGroup (records_at (journal.old.gate + 5) body.now) (length body.now) journal.old journal.new) }
+    ensures err { IfErr result (λ e. (e ≡ R.Memory) ⊎ ((place : ℕ) × (e ≡ R.BadRecord place) × (records_at (journal.old.gate + 5) body.now ≡ Err place))) }
+{
+    read_records(alloc, journal, body)?;
+    journal.settle(body.len() as u32);
+    Ok(())
+}
+
+/// Reads the groups of an area from the journal's gate on, where it has nothing yet, up to a closed gate.
+pub fn read_groups(alloc: Global, journal: &mut Journal, bytes: &[u8]) -> Result<(), Refusal>
+    requires place { journal.old.gate + length bytes.now ≡ AREA_LEN }
+    requires some { 0 < length bytes.now }
+    requires groups { journal.old.groups ≡ [] }
+    requires tail { journal.old.tail ≡ [] }
+    ensures ok { OnOk result (groups_within (length bytes.now) journal.old.gate bytes.now ≡ Whole journal.new.groups journal.new.gate) }
+    ensures start { OnOk result (journal.new.start ≡ journal.old.start) }
+    ensures tail { OnOk result (journal.new.tail ≡ []) }
+    ensures gate { OnOk result (journal.new.gate < AREA_LEN) }
+    ensures err { IfErr result (λ e. (e ≡ R.Memory)
+        ⊎ ((place : ℕ) × (e ≡ R.BadLog place) × (groups_within (length bytes.now) journal.old.gate bytes.now ≡ BadGroup place))
+        ⊎ ((place : ℕ) × (e ≡ R.BadRecord place) × (groups_within (length bytes.now) journal.old.gate bytes.now ≡ NoRecord place))) }
+{
+    let mut rest = bytes;
+    while is_open(rest) {
+        let at = journal.gate();
+        let Some(len) = group_len(rest, at as usize) else {
+            return Err(Refusal::BadLog { at: at as u64 });
+        };
+        let (body, behind) = rest[GROUP_HEAD..].split_at(len);
+        read_group(alloc, journal, body)?;
+        rest = behind;
+    }
+    Ok(())
+}
