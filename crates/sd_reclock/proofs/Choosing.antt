@@ -1,5 +1,6 @@
 -- The lowest of those to which a step leads, as far as they were seen. It serves the goals of search.rt.
-use Rattle.std.proofs.Common.{◌≡◌, ◌⊎◌, ℕ, ◌<◌, ◌+◌, List, take, length, get_or, Option, Some, None, refl, sym, subst, ⊎_elim}
+use Rattle.std.proofs.Common.{◌≡◌, ◌⊎◌, ℕ, ◌<◌, ◌≤◌, ◌+◌, List, take, length, get_or, Option, Some, None, refl, sym, subst, ⊎_elim}
+use Rattle.std.proofs.lemmas.List.{take_all}
 use Rattle.std.proofs.lemmas.List.Elements.{All-more, All-weaker, All-contains, Contains-get_or}
 use Rattle.std.specs.List.{All, Contains}
 use Rattle.std.specs.Option.{IsSome, IfSome, IsSomeAnd}
@@ -45,6 +46,9 @@ chosen steps t level lowest i u new l is step second first either h = record {
       (subst (λ (x : TxnId). steps t x → IsBelow x new → ⊥) is (λ s. second));
   there = there_still steps t level lowest u new either (subst (λ (x : TxnId). Contains level x) (sym is) (Contains-get_or level i u l)) step h.there;
 }
+
+pub whole_chosen : (steps : Steps) (t : TxnId) (level : List TxnId) (lowest : Option TxnId) (i : ℕ) → length level ≤ i → IsChosen steps t level (take i level) lowest → IsChosen steps t level level lowest
+whole_chosen steps t level lowest i l h = subst (λ (seen : List TxnId). IsChosen steps t level seen lowest) (take_all i level l) h
 
 some_of : (o : Option TxnId) (P : TxnId → Type 0) → IsSomeAnd o P → IsSome o
 some_of None P h = absurd h

@@ -38,6 +38,9 @@ layered_start steps t rest covers = record {
 pub long : (below : List (Vec TxnId)) (level : Vec TxnId) → length (below ++ level ∷ []) ≡ suc (length below)
 long below level = length-append below (level ∷ []) ∙ omega arith
 
+pub pushed : (below new : List (Vec TxnId)) (level : Vec TxnId) (n : ℕ) → new ≡ below ++ level ∷ [] → n ≡ length new → n ≡ suc (length below)
+pushed below new level n e is = is ∙ ap length e ∙ long below level
+
 -- the parts, by what the borrowed lists are
 pub parted_of : (steps : Steps) (goals rest goals' rest' near far : List TxnId) → goals' ≡ goals → rest' ≡ rest → IsParted steps goals' rest' near far → IsParted steps goals rest near far
 parted_of steps goals rest goals' rest' near far e f h = subst (λ (x : List TxnId). IsParted steps x rest near far) e (subst (λ (x : List TxnId). IsParted steps goals' x near far) f h)

@@ -3,9 +3,9 @@ pub mod Lowest
 pub mod Writes
 pub mod Agreeing
 pub mod Levels
-pub mod Waiting
 pub mod Choosing
 pub mod Parting
 pub mod Walks
 pub mod Layers
 pub mod Noting
+pub mod Waiting

@@ -8,7 +8,7 @@ use Rattle.std.specs.Map.{lookup, keys_of}
 use Rattle.std.specs.Option.{IsSome, option_map}
 use Rattle.sd_base.specs.declared.ids.TxnId.{TxnId}
 use Rattle.sd_base.specs.Ids.{same_txn}
-use Rattle.sd_base.specs.Waits.{Wait}
+use Rattle.sd_base.specs.Waits.{Wait, Obstacles}
 use Rattle.sd_reclock.specs.declared.search.Asking.{Asking}
 use Rattle.sd_reclock.specs.declared.wait.Asked.{Asked}
 use Rattle.sd_reclock.specs.Locks.{wait_of}
@@ -19,8 +19,8 @@ mapped : (o : Option Asked) (w : Wait) → option_map wait_of o ≡ Some w → I
 mapped None w e = absurd (cc)
 mapped (Some x) w e = refl
 
-pub steps_wait : (asked : Asking) (all : List TxnId) → all ≡ keys_of asked.waits.now.entries → (t u : TxnId) → steps_of asked t u → Contains (all ++ asked.asker ∷ []) t
-steps_wait asked all is t u step = ⊎_elim
+pub steps_wait : {L : Type 0} (stands : L → Obstacles) (asked : Asking L) (all : List TxnId) → all ≡ keys_of asked.waits.now.entries → (t u : TxnId) → steps_of stands asked t u → Contains (all ++ asked.asker ∷ []) t
+steps_wait stands asked all is t u step = ⊎_elim
     (λ e. subst (λ (z : TxnId). Contains (all ++ asked.asker ∷ []) z) e (Contains-push all asked.asker))
     (λ ne. Contains-append_left all (asked.asker ∷ []) t (subst (λ (xs : List TxnId). Contains xs t) (sym is)
     (Contains-keys_from_lookup {eq = same_txn} same-txn-is t asked.waits.now.entries

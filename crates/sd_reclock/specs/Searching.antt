@@ -1,18 +1,23 @@
 -- The waits while a transaction asks for a lock, as steps from one that waits to one that it waits for.
 use Rattle.std.specs.Prelude.{List}
 use Rattle.sd_base.specs.declared.ids.TxnId.{TxnId}
-use Rattle.sd_base.specs.Waits.{Obstacles, Waits, WaitsFor, asking, IsDeadlock}
+use Rattle.sd_base.specs.Waits.{Obstacles, Waits, WaitsFor, asking, IsCycle, IsDeadlock}
 use Rattle.sd_reclock.specs.declared.search.Asking.{Asking}
-use Rattle.sd_reclock.specs.Locks.{StandsIn, wait_of, waits_in}
+use Rattle.sd_reclock.specs.Locks.{wait_of, waits_in}
 
-abbrev pub stands_of : Asking → Obstacles
-stands_of asked t wait u = StandsIn asked.locks.now t wait u
+abbrev pub stands_of : {L : Type 0} → (L → Obstacles) → Asking L → Obstacles
+stands_of stands asked = stands asked.locks.now
 
-abbrev pub waits_of : Asking → Waits
+abbrev pub waits_of : {L : Type 0} → Asking L → Waits
 waits_of asked t = waits_in asked.waits.now.entries t
 
-abbrev pub steps_of : Asking → TxnId → TxnId → Type 0
-steps_of asked t u = WaitsFor (stands_of asked) (asking asked.asker (wait_of asked.wait) (waits_of asked)) t u
+abbrev pub steps_of : {L : Type 0} → (L → Obstacles) → Asking L → TxnId → TxnId → Type 0
+steps_of stands asked t u = WaitsFor (stands_of stands asked) (asking asked.asker (wait_of asked.wait) (waits_of asked)) t u
 
-abbrev pub IsClosedBy : Asking → List TxnId → Type 0
-IsClosedBy asked cycle = IsDeadlock (stands_of asked) (waits_of asked) asked.asker (wait_of asked.wait) cycle
+-- the asked wait closes no cycle
+abbrev pub ClosesNone : {L : Type 0} → (L → Obstacles) → Asking L → Type 0
+ClosesNone stands asked = (cycle : List TxnId) → IsCycle (stands_of stands asked) (asking asked.asker (wait_of asked.wait) (waits_of asked)) asked.asker cycle → ⊥
+
+-- the asked wait closes this cycle, the first of the shortest ones
+abbrev pub ClosesFirst : {L : Type 0} → (L → Obstacles) → Asking L → List TxnId → Type 0
+ClosesFirst stands asked cycle = IsDeadlock (stands_of stands asked) (waits_of asked) asked.asker (wait_of asked.wait) cycle

@@ -23,7 +23,9 @@ mod search;
 mod table;
 mod wait;
 
+pub use search::{Asking, Standing};
 pub use table::RecordLocks;
+pub use wait::Asked;
 
 #[cfg(test)]
 mod tests;

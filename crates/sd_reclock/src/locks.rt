@@ -1,14 +1,16 @@
 //! The locks on all records, and an index from a transaction to its records. They see no wait.
 
-ghost use Rattle.std.specs.Prelude.{◌≡◌, ◌≢◌, ◌↔◌, ◌||◌, ◌&&◌, [], None, Some, cond, IsTrue, OnOk, OnErr, MatchOption, ⊤};
+ghost use Rattle.std.specs.Prelude.{◌≡◌, ◌≢◌, ◌↔◌, ◌||◌, ◌&&◌, [], None, Some, cond, OnOk, OnErr, MatchOption, IfSome};
 ghost use Rattle.std.specs.List.{list_any};
 ghost use Rattle.sd_base.specs.declared.ids.TxnId.{TxnId};
 ghost use Rattle.sd_base.specs.declared.ids.Rid.{Rid};
 ghost use Rattle.sd_base.specs.Ids.{same_txn, same_rid, IsBelow};
 ghost use Rattle.sd_reclock.specs.Locks.{held_in, raised, wait_of, Agree, IsLowestHolder, StandsIn};
+ghost use Rattle.sd_reclock.specs.Answers.{IsFree};
 ghost use Rattle.sd_reclock.specs.Indexing.{names};
 
 use crate::holders::Holders;
+use crate::search::Standing;
 use crate::wait::{Asked, clashes};
 use sd_base::{Memory, Mode, Rid, TxnId};
 use std::alloc::Global;
@@ -73,24 +75,11 @@ impl Locks {
         }
     }
 
-    /// Whether a transaction stands in the way of another, which would wait so.
-    pub fn stands(&self, t: &TxnId, wait: &Asked, u: &TxnId) -> bool
-        ensures { IsTrue result ↔ StandsIn self.now t.now (wait_of wait.now) u.now }
-    {
-        if t == u {
-            return false;
-        }
-        match self.mode_of(u, &wait.rid) {
-            Some(mode) => clashes(wait.mode, mode),
-            None => false,
-        }
-    }
-
     /// The lowest transaction that stands in the way. Where the lowest other holder doesn't, nobody does,
     /// since the locks on a record agree.
     pub fn obstacle(&self, t: &TxnId, wait: &Asked) -> Option<TxnId>
-        ensures none { MatchOption result ((u : TxnId) → StandsIn self.now t.now (wait_of wait.now) u → ⊥) (λ by. StandsIn self.now t.now (wait_of wait.now) by) }
-        ensures lowest { MatchOption result ⊤ (λ by. (u : TxnId) → StandsIn self.now t.now (wait_of wait.now) u → IsBelow u by → ⊥) }
+        ensures stands { MatchOption result (IsFree (StandsIn self.now) t.now (wait_of wait.now)) (StandsIn self.now t.now (wait_of wait.now)) }
+        ensures lowest { IfSome result (λ by. (u : TxnId) → StandsIn self.now t.now (wait_of wait.now) u → IsBelow u by → ⊥) }
     {
         let other = self.holder(&wait.rid, t)?;
         if self.stands(t, wait, &other) {
@@ -102,7 +91,7 @@ impl Locks {
 
     /// Gives the lock, or raises one that is there. After `Memory` the locks are as before.
     pub fn put(&mut self, t: &TxnId, wait: &Asked) -> Result<(), Memory>
-        requires free { (u : TxnId) → StandsIn self.old t.now (wait_of wait.now) u → ⊥ }
+        requires free { IsFree (StandsIn self.old) t.now (wait_of wait.now) }
         ensures put { OnOk result ((u : TxnId) (q : Rid) → held_in self.new u q ≡ cond (same_txn t.now u && same_rid wait.now.rid q)
             (Some (raised (held_in self.old t.now wait.now.rid) wait.now.mode)) (held_in self.old u q)) }
         ensures agree { Agree self.new }
@@ -119,6 +108,20 @@ impl Locks {
     {
         if let Some(rids) = self.index.remove(t) {
             release_each(&mut self.records, t, &rids);
+        }
+    }
+}
+
+impl Standing for Locks {
+    ghost stands = { StandsIn };
+
+    fn stands(&self, t: &TxnId, wait: &Asked, u: &TxnId) -> bool {
+        if t == u {
+            return false;
+        }
+        match self.mode_of(u, &wait.rid) {
+            Some(mode) => clashes(wait.mode, mode),
+            None => false,
         }
     }
 }

@@ -5,27 +5,36 @@ ghost use Rattle.std.specs.List.{Contains};
 ghost use Rattle.std.specs.BTreeMap.{keys};
 ghost use Rattle.sd_base.specs.declared.ids.TxnId.{TxnId};
 ghost use Rattle.sd_base.specs.Ids.{IsBelow};
-ghost use Rattle.sd_base.specs.Waits.{asking, IsCycle};
+ghost use Rattle.sd_base.specs.Waits.{Wait, asking};
 ghost use Rattle.sd_reclock.specs.Locks.{wait_of};
 ghost use Rattle.sd_reclock.specs.Reaching.{AreLevels, IsAt, IsLowestTail, IsParted, Leads};
-ghost use Rattle.sd_reclock.specs.Searching.{steps_of, stands_of, waits_of, IsClosedBy};
+ghost use Rattle.sd_reclock.specs.Searching.{steps_of, waits_of, ClosesFirst, ClosesNone};
 
-use crate::locks::Locks;
 use crate::wait::Asked;
 use sd_base::{Cycle, Memory, TxnId};
 use std::alloc::Global;
 use std::collections::BTreeMap;
 
-/// The locks and the waits as they are while a transaction asks for a lock.
+/// Who stands in whose way. A table of locks says it, or any other keeper of locks.
+pub trait Standing {
+    ghost stands: { Self → TxnId → Wait → TxnId → Type 0 };
+
+    /// Whether the last one stands in the way of the first, which would wait so.
+    fn stands(&self, t: &TxnId, wait: &Asked, u: &TxnId) -> bool
+        ensures { IsTrue result ↔ stands self.now t.now (wait_of wait.now) u.now };
+}
+
+/// The locks and the waits as they are while a transaction asks for a lock. A wait of the asker that the
+/// waits have counts for nothing.
 #[derive(Clone, Copy, Debug)]
-pub struct Asking<'a> {
-    pub locks: &'a Locks,
+pub struct Asking<'a, L: Standing> {
+    pub locks: &'a L,
     pub waits: &'a BTreeMap<TxnId, Asked>,
     pub asker: TxnId,
     pub wait: Asked,
 }
 
-impl Asking<'_> {
+impl<L: Standing> Asking<'_, L> {
     // What a transaction waits for: the asker for what it asks, the others as the table has it.
     fn wait_of(&self, t: &TxnId) -> Option<Asked>
         ensures { option_map wait_of result ≡ asking self.now.asker (wait_of self.now.wait) (waits_of self.now) t.now }
@@ -39,7 +48,7 @@ impl Asking<'_> {
 
     // Whether the first waits for the second.
     fn steps(&self, t: &TxnId, u: &TxnId) -> bool
-        ensures { IsTrue result ↔ steps_of self.now t.now u.now }
+        ensures { IsTrue result ↔ steps_of L.stands self.now t.now u.now }
     {
         match self.wait_of(t) {
             Some(wait) => self.locks.stands(t, &wait, u),
@@ -56,7 +65,7 @@ impl Asking<'_> {
 
     // All that wait, with the asker.
     fn waiting(&self, alloc: Global) -> Result<Vec<TxnId>, Memory>
-        ensures { IfOk result (λ all. (t u : TxnId) → steps_of self.now t u → Contains all.items t) }
+        ensures { IfOk result (λ all. (t u : TxnId) → steps_of L.stands self.now t u → Contains all.items t) }
     {
         let mut all = self.blocked(alloc)?;
         all.push(self.asker)?;
@@ -65,7 +74,7 @@ impl Asking<'_> {
 
     // Whether a step leads from this one to one of the goals.
     fn leads(&self, t: &TxnId, goals: &[TxnId]) -> bool
-        ensures { IsTrue result ↔ Leads (steps_of self.now) goals.now t.now }
+        ensures { IsTrue result ↔ Leads (steps_of L.stands self.now) goals.now t.now }
     {
         for goal in goals {
             if self.steps(t, goal) {
@@ -82,7 +91,7 @@ impl Asking<'_> {
         rest: &[TxnId],
         goals: &[TxnId],
     ) -> Result<(Vec<TxnId>, Vec<TxnId>), Memory>
-        ensures { IfOk result (λ parts. IsParted (steps_of self.now) goals.now rest.now parts.0.items parts.1.items) }
+        ensures { IfOk result (λ parts. IsParted (steps_of L.stands self.now) goals.now rest.now parts.0.items parts.1.items) }
     {
         let mut near = Vec::new(alloc);
         let mut far = Vec::new(alloc);
@@ -98,9 +107,9 @@ impl Asking<'_> {
 
     // The lowest of the level that this one waits for.
     fn lowest(&self, t: &TxnId, level: &[TxnId]) -> Option<TxnId>
-        ensures some { Leads (steps_of self.now) level.now t.now → IsSome result }
-        ensures there { IfSome result (λ u. Contains level.now u × steps_of self.now t.now u) }
-        ensures lowest { IfSome result (λ u. (v : TxnId) → Contains level.now v → steps_of self.now t.now v → IsBelow v u → ⊥) }
+        ensures some { Leads (steps_of L.stands self.now) level.now t.now → IsSome result }
+        ensures there { IfSome result (λ u. Contains level.now u × steps_of L.stands self.now t.now u) }
+        ensures lowest { IfSome result (λ u. (v : TxnId) → Contains level.now v → steps_of L.stands self.now t.now v → IsBelow v u → ⊥) }
     {
         let mut lowest: Option<TxnId> = None;
         for u in level {
@@ -113,10 +122,10 @@ impl Asking<'_> {
 
     // Goes down the levels from the asker, each time to the lowest that the last one waits for.
     fn walk(&self, alloc: Global, mut levels: Vec<Vec<TxnId>>) -> Result<Vec<TxnId>, Memory>
-        requires levels { AreLevels (steps_of self.now) self.now.asker levels.items }
-        requires start { IsAt (steps_of self.now) self.now.asker (length levels.items) self.now.asker }
+        requires levels { AreLevels (steps_of L.stands self.now) self.now.asker levels.items }
+        requires start { IsAt (steps_of L.stands self.now) self.now.asker (length levels.items) self.now.asker }
         ensures { IfOk result (λ path. (tail : List TxnId) × (path.items ≡ self.now.asker ∷ tail)
-            × IsLowestTail (steps_of self.now) self.now.asker self.now.asker tail × (length tail ≡ length levels.items)) }
+            × IsLowestTail (steps_of L.stands self.now) self.now.asker self.now.asker tail × (length tail ≡ length levels.items)) }
     {
         let mut at = same(&self.asker);
         let mut path = Vec::new(alloc);
@@ -134,9 +143,8 @@ impl Asking<'_> {
     ///
     /// Level by level, it finds from which of the waiting ones the asker is reached in so many steps.
     pub fn cycle(&self, alloc: Global) -> Result<Option<Cycle>, Memory>
-        ensures none { IfOk result (λ found. IfNone found ((cycle : List TxnId) → IsCycle (stands_of self.now)
-            (asking self.now.asker (wait_of self.now.wait) (waits_of self.now)) self.now.asker cycle → ⊥)) }
-        ensures found { IfOk result (λ found. IfSome found (IsClosedBy self.now)) }
+        ensures none { IfOk result (λ found. IfNone found (ClosesNone L.stands self.now)) }
+        ensures found { IfOk result (λ found. IfSome found (ClosesFirst L.stands self.now)) }
     {
         let mut levels = Vec::new(alloc);
         let mut goals = Vec::new(alloc);

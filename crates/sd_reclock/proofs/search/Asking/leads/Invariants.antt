@@ -5,4 +5,4 @@ use Rattle.sd_reclock.specs.Searching.{steps_of}
 use Rattle.sd_reclock.proofs.search.Asking.leads.Given as goal
 
 abbrev pub invariant-loop-goal : goal.invariant-loop-goal
-invariant-loop-goal l = All (λ (v : TxnId). steps_of l.self l.t v → ⊥) (take l.goal-index l.goals)
+invariant-loop-goal g l = All (λ (v : TxnId). steps_of g.L.Standing.stands l.self l.t v → ⊥) (take l.goal-index l.goals)

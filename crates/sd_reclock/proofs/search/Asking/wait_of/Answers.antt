@@ -10,9 +10,9 @@ use Rattle.sd_reclock.proofs.search.Asking.wait_of.Goals as goal
 
 pub returns-then-eq : goal.returns-then-eq
 unfolding same_txn
-returns-then-eq c = sym (cond-true (same_txn c.args.self.now.asker c.args.t.now) (Some (wait_of c.args.self.now.wait)) (waits_of c.args.self.now c.args.t.now) (sym c.if-eq.ensures))
+returns-then-eq g c = sym (cond-true (same_txn c.args.self.now.asker c.args.t.now) (Some (wait_of c.args.self.now.wait)) (waits_of c.args.self.now c.args.t.now) (sym c.if-eq.ensures))
 
 pub returns-else-eq : goal.returns-else-eq
 unfolding same_txn
-returns-else-eq c = ap (λ (o : Option Asked). option_map wait_of o) (c.copied.ensures ∙ c.get.ensures.value ∙ look-txn c.args.t.now c.args.self.now.waits.now.entries)
+returns-else-eq g c = ap (λ (o : Option Asked). option_map wait_of o) (c.copied.ensures ∙ c.get.ensures.value ∙ look-txn c.args.t.now c.args.self.now.waits.now.entries)
     ∙ sym (cond-false (same_txn c.args.self.now.asker c.args.t.now) (Some (wait_of c.args.self.now.wait)) (waits_of c.args.self.now c.args.t.now) (sym c.if-eq.ensures))

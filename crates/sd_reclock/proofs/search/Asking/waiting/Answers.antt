@@ -5,4 +5,4 @@ use Rattle.sd_reclock.proofs.Waiting.{steps_wait}
 use Rattle.sd_reclock.proofs.search.Asking.waiting.Goals as goal
 
 pub returns : goal.returns
-returns c = λ t u step. subst (λ (xs : List TxnId). Contains xs t) (sym c.in_ok-push.ensures.items) (steps_wait c.args.self.now c.in_ok-all.all.items c.in_ok-all.ensures t u step)
+returns g c = λ t u step. subst (λ (xs : List TxnId). Contains xs t) (sym c.in_ok-push.ensures.items) (steps_wait g.L.Standing.stands c.args.self.now c.in_ok-all.all.items c.in_ok-all.ensures t u step)
