@@ -1,15 +1,12 @@
 -- Causes are told apart by their numbers, and the first that applies. It serves the goals of step.rt.
 use Rattle.std.proofs.Common.{◌≡◌, ℕ, Bool, true, false, true≢false, cond, eqb, List, [], ◌∷◌, get_or, refl, sym, ap, ◌∙◌, subst, eqb-true, eq-eqb, Option, None, Some, MatchOption}
-use Rattle.sd_base.specs.declared.refusal.Refusal.{Refusal}
-use Rattle.sd_base.specs.declared.refusal.Refusal.TheVariants as R
 use Rattle.sd_model.specs.declared.cause.Cause.{Cause}
 use Rattle.sd_model.specs.declared.cause.Cause.TheVariants.{Shut, NoTxn, Down, Busy, Long, Lock, SlotLock, Lost, Away, Full, NoRecord, NotNumber, Digits, Over, Log, Lsn, TooMany, Begins, NoMark, Frame, Moving, Asks, Dirty, Check, NotDown, NotRecovered, Rig, Cut}
 use Rattle.sd_model.specs.declared.event.Event.{Event}
 use Rattle.sd_model.specs.State.{State}
 use Rattle.sd_model.specs.Causes.{number, has}
 use Rattle.sd_model.specs.Applies.{First}
-use Rattle.sd_model.specs.Refusing.{causes_of}
-use Rattle.sd_oracle.specs.Judging.{IsPlainRefusal, IsPlainCause, IsFirstOf, NoneFirst}
+use Rattle.sd_oracle.specs.Judging.{IsFirstOf, NoneFirst}
 
 all : List Cause
 all = Shut ∷ NoTxn ∷ Down ∷ Busy ∷ Long ∷ Lock ∷ SlotLock ∷ Lost ∷ Away ∷ Full ∷ NoRecord ∷ NotNumber ∷ Digits ∷ Over ∷ Log ∷ Lsn ∷ TooMany ∷ Begins ∷ NoMark ∷ Frame ∷ Moving ∷ Asks ∷ Dirty ∷ Check ∷ NotDown ∷ NotRecovered ∷ Rig ∷ Cut ∷ []
@@ -45,10 +42,10 @@ at_number NotRecovered = refl
 at_number Rig = refl
 at_number Cut = refl
 
-same_number : (c d : Cause) → eqb (number c) (number d) ≡ true → c ≡ d
+pub same_number : (c d : Cause) → eqb (number c) (number d) ≡ true → c ≡ d
 same_number c d e = sym (at_number c) ∙ (ap (λ (n : ℕ). get_or all n Shut) (eqb-true (number c) (number d) e) ∙ at_number d)
 
-off : {A : Type 0} → false ≡ true → A
+pub off : {A : Type 0} → false ≡ true → A
 off e = absurd (true≢false (sym e))
 
 pub first-here : (m : State) (e : Event) (c : Cause) (cs : List Cause) → First m e c → IsFirstOf m e c (c ∷ cs)
@@ -70,20 +67,6 @@ none-first m e d cs never rest c h = go (eqb (number c) (number d)) refl h.0
 
 pub none-none : (m : State) (e : Event) → NoneFirst m e []
 none-none m e c h = off h.0
-
-no_rig : (n : Refusal) → IsPlainRefusal n → has Rig (causes_of n) ≡ true → ⊥
-no_rig R.Failed p h = p
-no_rig n p h = off h
-
-no_cut : (n : Refusal) → IsPlainRefusal n → has Cut (causes_of n) ≡ true → ⊥
-no_cut R.CutCommit p h = p
-no_cut n p h = off h
-
--- a plain refusal has plain causes
-pub plain-cause : (n : Refusal) (c : Cause) → IsPlainRefusal n → has c (causes_of n) ≡ true → IsPlainCause c
-plain-cause n Rig p h = no_rig n p h
-plain-cause n Cut p h = no_cut n p h
-plain-cause n c p h = tt
 
 pub first-more : (r : Option Cause) (m : State) (e : Event) (d : Cause) (cs : List Cause) → (First m e d → ⊥) → MatchOption r (NoneFirst m e cs) (λ c. IsFirstOf m e c cs) → MatchOption r (NoneFirst m e (d ∷ cs)) (λ c. IsFirstOf m e c (d ∷ cs))
 first-more None m e d cs never h = none-first m e d cs never h

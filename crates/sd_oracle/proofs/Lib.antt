@@ -4,3 +4,6 @@ pub mod Search
 pub mod Parts
 pub mod RowsWhole
 pub mod Firsts
+pub mod Wholes
+pub mod Outcomes
+pub mod Lowering

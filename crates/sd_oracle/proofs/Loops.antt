@@ -1,12 +1,12 @@
 -- Loops over lists of changes. It serves the goals of standing.rt and serial_table.rt.
-use Rattle.std.proofs.Common.{◌≡◌, ℕ, suc, ◌+◌, ◌<◌, Bool, true, false, cond, eqb, ◌&&◌, List, [], ◌∷◌, length, drop, get_or, refl, sym, ap, ◌∙◌, add-one, drop-cons, Option, Some}
+use Rattle.std.proofs.Common.{◌≡◌, ℕ, suc, ◌+◌, ◌<◌, Bool, true, false, cond, eqb, ◌&&◌, List, [], ◌∷◌, ◌++◌, length, drop, get_or, refl, sym, ap, ◌∙◌, add-one, drop-cons, append_assoc, Option, Some}
 use Rattle.std.specs.Cmp.Lexicographic.{pointwise}
 use Rattle.sd_base.specs.declared.ids.TxnId.{TxnId}
 use Rattle.sd_base.specs.declared.ids.Rid.{Rid}
 use Rattle.sd_base.specs.Ids.{same_txn, same_rid}
 use Rattle.sd_model.specs.Words.{same_word}
 use Rattle.sd_model.specs.Tables.{Content, contents}
-use Rattle.sd_model.specs.Changes.{mark_of}
+use Rattle.sd_model.specs.Changes.{mark_of, with_mark}
 
 pub drop-next : {A : Type 0} (xs : List A) (k : ℕ) (x : A) → k < length xs → x ≡ get_or xs k x → drop k xs ≡ x ∷ drop (k + 1) xs
 drop-next xs k x lt is = drop-cons xs k x lt ∙ (ap (λ y. y ∷ drop (suc k) xs) (sym is) ∙ ap (λ n. x ∷ drop n xs) (sym (add-one k)))
@@ -56,3 +56,24 @@ row-here r xs n x lt is same e = sym (ap (λ l. contents l r) (drop-next xs n x 
 
 pub row-next : (r : Rid) (xs : List (Rid × List ℕ)) (n : ℕ) (x : Rid × List ℕ) → n < length xs → x ≡ get_or xs n x → same_rid r x.0 ≡ false → contents (drop n xs) r ≡ contents xs r → contents (drop (n + 1) xs) r ≡ contents xs r
 row-next r xs n x lt is same e = sym (ap (λ l. contents l r) (drop-next xs n x lt is) ∙ row-step r x (drop (n + 1) xs) false same) ∙ e
+
+-- a mark is set: the first of its name is replaced, and the others stay
+pub set-later : {A : Type 0} (xs whole all new : List A) (i : ℕ) (x y : A) → i < length xs → x ≡ get_or xs i x → new ≡ all ++ y ∷ [] → y ≡ x → whole ≡ all ++ drop i xs → whole ≡ new ++ drop (i + 1) xs
+set-later xs whole all new i x y lt is e same inv = inv ∙ (ap (λ l. all ++ l) (drop-next xs i x lt is ∙ ap (λ z. z ∷ drop (i + 1) xs) (sym same)) ∙ (sym (append_assoc all (y ∷ []) (drop (i + 1) xs)) ∙ ap (λ l. l ++ drop (i + 1) xs) (sym e)))
+
+set-word : (k : List ℕ) (n : ℕ) (x : List ℕ × ℕ) (xs : List (List ℕ × ℕ)) (b : Bool) → same_word k x.0 ≡ b → with_mark k n (x ∷ xs) ≡ cond {A = List (List ℕ × ℕ)} b ((k, n) ∷ xs) (x ∷ with_mark k n xs)
+set-word k n x xs b e = ap (λ t. cond {A = List (List ℕ × ℕ)} t ((k, n) ∷ xs) (x ∷ with_mark k n xs)) e
+
+pub set-here : (k : List ℕ) (n : ℕ) (xs whole all new : List (List ℕ × ℕ)) (i : ℕ) (x y : List ℕ × ℕ) → i < length xs → x ≡ get_or xs i x → same_word k x.0 ≡ true → new ≡ all ++ y ∷ [] → y ≡ (k, n) → whole ≡ all ++ with_mark k n (drop i xs) → whole ≡ new ++ drop (i + 1) xs
+set-here k n xs whole all new i x y lt is word e same inv =
+    inv ∙ (ap (λ l. all ++ l) (ap (with_mark k n) (drop-next xs i x lt is) ∙ (set-word k n x (drop (i + 1) xs) true word ∙ ap (λ z. z ∷ drop (i + 1) xs) (sym same))) ∙ (sym (append_assoc all (y ∷ []) (drop (i + 1) xs)) ∙ ap (λ l. l ++ drop (i + 1) xs) (sym e)))
+
+pub set-next : (k : List ℕ) (n : ℕ) (xs whole all new : List (List ℕ × ℕ)) (i : ℕ) (x y : List ℕ × ℕ) → i < length xs → x ≡ get_or xs i x → same_word k x.0 ≡ false → new ≡ all ++ y ∷ [] → y ≡ x → whole ≡ all ++ with_mark k n (drop i xs) → whole ≡ new ++ with_mark k n (drop (i + 1) xs)
+set-next k n xs whole all new i x y lt is word e same inv =
+    inv ∙ (ap (λ l. all ++ l) (ap (with_mark k n) (drop-next xs i x lt is) ∙ (set-word k n x (drop (i + 1) xs) false word ∙ ap (λ z. z ∷ with_mark k n (drop (i + 1) xs)) (sym same))) ∙ (sym (append_assoc all (y ∷ []) (with_mark k n (drop (i + 1) xs))) ∙ ap (λ l. l ++ with_mark k n (drop (i + 1) xs)) (sym e)))
+
+pub set-joined : {A : Type 0} (whole new all rest more : List A) (b t : Bool) → all ≡ new → b ≡ t → whole ≡ new ++ cond {A = List A} t rest more → whole ≡ all ++ cond {A = List A} b rest more
+set-joined {A} whole new all rest more b t e f h = h ∙ (ap (λ l. l ++ cond {A = List A} t rest more) (sym e) ∙ ap (λ c. all ++ cond {A = List A} c rest more) (sym f))
+
+pub word-is : (k j a b : List ℕ) (t u : Bool) → a ≡ k → b ≡ j → t ≡ pointwise eqb a b → t ≡ u → same_word k j ≡ u
+word-is k j a b t u ea eb e f = ap (λ l. same_word l j) (sym ea) ∙ (ap (same_word a) (sym eb) ∙ (sym (word-test a b) ∙ (sym e ∙ f)))

@@ -1,101 +1,98 @@
--- What the plain program judges, and what its verdict says.
-use Rattle.std.specs.Prelude.{◌≡◌, ◌⊎◌, ℕ, Bool, true, false, List, Some}
+-- What the verdict of the plain program says.
+use Rattle.std.specs.Prelude.{◌≡◌, ℕ, ◌<◌, Bool, true, false, List, Some}
 use Rattle.sd_base.specs.declared.ids.TxnId.{TxnId}
 use Rattle.sd_base.specs.declared.ids.Rid.{Rid}
-use Rattle.sd_base.specs.declared.refusal.Refusal.{Refusal}
-use Rattle.sd_base.specs.declared.refusal.Refusal.TheVariants as R
 use Rattle.sd_model.specs.declared.cause.Cause.{Cause}
 use Rattle.sd_model.specs.declared.event.Event.{Event}
-use Rattle.sd_model.specs.declared.event.Event.TheVariants.{Begin, Read, Write, Add, Insert, Delete, Commit, List as Listing, Join, RecoverBegin, Ask, Give, Take, Evict, Flush, Force, CheckBegin, CheckEnd, Show, Arm}
+use Rattle.sd_model.specs.declared.event.Event.TheVariants.{Begin, Read, Write, Add, Insert, Delete, Save, Back, Undo, Commit, List as Listing, Fail, FailAll, RecoverBegin, RecoverStep, Join, Reopen}
 use Rattle.sd_model.specs.declared.event.Reply.{Reply}
 use Rattle.sd_model.specs.declared.event.Reply.TheVariants.{Refused}
-use Rattle.sd_oracle.specs.declared.verdict.Verdict.{Verdict}
-use Rattle.sd_oracle.specs.declared.verdict.Verdict.TheVariants.{Follows, Differs, Unjudged}
 use Rattle.sd_model.specs.Tables.{Content}
+use Rattle.sd_model.specs.Fields.{txn_of}
 use Rattle.sd_model.specs.State.{State, view, wrote}
 use Rattle.sd_model.specs.Causes.{has, before}
 use Rattle.sd_model.specs.Applies.{PassesAll, Says, First}
+use Rattle.sd_model.specs.Refusing.{Refuses, counted}
 use Rattle.sd_model.specs.Step.{Runs, Row, Step}
+use Rattle.sd_oracle.specs.declared.outcome.Outcome.{Outcome}
+use Rattle.sd_oracle.specs.declared.verdict.Verdict.{Verdict}
+use Rattle.sd_oracle.specs.declared.verdict.Verdict.TheVariants.{Follows, Differs, Unjudged}
+use Rattle.sd_oracle.specs.Outcomes.{Falls, fallen, Told}
 
 -- an event that needs no sum
 abbrev pub IsPlain : Event → Type 0
 IsPlain (Add t r by) = ⊥
 IsPlain e = Unit {0}
 
--- a refusal that leaves no choice of who falls
-abbrev pub IsPlainRefusal : Refusal → Type 0
-IsPlainRefusal R.Failed = ⊥
-IsPlainRefusal R.CutCommit = ⊥
-IsPlainRefusal n = Unit {0}
+-- the count of joins that failed has room for one more
+abbrev pub IsCountable : State → Event → Type 0
+IsCountable m (Join i) = (m.inst i).failed < 18446744073709551615
+IsCountable m e = Unit {0}
 
--- a cause that leaves no choice of who falls
-abbrev pub IsPlainCause : Cause → Type 0
-IsPlainCause Cause.Rig = ⊥
-IsPlainCause Cause.Cut = ⊥
-IsPlainCause c = Unit {0}
+-- an event whose replies are judged
+abbrev pub IsJudged : State → Event → Type 0
+IsJudged m (Add t r by) = ⊥
+IsJudged m e = IsCountable m e
 
--- the cause is one of these, and the first that applies
-abbrev pub IsFirstOf : State → Event → Cause → List Cause → Type 0
-IsFirstOf m e c causes = (has c causes ≡ true) × First m e c
+-- no state follows that is told so
+abbrev pub NoStep : Outcome → State → Event → Reply → Type 0
+NoStep o m e reply = (m' : State) → Step m e reply m' → Told o m e reply m' → ⊥
 
--- none of these causes is the first that applies
-abbrev pub NoneFirst : State → Event → List Cause → Type 0
-NoneFirst m e causes = (c : Cause) → IsFirstOf m e c causes → ⊥
+-- what a verdict says of a state, an event with its reply, what is told of the outcome, and the state after it
+abbrev pub Judges : Verdict → Outcome → State → Event → Reply → State → Type 0
+Judges Follows o m e reply m' = Step m e reply m' × Told o m e reply m'
+Judges Differs o m e reply m' = NoStep o m e reply × (m' ≡ m)
+Judges Unjudged o m e reply m' = (IsJudged m e → ⊥) × (m' ≡ m)
 
--- events of transactions whose answers are judged
+-- a reply that refuses
+abbrev pub IsRefusal : Reply → Type 0
+IsRefusal (Refused n) = Unit {0}
+IsRefusal reply = ⊥
+
+-- an answer that leaves the state open
+abbrev pub IsOpenEnded : Event → Type 0
+IsOpenEnded (RecoverStep i) = Unit {0}
+IsOpenEnded Reopen = Unit {0}
+IsOpenEnded e = ⊥
+
+-- events of records
 abbrev pub IsOfRecords : Event → Type 0
 IsOfRecords (Begin i) = Unit {0}
 IsOfRecords (Read t r) = Unit {0}
 IsOfRecords (Write t r v) = Unit {0}
+IsOfRecords (Add t r by) = Unit {0}
 IsOfRecords (Insert t p v n) = Unit {0}
 IsOfRecords (Delete t r) = Unit {0}
 IsOfRecords (Commit t) = Unit {0}
 IsOfRecords e = ⊥
 
--- events of instances and pages whose answers are judged
+-- events of rollbacks
+abbrev pub IsOfRollbacks : Event → Type 0
+IsOfRollbacks (Save t k) = Unit {0}
+IsOfRollbacks (Back t k) = Unit {0}
+IsOfRollbacks (Undo t) = Unit {0}
+IsOfRollbacks e = ⊥
+
+-- events of instances
 abbrev pub IsOfInstances : Event → Type 0
 IsOfInstances (Listing i p) = Unit {0}
 IsOfInstances (Join i) = Unit {0}
 IsOfInstances (RecoverBegin i by) = Unit {0}
+IsOfInstances (Fail i) = Unit {0}
+IsOfInstances (FailAll pick) = Unit {0}
 IsOfInstances e = ⊥
-
--- events of pages, logs and devices, which leave the state
-abbrev pub IsOfPages : Event → Type 0
-IsOfPages (Ask i p mode) = Unit {0}
-IsOfPages (Give i p) = Unit {0}
-IsOfPages (Take i p) = Unit {0}
-IsOfPages (Evict i p) = Unit {0}
-IsOfPages (Flush i p) = Unit {0}
-IsOfPages (Force i) = Unit {0}
-IsOfPages (CheckBegin i) = Unit {0}
-IsOfPages (CheckEnd i) = Unit {0}
-IsOfPages (Show p) = Unit {0}
-IsOfPages (Arm trouble) = Unit {0}
-IsOfPages e = ⊥
-
--- the answers of these events are judged
-abbrev pub IsAnswered : Event → Type 0
-IsAnswered e = IsOfRecords e ⊎ (IsOfInstances e ⊎ IsOfPages e)
-
-abbrev pub IsJudged : Event → Reply → Type 0
-IsJudged e (Refused n) = IsPlain e × IsPlainRefusal n
-IsJudged e reply = IsAnswered e
-
--- no state follows
-abbrev pub NoStep : State → Event → Reply → Type 0
-NoStep m e reply = (m' : State) → Step m e reply m' → ⊥
-
--- what a verdict says of a state, an event with its reply, and the state after it
-abbrev pub Judges : Verdict → State → Event → Reply → State → Type 0
-Judges Follows m e reply m' = Step m e reply m'
-Judges Differs m e reply m' = NoStep m e reply × (m' ≡ m)
-Judges Unjudged m e reply m' = (IsJudged e reply → ⊥) × (m' ≡ m)
 
 -- what a verdict says of an answer where nothing refuses the event
 abbrev pub JudgesRow : Verdict → State → Event → Reply → State → Type 0
 JudgesRow Follows m e reply m' = Row m e reply m'
 JudgesRow Differs m e reply m' = ((m1 : State) → Row m e reply m1 → ⊥) × (m' ≡ m)
-JudgesRow Unjudged m e reply m' = (IsAnswered e → ⊥) × (m' ≡ m)
+JudgesRow Unjudged m e reply m' = ⊥
+
+-- the same of an answer that leaves the state open
+abbrev pub JudgesTold : Verdict → Outcome → State → Event → Reply → State → Type 0
+JudgesTold Follows o m e reply m' = Row m e reply m' × Told o m e reply m'
+JudgesTold Differs o m e reply m' = ((m1 : State) → Row m e reply m1 → Told o m e reply m1 → ⊥) × (m' ≡ m)
+JudgesTold Unjudged o m e reply m' = ⊥
 
 -- whether an answer may follow where nothing refuses the event, and what it leaves
 abbrev pub Answers : Bool → State → Event → Reply → State → Type 0
@@ -110,3 +107,28 @@ Replaces false m t r w m' = ((u : List ℕ) → Runs m t → Some u ≡ view m t
 -- the cause is the first of these that applies
 abbrev pub FirstOf : State → Event → Cause → List Cause → Type 0
 FirstOf m e c causes = (has c causes ≡ true) × PassesAll m e (before c causes) × Says m e c
+
+-- the cause is one of these, and the first that applies
+abbrev pub IsFirstOf : State → Event → Cause → List Cause → Type 0
+IsFirstOf m e c causes = (has c causes ≡ true) × First m e c
+
+-- none of these causes is the first that applies
+abbrev pub NoneFirst : State → Event → List Cause → Type 0
+NoneFirst m e causes = (c : Cause) → IsFirstOf m e c causes → ⊥
+
+-- what a failure of a device leaves is what is told
+abbrev pub IsToldOf : Outcome → State → Event → Cause → State → Type 0
+IsToldOf o m e Cause.Rig m' = Falls m e o.fell × (m' ≡ fallen o.fell (counted e m))
+IsToldOf o m e c m' = Unit {0}
+
+-- why an event can't be refused for this cause, though it is the first that applies
+abbrev pub Hinders : Outcome → State → Event → Cause → Type 0
+Hinders o m e Cause.Rig = Falls m e o.fell → ⊥
+Hinders o m e Cause.Cut = Runs m (txn_of e) → ⊥
+Hinders o m e c = ⊥
+
+-- what a verdict says of a refusal for the first cause that applies
+abbrev pub JudgesCause : Verdict → Outcome → State → Event → Cause → State → Type 0
+JudgesCause Follows o m e c m' = Refuses m e c m' × IsToldOf o m e c m'
+JudgesCause Differs o m e c m' = Hinders o m e c × (m' ≡ m)
+JudgesCause Unjudged o m e c m' = (IsJudged m e → ⊥) × (m' ≡ m)

@@ -1,2 +1,4 @@
 pub mod Lists
+pub mod Wholes
+pub mod Outcomes
 pub mod Judging

@@ -2,7 +2,7 @@
 use Rattle.std.specs.Prelude.{◌≡◌, ℕ, List, [], ◌∷◌, Option, None, Some, eqb, cond}
 use Rattle.sd_base.specs.declared.ids.TxnId.{TxnId}
 use Rattle.sd_base.specs.declared.ids.Rid.{Rid}
-use Rattle.sd_base.specs.declared.place.Status.TheVariants.{Clean}
+use Rattle.sd_base.specs.declared.place.Status.{Status}
 use Rattle.sd_model.specs.declared.act.Act.{Act}
 use Rattle.sd_model.specs.declared.act.Act.TheVariants.{Read, Put, Undo}
 use Rattle.sd_model.specs.declared.act.Done.{Done}
@@ -44,12 +44,13 @@ abbrev pub inst_from : Inst → List (ℕ × Inst) → ℕ → Inst
 inst_from y [] i = y
 inst_from y (x ∷ xs) i = inst_from (cond (eqb x.0 i) x.1 y) xs i
 
--- an instance at the opening of a fresh complex
-abbrev pub unjoined : Inst
-unjoined = record { status = Clean; epoch = 0; begins = 0; failed = 0 }
+-- an instance that never joined
+abbrev pub unjoined : Status → Inst
+unjoined status = record { status = status; epoch = 0; begins = 0; failed = 0 }
 
-abbrev pub inst_in : List (ℕ × Inst) → ℕ → Inst
-inst_in xs i = inst_from unjoined xs i
+-- an instance: the last that was set, or one that never joined, with the status of the rest
+abbrev pub inst_in : Status → List (ℕ × Inst) → ℕ → Inst
+inst_in rest xs i = inst_from (unjoined rest) xs i
 
 -- what lists hold: each change of a transaction and of an instance is appended
 pub record Journal : Type 0 where
@@ -59,13 +60,15 @@ pub record Journal : Type 0 where
   pub cuts : List TxnId
   pub parts : List (TxnId × Standing)
   pub insts : List (ℕ × Inst)
+  -- the status of the instances without a change
+  pub rest : Status
 
 -- the state that a journal stands for
 abbrev pub state_of : Journal → State
-state_of j = record { start = contents j.start; done = j.done; begun = j.begun; cuts = j.cuts; part = part_in j.parts; inst = inst_in j.insts }
+state_of j = record { start = contents j.start; done = j.done; begun = j.begun; cuts = j.cuts; part = part_in j.parts; inst = inst_in j.rest j.insts }
 
 abbrev pub journal : Lists → Journal
-journal l = record { start = l.start; done = l.done.items; begun = l.begun.items; cuts = l.cuts.items; parts = l.parts.items; insts = l.insts.items }
+journal l = record { start = l.start; done = l.done.items; begun = l.begun.items; cuts = l.cuts.items; parts = l.parts.items; insts = l.insts.items; rest = l.rest }
 
 -- the state that the lists stand for
 abbrev pub meaning : Lists → State

@@ -15,10 +15,15 @@
 
 mod answering;
 mod asking;
+mod change;
+mod changing;
 mod fields;
 mod judging;
 mod listing;
 mod lists;
+mod outcome;
+mod reopening;
+mod rolling;
 mod says;
 mod serial_table;
 mod sight;
@@ -26,6 +31,7 @@ mod standing;
 mod step;
 mod verdict;
 
+pub use outcome::Outcome;
 pub use serial_table::SerialTable;
 pub use verdict::Verdict;
 

@@ -7,7 +7,7 @@ ghost use Rattle.sd_model.specs.Changes.{mark_of};
 
 use crate::sight::{committed, content, count_live, last_put};
 use crate::standing::{Standing, claim, find_mark, instance, last_standing};
-use sd_base::{Duplicate, InstNo, Memory, Rid, Sequence, TxnId};
+use sd_base::{Duplicate, InstNo, Memory, Rid, Sequence, Status, TxnId};
 use sd_model::{Act, Claim, Done, Inst, Life, Rows};
 use std::alloc::Global;
 
@@ -20,6 +20,7 @@ pub struct Lists {
     pub cuts: Vec<TxnId>,
     pub parts: Vec<(TxnId, Standing)>,
     pub insts: Vec<(InstNo, Inst)>,
+    pub rest: Status,
 }
 
 impl Lists {
@@ -34,7 +35,7 @@ impl Lists {
     pub fn inst(&self, inst: InstNo) -> Inst
         ensures { result ≡ (meaning self.now).inst inst }
     {
-        instance(&self.insts, inst)
+        instance(&self.rest, &self.insts, inst)
     }
 
     /// Where the transaction stands.

@@ -3,8 +3,9 @@
 ghost use Rattle.std.specs.Prelude.{◌≡◌, IfOk, OnErr};
 
 use crate::lists::Lists;
+use crate::outcome::Outcome;
 use crate::verdict::Verdict;
-use sd_base::Memory;
+use sd_base::{Memory, Status};
 use sd_model::{Event, Reply, Rows};
 use std::alloc::Global;
 use std::marker::Model;
@@ -40,17 +41,23 @@ impl SerialTable {
                 cuts: Vec::new(alloc),
                 parts: Vec::new(alloc),
                 insts: Vec::new(alloc),
+                rest: Status::Clean,
             },
         }
     }
 
-    /// Judges the reply to the event, and moves on where it follows. Begin, Read, Write, Insert, Delete, Commit, List,
-    /// Join, RecoverBegin and the events of pages, logs and devices are judged with each answer, and each event but Add
-    /// with each refusal but Failed and CutCommit; of the rest it says `Unjudged`. After `Memory` the state is as before.
-    pub fn step(&mut self, event: &Event, reply: &Reply) -> Result<Verdict, Memory>
-        ensures judged { IfOk result (λ v. Judges v (state_of self.old) event.now reply.now (state_of self.new)) }
+    /// Judges the reply to the event, with what is told of its outcome, and moves on where it follows. A reply that
+    /// leaves several states open is judged with the one that is told: who fell at `Failed`, who was found committed at
+    /// the end of a recovery. After `Memory` the state is as before.
+    pub fn step(
+        &mut self,
+        event: &Event,
+        reply: &Reply,
+        outcome: &Outcome,
+    ) -> Result<Verdict, Memory>
+        ensures judged { IfOk result (λ v. Judges v outcome.now (state_of self.old) event.now reply.now (state_of self.new)) }
         ensures same { OnErr result (state_of self.new ≡ state_of self.old) }
     {
-        self.lists.judge(event, reply)
+        self.lists.judge(event, reply, outcome)
     }
 }

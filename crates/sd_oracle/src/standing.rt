@@ -1,11 +1,14 @@
 //! What a transaction is at one moment, and look-ups in lists of changes.
 
-ghost use Rattle.std.specs.Prelude.{◌≡◌, ◌++◌, ◌∷◌, [], IfOk, option_copied};
-ghost use Rattle.sd_model.specs.State.{gone, started, took_part, with_life};
+ghost use Rattle.std.specs.Prelude.{◌≡◌, ◌++◌, ◌∷◌, [], IfOk, option_copied, filter};
+ghost use Rattle.std.specs.Prelude.{leb, ℕ, List};
+ghost use Rattle.sd_model.specs.State.{gone, started, took_part, with_life, lost_part};
 ghost use Rattle.sd_model.specs.Claims.{raised};
-ghost use Rattle.sd_model.specs.Changes.{mark_of};
+ghost use Rattle.sd_model.specs.Changes.{mark_of, with_mark, swept_part, undid_part};
 ghost use Rattle.sd_oracle.specs.Lists.{part_of, part_at, part_in, claims_in, inst_in};
 
+use crate::change::{is_swept, lost};
+use crate::sight::count_live;
 use sd_base::{Duplicate, InstNo, Memory, Rid, Sequence, Status, TxnId, Word};
 use sd_model::{Act, Claim, Inst, Life};
 use std::alloc::Global;
@@ -43,6 +46,54 @@ impl Standing {
             marks: Sequence::of(Vec::new(alloc)),
             claims: Sequence::of(Vec::new(alloc)),
         }
+    }
+
+    /// An equal one.
+    pub fn copied(&self, alloc: Global) -> Result<Standing, Memory>
+        ensures { IfOk result (λ s. part_of s ≡ part_of self.now) }
+    {
+        Ok(Standing {
+            life: self.life,
+            acts: self.acts.copy()?,
+            marks: copy_marks(alloc, self.marks.items())?,
+            claims: copy_claims(alloc, self.claims.items())?,
+        })
+    }
+
+    /// The same where its instance fails.
+    pub fn lost(&self, alloc: Global) -> Result<Standing, Memory>
+        ensures { IfOk result (λ s. part_of s ≡ lost_part (part_of self.now)) }
+    {
+        let claims = copy_claims(alloc, self.claims.items())?;
+        Ok(Standing {
+            life: lost(self.life),
+            acts: self.acts.copy()?,
+            marks: Sequence::of(Vec::new(alloc)),
+            claims,
+        })
+    }
+
+    /// What is left of it once its instance is recovered.
+    pub fn swept(&self, alloc: Global) -> Result<Standing, Memory>
+        ensures { IfOk result (λ s. part_of s ≡ swept_part (part_of self.now)) }
+    {
+        if is_swept(self.life) {
+            return Ok(Standing::gone(alloc));
+        }
+        self.copied(alloc)
+    }
+
+    /// The same with its last live put undone.
+    pub fn undid(&self, alloc: Global) -> Result<Standing, Memory>
+        ensures { IfOk result (λ s. part_of s ≡ undid_part (part_of self.now)) }
+    {
+        let left = count_live(self.acts.items()).saturating_sub(1);
+        Ok(Standing {
+            life: self.life,
+            acts: longer(alloc, self.acts.items(), &[Act::Undo])?,
+            marks: lasting(alloc, self.marks.items(), left)?,
+            claims: copy_claims(alloc, self.claims.items())?,
+        })
     }
 
     /// The same with a claim and acts more.
@@ -88,6 +139,54 @@ fn copy_marks(alloc: Global, marks: &[(Word, usize)]) -> Result<Sequence<(Word, 
     Ok(Sequence::of(all))
 }
 
+/// The marks with one more, in place of the first of its name.
+pub fn with_mark(
+    alloc: Global,
+    marks: &[(Word, usize)],
+    name: &Word,
+    count: usize,
+) -> Result<Sequence<(Word, usize)>, Memory>
+    ensures { IfOk result (λ s. s ≡ with_mark name.now count marks.now) }
+{
+    let mut all = Vec::with_capacity(alloc, marks.len())?;
+    let mut found = false;
+    for mark in marks {
+        if !found && name.items() == mark.0.items() {
+            all.push((name.copy()?, count))?;
+            found = true;
+        } else {
+            all.push((mark.0.copy()?, mark.1))?;
+        }
+    }
+    if !found {
+        all.push((name.copy()?, count))?;
+    }
+    Ok(Sequence::of(all))
+}
+
+// The marks with at most so many live puts.
+fn lasting(
+    alloc: Global,
+    marks: &[(Word, usize)],
+    count: usize,
+) -> Result<Sequence<(Word, usize)>, Memory>
+    ensures { IfOk result (λ s. s ≡ filter (λ (x : List ℕ × ℕ). leb x.1 count) marks.now) }
+{
+    let mut all = Vec::with_capacity(alloc, marks.len())?;
+    for mark in marks {
+        if mark.1 <= count {
+            all.push((mark.0.copy()?, mark.1))?;
+        }
+    }
+    Ok(Sequence::of(all))
+}
+
+fn copy_claims(alloc: Global, claims: &[(Rid, Claim)]) -> Result<Sequence<(Rid, Claim)>, Memory>
+    ensures { IfOk result (λ s. s ≡ claims.now) }
+{
+    Ok(Sequence::of(claims.to_vec(alloc)?))
+}
+
 // The claims, and one more.
 fn claimed(
     alloc: Global,
@@ -131,12 +230,12 @@ pub fn claim(claims: &[(Rid, Claim)], rid: &Rid) -> Claim
     found
 }
 
-/// The last of the changes of the instance.
-pub fn instance(insts: &[(InstNo, Inst)], inst: InstNo) -> Inst
-    ensures { result ≡ inst_in insts.now inst }
+/// The last of the changes of the instance; `rest` is the status of those without a change.
+pub fn instance(rest: &Status, insts: &[(InstNo, Inst)], inst: InstNo) -> Inst
+    ensures { result ≡ inst_in rest.now insts.now inst }
 {
     let mut found = Inst {
-        status: Status::Clean,
+        status: *rest,
         epoch: 0,
         begins: 0,
         failed: 0,

@@ -1,52 +1,55 @@
 //! One event with its reply, judged and done.
 
 ghost use Rattle.std.specs.Prelude.{◌≡◌, ◌↔◌, IsTrue, IfOk, OnOk, OnErr, MatchOption, if◌then◌else◌};
-ghost use Rattle.sd_oracle.specs.declared.verdict.Verdict.TheVariants.{Follows, Differs};
-ghost use Rattle.sd_model.specs.Applies.{Clear};
-ghost use Rattle.sd_model.specs.Refusing.{Refuses, found};
 ghost use Rattle.sd_base.specs.declared.place.Status.TheVariants.{Recovering};
-ghost use Rattle.sd_model.specs.State.{put_inst, with_status};
-ghost use Rattle.sd_oracle.specs.Lists.{meaning};
+ghost use Rattle.sd_model.specs.declared.cause.Cause.TheVariants.{Rig};
+ghost use Rattle.sd_model.specs.declared.event.Event.TheVariants as E;
 ghost use Rattle.sd_model.specs.declared.event.Reply.TheVariants as R;
-ghost use Rattle.sd_oracle.specs.Judging.{IsPlain, IsPlainRefusal, IsPlainCause, NoneFirst, IsFirstOf, IsOfRecords, IsOfInstances, Judges, JudgesRow};
+ghost use Rattle.sd_model.specs.State.{State, put_inst, with_status};
+ghost use Rattle.sd_model.specs.Applies.{Clear};
+ghost use Rattle.sd_model.specs.Refusing.{found};
+ghost use Rattle.sd_oracle.specs.declared.verdict.Verdict.TheVariants.{Follows, Differs};
+ghost use Rattle.sd_oracle.specs.Lists.{meaning};
+ghost use Rattle.sd_oracle.specs.Judging.{IsPlain, IsRefusal, IsOpenEnded, NoneFirst, IsFirstOf, IsOfRecords, IsOfRollbacks, IsOfInstances, Judges, JudgesRow, JudgesTold, JudgesCause};
 
 use crate::answering::{owned, read_alone};
 use crate::fields::{rid_of, txn_of};
 use crate::lists::Lists;
+use crate::outcome::Outcome;
 use crate::verdict::Verdict;
 use sd_base::{Duplicate, InstNo, Memory, Refusal, Status};
 use sd_model::{Cause, Claim, Event, Reply, causes_of, order};
 
 impl Lists {
-    /// Judges the reply, and does the event where the reply follows. After `Memory` nothing is changed.
-    pub fn judge(&mut self, event: &Event, reply: &Reply) -> Result<Verdict, Memory>
-        ensures judged { IfOk result (λ v. Judges v (meaning self.old) event.now reply.now (meaning self.new)) }
+    /// Judges the reply with what is told of the outcome, and does the event where it follows. After `Memory` nothing is
+    /// changed.
+    pub fn judge(
+        &mut self,
+        event: &Event,
+        reply: &Reply,
+        outcome: &Outcome,
+    ) -> Result<Verdict, Memory>
+        ensures judged { IfOk result (λ v. Judges v outcome.now (meaning self.old) event.now reply.now (meaning self.new)) }
         ensures same { OnErr result (meaning self.new ≡ meaning self.old) }
     {
+        if !is_plain(event) {
+            return Ok(Verdict::Unjudged);
+        }
         match reply {
-            Reply::Refused(refusal) => {
-                if !is_plain(event) || !is_plain_refusal(refusal) {
-                    return Ok(Verdict::Unjudged);
-                }
-                self.refuse(event, refusal)
-            }
-            other => {
-                if !is_plain(event) {
-                    return Ok(Verdict::Unjudged);
-                }
-                if !self.passes_all(event, order(event)) {
-                    return Ok(Verdict::Differs);
-                }
-                self.answer(event, other)
-            }
+            Reply::Refused(refusal) => self.refuse(event, refusal, outcome),
+            other => self.accept(event, other, outcome),
         }
     }
 
-    // A refusal of a plain event: it is the first that applies, with the arguments that the state decides.
-    fn refuse(&mut self, event: &Event, refusal: &Refusal) -> Result<Verdict, Memory>
+    // A refusal: it is the first that applies, with the arguments that the state decides.
+    fn refuse(
+        &mut self,
+        event: &Event,
+        refusal: &Refusal,
+        outcome: &Outcome,
+    ) -> Result<Verdict, Memory>
         requires event { IsPlain event.now }
-        requires refusal { IsPlainRefusal refusal.now }
-        ensures judged { IfOk result (λ v. Judges v (meaning self.old) event.now (R.Refused refusal.now) (meaning self.new)) }
+        ensures judged { IfOk result (λ v. Judges v outcome.now (meaning self.old) event.now (R.Refused refusal.now) (meaning self.new)) }
         ensures same { OnErr result (meaning self.new ≡ meaning self.old) }
     {
         if !self.tells(event, refusal) {
@@ -54,10 +57,7 @@ impl Lists {
         }
         match self.first_of(event, causes_of(refusal)) {
             None => Ok(Verdict::Differs),
-            Some(cause) => {
-                self.suffer(event, cause)?;
-                Ok(Verdict::Follows)
-            }
+            Some(cause) => self.suffer(event, cause, outcome),
         }
     }
 
@@ -78,13 +78,24 @@ impl Lists {
     }
 
     // What a refusal for the cause leaves.
-    fn suffer(&mut self, event: &Event, cause: Cause) -> Result<(), Memory>
-        ensures refused { IfOk result (λ _. IsPlainCause cause → Refuses (meaning self.old) event.now cause (meaning self.new)) }
+    fn suffer(&mut self, event: &Event, cause: Cause, outcome: &Outcome) -> Result<Verdict, Memory>
+        ensures judged { IfOk result (λ v. JudgesCause v outcome.now (meaning self.old) event.now cause (meaning self.new)) }
         ensures same { OnErr result (meaning self.new ≡ meaning self.old) }
     {
         match cause {
-            Cause::NoRecord | Cause::NotNumber | Cause::Digits | Cause::Over => self.look(event),
-            _ => Ok(()),
+            Cause::NoRecord | Cause::NotNumber | Cause::Digits | Cause::Over => {
+                self.look(event)?;
+                Ok(Verdict::Follows)
+            }
+            Cause::Rig => self.fail(event, outcome),
+            Cause::Cut => {
+                if !self.runs(&txn_of(event)) {
+                    return Ok(Verdict::Differs);
+                }
+                self.cut(&txn_of(event))?;
+                Ok(Verdict::Follows)
+            }
+            _ => Ok(Verdict::Follows),
         }
     }
 
@@ -100,9 +111,82 @@ impl Lists {
         self.take(&txn, &rid, Claim::Excl, &acts)
     }
 
-    // An answer of an event that nothing refuses.
+    // A device failed: the instance that is told falls, or none, and a join is counted.
+    fn fail(&mut self, event: &Event, outcome: &Outcome) -> Result<Verdict, Memory>
+        ensures judged { IfOk result (λ v. JudgesCause v outcome.now (meaning self.old) event.now Rig (meaning self.new)) }
+        ensures same { OnErr result (meaning self.new ≡ meaning self.old) }
+    {
+        if !self.is_countable(event) {
+            return Ok(Verdict::Unjudged);
+        }
+        match outcome.fell {
+            None => {
+                self.count_join(event)?;
+                Ok(Verdict::Follows)
+            }
+            Some(inst) => {
+                if !self.may_fall(event, inst) {
+                    return Ok(Verdict::Differs);
+                }
+                let mut next = self.draft()?;
+                next.count_join(event)?;
+                next.fall(inst)?;
+                *self = next;
+                Ok(Verdict::Follows)
+            }
+        }
+    }
+
+    // An answer of an event that nothing refuses, if it is one.
+    fn accept(&mut self, event: &Event, reply: &Reply, outcome: &Outcome) -> Result<Verdict, Memory>
+        requires plain { IsPlain event.now }
+        requires answer { IsRefusal reply.now → ⊥ }
+        ensures judged { IfOk result (λ v. Judges v outcome.now (meaning self.old) event.now reply.now (meaning self.new)) }
+        ensures same { OnErr result (meaning self.new ≡ meaning self.old) }
+    {
+        if !self.passes_all(event, order(event)) {
+            return Ok(Verdict::Differs);
+        }
+        match event {
+            Event::Reopen => self.answer_reopening(reply, outcome),
+            Event::RecoverStep { inst } => self.answer_recovery(*inst, reply, outcome),
+            other => self.answer(other, reply),
+        }
+    }
+
+    // An answer of a step of a recovery.
+    fn answer_recovery(
+        &mut self,
+        inst: InstNo,
+        reply: &Reply,
+        outcome: &Outcome,
+    ) -> Result<Verdict, Memory>
+        ensures judged { IfOk result (λ v. JudgesTold v outcome.now (meaning self.old) (E.RecoverStep inst) reply.now (meaning self.new)) }
+        ensures same { OnErr result (meaning self.new ≡ meaning self.old) }
+    {
+        match reply {
+            Reply::Step => Ok(Verdict::Follows),
+            Reply::Finished => { Ok(verdict(self.answer_recovered(inst, outcome.found.items())?)) }
+            _ => Ok(Verdict::Differs),
+        }
+    }
+
+    // An answer of a reopening.
+    fn answer_reopening(&mut self, reply: &Reply, outcome: &Outcome) -> Result<Verdict, Memory>
+        ensures judged { IfOk result (λ v. JudgesTold v outcome.now (meaning self.old) E.Reopen reply.now (meaning self.new)) }
+        ensures same { OnErr result (meaning self.new ≡ meaning self.old) }
+    {
+        match reply {
+            Reply::Did => Ok(verdict(self.answer_reopened(outcome)?)),
+            _ => Ok(Verdict::Differs),
+        }
+    }
+
+    // An answer of an event that leaves one state.
     fn answer(&mut self, event: &Event, reply: &Reply) -> Result<Verdict, Memory>
-        requires { Clear (meaning self.old) event.now }
+        requires plain { IsPlain event.now }
+        requires clear { Clear (meaning self.old) event.now }
+        requires decided { IsOpenEnded event.now → ⊥ }
         ensures judged { IfOk result (λ v. JudgesRow v (meaning self.old) event.now reply.now (meaning self.new)) }
         ensures same { OnErr result (meaning self.new ≡ meaning self.old) }
     {
@@ -141,14 +225,42 @@ impl Lists {
                 Reply::Did => Ok(verdict(self.answer_commit(txn)?)),
                 _ => Ok(Verdict::Differs),
             },
+            other => self.answer_rollback(other, reply),
+        }
+    }
+
+    // An answer of an event of a rollback.
+    fn answer_rollback(&mut self, event: &Event, reply: &Reply) -> Result<Verdict, Memory>
+        requires clear { Clear (meaning self.old) event.now }
+        requires decided { IsOpenEnded event.now → ⊥ }
+        requires records { IsOfRecords event.now → ⊥ }
+        ensures judged { IfOk result (λ v. JudgesRow v (meaning self.old) event.now reply.now (meaning self.new)) }
+        ensures same { OnErr result (meaning self.new ≡ meaning self.old) }
+    {
+        match event {
+            Event::Save { txn, mark } => match reply {
+                Reply::Did => Ok(verdict(self.answer_save(txn, mark)?)),
+                _ => Ok(Verdict::Differs),
+            },
+            Event::Back { txn, mark } => match reply {
+                Reply::Did => Ok(verdict(self.answer_back(txn, mark)?)),
+                _ => Ok(Verdict::Differs),
+            },
+            Event::Undo { txn } => match reply {
+                Reply::Step => Ok(verdict(self.answer_undo(txn)?)),
+                Reply::Finished => Ok(verdict(self.answer_undone(txn)?)),
+                _ => Ok(Verdict::Differs),
+            },
             other => self.answer_instance(other, reply),
         }
     }
 
-    // An answer of an event of instances or pages.
+    // An answer of an event of instances.
     fn answer_instance(&mut self, event: &Event, reply: &Reply) -> Result<Verdict, Memory>
         requires clear { Clear (meaning self.old) event.now }
-        requires other { IsOfRecords event.now → ⊥ }
+        requires decided { IsOpenEnded event.now → ⊥ }
+        requires records { IsOfRecords event.now → ⊥ }
+        requires rollbacks { IsOfRollbacks event.now → ⊥ }
         ensures judged { IfOk result (λ v. JudgesRow v (meaning self.old) event.now reply.now (meaning self.new)) }
         ensures same { OnErr result (meaning self.new ≡ meaning self.old) }
     {
@@ -168,41 +280,22 @@ impl Lists {
                 }
                 _ => Ok(Verdict::Differs),
             },
-            other => self.answer_page(other, reply),
+            Event::Fail { inst } => match reply {
+                Reply::Did => {
+                    self.fall(*inst)?;
+                    Ok(Verdict::Follows)
+                }
+                _ => Ok(Verdict::Differs),
+            },
+            Event::FailAll { .. } => match reply {
+                Reply::Did => {
+                    self.close()?;
+                    Ok(Verdict::Follows)
+                }
+                _ => Ok(Verdict::Differs),
+            },
+            other => Ok(answer_page(other, reply)),
         }
-    }
-
-    // An answer of an event that leaves the state.
-    fn answer_page(&self, event: &Event, reply: &Reply) -> Result<Verdict, Memory>
-        requires records { IsOfRecords event.now → ⊥ }
-        requires instances { IsOfInstances event.now → ⊥ }
-        ensures judged { IfOk result (λ v. JudgesRow v (meaning self.now) event.now reply.now (meaning self.now)) }
-    {
-        Ok(match event {
-            Event::Ask { .. } => match reply {
-                Reply::Have | Reply::Asked { .. } => Verdict::Follows,
-                _ => Verdict::Differs,
-            },
-            Event::Give { .. } => match reply {
-                Reply::Gave { .. } => Verdict::Follows,
-                _ => Verdict::Differs,
-            },
-            Event::Show { .. } => match reply {
-                Reply::Shown { .. } => Verdict::Follows,
-                _ => Verdict::Differs,
-            },
-            Event::Take { .. }
-            | Event::Evict { .. }
-            | Event::Flush { .. }
-            | Event::Force { .. }
-            | Event::CheckBegin { .. }
-            | Event::CheckEnd { .. }
-            | Event::Arm { .. } => match reply {
-                Reply::Did => Verdict::Follows,
-                _ => Verdict::Differs,
-            },
-            _ => Verdict::Unjudged,
-        })
     }
 
     // The instance is being recovered.
@@ -213,6 +306,41 @@ impl Lists {
         let mut state = self.inst(inst);
         state.status = Status::Recovering { by };
         self.set_inst(inst, state)
+    }
+}
+
+// Whether the answer of an event that leaves the state is of its kind.
+fn answer_page(event: &Event, reply: &Reply) -> Verdict
+    requires decided { IsOpenEnded event.now → ⊥ }
+    requires records { IsOfRecords event.now → ⊥ }
+    requires rollbacks { IsOfRollbacks event.now → ⊥ }
+    requires instances { IsOfInstances event.now → ⊥ }
+    ensures judged { (m : State) → JudgesRow result m event.now reply.now m }
+{
+    match event {
+        Event::Ask { .. } => match reply {
+            Reply::Have | Reply::Asked { .. } => Verdict::Follows,
+            _ => Verdict::Differs,
+        },
+        Event::Give { .. } => match reply {
+            Reply::Gave { .. } => Verdict::Follows,
+            _ => Verdict::Differs,
+        },
+        Event::Show { .. } => match reply {
+            Reply::Shown { .. } => Verdict::Follows,
+            _ => Verdict::Differs,
+        },
+        Event::Take { .. }
+        | Event::Evict { .. }
+        | Event::Flush { .. }
+        | Event::Force { .. }
+        | Event::CheckBegin { .. }
+        | Event::CheckEnd { .. }
+        | Event::Arm { .. } => match reply {
+            Reply::Did => Verdict::Follows,
+            _ => Verdict::Differs,
+        },
+        _ => unreachable!(),
     }
 }
 
@@ -231,15 +359,6 @@ fn is_plain(event: &Event) -> bool
 {
     match event {
         Event::Add { .. } => false,
-        _ => true,
-    }
-}
-
-fn is_plain_refusal(refusal: &Refusal) -> bool
-    ensures { IsTrue result ↔ IsPlainRefusal refusal.now }
-{
-    match refusal {
-        Refusal::Failed | Refusal::CutCommit => false,
         _ => true,
     }
 }

@@ -12,52 +12,28 @@ use sd_base::{InstNo, InstSet, Mode, Place};
 pub fn is_free(place: &Place) -> bool
     ensures { result ≡ places.is_free (seen place.now) }
 {
-    match *place {
-        Place::Free => true,
-        Place::Shared { .. } => false,
-        Place::Excl { .. } => false,
-        Place::Moving { .. } => false,
-        Place::Lost => false,
-    }
+    matches!(*place, Place::Free)
 }
 
 /// Whether only logs have the page's newest version.
 pub fn is_lost(place: &Place) -> bool
     ensures { result ≡ places.is_lost (seen place.now) }
 {
-    match *place {
-        Place::Free => false,
-        Place::Shared { .. } => false,
-        Place::Excl { .. } => false,
-        Place::Moving { .. } => false,
-        Place::Lost => true,
-    }
+    matches!(*place, Place::Lost)
 }
 
 /// Whether the page is shared or with one alone, so that a copy can be given.
 pub fn rests(place: &Place) -> bool
     ensures { result ≡ places.rests (seen place.now) }
 {
-    match *place {
-        Place::Free => false,
-        Place::Shared { .. } => true,
-        Place::Excl { .. } => true,
-        Place::Moving { .. } => false,
-        Place::Lost => false,
-    }
+    matches!(*place, Place::Shared { .. } | Place::Excl { .. })
 }
 
 /// Whether the page is on its way.
 pub fn passes(place: &Place) -> bool
     ensures { result ≡ places.passes (seen place.now) }
 {
-    match *place {
-        Place::Free => false,
-        Place::Shared { .. } => false,
-        Place::Excl { .. } => false,
-        Place::Moving { .. } => true,
-        Place::Lost => false,
-    }
+    matches!(*place, Place::Moving { .. })
 }
 
 /// Whether the newest version isn't on disk.
@@ -78,11 +54,10 @@ pub fn holds(place: &Place, i: InstNo) -> bool
     ensures { result ≡ places.holds (seen place.now) i }
 {
     match *place {
-        Place::Free => false,
         Place::Shared { set, .. } => set.has(i),
         Place::Excl { holder, .. } => holder == i,
         Place::Moving { rest, .. } => rest.has(i),
-        Place::Lost => false,
+        _ => false,
     }
 }
 
@@ -91,11 +66,8 @@ pub fn owns(place: &Place, i: InstNo) -> bool
     ensures { result ≡ places.owns (seen place.now) i }
 {
     match *place {
-        Place::Free => false,
-        Place::Shared { .. } => false,
         Place::Excl { holder, .. } => holder == i,
-        Place::Moving { .. } => false,
-        Place::Lost => false,
+        _ => false,
     }
 }
 
@@ -114,11 +86,10 @@ pub fn uses(place: &Place, i: InstNo) -> bool
     ensures { result ≡ places.uses (seen place.now) i }
 {
     match *place {
-        Place::Free => false,
         Place::Shared { set, .. } => set.has(i),
         Place::Excl { holder, .. } => holder == i,
         Place::Moving { to, rest, .. } => to == i || rest.has(i),
-        Place::Lost => false,
+        _ => false,
     }
 }
 
@@ -143,11 +114,8 @@ pub fn may_raise(i: InstNo, place: &Place) -> bool
     ensures { result ≡ rows.may_raise i (seen place.now) }
 {
     match *place {
-        Place::Free => false,
         Place::Shared { set, .. } => is_only(i, set),
-        Place::Excl { .. } => false,
-        Place::Moving { .. } => false,
-        Place::Lost => false,
+        _ => false,
     }
 }
 
@@ -161,10 +129,7 @@ pub fn raised(i: InstNo, place: &Place) -> Place
             holder: i,
             dirty: writer.is_some(),
         },
-        Place::Free => *place,
-        Place::Excl { .. } => *place,
-        Place::Moving { .. } => *place,
-        Place::Lost => *place,
+        _ => *place,
     }
 }
 
@@ -173,11 +138,9 @@ pub fn may_share(i: InstNo, place: &Place) -> bool
     ensures { result ≡ rows.may_share i (seen place.now) }
 {
     match *place {
-        Place::Free => false,
         Place::Shared { set, .. } => !set.has(i),
         Place::Excl { holder, .. } => holder != i,
-        Place::Moving { .. } => false,
-        Place::Lost => false,
+        _ => false,
     }
 }
 
@@ -199,9 +162,7 @@ pub fn given_shared(i: InstNo, place: &Place) -> Place
             rest: InstSet::only(holder),
             dirty,
         },
-        Place::Free => *place,
-        Place::Moving { .. } => *place,
-        Place::Lost => *place,
+        _ => *place,
     }
 }
 
@@ -210,11 +171,9 @@ pub fn may_yield(i: InstNo, place: &Place) -> bool
     ensures { result ≡ rows.may_yield i (seen place.now) }
 {
     match *place {
-        Place::Free => false,
         Place::Shared { set, .. } => is_only_other(i, set),
         Place::Excl { holder, .. } => holder != i,
-        Place::Moving { .. } => false,
-        Place::Lost => false,
+        _ => false,
     }
 }
 
@@ -250,10 +209,7 @@ pub fn taken(place: &Place) -> Place
                 writer: writer_of(dirty, lowest(to, rest)),
             },
         },
-        Place::Free => *place,
-        Place::Shared { .. } => *place,
-        Place::Excl { .. } => *place,
-        Place::Lost => *place,
+        _ => *place,
     }
 }
 
@@ -262,11 +218,8 @@ pub fn may_drop(i: InstNo, place: &Place) -> bool
     ensures { result ≡ rows.may_drop i (seen place.now) }
 {
     match *place {
-        Place::Free => false,
         Place::Shared { set, .. } => set.has(i) && !is_only(i, set),
-        Place::Excl { .. } => false,
-        Place::Moving { .. } => false,
-        Place::Lost => false,
+        _ => false,
     }
 }
 
@@ -275,11 +228,10 @@ pub fn may_evict(i: InstNo, place: &Place) -> bool
     ensures { result ≡ rows.may_evict i (seen place.now) }
 {
     match *place {
-        Place::Free => false,
         Place::Shared { set, writer } => set.has(i) && !(is_only(i, set) && writer.is_some()),
         Place::Excl { holder, dirty } => holder == i && !dirty,
         Place::Moving { rest, .. } => rest.has(i),
-        Place::Lost => false,
+        _ => false,
     }
 }
 
@@ -289,7 +241,6 @@ pub fn fallen(i: InstNo, place: &Place) -> Place
     ensures { seen result ≡ rows.fallen i (seen place.now) }
 {
     match *place {
-        Place::Free => *place,
         Place::Shared { set, writer } => shared_left(i, set.without(i), writer),
         Place::Excl { holder, dirty } => { if holder == i { nowhere(dirty) } else { *place } }
         Place::Moving {
@@ -310,7 +261,7 @@ pub fn fallen(i: InstNo, place: &Place) -> Place
                 }
             }
         }
-        Place::Lost => *place,
+        _ => *place,
     }
 }
 
@@ -319,11 +270,9 @@ pub fn may_write(place: &Place) -> bool
     ensures { result ≡ rows.may_write (seen place.now) }
 {
     match *place {
-        Place::Free => false,
         Place::Shared { writer, .. } => writer.is_some(),
         Place::Excl { dirty, .. } => dirty,
-        Place::Moving { .. } => false,
-        Place::Lost => false,
+        _ => false,
     }
 }
 
@@ -339,8 +288,7 @@ pub fn written(place: &Place) -> Place
             dirty: false,
         },
         Place::Lost => Place::Free,
-        Place::Free => *place,
-        Place::Moving { .. } => *place,
+        _ => *place,
     }
 }
 

@@ -1,8 +1,8 @@
 -- What each call makes of a pool: for the goals of the calls of `Pool`.
-use Rattle.std.proofs.Common.{◌≡◌, ◌≢◌, ℕ, suc, ◌+◌, ◌-◌, ◌≤◌, ◌<◌, Bool, true, false, cond, List, [], ◌∷◌, length, take, Option, Some, None, IfSome, IsSome, is_some, slice_get, option_map, eqb, refl, sym, ap, subst, ◌∙◌, arith}
+use Rattle.std.proofs.Common.{◌≡◌, ◌≢◌, ℕ, suc, ◌-◌, ◌≤◌, Bool, true, false, cond, List, [], ◌∷◌, length, take, Option, Some, None, IfSome, is_some, slice_get, option_map, eqb, refl, sym, ap, subst, ◌∙◌, arith}
 use Rattle.std.specs.Cmp.{nat_eq_equiv}
 use Rattle.std.specs.List.{IsDistinct}
-use Rattle.std.specs.Map.{keys_of, lookup, lookup_entry, remove_entry, set_value}
+use Rattle.std.specs.Map.{keys_of, lookup, remove_entry, set_value}
 use Rattle.std.specs.Option.{option_map_or}
 use Rattle.std.proofs.lemmas.Bool.{eqb-true}
 use Rattle.std.proofs.lemmas.List.{take_all}
@@ -10,7 +10,7 @@ use Rattle.std.proofs.lemmas.Map.Keys.{IsDistinct-cons}
 use Rattle.std.proofs.lemmas.Option.{slice_get-get_or}
 use Rattle.lru.specs.LruCache.{LruCache, last_entry, promoted, put_entries, lru_cache}
 use Rattle.sd_page.specs.Page.{Page}
-use Rattle.sd_pool.specs.Buffers.{Buffers, image_at, pages, least_recent, rewritten, used, with_page, without, IsPool, LacksFrame}
+use Rattle.sd_pool.specs.Buffers.{Buffers, image_at, least_recent, rewritten, used, with_page, without, IsPool, LacksFrame}
 use Rattle.sd_pool.proofs.Held.{lookup_entry-lookup, remove_entry-absent, set_value-absent, lookup-remove_entry_other, IsDistinct-remove_entry, differs-remove_entry, lookup-remove_entry_same, length-remove_entry_le, length-remove_entry_held, IsSome-lookup_at, length-keys, slice_get-keys}
 
 pub IsPool-cleared : (pool : Buffers) → IsPool pool → IsPool (record { held = []; frames = pool.frames })
@@ -147,10 +147,13 @@ module _ (cache : LruCache ℕ Page) (p : ℕ) (image : Page) where
     where
       ordered : (o : Option Page) → image_at (seen cache) p ≡ o → promoted (eqb p) cache.entries ≡ (option_map_or (with_page (seen cache) p) o (seen cache)).held
       ordered o h = promoted_held (seen cache) p ∙ ap (λ o. (option_map_or (with_page (seen cache) p) o (seen cache)).held) h
+
       set : List (ℕ × Page) → List (ℕ × Page)
       set es = set_value (eqb p) es image
+
       front : (v : Page) → set ((p, v) ∷ remove_entry (eqb p) cache.entries) ≡ (p, image) ∷ remove_entry (eqb p) cache.entries
       front v = ap (λ b. cond b ((p, image) ∷ remove_entry (eqb p) cache.entries) ((p, v) ∷ set (remove_entry (eqb p) cache.entries))) (nat_eq_equiv.refl p)
+
       by : (o : Option Page) → image_at (seen cache) p ≡ o → written ≡ option_map_or (λ _. with_page (seen cache) p image) o (seen cache)
       by None h = λ i. record { held = (ap set (ordered None h) ∙ set_value-absent p cache.entries image h) i; frames = cache.cap }
       by (Some v) h = λ i. record { held = (ap set (ordered (Some v) h) ∙ front v) i; frames = cache.cap }

@@ -14,7 +14,7 @@ returns-clause-began c =
     let i : ℕ = c.args.inst in
     let x : Inst = record c.inst-state.result { begins = c.inst-state.result.begins + 1 } in
     let begun = list-after m.begun c.reserve.new.self.items c.append.new.list.items t c.in_ok-reserve.ensures.items c.append.ensures in
-    let inst = insts-after c.args.self.now.insts.items c.append-2.new.list.items i x
+    let inst = insts-after c.args.self.now.rest c.args.self.now.insts.items c.append-2.new.list.items i x
     (list-after c.args.self.now.insts.items c.reserve-2.new.self.items c.append-2.new.list.items (i, x) c.in_ok-reserve-2.ensures.items c.append-2.ensures)
     ∙ ap {B = ℕ → Inst} (λ (y : Inst) (j : ℕ). cond (eqb i j) (record y { begins = y.begins + 1 }) (m.inst j)) c.inst-state.ensures in
     let part = parts-after c.args.self.now.parts.items c.append-3.new.list.items t c.started.result

@@ -5,4 +5,4 @@ use Rattle.sd_oracle.proofs.Parts.{insts-after}
 use Rattle.sd_oracle.proofs.lists.Lists.set_inst.Goals as goal
 
 pub returns-clause-set : goal.returns-clause-set
-returns-clause-set c = ap (λ (f : ℕ → Inst). record (meaning c.args.self.now) { inst = f }) (insts-after c.args.self.now.insts.items c.push.new.self.items c.args.inst c.args.state c.in_ok-push.ensures.items)
+returns-clause-set c = ap (λ (f : ℕ → Inst). record (meaning c.args.self.now) { inst = f }) (insts-after c.args.self.now.rest c.args.self.now.insts.items c.push.new.self.items c.args.inst c.args.state c.in_ok-push.ensures.items)
