@@ -5,7 +5,7 @@
 //! Promises: nothing but that it does nothing undefined.
 //! Refuses: words that name no loop, by exit status 2; a loop that a layer stops, by exit status 1.
 //! Knows nothing of: time, which `benches/` takes from outside.
-//! Stands on: sd_base, sd_rig. On it stand: none.
+//! Stands on: sd_base, sd_rig, sd_logrec, sd_log, sd_reclock. On it stand: none.
 //!
 //! To change:
 //! - free: all
@@ -14,6 +14,8 @@
 #![tactic(auto)]
 
 mod devices;
+mod locks;
+mod logs;
 
 use std::alloc::{AllocError, Global};
 use std::process::ExitCode;
@@ -36,6 +38,15 @@ fn run(alloc: Global, words: &[String]) -> Option<bool> {
             let times = times.parse::<u32>().ok()?;
             let dev = dev.parse::<u8>().ok().filter(|dev| *dev <= 8)?;
             Some(devices::cycles(alloc, dev, times))
+        }
+        [name, times] if name.as_str() == "locks" => {
+            let times = times.parse::<u32>().ok()?;
+            Some(locks::requests(alloc, times))
+        }
+        [name, tens, reads] if name.as_str() == "log" => {
+            let tens = tens.parse::<u32>().ok()?;
+            let reads = reads.parse::<u32>().ok()?;
+            Some(logs::appends(alloc, tens, reads))
         }
         _ => None,
     }

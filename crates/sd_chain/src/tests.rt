@@ -1,5 +1,9 @@
 //! Records redone by hand on a page.
 
+ghost use Rattle.std.specs.Prelude.{◌<◌, ◌≤◌, ◌≡◌, ◌^◌, length, IfOk};
+ghost use Rattle.sd_logrec.specs.Spelling.{HasSpelling, IsValue};
+ghost use Rattle.sd_chain.specs.Records.{IsPageRecord};
+
 use crate::{fits, redo, replay};
 use sd_base::{Bytes, InstNo, Memory, PageNo, TxnId};
 use sd_logrec::Record;
@@ -8,79 +12,90 @@ use std::alloc::Global;
 use std::process::Abort;
 use std::test::Fail;
 
-fn txn(rt: &impl Abort) -> TxnId {
-    TxnId {
-        inst: InstNo::new(1).expect(rt, "an instance"),
-        epoch: 1,
-        seq: 1,
-    }
+fn value(alloc: Global, bytes: [u8; 3]) -> Result<Option<Bytes>, Memory>
+    ensures { IfOk result IsValue }
+{
+    Ok(Some(Bytes::of(Vec::from_array(alloc, bytes)?)))
 }
 
-fn page(rt: &impl Abort) -> PageNo {
-    PageNo::new(0).expect(rt, "a page")
-}
-
-fn text(alloc: Global, value: Option<&[u8]>) -> Result<Option<Bytes>, Memory> {
-    match value {
-        None => Ok(None),
-        Some(bytes) => Ok(Some(Bytes::of(bytes.to_vec(alloc)?))),
-    }
-}
-
-// A change of slot 0, made with a capacity of 4 bytes.
-fn update(
-    rt: &impl Abort,
-    alloc: Global,
-    lsn: u64,
-    before: Option<&[u8]>,
-    after: Option<&[u8]>,
-) -> Result<Record, Memory> {
-    Ok(Record::Update {
+// A change of slot 0 of page 0, made with a capacity of 4 bytes.
+fn update(inst: InstNo, lsn: u64, before: Option<Bytes>, after: Option<Bytes>) -> Record
+    requires low { 1 ≤ lsn }
+    requires high { lsn < 2 ^ 62 }
+    requires short_before { IsValue before }
+    requires short_after { IsValue after }
+    ensures spelled { HasSpelling result }
+    ensures page { IsPageRecord result }
+{
+    let (epoch, seq) = (1, 1);
+    Record::Update {
         lsn,
-        txn: txn(rt),
+        txn: TxnId { inst, epoch, seq },
         prev: 0,
-        page: page(rt),
+        page: PageNo::new(0).unwrap(),
         slot: 0,
         capacity: 4,
-        before: text(alloc, before)?,
-        after: text(alloc, after)?,
-    })
+        before,
+        after,
+    }
 }
 
-fn undo(rt: &impl Abort, alloc: Global, lsn: u64, after: &[u8]) -> Result<Record, Memory> {
-    Ok(Record::Clr {
+fn undo(inst: InstNo, lsn: u64, after: Option<Bytes>) -> Record
+    requires low { 1 ≤ lsn }
+    requires high { lsn < 2 ^ 62 }
+    requires short { IsValue after }
+    ensures spelled { HasSpelling result }
+    ensures page { IsPageRecord result }
+{
+    let (epoch, seq) = (1, 1);
+    Record::Clr {
         lsn,
-        txn: txn(rt),
+        txn: TxnId { inst, epoch, seq },
         prev: 0,
         undo_next: 0,
-        page: page(rt),
+        page: PageNo::new(0).unwrap(),
         slot: 0,
-        after: text(alloc, Some(after))?,
-    })
+        after,
+    }
+}
+
+// A record that fits is redone, and then fits no more.
+fn redone(rt: &impl Abort, image: &mut Image, change: &Record) -> Result<(), Memory>
+    requires spelled { HasSpelling change.now }
+    requires page { IsPageRecord change.now }
+{
+    assert!(rt; fits(image, change));
+    redo(image, change)?;
+    assert!(rt; !fits(image, change));
+    Ok(())
 }
 
 #[test]
 fn a_change_and_its_undo_are_redone(rt: HostRuntime) -> Result<(), Fail> {
     let alloc = rt.alloc();
-    let mut image = Image::empty(page(&rt));
-    let insert = update(&rt, alloc, 2, None, Some(b"red"))?;
-    let write = update(&rt, alloc, 3, Some(b"red"), Some(b"tan"))?;
-    let clr = undo(&rt, alloc, 4, b"red")?;
+    let inst = InstNo::new(1).ok_or("instance 1")?;
+    let mut image = Image::empty(PageNo::new(0).ok_or("page 0")?);
+    let insert = update(inst, 2, None, value(alloc, *b"red")?);
+    let write = update(inst, 3, value(alloc, *b"red")?, value(alloc, *b"tan")?);
+    let clr = undo(inst, 4, value(alloc, *b"red")?);
     assert!(rt; !fits(&image, &write) && !fits(&image, &clr));
-    for record in [&insert, &write, &clr] {
-        assert!(rt; fits(&image, record));
-        redo(&mut image, record)?;
-        assert!(rt; !fits(&image, record));
-    }
+    redone(&rt, &mut image, &insert)?;
+    redone(&rt, &mut image, &write)?;
+    redone(&rt, &mut image, &clr)?;
     assert_eq!(rt; image.lsn(), 4);
     assert_eq!(rt; image.value(0), Some(b"red".as_slice()));
     assert_eq!(rt; image.capacity(0), Some(4));
-    let mut again = Image::empty(page(&rt));
-    assert!(rt; replay(&mut again, &[insert, write, clr])?);
-    assert!(rt; again.bytes() == image.bytes());
-    let long = update(&rt, alloc, 5, Some(b"red"), Some(b"green"))?;
-    let other = update(&rt, alloc, 5, Some(b"tan"), Some(b"red"))?;
-    assert!(rt; !fits(&image, &long) && !fits(&image, &other));
-    assert!(rt; !replay(&mut again, &[long])?);
+    Ok(())
+}
+
+#[test]
+fn a_chain_is_replayed_as_far_as_it_fits(rt: HostRuntime) -> Result<(), Fail> {
+    let alloc = rt.alloc();
+    let inst = InstNo::new(1).ok_or("instance 1")?;
+    let mut image = Image::empty(PageNo::new(0).ok_or("page 0")?);
+    assert!(rt; replay(&mut image, &[update(inst, 2, None, value(alloc, *b"red")?)])?);
+    let other = update(inst, 3, value(alloc, *b"tan")?, value(alloc, *b"red")?);
+    assert!(rt; !replay(&mut image, &[other])?);
+    assert_eq!(rt; image.lsn(), 2);
     Ok(())
 }

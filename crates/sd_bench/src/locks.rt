@@ -1,0 +1,55 @@
+//! Requests and releases of record locks.
+
+use sd_base::{InstNo, Mode, PageNo, Refusal, Rid, TxnId};
+use sd_reclock::RecordLocks;
+use std::alloc::Global;
+
+const RECORDS: u32 = 1000;
+
+const TXNS: u32 = 64;
+
+/// Asks so many times for an exclusive lock: 64 transactions in turn, over 1,000 records in turn. Each transaction lets go
+/// of its locks after each eighth of its requests. `false` where there was no memory.
+pub fn requests(alloc: Global, times: u32) -> bool {
+    let mut locks = RecordLocks::new(alloc);
+    for n in 0..times {
+        if !request(&mut locks, n) {
+            return false;
+        }
+        if n / TXNS % 8 == 7 {
+            release(&mut locks, n);
+        }
+    }
+    true
+}
+
+// One request; `false` for want of memory.
+fn request(locks: &mut RecordLocks, n: u32) -> bool {
+    let (Some(txn), Some(rid)) = (txn_of(n), rid_of(n)) else {
+        return false;
+    };
+    match locks.request(txn, rid, Mode::Excl) {
+        Err(Refusal::Memory) => false,
+        _ => true,
+    }
+}
+
+fn release(locks: &mut RecordLocks, n: u32) {
+    if let Some(txn) = txn_of(n) {
+        locks.release_all(txn);
+    }
+}
+
+fn txn_of(n: u32) -> Option<TxnId> {
+    let inst = InstNo::new(1)?;
+    Some(TxnId {
+        inst,
+        epoch: 1,
+        seq: n % TXNS + 1,
+    })
+}
+
+fn rid_of(n: u32) -> Option<Rid> {
+    let page = PageNo::new((n % RECORDS) as u16)?;
+    Some(Rid { page, slot: 0 })
+}
