@@ -1,0 +1,3 @@
+mod Keyed
+mod Marks
+mod Stacks

@@ -1,0 +1,26 @@
+//! The transaction table of one instance: what each unresolved transaction has open (ARIES, section 4.3).
+//!
+//! Meaning: a table is a list of transactions in order of begin, each with its state, its marks, its undo stack and
+//! the LSNs of its first and last record (`specs/Transactions.antt`).
+//! Keeps: a mark is at most the number of open records, and marks don't fall in the order of their saves.
+//! Promises: each call changes what its clause says of one transaction, and no other; `pop` hands out the record that
+//! is undone next and takes no memory; a mark goes with the undo of a record below it.
+//! Refuses: `TooManyTxns` and `LsnEnd` in `begin`, exactly.
+//! Knows nothing of: locks, pages, the log, what a state means.
+//! Stands on: sd_base. On it stand: sd_state.
+//!
+//! To change:
+//! - free: bodies, the structures inside
+//! - dear: `Transaction`, `Transactions`, the clauses of `begin`, `push` and `pop`
+//! - frozen: nothing; a further state is one more variant of `TxnState`
+#![tactic(auto)]
+
+mod state;
+mod table;
+mod txn;
+
+pub use state::{OpenRec, TxnState};
+pub use table::TxnTable;
+
+#[cfg(test)]
+mod tests;

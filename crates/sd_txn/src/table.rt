@@ -1,0 +1,248 @@
+//! The unresolved transactions of an instance, over the kit's `indexmap`.
+
+ghost use Rattle.std.specs.Prelude.{◌≡◌, ◌∷◌, ◌++◌, ◌↔◌, ◌<◌, ◌≤◌, ◌⊎◌, [], length, option_copied, option_map, Err, IfErr, IfOk, IsSome, None, OnErr, OnOk, Some};
+ghost use Rattle.sd_base.specs.declared.ids.TxnId.{TxnId};
+ghost use Rattle.sd_base.specs.declared.refusal.Refusal.TheVariants as R;
+ghost use Rattle.sd_txn.specs.declared.state.TxnState.TheVariants.{Retained, Running};
+ghost use Rattle.sd_txn.specs.Transactions.{begins_in, depth_at, ids, mark_at, next_txn, noted, popped, pushed, saved, span_at, started, state_at, top_at, txn_at, with_state, without, IsUnresolved, OthersStay, SameOrder};
+
+use crate::txn::Txn;
+use crate::{OpenRec, TxnState};
+use indexmap::IndexMap;
+use sd_base::{InstNo, Lsn, Memory, Refusal, TxnId, Word};
+use std::alloc::Global;
+use std::marker::Model;
+
+// With so many unresolved transactions none begins.
+const FULL: usize = 64;
+
+/// The transaction table of one instance. Contracts see its unresolved transactions in order of begin, and how many
+/// began in the epoch of the last begin.
+#[derive(Debug, Drop)]
+pub struct TxnTable {
+    inst: InstNo,
+    epoch: u32,
+    begins: u32,
+    txns: IndexMap<TxnId, Txn>,
+}
+
+impl Model for TxnTable {
+    ghost use Rattle.sd_txn.specs.Transactions.{Transactions};
+
+    ghost Value = { Transactions };
+
+    ghost view = { λ t. record { inst = t.inst; epoch = t.epoch; begins = t.begins; unresolved = t.txns.entries } };
+}
+
+impl TxnTable {
+    ghost use Rattle.std.specs.Borrow.{sem};
+    ghost use Rattle.std.specs.Option.{option_copied_mut};
+    ghost use Rattle.sd_txn.specs.Lending.{LendsTxn};
+
+    /// The table of an instance without transactions.
+    pub fn new(alloc: Global, inst: InstNo) -> TxnTable
+        ensures { result ≡ record { inst = inst; epoch = 0; begins = 0; unresolved = [] } }
+    {
+        TxnTable {
+            inst,
+            epoch: 0,
+            begins: 0,
+            txns: IndexMap::new(alloc),
+        }
+    }
+
+    // What is known of a transaction.
+    fn txn(&self, t: TxnId) -> Option<&Txn>
+        ensures { option_copied result ≡ txn_at self.now t }
+    {
+        self.txns.get(&t)
+    }
+
+    // The same, to be changed.
+    fn txn_mut(&mut self, t: TxnId) -> Option<&mut Txn>
+        ensures* writes_back { sem 𝓛 (LendsTxn self.entry t result) }
+        ensures value { option_copied_mut result ≡ txn_at self.old t }
+    {
+        self.txns.get_mut(&t)
+    }
+
+    /// How a transaction stands; `None` exactly where it isn't unresolved here.
+    pub fn state(&self, t: TxnId) -> Option<TxnState>
+        ensures value { result ≡ state_at self.now t }
+        ensures known { IsSome result ↔ IsUnresolved self.now t }
+    {
+        Some(self.txn(t)?.state())
+    }
+
+    /// The LSNs of a transaction's first and last record; `None` exactly where no record of it is known.
+    pub fn span(&self, t: TxnId) -> Option<(Lsn, Lsn)>
+        ensures { result ≡ span_at self.now t }
+    {
+        self.txn(t)?.span()
+    }
+
+    /// How many records were open at a mark; `None` exactly where the transaction has no mark of that name.
+    pub fn mark(&self, t: TxnId, mark: &Word) -> Option<usize>
+        ensures { result ≡ mark_at self.now t mark.now }
+    {
+        self.txn(t)?.mark(mark)
+    }
+
+    /// The open record that is undone next; `None` exactly where the transaction has none.
+    pub fn top(&self, t: TxnId) -> Option<&OpenRec>
+        ensures { option_copied result ≡ top_at self.now t }
+    {
+        self.txn(t)?.top()
+    }
+
+    /// How many records of a transaction are open.
+    pub fn depth(&self, t: TxnId) -> usize
+        ensures { result ≡ depth_at self.now t }
+    {
+        self.txn(t).map_or(0, |txn| txn.depth())
+    }
+
+    /// The unresolved transactions, in order of begin.
+    pub fn unresolved(&self) -> &[TxnId]
+        ensures { result.now ≡ ids self.now }
+    {
+        self.txns.keys().as_slice()
+    }
+
+    /// How many transactions are unresolved.
+    pub fn count(&self) -> usize
+        ensures { result ≡ length self.now.unresolved }
+    {
+        self.txns.len()
+    }
+
+    // How many began in an epoch: in a new one none.
+    fn begins_in(&self, epoch: u32) -> u32
+        ensures { result ≡ begins_in self.now epoch }
+    {
+        if self.epoch == epoch { self.begins } else { 0 }
+    }
+
+    // Puts a transaction of which no record is known at the end of the order. `Memory` changes nothing.
+    fn start(&mut self, t: &TxnId, state: TxnState) -> Result<(), Memory>
+        ensures begun { OnOk result (txn_at self.new t.now ≡ Some (started state)) }
+        ensures last { OnOk result (txn_at self.old t.now ≡ None → ids self.new ≡ ids self.old ++ t.now ∷ []) }
+        ensures others { OthersStay self.old self.new t.now }
+        ensures same { self.new ≡ record self.old { unresolved = self.new.unresolved } }
+        ensures err { OnErr result (self.new ≡ self.old) }
+    {
+        let alloc = *self.txns.allocator();
+        self.txns.insert(*t, Txn::new(alloc, state))?;
+        Ok(())
+    }
+
+    /// Begins a transaction in an epoch, the next after those that began in it. It runs, and stands at the end of the
+    /// order, unless it is unresolved here already. The first begin of another epoch counts anew.
+    ///
+    /// `TooManyTxns` comes exactly where 64 transactions or more are unresolved; `LsnEnd` exactly where they aren't and
+    /// 4,294,967,295 have begun in the epoch. These and `Memory` change nothing.
+    pub fn begin(&mut self, epoch: u32) -> Result<TxnId, Refusal>
+        ensures begun { IfOk result (λ t. t ≡ next_txn self.old epoch) }
+        ensures runs { IfOk result (λ t. txn_at self.new t ≡ Some (started Running)) }
+        ensures last { IfOk result (λ t. txn_at self.old t ≡ None → ids self.new ≡ ids self.old ++ t ∷ []) }
+        ensures others { IfOk result (OthersStay self.old self.new) }
+        ensures counted { IfOk result (λ t. self.new ≡ record self.old { epoch = epoch; begins = t.seq; unresolved = self.new.unresolved }) }
+        ensures err { OnErr result (self.new ≡ self.old) }
+
+        ensures many { (result ≡ Err R.TooManyTxns) ↔ (64 ≤ length self.old.unresolved) }
+        ensures end { (result ≡ Err R.LsnEnd) ↔ ((length self.old.unresolved < 64) × (begins_in self.old epoch ≡ 4294967295)) }
+        ensures only { IfErr result (λ e. (e ≡ R.TooManyTxns) ⊎ ((e ≡ R.LsnEnd) ⊎ (e ≡ R.Memory))) }
+    {
+        if self.count() >= FULL {
+            return Err(Refusal::TooManyTxns);
+        }
+        let begins = self.begins_in(epoch);
+        if begins == u32::MAX {
+            return Err(Refusal::LsnEnd);
+        }
+        let t = TxnId {
+            inst: self.inst,
+            epoch,
+            seq: begins + 1,
+        };
+        self.start(&t, TxnState::Running)?;
+        self.epoch = epoch;
+        self.begins = begins + 1;
+        Ok(t)
+    }
+
+    /// Adds a transaction that a restart found: it is retained, and no record of it is known yet. It stands at the end
+    /// of the order, unless it is unresolved here already. `Memory` changes nothing.
+    pub fn adopt(&mut self, t: TxnId) -> Result<(), Memory>
+        ensures adopted { OnOk result (txn_at self.new t ≡ Some (started Retained)) }
+        ensures last { OnOk result (txn_at self.old t ≡ None → ids self.new ≡ ids self.old ++ t ∷ []) }
+        ensures others { OthersStay self.old self.new t }
+        ensures same { self.new ≡ record self.old { unresolved = self.new.unresolved } }
+        ensures err { OnErr result (self.new ≡ self.old) }
+    {
+        self.start(&t, TxnState::Retained)
+    }
+
+    /// Ends a transaction, which is then unresolved no more; the others keep their order. It takes no memory.
+    pub fn end(&mut self, t: TxnId)
+        ensures rest { self.new ≡ without self.old t }
+        ensures gone { txn_at self.new t ≡ None }
+        ensures others { OthersStay self.old self.new t }
+    {
+        self.txns.shift_remove(&t);
+    }
+
+    /// Changes how an unresolved transaction stands. It takes no memory.
+    pub fn set(&mut self, t: TxnId, state: TxnState)
+        requires { IsUnresolved self.old t }
+        ensures changed { txn_at self.new t ≡ option_map (with_state state) (txn_at self.old t) }
+        ensures others { OthersStay self.old self.new t }
+        ensures order { SameOrder self.old self.new }
+    {
+        self.txn_mut(t).unwrap().set(state);
+    }
+
+    /// Tells that a record of an unresolved transaction was written at this LSN. It takes no memory.
+    pub fn note(&mut self, t: TxnId, lsn: Lsn)
+        requires { IsUnresolved self.old t }
+        ensures changed { txn_at self.new t ≡ option_map (noted lsn) (txn_at self.old t) }
+        ensures others { OthersStay self.old self.new t }
+        ensures order { SameOrder self.old self.new }
+    {
+        self.txn_mut(t).unwrap().note(lsn);
+    }
+
+    /// Marks the place that an unresolved transaction has reached, in place of an older mark of the name. `Memory`
+    /// changes nothing.
+    pub fn save(&mut self, t: TxnId, mark: Word) -> Result<(), Memory>
+        requires { IsUnresolved self.old t }
+        ensures changed { OnOk result (txn_at self.new t ≡ option_map (saved mark) (txn_at self.old t)) }
+        ensures err { OnErr result (txn_at self.new t ≡ txn_at self.old t) }
+        ensures others { OthersStay self.old self.new t }
+        ensures order { SameOrder self.old self.new }
+    {
+        self.txn_mut(t).unwrap().save(mark)
+    }
+
+    /// Opens a record of an unresolved transaction. `Memory` changes nothing.
+    pub fn push(&mut self, t: TxnId, rec: OpenRec) -> Result<(), Memory>
+        requires { IsUnresolved self.old t }
+        ensures changed { OnOk result (txn_at self.new t ≡ option_map (pushed rec) (txn_at self.old t)) }
+        ensures err { OnErr result (txn_at self.new t ≡ txn_at self.old t) }
+        ensures others { OthersStay self.old self.new t }
+        ensures order { SameOrder self.old self.new }
+    {
+        self.txn_mut(t).unwrap().push(rec)
+    }
+
+    /// Hands out the open record that is undone next, and takes out each mark above what is left; `None` exactly where
+    /// the transaction has no open record. It takes no memory.
+    pub fn pop(&mut self, t: TxnId) -> Option<OpenRec>
+        ensures value { result ≡ top_at self.old t }
+        ensures changed { txn_at self.new t ≡ option_map popped (txn_at self.old t) }
+        ensures others { OthersStay self.old self.new t }
+        ensures order { SameOrder self.old self.new }
+    {
+        self.txn_mut(t)?.pop()
+    }
+}
