@@ -115,6 +115,26 @@ fn is_bad(alloc: Global, text: &[u8]) -> Result<bool, AllocError> {
     Ok(matches!(taken, Err(Refusal::BadRecord { at: 1 })))
 }
 
+// The length and the bytes of a value of 256 bytes.
+fn long_value(out: &mut Vec<u8>, byte: u8) -> Result<(), AllocError> {
+    out.extend_from_slice(&[1, 0])?;
+    out.extend_from_slice(&[byte; 256])
+}
+
+#[test]
+fn the_longest_change_is_read_and_written_again(rt: HostRuntime) -> Result<(), Fail> {
+    let alloc = rt.alloc();
+    let mut text = UPDATE[..32].to_vec(alloc)?;
+    text.extend_from_slice(&[1, 0])?;
+    long_value(&mut text, 0x61)?;
+    long_value(&mut text, 0x62)?;
+    assert_eq!(rt; text.len(), 550);
+    assert!(rt; is_read(alloc, 2, &text)?);
+    text.pop();
+    assert!(rt; is_bad(alloc, &text)?, "its last byte is missing");
+    Ok(())
+}
+
 #[test]
 fn bytes_out_of_the_table_are_no_record(rt: HostRuntime) -> Result<(), Fail> {
     let alloc = rt.alloc();
