@@ -20,3 +20,4 @@ pub mod ListedRun
 pub mod Marks
 pub mod MarksRun
 pub mod WaitAnswers
+pub mod NumberTexts

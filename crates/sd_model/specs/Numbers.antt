@@ -1,5 +1,7 @@
 -- Number texts: an optional minus and 1 to 18 digits, without leading zeros and without -0.
 use Rattle.std.specs.Prelude.{◌≡◌, ◌≢◌, ℕ, ◌+◌, ◌*◌, ◌-◌, ◌≤◌, ◌<◌, List, [], ◌∷◌, length, ℤ, pos, negsuc, ◌+ℤ◌}
+use Rattle.sd_model.specs.declared.numbers.NoSum.{NoSum}
+use Rattle.sd_model.specs.declared.numbers.NoSum.TheVariants.{NotNumber, TooLong}
 
 -- the number that digits spell behind those of n
 abbrev pub digits_from : ℕ → List ℕ → ℕ
@@ -43,3 +45,19 @@ IsSum u by w = (ds : List ℕ) × IsSumOf u by w ds × (length ds ≤ 18)
 -- the sum has too many digits
 abbrev pub IsLongSum : List ℕ → ℤ → Type 0
 IsLongSum u by = (w : List ℕ) × (ds : List ℕ) × IsSumOf u by w ds × (18 < length ds)
+
+-- w is the one text of the sum
+pub record Sums (u : List ℕ) (by : ℤ) (w : List ℕ) : Type 0 where
+  pub is : IsSum u by w
+  pub only : (v : List ℕ) → IsSum u by v → v ≡ w
+  pub short : IsLongSum u by → ⊥
+
+-- the sum has too many digits, so no text of it is a number text
+pub record HasLongSum (u : List ℕ) (by : ℤ) : Type 0 where
+  pub long : IsLongSum u by
+  pub none : (w : List ℕ) → IsSum u by w → ⊥
+
+-- why there is no sum
+abbrev pub Lacks : NoSum → List ℕ → ℤ → Type 0
+Lacks NotNumber u by = IsNumber u → ⊥
+Lacks TooLong u by = HasLongSum u by

@@ -2,7 +2,7 @@
 
 ghost use Rattle.std.specs.Prelude.{◌≡◌, IfOk};
 
-use crate::act::Act;
+use crate::act::{Act, Done};
 use crate::event::{Entry, Event, Reply};
 use sd_base::{Bytes, Duplicate, Memory, Refusal};
 
@@ -127,6 +127,15 @@ impl Duplicate for Act {
                 value: copy_bytes(value)?,
             },
             Act::Undo => Act::Undo,
+        })
+    }
+}
+
+impl Duplicate for Done {
+    fn copy(&self) -> Result<Self, Memory> {
+        Ok(Done {
+            txn: self.txn,
+            acts: self.acts.copy()?,
         })
     }
 }

@@ -20,6 +20,7 @@ mod cause;
 mod copies;
 mod event;
 pub mod laws;
+mod numbers;
 mod rows;
 mod table;
 
@@ -28,6 +29,7 @@ pub use book::Book;
 pub use cause::{Cause, causes_of, order};
 pub use copies::{copy_bytes, copy_refusal};
 pub use event::{Entry, Event, Reply};
+pub use numbers::{NoSum, number, number_text, sum, text_length};
 pub use rows::Rows;
 pub use table::Table;
 

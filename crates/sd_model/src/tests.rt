@@ -1,6 +1,6 @@
-//! A book, as it is used.
+//! A book and number texts, as they are used.
 
-use crate::{Book, Entry, Event, Reply, Table};
+use crate::{Book, Entry, Event, NoSum, Reply, Table, number, number_text, sum, text_length};
 use sd_base::{Bytes, Duplicate, InstNo, Memory, PageNo, Rid, TxnId};
 use std::alloc::Global;
 use std::process::Abort;
@@ -46,5 +46,31 @@ fn a_book_keeps_what_is_noted(rt: HostRuntime) -> Result<(), Fail> {
     book.note(entry.copy()?);
     assert!(rt; book.entries().len() == 1);
     assert!(rt; book.opening().get(rid(&rt, 3)) == Some(b"red".as_slice()));
+    Ok(())
+}
+
+#[test]
+fn number_texts_are_summed(rt: HostRuntime) -> Result<(), Fail> {
+    let alloc = rt.alloc();
+    assert!(rt; sum(b"0", 1) == Ok(1));
+    assert!(rt; sum(b"-5", 3) == Ok(-2));
+    assert!(rt; sum(b"999999999999999999", 1) == Err(NoSum::TooLong));
+    assert!(rt; sum(b"-999999999999999999", i64::MIN) == Err(NoSum::TooLong));
+    for text in [
+        b"".as_slice(),
+        b"-",
+        b"-0",
+        b"01",
+        b"+1",
+        b"1x",
+        b"1000000000000000000",
+    ] {
+        assert!(rt; number(text) == None);
+        assert!(rt; sum(text, 1) == Err(NoSum::NotNumber));
+    }
+    let text = number_text(alloc, -20)?;
+    assert!(rt; text.items() == b"-20".as_slice());
+    assert!(rt; text_length(-20) == 3);
+    assert!(rt; number(text.items()) == Some(-20));
     Ok(())
 }
