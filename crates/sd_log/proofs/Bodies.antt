@@ -1,6 +1,6 @@
 -- Records and groups read one after the other, as the loops do. It serves the goals of reading.rt.
 use Rattle.std.proofs.Common.{◌≡◌, ◌⊎◌, inl, inr, ℕ, zero, suc, ◌+◌, ◌-◌, ◌<◌, ◌≤◌, true, false, cond, List, [], ◌∷◌, ◌++◌, length, take, drop, get_or, refl, sym, ap, ◌∙◌, subst, arith, append_assoc, length-append, length-drop}
-use Rattle.std.specs.Prelude.{slice_range, Result, Ok, Err, Option, Some, None}
+use Rattle.std.specs.Prelude.{slice_range, IfErr, Result, Ok, Err, Some, None}
 use Rattle.std.proofs.Math.ListN.{drop_of_length-le}
 use Rattle.std.proofs.lemmas.List.{append-nil, drop-drop, drop-take, get_or-drop, take_at}
 use Rattle.sd_logrec.specs.declared.record.Record.{Record}
@@ -12,7 +12,7 @@ use Rattle.sd_logrec.specs.Reading.{record_at}
 use Rattle.sd_logrec.specs.Spelling.{HasSpelling, spelling}
 use Rattle.sd_logrec.proofs.Records.{record_again}
 use Rattle.sd_logrec.proofs.Groups.{opened, read_nothing, shut}
-use Rattle.sd_log.specs.JournalStates.{JournalState, pushed}
+use Rattle.sd_log.specs.JournalStates.{JournalState}
 use Rattle.sd_log.specs.Readings.{AddsGroup, AddsRecords}
 use Rattle.sd_log.proofs.Parted.{placed_from-more, spelled-more}
 use Rattle.sd_log.proofs.Tails.{least_spelling}
@@ -229,13 +229,30 @@ area_read start len size device out items bytes lt all same long read kept =
     let is : bytes ≡ take len (drop (130 + start) device) = kept ∙ take_at out (drop (length out) items) len (long ∙ same) ∙ read ∙ ap (λ n. take n (drop (130 + start) device)) count in
     ap (λ (l : List ℕ). groups_within (length l) start l) (part ∙ sym is)
 
--- which refusal a reading is
-pub same_log : (e : Refusal) (x y : ℕ) → e ≡ R.BadLog x → e ≡ R.BadLog y → x ≡ y
-same_log e x y p q = cc
+-- ---- which refusal a reading is
 
-pub same_record : (e : Refusal) (x y : ℕ) → e ≡ R.BadRecord x → e ≡ R.BadRecord y → x ≡ y
-same_record e x y p q = cc
+-- no memory, or what breaks the format
+abbrev pub Tells : Reading → Refusal → Type 0
+Tells read e = (e ≡ R.Memory) ⊎ ((place : ℕ) × (e ≡ R.BadLog place) × (read ≡ BadGroup place)) ⊎ ((place : ℕ) × (e ≡ R.BadRecord place) × (read ≡ NoRecord place))
 
--- what a call that hands a refusal on answers
-pub told_as : {T : Type 0} (result : Result T Refusal) (y x e : Refusal) → result ≡ Err y → y ≡ x → result ≡ Err e → x ≡ e
-told_as result y x e p q r = cc
+tells_log : (e : Refusal) (read : Reading) (at : ℕ) → Tells read e → e ≡ R.BadLog at → read ≡ BadGroup at
+tells_log e read at (inl lacks) is = absurd (cc)
+tells_log e read at (inr (inl x)) is = let place : x.0 ≡ at = cc (x.1, is) in x.2 ∙ ap (λ n. BadGroup n) place
+tells_log e read at (inr (inr x)) is = absurd (cc (x.1, is))
+
+tells_record : (e : Refusal) (read : Reading) (at : ℕ) → Tells read e → e ≡ R.BadRecord at → read ≡ NoRecord at
+tells_record e read at (inl lacks) is = absurd (cc)
+tells_record e read at (inr (inl x)) is = absurd (cc (x.1, is))
+tells_record e read at (inr (inr x)) is = let place : x.0 ≡ at = cc (x.1, is) in x.2 ∙ ap (λ n. NoRecord n) place
+
+pub told_log : {T : Type 0} (r : Result T Refusal) (read : Reading) (at : ℕ) → IfErr r (Tells read) → r ≡ Err (R.BadLog at) → read ≡ BadGroup at
+told_log r read at err is = tells_log (R.BadLog at) read at (subst (λ q. IfErr q (Tells read)) is err) refl
+
+pub told_record : {T : Type 0} (r : Result T Refusal) (read : Reading) (at : ℕ) → IfErr r (Tells read) → r ≡ Err (R.BadRecord at) → read ≡ NoRecord at
+told_record r read at err is = tells_record (R.BadRecord at) read at (subst (λ q. IfErr q (Tells read)) is err) refl
+
+-- ---- an area in memory
+
+pub in_memory : (start : ℕ) (bytes rest : List ℕ) → rest ≡ drop start bytes → reading start bytes ≡ groups_within (length rest) start rest
+unfolding reading
+in_memory start bytes rest e = ap (λ (l : List ℕ). groups_within (length l) start l) (sym e)

@@ -1,11 +1,12 @@
 -- What contracts see of a log: the groups that are forced, and the records of the tail.
-use Rattle.std.specs.Prelude.{◌≡◌, ℕ, ◌+◌, ◌-◌, ◌<◌, Bool, true, false, List, [], ◌∷◌, ◌++◌, length, map, slice_get}
+use Rattle.std.specs.Prelude.{◌≡◌, ℕ, zero, suc, ◌+◌, ◌-◌, ◌<◌, Bool, true, false, List, [], ◌∷◌, ◌++◌, All, length, map, slice_get}
 use Rattle.std.specs.List.{AllByRecursion, flat_map}
 use Rattle.std.specs.Option.{option_map_or}
 use Rattle.sd_logrec.specs.declared.record.Record.{Record}
 use Rattle.sd_logrec.specs.declared.record.Record.TheVariants as records
 use Rattle.sd_logrec.specs.Kept.{Group, Records, Whole, area, placed_from, reading, spelled}
-use Rattle.sd_logrec.specs.View.{flat}
+use Rattle.sd_logrec.specs.Spelling.{HasSpelling}
+use Rattle.sd_logrec.specs.View.{Rec, flat}
 use Rattle.sd_log.specs.declared.placed.Placed.{Placed}
 
 -- The instance; the place where the log begins, and the place of the next gate, from the area's start; the forced groups
@@ -40,6 +41,19 @@ scanned log = placed_groups log.groups ++ placed_tail log.gate log.tail
 
 abbrev pub lsn_of : Placed → ℕ
 lsn_of p = (flat p.rec).lsn
+
+-- the records, whatever their places, seen flat
+abbrev pub flats : List Placed → List Rec
+flats ps = map (λ p. flat p.rec) ps
+
+-- each record is one of the grammar
+abbrev pub AreSpelled : List Placed → Type 0
+AreSpelled ps = All (λ p. HasSpelling p.rec) ps
+
+-- the records of log j of these logs, of which the first is log 1
+abbrev pub log_in : List LogState → ℕ → List Rec
+log_in logs zero = []
+log_in logs (suc j) = option_map_or (λ log. flats (scanned log)) (slice_get logs j) []
 
 -- the LSN of the last record, or 0
 abbrev pub last_lsn : List Placed → ℕ

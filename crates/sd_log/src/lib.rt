@@ -4,8 +4,10 @@
 //! its device stands for is `reading` (`specs/Kept.antt` of sd_logrec), and `StandsOn` says that it is these groups.
 //! Keeps: a closed gate stands behind the last group that is forced; no group passes the area's end.
 //! Promises: a crash at any moment of `force` leaves the log with its tail or without it (`any_moment`), and with it
-//! after `Ok` (`stands`, `durable`); `read_in` answers what the device stands for (`whole`, `bad_log`, `bad_record`).
-//! Refuses: `LogFull` in `append`; `BadLog` and `BadRecord` in `read_in`; `Failed` only where the rig's count of faults rose.
+//! after `Ok` (`stands`, `durable`); `read_in` answers what the device stands for, and `of_area` what an area in memory
+//! does (`whole`, `bad_log`, `bad_record`).
+//! Refuses: `LogFull` in `append`; `BadLog` and `BadRecord` in `read_in` and `of_area`; `Failed` only where the rig's count
+//! of faults rose.
 //! Knows nothing of: pages, transactions, other logs, which record may follow which.
 //! Stands on: sd_base, sd_rig, sd_logrec. On it stand: sd_merge, sd_state.
 //! Held by the caller: a crash leaves of the device what it reads, and the log's groups stand there (`force`).

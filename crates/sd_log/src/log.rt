@@ -3,11 +3,11 @@
 ghost use Rattle.std.specs.Prelude.{◌≡◌, ◌≢◌, ◌⊎◌, ◌↔◌, [], ◌∷◌, ◌++◌, ℕ, ◌+◌, ◌-◌, ◌^◌, ◌<◌, ◌≤◌, false, true, max, if◌then◌else◌, length, Err, Ok, IsOk, IfErr, IfOk, IsTrue, OnErr, OnOk};
 ghost use Rattle.sd_base.specs.Streams.{Rises};
 ghost use Rattle.sd_base.specs.declared.refusal.Refusal.TheVariants as R;
-ghost use Rattle.sd_logrec.specs.Kept.{BadGroup, NoRecord, Whole, area, reading};
+ghost use Rattle.sd_logrec.specs.Kept.{BadGroup, NoRecord, Whole, area, groups_within, reading};
 ghost use Rattle.sd_logrec.specs.Spelling.{HasSpelling, spelling};
 ghost use Rattle.sd_rig.specs.Devices.{AgreesOutside, Elapses, IsUnchanged, LeavesOnly, LeavesSame, Span};
 ghost use Rattle.sd_log.specs.Forces.{Forces, StandsEither, forced_at, forced_len};
-ghost use Rattle.sd_log.specs.Logs.{IsStartFor, StandsOn, forced, is_reserved, last_lsn, needed, scanned, with_record, without_tail};
+ghost use Rattle.sd_log.specs.Logs.{AreSpelled, IsStartFor, StandsOn, forced, is_reserved, last_lsn, needed, scanned, with_record, without_tail};
 
 use crate::buffer::Buffer;
 use crate::journal::Journal;
@@ -73,15 +73,27 @@ impl Log {
     {
         let mut bytes = Vec::from_elem(alloc, 0u8, AREA_LEN - start as usize)?;
         rig.read(inst.get(), AREA + start, &mut bytes)?;
-        let mut journal = Journal::new(alloc, start);
-        read_groups(alloc, &mut journal, &bytes)?;
-        let tail = Buffer::new(alloc)?;
-        Ok(Log {
-            inst,
-            journal,
-            tail,
-            spare: 0,
-        })
+        read_from(alloc, inst, start, &bytes)
+    }
+
+    /// Reads the groups of an area that stands in memory, from the place `start` on, as the instance's log.
+    ///
+    /// `BadLog` and `BadRecord` come as in `read_in`.
+    pub fn of_area(alloc: Global, inst: InstNo, start: u32, area: &[u8]) -> Result<Log, Refusal>
+        requires length { length area.now ≡ 1048576 }
+        requires start { start < 1048576 }
+        ensures whole { IfOk result (λ log. reading start area.now ≡ Whole log.groups log.gate) }
+        ensures spelled { IfOk result (λ log. AreSpelled (scanned log)) }
+        ensures inst { IfOk result (λ log. log.inst ≡ inst) }
+        ensures start { IfOk result (λ log. log.start ≡ start) }
+        ensures tail { IfOk result (λ log. log.tail ≡ []) }
+
+        ensures bad_log { (at : ℕ) → result ≡ Err (R.BadLog at) → reading start area.now ≡ BadGroup at }
+        ensures bad_record { (at : ℕ) → result ≡ Err (R.BadRecord at) → reading start area.now ≡ NoRecord at }
+        ensures refusals { IfErr result (λ e. (e ≡ R.Memory) ⊎ ((at : ℕ) × (e ≡ R.BadLog at)) ⊎ ((at : ℕ) × (e ≡ R.BadRecord at))) }
+    {
+        let (_, bytes) = area.split_at(start as usize);
+        read_from(alloc, inst, start, bytes)
     }
 
     /// The LSN of the next record, of a change to a page with this LSN: one more than the greater of this and the last
@@ -209,6 +221,30 @@ impl Log {
         self.journal.drop_tail();
         self.tail.clear();
     }
+}
+
+// The log of an area of which these bytes stand from the place `start` on.
+fn read_from(alloc: Global, inst: InstNo, start: u32, bytes: &[u8]) -> Result<Log, Refusal>
+    requires place { start + length bytes.now ≡ AREA_LEN }
+    requires some { 0 < length bytes.now }
+    ensures whole { IfOk result (λ log. groups_within (length bytes.now) start bytes.now ≡ Whole log.groups log.gate) }
+    ensures spelled { IfOk result (λ log. AreSpelled (scanned log)) }
+    ensures inst { IfOk result (λ log. log.inst ≡ inst) }
+    ensures start { IfOk result (λ log. log.start ≡ start) }
+    ensures tail { IfOk result (λ log. log.tail ≡ []) }
+    ensures err { IfErr result (λ e. (e ≡ R.Memory)
+        ⊎ ((place : ℕ) × (e ≡ R.BadLog place) × (groups_within (length bytes.now) start bytes.now ≡ BadGroup place))
+        ⊎ ((place : ℕ) × (e ≡ R.BadRecord place) × (groups_within (length bytes.now) start bytes.now ≡ NoRecord place))) }
+{
+    let mut journal = Journal::new(alloc, start);
+    read_groups(alloc, &mut journal, bytes)?;
+    let tail = Buffer::new(alloc)?;
+    Ok(Log {
+        inst,
+        journal,
+        tail,
+        spare: 0,
+    })
 }
 
 // How much is to spare behind a record of `len` bytes.

@@ -269,3 +269,18 @@ fn a_tail_is_told_with_its_places_and_dropped(rt: HostRuntime) -> Result<(), Fai
     log.force(&mut rig)?;
     Ok(())
 }
+
+#[test]
+fn an_area_in_memory_is_read_from_its_start_place_on(rt: HostRuntime) -> Result<(), Fail> {
+    let inst = first_inst()?;
+    let mut area = Vec::from_slice(rt.alloc(), &LOG)?;
+    area.resize(1_048_576, 0)?;
+    let log = Log::of_area(rt.alloc(), inst, 0, &area)?;
+    assert!(rt; are_at(&log, &[(5, true), (23, true), (64, true)]) && log.gate() == 90);
+    let behind = Log::of_area(rt.alloc(), inst, 18, &area)?;
+    assert!(rt; are_at(&behind, &[(23, true), (64, true)]) && behind.gate() == 90);
+    area[1] = 1;
+    let bad = Log::of_area(rt.alloc(), inst, 0, &area);
+    assert!(rt; matches!(bad, Err(Refusal::BadLog { at: 0 })));
+    Ok(())
+}
