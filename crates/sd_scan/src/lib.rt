@@ -1,0 +1,25 @@
+//! One log device read: its master, and its groups from the master's start place on.
+//!
+//! Meaning: what a log device keeps is `kept` (`specs/Kept.antt` of sd_logrec); when it is sound, `MasterIsSound` and
+//! `GroupsAreSound` (`specs/Checks.antt` of sd_chain).
+//! Keeps: nothing.
+//! Promises: `scan` answers the log that the device keeps where both hold (`master`, `groups`, `kept`), and else
+//! `Damaged` (`unsound`).
+//! Refuses: `Damaged` in `scan`, and want of memory.
+//! Knows nothing of: pages, other logs, what a transaction has open.
+//! Stands on: sd_base, sd_page, sd_logrec, sd_rig, sd_log, sd_chain. On it stand: sd_recovered.
+//!
+//! To change:
+//! - free: bodies, private helpers
+//! - dear: the clauses of `scan`
+//! - frozen: nothing
+#![tactic(auto)]
+
+mod following;
+mod master;
+mod scanning;
+
+pub use scanning::scan;
+
+#[cfg(test)]
+mod tests;
