@@ -1,0 +1,237 @@
+-- What the table has of a transaction, with one record more: for the goals of `note`.
+use Rattle.std.proofs.Common.{◌≡◌, ⊎_elim, ℕ, ◌+◌, ◌<◌, Bool, true, false, cond, List, [], ◌∷◌, ◌++◌, length, take, drop, get_or, Option, None, Some, refl, sym, ap, ◌∙◌, subst, append_assoc}
+use Rattle.std.specs.List.{list_any}
+use Rattle.std.specs.Map.{lookup}
+use Rattle.std.specs.Prelude.{IsTrue, ◌↔◌}
+use Rattle.std.specs.Option.{option_map, unwrap_or}
+use Rattle.std.proofs.lemmas.Option.{slice_get-get_or}
+use Rattle.std.proofs.lemmas.List.{map-append, take_more, take-append-drop}
+use Rattle.std.proofs.lemmas.Bool.{cases_Bool}
+use Rattle.sd_base.specs.declared.ids.TxnId.{TxnId}
+use Rattle.sd_base.specs.Ids.{same_txn}
+use Rattle.sd_logrec.specs.View.{Rec, flat}
+use Rattle.sd_log.specs.declared.placed.Placed.{Placed}
+use Rattle.sd_log.specs.Logs.{flats}
+use Rattle.sd_chain.specs.Records.{stack_from}
+use Rattle.sd_chain.specs.Order.{speaks, of_txn, Sofar, none_yet, after_all, InOrder, Undoes, UndoesTop, first_prev}
+use Rattle.sd_chain.proofs.Txns.{cases_txn, eq-same, ne-same}
+use Rattle.sd_analysis.specs.declared.seen.Seen.{Seen}
+use Rattle.sd_analysis.specs.Losers.{record_at, AreTidy}
+use Rattle.sd_analysis.specs.Faults.{ComesWrong, IsFirst, MayCome}
+use Rattle.sd_analysis.specs.Seen.{with_record, Fits, Tells, TellsOf, TellsAll}
+use Rattle.sd_analysis.proofs.Prefixes.{own_of, other_of, silent_of, advance-own, advance-off, after_all-append, after_all-none, InOrder-append, InOrder-back, InOrder-none, Undoes-append, Undoes-back, Undoes-none, Undoes-off, open_ones-is, first_prev-there, first_prev-behind, first_prev-off}
+
+-- what is seen of the transaction of x before x, which comes next
+pub record Ready (log : List Placed) (xs : List Rec) (x : Rec) (seen : Seen) : Type 0 where
+  pub fits : Fits log (after_all x.txn none_yet xs) seen
+  pub first : IsFirst log x.txn seen.first seen.first_prev
+  pub prev : seen.first_prev ≡ first_prev x.txn (xs ++ x ∷ [])
+  pub order : InOrder x.txn none_yet xs
+  pub undo : seen.first_prev ≡ 0 → Undoes x.txn [] xs
+
+some_more : (t : TxnId) (xs : List Rec) (x : Rec) → of_txn t x ≡ true → list_any (of_txn t) (xs ++ x ∷ []) ≡ true
+some_more t [] x own = rw own refl
+some_more t (y ∷ ys) x own = ⊎_elim (λ is. rw is refl) (λ off. rw off (some_more t ys x own)) (cases_Bool (of_txn t y))
+
+any_off : (t : TxnId) (xs : List Rec) (x : Rec) → of_txn t x ≡ false → list_any (of_txn t) (xs ++ x ∷ []) ≡ list_any (of_txn t) xs
+any_off t [] x off = rw off refl
+any_off t (y ∷ ys) x off = ⊎_elim (λ is. rw is refl) (λ not. rw not (any_off t ys x off)) (cases_Bool (of_txn t y))
+
+-- a row of the table, or a new one
+pub ready_from : (log : List Placed) (xs : List Rec) (x : Rec) (at : ℕ) (row : Option Seen) (fresh seen : Seen) → of_txn x.txn x ≡ true
+    → xs ≡ flats (take at log) → record_at log at ≡ Some x → TellsOf log xs x.txn row → Fits log none_yet fresh → fresh.first ≡ at
+    → fresh.first_prev ≡ x.prev → seen ≡ unwrap_or row fresh → Ready log xs x seen
+ready_from log xs x at None fresh seen own front there none fits first prev is = subst (Ready log xs x) (sym is) (record {
+  fits = subst (λ (q : Sofar). Fits log q fresh) (sym (after_all-none x.txn none_yet xs none)) fits;
+  first = subst (λ (n : ℕ). IsFirst log x.txn n fresh.first_prev) (sym first) (record {
+    here = x;
+    there = there;
+    own = own;
+    prev_is = sym prev;
+    none = ap (list_any (of_txn x.txn)) (sym front) ∙ none;
+  });
+  prev = prev ∙ sym (first_prev-behind x.txn xs (x ∷ []) none ∙ ap (λ (b : Bool). cond b x.prev 0) own);
+  order = InOrder-none x.txn none_yet xs none;
+  undo = λ e. Undoes-none x.txn [] xs none;
+})
+ready_from log xs x at (Some row) fresh seen own front there tells fits first prev is = subst (Ready log xs x) (sym is) (record {
+  fits = tells.fits;
+  first = tells.first;
+  prev = tells.prev ∙ sym (first_prev-there x.txn xs (x ∷ []) tells.there);
+  order = tells.order;
+  undo = tells.undo;
+})
+
+-- with the record
+pub tells_more : (log : List Placed) (xs : List Rec) (x : Rec) (seen new : Seen) → of_txn x.txn x ≡ true → Ready log xs x seen
+    → MayCome (after_all x.txn none_yet xs) seen.first_prev x → Fits log (with_record (after_all x.txn none_yet xs) x) new
+    → new.first ≡ seen.first → new.first_prev ≡ seen.first_prev → Tells log (xs ++ x ∷ []) x.txn new
+tells_more log xs x seen new own ready may fits first prev = record {
+  fits = subst (λ (q : Sofar). Fits log q new)
+      (sym (after_all-append x.txn none_yet xs (x ∷ []) ∙ advance-own x.txn (after_all x.txn none_yet xs) x own)) fits;
+  there = some_more x.txn xs x own;
+  first = subst (λ (n : ℕ). IsFirst log x.txn n new.first_prev) (sym first)
+      (subst (λ (n : ℕ). IsFirst log x.txn seen.first n) (sym prev) ready.first);
+  prev = prev ∙ ready.prev;
+  order = InOrder-append x.txn none_yet xs (x ∷ []) ready.order ((λ is. may.next), tt);
+  undo = λ e. Undoes-append x.txn [] xs (x ∷ []) (ready.undo (sym prev ∙ e))
+      ((λ k is. subst (UndoesTop x) (open_ones-is x.txn none_yet xs) (may.undo (sym prev ∙ e) k)), tt);
+}
+
+-- a record of another transaction, or of none
+pub tells_other : (log : List Placed) (xs : List Rec) (x : Rec) (t : TxnId) (row : Option Seen) → of_txn t x ≡ false → TellsOf log xs t row
+    → TellsOf log (xs ++ x ∷ []) t row
+tells_other log xs x t None off none = any_off t xs x off ∙ none
+tells_other log xs x t (Some seen) off tells = record {
+  fits = subst (λ (q : Sofar). Fits log q seen)
+      (sym (after_all-append t none_yet xs (x ∷ []) ∙ advance-off t (after_all t none_yet xs) x off)) tells.fits;
+  there = any_off t xs x off ∙ tells.there;
+  first = tells.first;
+  prev = tells.prev ∙ sym (first_prev-off t xs x off);
+  order = InOrder-append t none_yet xs (x ∷ []) tells.order ((λ is. let c = sym off ∙ is in absurd (cc)), tt);
+  undo = λ e. Undoes-append t [] xs (x ∷ []) (tells.undo e) (Undoes-off t (stack_from t [] xs) x off);
+}
+
+-- the table with the new row
+pub all_more : (log : List Placed) (xs : List Rec) (x : Rec) (rows rows' : List (TxnId × Seen)) (new : Seen) → TellsAll log xs rows
+    → ((q : TxnId) → lookup (same_txn q) rows' ≡ cond (same_txn x.txn q) (Some new) (lookup (same_txn q) rows))
+    → Tells log (xs ++ x ∷ []) x.txn new → TellsAll log (xs ++ x ∷ []) rows'
+all_more log xs x rows rows' new known written tells t = subst (TellsOf log (xs ++ x ∷ []) t) (sym (written t)) (⊎_elim
+    (λ e. subst (λ (b : Bool). TellsOf log (xs ++ x ∷ []) t (cond b (Some new) (lookup (same_txn t) rows))) (sym (eq-same x.txn t e))
+    (subst (λ (u : TxnId). Tells log (xs ++ x ∷ []) u new) e tells))
+    (λ ne. subst (λ (b : Bool). TellsOf log (xs ++ x ∷ []) t (cond b (Some new) (lookup (same_txn t) rows))) (sym (ne-same x.txn t ne))
+    (tells_other log xs x t (lookup (same_txn t) rows) (other_of t x ne) (known t)))
+    (cases_txn x.txn t))
+
+-- a record of no transaction leaves the table
+pub all_same : (log : List Placed) (xs : List Rec) (x : Rec) (rows : List (TxnId × Seen)) → speaks x.kind ≡ false → TellsAll log xs rows
+    → TellsAll log (xs ++ x ∷ []) rows
+all_same log xs x rows silent known t = tells_other log xs x t (lookup (same_txn t) rows) (silent_of t x silent) (known t)
+
+-- the transaction that a record speaks of
+pub spoken : (b : Bool) (t u : TxnId) → Some t ≡ cond b (Some u) None → (b ≡ true) × (t ≡ u)
+spoken true t u e = (refl, cc)
+spoken false t u e = absurd (cc)
+
+pub unspoken : (b : Bool) (u : TxnId) → None ≡ cond b (Some u) None → b ≡ false
+unspoken true u e = absurd (cc)
+unspoken false u e = refl
+
+-- ---- the log up to an index
+
+pub flats-more : (log : List Placed) (at : ℕ) (d : Placed) → at < length log
+    → flats (take (at + 1) log) ≡ flats (take at log) ++ flat (get_or log at d).rec ∷ []
+flats-more log at d lt = ap flats (take_more log at d lt) ∙ map-append (λ (q : Placed). flat q.rec) (take at log) (get_or log at d ∷ [])
+
+pub found_at : (log : List Placed) (at : ℕ) (d : Placed) → at < length log → record_at log at ≡ Some (flat (get_or log at d).rec)
+found_at log at d lt = ap (option_map (λ (q : Placed). flat q.rec)) (slice_get-get_or log at d lt)
+
+pub flats-parts : (log : List Placed) (at : ℕ) → flats log ≡ flats (take at log) ++ flats (drop at log)
+flats-parts log at = ap flats (sym (take-append-drop at log)) ∙ map-append (λ (q : Placed). flat q.rec) (take at log) (drop at log)
+
+-- ---- the record of an index
+
+-- the record; where it lies outside, that of d
+abbrev pub rec_at : List Placed → ℕ → Placed → Rec
+rec_at log at d = flat (get_or log at d).rec
+
+-- what is seen of its transaction
+pub record Noting (log : List Placed) (at : ℕ) (x : Rec) (t : TxnId) (seen : Seen) : Type 0 where
+  pub there : record_at log at ≡ Some x
+  pub more : flats (take (at + 1) log) ≡ flats (take at log) ++ x ∷ []
+  pub named : t ≡ x.txn
+  pub own : of_txn x.txn x ≡ true
+  pub ready : Ready log (flats (take at log)) x seen
+
+pub noting : (log : List Placed) (at : ℕ) (d : Placed) (t : TxnId) (rows : List (TxnId × Seen)) (row : Option Seen) (fresh seen : Seen)
+    → at < length log → TellsAll log (flats (take at log)) rows
+    → Some t ≡ cond (speaks (rec_at log at d).kind) (Some (rec_at log at d).txn) None → row ≡ lookup (same_txn t) rows
+    → Fits log none_yet fresh → fresh.first ≡ at → fresh.first_prev ≡ (rec_at log at d).prev → seen ≡ unwrap_or row fresh
+    → Noting log at (rec_at log at d) t seen
+noting log at d t rows row fresh seen lt known says row_is fits first prev seen_is =
+    let x = rec_at log at d in
+    let s = spoken (speaks x.kind) t x.txn says in
+    let own = own_of x s.0 in
+    let there = found_at log at d lt in
+    let held : row ≡ lookup (same_txn x.txn) rows = row_is ∙ ap (λ (u : TxnId). lookup (same_txn u) rows) s.1 in
+    record {
+      there = there;
+      more = flats-more log at d lt;
+      named = s.1;
+      own = own;
+      ready = ready_from log (flats (take at log)) x at (lookup (same_txn x.txn) rows) fresh seen own refl there (known x.txn) fits
+          first prev
+          (seen_is ∙ ap (λ (r : Option Seen). unwrap_or r fresh) held);
+    }
+
+-- where it may not come, its transaction isn't in order
+pub bad_next : (log : List Placed) (at : ℕ) (x : Rec) (t : TxnId) (seen : Seen) → Noting log at x t seen
+    → (MayCome (after_all x.txn none_yet (flats (take at log))) seen.first_prev x → ⊥) → AreTidy log → ⊥
+bad_next log at x t seen noting bad tidy = bad (record {
+  next = (InOrder-back x.txn none_yet xs (x ∷ ys) (subst (InOrder x.txn none_yet) one (tidy x.txn).order)).0 noting.own;
+  undo = λ e k. subst (UndoesTop x) (sym (open_ones-is x.txn none_yet xs))
+      ((Undoes-back x.txn [] xs (x ∷ ys) (subst (Undoes x.txn []) one ((tidy x.txn).undo (first e)))).0 k refl);
+})
+  where
+    xs : List Rec
+    xs = flats (take at log)
+
+    ys : List Rec
+    ys = flats (drop (at + 1) log)
+
+    parts : flats log ≡ (xs ++ x ∷ []) ++ ys
+    parts = flats-parts log (at + 1) ∙ ap (λ (l : List Rec). l ++ ys) noting.more
+
+    one : flats log ≡ xs ++ x ∷ ys
+    one = parts ∙ append_assoc xs (x ∷ []) ys
+
+    first : seen.first_prev ≡ 0 → first_prev x.txn (flats log) ≡ 0
+    first e = ap (first_prev x.txn) parts
+        ∙ first_prev-there x.txn (xs ++ x ∷ []) ys (some_more x.txn xs x noting.own) ∙ sym noting.ready.prev ∙ e
+
+-- and the fault is at its index
+pub wrong_at : (log : List Placed) (at : ℕ) (x : Rec) (t : TxnId) (seen : Seen) → Noting log at x t seen
+    → (MayCome (after_all x.txn none_yet (flats (take at log))) seen.first_prev x → ⊥) → ComesWrong log at
+wrong_at log at x t seen noting bad = record {
+  here = x;
+  there = noting.there;
+  own = noting.own;
+  wrong = λ may. bad (subst (λ (n : ℕ). MayCome (after_all x.txn none_yet (flats (take at log))) n x)
+      (ap (first_prev x.txn) noting.more ∙ sym noting.ready.prev) may);
+}
+
+-- a test that it may come has failed
+pub refused : (log : List Placed) (xs : List Rec) (x : Rec) (seen : Seen) (b : Bool) → Ready log xs x seen
+    → ((sofar : Sofar) → Fits log sofar seen → IsTrue b ↔ MayCome sofar seen.first_prev x) → b ≡ false
+    → MayCome (after_all x.txn none_yet xs) seen.first_prev x → ⊥
+refused log xs x seen b ready test off may =
+    let yes = (test (after_all x.txn none_yet xs) ready.fits).1 may in let c = sym off ∙ yes in absurd (cc)
+
+-- the table with the record noted
+pub noted_all : (log : List Placed) (at : ℕ) (x : Rec) (t : TxnId) (rows rows' : List (TxnId × Seen)) (seen new : Seen)
+    → Noting log at x t seen → TellsAll log (flats (take at log)) rows
+    → MayCome (after_all x.txn none_yet (flats (take at log))) seen.first_prev x
+    → Fits log (with_record (after_all x.txn none_yet (flats (take at log))) x) new → new.first ≡ seen.first
+    → new.first_prev ≡ seen.first_prev
+    → ((q : TxnId) → lookup (same_txn q) rows' ≡ cond (same_txn t q) (Some new) (lookup (same_txn q) rows))
+    → TellsAll log (flats (take (at + 1) log)) rows'
+noted_all log at x t rows rows' seen new noting known may fits first prev written =
+    let xs = flats (take at log) in
+    subst (λ (ys : List Rec). TellsAll log ys rows') (sym noting.more)
+    (all_more log xs x rows rows' new known
+    (λ q. written q ∙ ap (λ (u : TxnId). cond (same_txn u q) (Some new) (lookup (same_txn q) rows)) noting.named)
+    (tells_more log xs x seen new noting.own noting.ready may fits first prev))
+
+-- a record of no transaction
+pub silent_all : (log : List Placed) (at : ℕ) (d : Placed) (rows : List (TxnId × Seen)) → at < length log
+    → None ≡ cond (speaks (rec_at log at d).kind) (Some (rec_at log at d).txn) None → TellsAll log (flats (take at log)) rows
+    → TellsAll log (flats (take (at + 1) log)) rows
+silent_all log at d rows lt says known =
+    let x = rec_at log at d in
+    subst (λ (ys : List Rec). TellsAll log ys rows) (sym (flats-more log at d lt))
+    (all_same log (flats (take at log)) x rows (unspoken (speaks x.kind) x.txn says) known)
+
+-- the same of equal rows
+pub as_given : (log : List Placed) (ys : List Rec) (rows rows' : List (TxnId × Seen)) → rows' ≡ rows → TellsAll log ys rows
+    → TellsAll log ys rows'
+as_given log ys rows rows' e all = subst (TellsAll log ys) (sym e) all

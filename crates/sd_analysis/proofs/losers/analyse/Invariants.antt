@@ -1,0 +1,7 @@
+use Rattle.std.proofs.Common.{take}
+use Rattle.sd_log.specs.Logs.{flats}
+use Rattle.sd_analysis.specs.Seen.{TellsAll}
+use Rattle.sd_analysis.proofs.losers.analyse.Given as goal
+
+abbrev pub invariant-loop-at : goal.invariant-loop-at
+invariant-loop-at l = TellsAll l.log (flats (take l.at l.log)) l.table.entries

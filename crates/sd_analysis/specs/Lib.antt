@@ -1,0 +1,4 @@
+pub mod Faults
+pub mod Losers
+pub mod Owing
+pub mod Seen

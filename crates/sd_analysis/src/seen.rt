@@ -1,0 +1,162 @@
+//! What the records so far tell of one transaction.
+
+ghost use Rattle.std.specs.Prelude.{◌≡◌, ◌↔◌, List, Some, [], ◌∷◌, IsTrue, OnOk};
+ghost use Rattle.sd_logrec.specs.View.{flat};
+ghost use Rattle.sd_logrec.specs.View.Kind.{Clr, Update};
+ghost use Rattle.sd_log.specs.declared.placed.Placed.{Placed};
+ghost use Rattle.sd_chain.specs.Records.{ends};
+ghost use Rattle.sd_chain.specs.Order.{none_yet, ComesNext, Sofar, UndoesTop};
+ghost use Rattle.sd_analysis.specs.Losers.{record_at};
+ghost use Rattle.sd_analysis.specs.Faults.{MayCome};
+ghost use Rattle.sd_analysis.specs.Seen.{with_record, Fits};
+
+use sd_base::{Bytes, Lsn, Memory};
+use sd_log::Placed;
+use sd_logrec::Record;
+use std::alloc::Global;
+
+/// What the records so far tell of a transaction: its open ones by their indices in the log, the top last; the LSN of its
+/// last record, or 0; whether it is closed; the index and the `prev` of its first record.
+#[derive(Debug, Drop)]
+pub(crate) struct Seen {
+    pub(crate) open: Vec<usize>,
+    pub(crate) last: Lsn,
+    pub(crate) closed: bool,
+    pub(crate) first: usize,
+    pub(crate) first_prev: Lsn,
+}
+
+impl Seen {
+    /// Before the first record, whose index and `prev` these are.
+    pub(crate) fn new(alloc: Global, first: usize, first_prev: Lsn) -> Seen
+        ensures empty { (log : List Placed) → Fits log none_yet result }
+        ensures first { result.first ≡ first }
+        ensures prev { result.first_prev ≡ first_prev }
+    {
+        Seen {
+            open: Vec::new(alloc),
+            last: 0,
+            closed: false,
+            first,
+            first_prev,
+        }
+    }
+
+    /// Whether the transaction's next record may be this one. What its undos take back is known only where its first
+    /// record is the first that it wrote.
+    pub(crate) fn allows(&self, log: &[Placed], rec: &Record) -> bool
+        ensures { (sofar : Sofar) → Fits log.now sofar self.now → (IsTrue result ↔ MayCome sofar self.now.first_prev (flat rec.now)) }
+    {
+        self.comes_next(rec) && (self.first_prev != 0 || self.undoes_top(log, rec))
+    }
+
+    // Whether the record may come next, whatever it undoes.
+    fn comes_next(&self, rec: &Record) -> bool
+        ensures { (log : List Placed) (sofar : Sofar) → Fits log sofar self.now → (IsTrue result ↔ ComesNext sofar (flat rec.now)) }
+    {
+        if self.closed || (self.last != 0 && prev_of(rec) != self.last) {
+            return false;
+        }
+        match rec {
+            Record::End { .. } => self.open.is_empty(),
+            _ => true,
+        }
+    }
+
+    // Whether the record undoes the top, if it undoes anything.
+    fn undoes_top(&self, log: &[Placed], rec: &Record) -> bool
+        ensures { (sofar : Sofar) → Fits log.now sofar self.now
+            → (IsTrue result ↔ ((flat rec.now).kind ≡ Clr → UndoesTop (flat rec.now) sofar.open_ones)) }
+    {
+        if !is_clr(rec) {
+            return true;
+        }
+        let Some(at) = self.open.last() else {
+            return false;
+        };
+        match log.get(*at) {
+            Some(top) => undoes(rec, &top.rec),
+            None => false,
+        }
+    }
+
+    /// Takes note of its next record, which has this index.
+    pub(crate) fn note(&mut self, at: usize, rec: &Record) -> Result<(), Memory>
+        ensures noted { OnOk result ((log : List Placed) (sofar : Sofar) → record_at log at ≡ Some (flat rec.now) → Fits log sofar self.old
+            → Fits log (with_record sofar (flat rec.now)) self.new) }
+        ensures first { self.new.first ≡ self.old.first }
+        ensures prev { self.new.first_prev ≡ self.old.first_prev }
+    {
+        self.last = rec.lsn();
+        match rec {
+            Record::Update { .. } => self.open.push(at)?,
+            Record::Clr { .. } => drop(self.open.pop()),
+            _ => {}
+        }
+        self.closed = is_end(rec);
+        Ok(())
+    }
+}
+
+fn is_clr(rec: &Record) -> bool
+    ensures { IsTrue result ↔ ((flat rec.now).kind ≡ Clr) }
+{
+    matches!(rec, Record::Clr { .. })
+}
+
+// Whether a CLR is the undo of this update: it has the page and slot, puts back the value before, and goes on at the
+// transaction's record before it.
+fn undoes(clr: &Record, update: &Record) -> bool
+    ensures { (flat clr.now).kind ≡ Clr → (flat update.now).kind ≡ Update
+        → (IsTrue result ↔ UndoesTop (flat clr.now) (flat update.now ∷ [])) }
+{
+    match (clr, update) {
+        (
+            Record::Clr {
+                page,
+                slot,
+                after,
+                undo_next,
+                ..
+            },
+            Record::Update {
+                page: own_page,
+                slot: own_slot,
+                before,
+                prev,
+                ..
+            },
+        ) => page == own_page && slot == own_slot && same_value(after, before) && undo_next == prev,
+        _ => false,
+    }
+}
+
+fn same_value(one: &Option<Bytes>, other: &Option<Bytes>) -> bool
+    ensures { IsTrue result ↔ (one.now ≡ other.now) }
+{
+    match (one, other) {
+        (None, None) => true,
+        (Some(one), Some(other)) => one.items() == other.items(),
+        _ => false,
+    }
+}
+
+// Whether the record ends its transaction.
+fn is_end(rec: &Record) -> bool
+    ensures { result ≡ ends (flat rec.now).kind }
+{
+    matches!(rec, Record::Commit { .. } | Record::End { .. })
+}
+
+/// The LSN of the transaction's former record, or 0.
+pub(crate) fn prev_of(rec: &Record) -> Lsn
+    ensures { result ≡ (flat rec.now).prev }
+{
+    match rec {
+        Record::Update { prev, .. }
+        | Record::Clr { prev, .. }
+        | Record::Commit { prev, .. }
+        | Record::End { prev, .. } => *prev,
+        _ => 0,
+    }
+}
