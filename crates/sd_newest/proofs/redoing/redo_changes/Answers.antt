@@ -1,0 +1,60 @@
+use Rattle.std.proofs.Common.{◌<◌, ap, get_or, inl, inr, sym, subst, arith}
+use Rattle.std.proofs.lemmas.List.{take_all}
+use Rattle.std.proofs.lemmas.List.Elements.{All-get_or}
+use Rattle.std.proofs.lemmas.Result.{err_from_is_err_and}
+use Rattle.sd_page.specs.Page.{Page}
+use Rattle.sd_newest.specs.Changes.{IsChange}
+use Rattle.sd_newest.specs.Redone.{IsRedone}
+use Rattle.sd_newest.proofs.Steps.{Finds, misfits, none_redone, page_small, redone_more}
+use Rattle.sd_newest.proofs.redoing.redo_changes.Goals as goal
+
+pub loop-change-init : goal.loop-change-init
+loop-change-init c p lt = none_redone p c.args.pages.now (omega (arith, c.requires.count))
+
+pub loop-change-preserved : goal.loop-change-preserved
+loop-change-preserved c p lt =
+    let is : IsChange c.change-item.result = subst IsChange (sym c.change-item.is)
+    (All-get_or IsChange c.args.changes.now c.loop-change.change-index c.change-item.result (omega arith) c.requires.changes) in
+    let small : c.change-item.result.page < 1024 = page_small c.change-item.result is in
+    let image : Page = get_or c.loop-change.pages c.change-item.result.page c.index-pages-place.result in
+    let finds : Finds c.change-item.result c.args.pages.now c.loop-change.pages c.args.disk_lsns.now image = record {
+      is = is;
+      within = omega (arith, c.requires.count);
+      lsns_are = c.requires.lsns;
+      image_is = ap (get_or c.loop-change.pages c.change-item.result.page) c.index-pages-place.is;
+    } in
+    redone_more c.args.changes.now c.loop-change.change-index c.change-item.result c.args.pages.now c.loop-change.pages
+    c.args.disk_lsns.now image c.redo_change.new.image
+    (omega arith) c.change-item.is finds
+    (record { fit = c.in_ok-redo_change.ensures.fit; redone = c.in_ok-redo_change.ensures.redone }) p (c.loop-change.invariant p lt)
+
+pub returns-in_err-redo_change-clause-refusals : goal.returns-in_err-redo_change-clause-refusals
+returns-in_err-redo_change-clause-refusals c =
+    let p = err_from_is_err_and c.from_residual.result c.from_residual.ensures.1 in
+    let is : IsChange c.change-item.result = subst IsChange (sym c.change-item.is)
+    (All-get_or IsChange c.args.changes.now c.loop-change.change-index c.change-item.result (omega arith) c.requires.changes) in
+    let small : c.change-item.result.page < 1024 = page_small c.change-item.result is in
+    let image : Page = get_or c.loop-change.pages c.change-item.result.page c.index-pages-place.result in
+    let finds : Finds c.change-item.result c.args.pages.now c.loop-change.pages c.args.disk_lsns.now image = record {
+      is = is;
+      within = omega (arith, c.requires.count);
+      lsns_are = c.requires.lsns;
+      image_is = ap (get_or c.loop-change.pages c.change-item.result.page) c.index-pages-place.is;
+    } in
+    rw (p.1, p.2) (elim c.in_err-redo_change.ensures.refusals [
+      | inl memory ↦ inl memory
+      | inr bad ↦ inr (
+        bad.0,
+        bad.1,
+        c.change-item.result.page,
+        bad.2,
+        small,
+        misfits c.args.changes.now c.loop-change.change-index
+            c.change-item.result c.args.pages.now c.loop-change.pages c.args.disk_lsns.now image
+            (omega arith) c.change-item.is finds bad.3 (c.loop-change.invariant c.change-item.result.page small),
+      )
+    ])
+
+pub returns-clause-redone : goal.returns-clause-redone
+returns-clause-redone c p lt = subst (λ l. IsRedone p l c.args.pages.now c.loop-change.pages)
+    (take_all c.loop-change.change-index c.args.changes.now (omega arith)) (c.loop-change.invariant p lt)

@@ -1,0 +1,4 @@
+pub mod Changes
+pub mod Reading
+pub mod Redone
+pub mod Twins

@@ -1,0 +1,102 @@
+//! The records of all logs that change a page, in the order in which they are redone.
+
+ghost use Rattle.std.specs.Prelude.{◌≡◌, ℕ, ◌+◌, ◌<◌, ◌++◌, false, filter, length, map, All, IfOk, IfSome, IsPermutation, OnOk};
+ghost use Rattle.sd_base.specs.declared.refusal.Refusal.TheVariants as R;
+ghost use Rattle.sd_logrec.specs.View.{flat};
+ghost use Rattle.sd_log.specs.Logs.{AreSpelled, flats, log_in, scanned};
+ghost use Rattle.sd_chain.specs.Image.{all_of};
+ghost use Rattle.sd_newest.specs.Changes.{AreChanges, ChangesPage, IsMerged, is_change, redone_of};
+
+use sd_base::{Lsn, Memory, Refusal};
+use sd_log::{Log, Placed};
+use sd_logrec::Record;
+use std::alloc::Global;
+
+/// Where the records of a log begin on its device, in bytes.
+const AREA: u64 = 130;
+
+/// A record that changes the page of this number, and the device of its log.
+#[derive(Drop)]
+pub(crate) struct Change<'a> {
+    pub(crate) dev: u8,
+    pub(crate) page: u16,
+    pub(crate) found: &'a Placed,
+}
+
+impl<'a> Change<'a> {
+    // The record as a change; `None` where it changes no page.
+    fn of(dev: u8, found: &'a Placed) -> Option<Change<'a>>
+        ensures none { result ≡ None → is_change (flat found.now.rec) ≡ false }
+        ensures found { IfSome result (λ change. change.found.now ≡ found.now) }
+        ensures page { IfSome result (λ change. ChangesPage change.found.now.rec change.page) }
+    {
+        match found.rec {
+            Record::Update { page, .. } | Record::Clr { page, .. } => Some(Change {
+                dev,
+                page: page.get(),
+                found,
+            }),
+            _ => None,
+        }
+    }
+
+    fn lsn(&self) -> Lsn
+        ensures { result ≡ (redone_of self.now).lsn }
+    {
+        self.found.rec.lsn()
+    }
+
+    /// The refusal of devices on which this record doesn't fit.
+    pub(crate) fn damaged(&self) -> Refusal
+        ensures { result ≡ R.Damaged self.now.dev (130 + self.now.found.now.place) }
+    {
+        Refusal::Damaged {
+            dev: self.dev,
+            at: AREA + u64::from(self.found.place),
+        }
+    }
+}
+
+/// The changes of all logs by page, and of each page by LSN.
+pub(crate) fn merged_changes(alloc: Global, logs: &[Log]) -> Result<Vec<Change>, Memory>
+    requires few { length logs.now < 256 }
+    requires spelled { All (λ log. AreSpelled (scanned log)) logs.now }
+    ensures changes { IfOk result (λ changes. AreChanges changes.items) }
+    ensures merged { IfOk result (λ changes. (p : ℕ) → IsMerged p (log_in logs.now) (length logs.now + 1) changes.items) }
+{
+    let mut changes = gathered_changes(alloc, logs)?;
+    changes.sort_by_key(|change| change.lsn())?;
+    changes.sort_by_key(|change| change.page)?;
+    Ok(changes)
+}
+
+// The changes of all logs, log by log.
+fn gathered_changes(alloc: Global, logs: &[Log]) -> Result<Vec<Change>, Memory>
+    requires few { length logs.now < 256 }
+    requires spelled { All (λ log. AreSpelled (scanned log)) logs.now }
+    ensures changes { IfOk result (λ changes. AreChanges changes.items) }
+    ensures gathered { IfOk result (λ changes. IsPermutation (filter is_change (all_of (log_in logs.now) (length logs.now + 1)))
+        (map redone_of changes.items)) }
+{
+    let mut changes = Vec::new(alloc);
+    for (index, log) in logs.iter().enumerate() {
+        gather(&mut changes, index as u8 + 1, log.scan())?;
+    }
+    Ok(changes)
+}
+
+// Puts the changes of one log behind the others.
+fn gather<'a>(changes: &mut Vec<Change<'a>>, dev: u8, found: &'a [Placed]) -> Result<(), Memory>
+    requires spelled { AreSpelled found.now }
+    requires changes { AreChanges changes.old.items }
+    ensures changes { OnOk result (AreChanges changes.new.items) }
+    ensures gathered { OnOk result (map redone_of changes.new.items
+        ≡ map redone_of changes.old.items ++ filter is_change (flats found.now)) }
+{
+    for placed in found {
+        if let Some(change) = Change::of(dev, placed) {
+            changes.push(change)?;
+        }
+    }
+    Ok(())
+}
