@@ -1,6 +1,6 @@
 //! Records that follow one another.
 
-ghost use Rattle.std.specs.Prelude.{◌≡◌, ◌↔◌, ℕ, List, is_some, IfNone, IsNone, IsSome, IsTrue, OnSome};
+ghost use Rattle.std.specs.Prelude.{◌≡◌, ◌↔◌, List, IsNone, IsTrue};
 ghost use Rattle.std.specs.List.{list_any};
 ghost use Rattle.sd_logrec.specs.declared.record.Record.{Record};
 ghost use Rattle.sd_logrec.specs.declared.record.Record.TheVariants as records;

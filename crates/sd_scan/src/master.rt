@@ -1,6 +1,6 @@
 //! The master of a log device: two slots, of which one counts.
 
-ghost use Rattle.std.specs.Prelude.{◌≡◌, ◌≢◌, ◌↔◌, ◌+◌, ◌<◌, ◌≤◌, drop, is_some, length, map, option_map, IfOk, IsOk, IsTrue, MatchResult, OnErr, OnOk, Some};
+ghost use Rattle.std.specs.Prelude.{◌≡◌, ◌≢◌, ◌↔◌, ◌+◌, ◌≤◌, length, map, option_map, IfOk, IsOk, IsTrue};
 ghost use Rattle.std.specs.Int.{w32, w64};
 ghost use Rattle.sd_base.specs.Twin.{Same, chosen_body};
 ghost use Rattle.sd_logrec.specs.Kept.{number_in};
