@@ -1,0 +1,11 @@
+pub mod Keys
+pub mod Lasts
+pub mod Rows
+pub mod Slots
+pub mod Steps
+pub mod Walks
+pub mod Stacks
+pub mod Finds
+pub mod Alones
+pub mod Opened
+pub mod Whole

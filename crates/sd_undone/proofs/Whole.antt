@@ -1,0 +1,123 @@
+-- What was taken back fits in the image, and what doesn't fit can't be taken back. It serves the goals of undone.
+use Rattle.std.proofs.Common.{◌≡◌, ◌≢◌, ◌⊎◌, inl, inr, ⊎_elim, ◌<◌, ℕ, List, [], ◌∷◌, refl, sym, ap, subst, ◌∙◌, arith}
+use Rattle.std.specs.Prelude.{All, filter}
+use Rattle.sd_base.specs.declared.ids.TxnId.{TxnId}
+use Rattle.sd_page.specs.Page.{Page, Slot}
+use Rattle.sd_logrec.specs.View.{Rec}
+use Rattle.sd_logrec.specs.View.Kind.{Update}
+use Rattle.sd_log.specs.Logs.{AreSpelled, LogState, scanned}
+use Rattle.sd_chain.specs.Records.{Each, Val, at}
+use Rattle.sd_chain.specs.Pages.{value}
+use Rattle.sd_chain.specs.Image.{Alone, HasPlace, Image, Linked, Open, Sound, StackFits, newest, now, opens}
+use Rattle.sd_chain.specs.Laws.{UndoingFinds}
+use Rattle.sd_chain.specs.Undoing.{EachFound, Member, stacks_of, undo_all}
+use Rattle.sd_analysis.specs.declared.losers.Loser.{Loser}
+use Rattle.sd_undone.specs.Others.{all_in, by_others, last_of_others}
+use Rattle.sd_undone.specs.Reading.{AreLosersOf, IsRead, txns_of}
+use Rattle.sd_undone.specs.Taking.{MayTake, open_in}
+use Rattle.sd_undone.specs.Values.{slots_in, values_in}
+use Rattle.sd_undone.proofs.Alones.{alone-from, alone-last, nil_or, not-both}
+use Rattle.sd_undone.proofs.Finds.{Agree, agree-all, agree-found, member-linked}
+use Rattle.sd_undone.proofs.Opened.{Each-both, Right, are-open, open-stacks, rights}
+use Rattle.sd_undone.proofs.Rows.{slots-here}
+use Rattle.sd_undone.proofs.Stacks.{each-stacks, member-each, stacks-each}
+use Rattle.sd_undone.proofs.Steps.{Each-weaker}
+
+module _ (img : Image) (pages : List Page) (logs : List LogState) (losers : List (List Loser)) (read : IsRead img pages logs)
+    (found : AreLosersOf logs losers) where
+  slots-newest : (p : ℕ) → p < 1024 → slots_in pages p ≡ (newest img p).slots
+  slots-newest p lt = slots-here pages p (newest img p) (read.pages_are p lt)
+
+  agree : Agree (values_in pages) (now img)
+  agree p s lt = ap (λ (slots : List Slot). value slots s) (slots-newest p lt)
+
+  -- the values of the pages once all was taken back
+  pub values-undone : (p s : ℕ) → p < 1024
+      → undo_all (values_in pages) (open_in logs losers) p s ≡ undo_all (now img) (stacks_of img (txns_of losers)) p s
+  values-undone p s lt =
+      ap (λ (xs : List Rec). undo_all (values_in pages) xs p s) (open-stacks img logs losers read.logs_are found)
+      ∙ agree-all (values_in pages) (now img) (stacks_of img (txns_of losers)) agree p s lt
+
+  module _ (spelled : All (λ log. AreSpelled (scanned log)) logs) where
+    each-right : Each (λ t. Each (Right t) (opens img t)) (txns_of losers)
+    each-right = rights img logs losers read.logs_are found spelled
+
+    bounded : Each (λ x. x.page < 1024) (stacks_of img (txns_of losers))
+    bounded = each-stacks img (λ x. x.page < 1024) (txns_of losers)
+        (Each-weaker (λ t. Each (Right t) (opens img t)) (λ t. Each (λ x. x.page < 1024) (opens img t))
+        (λ t. Each-weaker (Right t) (λ x. x.page < 1024) (λ x r. r.2) (opens img t)) (txns_of losers) each-right)
+
+    module _ (may : MayTake pages (by_others logs) (open_in logs losers)) where
+      it : MayTake pages (by_others logs) (stacks_of img (txns_of losers))
+      it = subst (MayTake pages (by_others logs)) (open-stacks img logs losers read.logs_are found) may
+
+      found-now : EachFound (now img) (stacks_of img (txns_of losers))
+      found-now = agree-found (values_in pages) (now img) (stacks_of img (txns_of losers)) agree bounded it.found
+
+      each-place : Each (λ t. Each (λ x. HasPlace (newest img x.page).slots x) (opens img t)) (txns_of losers)
+      each-place = Each-both (λ t. Each (λ x. HasPlace (slots_in pages x.page) x) (opens img t)) (λ t. Each (Right t) (opens img t))
+          (λ t. Each (λ x. HasPlace (newest img x.page).slots x) (opens img t))
+          (λ t. Each-both (λ x. HasPlace (slots_in pages x.page) x) (Right t) (λ x. HasPlace (newest img x.page).slots x)
+          (λ x h r. subst (λ (slots : List Slot). HasPlace slots x) (slots-newest x.page r.2) h) (opens img t))
+          (txns_of losers) (stacks-each img (λ x. HasPlace (slots_in pages x.page) x) (txns_of losers) it.places) each-right
+
+      each-alone : Each (λ t. Each (Alone img t) (opens img t)) (txns_of losers)
+      each-alone = Each-both (λ t. Each (λ x. by_others logs x.txn x.page x.slot < x.lsn) (opens img t)) (λ t. Each (Right t) (opens img t))
+          (λ t. Each (Alone img t) (opens img t))
+          (λ t. Each-both (λ x. by_others logs x.txn x.page x.slot < x.lsn) (Right t) (Alone img t)
+          (λ x lt r. alone-from img logs read.logs_are t x (by t x lt r)) (opens img t))
+          (txns_of losers) (stacks-each img (λ x. by_others logs x.txn x.page x.slot < x.lsn) (txns_of losers) it.last) each-right
+        where
+          by : (t : TxnId) (x : Rec) → by_others logs x.txn x.page x.slot < x.lsn → Right t x
+              → last_of_others t x.page x.slot (all_in logs) < x.lsn
+          by t x lt r = let e = ap (λ (k : TxnId). last_of_others k x.page x.slot (all_in logs)) r.0 in omega (arith, lt, e)
+
+      nil-fits : (t : TxnId) → opens img t ≡ [] → StackFits img t
+      nil-fits t none = record {
+        places = subst (Each (λ x. HasPlace (newest img x.page).slots x)) (sym none) tt;
+        linked = λ p s. subst (λ (xs : List Rec). Linked (now img p s) (filter (at p s) xs)) (sym none) tt;
+        alone = subst (Each (Alone img t)) (sym none) tt;
+      }
+
+      member-fits : (t : TxnId) → Member t (txns_of losers) → StackFits img t
+      member-fits t m =
+          let alone = member-each (λ t. Each (Alone img t) (opens img t)) t (txns_of losers) m each-alone in record {
+            places = member-each (λ t. Each (λ x. HasPlace (newest img x.page).slots x) (opens img t)) t (txns_of losers) m each-place;
+            linked = λ p s. ⊎_elim
+                (λ none. subst (Linked (now img p s)) (sym none) tt)
+                (λ some. member-linked img t p s (now img) (txns_of losers) found-now m
+                (Each-weaker (λ u. Each (Alone img u) (opens img u)) (λ u. t ≢ u → filter (at p s) (opens img u) ≡ [])
+                (λ u a ne. not-both img p s t u ne alone a some) (txns_of losers) each-alone))
+                (nil_or (filter (at p s) (opens img t)));
+            alone = alone;
+          }
+
+      pub stacks-fit : (t : TxnId) → Open img t → StackFits img t
+      stacks-fit t o = ⊎_elim (nil-fits t) (member-fits t) ((are-open img logs losers read.logs_are found).all t o)
+
+    -- in a sound image all may be taken back
+    pub sound-takes : UndoingFinds → Sound img → MayTake pages (by_others logs) (open_in logs losers)
+    sound-takes finds sound =
+        let ts = txns_of losers in let listed = are-open img logs losers read.logs_are found in
+        subst (MayTake pages (by_others logs)) (sym (open-stacks img logs losers read.logs_are found)) (record {
+          kinds = each-stacks img (λ x. x.kind ≡ Update) ts
+              (Each-weaker (λ t. Each (Right t) (opens img t)) (λ t. Each (λ x. x.kind ≡ Update) (opens img t))
+              (λ t. Each-weaker (Right t) (λ x. x.kind ≡ Update) (λ x r. r.1) (opens img t)) ts each-right);
+          found = agree-found (now img) (values_in pages) (stacks_of img ts) (λ p s lt. sym (agree p s lt)) bounded
+              (finds img sound ts listed);
+          places = each-stacks img (λ x. HasPlace (slots_in pages x.page) x) ts
+              (Each-both (Open img) (λ t. Each (Right t) (opens img t)) (λ t. Each (λ x. HasPlace (slots_in pages x.page) x) (opens img t))
+              (λ t o. Each-both (λ x. HasPlace (newest img x.page).slots x) (Right t) (λ x. HasPlace (slots_in pages x.page) x)
+              (λ x h r. subst (λ (slots : List Slot). HasPlace slots x) (sym (slots-newest x.page r.2)) h) (opens img t)
+              (sound.stacks t o).places)
+              ts listed.each each-right);
+          last = each-stacks img (λ x. by_others logs x.txn x.page x.slot < x.lsn) ts
+              (Each-both (Open img) (λ t. Each (Right t) (opens img t)) (λ t. Each (λ x. by_others logs x.txn x.page x.slot < x.lsn) (opens img t))
+              (λ t o. Each-both (Alone img t) (Right t) (λ x. by_others logs x.txn x.page x.slot < x.lsn) (λ x a r. by t x a r) (opens img t)
+              (sound.stacks t o).alone)
+              ts listed.each each-right);
+        })
+      where
+        by : (t : TxnId) (x : Rec) → Alone img t x → Right t x → by_others logs x.txn x.page x.slot < x.lsn
+        by t x a r = let lt = alone-last img logs read.logs_are t x r.3 a in
+            let e = ap (λ (k : TxnId). last_of_others k x.page x.slot (all_in logs)) r.0 in omega (arith, lt, e)

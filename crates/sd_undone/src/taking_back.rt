@@ -1,0 +1,194 @@
+//! What losers have open, taken back in the pages, each stack from the top down.
+
+ghost use Rattle.std.specs.Prelude.{◌≡◌, ◌↔◌, ℕ, [], ◌∷◌, false, true, length, reverse, option_map, Err, IfOk, IsTrue, Ok, OnOk};
+ghost use Rattle.sd_logrec.specs.View.{flat};
+ghost use Rattle.sd_page.specs.Page.{size};
+ghost use Rattle.sd_chain.specs.Pages.{write};
+ghost use Rattle.sd_undone.specs.Others.{seen_in};
+ghost use Rattle.sd_undone.specs.Taking.{Holds, MayTake, Taken, lowest_place, open_in, picked, stacks_in};
+ghost use Rattle.sd_undone.specs.declared.undoing.Fault.TheVariants as F;
+
+use crate::last_changes::LastChanges;
+use crate::undoing::Fault;
+use sd_analysis::{Loser, Losers};
+use sd_base::{Bytes, Duplicate, Memory, Rid};
+use sd_log::{Log, Placed};
+use sd_logrec::Record;
+use sd_page::{Image, Op};
+
+/// Takes back what the losers of all logs have open. `Misfit` comes exactly where a record may not be taken back.
+pub fn take_back_all(
+    pages: &mut [Image],
+    last: &LastChanges,
+    logs: &[Log],
+    losers: &[Losers],
+) -> Result<(), Fault>
+    requires pages { length pages.old ≡ 1024 }
+    requires losers { length losers.now ≡ length logs.now }
+    ensures fits { OnOk result (MayTake pages.old (seen_in last.now) (open_in logs.now losers.now)) }
+    ensures taken { OnOk result (Taken pages.old pages.new (open_in logs.now losers.now)) }
+    ensures misfit { (inst place : ℕ) → result ≡ Err (F.Misfit inst place) → MayTake pages.old (seen_in last.now) (open_in logs.now losers.now) → ⊥ }
+{
+    for (j, log) in logs.iter().enumerate() {
+        take_back_log(pages, last, log.scan(), losers[j].items())?;
+    }
+    Ok(())
+}
+
+// Takes back what the losers of a log have open.
+fn take_back_log(
+    pages: &mut [Image],
+    last: &LastChanges,
+    log: &[Placed],
+    losers: &[Loser],
+) -> Result<(), Fault>
+    requires { length pages.old ≡ 1024 }
+    ensures fits { OnOk result (MayTake pages.old (seen_in last.now) (stacks_in log.now losers.now)) }
+    ensures taken { OnOk result (Taken pages.old pages.new (stacks_in log.now losers.now)) }
+    ensures misfit { (inst place : ℕ) → result ≡ Err (F.Misfit inst place) → MayTake pages.old (seen_in last.now) (stacks_in log.now losers.now) → ⊥ }
+{
+    for loser in losers {
+        if !take_back_stack(pages, last, log, loser.open.items())? {
+            return Err(misfit(log, loser));
+        }
+    }
+    Ok(())
+}
+
+// The misfit of a loser's stack: the place of its lowest record.
+fn misfit(log: &[Placed], loser: &Loser) -> Fault
+    ensures { result ≡ F.Misfit loser.now.txn.inst (lowest_place log.now loser.now.open) }
+{
+    let lowest = loser.open.items().first();
+    let placed = lowest.and_then(|at| log.get(*at));
+    Fault::Misfit {
+        inst: loser.txn.inst.get(),
+        place: placed.map_or(0, |p| p.place),
+    }
+}
+
+// Takes back the records of a stack; `false` where one of them may not be.
+fn take_back_stack(
+    pages: &mut [Image],
+    last: &LastChanges,
+    log: &[Placed],
+    stack: &[usize],
+) -> Result<bool, Memory>
+    requires { length pages.old ≡ 1024 }
+    ensures fits { result ≡ Ok true → MayTake pages.old (seen_in last.now) (picked log.now (reverse stack.now)) }
+    ensures taken { result ≡ Ok true → Taken pages.old pages.new (picked log.now (reverse stack.now)) }
+    ensures misfit { result ≡ Ok false → MayTake pages.old (seen_in last.now) (picked log.now (reverse stack.now)) → ⊥ }
+{
+    for k in 0..stack.len() {
+        let at = stack[stack.len() - 1 - k];
+        if !take_back_at(pages, last, log, at)? {
+            return Ok(false);
+        }
+    }
+    Ok(true)
+}
+
+// Takes back the record of this index, if there is one; `false` where it may not be.
+fn take_back_at(
+    pages: &mut [Image],
+    last: &LastChanges,
+    log: &[Placed],
+    at: usize,
+) -> Result<bool, Memory>
+    requires { length pages.old ≡ 1024 }
+    ensures fits { result ≡ Ok true → MayTake pages.old (seen_in last.now) (picked log.now (at ∷ [])) }
+    ensures taken { result ≡ Ok true → Taken pages.old pages.new (picked log.now (at ∷ [])) }
+    ensures misfit { result ≡ Ok false → MayTake pages.old (seen_in last.now) (picked log.now (at ∷ [])) → ⊥ }
+{
+    match log.get(at) {
+        Some(placed) => take_back(pages, last, &placed.rec),
+        None => Ok(true),
+    }
+}
+
+// Takes back a record; `false` where it may not be.
+fn take_back(pages: &mut [Image], last: &LastChanges, change: &Record) -> Result<bool, Memory>
+    requires { length pages.old ≡ 1024 }
+    ensures fits { result ≡ Ok true → MayTake pages.old (seen_in last.now) (flat change.now ∷ []) }
+    ensures taken { result ≡ Ok true → Taken pages.old pages.new (flat change.now ∷ []) }
+    ensures misfit { result ≡ Ok false → MayTake pages.old (seen_in last.now) (flat change.now ∷ []) → ⊥ }
+{
+    match change {
+        Record::Update {
+            lsn,
+            txn,
+            page,
+            slot,
+            before,
+            after,
+            ..
+        } => {
+            let (page, slot) = (*page, *slot);
+            if last.by_others(Rid { page, slot }, *txn) >= *lsn {
+                return Ok(false);
+            }
+            put_back(&mut pages[page.get() as usize], slot, before, after)
+        }
+        _ => Ok(false),
+    }
+}
+
+// Puts back the value before a change; `false` where the slot doesn't have the value after it, or no place.
+fn put_back(
+    image: &mut Image,
+    slot: u16,
+    before: &Option<Bytes>,
+    after: &Option<Bytes>,
+) -> Result<bool, Memory>
+    ensures fits { result ≡ Ok true → Holds image.old.slots slot before.now after.now }
+    ensures put { result ≡ Ok true → image.new.slots ≡ write image.old.slots slot 0 before.now }
+    ensures misfit { result ≡ Ok false → Holds image.old.slots slot before.now after.now → ⊥ }
+{
+    let Some(capacity) = image.capacity(slot) else {
+        return Ok(false);
+    };
+    if size(before) > capacity as usize {
+        return Ok(false);
+    }
+    if !is_value(image.value(slot), after) {
+        return Ok(false);
+    }
+    let op = Op {
+        slot,
+        capacity,
+        after: copied(before)?,
+    };
+    let lsn = image.lsn();
+    image.apply(&op, lsn).unwrap();
+    Ok(true)
+}
+
+// Whether the value that was found is this one.
+fn is_value(found: Option<&[u8]>, value: &Option<Bytes>) -> bool
+    ensures { IsTrue result ↔ (value.now ≡ option_map (λ v. v.now) found.entry) }
+{
+    match (found, value) {
+        (None, None) => true,
+        (Some(found), Some(value)) => found == value.items(),
+        _ => false,
+    }
+}
+
+// The bytes of a value, 0 of none.
+fn size(value: &Option<Bytes>) -> usize
+    ensures { result ≡ size value.now }
+{
+    match value {
+        None => 0,
+        Some(bytes) => bytes.items().len(),
+    }
+}
+
+fn copied(value: &Option<Bytes>) -> Result<Option<Bytes>, Memory>
+    ensures { IfOk result (λ copied. copied ≡ value.now) }
+{
+    match value {
+        None => Ok(None),
+        Some(bytes) => Ok(Some(bytes.copy()?)),
+    }
+}

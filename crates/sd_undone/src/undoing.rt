@@ -1,0 +1,87 @@
+//! The stacks of losers, taken back in the pages.
+
+ghost use Rattle.std.specs.Prelude.{◌≡◌, ℕ, ◌<◌, [], All, length, Err, IfOk, OnOk};
+ghost use Rattle.sd_base.specs.declared.ids.Rid.{Rid};
+ghost use Rattle.sd_base.specs.declared.ids.TxnId.{TxnId};
+ghost use Rattle.sd_model.specs.Tables.{contents};
+ghost use Rattle.sd_log.specs.Logs.{AreSpelled, scanned};
+ghost use Rattle.sd_chain.specs.Image.{Image as Disks, Open, Sound, StackFits, now};
+ghost use Rattle.sd_chain.specs.Undoing.{stacks_of, undo_all};
+ghost use Rattle.sd_undone.specs.Reading.{AreLosersOf, IsRead, txns_of};
+ghost use Rattle.sd_undone.specs.Others.{by_others};
+ghost use Rattle.sd_undone.specs.Taking.{MayTake, open_in};
+ghost use Rattle.sd_undone.specs.Values.{values_in};
+ghost use Rattle.sd_undone.specs.declared.undoing.Fault.TheVariants as F;
+
+use crate::last_changes::LastChanges;
+use crate::table::table_of;
+use crate::taking_back::take_back_all;
+use sd_analysis::Losers;
+use sd_base::Memory;
+use sd_chain::laws::recovery;
+use sd_log::Log;
+use sd_model::Table;
+use sd_page::Image;
+use std::alloc::Global;
+
+/// Why stacks aren't taken back.
+#[derive(Clone, Copy, Debug, PartialEq, Eq)]
+pub enum Fault {
+    /// A stack of this instance's log isn't as it was left; its lowest record stands at this place of the area.
+    Misfit { inst: u8, place: u32 },
+    /// There was no memory.
+    Memory,
+}
+
+impl From<Memory> for Fault {
+    ghost from_gives = { λ _ r. r ≡ F.Memory };
+
+    fn from(_: Memory) -> Self {
+        Fault::Memory
+    }
+}
+
+/// The table that the newest pages hold once the stacks of all losers are taken back.
+///
+/// `Misfit` comes exactly where some stack isn't as its transaction left it: a record has no place in its page, the
+/// newest value isn't the last one's, or another transaction changed the record after the first of them.
+pub fn undone(
+    alloc: Global,
+    pages: Vec<Image>,
+    logs: &[Log],
+    losers: &[Losers],
+) -> Result<Table, Fault>
+    requires pages { length pages.items ≡ 1024 }
+    requires eight { length logs.now ≡ 8 }
+    requires spelled { All (λ log. AreSpelled (scanned log)) logs.now }
+    requires losers { AreLosersOf logs.now losers.now }
+    ensures stacks { OnOk result ((img : Disks) → IsRead img pages.items logs.now → (t : TxnId) → Open img t → StackFits img t) }
+    ensures values { IfOk result (λ table. (img : Disks) → IsRead img pages.items logs.now → (p s : ℕ) → p < 1024
+        → contents table (record { page = p; slot = s }) ≡ undo_all (now img) (stacks_of img (txns_of losers.now)) p s) }
+    ensures misfit { (inst place : ℕ) → result ≡ Err (F.Misfit inst place) → (img : Disks) → IsRead img pages.items logs.now → Sound img → ⊥ }
+{
+    recovery();
+    undo(alloc, pages, logs, losers)
+}
+
+/// Undo in the pages alone: the table that they hold once what these losers have open is taken back, whoever they are.
+/// `Misfit` comes exactly where a record may not be taken back, with the place of the first such stack.
+pub fn undo(
+    alloc: Global,
+    pages: Vec<Image>,
+    logs: &[Log],
+    losers: &[Losers],
+) -> Result<Table, Fault>
+    requires pages { length pages.items ≡ 1024 }
+    requires losers { length losers.now ≡ length logs.now }
+    ensures fits { OnOk result (MayTake pages.items (by_others logs.now) (open_in logs.now losers.now)) }
+    ensures values { IfOk result (λ table. (r : Rid) → contents table r
+        ≡ undo_all (values_in pages.items) (open_in logs.now losers.now) r.page r.slot) }
+    ensures misfit { (inst place : ℕ) → result ≡ Err (F.Misfit inst place)
+        → MayTake pages.items (by_others logs.now) (open_in logs.now losers.now) → ⊥ }
+{
+    let last = LastChanges::of(alloc, logs)?;
+    let mut pages = pages;
+    take_back_all(&mut pages, &last, logs, losers)?;
+    Ok(table_of(alloc, &pages)?)
+}
