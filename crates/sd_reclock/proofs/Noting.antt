@@ -12,7 +12,7 @@ use Rattle.sd_reclock.specs.Locks.{wait_of, waits_in}
 use Rattle.sd_reclock.proofs.Orders.{same-txn-is}
 use Rattle.sd_reclock.proofs.Writes.{PutsTxn}
 
-map-cond : (b : Bool) (x y : Option Asked) → option_map wait_of (cond b x y) ≡ cond {A = Option Wait} b (option_map wait_of x) (option_map wait_of y)
+pub map-cond : (b : Bool) (x y : Option Asked) → option_map wait_of (cond b x y) ≡ cond {A = Option Wait} b (option_map wait_of x) (option_map wait_of y)
 map-cond true x y = refl
 map-cond false x y = refl
 
@@ -25,7 +25,7 @@ cond-none true = refl
 cond-none false = refl
 
 -- a look-up in what a test of the keys keeps
-lookup-kept : (p : TxnId → Bool) (u : TxnId) (es : List (TxnId × Asked)) → lookup (same_txn u) (filter (λ e. p e.0) es) ≡ cond {A = Option Asked} (p u) (lookup (same_txn u) es) None
+pub lookup-kept : (p : TxnId → Bool) (u : TxnId) (es : List (TxnId × Asked)) → lookup (same_txn u) (filter (λ e. p e.0) es) ≡ cond {A = Option Asked} (p u) (lookup (same_txn u) es) None
 lookup-kept p u [] = cond-none (p u)
 lookup-kept p u (e ∷ es) = at (same_txn u e.0) (p e.0) refl refl (lookup-kept p u es)
   where
