@@ -7,3 +7,4 @@ pub mod Firsts
 pub mod Wholes
 pub mod Outcomes
 pub mod Lowering
+pub mod NumberSums

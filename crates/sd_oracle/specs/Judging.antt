@@ -1,5 +1,5 @@
 -- What the verdict of the plain program says.
-use Rattle.std.specs.Prelude.{◌≡◌, ℕ, ◌<◌, Bool, true, false, List, Some}
+use Rattle.std.specs.Prelude.{◌≡◌, ℕ, ◌<◌, Bool, true, false, List, None, Some, ℤ}
 use Rattle.sd_base.specs.declared.ids.TxnId.{TxnId}
 use Rattle.sd_base.specs.declared.ids.Rid.{Rid}
 use Rattle.sd_model.specs.declared.cause.Cause.{Cause}
@@ -8,6 +8,7 @@ use Rattle.sd_model.specs.declared.event.Event.TheVariants.{Begin, Read, Write, 
 use Rattle.sd_model.specs.declared.event.Reply.{Reply}
 use Rattle.sd_model.specs.declared.event.Reply.TheVariants.{Refused}
 use Rattle.sd_model.specs.Tables.{Content}
+use Rattle.sd_model.specs.Numbers.{IsSum}
 use Rattle.sd_model.specs.Fields.{txn_of}
 use Rattle.sd_model.specs.State.{State, view, wrote}
 use Rattle.sd_model.specs.Causes.{has, before}
@@ -19,20 +20,10 @@ use Rattle.sd_oracle.specs.declared.verdict.Verdict.{Verdict}
 use Rattle.sd_oracle.specs.declared.verdict.Verdict.TheVariants.{Follows, Differs, Unjudged}
 use Rattle.sd_oracle.specs.Outcomes.{Falls, fallen, Told}
 
--- an event that needs no sum
-abbrev pub IsPlain : Event → Type 0
-IsPlain (Add t r by) = ⊥
-IsPlain e = Unit {0}
-
--- the count of joins that failed has room for one more
+-- what a reply of the event is judged by: the count of joins that failed has room for one more
 abbrev pub IsCountable : State → Event → Type 0
 IsCountable m (Join i) = (m.inst i).failed < 18446744073709551615
 IsCountable m e = Unit {0}
-
--- an event whose replies are judged
-abbrev pub IsJudged : State → Event → Type 0
-IsJudged m (Add t r by) = ⊥
-IsJudged m e = IsCountable m e
 
 -- no state follows that is told so
 abbrev pub NoStep : Outcome → State → Event → Reply → Type 0
@@ -42,7 +33,7 @@ NoStep o m e reply = (m' : State) → Step m e reply m' → Told o m e reply m' 
 abbrev pub Judges : Verdict → Outcome → State → Event → Reply → State → Type 0
 Judges Follows o m e reply m' = Step m e reply m' × Told o m e reply m'
 Judges Differs o m e reply m' = NoStep o m e reply × (m' ≡ m)
-Judges Unjudged o m e reply m' = (IsJudged m e → ⊥) × (m' ≡ m)
+Judges Unjudged o m e reply m' = (IsCountable m e → ⊥) × (m' ≡ m)
 
 -- a reply that refuses
 abbrev pub IsRefusal : Reply → Type 0
@@ -99,6 +90,11 @@ abbrev pub Answers : Bool → State → Event → Reply → State → Type 0
 Answers true m e reply m' = Row m e reply m'
 Answers false m e reply m' = ((m1 : State) → Row m e reply m1 → ⊥) × (m' ≡ m)
 
+-- the text of the sum of what was found and a number, or there is no sum
+abbrev pub IsSumAt : Content → Content → ℤ → Type 0
+IsSumAt None u by = (x w : List ℕ) → Some x ≡ u → IsSum x by w → ⊥
+IsSumAt (Some w) u by = (x : List ℕ) × (Some x ≡ u) × IsSum x by w
+
 -- whether a transaction may put w in place of a value, and what it leaves
 abbrev pub Replaces : Bool → State → TxnId → Rid → Content → State → Type 0
 Replaces true m t r w m' = (u : List ℕ) × Runs m t × (Some u ≡ view m t r) × (m' ≡ wrote t r (Some u) w m)
@@ -131,4 +127,4 @@ Hinders o m e c = ⊥
 abbrev pub JudgesCause : Verdict → Outcome → State → Event → Cause → State → Type 0
 JudgesCause Follows o m e c m' = Refuses m e c m' × IsToldOf o m e c m'
 JudgesCause Differs o m e c m' = Hinders o m e c × (m' ≡ m)
-JudgesCause Unjudged o m e c m' = (IsJudged m e → ⊥) × (m' ≡ m)
+JudgesCause Unjudged o m e c m' = (IsCountable m e → ⊥) × (m' ≡ m)

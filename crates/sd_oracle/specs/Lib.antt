@@ -2,3 +2,4 @@ pub mod Lists
 pub mod Wholes
 pub mod Outcomes
 pub mod Judging
+pub mod Claimers

@@ -5,12 +5,14 @@ ghost use Rattle.sd_base.specs.declared.place.Status.TheVariants.{Up};
 ghost use Rattle.sd_model.specs.declared.act.Act.TheVariants as Act;
 ghost use Rattle.sd_model.specs.declared.event.Event.TheVariants as E;
 ghost use Rattle.sd_model.specs.declared.event.Reply.TheVariants as R;
+ghost use Rattle.sd_model.specs.State.{view};
 ghost use Rattle.sd_model.specs.Step.{Runs};
 ghost use Rattle.sd_model.specs.StepLaws.{next_txn};
 ghost use Rattle.sd_oracle.specs.Lists.{meaning};
-ghost use Rattle.sd_oracle.specs.Judging.{Answers, Replaces};
+ghost use Rattle.sd_oracle.specs.Judging.{Answers, IsSumAt, Replaces};
 
 use crate::lists::Lists;
+use crate::sums::sum_text;
 use sd_base::{Bytes, Duplicate, InstNo, Memory, PageNo, Rid, Status, TxnId};
 use sd_model::{Act, Claim, Inst, Life, copy_bytes};
 use std::alloc::Global;
@@ -89,6 +91,27 @@ impl Lists {
         let acts = read_and_put(self.alloc(), rid, &old, new)?;
         self.take(txn, rid, Claim::Excl, &acts)?;
         Ok(true)
+    }
+
+    /// An add that was done.
+    pub fn answer_add(&mut self, txn: &TxnId, rid: &Rid, by: i64) -> Result<bool, Memory>
+        ensures answered { IfOk result (λ b. Answers b (meaning self.old) (E.Add txn.now rid.now by) R.Did (meaning self.new)) }
+        ensures same { OnErr result (meaning self.new ≡ meaning self.old) }
+    {
+        match self.sum_at(txn, rid, by)? {
+            None => Ok(false),
+            Some(sum) => self.answer_put(txn, rid, &Some(sum)),
+        }
+    }
+
+    // The text of the sum of the number and what the transaction finds at the record; `None` where there is none.
+    fn sum_at(&self, txn: &TxnId, rid: &Rid, by: i64) -> Result<Option<Bytes>, Memory>
+        ensures { IfOk result (λ found. IsSumAt found (view (meaning self.now) txn.now rid.now) by) }
+    {
+        match self.view(txn, rid) {
+            Some(old) => sum_text(self.alloc(), old, by),
+            None => Ok(None),
+        }
     }
 
     /// An insert that made the record.

@@ -1,12 +1,13 @@
 //! What stands in an event's way: claims of others, unresolved transactions, changed pages.
 
-ghost use Rattle.std.specs.Prelude.{◌≡◌, ◌≢◌, ◌↔◌, ℕ, IsTrue};
+ghost use Rattle.std.specs.Prelude.{◌≡◌, ◌↔◌, ℕ, IsTrue};
 ghost use Rattle.sd_base.specs.declared.ids.TxnId.{TxnId};
 ghost use Rattle.sd_model.specs.declared.act.Claim.TheVariants.{Excl};
 ghost use Rattle.sd_model.specs.Claims.{Clash};
 ghost use Rattle.sd_model.specs.Applies.{Locked, Changes, IsLost, Needs, IsNeeded, count_of, is_unresolved};
 ghost use Rattle.sd_base.specs.Ids.{IsBelow};
 ghost use Rattle.sd_model.specs.Refusing.{IsLowestChanger};
+ghost use Rattle.sd_oracle.specs.Claimers.{Obstructs, IsLowestObstacle};
 ghost use Rattle.sd_oracle.specs.Lists.{meaning, claims_in, HasExcl};
 
 use crate::lists::Lists;
@@ -27,13 +28,35 @@ impl Lists {
         false
     }
 
-    fn conflicts(&self, other: &TxnId, txn: &TxnId, rid: &Rid, mode: Claim) -> bool
-        ensures { IsTrue result ↔ ((txn.now ≢ other.now) × Clash mode (((meaning self.now).part other.now).claims rid.now)) }
+    /// Whether the other is another transaction, and its claim on the record conflicts with one in the mode.
+    pub fn conflicts(&self, other: &TxnId, txn: &TxnId, rid: &Rid, mode: Claim) -> bool
+        ensures { IsTrue result ↔ Obstructs (meaning self.now) txn.now rid.now mode other.now }
     {
         if *other == *txn {
             return false;
         }
         clashes(mode, self.claim(other, rid))
+    }
+
+    /// Whether this is the lowest transaction whose claim on the record conflicts with one of `txn` in the mode.
+    pub fn is_lowest_obstacle(&self, by: &TxnId, txn: &TxnId, rid: &Rid, mode: Claim) -> bool
+        ensures { IsTrue result ↔ IsLowestObstacle (meaning self.now) txn.now rid.now mode by.now }
+    {
+        if !self.conflicts(by, txn, rid, mode) {
+            return false;
+        }
+        for (other, _) in &self.parts {
+            if self.goes_before(other, by, txn, rid, mode) {
+                return false;
+            }
+        }
+        true
+    }
+
+    fn goes_before(&self, other: &TxnId, by: &TxnId, txn: &TxnId, rid: &Rid, mode: Claim) -> bool
+        ensures { IsTrue result ↔ (Obstructs (meaning self.now) txn.now rid.now mode other.now × IsBelow other.now by.now) }
+    {
+        is_below(other, by) && self.conflicts(other, txn, rid, mode)
     }
 
     /// How many transactions of the instance are unresolved.

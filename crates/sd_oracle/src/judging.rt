@@ -4,7 +4,7 @@ ghost use Rattle.std.specs.Prelude.{◌≡◌, ◌↔◌, IsTrue, OnOk, OnErr};
 ghost use Rattle.sd_model.specs.Applies.{Passes, PassesAll, exact};
 ghost use Rattle.sd_model.specs.Refusing.{NamesBusy, told_status, Tells, MayFall, counted};
 ghost use Rattle.sd_oracle.specs.Lists.{meaning};
-ghost use Rattle.sd_oracle.specs.Judging.{IsPlain, IsCountable, FirstOf};
+ghost use Rattle.sd_oracle.specs.Judging.{IsCountable, FirstOf};
 
 use crate::fields::{first_instance, inst_of, txn_of};
 use crate::lists::Lists;
@@ -14,7 +14,6 @@ use sd_model::{Cause, Event};
 impl Lists {
     // As far as the state decides, the cause doesn't apply.
     fn passes(&self, event: &Event, cause: Cause) -> bool
-        requires { IsPlain event.now }
         ensures { IsTrue result ↔ Passes (meaning self.now) event.now cause }
     {
         !is_exact(cause) || !self.says(event, cause)
@@ -22,7 +21,6 @@ impl Lists {
 
     /// As far as the state decides, none of the causes applies.
     pub fn passes_all(&self, event: &Event, causes: &[Cause]) -> bool
-        requires { IsPlain event.now }
         ensures { IsTrue result ↔ PassesAll (meaning self.now) event.now causes.now }
     {
         match causes {
@@ -33,7 +31,6 @@ impl Lists {
 
     /// Whether the cause is the first of these that applies.
     pub fn is_first(&self, event: &Event, cause: Cause, causes: &[Cause]) -> bool
-        requires { IsPlain event.now }
         ensures { IsTrue result ↔ FirstOf (meaning self.now) event.now cause causes.now }
     {
         match causes {

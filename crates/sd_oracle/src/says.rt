@@ -3,19 +3,18 @@
 ghost use Rattle.std.specs.Prelude.{◌≡◌, ◌≢◌, ◌↔◌, IsTrue};
 ghost use Rattle.sd_base.specs.declared.place.Status.TheVariants.{Up, Down};
 ghost use Rattle.sd_model.specs.Applies.{IsActive, TakesChecks, Serves, IsRolling, IsBusy, IsLong, IsRecovering, IsUnknownMark, IsNotDown, IsNotRecovered, HasPage, Says};
-ghost use Rattle.sd_model.specs.declared.cause.Cause.TheVariants.{Over};
+ghost use Rattle.sd_model.specs.declared.cause.Cause.TheVariants.{NotNumber, Digits, Over};
 ghost use Rattle.sd_oracle.specs.Lists.{meaning};
-ghost use Rattle.sd_oracle.specs.Judging.{IsPlain};
 
 use crate::fields::{first_instance, inst_of, mode_of, rid_of, txn_of};
 use crate::lists::Lists;
+use crate::sums::{is_long_sum, is_number, outgrows};
 use sd_base::{InstNo, Status};
 use sd_model::{Cause, Event, Life};
 
 impl Lists {
     /// Whether the cause applies, or, where other things decide it, whether it may.
     pub fn says(&self, event: &Event, cause: Cause) -> bool
-        requires { IsPlain event.now }
         ensures { IsTrue result ↔ Says (meaning self.now) event.now cause }
     {
         match cause {
@@ -27,7 +26,8 @@ impl Lists {
             Cause::Lock => self.locked(&txn_of(event), &rid_of(event), mode_of(event)),
             Cause::Lost | Cause::Away => self.has_page(event),
             Cause::NoRecord => self.view(&txn_of(event), &rid_of(event)).is_none(),
-            Cause::NotNumber | Cause::Digits => false,
+            Cause::NotNumber => self.is_no_number(event),
+            Cause::Digits => self.is_too_much(event),
             Cause::Over => self.is_over(event),
             Cause::TooMany => self.count(inst_of(event)) >= 64,
             Cause::Begins => self.inst(inst_of(event)).begins == u32::MAX,
@@ -38,14 +38,43 @@ impl Lists {
         }
     }
 
-    // Whether the new value of a write is longer than the one in its place.
+    // Whether an add finds a value that is no number text.
+    fn is_no_number(&self, event: &Event) -> bool
+        ensures { IsTrue result ↔ Says (meaning self.now) event.now NotNumber }
+    {
+        match event {
+            Event::Add { txn, rid, .. } => match self.view(txn, rid) {
+                Some(old) => !is_number(old),
+                None => false,
+            },
+            _ => false,
+        }
+    }
+
+    // Whether the sum of an add has too many digits.
+    fn is_too_much(&self, event: &Event) -> bool
+        ensures { IsTrue result ↔ Says (meaning self.now) event.now Digits }
+    {
+        match event {
+            Event::Add { txn, rid, by } => match self.view(txn, rid) {
+                Some(old) => is_long_sum(old, *by),
+                None => false,
+            },
+            _ => false,
+        }
+    }
+
+    // Whether the new value of a write or an add is longer than the one in its place.
     fn is_over(&self, event: &Event) -> bool
-        requires { IsPlain event.now }
         ensures { IsTrue result ↔ Says (meaning self.now) event.now Over }
     {
         match event {
             Event::Write { txn, rid, value } => match self.view(txn, rid) {
                 Some(old) => old.len() < value.items().len(),
+                None => false,
+            },
+            Event::Add { txn, rid, by } => match self.view(txn, rid) {
+                Some(old) => outgrows(old, *by),
                 None => false,
             },
             _ => false,

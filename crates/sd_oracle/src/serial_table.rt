@@ -1,12 +1,12 @@
 //! The serial table as a plain program: it says of each event and its reply whether the reply may follow.
 
-ghost use Rattle.std.specs.Prelude.{◌≡◌, IfOk, OnErr};
+ghost use Rattle.std.specs.Prelude.{◌≡◌, ◌↔◌, IsTrue, IfOk, OnErr};
 
 use crate::lists::Lists;
 use crate::outcome::Outcome;
 use crate::verdict::Verdict;
-use sd_base::{Memory, Status};
-use sd_model::{Event, Reply, Rows};
+use sd_base::{Memory, Rid, Status, TxnId};
+use sd_model::{Claim, Event, Reply, Rows};
 use std::alloc::Global;
 use std::marker::Model;
 
@@ -28,6 +28,8 @@ impl Model for SerialTable {
 impl SerialTable {
     ghost use Rattle.sd_oracle.specs.Lists.{state_of, fresh_with};
     ghost use Rattle.sd_oracle.specs.Judging.{Judges};
+    ghost use Rattle.sd_oracle.specs.Claimers.{Obstructs, IsLowestObstacle};
+    ghost use Rattle.sd_model.specs.Step.{Runs};
 
     /// A fresh complex with these records: no transaction, each instance with nothing to recover. It takes no memory.
     pub fn new(alloc: Global, start: Rows) -> SerialTable
@@ -59,5 +61,26 @@ impl SerialTable {
         ensures same { OnErr result (state_of self.new ≡ state_of self.old) }
     {
         self.lists.judge(event, reply, outcome)
+    }
+
+    /// Whether the transaction runs.
+    pub fn runs(&self, txn: &TxnId) -> bool
+        ensures { IsTrue result ↔ Runs (state_of self.now) txn.now }
+    {
+        self.lists.runs(txn)
+    }
+
+    /// Whether the last one is another transaction than `txn`, and its claim on the record conflicts with one in the mode.
+    pub fn obstructs(&self, txn: &TxnId, rid: &Rid, mode: Claim, other: &TxnId) -> bool
+        ensures { IsTrue result ↔ Obstructs (state_of self.now) txn.now rid.now mode other.now }
+    {
+        self.lists.conflicts(other, txn, rid, mode)
+    }
+
+    /// Whether the last one is the lowest that obstructs `txn` so.
+    pub fn is_lowest_obstacle(&self, txn: &TxnId, rid: &Rid, mode: Claim, by: &TxnId) -> bool
+        ensures { IsTrue result ↔ IsLowestObstacle (state_of self.now) txn.now rid.now mode by.now }
+    {
+        self.lists.is_lowest_obstacle(by, txn, rid, mode)
     }
 }

@@ -10,7 +10,7 @@ ghost use Rattle.sd_model.specs.Applies.{Clear};
 ghost use Rattle.sd_model.specs.Refusing.{found};
 ghost use Rattle.sd_oracle.specs.declared.verdict.Verdict.TheVariants.{Follows, Differs};
 ghost use Rattle.sd_oracle.specs.Lists.{meaning};
-ghost use Rattle.sd_oracle.specs.Judging.{IsPlain, IsRefusal, IsOpenEnded, NoneFirst, IsFirstOf, IsOfRecords, IsOfRollbacks, IsOfInstances, Judges, JudgesRow, JudgesTold, JudgesCause};
+ghost use Rattle.sd_oracle.specs.Judging.{IsRefusal, IsOpenEnded, NoneFirst, IsFirstOf, IsOfRecords, IsOfRollbacks, IsOfInstances, Judges, JudgesRow, JudgesTold, JudgesCause};
 
 use crate::answering::{owned, read_alone};
 use crate::fields::{rid_of, txn_of};
@@ -32,9 +32,6 @@ impl Lists {
         ensures judged { IfOk result (λ v. Judges v outcome.now (meaning self.old) event.now reply.now (meaning self.new)) }
         ensures same { OnErr result (meaning self.new ≡ meaning self.old) }
     {
-        if !is_plain(event) {
-            return Ok(Verdict::Unjudged);
-        }
         match reply {
             Reply::Refused(refusal) => self.refuse(event, refusal, outcome),
             other => self.accept(event, other, outcome),
@@ -48,7 +45,6 @@ impl Lists {
         refusal: &Refusal,
         outcome: &Outcome,
     ) -> Result<Verdict, Memory>
-        requires event { IsPlain event.now }
         ensures judged { IfOk result (λ v. Judges v outcome.now (meaning self.old) event.now (R.Refused refusal.now) (meaning self.new)) }
         ensures same { OnErr result (meaning self.new ≡ meaning self.old) }
     {
@@ -63,7 +59,6 @@ impl Lists {
 
     // The one of the causes that is the first that applies.
     fn first_of(&self, event: &Event, causes: &[Cause]) -> Option<Cause>
-        requires { IsPlain event.now }
         ensures { MatchOption result (NoneFirst (meaning self.now) event.now causes.now) (λ c. IsFirstOf (meaning self.now) event.now c causes.now) }
     {
         match causes {
@@ -139,7 +134,6 @@ impl Lists {
 
     // An answer of an event that nothing refuses, if it is one.
     fn accept(&mut self, event: &Event, reply: &Reply, outcome: &Outcome) -> Result<Verdict, Memory>
-        requires plain { IsPlain event.now }
         requires answer { IsRefusal reply.now → ⊥ }
         ensures judged { IfOk result (λ v. Judges v outcome.now (meaning self.old) event.now reply.now (meaning self.new)) }
         ensures same { OnErr result (meaning self.new ≡ meaning self.old) }
@@ -184,7 +178,6 @@ impl Lists {
 
     // An answer of an event that leaves one state.
     fn answer(&mut self, event: &Event, reply: &Reply) -> Result<Verdict, Memory>
-        requires plain { IsPlain event.now }
         requires clear { Clear (meaning self.old) event.now }
         requires decided { IsOpenEnded event.now → ⊥ }
         ensures judged { IfOk result (λ v. JudgesRow v (meaning self.old) event.now reply.now (meaning self.new)) }
@@ -204,6 +197,10 @@ impl Lists {
                     let new = Some(value.copy()?);
                     Ok(verdict(self.answer_put(txn, rid, &new)?))
                 }
+                _ => Ok(Verdict::Differs),
+            },
+            Event::Add { txn, rid, by } => match reply {
+                Reply::Did => Ok(verdict(self.answer_add(txn, rid, *by)?)),
                 _ => Ok(Verdict::Differs),
             },
             Event::Delete { txn, rid } => match reply {
@@ -351,14 +348,5 @@ fn verdict(follows: bool) -> Verdict
         Verdict::Follows
     } else {
         Verdict::Differs
-    }
-}
-
-fn is_plain(event: &Event) -> bool
-    ensures { IsTrue result ↔ IsPlain event.now }
-{
-    match event {
-        Event::Add { .. } => false,
-        _ => true,
     }
 }

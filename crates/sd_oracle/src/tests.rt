@@ -131,6 +131,65 @@ fn a_claimed_record_and_a_second_commit_differ(rt: HostRuntime) -> Result<(), Fa
     Ok(())
 }
 
+fn add(rt: &(impl Abort + AllocGlobal), by: i64) -> Event {
+    Event::Add {
+        txn: txn(rt, 1),
+        rid: rid(rt, 0),
+        by,
+    }
+}
+
+fn read(rt: &(impl Abort + AllocGlobal)) -> Event {
+    Event::Read {
+        txn: txn(rt, 1),
+        rid: rid(rt, 0),
+    }
+}
+
+// A transaction has made one record of this text.
+fn with_text(
+    rt: &(impl Abort + AllocGlobal),
+    alloc: Global,
+    bytes: &[u8],
+) -> Result<SerialTable, Memory> {
+    let mut table = SerialTable::new(alloc, Rows::of(Vec::new(alloc)));
+    begun(rt, &mut table)?;
+    let event = Event::Insert {
+        txn: txn(rt, 1),
+        page: page(rt, 0),
+        value: text(alloc, bytes)?,
+        capacity: 18,
+    };
+    follows(rt, &mut table, &event, &Reply::At(rid(rt, 0)))?;
+    Ok(table)
+}
+
+#[test]
+fn a_sum_takes_the_place_of_a_number(rt: HostRuntime) -> Result<(), Fail> {
+    let alloc = rt.alloc();
+    let mut table = with_text(&rt, alloc, b"12")?;
+    let long = Reply::Refused(Refusal::TooLong);
+    let unread = Reply::Refused(Refusal::NotNumber);
+    follows(&rt, &mut table, &add(&rt, 88), &long)?;
+    differ(&rt, &mut table, &add(&rt, -21), &[long, unread])?;
+    follows(&rt, &mut table, &add(&rt, -21), &Reply::Did)?;
+    let old = Reply::Value(Some(text(alloc, b"12")?));
+    let new = Reply::Value(Some(text(alloc, b"-9")?));
+    differ(&rt, &mut table, &read(&rt), &[old])?;
+    follows(&rt, &mut table, &read(&rt), &new)?;
+    Ok(())
+}
+
+#[test]
+fn a_text_with_a_leading_zero_has_no_sum(rt: HostRuntime) -> Result<(), Fail> {
+    let alloc = rt.alloc();
+    let mut table = with_text(&rt, alloc, b"01")?;
+    let unread = Reply::Refused(Refusal::NotNumber);
+    differ(&rt, &mut table, &add(&rt, 1), &[Reply::Did])?;
+    follows(&rt, &mut table, &add(&rt, 1), &unread)?;
+    Ok(())
+}
+
 fn long_insert(
     rt: &(impl Abort + AllocGlobal),
     alloc: Global,

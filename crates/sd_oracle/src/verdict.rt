@@ -7,6 +7,6 @@ pub enum Verdict {
     Follows,
     /// It can't follow; the state is as before.
     Differs,
-    /// It is none of those that are judged; the state is as before.
+    /// The count of joins that failed has no room for it; the state is as before.
     Unjudged,
 }
