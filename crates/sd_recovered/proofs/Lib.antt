@@ -1,0 +1,13 @@
+pub mod Alike
+pub mod Chains
+pub mod Covers
+pub mod DiskPages
+pub mod Kept
+pub mod Members
+pub mod OneMore
+pub mod Own
+pub mod Refusals
+pub mod Sound
+pub mod Sums
+pub mod Whole
+pub mod Nine

@@ -1,0 +1,80 @@
+use Rattle.std.proofs.Common.{inl, inr, ⊎_elim, List, sym, subst}
+use Rattle.std.specs.Prelude.{All}
+use Rattle.std.proofs.lemmas.Result.{err_from_is_err_and}
+use Rattle.sd_page.specs.Page.{Page}
+use Rattle.sd_log.specs.Logs.{LogState}
+use Rattle.sd_chain.specs.Image.{Recovered}
+use Rattle.sd_undone.specs.Reading.{txns_of}
+use Rattle.sd_undone.proofs.Opened.{are-open}
+use Rattle.sd_recovered.specs.Ends.{IsPageLow, owed_in}
+use Rattle.sd_recovered.proofs.Refusals.{told_on}
+use Rattle.sd_recovered.proofs.Whole as whole
+use Rattle.sd_recovered.proofs.reading.table_of.Goals as goal
+
+pub returns-in_err-pages-clause-unsound : goal.returns-in_err-pages-clause-unsound
+returns-in_err-pages-clause-unsound c =
+    let told = ⊎_elim (λ m. inl m)
+    (λ d. inr (d.0, d.1, d.3, λ ds are sound. whole.no_unsound c.args.bytes.now ds c.args.logs.now c.args.losers.now c.requires.eight are d.2 d.4 d.5 sound))
+    c.in_err-pages.ensures.refusals in
+    let p = err_from_is_err_and c.from_residual.result c.from_residual.ensures.1 in
+    told_on _ c.from_residual.result p.0 c.in_err-pages.field-0.0 p.1 p.2 told
+
+pub returns-in_err-table-clause-unsound : goal.returns-in_err-table-clause-unsound
+returns-in_err-table-clause-unsound c =
+    let told = ⊎_elim (λ m. inl m)
+    (λ d. inr (
+      d.0,
+      d.1,
+      d.2,
+      λ ds are sound.
+          let read = whole.is_read c.args.bytes.now ds c.args.logs.now c.args.losers.now c.requires.eight are c.in_ok-pages.pages.items c.in_ok-pages.ensures.newest in
+          d.3 (whole.img c.args.bytes.now ds c.args.logs.now c.args.losers.now c.requires.eight are c.in_ok-pages.pages.items c.in_ok-pages.ensures.newest) read sound.kept,
+    ))
+    c.in_err-table.ensures.misfit in
+    let p = err_from_is_err_and c.from_residual-in_err-table.result c.from_residual-in_err-table.ensures.1 in
+    told_on _ c.from_residual-in_err-table.result p.0 c.in_err-table.field-0.0 p.1 p.2 told
+
+pub returns-in_err-check_ends-clause-unsound : goal.returns-in_err-check_ends-clause-unsound
+returns-in_err-check_ends-clause-unsound c =
+    let pages : List Page = c.in_ok-pages.pages.items in
+    let logs : List LogState = c.args.logs.now in
+    let owed = c.owed_by.ensures 1 logs c.requires.losers in
+    let low = c.are_low-low.ensures (owed_in logs) owed in
+    let told = inr (
+      c.in_err-check_ends.ensures.unfit.0,
+      c.in_err-check_ends.ensures.unfit.1,
+      c.in_err-check_ends.ensures.unfit.2,
+      λ ds are sound.
+          let each = whole.low_pages c.args.bytes.now ds logs c.args.losers.now c.requires.eight are pages c.in_ok-pages.ensures.newest
+          c.in_ok-pages.ensures.count sound in
+          c.in_err-check_ends.ensures.unfit.3
+          (low.1 (subst (All (IsPageLow (owed_in logs))) (sym c.deref.ensures.value) each))
+          (whole.ends c.args.bytes.now ds logs c.args.losers.now c.requires.eight are pages c.in_ok-pages.ensures.newest sound),
+    ) in
+    let p = err_from_is_err_and c.from_residual-in_err-check_ends.result c.from_residual-in_err-check_ends.ensures.1 in
+    told_on _ c.from_residual-in_err-check_ends.result p.0 c.in_err-check_ends.field-0.0 p.1 p.2 told
+
+pub returns-clause-sound : goal.returns-clause-sound
+returns-clause-sound c =
+    let pages : List Page = c.in_ok-pages.pages.items in
+    let logs : List LogState = c.args.logs.now in
+    let owed = c.owed_by.ensures 1 logs c.requires.losers in
+    let low = (c.are_low-low.ensures (owed_in logs) owed).0 c.in_ok-check_ends.ensures.low in
+    let each : All (IsPageLow (owed_in logs)) pages = subst (All (IsPageLow (owed_in logs))) c.deref.ensures.value low in
+    λ ds are.
+    let img = whole.img c.args.bytes.now ds logs c.args.losers.now c.requires.eight are pages c.in_ok-pages.ensures.newest in
+    let read = whole.is_read c.args.bytes.now ds logs c.args.losers.now c.requires.eight are pages c.in_ok-pages.ensures.newest in
+    whole.passed c.args.bytes.now ds logs c.args.losers.now c.requires.eight are pages c.in_ok-pages.ensures.newest
+    c.requires.size c.requires.spelled c.in_ok-pages.ensures.twins c.in_ok-pages.ensures.fit (c.in_ok-table.ensures.stacks img read) each
+    c.in_ok-check_ends.ensures.fit
+
+pub returns-clause-recovered : goal.returns-clause-recovered
+returns-clause-recovered c = λ ds are p s lt.
+    let pages : List Page = c.in_ok-pages.pages.items in
+    let logs : List LogState = c.args.logs.now in
+    let img = whole.img c.args.bytes.now ds logs c.args.losers.now c.requires.eight are pages c.in_ok-pages.ensures.newest in
+    let read = whole.is_read c.args.bytes.now ds logs c.args.losers.now c.requires.eight are pages c.in_ok-pages.ensures.newest in
+    let sound = returns-clause-sound c ds are in
+    let running = are-open img logs c.args.losers.now read.logs_are c.requires.losers in
+    subst (Recovered img p s) (sym (c.in_ok-table.ensures.values img read p s lt))
+    (c.recovery.ensures.undone img sound.kept (txns_of c.args.losers.now) running p s)

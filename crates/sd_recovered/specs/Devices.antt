@@ -1,0 +1,20 @@
+-- Nine images of devices, and a table that recovery gives of them.
+use Rattle.std.specs.Prelude.{◌≡◌, ℕ, ◌<◌, ◌≤◌, List, [], length, slice_get, unwrap_or}
+use Rattle.sd_base.specs.declared.ids.Rid.{Rid}
+use Rattle.sd_rig.specs.Devices as rig
+use Rattle.sd_model.specs.Tables.{contents}
+use Rattle.sd_chain.specs.Bytes.{stable}
+use Rattle.sd_chain.specs.Image.{Recovered}
+
+-- by number: 0 is the data device, n the log of instance n
+abbrev pub devices_of : List (List ℕ) → rig.Image
+devices_of images d = unwrap_or (slice_get images d) []
+
+-- There are nine, and each has its device's length.
+pub record AreDevices (images : List (List ℕ)) : Type 0 where
+  pub nine : length images ≡ 9
+  pub sizes : (d : ℕ) → d ≤ 8 → length (devices_of images d) ≡ rig.device_len d
+
+-- each record of the table is what recovery gives
+abbrev pub IsRecovered : rig.Image → List (Rid × List ℕ) → Type 0
+IsRecovered devices table = (p s : ℕ) → p < 1024 → Recovered (stable devices) p s (contents table (record { page = p; slot = s }))

@@ -1,0 +1,35 @@
+-- What is read of the log devices, one by one.
+use Rattle.std.specs.Prelude.{◌≡◌, ◌⊎◌, ℕ, suc, List, [], ◌∷◌}
+use Rattle.sd_logrec.specs.Kept.{Whole, kept}
+use Rattle.sd_log.specs.Logs.{AreSpelled, LogState, scanned}
+use Rattle.sd_chain.specs.Checks.{GroupsAreSound, MasterIsSound, TxnsAreSound}
+use Rattle.sd_analysis.specs.declared.losers.Loser.{Loser}
+use Rattle.sd_analysis.specs.Losers.{AreLosers, AreTidy}
+
+-- The log that the device of instance j keeps, and its losers.
+pub record IsRead (j : ℕ) (device : List ℕ) (log : LogState) (losers : List Loser) : Type 0 where
+  pub master : MasterIsSound device
+  pub groups : GroupsAreSound j device
+  pub kept_is : kept device ≡ Whole log.groups log.gate
+  pub spelled : AreSpelled (scanned log)
+  pub no_tail : log.tail ≡ []
+  pub tidy : AreTidy (scanned log)
+  pub losers_are : AreLosers (scanned log) losers
+
+-- The same of these devices, from instance j on.
+abbrev pub AreRead : ℕ → List (List ℕ) → List LogState → List (List Loser) → Type 0
+AreRead j [] [] [] = Unit {0}
+AreRead j [] (log ∷ logs) losers = ⊥
+AreRead j [] [] (ls ∷ losers) = ⊥
+AreRead j (d ∷ devices) [] losers = ⊥
+AreRead j (d ∷ devices) (log ∷ logs) [] = ⊥
+AreRead j (d ∷ devices) (log ∷ logs) (ls ∷ losers) = IsRead j d log ls × AreRead (suc j) devices logs losers
+
+-- The log device of instance j breaks one of the checks of a log.
+abbrev pub IsUnread : ℕ → List ℕ → Type 0
+IsUnread j device = MasterIsSound device → GroupsAreSound j device → TxnsAreSound device → ⊥
+
+-- One of these devices, from instance j on, does.
+abbrev pub SomeUnread : ℕ → List (List ℕ) → Type 0
+SomeUnread j [] = ⊥
+SomeUnread j (d ∷ devices) = IsUnread j d ⊎ SomeUnread (suc j) devices

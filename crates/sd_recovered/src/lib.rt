@@ -1,0 +1,27 @@
+//! The plain reading of nine device images: the table that they stand for.
+//!
+//! Meaning: `stable` is what the devices' bytes keep, `DevicesAreSound` and `Recovered` what that stands for (sd_chain);
+//! `IsRecovered` says it of a table (`specs/Devices.antt`).
+//! Keeps: nothing.
+//! Promises: `recovered` answers the table where the devices are sound (`sound`, `recovered`), and else `Damaged`
+//! (`unsound`); it changes nothing on them.
+//! Refuses: `Damaged` in `recovered`, and want of memory.
+//! Knows nothing of: rigs, pools, locks, running transactions.
+//! Stands on: sd_base, sd_model, sd_page, sd_logrec, sd_rig, sd_log, sd_chain, sd_scan, sd_analysis, sd_newest, sd_undone.
+//! On it stand: sd_hall.
+//!
+//! To change:
+//! - free: bodies, private helpers
+//! - dear: the clauses of `recovered`
+//! - frozen: nothing
+#![tactic(auto)]
+
+mod ends;
+mod logs;
+mod reading;
+mod table;
+
+pub use reading::recovered;
+
+#[cfg(test)]
+mod tests;
