@@ -5,7 +5,7 @@
 //! Promises: nothing but that it does nothing undefined.
 //! Refuses: words that name no loop, by exit status 2; a loop that a layer stops, by exit status 1.
 //! Knows nothing of: time, which `benches/` takes from outside.
-//! Stands on: sd_base, sd_rig, sd_logrec, sd_log, sd_reclock. On it stand: none.
+//! Stands on: sd_base, sd_rig, sd_logrec, sd_log, sd_reclock, sd_recovered. On it stand: none.
 //!
 //! To change:
 //! - free: all
@@ -16,6 +16,7 @@
 mod devices;
 mod locks;
 mod logs;
+mod recovery;
 
 use std::alloc::{AllocError, Global};
 use std::process::ExitCode;
@@ -42,6 +43,11 @@ fn run(alloc: Global, words: &[String]) -> Option<bool> {
         [name, times] if name.as_str() == "locks" => {
             let times = times.parse::<u32>().ok()?;
             Some(locks::requests(alloc, times))
+        }
+        [name, transfers, reads] if name.as_str() == "recovery" => {
+            let transfers = transfers.parse::<u32>().ok()?;
+            let reads = reads.parse::<u32>().ok()?;
+            Some(recovery::recoveries(alloc, transfers, reads))
         }
         [name, tens, reads] if name.as_str() == "log" => {
             let tens = tens.parse::<u32>().ok()?;
