@@ -174,10 +174,7 @@ fn fault(
 fn a_record_that_the_page_does_not_fit_is_told(rt: HostRuntime) -> Result<(), Fail> {
     let alloc = rt.alloc();
     let (one, two, p) = (inst(1)?, inst(2)?, page(0)?);
-    let told = Some(Fault::Misfit {
-        inst: 1,
-        place: 5,
-    });
+    let told = Some(Fault::Misfit { inst: 1, place: 5 });
 
     let new = update(one, 2, p, value(alloc, b"old")?, value(alloc, b"new")?);
     let other = update(two, 3, page(1)?, None, value(alloc, b"ins")?);
@@ -196,18 +193,12 @@ fn a_record_that_another_one_changed_is_told(rt: HostRuntime) -> Result<(), Fail
 
     let first = update(one, 2, p, value(alloc, b"old")?, value(alloc, b"new")?);
     let later = update(two, 3, p, value(alloc, b"new")?, value(alloc, b"new")?);
-    let told = Some(Fault::Misfit {
-        inst: 1,
-        place: 5,
-    });
+    let told = Some(Fault::Misfit { inst: 1, place: 5 });
     assert_eq!(rt; fault(alloc, b"new", first, later, false)?, told);
 
     let second = update(one, 3, p, value(alloc, b"old")?, value(alloc, b"new")?);
     let before = update(two, 2, p, value(alloc, b"old")?, value(alloc, b"old")?);
-    let told = Some(Fault::Misfit {
-        inst: 2,
-        place: 5,
-    });
+    let told = Some(Fault::Misfit { inst: 2, place: 5 });
     assert_eq!(rt; fault(alloc, b"new", second, before, true)?, told);
     Ok(())
 }
