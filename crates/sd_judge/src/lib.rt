@@ -23,6 +23,8 @@ mod watch;
 pub use judge::Judge;
 
 #[cfg(test)]
+mod page_tests;
+#[cfg(test)]
 mod script;
 #[cfg(test)]
 mod tests;
