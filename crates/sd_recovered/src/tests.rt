@@ -230,12 +230,24 @@ fn put_log(devices: &mut Vec<Bytes>, log: Bytes)
     devices[1] = log;
 }
 
-// Whether this may be read of the worked log with the byte at this place flipped: nothing that is sound, no record, or
-// `red` in its place. The log has one copy of the page's number and of the value, which are taken as they read.
+// Whether the table has a record but that of slot 0 of page 0.
+fn has_others(table: &Table) -> bool {
+    for page in 0..1024u16 {
+        for slot in 0..2u16 {
+            if page + slot > 0 && value(table, page, slot).is_some() {
+                return true;
+            }
+        }
+    }
+    false
+}
+
+// Whether this may be read of the worked log with the byte at this place flipped: `red` in its place, or no record. The log
+// has one copy of the page's number and of the value, which are taken as they read.
 fn is_near(at: usize, table: &Table) -> bool {
     match value(table, 0, 0) {
-        None => true,
-        Some(found) => found == b"red".as_slice() || at >= 61 && at < 64,
+        None => at == 52 || !has_others(table),
+        Some(found) => !has_others(table) && (found == b"red".as_slice() || at >= 61 && at < 64),
     }
 }
 
