@@ -8,7 +8,7 @@
 //! the records that end them.
 //! Refuses: `Disorder` in `analyse`, and want of memory.
 //! Knows nothing of: devices, pages, other logs.
-//! Stands on: sd_base, sd_page, sd_logrec, sd_rig, sd_log, sd_chain. On it stand: sd_undone, sd_recovered.
+//! Stands on: sd_base, sd_page, sd_logrec, sd_rig, sd_log, sd_chain.
 //!
 //! To change:
 //! - free: bodies, private helpers

@@ -6,8 +6,7 @@
 //! Promises: `Source::take` and `Sink::put` answer `Failed` only where their count of faults rose
 //! (`specs/Streams.antt`); `MemSource` and `MemSink` fail exactly where they were told to.
 //! Refuses: nothing by itself; `Refusal` lists what the crates above refuse.
-//! Knows nothing of: devices, pages, logs, scripts.
-//! On it stand: all other crates.
+//! Knows nothing of: what pages, logs and devices hold; scripts.
 //!
 //! To change:
 //! - free: bodies, `MemSource` and `MemSink` inside

@@ -5,7 +5,7 @@
 //! Promises: nothing but that it does nothing undefined.
 //! Refuses: words that name no loop, by exit status 2; a loop that a layer stops, by exit status 1.
 //! Knows nothing of: time, which `benches/` takes from outside.
-//! Stands on: sd_base, sd_rig, sd_logrec, sd_log, sd_reclock, sd_recovered. On it stand: none.
+//! Stands on: sd_base, sd_rig, sd_logrec, sd_log, sd_reclock, sd_recovered.
 //!
 //! To change:
 //! - free: all

@@ -9,7 +9,7 @@
 //! `replay` redoes a chain as far as it fits.
 //! Refuses: nothing but for want of memory.
 //! Knows nothing of: pools, locks, who holds what; how groups and twins are written.
-//! Stands on: sd_base, sd_page, sd_logrec, sd_rig. On it stand: sd_scan to sd_recovered, sd_state.
+//! Stands on: sd_base, sd_page, sd_logrec, sd_rig.
 //!
 //! To change:
 //! - free: bodies, proofs

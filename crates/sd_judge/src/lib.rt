@@ -6,8 +6,7 @@
 //! `IsBlocked` and `IsDeadlock` hold (`Judge::step`, `specs/Exactly.antt`).
 //! Refuses: nothing but for want of memory; what it doesn't judge it says (`Verdict::Unjudged`).
 //! Knows nothing of: pages' bytes, pools, logs, devices, scripts; how a complex comes to its replies.
-//! Stands on: sd_base, sd_model, sd_reclock for the search of cycles, sd_oracle. On it stand: tests that compare a
-//! complex with the table.
+//! Stands on: sd_base, sd_model, sd_reclock for the search of cycles, sd_oracle.
 //!
 //! To change:
 //! - free: bodies, proofs

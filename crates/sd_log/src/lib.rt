@@ -9,7 +9,7 @@
 //! Refuses: `LogFull` in `append`; `BadLog` and `BadRecord` in `read_in` and `of_area`; `Failed` only where the rig's count
 //! of faults rose.
 //! Knows nothing of: pages, transactions, other logs, which record may follow which.
-//! Stands on: sd_base, sd_rig, sd_logrec. On it stand: sd_scan to sd_recovered, sd_state.
+//! Stands on: sd_base, sd_rig, sd_logrec.
 //! Held by the caller: a crash leaves of the device what it reads, and the log's groups stand there (`force`).
 //!
 //! To change:

@@ -19,17 +19,13 @@
 
 mod copy;
 mod fields;
-mod laws;
+pub mod laws;
 mod miss;
 mod put;
 mod record;
 mod rows;
 mod take;
 
-pub use laws::{
-    gate_closed, group_behind, groups_end, master_in_front, no_prefix, one_spelling, read_again,
-    read_nothing, spelling_length,
-};
 pub use record::Record;
 pub use rows::{Recs, Rows, Spans};
 

@@ -6,7 +6,7 @@
 //! Promises: a run from an opening leaves transactions that read as if they ran one after another (`laws.rt`).
 //! Refuses: nothing but for want of memory; which refusal an event gets is `specs/Applies.antt`.
 //! Knows nothing of: pages' bytes, pools, logs, devices, scripts; of a program that judges replies.
-//! Stands on: sd_base. On it stand: sd_oracle, sd_chain, sd_state and all that steps.
+//! Stands on: sd_base.
 //!
 //! To change:
 //! - free: bodies, proofs

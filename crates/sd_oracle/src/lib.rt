@@ -5,7 +5,7 @@
 //! Promises: a verdict is the step of sd_model, both ways (`SerialTable::step`, `Judges`).
 //! Refuses: nothing but for want of memory; what it doesn't judge it says (`Verdict::Unjudged`).
 //! Knows nothing of: pages' bytes, pools, logs, devices, scripts; how a complex comes to its replies.
-//! Stands on: sd_base, sd_model. On it stand: sd_judge, and tests that compare a complex with the table.
+//! Stands on: sd_base, sd_model.
 //!
 //! To change:
 //! - free: bodies, proofs, the lists

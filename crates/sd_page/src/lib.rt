@@ -17,12 +17,11 @@
 
 mod bytes;
 mod image;
-mod laws;
+pub mod laws;
 mod layout;
 mod op;
 
 pub use image::Image;
-pub use laws::{change_fits, image_shape, one_spelling, read_after_write};
 pub use op::Op;
 
 #[cfg(test)]

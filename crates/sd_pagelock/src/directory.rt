@@ -3,7 +3,7 @@
 ghost use Rattle.std.specs.Prelude.{◌≡◌, IfOk, replicate};
 
 use crate::asks::Asks;
-use crate::laws::users_are_instances;
+use crate::laws;
 use crate::moves::{holds, rests};
 use crate::queue::Queue;
 use sd_base::{InstNo, Lsn, Memory, Mode, PageNo, Place};
@@ -232,7 +232,7 @@ impl<I: Drop> Directory<I> {
         ensures others { (q : ℕ) → q ≢ p → entry_at self.new q ≡ entry_at self.old q }
         ensures other_rec_lsns { (q : ℕ) → q ≢ p → rec_lsn_at self.new q ≡ rec_lsn_at self.old q }
     {
-        users_are_instances(&to);
+        laws::users_are_instances(&to);
         let at = p.get() as usize;
         self.places[at] = to;
         self.rec_lsns[at] = rec;

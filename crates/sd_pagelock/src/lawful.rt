@@ -7,7 +7,7 @@ ghost use Rattle.sd_pagelock.specs.Places.{seen};
 ghost use Rattle.sd_pagelock.specs.Rows as rows;
 ghost use Rattle.sd_pagelock.specs.Moves as lawful;
 
-use crate::laws::users_are_instances;
+use crate::laws;
 use crate::moves::{
     dirtied, fallen, given_excl, given_shared, is_free, is_lost, locked, may_raise, may_share,
     may_write, may_yield, owns, passes, raised, taken, uses, written,
@@ -118,7 +118,7 @@ fn turns(from: &Place, to: &Place) -> bool
 fn goes(from: &Place, to: &Place) -> bool
     ensures { IsTrue result ↔ ((i : ℕ) × lawful.Loses i (seen from.now) (seen to.now)) }
 {
-    users_are_instances(from);
+    laws::users_are_instances(from);
     for n in 1..9 {
         if let Some(i) = InstNo::new(n) {
             if loses(i, from, to) {

@@ -8,7 +8,7 @@
 //! `oldest_ask` and `first_for` answer exactly (`value`; `found`, `lowest`, `none`).
 //! Refuses: nothing but want of memory, in `new` and `ask`.
 //! Knows nothing of: pools, logs, devices; what an image is; which instances run.
-//! Stands on: sd_base. On it stand: sd_state, sd_moves.
+//! Stands on: sd_base.
 //!
 //! To change:
 //! - free: bodies and private helpers
@@ -19,16 +19,12 @@
 mod asks;
 mod directory;
 mod lawful;
-mod laws;
+pub mod laws;
 mod moves;
 mod queue;
 
 pub use directory::Directory;
 pub use lawful::is_lawful;
-pub use laws::{
-    after_change, after_fall, after_lock, after_raise, after_share, after_take, after_write,
-    after_yield, moves_keep_form, receiver_has_no_copy, users_are_instances,
-};
 pub use moves::{
     changed, dirtied, fallen, given_excl, given_shared, holds, holds_as, is_free, is_lost, locked,
     may_drop, may_evict, may_raise, may_share, may_write, may_yield, owns, passes, raised, rests,

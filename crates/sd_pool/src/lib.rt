@@ -6,7 +6,7 @@
 //! the page whose last use is longest ago; `look` doesn't use a page.
 //! Refuses: `PoolFull` in `put`, exactly where a further page finds no frame.
 //! Knows nothing of: who else holds a page, whether it is changed, devices, logs.
-//! Stands on: sd_base, sd_page. On it stand: sd_state.
+//! Stands on: sd_base, sd_page.
 //!
 //! To change:
 //! - free: bodies, the structure inside

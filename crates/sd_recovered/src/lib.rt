@@ -8,7 +8,6 @@
 //! Refuses: `Damaged` in `recovered`, and want of memory.
 //! Knows nothing of: rigs, pools, locks, running transactions.
 //! Stands on: sd_base, sd_model, sd_page, sd_logrec, sd_rig, sd_log, sd_chain, sd_scan, sd_analysis, sd_newest, sd_undone.
-//! On it stand: sd_hall.
 //!
 //! To change:
 //! - free: bodies, private helpers

@@ -8,7 +8,7 @@
 //! meets the call or `short` rose (`met`, `fails`), never in a call whose memory was reserved (`found`).
 //! Refuses: nothing; the range lies in the device by condition.
 //! Knows nothing of: pages, logs, what the bytes mean.
-//! Stands on: sd_base. On it stand: sd_twin, sd_log, sd_filerig, sd_state.
+//! Stands on: sd_base.
 //!
 //! To change:
 //! - free: bodies, `Disk`, `History` and `Drives` inside

@@ -7,7 +7,7 @@
 //! `Damaged` (`unsound`).
 //! Refuses: `Damaged` in `scan`, and want of memory.
 //! Knows nothing of: pages, other logs, what a transaction has open.
-//! Stands on: sd_base, sd_page, sd_logrec, sd_rig, sd_log, sd_chain. On it stand: sd_recovered.
+//! Stands on: sd_base, sd_page, sd_logrec, sd_rig, sd_log, sd_chain.
 //!
 //! To change:
 //! - free: bodies, private helpers

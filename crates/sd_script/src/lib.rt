@@ -6,7 +6,7 @@
 //! (`bad`, `exact_bad`); a text has one reading (`one_reading`, `no_bad_script`, `one_bad_line`).
 //! Refuses: `BadLine` with the cause `Word`, and `Memory`.
 //! Knows nothing of: what a line does, replies, devices.
-//! Stands on: sd_base. On it stand: sdaries.
+//! Stands on: sd_base.
 //!
 //! To change:
 //! - free: bodies, the reader inside (`reader.rt`)
@@ -15,7 +15,7 @@
 #![tactic(auto)]
 
 mod form;
-mod laws;
+pub mod laws;
 mod line;
 mod names;
 mod reader;
@@ -23,7 +23,6 @@ mod script;
 mod text;
 mod word;
 
-pub use laws::{no_bad_script, one_bad_line, one_reading};
 pub use line::{Form, Line};
 pub use script::{Kind, Script};
 

@@ -1,4 +1,4 @@
--- What crashes leave while a slot is closed, and while it is filled and opened. It serves the goals of put.rt.
+-- What crashes leave while a slot is closed, and while it is filled and opened. It serves the goals of putting.rt.
 use Rattle.std.proofs.Common.{◌≡◌, ◌≢◌, ◌⊎◌, inl, inr, ℕ, ◌+◌, ◌<◌, ◌≤◌, true, false, List, [], ◌∷◌, length, take, drop, get_or, sym, ap, ◌∙◌, subst, arith}
 use Rattle.std.specs.Prelude.{◌==◌, Result, Ok, Err, OnOk}
 use Rattle.std.proofs.lemmas.List.{get_or-drop, get_or-take}

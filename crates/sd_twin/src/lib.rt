@@ -7,7 +7,7 @@
 //! `durable`); `choose` answers the slot that counts (`chosen`) and changes nothing (`stays`).
 //! Refuses: `Failed` only where the rig's count of faults rose; no call takes memory.
 //! Knows nothing of: what a body means but its number; how a device is settled after a failure.
-//! Stands on: sd_base, sd_rig. On it stand: sd_state, sd_moves.
+//! Stands on: sd_base, sd_rig.
 //! Held by the caller: a crash leaves of the device what it reads (`put`, `stable`).
 //!
 //! To change:

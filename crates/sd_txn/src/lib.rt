@@ -7,7 +7,7 @@
 //! is undone next and takes no memory; a mark goes with the undo of a record below it.
 //! Refuses: `TooManyTxns` and `LsnEnd` in `begin`, exactly.
 //! Knows nothing of: locks, pages, the log, what a state means.
-//! Stands on: sd_base. On it stand: sd_state.
+//! Stands on: sd_base.
 //!
 //! To change:
 //! - free: bodies, the structures inside

@@ -7,7 +7,7 @@
 //! unless a stream fails or memory wants (`complete`); other words touch nothing (`usage`, `untouched`).
 //! Refuses: bad lines with `BadLine`, other words with `Usage`; faults and want of memory have their own status.
 //! Knows nothing of: devices, logs, buffer pools, which stand behind `sd_rig` and its callers.
-//! Stands on: sd_base, sd_model, sd_page, sd_rig, sd_script. On it stand: none.
+//! Stands on: sd_base, sd_model, sd_page, sd_rig, sd_script.
 //!
 //! To change:
 //! - free: bodies, proofs, the text of what isn't reported
