@@ -22,8 +22,8 @@ pub fn appends(alloc: Global, tens: u32, reads: u32) -> bool {
 
 // Reads the log from its device, which is made stable.
 fn open<G: Rig>(alloc: Global, rig: &mut G, inst: InstNo) -> Result<Log, Refusal>
-    ensures stands { IsTrue G.told → IfOk result (λ log. StandsOn log (G.seen rig.new log.inst)) }
-    ensures stable { IsTrue G.told → IfOk result (λ log. LeavesOnly (G.seen rig.new log.inst) (G.leaves rig.new log.inst)) }
+    ensures stands { IfOk result (λ log. StandsOn log (G.seen rig.new log.inst)) }
+    ensures stable { IfOk result (λ log. LeavesOnly (G.seen rig.new log.inst) (G.leaves rig.new log.inst)) }
 {
     rig.sync(inst.get())?;
     Log::read_in(alloc, rig, inst, 0)
@@ -66,10 +66,10 @@ fn append(log: &mut Log, inst: InstNo, lsn: u64) -> Result<(), Refusal>
 
 // A force after which the log stands on its device.
 fn force<G: Rig>(rig: &mut G, log: &mut Log) -> Result<(), Failed>
-    requires stands { IsTrue G.told → StandsOn log.old (G.seen rig.old log.old.inst) }
-    requires stable { IsTrue G.told → LeavesOnly (G.seen rig.old log.old.inst) (G.leaves rig.old log.old.inst) }
-    ensures stands { IsTrue G.told → OnOk result (StandsOn log.new (G.seen rig.new log.new.inst)) }
-    ensures stable { IsTrue G.told → OnOk result (LeavesOnly (G.seen rig.new log.new.inst) (G.leaves rig.new log.new.inst)) }
+    requires stands { StandsOn log.old (G.seen rig.old log.old.inst) }
+    requires stable { LeavesOnly (G.seen rig.old log.old.inst) (G.leaves rig.old log.old.inst) }
+    ensures stands { OnOk result (StandsOn log.new (G.seen rig.new log.new.inst)) }
+    ensures stable { OnOk result (LeavesOnly (G.seen rig.new log.new.inst) (G.leaves rig.new log.new.inst)) }
 {
     log.force(rig)
 }

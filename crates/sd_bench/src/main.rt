@@ -5,7 +5,7 @@
 //! Promises: nothing but that it does nothing undefined.
 //! Refuses: words that name no loop, by exit status 2; a loop that a layer stops, by exit status 1.
 //! Knows nothing of: time, which `benches/` takes from outside.
-//! Stands on: sd_base, sd_rig, sd_logrec, sd_log, sd_reclock, sd_recovered.
+//! Stands on: sd_base, sd_rig, sd_filerig, sd_logrec, sd_log, sd_reclock, sd_recovered.
 //!
 //! To change:
 //! - free: all
@@ -33,8 +33,13 @@ fn words(rt: &(impl Env + AllocGlobal)) -> io::Result<Vec<String>> {
 }
 
 // Runs the loop that the words name, and tells whether it went through; `None` where they name none.
-fn run(alloc: Global, words: &[String]) -> Option<bool> {
+fn run(rt: &HostRuntime, alloc: Global, words: &[String]) -> Option<bool> {
     match words {
+        [name, dir, times, dev] if name.as_str() == "files" => {
+            let times = times.parse::<u32>().ok()?;
+            let dev = dev.parse::<u8>().ok().filter(|dev| *dev <= 8)?;
+            Some(devices::cycles_in(rt, alloc, dir, dev, times))
+        }
         [name, times, dev] if name.as_str() == "devices" => {
             let times = times.parse::<u32>().ok()?;
             let dev = dev.parse::<u8>().ok().filter(|dev| *dev <= 8)?;
@@ -62,7 +67,7 @@ fn main(rt: HostRuntime) -> ExitCode {
     let alloc = rt.alloc();
     let status = match words(&rt) {
         Err(_) => 1,
-        Ok(words) => match run(alloc, &words) {
+        Ok(words) => match run(&rt, alloc, &words) {
             Some(true) => 0,
             Some(false) => 1,
             None => 2,

@@ -1,5 +1,5 @@
 -- A record that comes into a log's tail. It serves the goals of `append`.
-use Rattle.std.proofs.Common.{◌≡◌, ℕ, ◌+◌, ◌*◌, ◌<◌, ◌≤◌, true, List, [], ◌∷◌, ◌++◌, length, sym, ap, ◌∙◌, arith, length-append}
+use Rattle.std.proofs.Common.{◌≡◌, ℕ, ◌+◌, ◌*◌, ◌<◌, ◌≤◌, true, List, [], ◌∷◌, ◌++◌, length, refl, sym, ap, ◌∙◌, arith, length-append}
 use Rattle.std.specs.List.{AllByRecursion}
 use Rattle.sd_logrec.specs.declared.record.Record.{Record}
 use Rattle.sd_logrec.specs.declared.record.Record.TheVariants as records
@@ -68,3 +68,8 @@ put_is l r kept journal tail h p =
       spare_text = p.kept_text;
       spare_records = p.kept_records;
     }
+
+-- a tail whose spelling has no bytes
+pub no_text : (rs : List Record) → length (spelled rs) ≡ 0 → rs ≡ []
+no_text [] e = refl
+no_text (r ∷ rs) e = let some = least_spelling r in absurd (omega (arith, e, length-append (spelling r) (spelled rs)))

@@ -1,6 +1,6 @@
 //! The bytes of a tail as they come onto the device: the group's length, the records, and the next gate.
 
-ghost use Rattle.std.specs.Prelude.{◌≡◌, ◌≢◌, ◌⊎◌, [], ◌∷◌, ◌++◌, ℕ, ◌+◌, ◌^◌, ◌<◌, ◌≤◌, true, false, drop, length, vec_len, vec_capacity, IfOk, IsOk, IsTrue, OnErr, OnOk};
+ghost use Rattle.std.specs.Prelude.{◌≡◌, ◌≢◌, ◌⊎◌, [], ◌∷◌, ◌++◌, ℕ, ◌+◌, ◌^◌, ◌<◌, ◌≤◌, true, false, drop, length, vec_len, vec_capacity, IfOk, IsOk, OnErr, OnOk};
 ghost use Rattle.sd_base.specs.Streams.{Rises};
 ghost use Rattle.sd_base.specs.Twin as twin;
 ghost use Rattle.sd_logrec.specs.Spelling.{HasSpelling, four, spelling};
@@ -87,19 +87,21 @@ impl Buffer {
         requires device { dev ≤ 8 }
         requires short { length self.old.text < 2 ^ 32 }
         requires range { gate + 1 + (4 + length self.old.text + 1) ≤ device_len dev }
-        requires stable { IsTrue G.told → LeavesOnly (G.seen rig.old dev) (G.leaves rig.old dev) }
-        requires closed { IsTrue G.told → twin.is_open gate (G.seen rig.old dev) ≡ false }
+        requires stable { LeavesOnly (G.seen rig.old dev) (G.leaves rig.old dev) }
+        requires closed { twin.is_open gate (G.seen rig.old dev) ≡ false }
         ensures text { self.new.text ≡ self.old.text }
         ensures room { self.old.room ≤ self.new.room }
-        ensures filled { IsTrue G.told → OnOk result ((twin.is_open gate (G.seen rig.new dev) ≡ true) × (twin.body_at (5 + length self.old.text) gate (G.seen rig.new dev) ≡ framed self.old.text)) }
-        ensures durable { IsTrue G.told → OnOk result (LeavesOnly (G.seen rig.new dev) (G.leaves rig.new dev)) }
-        ensures outside { IsTrue G.told → AgreesOutside gate (5 + length self.old.text + 1) (G.seen rig.old dev) (G.seen rig.new dev) }
-        ensures whole { IsTrue G.told → (twin.is_open gate (G.seen rig.new dev) ≡ false) ⊎ (twin.body_at (5 + length self.old.text) gate (G.seen rig.new dev) ≡ framed self.old.text) }
-        ensures any_moment { IsTrue G.told → Span (G.moment rig.old) (G.since rig.new) (Fills dev gate (5 + length self.old.text) (framed self.old.text) (G.seen rig.old) (G.leaves rig.old)) }
-        ensures others { IsTrue G.told → (d : ℕ) → d ≢ dev → G.seen rig.new d ≡ G.seen rig.old d }
-        ensures others_leave { IsTrue G.told → (d : ℕ) → d ≢ dev → LeavesSame (G.leaves rig.old d) (G.leaves rig.new d) }
-        ensures time { IsTrue G.told → Elapses (G.moment rig.old) (G.moment rig.new) (G.since rig.old) (G.since rig.new) }
+        ensures filled { OnOk result ((twin.is_open gate (G.seen rig.new dev) ≡ true) × (twin.body_at (5 + length self.old.text) gate (G.seen rig.new dev) ≡ framed self.old.text)) }
+        ensures durable { OnOk result (LeavesOnly (G.seen rig.new dev) (G.leaves rig.new dev)) }
+        ensures outside { AgreesOutside gate (5 + length self.old.text + 1) (G.seen rig.old dev) (G.seen rig.new dev) }
+        ensures whole { (twin.is_open gate (G.seen rig.new dev) ≡ false) ⊎ (twin.body_at (5 + length self.old.text) gate (G.seen rig.new dev) ≡ framed self.old.text) }
+        ensures any_moment { Span (G.moment rig.old) (G.since rig.new) (Fills dev gate (5 + length self.old.text) (framed self.old.text) (G.seen rig.old) (G.leaves rig.old)) }
+        ensures others { (d : ℕ) → d ≢ dev → G.seen rig.new d ≡ G.seen rig.old d }
+        ensures others_leave { (d : ℕ) → d ≢ dev → LeavesSame (G.leaves rig.old d) (G.leaves rig.new d) }
+        ensures time { Elapses (G.moment rig.old) (G.moment rig.new) (G.since rig.old) (G.since rig.new) }
         ensures cause { OnErr result (Rises (G.faults rig.old) (G.faults rig.new)) }
+        ensures quiet { OnOk result (G.faults rig.new ≡ G.faults rig.old) }
+        ensures tick { OnOk result (G.moment rig.new ≡ G.moment rig.old + 4) }
         ensures count { G.faults rig.old ≤ G.faults rig.new }
     {
         let len = self.bytes.len();

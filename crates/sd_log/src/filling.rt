@@ -1,6 +1,6 @@
 //! How a group comes onto a device: its bytes behind a closed gate, which is then opened, with a sync behind each write.
 
-ghost use Rattle.std.specs.Prelude.{◌≡◌, ◌≢◌, ◌⊎◌, ℕ, ◌+◌, ◌≤◌, true, false, length, IsTrue, OnErr, OnOk};
+ghost use Rattle.std.specs.Prelude.{◌≡◌, ◌≢◌, ◌⊎◌, ℕ, ◌+◌, ◌≤◌, true, false, length, OnErr, OnOk};
 ghost use Rattle.sd_base.specs.Streams.{Rises};
 ghost use Rattle.sd_base.specs.Twin as twin;
 ghost use Rattle.sd_rig.specs.Devices.{AgreesOutside, Elapses, LeavesOnly, LeavesSame, Span, device_len, overwritten};
@@ -16,15 +16,17 @@ pub const OPEN: u8 = 0xA5;
 fn write_synced<G: Rig>(rig: &mut G, dev: u8, at: u32, bytes: &[u8]) -> Result<(), Failed>
     requires device { dev ≤ 8 }
     requires range { at + length bytes.now ≤ device_len dev }
-    requires stable { IsTrue G.told → LeavesOnly (G.seen rig.old dev) (G.leaves rig.old dev) }
-    ensures written { IsTrue G.told → OnOk result (G.seen rig.new dev ≡ overwritten at bytes.now (G.seen rig.old dev)) }
-    ensures durable { IsTrue G.told → OnOk result (LeavesOnly (G.seen rig.new dev) (G.leaves rig.new dev)) }
-    ensures outside { IsTrue G.told → AgreesOutside at (length bytes.now) (G.seen rig.old dev) (G.seen rig.new dev) }
-    ensures any_moment { IsTrue G.told → Span (G.moment rig.old) (G.since rig.new) (Writes dev at (length bytes.now) (G.seen rig.old) (G.leaves rig.old)) }
-    ensures others { IsTrue G.told → (d : ℕ) → d ≢ dev → G.seen rig.new d ≡ G.seen rig.old d }
-    ensures others_leave { IsTrue G.told → (d : ℕ) → d ≢ dev → LeavesSame (G.leaves rig.old d) (G.leaves rig.new d) }
-    ensures time { IsTrue G.told → Elapses (G.moment rig.old) (G.moment rig.new) (G.since rig.old) (G.since rig.new) }
+    requires stable { LeavesOnly (G.seen rig.old dev) (G.leaves rig.old dev) }
+    ensures written { OnOk result (G.seen rig.new dev ≡ overwritten at bytes.now (G.seen rig.old dev)) }
+    ensures durable { OnOk result (LeavesOnly (G.seen rig.new dev) (G.leaves rig.new dev)) }
+    ensures outside { AgreesOutside at (length bytes.now) (G.seen rig.old dev) (G.seen rig.new dev) }
+    ensures any_moment { Span (G.moment rig.old) (G.since rig.new) (Writes dev at (length bytes.now) (G.seen rig.old) (G.leaves rig.old)) }
+    ensures others { (d : ℕ) → d ≢ dev → G.seen rig.new d ≡ G.seen rig.old d }
+    ensures others_leave { (d : ℕ) → d ≢ dev → LeavesSame (G.leaves rig.old d) (G.leaves rig.new d) }
+    ensures time { Elapses (G.moment rig.old) (G.moment rig.new) (G.since rig.old) (G.since rig.new) }
     ensures cause { OnErr result (Rises (G.faults rig.old) (G.faults rig.new)) }
+    ensures quiet { OnOk result (G.faults rig.new ≡ G.faults rig.old) }
+    ensures tick { OnOk result (G.moment rig.new ≡ G.moment rig.old + 2) }
     ensures count { G.faults rig.old ≤ G.faults rig.new }
 {
     rig.write(dev, at, bytes)?;
@@ -36,17 +38,19 @@ fn write_synced<G: Rig>(rig: &mut G, dev: u8, at: u32, bytes: &[u8]) -> Result<(
 pub fn fill<G: Rig>(rig: &mut G, dev: u8, gate: u32, bytes: &[u8]) -> Result<(), Failed>
     requires device { dev ≤ 8 }
     requires range { gate + 1 + length bytes.now ≤ device_len dev }
-    requires stable { IsTrue G.told → LeavesOnly (G.seen rig.old dev) (G.leaves rig.old dev) }
-    requires closed { IsTrue G.told → twin.is_open gate (G.seen rig.old dev) ≡ false }
-    ensures filled { IsTrue G.told → OnOk result ((twin.is_open gate (G.seen rig.new dev) ≡ true) × (twin.body_at (length bytes.now) gate (G.seen rig.new dev) ≡ bytes.now)) }
-    ensures durable { IsTrue G.told → OnOk result (LeavesOnly (G.seen rig.new dev) (G.leaves rig.new dev)) }
-    ensures outside { IsTrue G.told → AgreesOutside gate (length bytes.now + 1) (G.seen rig.old dev) (G.seen rig.new dev) }
-    ensures whole { IsTrue G.told → (twin.is_open gate (G.seen rig.new dev) ≡ false) ⊎ (twin.body_at (length bytes.now) gate (G.seen rig.new dev) ≡ bytes.now) }
-    ensures any_moment { IsTrue G.told → Span (G.moment rig.old) (G.since rig.new) (Fills dev gate (length bytes.now) bytes.now (G.seen rig.old) (G.leaves rig.old)) }
-    ensures others { IsTrue G.told → (d : ℕ) → d ≢ dev → G.seen rig.new d ≡ G.seen rig.old d }
-    ensures others_leave { IsTrue G.told → (d : ℕ) → d ≢ dev → LeavesSame (G.leaves rig.old d) (G.leaves rig.new d) }
-    ensures time { IsTrue G.told → Elapses (G.moment rig.old) (G.moment rig.new) (G.since rig.old) (G.since rig.new) }
+    requires stable { LeavesOnly (G.seen rig.old dev) (G.leaves rig.old dev) }
+    requires closed { twin.is_open gate (G.seen rig.old dev) ≡ false }
+    ensures filled { OnOk result ((twin.is_open gate (G.seen rig.new dev) ≡ true) × (twin.body_at (length bytes.now) gate (G.seen rig.new dev) ≡ bytes.now)) }
+    ensures durable { OnOk result (LeavesOnly (G.seen rig.new dev) (G.leaves rig.new dev)) }
+    ensures outside { AgreesOutside gate (length bytes.now + 1) (G.seen rig.old dev) (G.seen rig.new dev) }
+    ensures whole { (twin.is_open gate (G.seen rig.new dev) ≡ false) ⊎ (twin.body_at (length bytes.now) gate (G.seen rig.new dev) ≡ bytes.now) }
+    ensures any_moment { Span (G.moment rig.old) (G.since rig.new) (Fills dev gate (length bytes.now) bytes.now (G.seen rig.old) (G.leaves rig.old)) }
+    ensures others { (d : ℕ) → d ≢ dev → G.seen rig.new d ≡ G.seen rig.old d }
+    ensures others_leave { (d : ℕ) → d ≢ dev → LeavesSame (G.leaves rig.old d) (G.leaves rig.new d) }
+    ensures time { Elapses (G.moment rig.old) (G.moment rig.new) (G.since rig.old) (G.since rig.new) }
     ensures cause { OnErr result (Rises (G.faults rig.old) (G.faults rig.new)) }
+    ensures quiet { OnOk result (G.faults rig.new ≡ G.faults rig.old) }
+    ensures tick { OnOk result (G.moment rig.new ≡ G.moment rig.old + 4) }
     ensures count { G.faults rig.old ≤ G.faults rig.new }
 {
     write_synced(rig, dev, gate + 1, bytes)?;

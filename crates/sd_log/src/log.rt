@@ -1,6 +1,6 @@
 //! The log of an instance: its calls.
 
-ghost use Rattle.std.specs.Prelude.{◌≡◌, ◌≢◌, ◌⊎◌, ◌↔◌, [], ◌∷◌, ◌++◌, ℕ, ◌+◌, ◌-◌, ◌^◌, ◌<◌, ◌≤◌, false, true, max, if◌then◌else◌, length, Err, Ok, IsOk, IfErr, IfOk, IsTrue, OnErr, OnOk};
+ghost use Rattle.std.specs.Prelude.{◌≡◌, ◌≢◌, ◌⊎◌, ◌↔◌, [], ◌∷◌, ◌++◌, ℕ, ◌+◌, ◌-◌, ◌^◌, ◌<◌, ◌≤◌, false, true, max, if◌then◌else◌, length, Err, Ok, IsOk, IfErr, IfOk, OnErr, OnOk};
 ghost use Rattle.sd_base.specs.Streams.{Rises};
 ghost use Rattle.sd_base.specs.declared.refusal.Refusal.TheVariants as R;
 ghost use Rattle.sd_logrec.specs.Kept.{BadGroup, NoRecord, Whole, area, groups_within, reading};
@@ -57,17 +57,18 @@ impl Log {
         start: u32,
     ) -> Result<Log, Refusal>
         requires { start < 1048576 }
-        ensures whole { IsTrue G.told → IfOk result (λ log. reading start (area (G.seen rig.old inst)) ≡ Whole log.groups log.gate) }
+        ensures whole { IfOk result (λ log. reading start (area (G.seen rig.old inst)) ≡ Whole log.groups log.gate) }
         ensures inst { IfOk result (λ log. log.inst ≡ inst) }
         ensures start { IfOk result (λ log. log.start ≡ start) }
         ensures tail { IfOk result (λ log. log.tail ≡ []) }
 
-        ensures bad_log { IsTrue G.told → (at : ℕ) → result ≡ Err (R.BadLog at) → reading start (area (G.seen rig.old inst)) ≡ BadGroup at }
-        ensures bad_record { IsTrue G.told → (at : ℕ) → result ≡ Err (R.BadRecord at) → reading start (area (G.seen rig.old inst)) ≡ NoRecord at }
+        ensures bad_log { (at : ℕ) → result ≡ Err (R.BadLog at) → reading start (area (G.seen rig.old inst)) ≡ BadGroup at }
+        ensures bad_record { (at : ℕ) → result ≡ Err (R.BadRecord at) → reading start (area (G.seen rig.old inst)) ≡ NoRecord at }
         ensures refusals { IfErr result (λ e. (e ≡ R.Failed) ⊎ (e ≡ R.Memory) ⊎ ((at : ℕ) × (e ≡ R.BadLog at)) ⊎ ((at : ℕ) × (e ≡ R.BadRecord at))) }
         ensures cause { result ≡ Err R.Failed → Rises (G.faults rig.old) (G.faults rig.new) }
+        ensures quiet { result ≢ Err R.Failed → G.faults rig.new ≡ G.faults rig.old }
 
-        ensures stays { IsTrue G.told → IsUnchanged (G.seen rig.old) (G.seen rig.new) (G.leaves rig.old) (G.leaves rig.new)
+        ensures stays { IsUnchanged (G.seen rig.old) (G.seen rig.new) (G.leaves rig.old) (G.leaves rig.new)
             (G.moment rig.old) (G.moment rig.new) (G.since rig.old) (G.since rig.new) }
         ensures count { G.faults rig.old ≤ G.faults rig.new }
     {
@@ -176,24 +177,26 @@ impl Log {
     /// `Failed` comes only where the rig's count of faults rose. The tail is then as before, and the device is to be
     /// synced and read again before anything is forced.
     pub fn force<G: Rig>(&mut self, rig: &mut G) -> Result<(), Failed>
-        requires stable { IsTrue G.told → self.old.tail ≢ [] → LeavesOnly (G.seen rig.old self.old.inst) (G.leaves rig.old self.old.inst) }
-        requires stands { IsTrue G.told → self.old.tail ≢ [] → StandsOn self.old (G.seen rig.old self.old.inst) }
+        requires stable { self.old.tail ≢ [] → LeavesOnly (G.seen rig.old self.old.inst) (G.leaves rig.old self.old.inst) }
+        requires stands { self.old.tail ≢ [] → StandsOn self.old (G.seen rig.old self.old.inst) }
 
         ensures ok { OnOk result (self.new ≡ forced self.old) }
         ensures stays { OnErr result (self.new ≡ self.old) }
-        ensures stands { IsTrue G.told → self.old.tail ≢ [] → OnOk result (StandsOn self.new (G.seen rig.new self.old.inst)) }
-        ensures durable { IsTrue G.told → self.old.tail ≢ [] → OnOk result (LeavesOnly (G.seen rig.new self.old.inst) (G.leaves rig.new self.old.inst)) }
+        ensures stands { self.old.tail ≢ [] → OnOk result (StandsOn self.new (G.seen rig.new self.old.inst)) }
+        ensures durable { self.old.tail ≢ [] → OnOk result (LeavesOnly (G.seen rig.new self.old.inst) (G.leaves rig.new self.old.inst)) }
 
         // A crash during the call, or after it, leaves the log with its tail or without it, and so does a read.
-        ensures any_moment { IsTrue G.told → self.old.tail ≢ [] → Span (G.moment rig.old) (G.since rig.new) (Forces self.old (G.seen rig.old) (G.leaves rig.old)) }
-        ensures whole { IsTrue G.told → self.old.tail ≢ [] → StandsEither self.old (G.seen rig.new self.old.inst) }
-        ensures outside { IsTrue G.told → AgreesOutside (forced_at self.old) (forced_len self.old) (G.seen rig.old self.old.inst) (G.seen rig.new self.old.inst) }
-        ensures others { IsTrue G.told → (d : ℕ) → d ≢ self.old.inst → G.seen rig.new d ≡ G.seen rig.old d }
-        ensures others_leave { IsTrue G.told → (d : ℕ) → d ≢ self.old.inst → LeavesSame (G.leaves rig.old d) (G.leaves rig.new d) }
-        ensures time { IsTrue G.told → Elapses (G.moment rig.old) (G.moment rig.new) (G.since rig.old) (G.since rig.new) }
+        ensures any_moment { self.old.tail ≢ [] → Span (G.moment rig.old) (G.since rig.new) (Forces self.old (G.seen rig.old) (G.leaves rig.old)) }
+        ensures whole { self.old.tail ≢ [] → StandsEither self.old (G.seen rig.new self.old.inst) }
+        ensures outside { AgreesOutside (forced_at self.old) (forced_len self.old) (G.seen rig.old self.old.inst) (G.seen rig.new self.old.inst) }
+        ensures others { (d : ℕ) → d ≢ self.old.inst → G.seen rig.new d ≡ G.seen rig.old d }
+        ensures others_leave { (d : ℕ) → d ≢ self.old.inst → LeavesSame (G.leaves rig.old d) (G.leaves rig.new d) }
+        ensures time { Elapses (G.moment rig.old) (G.moment rig.new) (G.since rig.old) (G.since rig.new) }
 
         ensures idle { self.old.tail ≡ [] → (result ≡ Ok tt) × (rig.new ≡ rig.old) }
         ensures cause { OnErr result (Rises (G.faults rig.old) (G.faults rig.new)) }
+        ensures quiet { OnOk result (G.faults rig.new ≡ G.faults rig.old) }
+        ensures tick { self.old.tail ≢ [] → OnOk result (G.moment rig.new ≡ G.moment rig.old + 4) }
         ensures count { G.faults rig.old ≤ G.faults rig.new }
     {
         let len = self.tail.len();

@@ -1,6 +1,6 @@
 //! Logs by hand: their bytes, forces that are stopped, the room of an area, and bytes that are damaged.
 
-ghost use Rattle.std.specs.Prelude.{◌≡◌, ℕ, ◌^◌, ◌<◌, ◌≤◌, IfOk, IsTrue};
+ghost use Rattle.std.specs.Prelude.{◌≡◌, ℕ, ◌^◌, ◌<◌, ◌≤◌, IfOk};
 ghost use Rattle.sd_logrec.specs.Spelling.{HasSpelling, spelling};
 ghost use Rattle.sd_rig.specs.Devices.{LeavesOnly};
 ghost use Rattle.sd_log.specs.Logs.{StandsOn, last_lsn, scanned};
@@ -28,8 +28,8 @@ fn first_inst() -> Result<InstNo, Fail> {
 
 // Reads the log from its device, which is made stable.
 fn open<G: Rig>(alloc: Global, rig: &mut G, inst: InstNo) -> Result<Log, Refusal>
-    ensures stands { IsTrue G.told → IfOk result (λ log. StandsOn log (G.seen rig.new log.inst)) }
-    ensures stable { IsTrue G.told → IfOk result (λ log. LeavesOnly (G.seen rig.new log.inst) (G.leaves rig.new log.inst)) }
+    ensures stands { IfOk result (λ log. StandsOn log (G.seen rig.new log.inst)) }
+    ensures stable { IfOk result (λ log. LeavesOnly (G.seen rig.new log.inst) (G.leaves rig.new log.inst)) }
 {
     rig.sync(inst.get())?;
     Log::read_in(alloc, rig, inst, 0)
@@ -87,19 +87,20 @@ fn commit(inst: InstNo, lsn: Lsn) -> Record
     Record::Commit { lsn, txn, prev }
 }
 
-// A force that is stopped after so many calls, and a crash: whether the log has the tail behind it then, or nothing more.
+// A force of which the call behind so many fails, and a crash: whether the log has the tail behind it then, or nothing more.
 fn is_cut_whole(
     alloc: Global,
     rig: &mut MemRig,
     inst: InstNo,
     calls: u64,
+    trouble: Trouble,
     pick: Pick,
 ) -> Result<bool, Fail> {
     let mut log = open(alloc, rig, inst)?;
     let old = log.scan().len();
     log.append(commit(inst, 7), 0)?;
     log.append(commit(inst, 8), 0)?;
-    rig.arm(Trouble::Fuse(calls));
+    rig.arm(trouble);
     let failed = log.force(rig).is_err();
     rig.crash(pick);
     let left = Log::read_in(alloc, rig, inst, 0)?.scan().len();
@@ -117,9 +118,15 @@ fn a_stopped_force_leaves_the_tail_whole_or_not_at_all(rt: HostRuntime) -> Resul
     let inst = first_inst()?;
     for pick in [Pick::Keep, Pick::Lose, Pick::Tear, Pick::Junk] {
         for calls in 0..=4u64 {
+            let fuse = Trouble::Fuse(calls);
             assert!(rt;
-                is_cut_whole(alloc, &mut rig, inst, calls, pick)?,
+                is_cut_whole(alloc, &mut rig, inst, calls, fuse, pick)?,
                 "{calls} calls, {pick:?}"
+            );
+            let fault = Trouble::Fault(calls + 1);
+            assert!(rt;
+                is_cut_whole(alloc, &mut rig, inst, calls, fault, pick)?,
+                "{calls} calls, then one fails, {pick:?}"
             );
         }
     }

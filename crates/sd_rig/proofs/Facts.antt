@@ -1,6 +1,6 @@
 -- What the calls of the devices in memory promise to the layers above. It serves the goals of memory_rig.rt.
 use Rattle.std.proofs.Common.{◌≡◌, ◌⊎◌, ⊎_elim, inl, inr, ℕ, ◌+◌, ◌-◌, ◌<◌, ◌≤◌, Bool, true, false, List, [], ◌∷◌, ◌++◌, length, take, drop, map, get_or, set, refl, sym, ap, ◌∙◌, subst, arith, length-append}
-use Rattle.std.proofs.lemmas.List.{take_all, take-append-le, ext_get_or, get_or_past, get_or-take, get_or-drop, take_at, drop_at, length-take-le, length-drop}
+use Rattle.std.proofs.lemmas.List.{take_all, take-append-le, ext_get_or, get_or_past, get_or-take, get_or-drop, take_at, drop_at, drop_all, append-nil, length-take-le, length-drop}
 use Rattle.std.proofs.lemmas.List.FromFn.{get_or-map-range_with_len, length-map-range_with_len}
 use Rattle.std.proofs.lemmas.Bool.{cases_lt, cases_Bool, cases_eq}
 use Rattle.sd_base.specs.declared.trouble.Pick.{Pick}
@@ -231,3 +231,13 @@ crash-durable disks are none d h = only-settled (disk_at disks d) (are.sound d h
 pub sync-seen : (disks disks' : List DiskState) (dev : ℕ) (ok : Bool) → AreDevices disks → dev ≤ 8 → disks' ≡ changed (Synced dev ok) disks → (d : ℕ) → (disk_at disks' d).seen ≡ (disk_at disks d).seen
 sync-seen disks disks' dev true are le made d = seen-synced disks disks' dev are le made d
 sync-seen disks disks' dev false are le made d = ap (λ (ks : List DiskState). (disk_at ks d).seen) made
+
+-- a device that is written whole
+overwritten-whole : (image old : List ℕ) → length image ≡ length old → overwritten 0 image old ≡ image
+overwritten-whole image old len = ap (λ l. image ++ l) (drop_all (0 + length image) old (omega (arith, len))) ∙ append-nil image
+
+pub loaded-seen : (disks disks' : List DiskState) (dev : ℕ) (image : List ℕ) → AreDevices disks → dev ≤ 8 → length image ≡ device_len dev → disks' ≡ set disks dev (written 0 image (disk_at disks dev)) → (disk_at disks' dev).seen ≡ image
+loaded-seen disks disks' dev image are le len made =
+    let k = disk_at disks dev in
+    ap (λ (ks : List DiskState). (disk_at ks dev).seen) made ∙ ap (λ (j : DiskState). j.seen) (disk_at-set_same disks dev (written 0 image k) are le)
+    ∙ overwritten-whole image k.seen (len ∙ sym (are.lens dev le))

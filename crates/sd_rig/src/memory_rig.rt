@@ -66,6 +66,8 @@ impl MemRig {
 }
 
 impl MemRig {
+    ghost use Rattle.sd_rig.specs.Devices.{LeavesOnly};
+    ghost use Rattle.sd_rig.specs.Replay.{left_of};
     ghost use Rattle.sd_rig.specs.Rigs.{KeepsAll, armed, device, devices, done, fault_count, short_count, spare};
 
     /// Sets a byte of a device, stable. It is no call that trouble meets.
@@ -79,6 +81,34 @@ impl MemRig {
         ensures short { short_count self.new ≡ short_count self.old }
     {
         self.drives.poke(dev, at, byte)
+    }
+
+    /// Makes these the bytes of a device, stable; they are noted as a write and a sync of it. It is no call that trouble
+    /// meets. After an `Err` that device may have the bytes, pending.
+    pub fn load(&mut self, dev: u8, image: &[u8]) -> Result<(), Memory>
+        requires device { dev ≤ 8 }
+        requires whole { length image.now ≡ device_len dev }
+        ensures bytes { OnOk result ((device self.new dev).seen ≡ image.now) }
+        ensures durable { OnOk result (LeavesOnly image.now (left_of (devices self.new) dev)) }
+        ensures others { OnOk result ((d : ℕ) → d ≢ dev → device self.new d ≡ device self.old d) }
+        ensures armed { armed self.new ≡ armed self.old }
+        ensures faults { fault_count self.new ≡ fault_count self.old }
+        ensures short { short_count self.new ≡ short_count self.old }
+    {
+        self.drives.write(dev, 0, image, true)?;
+        self.drives.sync(dev, true)
+    }
+
+    /// A call that fails outside the devices in memory: it is counted, and nothing else changes.
+    pub fn fail(&mut self) -> Failed
+        ensures faults { fault_count self.new ≡ raised (fault_count self.old) }
+        ensures cause { Rises (fault_count self.old) (fault_count self.new) }
+        ensures count { fault_count self.old ≤ fault_count self.new }
+        ensures armed { armed self.new ≡ armed self.old }
+        ensures keeps { KeepsAll self.old self.new }
+    {
+        raise(&mut self.faults);
+        Failed
     }
 
     /// Makes room in the record for so many bytes: `room` is the sum, over the writes to come, of their bytes and 32
@@ -102,8 +132,6 @@ impl Rig for MemRig {
     ghost use Rattle.sd_rig.specs.Laws.{leaves_what_is_seen, leaves_whole, left_earlier, left_now, left_only_now};
     ghost use Rattle.sd_rig.specs.Rigs.{Does, KeepsAll, Lacks, armed, device, devices, done, fault_count, short_count, spare};
 
-    ghost told = { true };
-
     ghost seen = { λ rig dev. (device rig dev).seen };
 
     ghost leaves = { λ rig. left_of (devices rig) };
@@ -114,15 +142,15 @@ impl Rig for MemRig {
 
     ghost faults = { λ rig. fault_count rig };
 
-    ghost counts_now = { λ rig t img told le left. left_now (done rig) (devices rig) rig.drives.told t img le left };
+    ghost counts_now = { λ rig t img le left. left_now (done rig) (devices rig) rig.drives.told t img le left };
 
-    ghost only_now = { λ rig img told since. left_only_now (done rig) (devices rig) rig.drives.told img since };
+    ghost only_now = { λ rig img since. left_only_now (done rig) (devices rig) rig.drives.told img since };
 
-    ghost earlier = { λ rig t u img told le since. left_earlier (done rig) t u img le since };
+    ghost earlier = { λ rig t u img le since. left_earlier (done rig) t u img le since };
 
-    ghost leaves_seen = { λ rig dev told le. leaves_what_is_seen (devices rig) rig.drives.devices dev le };
+    ghost leaves_seen = { λ rig dev le. leaves_what_is_seen (devices rig) rig.drives.devices dev le };
 
-    ghost whole = { λ rig dev bytes told le left. leaves_whole (devices rig) rig.drives.devices dev bytes le left };
+    ghost whole = { λ rig dev bytes le left. leaves_whole (devices rig) rig.drives.devices dev bytes le left };
 
     /// Fails exactly where the armed trouble meets it.
     fn read(&mut self, dev: u8, at: u32, out: &mut [u8]) -> Result<(), Failed>
@@ -133,6 +161,7 @@ impl Rig for MemRig {
         ensures armed { armed self.new ≡ after_call (armed self.old) }
         ensures faults { fault_count self.new ≡ (if is_ok result then fault_count self.old else raised (fault_count self.old)) }
         ensures cause { OnErr result (Rises (fault_count self.old) (fault_count self.new)) }
+        ensures quiet { OnOk result (fault_count self.new ≡ fault_count self.old) }
         ensures count { fault_count self.old ≤ fault_count self.new }
         ensures keeps { KeepsAll self.old self.new }
     {
@@ -160,7 +189,9 @@ impl Rig for MemRig {
         ensures short_count { short_count self.old ≤ short_count self.new }
         ensures armed { armed self.new ≡ after_call (armed self.old) }
         ensures faults { fault_count self.new ≡ (if is_ok result then fault_count self.old else raised (fault_count self.old)) }
+        ensures tick { OnOk result (length (done self.new) ≡ length (done self.old) + 1) }
         ensures cause { OnErr result (Rises (fault_count self.old) (fault_count self.new)) }
+        ensures quiet { OnOk result (fault_count self.new ≡ fault_count self.old) }
         ensures count { fault_count self.old ≤ fault_count self.new }
 
         ensures torn { OnOk result (LeavesTorn at (length bytes.now) (left_of (devices self.old) dev) (left_of (devices self.new) dev)) }
@@ -189,7 +220,9 @@ impl Rig for MemRig {
         ensures short_count { short_count self.old ≤ short_count self.new }
         ensures armed { armed self.new ≡ after_call (armed self.old) }
         ensures faults { fault_count self.new ≡ (if is_ok result then fault_count self.old else raised (fault_count self.old)) }
+        ensures tick { OnOk result (length (done self.new) ≡ length (done self.old) + 1) }
         ensures cause { OnErr result (Rises (fault_count self.old) (fault_count self.new)) }
+        ensures quiet { OnOk result (fault_count self.new ≡ fault_count self.old) }
         ensures count { fault_count self.old ≤ fault_count self.new }
 
         ensures durable { OnOk result (LeavesOnly (device self.old dev).seen (left_of (devices self.new) dev)) }

@@ -1,6 +1,6 @@
 //! Nine devices, as the layers above see them.
 
-ghost use Rattle.std.specs.Prelude.{◌≡◌, ◌≢◌, ℕ, Bool, ◌+◌, ◌≤◌, List, length, slice_range, IsTrue, OnOk, OnErr};
+ghost use Rattle.std.specs.Prelude.{◌≡◌, ◌≢◌, ◌⊎◌, ℕ, ◌+◌, ◌≤◌, List, length, slice_range, OnOk, OnErr};
 ghost use Rattle.sd_base.specs.Streams.{Rises};
 ghost use Rattle.sd_rig.specs.Devices.{AgreesOutside, Elapses, Image, IsOneStep, IsUnchanged, Leaves, LeavesOnly, LeavesSame, LeavesTorn, MayTear, device_len, overwritten};
 
@@ -10,9 +10,6 @@ use sd_base::{Failed, Pick, Trouble};
 /// range that was written, and outside what was there; after a sync that succeeds it leaves what a read gives.
 /// `Failed` comes only where the count of faults rose in that call.
 pub trait Rig {
-    /// Whether rigs of this kind tell their contents. Where they don't, no clause on contents says anything.
-    ghost told: { Bool };
-
     /// What a read of each device gives.
     ghost seen: { Self → ℕ → List ℕ };
 
@@ -32,10 +29,11 @@ pub trait Rig {
     fn read(&mut self, dev: u8, at: u32, out: &mut [u8]) -> Result<(), Failed>
         requires device { dev ≤ 8 }
         requires range { at + length out.old ≤ device_len dev }
-        ensures bytes { IsTrue told → OnOk result (out.new ≡ slice_range (seen self.old dev) at (at + length out.old)) }
-        ensures stays { IsTrue told → IsUnchanged (seen self.old) (seen self.new) (leaves self.old) (leaves self.new)
+        ensures bytes { OnOk result (out.new ≡ slice_range (seen self.old dev) at (at + length out.old)) }
+        ensures stays { IsUnchanged (seen self.old) (seen self.new) (leaves self.old) (leaves self.new)
             (moment self.old) (moment self.new) (since self.old) (since self.new) }
         ensures cause { OnErr result (Rises (faults self.old) (faults self.new)) }
+        ensures quiet { OnOk result (faults self.new ≡ faults self.old) }
         ensures count { faults self.old ≤ faults self.new };
 
     /// Writes the bytes at `at`, a place in bytes. Until a sync of the device succeeds, a crash may leave any bytes in
@@ -43,55 +41,60 @@ pub trait Rig {
     fn write(&mut self, dev: u8, at: u32, bytes: &[u8]) -> Result<(), Failed>
         requires device { dev ≤ 8 }
         requires range { at + length bytes.now ≤ device_len dev }
-        ensures written { IsTrue told → OnOk result (seen self.new dev ≡ overwritten at bytes.now (seen self.old dev)) }
-        ensures outside { IsTrue told → AgreesOutside at (length bytes.now) (seen self.old dev) (seen self.new dev) }
-        ensures torn { IsTrue told → OnOk result (LeavesTorn at (length bytes.now) (leaves self.old dev) (leaves self.new dev)) }
-        ensures torn_err { IsTrue told → OnErr result (MayTear at (length bytes.now) (leaves self.old dev) (leaves self.new dev)) }
-        ensures others { IsTrue told → (d : ℕ) → d ≢ dev → seen self.new d ≡ seen self.old d }
-        ensures others_leave { IsTrue told → (d : ℕ) → d ≢ dev → LeavesSame (leaves self.old d) (leaves self.new d) }
-        ensures time { IsTrue told → Elapses (moment self.old) (moment self.new) (since self.old) (since self.new) }
-        ensures step { IsTrue told → IsOneStep (moment self.old) (since self.new) (leaves self.old) (leaves self.new) }
+        ensures written { OnOk result (seen self.new dev ≡ overwritten at bytes.now (seen self.old dev)) }
+        ensures outside { AgreesOutside at (length bytes.now) (seen self.old dev) (seen self.new dev) }
+        ensures torn { OnOk result (LeavesTorn at (length bytes.now) (leaves self.old dev) (leaves self.new dev)) }
+        ensures torn_err { OnErr result (MayTear at (length bytes.now) (leaves self.old dev) (leaves self.new dev)) }
+        ensures others { (d : ℕ) → d ≢ dev → seen self.new d ≡ seen self.old d }
+        ensures others_leave { (d : ℕ) → d ≢ dev → LeavesSame (leaves self.old d) (leaves self.new d) }
+        ensures time { Elapses (moment self.old) (moment self.new) (since self.old) (since self.new) }
+        ensures step { IsOneStep (moment self.old) (since self.new) (leaves self.old) (leaves self.new) }
+        ensures tick { OnOk result (moment self.new ≡ moment self.old + 1) }
         ensures cause { OnErr result (Rises (faults self.old) (faults self.new)) }
+        ensures quiet { OnOk result (faults self.new ≡ faults self.old) }
         ensures count { faults self.old ≤ faults self.new };
 
     /// Makes the device stable: a crash leaves what it reads. After `Failed` a crash may leave the same as before.
     fn sync(&mut self, dev: u8) -> Result<(), Failed>
         requires device { dev ≤ 8 }
-        ensures durable { IsTrue told → OnOk result (LeavesOnly (seen self.old dev) (leaves self.new dev)) }
-        ensures stays { IsTrue told → OnErr result (LeavesSame (leaves self.old dev) (leaves self.new dev)) }
-        ensures seen { IsTrue told → (d : ℕ) → seen self.new d ≡ seen self.old d }
-        ensures others_leave { IsTrue told → (d : ℕ) → d ≢ dev → LeavesSame (leaves self.old d) (leaves self.new d) }
-        ensures time { IsTrue told → Elapses (moment self.old) (moment self.new) (since self.old) (since self.new) }
-        ensures step { IsTrue told → IsOneStep (moment self.old) (since self.new) (leaves self.old) (leaves self.new) }
+        ensures durable { OnOk result (LeavesOnly (seen self.old dev) (leaves self.new dev)) }
+        ensures stays { OnErr result (LeavesSame (leaves self.old dev) (leaves self.new dev)) }
+        ensures seen { (d : ℕ) → seen self.new d ≡ seen self.old d }
+        ensures others_leave { (d : ℕ) → d ≢ dev → LeavesSame (leaves self.old d) (leaves self.new d) }
+        ensures time { Elapses (moment self.old) (moment self.new) (since self.old) (since self.new) }
+        ensures step { IsOneStep (moment self.old) (since self.new) (leaves self.old) (leaves self.new) }
+        ensures tick { OnOk result (moment self.new ≡ moment self.old + 1) }
         ensures cause { OnErr result (Rises (faults self.old) (faults self.new)) }
+        ensures quiet { OnOk result (faults self.new ≡ faults self.old) }
         ensures count { faults self.old ≤ faults self.new };
 
-    /// The devices become one of the images that a crash now may leave, and stable. No trouble is armed any more.
+    /// The devices become one of the images that a crash now may leave, and stable where the count of faults doesn't rise.
+    /// No trouble is armed any more.
     fn crash(&mut self, pick: Pick)
-        ensures left { IsTrue told → Leaves (leaves self.old) (seen self.new) }
-        ensures durable { IsTrue told → (d : ℕ) → d ≤ 8 → LeavesOnly (seen self.new d) (leaves self.new d) }
-        ensures time { IsTrue told → Elapses (moment self.old) (moment self.new) (since self.old) (since self.new) }
-        ensures step { IsTrue told → IsOneStep (moment self.old) (since self.new) (leaves self.old) (leaves self.new) }
+        ensures left { Leaves (leaves self.old) (seen self.new) }
+        ensures durable { Rises (faults self.old) (faults self.new) ⊎ ((d : ℕ) → d ≤ 8 → LeavesOnly (seen self.new d) (leaves self.new d)) }
+        ensures time { Elapses (moment self.old) (moment self.new) (since self.old) (since self.new) }
+        ensures step { IsOneStep (moment self.old) (since self.new) (leaves self.old) (leaves self.new) }
         ensures count { faults self.old ≤ faults self.new };
 
     /// Sets which of the coming reads, writes and syncs fail. Contents stay.
     fn arm(&mut self, trouble: Trouble)
-        ensures stays { IsTrue told → IsUnchanged (seen self.old) (seen self.new) (leaves self.old) (leaves self.new)
+        ensures stays { IsUnchanged (seen self.old) (seen self.new) (leaves self.old) (leaves self.new)
             (moment self.old) (moment self.new) (since self.old) (since self.new) }
         ensures count { faults self.old ≤ faults self.new };
 
     /// What may be left now is among what may have been left since each moment so far.
-    ghost counts_now: { (rig : Self) (t : ℕ) (img : Image) → IsTrue told → t ≤ moment rig → Leaves (leaves rig) img → since rig t img };
+    ghost counts_now: { (rig : Self) (t : ℕ) (img : Image) → t ≤ moment rig → Leaves (leaves rig) img → since rig t img };
 
     /// Since this moment there is nothing else.
-    ghost only_now: { (rig : Self) (img : Image) → IsTrue told → since rig (moment rig) img → Leaves (leaves rig) img };
+    ghost only_now: { (rig : Self) (img : Image) → since rig (moment rig) img → Leaves (leaves rig) img };
 
     /// What may have been left since a later moment may have been left since an earlier one.
-    ghost earlier: { (rig : Self) (t u : ℕ) (img : Image) → IsTrue told → t ≤ u → since rig u img → since rig t img };
+    ghost earlier: { (rig : Self) (t u : ℕ) (img : Image) → t ≤ u → since rig u img → since rig t img };
 
     /// What a read gives may be left.
-    ghost leaves_seen: { (rig : Self) (dev : ℕ) → IsTrue told → dev ≤ 8 → leaves rig dev (seen rig dev) };
+    ghost leaves_seen: { (rig : Self) (dev : ℕ) → dev ≤ 8 → leaves rig dev (seen rig dev) };
 
     /// A device has its length, as read and as left.
-    ghost whole: { (rig : Self) (dev : ℕ) (bytes : List ℕ) → IsTrue told → dev ≤ 8 → leaves rig dev bytes → length bytes ≡ device_len dev };
+    ghost whole: { (rig : Self) (dev : ℕ) (bytes : List ℕ) → dev ≤ 8 → leaves rig dev bytes → length bytes ≡ device_len dev };
 }

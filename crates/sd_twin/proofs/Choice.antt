@@ -73,7 +73,7 @@ gates_neither false true x y e = absurd (cc)
 gates_neither false false x y e = (refl, refl)
 
 -- the slot and the body by the gates
-slot_with : (at n : ℕ) (c : List ℕ) (o1 o2 : Bool) → is_open at c ≡ o1 → is_open (at + n + 1) c ≡ o2 → chosen_slot at n c ≡ slot_of o1 o2 (number_of (body_at n at c)) (number_of (body_at n (at + n + 1) c))
+pub slot_with : (at n : ℕ) (c : List ℕ) (o1 o2 : Bool) → is_open at c ≡ o1 → is_open (at + n + 1) c ≡ o2 → chosen_slot at n c ≡ slot_of o1 o2 (number_of (body_at n at c)) (number_of (body_at n (at + n + 1) c))
 slot_with at n c o1 o2 e f =
     ap (λ o. slot_of o (is_open (at + n + 1) c) (number_of (body_at n at c)) (number_of (body_at n (at + n + 1) c))) e
     ∙ ap (λ o. slot_of o1 o (number_of (body_at n at c)) (number_of (body_at n (at + n + 1) c))) f

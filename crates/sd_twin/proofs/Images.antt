@@ -9,6 +9,7 @@ use Rattle.sd_twin.specs.declared.twin.Chosen.TheVariants as C
 use Rattle.sd_twin.specs.Puts.{Closes, Fills, Puts, filled_gate, slot, twin_len}
 use Rattle.sd_twin.proofs.Choice.{closing_counts, filled_within, filling_counts}
 use Rattle.sd_twin.proofs.Filling.{others_from}
+use Rattle.sd_twin.proofs.Slots.{closing_differs, closing_from, filling_differs, filling_from}
 
 pub slot_differs : (c : Chosen) → c ≢ C.Same → slot c ≢ Same
 slot_differs C.Neither ne e = cc
@@ -37,6 +38,9 @@ puts_close s dev gate at n body seen leaves img is e ne w =
       others = here.others;
       outside = twin_outside s at n 1 (seen dev) (img dev) (omega arith) here.outside;
       whole = inl (closing_counts s at n (seen dev) (img dev) e ne here.outside here.shut);
+      first = (closing_from s at n body (seen dev) (img dev) e ne here.outside here.shut).0;
+      second = (closing_from s at n body (seen dev) (img dev) e ne here.outside here.shut).1;
+      differ = closing_differs s at n body (seen dev) (img dev) e ne here.outside here.shut;
     }
 
 pub puts_fill : (s : Slot) (dev gate at n : ℕ) (body : List ℕ) (seen seen' : Image) (leaves leaves' : ℕ → List ℕ → Type 0) (img : Image) → gate ≡ filled_gate s at n → length body ≡ n → chosen_slot at n (seen dev) ≡ s → s ≢ Same → IfSome (chosen_body at n (seen dev)) (λ b. number_of b < number_of body) → AgreesOutside gate 1 (seen dev) (seen' dev) → ((d : ℕ) → d ≢ dev → LeavesSame (leaves d) (leaves' d)) → Fills dev gate (length body) body seen' leaves' img → Puts dev at n body seen leaves img
@@ -48,4 +52,7 @@ puts_fill s dev gate at n body seen seen' leaves leaves' img is len e ne greater
       others = others_from dev leaves leaves' img same here.others;
       outside = twin_outside s at n (n + 1) (seen dev) (img dev) (omega arith) both;
       whole = filling_counts s at n body (seen dev) (img dev) e ne greater both here.whole;
+      first = (filling_from s at n body (seen dev) (img dev) e ne both here.whole).0;
+      second = (filling_from s at n body (seen dev) (img dev) e ne both here.whole).1;
+      differ = filling_differs s at n body (seen dev) (img dev) e ne both here.whole greater;
     }

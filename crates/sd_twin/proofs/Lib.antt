@@ -1,4 +1,5 @@
 pub mod Choice
 pub mod Filling
+pub mod Slots
 pub mod Images
 pub mod Parts

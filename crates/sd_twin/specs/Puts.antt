@@ -1,6 +1,6 @@
 -- What choosing answers, and what a crash may leave of a twin that is put. The definition of the slot that counts is sd_base's.
 use Rattle.std.specs.Prelude.{◌≡◌, ◌≢◌, ◌⊎◌, ℕ, ◌+◌, ◌*◌, ◌≤◌, Bool, true, false, List, Option, Some}
-use Rattle.sd_base.specs.Twin.{Slot, Neither, First, Second, Same, body_at, body_of, chosen_body, is_open}
+use Rattle.sd_base.specs.Twin.{Slot, Neither, First, Second, Same, body_at, body_of, chosen_body, chosen_slot, is_open}
 use Rattle.sd_rig.specs.Devices.{AgreesOutside, Image}
 use Rattle.sd_twin.specs.declared.twin.Chosen.{Chosen}
 use Rattle.sd_twin.specs.declared.twin.Chosen.TheVariants as C
@@ -68,8 +68,17 @@ pub record Fills (dev gate n : ℕ) (body : List ℕ) (seen : Image) (leaves : �
   pub outside : AgreesOutside gate (n + 1) (seen dev) (img dev)
   pub whole : (is_open gate (img dev) ≡ false) ⊎ (body_at n gate (img dev) ≡ body)
 
+-- A slot that is open is as it was, or has this body.
+abbrev pub IsFrom : ℕ → ℕ → List ℕ → List ℕ → List ℕ → Type 0
+IsFrom gate n body old new =
+    is_open gate new ≡ true → ((is_open gate old ≡ true) × (body_at n gate new ≡ body_at n gate old)) ⊎ (body_at n gate new ≡ body)
+
 -- An image in which the twin has its old body or the new one, whole, and all else is as it might be before.
 pub record Puts (dev at n : ℕ) (body : List ℕ) (seen : Image) (leaves : ℕ → List ℕ → Type 0) (img : Image) : Type 0 where
   pub others : LeavesOthers dev leaves img
   pub outside : AgreesOutside at (twin_len n) (seen dev) (img dev)
   pub whole : (chosen_body at n (img dev) ≡ chosen_body at n (seen dev)) ⊎ (chosen_body at n (img dev) ≡ Some body)
+  -- each open slot is as it was, or has the body, and their numbers differ
+  pub first : IsFrom at n body (seen dev) (img dev)
+  pub second : IsFrom (at + n + 1) n body (seen dev) (img dev)
+  pub differ : chosen_slot at n (img dev) ≢ Same

@@ -1,6 +1,6 @@
 //! How a body is put: the slot that doesn't count is closed, filled, and opened, with a sync behind each write.
 
-ghost use Rattle.std.specs.Prelude.{◌≡◌, ◌≢◌, ◌⊎◌, ℕ, Some, ◌+◌, ◌<◌, ◌≤◌, true, false, length, IfSome, IsTrue, OnErr, OnOk};
+ghost use Rattle.std.specs.Prelude.{◌≡◌, ◌≢◌, ◌⊎◌, ℕ, Some, ◌+◌, ◌<◌, ◌≤◌, true, false, length, IfSome, OnErr, OnOk, if◌then◌else◌};
 ghost use Rattle.sd_base.specs.Streams.{Rises};
 ghost use Rattle.sd_base.specs.Twin as twin;
 ghost use Rattle.sd_rig.specs.Devices.{AgreesOutside, Elapses, LeavesOnly, LeavesSame, Span, device_len, overwritten};
@@ -14,15 +14,17 @@ use sd_rig::Rig;
 fn write_synced<G: Rig>(rig: &mut G, dev: u8, at: u32, bytes: &[u8]) -> Result<(), Failed>
     requires device { dev ≤ 8 }
     requires range { at + length bytes.now ≤ device_len dev }
-    requires stable { IsTrue G.told → LeavesOnly (G.seen rig.old dev) (G.leaves rig.old dev) }
-    ensures written { IsTrue G.told → OnOk result (G.seen rig.new dev ≡ overwritten at bytes.now (G.seen rig.old dev)) }
-    ensures durable { IsTrue G.told → OnOk result (LeavesOnly (G.seen rig.new dev) (G.leaves rig.new dev)) }
-    ensures outside { IsTrue G.told → AgreesOutside at (length bytes.now) (G.seen rig.old dev) (G.seen rig.new dev) }
-    ensures any_moment { IsTrue G.told → Span (G.moment rig.old) (G.since rig.new) (Writes dev at (length bytes.now) (G.seen rig.old) (G.leaves rig.old)) }
-    ensures others { IsTrue G.told → (d : ℕ) → d ≢ dev → G.seen rig.new d ≡ G.seen rig.old d }
-    ensures others_leave { IsTrue G.told → (d : ℕ) → d ≢ dev → LeavesSame (G.leaves rig.old d) (G.leaves rig.new d) }
-    ensures time { IsTrue G.told → Elapses (G.moment rig.old) (G.moment rig.new) (G.since rig.old) (G.since rig.new) }
+    requires stable { LeavesOnly (G.seen rig.old dev) (G.leaves rig.old dev) }
+    ensures written { OnOk result (G.seen rig.new dev ≡ overwritten at bytes.now (G.seen rig.old dev)) }
+    ensures durable { OnOk result (LeavesOnly (G.seen rig.new dev) (G.leaves rig.new dev)) }
+    ensures outside { AgreesOutside at (length bytes.now) (G.seen rig.old dev) (G.seen rig.new dev) }
+    ensures any_moment { Span (G.moment rig.old) (G.since rig.new) (Writes dev at (length bytes.now) (G.seen rig.old) (G.leaves rig.old)) }
+    ensures others { (d : ℕ) → d ≢ dev → G.seen rig.new d ≡ G.seen rig.old d }
+    ensures others_leave { (d : ℕ) → d ≢ dev → LeavesSame (G.leaves rig.old d) (G.leaves rig.new d) }
+    ensures time { Elapses (G.moment rig.old) (G.moment rig.new) (G.since rig.old) (G.since rig.new) }
+    ensures tick { OnOk result (G.moment rig.new ≡ G.moment rig.old + 2) }
     ensures cause { OnErr result (Rises (G.faults rig.old) (G.faults rig.new)) }
+    ensures quiet { OnOk result (G.faults rig.new ≡ G.faults rig.old) }
     ensures count { G.faults rig.old ≤ G.faults rig.new }
 {
     rig.write(dev, at, bytes)?;
@@ -33,17 +35,19 @@ fn write_synced<G: Rig>(rig: &mut G, dev: u8, at: u32, bytes: &[u8]) -> Result<(
 fn close<G: Rig>(rig: &mut G, dev: u8, gate: u32, closing: bool) -> Result<(), Failed>
     requires device { dev ≤ 8 }
     requires range { gate + 1 ≤ device_len dev }
-    requires stable { IsTrue G.told → LeavesOnly (G.seen rig.old dev) (G.leaves rig.old dev) }
-    requires open { IsTrue G.told → twin.is_open gate (G.seen rig.old dev) ≡ closing }
-    ensures closed { IsTrue G.told → OnOk result (twin.is_open gate (G.seen rig.new dev) ≡ false) }
-    ensures durable { IsTrue G.told → OnOk result (LeavesOnly (G.seen rig.new dev) (G.leaves rig.new dev)) }
-    ensures outside { IsTrue G.told → AgreesOutside gate 1 (G.seen rig.old dev) (G.seen rig.new dev) }
-    ensures shut { IsTrue G.told → twin.is_open gate (G.seen rig.new dev) ≡ true → twin.is_open gate (G.seen rig.old dev) ≡ true }
-    ensures any_moment { IsTrue G.told → Span (G.moment rig.old) (G.since rig.new) (Closes dev gate (G.seen rig.old) (G.leaves rig.old)) }
-    ensures others { IsTrue G.told → (d : ℕ) → d ≢ dev → G.seen rig.new d ≡ G.seen rig.old d }
-    ensures others_leave { IsTrue G.told → (d : ℕ) → d ≢ dev → LeavesSame (G.leaves rig.old d) (G.leaves rig.new d) }
-    ensures time { IsTrue G.told → Elapses (G.moment rig.old) (G.moment rig.new) (G.since rig.old) (G.since rig.new) }
+    requires stable { LeavesOnly (G.seen rig.old dev) (G.leaves rig.old dev) }
+    requires open { twin.is_open gate (G.seen rig.old dev) ≡ closing }
+    ensures closed { OnOk result (twin.is_open gate (G.seen rig.new dev) ≡ false) }
+    ensures durable { OnOk result (LeavesOnly (G.seen rig.new dev) (G.leaves rig.new dev)) }
+    ensures outside { AgreesOutside gate 1 (G.seen rig.old dev) (G.seen rig.new dev) }
+    ensures shut { twin.is_open gate (G.seen rig.new dev) ≡ true → twin.is_open gate (G.seen rig.old dev) ≡ true }
+    ensures any_moment { Span (G.moment rig.old) (G.since rig.new) (Closes dev gate (G.seen rig.old) (G.leaves rig.old)) }
+    ensures others { (d : ℕ) → d ≢ dev → G.seen rig.new d ≡ G.seen rig.old d }
+    ensures others_leave { (d : ℕ) → d ≢ dev → LeavesSame (G.leaves rig.old d) (G.leaves rig.new d) }
+    ensures time { Elapses (G.moment rig.old) (G.moment rig.new) (G.since rig.old) (G.since rig.new) }
+    ensures tick { OnOk result (G.moment rig.new ≡ G.moment rig.old + (if closing then 2 else 0)) }
     ensures cause { OnErr result (Rises (G.faults rig.old) (G.faults rig.new)) }
+    ensures quiet { OnOk result (G.faults rig.new ≡ G.faults rig.old) }
     ensures count { G.faults rig.old ≤ G.faults rig.new }
 {
     if !closing {
@@ -56,17 +60,19 @@ fn close<G: Rig>(rig: &mut G, dev: u8, gate: u32, closing: bool) -> Result<(), F
 fn fill<G: Rig>(rig: &mut G, dev: u8, gate: u32, body: &[u8]) -> Result<(), Failed>
     requires device { dev ≤ 8 }
     requires range { gate + 1 + length body.now ≤ device_len dev }
-    requires stable { IsTrue G.told → LeavesOnly (G.seen rig.old dev) (G.leaves rig.old dev) }
-    requires closed { IsTrue G.told → twin.is_open gate (G.seen rig.old dev) ≡ false }
-    ensures filled { IsTrue G.told → OnOk result ((twin.is_open gate (G.seen rig.new dev) ≡ true) × (twin.body_at (length body.now) gate (G.seen rig.new dev) ≡ body.now)) }
-    ensures durable { IsTrue G.told → OnOk result (LeavesOnly (G.seen rig.new dev) (G.leaves rig.new dev)) }
-    ensures outside { IsTrue G.told → AgreesOutside gate (length body.now + 1) (G.seen rig.old dev) (G.seen rig.new dev) }
-    ensures whole { IsTrue G.told → (twin.is_open gate (G.seen rig.new dev) ≡ false) ⊎ (twin.body_at (length body.now) gate (G.seen rig.new dev) ≡ body.now) }
-    ensures any_moment { IsTrue G.told → Span (G.moment rig.old) (G.since rig.new) (Fills dev gate (length body.now) body.now (G.seen rig.old) (G.leaves rig.old)) }
-    ensures others { IsTrue G.told → (d : ℕ) → d ≢ dev → G.seen rig.new d ≡ G.seen rig.old d }
-    ensures others_leave { IsTrue G.told → (d : ℕ) → d ≢ dev → LeavesSame (G.leaves rig.old d) (G.leaves rig.new d) }
-    ensures time { IsTrue G.told → Elapses (G.moment rig.old) (G.moment rig.new) (G.since rig.old) (G.since rig.new) }
+    requires stable { LeavesOnly (G.seen rig.old dev) (G.leaves rig.old dev) }
+    requires closed { twin.is_open gate (G.seen rig.old dev) ≡ false }
+    ensures filled { OnOk result ((twin.is_open gate (G.seen rig.new dev) ≡ true) × (twin.body_at (length body.now) gate (G.seen rig.new dev) ≡ body.now)) }
+    ensures durable { OnOk result (LeavesOnly (G.seen rig.new dev) (G.leaves rig.new dev)) }
+    ensures outside { AgreesOutside gate (length body.now + 1) (G.seen rig.old dev) (G.seen rig.new dev) }
+    ensures whole { (twin.is_open gate (G.seen rig.new dev) ≡ false) ⊎ (twin.body_at (length body.now) gate (G.seen rig.new dev) ≡ body.now) }
+    ensures any_moment { Span (G.moment rig.old) (G.since rig.new) (Fills dev gate (length body.now) body.now (G.seen rig.old) (G.leaves rig.old)) }
+    ensures others { (d : ℕ) → d ≢ dev → G.seen rig.new d ≡ G.seen rig.old d }
+    ensures others_leave { (d : ℕ) → d ≢ dev → LeavesSame (G.leaves rig.old d) (G.leaves rig.new d) }
+    ensures time { Elapses (G.moment rig.old) (G.moment rig.new) (G.since rig.old) (G.since rig.new) }
+    ensures tick { OnOk result (G.moment rig.new ≡ G.moment rig.old + 4) }
     ensures cause { OnErr result (Rises (G.faults rig.old) (G.faults rig.new)) }
+    ensures quiet { OnOk result (G.faults rig.new ≡ G.faults rig.old) }
     ensures count { G.faults rig.old ≤ G.faults rig.new }
 {
     write_synced(rig, dev, gate + 1, body)?;
@@ -97,24 +103,26 @@ pub fn put<G: Rig>(rig: &mut G, t: Twin, old: Chosen, body: &[u8]) -> Result<(),
     requires numbered { 8 ≤ t.body }
     requires range { t.at + twin_len t.body ≤ device_len t.dev }
     requires length { length body.now ≡ t.body }
-    requires stable { IsTrue G.told → LeavesOnly (G.seen rig.old t.dev) (G.leaves rig.old t.dev) }
-    requires chosen { IsTrue G.told → twin.chosen_slot t.at t.body (G.seen rig.old t.dev) ≡ slot old }
+    requires stable { LeavesOnly (G.seen rig.old t.dev) (G.leaves rig.old t.dev) }
+    requires chosen { twin.chosen_slot t.at t.body (G.seen rig.old t.dev) ≡ slot old }
     requires differs { old ≢ Chosen.Same }
-    requires greater { IsTrue G.told → IfSome (twin.chosen_body t.at t.body (G.seen rig.old t.dev)) (λ b. twin.number_of b < twin.number_of body.now) }
+    requires greater { IfSome (twin.chosen_body t.at t.body (G.seen rig.old t.dev)) (λ b. twin.number_of b < twin.number_of body.now) }
 
-    ensures body { IsTrue G.told → OnOk result (twin.chosen_body t.at t.body (G.seen rig.new t.dev) ≡ Some body.now) }
-    ensures slot { IsTrue G.told → OnOk result (twin.chosen_slot t.at t.body (G.seen rig.new t.dev) ≡ after_put (slot old)) }
-    ensures durable { IsTrue G.told → OnOk result (LeavesOnly (G.seen rig.new t.dev) (G.leaves rig.new t.dev)) }
+    ensures body { OnOk result (twin.chosen_body t.at t.body (G.seen rig.new t.dev) ≡ Some body.now) }
+    ensures slot { OnOk result (twin.chosen_slot t.at t.body (G.seen rig.new t.dev) ≡ after_put (slot old)) }
+    ensures durable { OnOk result (LeavesOnly (G.seen rig.new t.dev) (G.leaves rig.new t.dev)) }
 
     // A crash during the call, or after it, leaves the old body or the new one, and so does a read.
-    ensures any_moment { IsTrue G.told → Span (G.moment rig.old) (G.since rig.new) (Puts t.dev t.at t.body body.now (G.seen rig.old) (G.leaves rig.old)) }
-    ensures whole { IsTrue G.told → (twin.chosen_body t.at t.body (G.seen rig.new t.dev) ≡ twin.chosen_body t.at t.body (G.seen rig.old t.dev)) ⊎ (twin.chosen_body t.at t.body (G.seen rig.new t.dev) ≡ Some body.now) }
-    ensures outside { IsTrue G.told → AgreesOutside t.at (twin_len t.body) (G.seen rig.old t.dev) (G.seen rig.new t.dev) }
-    ensures others { IsTrue G.told → (d : ℕ) → d ≢ t.dev → G.seen rig.new d ≡ G.seen rig.old d }
-    ensures others_leave { IsTrue G.told → (d : ℕ) → d ≢ t.dev → LeavesSame (G.leaves rig.old d) (G.leaves rig.new d) }
-    ensures time { IsTrue G.told → Elapses (G.moment rig.old) (G.moment rig.new) (G.since rig.old) (G.since rig.new) }
+    ensures any_moment { Span (G.moment rig.old) (G.since rig.new) (Puts t.dev t.at t.body body.now (G.seen rig.old) (G.leaves rig.old)) }
+    ensures whole { (twin.chosen_body t.at t.body (G.seen rig.new t.dev) ≡ twin.chosen_body t.at t.body (G.seen rig.old t.dev)) ⊎ (twin.chosen_body t.at t.body (G.seen rig.new t.dev) ≡ Some body.now) }
+    ensures outside { AgreesOutside t.at (twin_len t.body) (G.seen rig.old t.dev) (G.seen rig.new t.dev) }
+    ensures others { (d : ℕ) → d ≢ t.dev → G.seen rig.new d ≡ G.seen rig.old d }
+    ensures others_leave { (d : ℕ) → d ≢ t.dev → LeavesSame (G.leaves rig.old d) (G.leaves rig.new d) }
+    ensures time { Elapses (G.moment rig.old) (G.moment rig.new) (G.since rig.old) (G.since rig.new) }
 
+    ensures tick { OnOk result (G.moment rig.new ≡ G.moment rig.old + (if filled_open (slot old) then 6 else 4)) }
     ensures cause { OnErr result (Rises (G.faults rig.old) (G.faults rig.new)) }
+    ensures quiet { OnOk result (G.faults rig.new ≡ G.faults rig.old) }
     ensures count { G.faults rig.old ≤ G.faults rig.new }
 {
     let (gate, closing) = target(t, old);

@@ -50,8 +50,8 @@ fn is_greater(body: &[u8], counts: Option<&[u8]>) -> bool
 // Puts the body of this number, and tells what counted before; nothing where the number isn't greater.
 fn put_next<G: Rig>(rig: &mut G, page: u32, number: u8) -> Result<Option<Chosen>, Failed>
     requires page { page < 1024 }
-    requires stable { IsTrue G.told → LeavesOnly (G.seen rig.old 0) (G.leaves rig.old 0) }
-    ensures { IsTrue G.told → OnOk result (LeavesOnly (G.seen rig.new 0) (G.leaves rig.new 0)) }
+    requires stable { LeavesOnly (G.seen rig.old 0) (G.leaves rig.old 0) }
+    ensures { OnOk result (LeavesOnly (G.seen rig.new 0) (G.leaves rig.new 0)) }
 {
     let t = twin_of(page);
     let body = body_of(number);
@@ -108,16 +108,20 @@ fn prepare(rig: &mut MemRig, page: u32, puts: u8) -> Result<(), Fail>
     Ok(())
 }
 
-// A put that is stopped after so many calls, and a crash.
-fn stopped(rig: &mut MemRig, page: u32, puts: u8, calls: u64, pick: Pick) -> Result<bool, Fail>
+// A put of which a call fails, and a crash.
+fn stopped(
+    rig: &mut MemRig,
+    page: u32,
+    puts: u8,
+    trouble: Trouble,
+    pick: Pick,
+) -> Result<bool, Fail>
     requires page { page < 1024 }
     requires puts { 1 ≤ puts }
-    requires calls { calls < 6 }
 {
     prepare(rig, page, puts)?;
     rig.sync(0)?;
-    // the read of `choose` passes too
-    rig.arm(Trouble::Fuse(calls + 1));
+    rig.arm(trouble);
     let failed = put_next(rig, page, puts).is_err();
     rig.crash(pick);
     Ok(failed && stands(rig, page, puts)?)
@@ -130,11 +134,28 @@ fn a_stopped_put_leaves_the_old_body_or_the_new_one(rt: HostRuntime) -> Result<(
     for place in 0..4u32 {
         let pick = picks[place as usize];
         for calls in 0..4u32 {
-            assert!(rt; stopped(&mut rig, 10 * place + calls, 2, calls as u64, pick)?);
+            // the read of `choose` passes too
+            let fuse = Trouble::Fuse(calls as u64 + 1);
+            assert!(rt; stopped(&mut rig, 10 * place + calls, 2, fuse, pick)?);
         }
         for calls in 0..6u32 {
-            assert!(rt; stopped(&mut rig, 10 * place + 4 + calls, 3, calls as u64, pick)?);
+            let fuse = Trouble::Fuse(calls as u64 + 1);
+            assert!(rt; stopped(&mut rig, 10 * place + 4 + calls, 3, fuse, pick)?);
         }
+    }
+    Ok(())
+}
+
+#[test]
+fn a_call_that_fails_once_is_not_made_again(rt: HostRuntime) -> Result<(), Fail> {
+    let mut rig = MemRig::blank(rt.alloc())?;
+    for calls in 0..4u32 {
+        let fault = Trouble::Fault(calls as u64 + 2);
+        assert!(rt; stopped(&mut rig, calls, 2, fault, Pick::Lose)?);
+    }
+    for calls in 0..6u32 {
+        let fault = Trouble::Fault(calls as u64 + 2);
+        assert!(rt; stopped(&mut rig, 4 + calls, 3, fault, Pick::Lose)?);
     }
     Ok(())
 }

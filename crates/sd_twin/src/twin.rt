@@ -1,6 +1,6 @@
 //! Twins, and which of their slots counts.
 
-ghost use Rattle.std.specs.Prelude.{◌≡◌, ℕ, ◌+◌, ◌≤◌, drop, length, slice_range, IfOk, IsTrue, OnErr, OnOk};
+ghost use Rattle.std.specs.Prelude.{◌≡◌, ℕ, ◌+◌, ◌≤◌, drop, length, slice_range, IfOk, OnErr, OnOk};
 ghost use Rattle.sd_base.specs.Streams.{Rises};
 ghost use Rattle.sd_base.specs.Twin.{chosen_body, chosen_slot, newer, number_of};
 ghost use Rattle.sd_rig.specs.Devices.{IsUnchanged, device_len};
@@ -56,12 +56,13 @@ pub fn choose<G: Rig>(rig: &mut G, t: Twin, out: &mut [u8]) -> Result<Chosen, Fa
     requires numbered { 8 ≤ t.body }
     requires range { t.at + twin_len t.body ≤ device_len t.dev }
     requires room { length out.old ≡ twin_len t.body }
-    ensures chosen { IsTrue G.told → IfOk result (λ c. slot c ≡ chosen_slot t.at t.body (G.seen rig.old t.dev)) }
-    ensures body { IsTrue G.told → IfOk result (λ c. named_body c t.body out.new ≡ chosen_body t.at t.body (G.seen rig.old t.dev)) }
-    ensures bytes { IsTrue G.told → OnOk result (out.new ≡ slice_range (G.seen rig.old t.dev) t.at (t.at + twin_len t.body)) }
-    ensures stays { IsTrue G.told → IsUnchanged (G.seen rig.old) (G.seen rig.new) (G.leaves rig.old) (G.leaves rig.new)
+    ensures chosen { IfOk result (λ c. slot c ≡ chosen_slot t.at t.body (G.seen rig.old t.dev)) }
+    ensures body { IfOk result (λ c. named_body c t.body out.new ≡ chosen_body t.at t.body (G.seen rig.old t.dev)) }
+    ensures bytes { OnOk result (out.new ≡ slice_range (G.seen rig.old t.dev) t.at (t.at + twin_len t.body)) }
+    ensures stays { IsUnchanged (G.seen rig.old) (G.seen rig.new) (G.leaves rig.old) (G.leaves rig.new)
         (G.moment rig.old) (G.moment rig.new) (G.since rig.old) (G.since rig.new) }
     ensures cause { OnErr result (Rises (G.faults rig.old) (G.faults rig.new)) }
+    ensures quiet { OnOk result (G.faults rig.new ≡ G.faults rig.old) }
     ensures count { G.faults rig.old ≤ G.faults rig.new }
 {
     rig.read(t.dev, t.at, out)?;

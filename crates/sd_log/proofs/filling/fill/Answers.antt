@@ -6,22 +6,22 @@ use Rattle.sd_log.proofs.Gates.{fills_first, fills_second, on_ok_from, outside_s
 use Rattle.sd_log.proofs.filling.fill.Goals as goal
 
 pub returns-clause-filled : goal.returns-clause-filled
-returns-clause-filled g c told =
+returns-clause-filled g c =
     let r = g.G.Rig in
     let laws = g.met.G.Rig in
     let dev = c.args.dev in
     let one = c.write_synced.new.rig in
     let two = c.write_synced-2.new.rig in
-    let len = laws.whole c.args.rig.now dev (r.seen c.args.rig.now dev) told c.requires.device (laws.leaves_seen c.args.rig.now dev told c.requires.device) in
-    let len' = laws.whole one dev (r.seen one dev) told c.requires.device (laws.leaves_seen one dev told c.requires.device) in
+    let len = laws.whole c.args.rig.now dev (r.seen c.args.rig.now dev) c.requires.device (laws.leaves_seen c.args.rig.now dev c.requires.device) in
+    let len' = laws.whole one dev (r.seen one dev) c.requires.device (laws.leaves_seen one dev c.requires.device) in
     let range = c.requires.range in
-    let whole : body_at (length c.args.bytes.now) c.args.gate (r.seen one dev) ≡ c.args.bytes.now = written_body c.args.gate c.args.bytes.now (r.seen c.args.rig.now dev) (r.seen one dev) (omega arith) (c.in_ok-write_synced.ensures.written told) in
+    let whole : body_at (length c.args.bytes.now) c.args.gate (r.seen one dev) ≡ c.args.bytes.now = written_body c.args.gate c.args.bytes.now (r.seen c.args.rig.now dev) (r.seen one dev) (omega arith) c.in_ok-write_synced.ensures.written in
     on_ok_from c.write_synced-2.result _ _
-    (λ made. (written_gate c.args.gate 165 (r.seen one dev) (r.seen two dev) (omega arith) made, same_body c.args.gate (length c.args.bytes.now) (r.seen one dev) (r.seen two dev) (c.write_synced-2.ensures.outside told) ∙ whole))
-    (c.write_synced-2.ensures.written told)
+    (λ made. (written_gate c.args.gate 165 (r.seen one dev) (r.seen two dev) (omega arith) made, same_body c.args.gate (length c.args.bytes.now) (r.seen one dev) (r.seen two dev) c.write_synced-2.ensures.outside ∙ whole))
+    c.write_synced-2.ensures.written
 
 pub returns-clause-any_moment : goal.returns-clause-any_moment
-returns-clause-any_moment g c told =
+returns-clause-any_moment g c =
     let r = g.G.Rig in
     let laws = g.met.G.Rig in
     let dev = c.args.dev in
@@ -30,21 +30,21 @@ returns-clause-any_moment g c told =
     let zero = c.args.rig.now in
     let one = c.write_synced.new.rig in
     let two = c.write_synced-2.new.rig in
-    let len = laws.whole zero dev (r.seen zero dev) told c.requires.device (laws.leaves_seen zero dev told c.requires.device) in
+    let len = laws.whole zero dev (r.seen zero dev) c.requires.device (laws.leaves_seen zero dev c.requires.device) in
     let range = c.requires.range in
-    let whole : body_at (length body) gate (r.seen one dev) ≡ body = written_body gate body (r.seen zero dev) (r.seen one dev) (omega arith) (c.in_ok-write_synced.ensures.written told) in
-    let time = c.in_ok-write_synced.ensures.time told in
-    span-then (r.moment zero) (r.moment one) (r.moment two) (r.since one) (r.since two) (Fills dev gate (length body) body (r.seen zero) (r.leaves zero)) time.later (c.write_synced-2.ensures.time told)
+    let whole : body_at (length body) gate (r.seen one dev) ≡ body = written_body gate body (r.seen zero dev) (r.seen one dev) (omega arith) c.in_ok-write_synced.ensures.written in
+    let time = c.in_ok-write_synced.ensures.time in
+    span-then (r.moment zero) (r.moment one) (r.moment two) (r.since one) (r.since two) (Fills dev gate (length body) body (r.seen zero) (r.leaves zero)) time.later c.write_synced-2.ensures.time
     (span-weaker (r.moment zero) (r.since one) (Writes dev (gate + 1) (length body) (r.seen zero) (r.leaves zero)) (Fills dev gate (length body) body (r.seen zero) (r.leaves zero))
-    (λ img w. fills_first dev gate body (r.seen zero) (r.leaves zero) img (c.requires.closed told) w) (c.in_ok-write_synced.ensures.any_moment told))
+    (λ img w. fills_first dev gate body (r.seen zero) (r.leaves zero) img c.requires.closed w) c.in_ok-write_synced.ensures.any_moment)
     (span-weaker (r.moment one) (r.since two) (Writes dev gate 1 (r.seen one) (r.leaves one)) (Fills dev gate (length body) body (r.seen zero) (r.leaves zero))
-    (λ img w. fills_second dev gate body (r.seen zero) (r.seen one) (r.leaves zero) (r.leaves one) img (c.in_ok-write_synced.ensures.outside told) whole (c.in_ok-write_synced.ensures.others_leave told) w) (c.write_synced-2.ensures.any_moment told))
+    (λ img w. fills_second dev gate body (r.seen zero) (r.seen one) (r.leaves zero) (r.leaves one) img c.in_ok-write_synced.ensures.outside whole c.in_ok-write_synced.ensures.others_leave w) c.write_synced-2.ensures.any_moment)
 
 pub returns-clause-outside : goal.returns-clause-outside
-returns-clause-outside g c told =
+returns-clause-outside g c =
     let r = g.G.Rig in
-    outside_slot c.args.gate (length c.args.bytes.now) (r.seen c.args.rig.now c.args.dev) (r.seen c.write_synced.new.rig c.args.dev) (r.seen c.write_synced-2.new.rig c.args.dev) (c.in_ok-write_synced.ensures.outside told) (c.write_synced-2.ensures.outside told)
+    outside_slot c.args.gate (length c.args.bytes.now) (r.seen c.args.rig.now c.args.dev) (r.seen c.write_synced.new.rig c.args.dev) (r.seen c.write_synced-2.new.rig c.args.dev) c.in_ok-write_synced.ensures.outside c.write_synced-2.ensures.outside
 
 pub returns-clause-time : goal.returns-clause-time
-returns-clause-time g c told =
-    elapses-then _ _ _ _ (g.G.Rig.since c.write_synced.new.rig) _ (λ t u img le since. g.met.G.Rig.earlier c.write_synced-2.new.rig t u img told le since) (c.in_ok-write_synced.ensures.time told) (c.write_synced-2.ensures.time told)
+returns-clause-time g c =
+    elapses-then _ _ _ _ (g.G.Rig.since c.write_synced.new.rig) _ (λ t u img le since. g.met.G.Rig.earlier c.write_synced-2.new.rig t u img le since) c.in_ok-write_synced.ensures.time c.write_synced-2.ensures.time

@@ -9,37 +9,37 @@ use Rattle.sd_twin.proofs.Images.{puts_close, puts_fill, slot_after, slot_differ
 use Rattle.sd_twin.proofs.putting.put.Goals as goal
 
 pub returns-in_err-close-clause-any_moment : goal.returns-in_err-close-clause-any_moment
-returns-in_err-close-clause-any_moment g c told =
+returns-in_err-close-clause-any_moment g c =
     let r = g.G.Rig in
     let t = c.args.t in
     let zero = c.args.rig.now in
     let one = c.close.new.rig in
     span-weaker (r.moment zero) (r.since one) (Closes t.dev c.target-gate.result.0 (r.seen zero) (r.leaves zero)) (Puts t.dev t.at t.body c.args.body.now (r.seen zero) (r.leaves zero))
-    (λ img w. puts_close (slot c.args.old) t.dev c.target-gate.result.0 t.at t.body c.args.body.now (r.seen zero) (r.leaves zero) img c.target-gate.ensures.gate (c.requires.chosen told) (slot_differs c.args.old c.requires.differs) w)
-    (c.close.ensures.any_moment told)
+    (λ img w. puts_close (slot c.args.old) t.dev c.target-gate.result.0 t.at t.body c.args.body.now (r.seen zero) (r.leaves zero) img c.target-gate.ensures.gate c.requires.chosen (slot_differs c.args.old c.requires.differs) w)
+    c.close.ensures.any_moment
 
 pub returns-in_err-close-clause-whole : goal.returns-in_err-close-clause-whole
-returns-in_err-close-clause-whole g c told =
+returns-in_err-close-clause-whole g c =
     let r = g.G.Rig in
     let t = c.args.t in
     let s = slot c.args.old in
     let before : List ℕ = r.seen c.args.rig.now t.dev in
     let after : List ℕ = r.seen c.close.new.rig t.dev in
     let gate : c.target-gate.result.0 ≡ filled_gate s t.at t.body = c.target-gate.ensures.gate in
-    inl (closing_counts s t.at t.body before after (c.requires.chosen told) (slot_differs c.args.old c.requires.differs)
-    (subst (λ p. AgreesOutside p 1 before after) gate (c.close.ensures.outside told))
-    (subst (λ p. is_open p after ≡ true → is_open p before ≡ true) gate (c.close.ensures.shut told)))
+    inl (closing_counts s t.at t.body before after c.requires.chosen (slot_differs c.args.old c.requires.differs)
+    (subst (λ p. AgreesOutside p 1 before after) gate c.close.ensures.outside)
+    (subst (λ p. is_open p after ≡ true → is_open p before ≡ true) gate c.close.ensures.shut))
 
 pub returns-in_err-close-clause-outside : goal.returns-in_err-close-clause-outside
-returns-in_err-close-clause-outside g c told =
+returns-in_err-close-clause-outside g c =
     let r = g.G.Rig in
     let t = c.args.t in
     let before : List ℕ = r.seen c.args.rig.now t.dev in
     let after : List ℕ = r.seen c.close.new.rig t.dev in
-    twin_outside (slot c.args.old) t.at t.body 1 before after (omega arith) (subst (λ p. AgreesOutside p 1 before after) c.target-gate.ensures.gate (c.close.ensures.outside told))
+    twin_outside (slot c.args.old) t.at t.body 1 before after (omega arith) (subst (λ p. AgreesOutside p 1 before after) c.target-gate.ensures.gate c.close.ensures.outside)
 
 pub returns-clause-outside : goal.returns-clause-outside
-returns-clause-outside g c told =
+returns-clause-outside g c =
     let r = g.G.Rig in
     let t = c.args.t in
     let s = slot c.args.old in
@@ -49,13 +49,13 @@ returns-clause-outside g c told =
     let after : List ℕ = r.seen c.fill.new.rig t.dev in
     let gate : c.target-gate.result.0 ≡ filled_gate s t.at t.body = c.target-gate.ensures.gate in
     let len : length body ≡ t.body = c.requires.length in
-    let first : AgreesOutside (filled_gate s t.at t.body) 1 before one = subst (λ p. AgreesOutside p 1 before one) gate (c.in_ok-close.ensures.outside told) in
-    let second : AgreesOutside (filled_gate s t.at t.body) (t.body + 1) one after = subst (λ m. AgreesOutside (filled_gate s t.at t.body) (m + 1) one after) len (subst (λ p. AgreesOutside p (length body + 1) one after) gate (c.fill.ensures.outside told)) in
+    let first : AgreesOutside (filled_gate s t.at t.body) 1 before one = subst (λ p. AgreesOutside p 1 before one) gate c.in_ok-close.ensures.outside in
+    let second : AgreesOutside (filled_gate s t.at t.body) (t.body + 1) one after = subst (λ m. AgreesOutside (filled_gate s t.at t.body) (m + 1) one after) len (subst (λ p. AgreesOutside p (length body + 1) one after) gate c.fill.ensures.outside) in
     let all = slot_after (filled_gate s t.at t.body) t.body before one after first second in
     twin_outside s t.at t.body (t.body + 1) before after (omega arith) all
 
 pub returns-clause-body : goal.returns-clause-body
-returns-clause-body g c told =
+returns-clause-body g c =
     let r = g.G.Rig in
     let t = c.args.t in
     let s = slot c.args.old in
@@ -65,20 +65,20 @@ returns-clause-body g c told =
     let after : List ℕ = r.seen c.fill.new.rig t.dev in
     let gate : c.target-gate.result.0 ≡ filled_gate s t.at t.body = c.target-gate.ensures.gate in
     let len : length body ≡ t.body = c.requires.length in
-    let first : AgreesOutside (filled_gate s t.at t.body) 1 before one = subst (λ p. AgreesOutside p 1 before one) gate (c.in_ok-close.ensures.outside told) in
-    let second : AgreesOutside (filled_gate s t.at t.body) (t.body + 1) one after = subst (λ m. AgreesOutside (filled_gate s t.at t.body) (m + 1) one after) len (subst (λ p. AgreesOutside p (length body + 1) one after) gate (c.fill.ensures.outside told)) in
+    let first : AgreesOutside (filled_gate s t.at t.body) 1 before one = subst (λ p. AgreesOutside p 1 before one) gate c.in_ok-close.ensures.outside in
+    let second : AgreesOutside (filled_gate s t.at t.body) (t.body + 1) one after = subst (λ m. AgreesOutside (filled_gate s t.at t.body) (m + 1) one after) len (subst (λ p. AgreesOutside p (length body + 1) one after) gate c.fill.ensures.outside) in
     let all = slot_after (filled_gate s t.at t.body) t.body before one after first second in
     let ne = slot_differs c.args.old c.requires.differs in
     let kept = kept_same s t.at t.body before after all in
     on_ok_from c.fill.result _ _
-    (λ h. new_counts s t.at t.body body before after (c.requires.chosen told) ne kept
+    (λ h. new_counts s t.at t.body body before after c.requires.chosen ne kept
     (subst (λ p. is_open p after ≡ true) gate h.0)
     (subst (λ m. body_at m (filled_gate s t.at t.body) after ≡ body) len (subst (λ p. body_at (length body) p after ≡ body) gate h.1))
-    (c.requires.greater told))
-    (c.fill.ensures.filled told)
+    c.requires.greater)
+    c.fill.ensures.filled
 
 pub returns-clause-slot : goal.returns-clause-slot
-returns-clause-slot g c told =
+returns-clause-slot g c =
     let r = g.G.Rig in
     let t = c.args.t in
     let s = slot c.args.old in
@@ -88,20 +88,20 @@ returns-clause-slot g c told =
     let after : List ℕ = r.seen c.fill.new.rig t.dev in
     let gate : c.target-gate.result.0 ≡ filled_gate s t.at t.body = c.target-gate.ensures.gate in
     let len : length body ≡ t.body = c.requires.length in
-    let first : AgreesOutside (filled_gate s t.at t.body) 1 before one = subst (λ p. AgreesOutside p 1 before one) gate (c.in_ok-close.ensures.outside told) in
-    let second : AgreesOutside (filled_gate s t.at t.body) (t.body + 1) one after = subst (λ m. AgreesOutside (filled_gate s t.at t.body) (m + 1) one after) len (subst (λ p. AgreesOutside p (length body + 1) one after) gate (c.fill.ensures.outside told)) in
+    let first : AgreesOutside (filled_gate s t.at t.body) 1 before one = subst (λ p. AgreesOutside p 1 before one) gate c.in_ok-close.ensures.outside in
+    let second : AgreesOutside (filled_gate s t.at t.body) (t.body + 1) one after = subst (λ m. AgreesOutside (filled_gate s t.at t.body) (m + 1) one after) len (subst (λ p. AgreesOutside p (length body + 1) one after) gate c.fill.ensures.outside) in
     let all = slot_after (filled_gate s t.at t.body) t.body before one after first second in
     let ne = slot_differs c.args.old c.requires.differs in
     let kept = kept_same s t.at t.body before after all in
     on_ok_from c.fill.result _ _
-    (λ h. new_slot s t.at t.body body before after (c.requires.chosen told) ne kept
+    (λ h. new_slot s t.at t.body body before after c.requires.chosen ne kept
     (subst (λ p. is_open p after ≡ true) gate h.0)
     (subst (λ m. body_at m (filled_gate s t.at t.body) after ≡ body) len (subst (λ p. body_at (length body) p after ≡ body) gate h.1))
-    (c.requires.greater told))
-    (c.fill.ensures.filled told)
+    c.requires.greater)
+    c.fill.ensures.filled
 
 pub returns-clause-whole : goal.returns-clause-whole
-returns-clause-whole g c told =
+returns-clause-whole g c =
     let r = g.G.Rig in
     let t = c.args.t in
     let s = slot c.args.old in
@@ -111,20 +111,20 @@ returns-clause-whole g c told =
     let after : List ℕ = r.seen c.fill.new.rig t.dev in
     let gate : c.target-gate.result.0 ≡ filled_gate s t.at t.body = c.target-gate.ensures.gate in
     let len : length body ≡ t.body = c.requires.length in
-    let first : AgreesOutside (filled_gate s t.at t.body) 1 before one = subst (λ p. AgreesOutside p 1 before one) gate (c.in_ok-close.ensures.outside told) in
-    let second : AgreesOutside (filled_gate s t.at t.body) (t.body + 1) one after = subst (λ m. AgreesOutside (filled_gate s t.at t.body) (m + 1) one after) len (subst (λ p. AgreesOutside p (length body + 1) one after) gate (c.fill.ensures.outside told)) in
+    let first : AgreesOutside (filled_gate s t.at t.body) 1 before one = subst (λ p. AgreesOutside p 1 before one) gate c.in_ok-close.ensures.outside in
+    let second : AgreesOutside (filled_gate s t.at t.body) (t.body + 1) one after = subst (λ m. AgreesOutside (filled_gate s t.at t.body) (m + 1) one after) len (subst (λ p. AgreesOutside p (length body + 1) one after) gate c.fill.ensures.outside) in
     let all = slot_after (filled_gate s t.at t.body) t.body before one after first second in
     let ne = slot_differs c.args.old c.requires.differs in
-    filling_counts s t.at t.body body before after (c.requires.chosen told) ne (c.requires.greater told) all
+    filling_counts s t.at t.body body before after c.requires.chosen ne c.requires.greater all
     (subst (λ m. (is_open (filled_gate s t.at t.body) after ≡ false) ⊎ (body_at m (filled_gate s t.at t.body) after ≡ body)) len
-    (subst (λ p. (is_open p after ≡ false) ⊎ (body_at (length body) p after ≡ body)) gate (c.fill.ensures.whole told)))
+    (subst (λ p. (is_open p after ≡ false) ⊎ (body_at (length body) p after ≡ body)) gate c.fill.ensures.whole))
 
 pub returns-clause-time : goal.returns-clause-time
-returns-clause-time g c told =
-    elapses-then _ _ _ _ (g.G.Rig.since c.close.new.rig) _ (λ t u img le since. g.met.G.Rig.earlier c.fill.new.rig t u img told le since) (c.in_ok-close.ensures.time told) (c.fill.ensures.time told)
+returns-clause-time g c =
+    elapses-then _ _ _ _ (g.G.Rig.since c.close.new.rig) _ (λ t u img le since. g.met.G.Rig.earlier c.fill.new.rig t u img le since) c.in_ok-close.ensures.time c.fill.ensures.time
 
 pub returns-clause-any_moment : goal.returns-clause-any_moment
-returns-clause-any_moment g c told =
+returns-clause-any_moment g c =
     let r = g.G.Rig in
     let t = c.args.t in
     let gate = c.target-gate.result.0 in
@@ -133,9 +133,9 @@ returns-clause-any_moment g c told =
     let one = c.close.new.rig in
     let two = c.fill.new.rig in
     let ne = slot_differs c.args.old c.requires.differs in
-    let time = c.in_ok-close.ensures.time told in
-    span-then (r.moment zero) (r.moment one) (r.moment two) (r.since one) (r.since two) (Puts t.dev t.at t.body body (r.seen zero) (r.leaves zero)) time.later (c.fill.ensures.time told)
+    let time = c.in_ok-close.ensures.time in
+    span-then (r.moment zero) (r.moment one) (r.moment two) (r.since one) (r.since two) (Puts t.dev t.at t.body body (r.seen zero) (r.leaves zero)) time.later c.fill.ensures.time
     (span-weaker (r.moment zero) (r.since one) (Closes t.dev gate (r.seen zero) (r.leaves zero)) (Puts t.dev t.at t.body body (r.seen zero) (r.leaves zero))
-    (λ img w. puts_close (slot c.args.old) t.dev gate t.at t.body body (r.seen zero) (r.leaves zero) img c.target-gate.ensures.gate (c.requires.chosen told) ne w) (c.in_ok-close.ensures.any_moment told))
+    (λ img w. puts_close (slot c.args.old) t.dev gate t.at t.body body (r.seen zero) (r.leaves zero) img c.target-gate.ensures.gate c.requires.chosen ne w) c.in_ok-close.ensures.any_moment)
     (span-weaker (r.moment one) (r.since two) (Fills t.dev gate (length body) body (r.seen one) (r.leaves one)) (Puts t.dev t.at t.body body (r.seen zero) (r.leaves zero))
-    (λ img w. puts_fill (slot c.args.old) t.dev gate t.at t.body body (r.seen zero) (r.seen one) (r.leaves zero) (r.leaves one) img c.target-gate.ensures.gate c.requires.length (c.requires.chosen told) ne (c.requires.greater told) (c.in_ok-close.ensures.outside told) (c.in_ok-close.ensures.others_leave told) w) (c.fill.ensures.any_moment told))
+    (λ img w. puts_fill (slot c.args.old) t.dev gate t.at t.body body (r.seen zero) (r.seen one) (r.leaves zero) (r.leaves one) img c.target-gate.ensures.gate c.requires.length c.requires.chosen ne c.requires.greater c.in_ok-close.ensures.outside c.in_ok-close.ensures.others_leave w) c.fill.ensures.any_moment)
