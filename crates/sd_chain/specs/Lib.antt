@@ -10,3 +10,4 @@ pub mod Images
 pub mod Crashes
 pub mod Laws
 pub mod Undoing
+pub mod Faults

@@ -1,4 +1,5 @@
 pub mod Kept
+pub mod Fronts
 pub mod Reading
 pub mod Spelling
 pub mod View

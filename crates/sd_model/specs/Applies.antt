@@ -6,6 +6,7 @@ use Rattle.sd_base.specs.declared.place.Status.{Status}
 use Rattle.sd_model.specs.declared.event.Event.{Event}
 use Rattle.sd_model.specs.declared.event.Event.TheVariants.{Write, Add, Insert, Back, Undo, List as Listing, Ask, Give, Take, Evict, Flush, Force, CheckBegin, CheckEnd, Fail, RecoverBegin, RecoverStep, Join, Reopen}
 use Rattle.sd_model.specs.Acts.{live}
+use Rattle.sd_model.specs.declared.act.Act.{Act}
 use Rattle.sd_model.specs.declared.act.Claim.{Claim}
 use Rattle.sd_model.specs.declared.act.Claim.TheVariants.{Excl}
 use Rattle.sd_model.specs.declared.act.Cut.{Cut}
@@ -15,7 +16,7 @@ use Rattle.sd_model.specs.Claims.{Clash}
 use Rattle.sd_model.specs.State.{State, view}
 use Rattle.sd_model.specs.Fields.{txn_of, rid_of, mode_of, inst_of}
 use Rattle.sd_model.specs.Numbers.{IsNumber, IsLongSum, IsSum}
-use Rattle.sd_model.specs.Changes.{mark_of}
+use Rattle.sd_model.specs.Changes.{mark_of, goal}
 use Rattle.sd_model.specs.declared.cause.Cause.{Cause}
 use Rattle.sd_model.specs.Causes.{order, before, has}
 
@@ -119,9 +120,25 @@ IsNeeded m i = (t : TxnId) × Needs m t i
 
 -- the page of an undo is that of the last live put, and that of a recovery is one that a loser changed
 abbrev pub HasPage : State → Event → Type 0
-HasPage m (Undo t) = 0 < length (live (m.part t).acts)
+HasPage m (Undo t) = (to : Option ℕ) × ((m.part t).life ≡ Rolling to) × (goal to < length (live (m.part t).acts))
 HasPage m (RecoverStep i) = IsNeeded m i
 HasPage m e = Unit {0}
+
+abbrev pub HasPut : List Act → Type 0
+HasPut [] = ⊥
+HasPut (Act.Read r v ∷ acts) = HasPut acts
+HasPut (Act.Put r v ∷ acts) = Unit {0}
+HasPut (Act.Undo ∷ acts) = HasPut acts
+
+-- an undo uses a device only to end a whole rollback of one that put something
+abbrev pub MayBreak : State → Event → Type 0
+MayBreak m (Undo t) = ((m.part t).life ≡ Rolling None) × (0 ≡ length (live (m.part t).acts)) × HasPut (m.part t).acts
+MayBreak m e = Unit {0}
+
+-- another transaction has a claim on a record of the page that is absent
+abbrev pub IsSlotLocked : State → Event → Type 0
+IsSlotLocked m (Insert t p v n) = (slot : ℕ) × (view m t (record { page = p; slot = slot }) ≡ None) × Locked m t (record { page = p; slot = slot }) Excl
+IsSlotLocked m e = Unit {0}
 
 -- what the state says of a cause: that it applies, or, where other things decide, what must hold for it to apply
 abbrev pub Says : State → Event → Cause → Type 0
@@ -142,6 +159,9 @@ Says m e Cause.Begins = 4294967295 ≤ (m.inst (inst_of e)).begins
 Says m e Cause.NoMark = IsUnknownMark m e
 Says m e Cause.NotDown = IsNotDown m e
 Says m e Cause.NotRecovered = IsNotRecovered m e
+Says m e Cause.Rig = MayBreak m e
+Says m e Cause.SlotLock = IsSlotLocked m e
+Says m e Cause.Cut = HasPut (m.part (txn_of e)).acts
 Says m e c = Unit {0}
 
 -- the state alone decides the cause
