@@ -15,8 +15,12 @@ pub mod Placed
 pub mod PlacedChanges
 pub mod PlacedRecovery
 pub mod PlacedRun
+pub mod Moves
+pub mod MovesRun
+pub mod Among
 pub mod Listed
-pub mod ListedRun
+pub mod Stays
+pub mod Opened
 pub mod Marks
 pub mod MarksRun
 pub mod WaitAnswers

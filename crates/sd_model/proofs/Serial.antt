@@ -22,7 +22,7 @@ pub run-kept : (es : List Entry) (m m' : State) → Run m es m' → Kept m → K
 run-kept [] m m' r k = subst Kept r k
 run-kept (e ∷ es) m m' r k = run-kept es r.0 m' r.2 (step-kept m e.event e.reply r.0 r.1 k)
 
-never-commits : (life : Life) → (life ≡ Life.Gone) ⊎ (life ≡ Life.Retained) → MayCommit life → ⊥
+pub never-commits : (life : Life) → (life ≡ Life.Gone) ⊎ (life ≡ Life.Retained) → MayCommit life → ⊥
 never-commits life (inl e) may = subst MayCommit e may
 never-commits life (inr e) may = subst MayCommit e may
 

@@ -118,24 +118,26 @@ Needs m t i = (t.inst ≡ i) × IsLost (m.part t).life × ((p : ℕ) × Changes 
 abbrev pub IsNeeded : State → ℕ → Type 0
 IsNeeded m i = (t : TxnId) × Needs m t i
 
--- the page of an undo is that of the last live put, and that of a recovery is one that a loser changed
+-- A page is needed. An undo needs that of the last live put, where its transaction rolls back and is above its target;
+-- a recovery needs one that a loser, or one in doubt, changed.
 abbrev pub HasPage : State → Event → Type 0
 HasPage m (Undo t) = (to : Option ℕ) × ((m.part t).life ≡ Rolling to) × (goal to < length (live (m.part t).acts))
 HasPage m (RecoverStep i) = IsNeeded m i
 HasPage m e = Unit {0}
 
+-- there is a put, live or undone
 abbrev pub HasPut : List Act → Type 0
 HasPut [] = ⊥
 HasPut (Act.Read r v ∷ acts) = HasPut acts
 HasPut (Act.Put r v ∷ acts) = Unit {0}
 HasPut (Act.Undo ∷ acts) = HasPut acts
 
--- an undo uses a device only to end a whole rollback of one that put something
+-- A device may fail. An undo uses one only where it ends a whole rollback: nothing is left to undo, and something was put.
 abbrev pub MayBreak : State → Event → Type 0
 MayBreak m (Undo t) = ((m.part t).life ≡ Rolling None) × (0 ≡ length (live (m.part t).acts)) × HasPut (m.part t).acts
 MayBreak m e = Unit {0}
 
--- another transaction has a claim on a record of the page that is absent
+-- another transaction has a claim on a slot of the page in which the asker finds no record
 abbrev pub IsSlotLocked : State → Event → Type 0
 IsSlotLocked m (Insert t p v n) = (slot : ℕ) × (view m t (record { page = p; slot = slot }) ≡ None) × Locked m t (record { page = p; slot = slot }) Excl
 IsSlotLocked m e = Unit {0}

@@ -19,6 +19,8 @@ pub mod ViewLaws
 pub mod RunLaws
 pub mod Placed
 pub mod Listed
+pub mod Opened
+pub mod StayLaws
 pub mod Marks
 pub mod Apart
 pub mod SerialLaws

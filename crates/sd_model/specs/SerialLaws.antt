@@ -2,6 +2,7 @@
 use Rattle.std.specs.Prelude.{◌≡◌, ◌≢◌, ◌+◌, ◌≤◌, ℕ, List, [], ◌∷◌, ◌++◌, Option, length}
 use Rattle.sd_base.specs.declared.ids.TxnId.{TxnId}
 use Rattle.sd_base.specs.declared.ids.Rid.{Rid}
+use Rattle.sd_base.specs.declared.place.Status.TheVariants.{Up}
 use Rattle.sd_model.specs.declared.act.Done.{Done}
 use Rattle.sd_model.specs.declared.act.Life.TheVariants.{Rolling}
 use Rattle.sd_model.specs.declared.event.Event.{Event}
@@ -55,9 +56,9 @@ abbrev pub CommitBeforeDoubt : Type 0
 CommitBeforeDoubt = (m : State) → Kept m → (t : TxnId) → MayCommit (m.part t).life → (us : List TxnId) → AreOthers m t us → (r : Rid)
     → after m.start ((m.done ++ dones m us) ++ done_of m t ∷ []) r ≡ after m.start ((m.done ++ done_of m t ∷ []) ++ dones m us) r
 
--- a begin counts one more unresolved transaction of its instance
+-- a begin counts one more unresolved transaction of its instance, which is up
 abbrev pub BeginCounts : Type 0
-BeginCounts = (m : State) (i : ℕ) → Listed m → count_of (began i (next_txn m i) m) i ≡ count_of m i + 1
+BeginCounts = (m : State) (i : ℕ) → (m.inst i).status ≡ Up → Listed m → count_of (began i (next_txn m i) m) i ≡ count_of m i + 1
 
 -- a rollback has something to undo, or has reached its target
 abbrev pub RollbackGoesOn : Type 0

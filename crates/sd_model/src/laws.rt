@@ -9,6 +9,8 @@ ghost use Rattle.sd_model.specs.Kept.{Kept};
 ghost use Rattle.sd_model.specs.Placed.{Placed};
 ghost use Rattle.sd_model.specs.Listed.{Listed};
 ghost use Rattle.sd_model.specs.Marks.{Marked};
+ghost use Rattle.sd_model.specs.StayLaws.{SameStart, MoreDone, StepMakes, RunMakes, CommitLasts, NoneCommitsTwice, IdIsNew};
+ghost use Rattle.sd_model.specs.Opened.{FreshIsOpened, OpenedIs};
 
 /// Joins and lists of instances are steps.
 pub fn instance_steps()
@@ -62,7 +64,7 @@ pub fn commuting()
     ensures doubt { CommitBeforeDoubt }
 {}
 
-/// Transactions stand where their instances let them, ids are at most the begins, marks at most the live puts.
+/// Transactions stand where their instances let them, each that is there is listed once, marks are at most the live puts.
 pub fn whereabouts()
     ensures placed { StepKeeps Placed }
     ensures placed_all { RunKeeps Placed }
@@ -70,8 +72,27 @@ pub fn whereabouts()
     ensures listed_all { RunKeeps Listed }
     ensures marked { StepKeeps Marked }
     ensures marked_all { RunKeeps Marked }
+    ensures new_id { IdIsNew }
     ensures counts { BeginCounts }
     ensures goes_on { RollbackGoesOn }
+{}
+
+/// The opening table stays, committed transactions stay in their order, and nobody commits twice.
+pub fn lasting()
+    ensures start { StepMakes SameStart }
+    ensures start_all { RunMakes SameStart }
+    ensures done { StepMakes MoreDone }
+    ensures done_all { RunMakes MoreDone }
+    ensures acknowledged { CommitLasts }
+    ensures once { NoneCommitsTwice }
+{}
+
+/// A complex that is opened from devices begins as the laws of whereabouts want it, and so does a fresh one.
+pub fn openings()
+    ensures fresh { FreshIsOpened }
+    ensures placed { OpenedIs Placed }
+    ensures listed { OpenedIs Listed }
+    ensures marked { OpenedIs Marked }
 {}
 
 /// An asked claim that is answered as blocked or as a deadlock conflicts with another's, and isn't both.
