@@ -1,6 +1,7 @@
 pub mod Loops
 pub mod Scans
 pub mod Search
+pub mod Slots
 pub mod Parts
 pub mod RowsWhole
 pub mod Firsts

@@ -17,10 +17,12 @@ mod answering;
 mod asking;
 mod change;
 mod changing;
+mod claiming;
 mod fields;
 mod judging;
 mod listing;
 mod lists;
+mod needing;
 mod outcome;
 mod reopening;
 mod rolling;
@@ -37,5 +39,7 @@ pub use outcome::Outcome;
 pub use serial_table::SerialTable;
 pub use verdict::Verdict;
 
+#[cfg(test)]
+mod refusal_tests;
 #[cfg(test)]
 mod tests;

@@ -2,7 +2,7 @@
 
 ghost use Rattle.std.specs.Prelude.{◌≡◌, ◌≢◌, ◌↔◌, IsTrue};
 ghost use Rattle.sd_base.specs.declared.place.Status.TheVariants.{Up, Down};
-ghost use Rattle.sd_model.specs.Applies.{IsActive, TakesChecks, Serves, IsRolling, IsBusy, IsLong, IsRecovering, IsUnknownMark, IsNotDown, IsNotRecovered, HasPage, Says};
+ghost use Rattle.sd_model.specs.Applies.{IsActive, TakesChecks, Serves, IsRolling, IsBusy, IsLong, IsRecovering, IsUnknownMark, IsNotDown, IsNotRecovered, Says};
 ghost use Rattle.sd_model.specs.declared.cause.Cause.TheVariants.{NotNumber, Digits, Over};
 ghost use Rattle.sd_oracle.specs.Lists.{meaning};
 
@@ -34,6 +34,9 @@ impl Lists {
             Cause::NoMark => self.is_unknown_mark(event),
             Cause::NotDown => self.is_not_down(event),
             Cause::NotRecovered => self.is_not_recovered(event),
+            Cause::Rig => self.may_break(event),
+            Cause::SlotLock => self.is_slot_locked(event),
+            Cause::Cut => self.has_put(&txn_of(event)),
             _ => true,
         }
     }
@@ -91,17 +94,6 @@ impl Lists {
                 mark: Some(name),
             } => self.mark(txn, name.items()).is_none(),
             _ => false,
-        }
-    }
-
-    // Whether there is a page that an undo or a recovery needs.
-    fn has_page(&self, event: &Event) -> bool
-        ensures { IsTrue result ↔ HasPage (meaning self.now) event.now }
-    {
-        match event {
-            Event::Undo { txn } => self.live_count(txn) > 0,
-            Event::RecoverStep { inst } => self.is_needed(*inst),
-            _ => true,
         }
     }
 

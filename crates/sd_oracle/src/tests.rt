@@ -7,15 +7,15 @@ use std::alloc::Global;
 use std::process::Abort;
 use std::test::Fail;
 
-fn one(rt: &(impl Abort + AllocGlobal)) -> InstNo {
+pub fn one(rt: &(impl Abort + AllocGlobal)) -> InstNo {
     InstNo::new(1).expect(rt, "an instance")
 }
 
-fn page(rt: &(impl Abort + AllocGlobal), page: u16) -> PageNo {
+pub fn page(rt: &(impl Abort + AllocGlobal), page: u16) -> PageNo {
     PageNo::new(page).expect(rt, "a page")
 }
 
-fn txn(rt: &(impl Abort + AllocGlobal), seq: u32) -> TxnId {
+pub fn txn(rt: &(impl Abort + AllocGlobal), seq: u32) -> TxnId {
     TxnId {
         inst: one(rt),
         epoch: 1,
@@ -23,18 +23,18 @@ fn txn(rt: &(impl Abort + AllocGlobal), seq: u32) -> TxnId {
     }
 }
 
-fn rid(rt: &(impl Abort + AllocGlobal), slot: u16) -> Rid {
+pub fn rid(rt: &(impl Abort + AllocGlobal), slot: u16) -> Rid {
     Rid {
         page: page(rt, 0),
         slot,
     }
 }
 
-fn text(alloc: Global, bytes: &[u8]) -> Result<Bytes, Memory> {
+pub fn text(alloc: Global, bytes: &[u8]) -> Result<Bytes, Memory> {
     Ok(Bytes::of(bytes.to_vec(alloc)?))
 }
 
-fn insert(rt: &(impl Abort + AllocGlobal), alloc: Global, seq: u32) -> Result<Event, Memory> {
+pub fn insert(rt: &(impl Abort + AllocGlobal), alloc: Global, seq: u32) -> Result<Event, Memory> {
     Ok(Event::Insert {
         txn: txn(rt, seq),
         page: page(rt, 0),
@@ -50,12 +50,12 @@ fn list(rt: &(impl Abort + AllocGlobal)) -> Event {
     }
 }
 
-fn commit(rt: &(impl Abort + AllocGlobal), seq: u32) -> Event {
+pub fn commit(rt: &(impl Abort + AllocGlobal), seq: u32) -> Event {
     Event::Commit { txn: txn(rt, seq) }
 }
 
 // One event whose reply is judged so.
-fn judged(
+pub fn judged(
     rt: &(impl Abort + AllocGlobal),
     table: &mut SerialTable,
     event: &Event,
@@ -68,7 +68,7 @@ fn judged(
 }
 
 // One event whose reply follows.
-fn follows(
+pub fn follows(
     rt: &(impl Abort + AllocGlobal),
     table: &mut SerialTable,
     event: &Event,
@@ -78,7 +78,7 @@ fn follows(
 }
 
 // One event to which none of the replies can be given.
-fn differ(
+pub fn differ(
     rt: &(impl Abort + AllocGlobal),
     table: &mut SerialTable,
     event: &Event,
@@ -91,7 +91,7 @@ fn differ(
 }
 
 // Instance 1 joins, and a transaction begins.
-fn begun(rt: &(impl Abort + AllocGlobal), table: &mut SerialTable) -> Result<(), Memory> {
+pub fn begun(rt: &(impl Abort + AllocGlobal), table: &mut SerialTable) -> Result<(), Memory> {
     let join = Event::Join { inst: one(rt) };
     follows(rt, table, &join, &Reply::Joined { epoch: 1 })?;
     let begin = Event::Begin { inst: one(rt) };
