@@ -1,10 +1,10 @@
 -- The laws of the serial order.
-use Rattle.std.specs.Prelude.{◌≡◌, ◌≢◌, ◌+◌, ◌≤◌, ℕ, List, [], ◌∷◌, ◌++◌, Option, length}
+use Rattle.std.specs.Prelude.{◌≡◌, ◌≢◌, ◌↔◌, ◌+◌, ◌≤◌, ℕ, List, [], ◌∷◌, ◌++◌, Option, length}
 use Rattle.sd_base.specs.declared.ids.TxnId.{TxnId}
 use Rattle.sd_base.specs.declared.ids.Rid.{Rid}
 use Rattle.sd_base.specs.declared.place.Status.TheVariants.{Up}
 use Rattle.sd_model.specs.declared.act.Done.{Done}
-use Rattle.sd_model.specs.declared.act.Life.TheVariants.{Rolling}
+use Rattle.sd_model.specs.declared.act.Life.TheVariants.{Gone, Rolling}
 use Rattle.sd_model.specs.declared.event.Event.{Event}
 use Rattle.sd_model.specs.declared.event.Reply.{Reply}
 use Rattle.sd_model.specs.declared.event.Entry.{Entry}
@@ -16,7 +16,7 @@ use Rattle.sd_model.specs.Applies.{count_of}
 use Rattle.sd_model.specs.Step.{Step}
 use Rattle.sd_model.specs.Run.{Run, IsOpening}
 use Rattle.sd_model.specs.Kept.{MayCommit, Kept}
-use Rattle.sd_model.specs.Listed.{Listed}
+use Rattle.sd_model.specs.Listed.{IsAmong, NoneTwice, Listed}
 use Rattle.sd_model.specs.Marks.{Sized}
 use Rattle.sd_model.specs.Apart.{Disjoint, EachApart, done_of, dones, AreOthers}
 use Rattle.sd_model.specs.StepLaws.{next_txn}
@@ -59,6 +59,11 @@ CommitBeforeDoubt = (m : State) → Kept m → (t : TxnId) → MayCommit (m.part
 -- a begin counts one more unresolved transaction of its instance, which is up
 abbrev pub BeginCounts : Type 0
 BeginCounts = (m : State) (i : ℕ) → (m.inst i).status ≡ Up → Listed m → count_of (began i (next_txn m i) m) i ≡ count_of m i + 1
+
+-- the count is the length of each list that has just those of the instance that are there, each once
+abbrev pub CountIsTrue : Type 0
+CountIsTrue = (m : State) (i : ℕ) (ts : List TxnId) → Listed m → NoneTwice ts
+    → ((t : TxnId) → IsAmong t ts ↔ ((t.inst ≡ i) × ((m.part t).life ≢ Gone))) → count_of m i ≡ length ts
 
 -- a rollback has something to undo, or has reached its target
 abbrev pub RollbackGoesOn : Type 0

@@ -3,7 +3,7 @@
 ghost use Rattle.sd_model.specs.StepLaws.{JoinedSteps, BeganSteps, InsertedSteps, FullSteps, TooLongSteps, NoTxnSteps, CommittedSteps, ListedSteps};
 ghost use Rattle.sd_model.specs.ViewLaws.{PartHere, PartElsewhere, ViewAfterWrite, NowAfterWrite, NowAfterCommit, ViewAfterBegin, NoneCounted};
 ghost use Rattle.sd_model.specs.RunLaws.{RunGrows, RunSplits, RunsJoin};
-ghost use Rattle.sd_model.specs.SerialLaws.{RunIsSerial, RunIsKept, FreshIsOpening, StepKeeps, RunKeeps, PutsCommute, LateIsEarly, MayCommitApart, CommitBeforeDoubt, BeginCounts, RollbackGoesOn};
+ghost use Rattle.sd_model.specs.SerialLaws.{RunIsSerial, RunIsKept, FreshIsOpening, StepKeeps, RunKeeps, PutsCommute, LateIsEarly, MayCommitApart, CommitBeforeDoubt, BeginCounts, CountIsTrue, RollbackGoesOn};
 ghost use Rattle.sd_model.specs.WaitLaws.{BlockedIsLocked, DeadlockIsLocked, BlockedOrDeadlock};
 ghost use Rattle.sd_model.specs.Kept.{Kept};
 ghost use Rattle.sd_model.specs.Placed.{Placed};
@@ -74,6 +74,7 @@ pub fn whereabouts()
     ensures marked_all { RunKeeps Marked }
     ensures new_id { IdIsNew }
     ensures counts { BeginCounts }
+    ensures true_count { CountIsTrue }
     ensures goes_on { RollbackGoesOn }
 {}
 

@@ -2,8 +2,9 @@
 //!
 //! Meaning: a `Table` is a finite map (`specs/Tables.antt`); a `Book` is the opening table with the entries since
 //! (`specs/History.antt`); `Step` says which reply may follow in a state, and what it leaves (`specs/Step.antt`).
-//! Keeps: `Kept`, which each step keeps (`specs/Kept.antt`).
-//! Promises: a run from an opening leaves transactions that read as if they ran one after another (`laws.rt`).
+//! Keeps: `Kept`, `Placed`, `Listed` and `Marked`, which each step keeps (`specs/Kept.antt` and the files of those names).
+//! Promises: a run from an opening leaves transactions that read as if they ran one after another, what was committed
+//! stays committed, and no id is given twice (`laws.rt`).
 //! Refuses: nothing but for want of memory; which refusal an event gets is `specs/Applies.antt`.
 //! Knows nothing of: pages' bytes, pools, logs, devices, scripts; of a program that judges replies.
 //! Stands on: sd_base.

@@ -1,8 +1,7 @@
 //! Refusals that the table rules out though other things decide them too, with those that may follow beside them.
 
-use crate::SerialTable;
 use crate::tests::{begun, commit, differ, follows, insert, judged, one, rid, text, txn};
-use crate::{Outcome, Verdict};
+use crate::{Outcome, SerialTable, Verdict};
 use sd_base::{Cycle, Memory, Place, Refusal, TxnId};
 use sd_model::{Event, Reply, Rows};
 use std::process::Abort;

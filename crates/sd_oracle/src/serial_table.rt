@@ -1,6 +1,6 @@
 //! The serial table as a plain program: it says of each event and its reply whether the reply may follow.
 
-ghost use Rattle.std.specs.Prelude.{◌≡◌, ◌↔◌, IsTrue, IfOk, OnErr};
+ghost use Rattle.std.specs.Prelude.{◌≡◌, ◌↔◌, IsTrue, IfOk, OnErr, None};
 
 use crate::lists::Lists;
 use crate::outcome::Outcome;
@@ -29,6 +29,7 @@ impl SerialTable {
     ghost use Rattle.sd_oracle.specs.Lists.{state_of, fresh_with};
     ghost use Rattle.sd_oracle.specs.Judging.{Judges};
     ghost use Rattle.sd_oracle.specs.Claimers.{Obstructs, IsLowestObstacle};
+    ghost use Rattle.sd_model.specs.State.{view};
     ghost use Rattle.sd_model.specs.Step.{Runs};
 
     /// A fresh complex with these records: no transaction, each instance with nothing to recover. It takes no memory.
@@ -68,6 +69,13 @@ impl SerialTable {
         ensures { IsTrue result ↔ Runs (state_of self.now) txn.now }
     {
         self.lists.runs(txn)
+    }
+
+    /// Whether the transaction finds no record there.
+    pub fn is_absent(&self, txn: &TxnId, rid: &Rid) -> bool
+        ensures { IsTrue result ↔ (view (state_of self.now) txn.now rid.now ≡ None) }
+    {
+        self.lists.view(txn, rid).is_none()
     }
 
     /// Whether the last one is another transaction than `txn`, and its claim on the record conflicts with one in the mode.

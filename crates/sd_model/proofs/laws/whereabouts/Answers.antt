@@ -1,5 +1,6 @@
 use Rattle.sd_model.proofs.PlacedRun.{step-placed, run-placed}
 use Rattle.sd_model.proofs.Listed.{step-listed, run-listed, new-id, count-began}
+use Rattle.sd_model.proofs.Counting.{count-true}
 use Rattle.sd_model.proofs.Marks.{rolls-on}
 use Rattle.sd_model.proofs.MarksRun.{step-marked, run-marked}
 use Rattle.sd_model.proofs.laws.whereabouts.Goals as goal
@@ -14,5 +15,6 @@ returns c = record {
   marked_all = run-marked;
   new_id = new-id;
   counts = count-began;
+  true_count = count-true;
   goes_on = rolls-on;
 }
