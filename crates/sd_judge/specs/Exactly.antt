@@ -6,9 +6,11 @@ use Rattle.sd_base.specs.declared.refusal.Refusal.{Refusal}
 use Rattle.sd_base.specs.declared.refusal.Refusal.TheVariants as R
 use Rattle.sd_base.specs.Waits.{Wait, IsBlocked, IsDeadlock}
 use Rattle.sd_model.specs.declared.event.Event.{Event}
+use Rattle.sd_model.specs.declared.event.Event.TheVariants.{Insert}
 use Rattle.sd_model.specs.declared.event.Reply.{Reply}
 use Rattle.sd_model.specs.declared.event.Reply.TheVariants.{Refused}
 use Rattle.sd_model.specs.Fields.{txn_of}
+use Rattle.sd_model.specs.State.{State, view}
 use Rattle.sd_model.specs.Waits.{stands}
 use Rattle.sd_model.specs.Step.{Step}
 use Rattle.sd_oracle.specs.declared.outcome.Outcome.{Outcome}
@@ -38,11 +40,23 @@ abbrev pub IsExact : Scene → TxnId → Option Wait → Reply → Type 0
 IsExact s t asked (Refused n) = NamesWhom s t asked n
 IsExact s t asked reply = Unit {0}
 
+-- a lock is refused
+abbrev pub IsOfLock : Reply → Type 0
+IsOfLock (Refused (R.Blocked by)) = Unit {0}
+IsOfLock (Refused (R.Deadlock cycle)) = Unit {0}
+IsOfLock reply = ⊥
+
+-- an insert whose lock is refused asked for a slot in which it finds no record
+abbrev pub IsOfFreeSlot : State → Event → Option Rid → Reply → Type 0
+IsOfFreeSlot m (Insert t p v n) (Some r) reply = IsOfLock reply → view m t r ≡ None
+IsOfFreeSlot m e told reply = Unit {0}
+
 -- the event with its reply leads from one scene to the next; the outcome and an insert's record are told
 pub record Leads (o : Outcome) (told : Option Rid) (e : Event) (reply : Reply) (s next : Scene) : Type 0 where
   pub step : Step s.state e reply next.state
   pub outcome : Told o s.state e reply next.state
   pub exact : IsExact s (txn_of e) (asked_of e told) reply
+  pub slot : IsOfFreeSlot s.state e told reply
   pub waits : (t : TxnId) → next.waits t ≡ waits_after next.state e told reply s.waits t
 
 -- what a verdict says of an event with its reply, and of the scene after it

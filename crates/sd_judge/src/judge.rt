@@ -51,7 +51,8 @@ impl Judge {
 
     /// Judges the reply to the event as `SerialTable::step` does, and besides whether a refusal of a lock names exactly
     /// who stands in the way: `Blocked` the lowest such where no cycle arises, `Deadlock` a shortest cycle, the lowest by
-    /// numbers. Told are the outcome, and at an insert the record that it asked for. After `Memory` all is as before.
+    /// numbers. Told are the outcome, and at an insert the record that it asked for: where its lock is refused, one in
+    /// whose slot it finds nothing. After `Memory` all is as before.
     pub fn step(
         &mut self,
         event: &Event,

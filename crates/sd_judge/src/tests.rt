@@ -3,8 +3,8 @@
 use crate::Judge;
 use crate::script::{
     begin, commit, cycle_of, delete, fail, found, insert, inst, join, judged, list, made, opened,
-    read, read_waits, recover, recover_begin, replies, roll_back, text, txn, write, write_waits,
-    writing,
+    page, read, read_waits, recover, recover_begin, replies, rid, roll_back, text, txn, write,
+    write_waits, writing,
 };
 use sd_base::{Memory, Pick, Refusal, Status, TxnId};
 use sd_model::{Event, Reply};
@@ -325,5 +325,51 @@ fn a_reader_makes_a_writer_wait(rt: HostRuntime) -> Result<(), Fail> {
     write_waits(&rt, &mut judge, &c, 0, &b)?;
     commit(&rt, &mut judge, &b)?;
     write(&rt, &mut judge, &c, 0, b"tan")?;
+    Ok(())
+}
+
+// The insert is refused for the claim of this one, and told is the slot that it asked for.
+fn insert_waits(
+    rt: &(impl Abort + AllocGlobal),
+    judge: &mut Judge,
+    txn: &TxnId,
+    by: &TxnId,
+    slot: Option<u16>,
+    verdict: Verdict,
+) -> Result<(), Memory> {
+    let event = Event::Insert {
+        txn: *txn,
+        page: page(rt),
+        value: text(rt.alloc(), b"tan")?,
+        capacity: 3,
+    };
+    let told = match slot {
+        Some(slot) => Some(rid(rt, slot)),
+        None => None,
+    };
+    let blocked = Reply::Refused(Refusal::Blocked { by: *by });
+    let said = judge.step(&event, &blocked, &Outcome::plain(rt.alloc()), &told)?;
+    assert!(rt; said == verdict);
+    Ok(())
+}
+
+#[test]
+fn an_insert_waits_for_a_slot_without_a_record(rt: HostRuntime) -> Result<(), Fail> {
+    let mut judge = opened(&rt)?;
+    let reader = txn(&rt, 2, 1);
+    let maker = txn(&rt, 1, 2);
+    let asker = txn(&rt, 1, 3);
+    made(&rt, &mut judge, &[b"red"])?;
+    begin(&rt, &mut judge, &reader)?;
+    begin(&rt, &mut judge, &maker)?;
+    begin(&rt, &mut judge, &asker)?;
+    read(&rt, &mut judge, &reader, 0, b"red")?;
+    let differs = Verdict::Differs;
+    insert_waits(&rt, &mut judge, &asker, &reader, Some(0), differs)?;
+    insert(&rt, &mut judge, &maker, 1, b"tan")?;
+    insert_waits(&rt, &mut judge, &asker, &reader, Some(0), differs)?;
+    insert_waits(&rt, &mut judge, &asker, &maker, None, differs)?;
+    let follows = Verdict::Follows;
+    insert_waits(&rt, &mut judge, &asker, &maker, Some(1), follows)?;
     Ok(())
 }

@@ -7,7 +7,7 @@ ghost use Rattle.sd_model.specs.Waits.{stands as stands_in};
 ghost use Rattle.sd_oracle.specs.Lists.{state_of};
 ghost use Rattle.sd_reclock.specs.Locks.{wait_of, waits_in};
 ghost use Rattle.sd_judge.specs.Scenes.{waits_after, of_running, is_running};
-ghost use Rattle.sd_judge.specs.Exactly.{Blocks, Closes, NamesWhom, IsExact, JudgesExactly};
+ghost use Rattle.sd_judge.specs.Exactly.{Blocks, Closes, NamesWhom, IsExact, IsOfLock, IsOfFreeSlot, JudgesExactly};
 ghost use Rattle.sd_judge.specs.Watches.{scene, IsBlocking};
 
 use crate::asked::{asked_of, claim_of, wait_after};
@@ -43,6 +43,9 @@ impl Watch {
         if !self.is_exact(&txn_of(event), &asked, reply)? {
             return Ok(Verdict::Differs);
         }
+        if !self.is_of_free_slot(event, told, reply) {
+            return Ok(Verdict::Differs);
+        }
         match self.table.serial.step(event, reply, outcome)? {
             Verdict::Follows => {
                 self.note(event, reply, told)?;
@@ -50,6 +53,18 @@ impl Watch {
             }
             Verdict::Differs => Ok(Verdict::Differs),
             Verdict::Unjudged => Ok(Verdict::Unjudged),
+        }
+    }
+
+    // Whether an insert whose lock is refused asked for a slot in which it finds no record.
+    fn is_of_free_slot(&self, event: &Event, told: &Option<Rid>, reply: &Reply) -> bool
+        ensures { IsTrue result ↔ IsOfFreeSlot (scene self.now).state event.now told.now reply.now }
+    {
+        match (event, told) {
+            (Event::Insert { txn, .. }, Some(rid)) => {
+                !is_of_lock(reply) || self.table.serial.is_absent(txn, rid)
+            }
+            _ => true,
         }
     }
 
@@ -174,6 +189,15 @@ fn runs(table: &SerialTable, txn: &TxnId) -> bool
     ensures { result ≡ is_running ((state_of table.now).part txn.now).life }
 {
     table.runs(txn)
+}
+
+fn is_of_lock(reply: &Reply) -> bool
+    ensures { IsTrue result ↔ IsOfLock reply.now }
+{
+    match reply {
+        Reply::Refused(Refusal::Blocked { .. } | Refusal::Deadlock { .. }) => true,
+        _ => false,
+    }
 }
 
 fn are_same(found: &[TxnId], cycle: &[TxnId]) -> bool
