@@ -6,6 +6,7 @@ use Rattle.std.specs.Cmp.Lexicographic.{bytes_decides}
 use Rattle.std.proofs.lemmas.List.{append-nil}
 use Rattle.sd_base.specs.Streams.{Rises}
 use Rattle.sd_model.specs.History.{History}
+use Rattle.sd_model.specs.SerialLaws.{RunIsSerial, FreshIsOpening}
 use Rattle.sd_script.specs.declared.line.Line.{Line}
 use Rattle.sd_script.specs.Reading.{IsScript, IsBadAt}
 use Rattle.sd_script.proofs.Readings.{no_bad_script}
@@ -14,7 +15,7 @@ use Rattle.sdaries.specs.declared.status.Status.TheVariants as status
 use Rattle.sdaries.specs.declared.replay.Replay.{Replay}
 use Rattle.sdaries.specs.Input.{IsAtEnd}
 use Rattle.sdaries.specs.Progress.{ahead, IsTold}
-use Rattle.sdaries.specs.World.{World, opening, Leads}
+use Rattle.sdaries.specs.World.{World, opening, Leads, LeadsRun}
 use Rattle.sdaries.specs.Report.{report}
 use Rattle.sdaries.specs.Reaching.{Reached}
 use Rattle.sdaries.specs.Outcome.{Gave, Replayed, Answers, Outcome, Delivers}
@@ -38,26 +39,34 @@ drop_all (x ∷ xs) = drop_all xs
 all_told : (lines : List Line) (replay : Replay) (world : World) → Reached lines (length lines) 0 replay world → IsTold world.told
 all_told lines replay world reached = (reached.joined, reached.left ∙ ap (ahead world.told) (drop_all lines))
 
-replayed : (text : List ℕ) (lines : List Line) (book : History) (world : World) → IsScript text lines → book.opening ≡ [] → Leads (opening lines) book.entries world → Replayed (Some book) text lines book world
-replayed text lines book world script blank leads = record { script = script; book_is = refl; blank = blank; leads = leads }
+-- what a run from the opening leaves is serial
+module _ (runs : LeadsRun) (serial : RunIsSerial) (fresh : FreshIsOpening) where
+  replayed : (text : List ℕ) (lines : List Line) (book : History) (world : World) → IsScript text lines → book.opening ≡ [] → Leads (opening lines) book.entries world → Replayed (Some book) text lines book world
+  replayed text lines book world script blank leads = record {
+    script = script;
+    book_is = refl;
+    blank = blank;
+    leads = leads;
+    serial = serial book.entries (opening lines).serial world.serial fresh (runs book.entries (opening lines) world leads);
+  }
 
--- the report is delivered
-pub answers_reached : (s : Status) (text : List ℕ) (lines : List Line) (replay : Replay) (world : World) (written after : Option (List ℕ)) (faults faults' : ℕ)
-    → IsScript text lines → Reached lines (length lines) 0 replay world → Delivers s written (report lines replay.book.entries) after faults faults' → Answers s text written after faults faults' (Some replay.book)
-answers_reached status.Done text lines replay world written after faults faults' script reached delivers =
-    (lines, replay.book, world, replayed text lines replay.book world script reached.blank reached.leads, record { told = all_told lines replay world reached; report = delivers })
-answers_reached status.WriteFault text lines replay world written after faults faults' script reached delivers =
-    (lines, replay.book, world, replayed text lines replay.book world script reached.blank reached.leads, record { told = all_told lines replay world reached; front = delivers.1 }, delivers.0)
-answers_reached status.NoMemory text lines replay world written after faults faults' script reached delivers =
-    ((lines, world, replayed text lines replay.book world script reached.blank reached.leads), delivers)
-answers_reached status.Usage text lines replay world written after faults faults' script reached delivers = delivers
-answers_reached status.BadLine text lines replay world written after faults faults' script reached delivers = absurd (delivers)
-answers_reached status.ReadFault text lines replay world written after faults faults' script reached delivers = delivers
+  -- the report is delivered
+  pub answers_reached : (s : Status) (text : List ℕ) (lines : List Line) (replay : Replay) (world : World) (written after : Option (List ℕ)) (faults faults' : ℕ)
+      → IsScript text lines → Reached lines (length lines) 0 replay world → Delivers s written (report lines replay.book.entries) after faults faults' → Answers s text written after faults faults' (Some replay.book)
+  answers_reached status.Done text lines replay world written after faults faults' script reached delivers =
+      (lines, replay.book, world, replayed text lines replay.book world script reached.blank reached.leads, record { told = all_told lines replay world reached; report = delivers })
+  answers_reached status.WriteFault text lines replay world written after faults faults' script reached delivers =
+      (lines, replay.book, world, replayed text lines replay.book world script reached.blank reached.leads, record { told = all_told lines replay world reached; front = delivers.1 }, delivers.0)
+  answers_reached status.NoMemory text lines replay world written after faults faults' script reached delivers =
+      ((lines, world, replayed text lines replay.book world script reached.blank reached.leads), delivers)
+  answers_reached status.Usage text lines replay world written after faults faults' script reached delivers = delivers
+  answers_reached status.BadLine text lines replay world written after faults faults' script reached delivers = absurd (delivers)
+  answers_reached status.ReadFault text lines replay world written after faults faults' script reached delivers = delivers
 
--- there was no memory for the rest
-pub answers_partial : (text : List ℕ) (lines : List Line) (book : History) (world : World) (written after : Option (List ℕ)) (faults faults' : ℕ)
-    → IsScript text lines → book.opening ≡ [] → Leads (opening lines) book.entries world → after ≡ written → Answers status.NoMemory text written after faults faults' (Some book)
-answers_partial text lines book world written after faults faults' script blank leads kept = ((lines, world, replayed text lines book world script blank leads), kept)
+  -- there was no memory for the rest
+  pub answers_partial : (text : List ℕ) (lines : List Line) (book : History) (world : World) (written after : Option (List ℕ)) (faults faults' : ℕ)
+      → IsScript text lines → book.opening ≡ [] → Leads (opening lines) book.entries world → after ≡ written → Answers status.NoMemory text written after faults faults' (Some book)
+  answers_partial text lines book world written after faults faults' script blank leads kept = ((lines, world, replayed text lines book world script blank leads), kept)
 
 -- a source that tells its bytes gave them all, where they are a script
 gave_all : (left then : Option (List ℕ)) (got text : List ℕ) → Gave left then got → left ≡ Some text → length text ≤ 4194304 → got ≡ text

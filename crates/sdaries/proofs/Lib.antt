@@ -3,6 +3,7 @@ pub mod LineOrder
 pub mod Puts
 pub mod Takes
 pub mod Slots
+pub mod Refuses
 pub mod Serves
 pub mod Reaches
 pub mod Arms

@@ -15,6 +15,7 @@ use Rattle.sd_model.specs.declared.event.Reply.{Reply}
 use Rattle.sd_model.specs.declared.event.Reply.TheVariants as reply
 use Rattle.sd_model.specs.declared.event.Entry.{Entry}
 use Rattle.sd_model.specs.State.{State, fresh, joined}
+use Rattle.sd_model.specs.Run.{Run}
 use Rattle.sd_model.specs.StepLaws.{IsOpen as IsOpenComplex}
 use Rattle.sd_model.proofs.Steps.{join-step}
 use Rattle.sd_page.specs.Page.{Slot, value_at}
@@ -24,11 +25,17 @@ use Rattle.sd_script.specs.Order.{begun, begun_by, ended, ended_by, has, pages_o
 use Rattle.sdaries.specs.declared.replay.Replay.{Replay}
 use Rattle.sdaries.specs.Names.{named}
 use Rattle.sdaries.specs.Progress.{Progress, untold, event_of, ahead, after_reply, TellsLine, TellsJoin}
-use Rattle.sdaries.specs.Capacities.{Capacities, no_slots}
+use Rattle.sdaries.specs.Bounds.{Bounds, no_slots}
 use Rattle.sdaries.specs.World.{World, opening, Turns, Leads}
 use Rattle.sdaries.specs.Report.{AreFrom}
-use Rattle.sdaries.specs.Serving.{slots_of, at_hand, StandsFor, HasCapacities}
+use Rattle.sdaries.specs.Serving.{slots_of, at_hand, StandsFor, HasBounds}
+use Rattle.sdaries.proofs.Refuses.{join-free}
 use Rattle.sdaries.specs.Reaching.{IsNext, IsOpen, AreUpTo, Reached, entry_of, Notes, KeepsNames}
+
+-- the turns are steps of the serial table
+pub leads_run : (entries : List Entry) (old new : World) → Leads old entries new → Run old.serial entries new.serial
+leads_run [] old new same = ap (λ (w : World). w.serial) same
+leads_run (e ∷ entries) old new (next, turn, leads) = (next.serial, turn.serial, leads_run entries next new leads)
 
 -- one turn more
 pub leads_more : (entries : List Entry) (entry : Entry) (first old new : World) → Leads first entries old → Turns old entry new → Leads first (entries ++ entry ∷ []) new
@@ -53,13 +60,13 @@ open_fresh : IsOpenComplex fresh
 open_fresh closed = absurd (cc)
 
 abbrev pub started : List Line → World
-started lines = record { serial = joined 1 1 fresh; told = record (untold lines) { joined = true }; capacities = no_slots }
+started lines = record { serial = joined 1 1 fresh; told = record (untold lines) { joined = true }; bounds = no_slots }
 
 first_turn : (lines : List Line) → Turns (opening lines) (entry_of 0 (event.Join 1) (reply.Joined 1)) (started lines)
 first_turn lines = record {
   serial = join-step fresh 1 1 open_fresh (record { status = inl refl; above = lit< tt; near = lit≤ tt });
   told = (refl, refl, refl, refl, refl);
-  pages = refl;
+  bounds = (join-free no_slots, refl);
 }
 
 none_some : {A : Type 0} (x : TxnId) → None ≡ Some x → A
@@ -84,7 +91,7 @@ reached-start replay lines pages blank entries empty begins running names = reco
     own = λ t some. none_some t (sym running ∙ some);
     values = λ r. ap (λ (l : List Slot). value_at l r.slot) (empty r.page) ∙ ap (λ (x : Option TxnId). at_hand (joined 1 1 fresh) x r) (sym running);
   };
-  capacities = λ p. ap (map (λ (s : Slot). s.0)) (sym (empty p));
+  bounds = λ p. ap (map (λ (s : Slot). s.0)) (sym (empty p));
   open_ = λ t some. none_some t (sym running ∙ some);
   commits = λ name is. absurd (cc);
   begins = omega (arith, begins);
@@ -142,9 +149,9 @@ module _ (lines : List Line) (n page : ℕ) (line : Line) (f : Form) (is : line.
 
   -- an event of the line, served and noted
   turned : (ev : Event) (r : Reply) (new : Replay) → event_of w.told f ≡ Some ev → Notes old line.number ev r new
-      → ((m' : State) × (c' : Capacities) × Turns w (entry_of line.number ev r) (record { serial = m'; told = after_reply w.told f (line ∷ drop (n + 1) lines) (drop (n + 1) lines) r; capacities = c' }) × StandsFor new.engine m' × HasCapacities new.engine c')
+      → ((m' : State) × (b' : Bounds) × Turns w (entry_of line.number ev r) (record { serial = m'; told = after_reply w.told f (line ∷ drop (n + 1) lines) (drop (n + 1) lines) r; bounds = b' }) × StandsFor new.engine m' × HasBounds new.engine b')
   turned ev r new has_one notes =
-      let served = notes.serves w.serial w.capacities at.stands at.capacities in
+      let served = notes.serves w.serial w.bounds at.stands at.bounds in
       let rest = drop (n + 1) lines in
       let then = after_reply w.told f (line ∷ rest) rest r in
       let here : event_of w.told line.form ≡ Some ev = ap (event_of w.told) is ∙ has_one in
@@ -156,10 +163,10 @@ module _ (lines : List Line) (n page : ℕ) (line : Line) (f : Form) (is : line.
         record {
           serial = served.2.step;
           told = subst (λ (b : Bool). MatchBool b (TellsLine w.told (ahead w.told w.told.left) (entry_of line.number ev r) then) (TellsJoin w.told (entry_of line.number ev r) then)) (sym at.joined) line_tells;
-          pages = served.2.moves;
+          bounds = served.2.moves;
         },
         served.2.stands,
-        served.2.capacities,
+        served.2.bounds,
       )
 
   grown : (ev : Event) (r : Reply) (new : Replay) (w' : World) → Notes old line.number ev r new → Turns w (entry_of line.number ev r) w' → Leads (opening lines) new.book.entries w'
@@ -184,7 +191,7 @@ module _ (lines : List Line) (n page : ℕ) (line : Line) (f : Form) (is : line.
     pages = at.pages;
     names = at.names;
     stands = at.stands;
-    capacities = at.capacities;
+    bounds = at.bounds;
     open_ = λ t runs. let o = at.open_ t runs in (o.0, open_stays o.0 o.1 (apart t o.0 o.1 o.2), o.2);
     commits = commits_stay own;
     begins = omega (arith, at.begins);
@@ -199,8 +206,8 @@ module _ (lines : List Line) (n page : ℕ) (line : Line) (f : Form) (is : line.
       → ((k : List ℕ) → IsTrue (has (ended_by f) k) → IsTrue (has (begun (take n lines)) k)) → new.engine.begins ≤ n + 1 → (w' : World) × Reached lines (n + 1) 0 new w'
   reached-done ev r new told has_one is_told joined left first pages notes names open_ own begins =
       let t = turned ev r new has_one notes in
-      let w' : World = record { serial = t.0; told = told; capacities = t.1 } in
-      let turn : Turns w (entry_of line.number ev r) w' = subst (λ (x : Progress). Turns w (entry_of line.number ev r) (record { serial = t.0; told = x; capacities = t.1 })) is_told t.2 in (
+      let w' : World = record { serial = t.0; told = told; bounds = t.1 } in
+      let turn : Turns w (entry_of line.number ev r) w' = subst (λ (x : Progress). Turns w (entry_of line.number ev r) (record { serial = t.0; told = x; bounds = t.1 })) is_told t.2 in (
         w',
         record {
           blank = notes.opening ∙ at.blank;
@@ -211,7 +218,7 @@ module _ (lines : List Line) (n page : ℕ) (line : Line) (f : Form) (is : line.
           pages = pages ∙ at.pages ∙ sym notes.pages;
           names = names;
           stands = t.3;
-          capacities = t.4;
+          bounds = t.4;
           open_ = open_;
           commits = commits_stay own;
           begins = begins;
@@ -226,8 +233,8 @@ module _ (lines : List Line) (n page : ℕ) (line : Line) (f : Form) (is : line.
       → Notes old line.number ev r new → KeepsNames old new → new.engine.running ≡ old.engine.running → (w' : World) × Reached lines n (page + 1) new w'
   reached-page ev r new told has_one is_told joined left next_page pages same_names notes keeps running =
       let t = turned ev r new has_one notes in
-      let w' : World = record { serial = t.0; told = told; capacities = t.1 } in
-      let turn : Turns w (entry_of line.number ev r) w' = subst (λ (x : Progress). Turns w (entry_of line.number ev r) (record { serial = t.0; told = x; capacities = t.1 })) is_told t.2 in (
+      let w' : World = record { serial = t.0; told = told; bounds = t.1 } in
+      let turn : Turns w (entry_of line.number ev r) w' = subst (λ (x : Progress). Turns w (entry_of line.number ev r) (record { serial = t.0; told = x; bounds = t.1 })) is_told t.2 in (
         w',
         record {
           blank = notes.opening ∙ at.blank;
@@ -238,7 +245,7 @@ module _ (lines : List Line) (n page : ℕ) (line : Line) (f : Form) (is : line.
           pages = pages ∙ at.pages ∙ sym notes.pages;
           names = λ q. keeps.names q ∙ at.names q ∙ same_names q;
           stands = t.3;
-          capacities = t.4;
+          bounds = t.4;
           open_ = λ u runs. let o = at.open_ u (sym running ∙ runs) in (o.0, o.1, keeps.names o.0 ∙ o.2);
           commits = at.commits;
           begins = subst (λ (b : ℕ). b ≤ n) (sym keeps.begins) at.begins;

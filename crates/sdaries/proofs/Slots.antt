@@ -1,5 +1,5 @@
 -- A new slot at the end of a page, and the rows of a page. It serves the goals of engine.rt.
-use Rattle.std.proofs.Common.{◌≡◌, ◌≢◌, ⊎_elim, ℕ, zero, suc, ◌+◌, ◌<◌, Bool, true, false, List, [], ◌∷◌, ◌++◌, length, map, drop, get_or, set, append_assoc, eqb, cond, refl, sym, ap, subst, ◌∙◌, arith}
+use Rattle.std.proofs.Common.{◌≡◌, ◌≢◌, ⊎_elim, ℕ, zero, suc, ◌+◌, ◌<◌, Bool, true, false, List, [], ◌∷◌, ◌++◌, length, drop, get_or, set, append_assoc, eqb, cond, refl, sym, ap, subst, ◌∙◌, arith}
 use Rattle.std.specs.Prelude.{Option, None, Some, Result, Ok, OnOk}
 use Rattle.std.proofs.lemmas.Bool.{cases_Bool, eqb-true, eqb-false, eq-eqb}
 use Rattle.sd_base.specs.declared.ids.Rid.{Rid}
@@ -8,7 +8,6 @@ use Rattle.sd_model.specs.Listing.{AreIn, AreRising, StartsAbove}
 use Rattle.sd_model.proofs.Keys.{eq-same_rid, ne-same_rid}
 use Rattle.std.proofs.lemmas.List.{drop_more, get_or_default, get_or-set_same, get_or-set_other}
 use Rattle.sd_page.specs.Page.{Page, Slot, value_at, written, empty_page}
-use Rattle.sdaries.specs.Capacities.{with_slot}
 use Rattle.sdaries.specs.Pages.{rows_from, slot_row}
 
 apart_zero : (s : ℕ) → eqb 0 (suc s) ≡ false
@@ -34,11 +33,6 @@ value_at-push (slot ∷ slots) new (suc s) = value_at-push slots new s ∙ sym (
 pub value_at-end : (slots : List Slot) → value_at slots (length slots) ≡ None
 value_at-end [] = refl
 value_at-end (slot ∷ slots) = value_at-end slots
-
--- the capacities after a slot more
-pub with_slot-end : (slots : List Slot) (capacity : ℕ) (value : Option (List ℕ)) → with_slot (map (λ (x : Slot). x.0) slots) (length slots) capacity ≡ map (λ (x : Slot). x.0) (slots ++ (capacity, value) ∷ [])
-with_slot-end [] capacity value = refl
-with_slot-end (slot ∷ slots) capacity value = ap (λ (l : List ℕ). slot.0 ∷ l) (with_slot-end slots capacity value)
 
 -- the rows of the page
 pub rows-inside : (p s : ℕ) (slots : List Slot) → AreIn p (rows_from p s slots)

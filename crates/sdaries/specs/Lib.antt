@@ -2,7 +2,7 @@ pub mod Input
 pub mod Output
 pub mod Names
 pub mod Progress
-pub mod Capacities
+pub mod Bounds
 pub mod World
 pub mod Report
 pub mod Pages

@@ -2,6 +2,7 @@
 use Rattle.std.specs.Prelude.{◌≡◌, ◌⊎◌, ℕ, ◌<◌, List, [], ◌∷◌, Option, None, Some, length, codes}
 use Rattle.std.specs.Fmt.{decimal}
 use Rattle.sd_base.specs.Streams.{Appends, Rises}
+use Rattle.sd_model.specs.Acts.{Serial}
 use Rattle.sd_model.specs.History.{History}
 use Rattle.sd_script.specs.declared.line.Line.{Line}
 use Rattle.sd_script.specs.Reading.{IsScript, IsBadAt}
@@ -22,12 +23,14 @@ pub record Gave (left then : Option (List ℕ)) (text : List ℕ) : Type 0 where
   pub taken : Taken left text then
   pub whole : length text < 4194305 → IsAtEnd then
 
--- The text is a script of these lines. The book begins with an empty table, and its entries lead to this world.
+-- The text is a script of these lines. The book begins with an empty table, and its entries lead to this world, in
+-- which each committed transaction has read what it reads where they run one after another.
 pub record Replayed (book : Option History) (text : List ℕ) (lines : List Line) (history : History) (world : World) : Type 0 where
   pub script : IsScript text lines
   pub book_is : book ≡ Some history
   pub blank : history.opening ≡ []
   pub leads : Leads (opening lines) history.entries world
+  pub serial : Serial world.serial.start world.serial.done
 
 -- Each line has its reply, and the sink has got the report of this book and nothing else.
 pub record Reported (written after : Option (List ℕ)) (lines : List Line) (history : History) (world : World) : Type 0 where

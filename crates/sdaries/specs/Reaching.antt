@@ -14,7 +14,7 @@ use Rattle.sdaries.specs.Names.{named}
 use Rattle.sdaries.specs.Progress.{ahead}
 use Rattle.sdaries.specs.World.{World, opening, Leads}
 use Rattle.sdaries.specs.Report.{AreFrom}
-use Rattle.sdaries.specs.Serving.{StandsFor, HasCapacities, ServesAll}
+use Rattle.sdaries.specs.Serving.{StandsFor, HasBounds, ServesAll}
 
 -- how long the value of a line is, which fits a line
 abbrev pub value_length : Form → ℕ
@@ -55,7 +55,7 @@ pub record Reached (lines : List Line) (n page : ℕ) (replay : Replay) (world :
   pub pages : world.told.pages ≡ vec_len replay.engine.pages
   pub names : (q : List ℕ) → named replay.names q ≡ world.told.names q
   pub stands : StandsFor replay.engine world.serial
-  pub capacities : HasCapacities replay.engine world.capacities
+  pub bounds : HasBounds replay.engine world.bounds
   -- the transaction that runs is that of a name that is open
   pub open_ : (txn : TxnId) → replay.engine.running ≡ Some txn → (name : List ℕ) × IsOpen (take n lines) name × (named replay.names name ≡ Some txn)
   pub commits : (name : List ℕ) → IsTrue (has (ended (take n lines)) name) → IsTrue (has (begun (take n lines)) name)

@@ -11,7 +11,7 @@ use Rattle.sd_model.specs.declared.act.Life.TheVariants.{Running}
 use Rattle.sd_model.specs.Step.{Step}
 use Rattle.sd_page.specs.Page.{Slot, value_at, empty_page}
 use Rattle.sdaries.specs.declared.engine.Engine.{Engine}
-use Rattle.sdaries.specs.Capacities.{Capacities, Moves}
+use Rattle.sdaries.specs.Bounds.{Bounds, Moves}
 
 -- the slots of a page
 abbrev pub slots_of : Engine → ℕ → List Slot
@@ -30,16 +30,16 @@ pub record StandsFor (engine : Engine) (m : State) : Type 0 where
   pub own : (txn : TxnId) → engine.running ≡ Some txn → txn.inst ≡ 1
   pub values : (rid : Rid) → value_at (slots_of engine rid.page) rid.slot ≡ at_hand m engine.running rid
 
--- the pages' capacity lists
-abbrev pub HasCapacities : Engine → Capacities → Type 0
-HasCapacities engine capacities = (p : ℕ) → capacities p ≡ map (λ slot. slot.0) (slots_of engine p)
+-- the slots of the pages have these capacities
+abbrev pub HasBounds : Engine → Bounds → Type 0
+HasBounds engine w = (p : ℕ) → w.slots p ≡ map (λ slot. slot.0) (slots_of engine p)
 
--- From each state that the engine stands for, the reply is a step of the table and right of the pages.
-pub record Serves (old : Engine) (event : Event) (reply : Reply) (new : Engine) (m m' : State) (c c' : Capacities) : Type 0 where
+-- From each state that the engine stands for, the reply is a step of the table and right of the world outside.
+pub record Serves (old : Engine) (event : Event) (reply : Reply) (new : Engine) (m m' : State) (w w' : Bounds) : Type 0 where
   pub step : Step m event reply m'
-  pub moves : Moves c event reply c'
+  pub moves : Moves m w event reply w'
   pub stands : StandsFor new m'
-  pub capacities : HasCapacities new c'
+  pub bounds : HasBounds new w'
 
 abbrev pub ServesAll : Engine → Event → Reply → Engine → Type 0
-ServesAll old event reply new = (m : State) (c : Capacities) → StandsFor old m → HasCapacities old c → (m' : State) × (c' : Capacities) × Serves old event reply new m m' c c'
+ServesAll old event reply new = (m : State) (w : Bounds) → StandsFor old m → HasBounds old w → (m' : State) × (w' : Bounds) × Serves old event reply new m m' w w'

@@ -1,10 +1,11 @@
 //! The program: it runs a script of transactions and reports one reply a line.
 //!
 //! Meaning: `Outcome` (`specs/Outcome.antt`) says for each status what was taken, written and noted; a `World`
-//! (`specs/World.antt`) holds the serial table, what is told of the script, and the pages' capacities.
+//! (`specs/World.antt`) holds the serial table, what is told of the script, and the bounds of what stands outside.
 //! Keeps: `Reached` (`specs/Reaching.antt`): after n lines the book's entries lead to a world that the engine stands for.
-//! Promises: `top::top`: each reply is the serial table's, and the report is the book's (`outcome`); a script is done
-//! unless a stream fails or memory wants (`complete`); other words touch nothing (`usage`, `untouched`).
+//! Promises: `top::top`: each reply is the serial table's, each refusal has its cause, the committed transactions read
+//! as if they ran one after another, and the report is the book's (`outcome`); a script is done unless a stream fails
+//! or memory wants (`complete`); other words touch nothing (`usage`, `untouched`).
 //! Refuses: bad lines with `BadLine`, other words with `Usage`; faults and want of memory have their own status.
 //! Knows nothing of: devices, logs, buffer pools, which stand behind `sd_rig` and its callers.
 //! Stands on: sd_base, sd_model, sd_page, sd_rig, sd_script.
@@ -17,6 +18,7 @@
 
 mod engine;
 mod input;
+mod laws;
 mod names;
 mod output;
 mod replay;

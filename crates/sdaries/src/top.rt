@@ -111,6 +111,8 @@ fn replay_lines<K: Sink>(alloc: Global, lines: &[Line], sink: &mut K) -> (Status
     requires { (text : List ℕ) × IsScript text lines.now }
     ensures { (text : List ℕ) → IsScript text lines.now → Answers result.0 text (K.written sink.old) (K.written sink.new) (K.faults sink.old) (K.faults sink.new) result.1 }
 {
+    crate::laws::turns_are_steps();
+    sd_model::laws::serial_order();
     let mut replay = match Replay::start(alloc, page_count(lines)) {
         Ok(replay) => replay,
         Err(Memory) => return (Status::NoMemory, None),

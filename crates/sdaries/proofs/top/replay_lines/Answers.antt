@@ -47,11 +47,11 @@ returns c c' = λ text script.
     elim c'.match-run.branch [
       | in-Ok-run w ↦
           let (world, reached) = w.in-Ok-run.ensures.told in
-          let answered = answers_reached w.report-status.result text lines replay world (c.K.Sink.written sink) (c.K.Sink.written w.report-status.new.sink) (c.K.Sink.faults sink) (c.K.Sink.faults w.report-status.new.sink) script reached w.report-status.ensures in
+          let answered = answers_reached c'.turns_are_steps.ensures c'.serial_order.ensures.serial c'.serial_order.ensures.fresh w.report-status.result text lines replay world (c.K.Sink.written sink) (c.K.Sink.written w.report-status.new.sink) (c.K.Sink.faults sink) (c.K.Sink.faults w.report-status.new.sink) script reached w.report-status.ensures in
           subst (λ s. Answers s text (c.K.Sink.written sink) (c.K.Sink.written c'.match-run.sink) (c.K.Sink.faults sink) (c.K.Sink.faults c'.match-run.sink) (Some replay.book)) (sym w.status-is)
           (subst (λ k. Answers w.report-status.result text (c.K.Sink.written sink) (c.K.Sink.written k) (c.K.Sink.faults sink) (c.K.Sink.faults k) (Some replay.book)) (sym w.sink-is) answered)
       | in-Err-run w ↦
           let (world, leads) = w.in-Err-run.ensures.err in
-          let answered = answers_partial text lines replay.book world (c.K.Sink.written sink) (c.K.Sink.written c'.match-run.sink) (c.K.Sink.faults sink) (c.K.Sink.faults c'.match-run.sink) script w.in-Err-run.ensures.blank leads (ap (λ k. c.K.Sink.written k) w.sink-is) in
+          let answered = answers_partial c'.turns_are_steps.ensures c'.serial_order.ensures.serial c'.serial_order.ensures.fresh text lines replay.book world (c.K.Sink.written sink) (c.K.Sink.written c'.match-run.sink) (c.K.Sink.faults sink) (c.K.Sink.faults c'.match-run.sink) script w.in-Err-run.ensures.blank leads (ap (λ k. c.K.Sink.written k) w.sink-is) in
           subst (λ s. Answers s text (c.K.Sink.written sink) (c.K.Sink.written c'.match-run.sink) (c.K.Sink.faults sink) (c.K.Sink.faults c'.match-run.sink) (Some replay.book)) (sym w.status-is) answered
     ]
