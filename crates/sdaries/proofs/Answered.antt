@@ -13,7 +13,8 @@ use Rattle.sd_script.proofs.Readings.{no_bad_script}
 use Rattle.sdaries.specs.declared.status.Status.{Status}
 use Rattle.sdaries.specs.declared.status.Status.TheVariants as status
 use Rattle.sdaries.specs.declared.replay.Replay.{Replay}
-use Rattle.sdaries.specs.Input.{IsAtEnd}
+use Rattle.sdaries.specs.Sides.{SourceSide, SinkSide}
+use Rattle.sdaries.specs.Input.{Taken, IsAtEnd}
 use Rattle.sdaries.specs.Progress.{ahead, IsTold}
 use Rattle.sdaries.specs.World.{World, opening, Leads, LeadsRun}
 use Rattle.sdaries.specs.Report.{report}
@@ -51,46 +52,47 @@ module _ (runs : LeadsRun) (serial : RunIsSerial) (fresh : FreshIsOpening) where
   }
 
   -- the report is delivered
-  pub answers_reached : (s : Status) (text : List ℕ) (lines : List Line) (replay : Replay) (world : World) (written after : Option (List ℕ)) (faults faults' : ℕ)
-      → IsScript text lines → Reached lines (length lines) 0 replay world → Delivers s written (report lines replay.book.entries) after faults faults' → Answers s text written after faults faults' (Some replay.book)
-  answers_reached status.Done text lines replay world written after faults faults' script reached delivers =
+  pub answers_reached : (s : Status) (text : List ℕ) (lines : List Line) (replay : Replay) (world : World) (sink sink' : SinkSide)
+      → IsScript text lines → Reached lines (length lines) 0 replay world → Delivers s sink (report lines replay.book.entries) sink' → Answers s text sink sink' (Some replay.book)
+  answers_reached status.Done text lines replay world sink sink' script reached delivers =
       (lines, replay.book, world, replayed text lines replay.book world script reached.blank reached.leads, record { told = all_told lines replay world reached; report = delivers })
-  answers_reached status.WriteFault text lines replay world written after faults faults' script reached delivers =
-      (lines, replay.book, world, replayed text lines replay.book world script reached.blank reached.leads, record { told = all_told lines replay world reached; front = delivers.1 }, delivers.0)
-  answers_reached status.NoMemory text lines replay world written after faults faults' script reached delivers =
+  answers_reached status.WriteFault text lines replay world sink sink' script reached delivers =
+      (lines, replay.book, world, replayed text lines replay.book world script reached.blank reached.leads, record { told = all_told lines replay world reached; front = delivers.1; failed = delivers.0 })
+  answers_reached status.NoMemory text lines replay world sink sink' script reached delivers =
       ((lines, world, replayed text lines replay.book world script reached.blank reached.leads), delivers)
-  answers_reached status.Usage text lines replay world written after faults faults' script reached delivers = delivers
-  answers_reached status.BadLine text lines replay world written after faults faults' script reached delivers = absurd (delivers)
-  answers_reached status.ReadFault text lines replay world written after faults faults' script reached delivers = delivers
+  answers_reached status.Usage text lines replay world sink sink' script reached delivers = delivers
+  answers_reached status.BadLine text lines replay world sink sink' script reached delivers = absurd (delivers)
+  answers_reached status.ReadFault text lines replay world sink sink' script reached delivers = delivers
 
   -- there was no memory for the rest
-  pub answers_partial : (text : List ℕ) (lines : List Line) (book : History) (world : World) (written after : Option (List ℕ)) (faults faults' : ℕ)
-      → IsScript text lines → book.opening ≡ [] → Leads (opening lines) book.entries world → after ≡ written → Answers status.NoMemory text written after faults faults' (Some book)
-  answers_partial text lines book world written after faults faults' script blank leads kept = ((lines, world, replayed text lines book world script blank leads), kept)
+  pub answers_partial : (text : List ℕ) (lines : List Line) (book : History) (world : World) (sink sink' : SinkSide)
+      → IsScript text lines → book.opening ≡ [] → Leads (opening lines) book.entries world → sink'.written ≡ sink.written → Answers status.NoMemory text sink sink' (Some book)
+  answers_partial text lines book world sink sink' script blank leads kept = ((lines, world, replayed text lines book world script blank leads), kept)
 
 -- a source that tells its bytes gave them all, where they are a script
-gave_all : (left then : Option (List ℕ)) (got text : List ℕ) → Gave left then got → left ≡ Some text → length text ≤ 4194304 → got ≡ text
-gave_all None then got text gave is most = absurd (cc)
-gave_all (Some all) then got text gave is most =
-    let (rest, parts, after) = gave.taken in
-    let same : all ≡ text = cc in
-    let sum : length all ≡ length got + length rest = ap length parts ∙ length-append got rest in
-    let few : length got < 4194305 = omega (arith, sum, most, ap length same) in
-    let none : rest ≡ [] = subst IsAtEnd after (gave.whole few) in
-    sym (append-nil got) ∙ ap (λ (l : List ℕ). got ++ l) (sym none) ∙ sym parts ∙ same
+gave_all : (source source' : SourceSide) (got text : List ℕ) → Gave source source' got → source.left ≡ Some text → length text ≤ 4194304 → got ≡ text
+gave_all source source' got text gave is most = told source.left is gave.taken where
+  told : (left : Option (List ℕ)) → left ≡ Some text → Taken left got source'.left → got ≡ text
+  told None is taken = absurd (cc)
+  told (Some all) is (rest, parts, after) =
+      let same : all ≡ text = cc in
+      let sum : length all ≡ length got + length rest = ap length parts ∙ length-append got rest in
+      let few : length got < 4194305 = omega (arith, sum, most, ap length same) in
+      let none : rest ≡ [] = subst IsAtEnd after (gave.whole few) in
+      sym (append-nil got) ∙ ap (λ (l : List ℕ). got ++ l) (sym none) ∙ sym parts ∙ same
 
-pub completes : (s : Status) (left then : Option (List ℕ)) (from to : ℕ) (written after : Option (List ℕ)) (faults faults' : ℕ) (book : Option History) (text : List ℕ) (lines : List Line)
-    → Outcome s left then from to written after faults faults' book → left ≡ Some text → IsScript text lines → (Rises from to → ⊥) → (Rises faults faults' → ⊥) → (s ≡ status.Done) ⊎ (s ≡ status.NoMemory)
-completes status.Done left then from to written after faults faults' book text lines outcome is script reads writes = inl refl
-completes status.NoMemory left then from to written after faults faults' book text lines outcome is script reads writes = inr refl
-completes status.Usage left then from to written after faults faults' book text lines outcome is script reads writes = absurd (outcome)
-completes status.ReadFault left then from to written after faults faults' book text lines outcome is script reads writes = absurd (reads outcome.0)
-completes status.WriteFault left then from to written after faults faults' book text lines outcome is script reads writes =
+pub completes : (s : Status) (source source' : SourceSide) (sink sink' : SinkSide) (book : Option History) (text : List ℕ) (lines : List Line)
+    → Outcome s source source' sink sink' book → source.left ≡ Some text → IsScript text lines → (Rises source.faults source'.faults → ⊥) → (Rises sink.faults sink'.faults → ⊥) → (s ≡ status.Done) ⊎ (s ≡ status.NoMemory)
+completes status.Done source source' sink sink' book text lines outcome is script reads writes = inl refl
+completes status.NoMemory source source' sink sink' book text lines outcome is script reads writes = inr refl
+completes status.Usage source source' sink sink' book text lines outcome is script reads writes = absurd (outcome)
+completes status.ReadFault source source' sink sink' book text lines outcome is script reads writes = absurd (reads outcome.0)
+completes status.WriteFault source source' sink sink' book text lines outcome is script reads writes =
     let (got, gave, run) = outcome in
-    let (ls, history, world, replays, cut, rises) = run in
-    absurd (writes rises)
-completes status.BadLine left then from to written after faults faults' book text lines outcome is script reads writes =
+    let (ls, history, world, replays, cut) = run in
+    absurd (writes cut.failed)
+completes status.BadLine source source' sink sink' book text lines outcome is script reads writes =
     let (got, gave, refused) = outcome in
-    let (line, bad, tells) = refused in
-    let same : got ≡ text = gave_all left then got text gave is (script_size text lines script) in
+    let (line, bad, tells) = refused.0 in
+    let same : got ≡ text = gave_all source source' got text gave is (script_size text lines script) in
     absurd (no_bad_script text lines line script (subst (λ (t : List ℕ). IsBadAt t line) same bad))

@@ -1,3 +1,4 @@
+pub mod Sides
 pub mod Input
 pub mod Output
 pub mod Names

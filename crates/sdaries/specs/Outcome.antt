@@ -8,6 +8,7 @@ use Rattle.sd_script.specs.declared.line.Line.{Line}
 use Rattle.sd_script.specs.Reading.{IsScript, IsBadAt}
 use Rattle.sdaries.specs.declared.status.Status.{Status}
 use Rattle.sdaries.specs.declared.status.Status.TheVariants as status
+use Rattle.sdaries.specs.Sides.{SourceSide, SinkSide}
 use Rattle.sdaries.specs.Input.{Taken, IsAtEnd}
 use Rattle.sdaries.specs.Output.{AppendsFront}
 use Rattle.sdaries.specs.Progress.{IsTold}
@@ -19,9 +20,9 @@ abbrev pub IsReplay : List (List ℕ) → Type 0
 IsReplay words = words ≡ codes "replay" ∷ []
 
 -- The source gave this text: all that it had, or 4,194,305 bytes, which is more than a script has.
-pub record Gave (left then : Option (List ℕ)) (text : List ℕ) : Type 0 where
-  pub taken : Taken left text then
-  pub whole : length text < 4194305 → IsAtEnd then
+pub record Gave (source source' : SourceSide) (text : List ℕ) : Type 0 where
+  pub taken : Taken source.left text source'.left
+  pub whole : length text < 4194305 → IsAtEnd source'.left
 
 -- The text is a script of these lines. The book begins with an empty table, and its entries lead to this world, in
 -- which each committed transaction has read what it reads where they run one after another.
@@ -33,63 +34,62 @@ pub record Replayed (book : Option History) (text : List ℕ) (lines : List Line
   pub serial : Serial world.serial.start world.serial.done
 
 -- Each line has its reply, and the sink has got the report of this book and nothing else.
-pub record Reported (written after : Option (List ℕ)) (lines : List Line) (history : History) (world : World) : Type 0 where
+pub record Reported (sink sink' : SinkSide) (lines : List Line) (history : History) (world : World) : Type 0 where
   pub told : IsTold world.told
-  pub report : Appends written (report lines history.entries) after
+  pub report : Appends sink.written (report lines history.entries) sink'.written
 
--- each line has its reply, and the sink has got a front of the report
-pub record CutShort (written after : Option (List ℕ)) (lines : List Line) (history : History) (world : World) : Type 0 where
+-- Each line has its reply. The sink failed, and has got a front of the report.
+pub record CutShort (sink sink' : SinkSide) (lines : List Line) (history : History) (world : World) : Type 0 where
   pub told : IsTold world.told
-  pub front : AppendsFront written (report lines history.entries) after
+  pub front : AppendsFront sink.written (report lines history.entries) sink'.written
+  pub failed : Rises sink.faults sink'.faults
 
 -- the text of a bad line
 abbrev pub bad_text : ℕ → List ℕ
 bad_text line = line_of (codes "bad" ∷ codes "line" ∷ decimal line ∷ codes "word" ∷ [])
 
--- the text is written whole, or a front of it, where the sink's count of faults rose
-abbrev pub WrittenUnless : Option (List ℕ) → List ℕ → Option (List ℕ) → ℕ → ℕ → Type 0
-WrittenUnless written text after faults faults' = Appends written text after ⊎ (Rises faults faults' × AppendsFront written text after)
+-- the text is written whole, or a front of it, where the sink failed
+abbrev pub WrittenUnless : SinkSide → List ℕ → SinkSide → Type 0
+WrittenUnless sink text sink' = Appends sink.written text sink'.written ⊎ (Rises sink.faults sink'.faults × AppendsFront sink.written text sink'.written)
 
 -- the text is bad at a line first, and the sink has got just that
-abbrev pub IsRefused : List ℕ → Option (List ℕ) → Option (List ℕ) → ℕ → ℕ → Type 0
-IsRefused text written after faults faults' = (line : ℕ) × IsBadAt text line × WrittenUnless written (bad_text line) after faults faults'
+abbrev pub TellsFirst : List ℕ → SinkSide → SinkSide → Type 0
+TellsFirst text sink sink' = (line : ℕ) × IsBadAt text line × WrittenUnless sink (bad_text line) sink'
 
 -- a book that is there has the replies so far
 abbrev pub IsPartial : List ℕ → Option History → Type 0
 IsPartial text None = Unit {0}
 IsPartial text (Some history) = (lines : List Line) × (world : World) × Replayed (Some history) text lines history world
 
--- What each status says of a text that was read, of the sink before and after, of its faults, and of the book.
-abbrev pub Answers : Status → List ℕ → Option (List ℕ) → Option (List ℕ) → ℕ → ℕ → Option History → Type 0
-Answers status.Done text written after faults faults' book = (lines : List Line) × (history : History) × (world : World) × Replayed book text lines history world × Reported written after lines history world
-Answers status.BadLine text written after faults faults' book = IsRefused text written after faults faults'
-Answers status.WriteFault text written after faults faults' book = (lines : List Line) × (history : History) × (world : World) × Replayed book text lines history world × CutShort written after lines history world × Rises faults faults'
-Answers status.NoMemory text written after faults faults' book = IsPartial text book × (after ≡ written)
-Answers status.Usage text written after faults faults' book = ⊥
-Answers status.ReadFault text written after faults faults' book = ⊥
+-- What each status says of a text that was read, of the sink before and after, and of the book.
+abbrev pub Answers : Status → List ℕ → SinkSide → SinkSide → Option History → Type 0
+Answers status.Done text sink sink' book = (lines : List Line) × (history : History) × (world : World) × Replayed book text lines history world × Reported sink sink' lines history world
+Answers status.BadLine text sink sink' book = TellsFirst text sink sink' × (book ≡ None)
+Answers status.WriteFault text sink sink' book = (lines : List Line) × (history : History) × (world : World) × Replayed book text lines history world × CutShort sink sink' lines history world
+Answers status.NoMemory text sink sink' book = IsPartial text book × (sink'.written ≡ sink.written)
+Answers status.Usage text sink sink' book = ⊥
+Answers status.ReadFault text sink sink' book = ⊥
 
--- The source gave a text up to its end, and the status says this of it.
-abbrev pub AnswersAll : Status → Option (List ℕ) → Option (List ℕ) → Option (List ℕ) → Option (List ℕ) → ℕ → ℕ → Option History → Type 0
-AnswersAll s left then written after faults faults' book = (text : List ℕ) × Gave left then text × Answers s text written after faults faults' book
+-- the source gave a text, and the status says this of it
+abbrev pub AnswersAll : Status → SourceSide → SourceSide → SinkSide → SinkSide → Option History → Type 0
+AnswersAll s source source' sink sink' book = (text : List ℕ) × Gave source source' text × Answers s text sink sink' book
 
--- What each status says of a call whose words are a command.
-abbrev pub Outcome : Status → Option (List ℕ) → Option (List ℕ) → ℕ → ℕ → Option (List ℕ) → Option (List ℕ) → ℕ → ℕ → Option History → Type 0
-Outcome status.ReadFault left then from to written after faults faults' book = Rises from to × (after ≡ written) × (book ≡ None)
-Outcome status.NoMemory left then from to written after faults faults' book = ((book ≡ None) × (after ≡ written)) ⊎ AnswersAll status.NoMemory left then written after faults faults' book
-Outcome status.Usage left then from to written after faults faults' book = ⊥
-Outcome status.Done left then from to written after faults faults' book = AnswersAll status.Done left then written after faults faults' book
-Outcome status.BadLine left then from to written after faults faults' book = AnswersAll status.BadLine left then written after faults faults' book
-Outcome status.WriteFault left then from to written after faults faults' book = AnswersAll status.WriteFault left then written after faults faults' book
+-- What each status says of a call whose words are a command: of the source and the sink, before and after, and the book.
+abbrev pub Outcome : Status → SourceSide → SourceSide → SinkSide → SinkSide → Option History → Type 0
+Outcome status.ReadFault source source' sink sink' book = Rises source.faults source'.faults × (sink'.written ≡ sink.written) × (book ≡ None)
+Outcome status.NoMemory source source' sink sink' book = ((book ≡ None) × (sink'.written ≡ sink.written)) ⊎ AnswersAll status.NoMemory source source' sink sink' book
+Outcome status.Usage source source' sink sink' book = ⊥
+Outcome s source source' sink sink' book = AnswersAll s source source' sink sink' book
 
 -- what becomes of a report
-abbrev pub Delivers : Status → Option (List ℕ) → List ℕ → Option (List ℕ) → ℕ → ℕ → Type 0
-Delivers status.Done written text after faults faults' = Appends written text after
-Delivers status.WriteFault written text after faults faults' = Rises faults faults' × AppendsFront written text after
-Delivers status.NoMemory written text after faults faults' = after ≡ written
-Delivers s written text after faults faults' = ⊥
+abbrev pub Delivers : Status → SinkSide → List ℕ → SinkSide → Type 0
+Delivers status.Done sink text sink' = Appends sink.written text sink'.written
+Delivers status.WriteFault sink text sink' = Rises sink.faults sink'.faults × AppendsFront sink.written text sink'.written
+Delivers status.NoMemory sink text sink' = sink'.written ≡ sink.written
+Delivers s sink text sink' = ⊥
 
 -- a bad line is told
-abbrev pub TellsBad : Status → ℕ → Option (List ℕ) → Option (List ℕ) → ℕ → ℕ → Type 0
-TellsBad status.BadLine line written after faults faults' = WrittenUnless written (bad_text line) after faults faults'
-TellsBad status.NoMemory line written after faults faults' = after ≡ written
-TellsBad s line written after faults faults' = ⊥
+abbrev pub TellsBad : Status → ℕ → SinkSide → SinkSide → Type 0
+TellsBad status.BadLine line sink sink' = WrittenUnless sink (bad_text line) sink'
+TellsBad status.NoMemory line sink sink' = sink'.written ≡ sink.written
+TellsBad s line sink sink' = ⊥

@@ -1,6 +1,6 @@
 //! The top call: a script from its source to its report.
 
-ghost use Rattle.std.specs.Prelude.{◌≡◌, ◌⊎◌, ◌↔◌, ◌≤◌, ℕ, List, length, map, string_bytes, Some, IsTrue};
+ghost use Rattle.std.specs.Prelude.{◌≡◌, ◌⊎◌, ◌↔◌, ◌≤◌, ℕ, List, length, map, string_bytes, Some, None, IsTrue};
 ghost use Rattle.sd_base.specs.Streams.{Rises};
 ghost use Rattle.sd_script.specs.declared.line.Line.{Line};
 ghost use Rattle.sd_script.specs.Reading.{IsScript};
@@ -21,7 +21,7 @@ use sd_rig::Rig;
 use sd_script::{Form, Kind, Line, Script};
 use std::alloc::Global;
 
-/// What `top` answers: its status, the rig, and the book, which is there where the complex was opened.
+/// What `top` answers: its status, the rig, and the book, which is there where the complex was opened and no line is bad.
 #[derive(Drop)]
 pub struct Done<G> {
     pub status: Status,
@@ -40,10 +40,14 @@ pub fn top<S: Source, K: Sink, G: Rig, T: Gate>(
     _gate: &T,
 ) -> Done<G>
     // What each status says of a command: the report of a run that is told of the script, the first bad line, a fault.
-    ensures outcome { IsReplay (map string_bytes words.now) → Outcome result.status (S.left source.old) (S.left source.new) (S.faults source.old) (S.faults source.new)
-        (K.written sink.old) (K.written sink.new) (K.faults sink.old) (K.faults sink.new) result.book }
+    ensures outcome { IsReplay (map string_bytes words.now) → Outcome result.status
+        (record { left = S.left source.old; faults = S.faults source.old }) (record { left = S.left source.new; faults = S.faults source.new })
+        (record { written = K.written sink.old; faults = K.faults sink.old }) (record { written = K.written sink.new; faults = K.faults sink.new }) result.book }
     ensures usage { (result.status ≡ status.Usage) ↔ (IsReplay (map string_bytes words.now) → ⊥) }
-    ensures untouched { result.status ≡ status.Usage → (S.left source.new ≡ S.left source.old) × (K.written sink.new ≡ K.written sink.old) }
+
+    // Other words touch neither stream, and there is no book.
+    ensures untouched { result.status ≡ status.Usage → (S.left source.new ≡ S.left source.old) × (S.faults source.new ≡ S.faults source.old)
+        × (K.written sink.new ≡ K.written sink.old) × (K.faults sink.new ≡ K.faults sink.old) × (result.book ≡ None) }
     ensures rig { result.rig ≡ rig }
 
     // No more than 4,194,305 bytes are taken from the source.
@@ -73,8 +77,9 @@ fn is_replay(words: &[String]) -> bool
 }
 
 fn replay<S: Source, K: Sink>(alloc: Global, source: &mut S, sink: &mut K) -> (Status, Option<Book>)
-    ensures outcome { Outcome result.0 (S.left source.old) (S.left source.new) (S.faults source.old) (S.faults source.new)
-        (K.written sink.old) (K.written sink.new) (K.faults sink.old) (K.faults sink.new) result.1 }
+    ensures outcome { Outcome result.0
+        (record { left = S.left source.old; faults = S.faults source.old }) (record { left = S.left source.new; faults = S.faults source.new })
+        (record { written = K.written sink.old; faults = K.faults sink.old }) (record { written = K.written sink.new; faults = K.faults sink.new }) result.1 }
     ensures bounded { (text : List ℕ) × (length text ≤ 4194305) × Taken (S.left source.old) text (S.left source.new) }
 {
     match read_all(alloc, source) {
@@ -85,7 +90,8 @@ fn replay<S: Source, K: Sink>(alloc: Global, source: &mut S, sink: &mut K) -> (S
 }
 
 fn replay_text<K: Sink>(alloc: Global, text: &[u8], sink: &mut K) -> (Status, Option<Book>)
-    ensures { Answers result.0 text.now (K.written sink.old) (K.written sink.new) (K.faults sink.old) (K.faults sink.new) result.1 }
+    ensures { Answers result.0 text.now (record { written = K.written sink.old; faults = K.faults sink.old })
+        (record { written = K.written sink.new; faults = K.faults sink.new }) result.1 }
 {
     match Script::read(alloc, text, Kind::Replay) {
         Ok(script) => replay_lines(alloc, script.lines(), sink),
@@ -96,7 +102,8 @@ fn replay_text<K: Sink>(alloc: Global, text: &[u8], sink: &mut K) -> (Status, Op
 
 // Writes which line is bad. A sink that fails doesn't change the status.
 fn report_bad_line<K: Sink>(alloc: Global, line: u32, sink: &mut K) -> Status
-    ensures { TellsBad result line (K.written sink.old) (K.written sink.new) (K.faults sink.old) (K.faults sink.new) }
+    ensures { TellsBad result line (record { written = K.written sink.old; faults = K.faults sink.old })
+        (record { written = K.written sink.new; faults = K.faults sink.new }) }
 {
     match bad_line(alloc, line) {
         Err(Memory) => Status::NoMemory,
@@ -109,7 +116,8 @@ fn report_bad_line<K: Sink>(alloc: Global, line: u32, sink: &mut K) -> Status
 
 fn replay_lines<K: Sink>(alloc: Global, lines: &[Line], sink: &mut K) -> (Status, Option<Book>)
     requires { (text : List ℕ) × IsScript text lines.now }
-    ensures { (text : List ℕ) → IsScript text lines.now → Answers result.0 text (K.written sink.old) (K.written sink.new) (K.faults sink.old) (K.faults sink.new) result.1 }
+    ensures { (text : List ℕ) → IsScript text lines.now → Answers result.0 text
+        (record { written = K.written sink.old; faults = K.faults sink.old }) (record { written = K.written sink.new; faults = K.faults sink.new }) result.1 }
 {
     crate::laws::turns_are_steps();
     sd_model::laws::serial_order();
@@ -132,7 +140,8 @@ fn replay_lines<K: Sink>(alloc: Global, lines: &[Line], sink: &mut K) -> (Status
 fn report<K: Sink>(alloc: Global, lines: &[Line], book: &Book, sink: &mut K) -> Status
     requires lines { AreAbove 0 lines.now }
     requires entries { AreFrom 0 book.now.entries }
-    ensures { Delivers result (K.written sink.old) (report lines.now book.now.entries) (K.written sink.new) (K.faults sink.old) (K.faults sink.new) }
+    ensures { Delivers result (record { written = K.written sink.old; faults = K.faults sink.old }) (report lines.now book.now.entries)
+        (record { written = K.written sink.new; faults = K.faults sink.new }) }
 {
     match render(alloc, lines, book.entries()) {
         Err(Memory) => Status::NoMemory,

@@ -1,6 +1,7 @@
 use Rattle.std.proofs.Common.{sym, ap, ◌∙◌, subst, arith}
 use Rattle.sdaries.proofs.Scripts.{script_next, script_above, script_complex}
 use Rattle.std.specs.Prelude.{Some}
+use Rattle.sdaries.specs.Sides.{SinkSide}
 use Rattle.sdaries.specs.Outcome.{Answers}
 use Rattle.sdaries.proofs.Answered.{answers_reached, answers_partial}
 use Rattle.sdaries.proofs.top.replay_lines.Goals as goal
@@ -43,15 +44,19 @@ pub returns : goal.returns
 returns c c' = λ text script.
     let lines = c'.args.lines.now in
     let replay = c'.run.new.self in
-    let sink = c'.args.sink.now in
+    let sink : SinkSide = record { written = c.K.Sink.written c'.args.sink.now; faults = c.K.Sink.faults c'.args.sink.now } in
+    let then : SinkSide = record { written = c.K.Sink.written c'.match-run.sink; faults = c.K.Sink.faults c'.match-run.sink } in
+    let runs = c'.turns_are_steps.ensures in
+    let serial = c'.serial_order.ensures in
     elim c'.match-run.branch [
       | in-Ok-run w ↦
           let (world, reached) = w.in-Ok-run.ensures.told in
-          let answered = answers_reached c'.turns_are_steps.ensures c'.serial_order.ensures.serial c'.serial_order.ensures.fresh w.report-status.result text lines replay world (c.K.Sink.written sink) (c.K.Sink.written w.report-status.new.sink) (c.K.Sink.faults sink) (c.K.Sink.faults w.report-status.new.sink) script reached w.report-status.ensures in
-          subst (λ s. Answers s text (c.K.Sink.written sink) (c.K.Sink.written c'.match-run.sink) (c.K.Sink.faults sink) (c.K.Sink.faults c'.match-run.sink) (Some replay.book)) (sym w.status-is)
-          (subst (λ k. Answers w.report-status.result text (c.K.Sink.written sink) (c.K.Sink.written k) (c.K.Sink.faults sink) (c.K.Sink.faults k) (Some replay.book)) (sym w.sink-is) answered)
+          let after : SinkSide = record { written = c.K.Sink.written w.report-status.new.sink; faults = c.K.Sink.faults w.report-status.new.sink } in
+          let answered = answers_reached runs serial.serial serial.fresh w.report-status.result text lines replay world sink after script reached w.report-status.ensures in
+          subst (λ s. Answers s text sink then (Some replay.book)) (sym w.status-is)
+          (subst (λ k. Answers w.report-status.result text sink (record { written = c.K.Sink.written k; faults = c.K.Sink.faults k }) (Some replay.book)) (sym w.sink-is) answered)
       | in-Err-run w ↦
           let (world, leads) = w.in-Err-run.ensures.err in
-          let answered = answers_partial c'.turns_are_steps.ensures c'.serial_order.ensures.serial c'.serial_order.ensures.fresh text lines replay.book world (c.K.Sink.written sink) (c.K.Sink.written c'.match-run.sink) (c.K.Sink.faults sink) (c.K.Sink.faults c'.match-run.sink) script w.in-Err-run.ensures.blank leads (ap (λ k. c.K.Sink.written k) w.sink-is) in
-          subst (λ s. Answers s text (c.K.Sink.written sink) (c.K.Sink.written c'.match-run.sink) (c.K.Sink.faults sink) (c.K.Sink.faults c'.match-run.sink) (Some replay.book)) (sym w.status-is) answered
+          let answered = answers_partial runs serial.serial serial.fresh text lines replay.book world sink then script w.in-Err-run.ensures.blank leads (ap (λ k. c.K.Sink.written k) w.sink-is) in
+          subst (λ s. Answers s text sink then (Some replay.book)) (sym w.status-is) answered
     ]

@@ -10,8 +10,10 @@ returns-clause-complete c c' = λ text lines command is script reads writes. eli
   | then-is_replay w ↦
       let source = c'.args.source.now in
       let sink = c'.args.sink.now in
-      let done = completes w.replay.result.0 (c.S.Source.left source) (c.S.Source.left w.replay.new.source) (c.S.Source.faults source) (c.S.Source.faults w.replay.new.source)
-      (c.K.Sink.written sink) (c.K.Sink.written w.replay.new.sink) (c.K.Sink.faults sink) (c.K.Sink.faults w.replay.new.sink) w.replay.result.1 text lines
+      let done = completes w.replay.result.0 (record { left = c.S.Source.left source; faults = c.S.Source.faults source })
+      (record { left = c.S.Source.left w.replay.new.source; faults = c.S.Source.faults w.replay.new.source })
+      (record { written = c.K.Sink.written sink; faults = c.K.Sink.faults sink })
+      (record { written = c.K.Sink.written w.replay.new.sink; faults = c.K.Sink.faults w.replay.new.sink }) w.replay.result.1 text lines
       w.replay.ensures.outcome is script
       (λ rises. reads (subst (λ s. Rises (c.S.Source.faults source) (c.S.Source.faults s)) (sym w.source-is) rises))
       (λ rises. writes (subst (λ k. Rises (c.K.Sink.faults sink) (c.K.Sink.faults k)) (sym w.sink-is) rises)) in

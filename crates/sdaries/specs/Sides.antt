@@ -1,0 +1,12 @@
+-- The two streams of a call, each as it is known from outside: what is left or written, where that is told, and its faults.
+use Rattle.std.specs.Prelude.{ℕ, List, Option}
+
+-- a source: the bytes that are left, and how often it failed
+pub record SourceSide : Type 0 where
+  pub left : Option (List ℕ)
+  pub faults : ℕ
+
+-- a sink: the bytes that were written, and how often it failed
+pub record SinkSide : Type 0 where
+  pub written : Option (List ℕ)
+  pub faults : ℕ
