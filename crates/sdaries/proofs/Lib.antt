@@ -1,4 +1,5 @@
 pub mod ByteKeys
+pub mod TxnKeys
 pub mod LineOrder
 pub mod Puts
 pub mod Takes

@@ -1,4 +1,4 @@
--- Entries whose lines don't fall, parted at a line. It serves the goals of render.
+-- Entries whose lines don't fall, parted at a line. It serves the goals of render and TxnNames::of.
 use Rattle.std.proofs.Common.{◌≡◌, ⊎_elim, ℕ, ◌<◌, ◌≤◌, Bool, true, false, List, [], ◌∷◌, ◌++◌, cond, eqb, ltb, ◌+◌, length, take, drop, get_or, refl, sym, ap, subst, ◌∙◌, arith}
 use Rattle.std.proofs.lemmas.Bool.{cases_Bool, eqb-true, eqb-false, ltb-true, ltb-false}
 use Rattle.std.specs.List.{flat_map}
@@ -7,7 +7,8 @@ use Rattle.std.proofs.lemmas.List.Concat.{flat_map-cons}
 use Rattle.std.proofs.lemmas.Grind.{flat_map-append}
 use Rattle.sd_model.specs.declared.event.Entry.{Entry}
 use Rattle.sd_script.specs.declared.line.Line.{Line}
-use Rattle.sdaries.specs.Report.{report, reported, AreAbove, entries_of, skipped, leading, behind, AreFrom}
+use Rattle.sd_script.specs.declared.line.Form.{Form}
+use Rattle.sdaries.specs.Report.{gathered, AreAbove, entries_of, skipped, leading, behind, AreFrom}
 
 -- of two numbers that differ the test is false
 apart : (a b : ℕ) → (a ≡ b → ⊥) → eqb a b ≡ false
@@ -89,26 +90,30 @@ flat_map_more f xs i x lt is =
     ap (flat_map f) (take_more xs i x lt ∙ ap (λ y. take i xs ++ y ∷ []) (sym is)) ∙ flat_map-append f (take i xs) (x ∷ [])
     ∙ ap (λ l. flat_map f (take i xs) ++ l) (flat_map-cons f x [] ∙ append-nil (f x))
 
--- the report of the first i lines, where the last of them is low, and what is left of the entries
-pub record Rendered (lines : List Line) (entries rest : List Entry) (out : List ℕ) (i low : ℕ) : Type 0 where
+-- the first i lines have had their entries, and the last of them is low; what is left of the entries
+pub record Parted (lines : List Line) (entries rest : List Entry) (i low : ℕ) : Type 0 where
   pub numbers : AreAbove low (drop i lines)
   pub order : AreFrom low rest
   pub same : (n : ℕ) → low < n → entries_of n rest ≡ entries_of n entries
-  pub text : out ≡ report (take i lines) entries
 
--- one line more
-pub rendered_more : (lines : List Line) (entries rest : List Entry) (out : List ℕ) (i low : ℕ) (line : Line) → Rendered lines entries rest out i low → i < length lines → line ≡ get_or lines i line
-    → Rendered lines entries (behind line.number (skipped line.number rest)) (out ++ reported line.form (leading line.number (skipped line.number rest))) (i + 1) line.number
-rendered_more lines entries rest out i low line so_far lt is =
-    let next : drop i lines ≡ line ∷ drop (i + 1) lines = drop_more lines i line lt ∙ ap (λ (x : Line). x ∷ drop (i + 1) lines) (sym is) in
-    let above : AreAbove low (line ∷ drop (i + 1) lines) = subst (AreAbove low) next so_far.numbers in
-    let own : leading line.number (skipped line.number rest) ≡ entries_of line.number entries = own_entries line.number low rest so_far.order ∙ so_far.same line.number above.0 in
-    record {
-      numbers = above.1;
-      order = later_from line.number low rest so_far.order;
-      same = λ n lt_n. later_entries line.number n rest lt_n ∙ so_far.same n (omega (arith, above.0, lt_n));
-      text =
-          ap (λ (l : List ℕ). l ++ reported line.form (leading line.number (skipped line.number rest))) so_far.text
-          ∙ ap (λ (l : List Entry). report (take i lines) entries ++ reported line.form l) own
-          ∙ sym (flat_map_more (λ (x : Line). reported x.form (entries_of x.number entries)) lines i line lt is);
-    }
+pub parted_none : (lines : List Line) (entries : List Entry) → AreAbove 0 lines → AreFrom 0 entries → Parted lines entries entries 0 0
+parted_none lines entries above from = record { numbers = above; order = from; same = λ n lt. refl }
+
+-- one line more, with its own entries
+module _ (lines : List Line) (entries rest : List Entry) (i low : ℕ) (line : Line) (so_far : Parted lines entries rest i low) (lt : i < length lines) (is : line ≡ get_or lines i line) where
+  above : AreAbove low (line ∷ drop (i + 1) lines)
+  above = subst (AreAbove low) (drop_more lines i line lt ∙ ap (λ (x : Line). x ∷ drop (i + 1) lines) (sym is)) so_far.numbers
+
+  pub parted_more : (others : List Entry) → others ≡ behind line.number (skipped line.number rest) → Parted lines entries others (i + 1) line.number
+  parted_more others left = subst (λ (l : List Entry). Parted lines entries l (i + 1) line.number) (sym left) (record {
+    numbers = above.1;
+    order = later_from line.number low rest so_far.order;
+    same = λ n lt_n. later_entries line.number n rest lt_n ∙ so_far.same n (omega (arith, above.0, lt_n));
+  })
+
+  pub gathered_more : {X : Type 0} (f : Form → List Entry → List X) (own : List Entry) → own ≡ leading line.number (skipped line.number rest)
+      → gathered f (take (i + 1) lines) entries ≡ gathered f (take i lines) entries ++ f line.form own
+  gathered_more {X} f own mine =
+      let all : own ≡ entries_of line.number entries = mine ∙ own_entries line.number low rest so_far.order ∙ so_far.same line.number above.0 in
+      flat_map_more (λ (x : Line). f x.form (entries_of x.number entries)) lines i line lt is
+      ∙ ap (λ (l : List Entry). gathered f (take i lines) entries ++ f line.form l) (sym all)

@@ -21,7 +21,9 @@ no_slots = record { slots = λ page. [] }
 
 -- a page has one slot more, at its end
 abbrev pub with_slot : ℕ → ℕ → Bounds → Bounds
-with_slot page capacity w = record { slots = λ p. cond {A = List ℕ} (eqb page p) (w.slots page ++ capacity ∷ []) (w.slots p) }
+with_slot page capacity w = record {
+  slots = λ p. cond {A = List ℕ} (eqb page p) (w.slots page ++ capacity ∷ []) (w.slots p);
+}
 
 -- of a page of 1,024 bytes the header takes 16, and each slot its capacity and an entry of 6 bytes
 abbrev pub IsFull : List ℕ → ℕ → Type 0
@@ -48,11 +50,12 @@ pub record IsRefused (m : State) (w : Bounds) (e : Event) (n : Refusal) : Type 0
   pub passes : NoneSays w e (before cause (order e))
 
 -- what a reply that isn't a refusal makes of the world: a new record has the next slot of its page
-abbrev pub Answers : Bounds → Event → Reply → Bounds → Type 0
-Answers w (event.Insert txn page value capacity) (reply.At rid) w' = (rid.slot ≡ length (w.slots page)) × (w' ≡ with_slot page capacity w)
-Answers w e r w' = w' ≡ w
+abbrev pub Makes : Bounds → Event → Reply → Bounds → Type 0
+Makes w (event.Insert txn page value capacity) (reply.At rid) w' =
+    (rid.slot ≡ length (w.slots page)) × (w' ≡ with_slot page capacity w)
+Makes w e r w' = w' ≡ w
 
 -- An event is refused only for its cause, and answered only where the world says no cause.
 abbrev pub Moves : State → Bounds → Event → Reply → Bounds → Type 0
 Moves m w e (reply.Refused n) w' = IsRefused m w e n × (w' ≡ w)
-Moves m w e r w' = NoneSays w e (order e) × Answers w e r w'
+Moves m w e r w' = NoneSays w e (order e) × Makes w e r w'

@@ -5,6 +5,8 @@ pub mod Names
 pub mod Progress
 pub mod Bounds
 pub mod World
+pub mod Words
+pub mod Refusals
 pub mod Report
 pub mod Pages
 pub mod Serving

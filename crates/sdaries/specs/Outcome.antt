@@ -2,6 +2,7 @@
 use Rattle.std.specs.Prelude.{◌≡◌, ◌⊎◌, ℕ, ◌<◌, List, [], ◌∷◌, Option, None, Some, length, codes}
 use Rattle.std.specs.Fmt.{decimal}
 use Rattle.sd_base.specs.Streams.{Appends, Rises}
+use Rattle.sd_base.specs.declared.refusal.Cause.{Cause}
 use Rattle.sd_model.specs.Acts.{Serial}
 use Rattle.sd_model.specs.History.{History}
 use Rattle.sd_script.specs.declared.line.Line.{Line}
@@ -13,7 +14,9 @@ use Rattle.sdaries.specs.Input.{Taken, IsAtEnd}
 use Rattle.sdaries.specs.Output.{AppendsFront}
 use Rattle.sdaries.specs.Progress.{IsTold}
 use Rattle.sdaries.specs.World.{World, opening, Leads}
-use Rattle.sdaries.specs.Report.{line_of, report}
+use Rattle.sdaries.specs.Words.{line_of}
+use Rattle.sdaries.specs.Refusals.{cause_word}
+use Rattle.sdaries.specs.Report.{report}
 
 -- the words are the one word `replay`
 abbrev pub IsReplay : List (List ℕ) → Type 0
@@ -44,13 +47,15 @@ pub record CutShort (sink sink' : SinkSide) (lines : List Line) (history : Histo
   pub front : AppendsFront sink.written (report lines history.entries) sink'.written
   pub failed : Rises sink.faults sink'.faults
 
--- the text of a bad line
+-- the text of a bad line: what is wrong with it has the one word `word`
 abbrev pub bad_text : ℕ → List ℕ
-bad_text line = line_of (codes "bad" ∷ codes "line" ∷ decimal line ∷ codes "word" ∷ [])
+bad_text line = line_of (codes "bad line" ∷ decimal line ∷ cause_word Cause.Word ∷ [])
 
 -- the text is written whole, or a front of it, where the sink failed
 abbrev pub WrittenUnless : SinkSide → List ℕ → SinkSide → Type 0
-WrittenUnless sink text sink' = Appends sink.written text sink'.written ⊎ (Rises sink.faults sink'.faults × AppendsFront sink.written text sink'.written)
+WrittenUnless sink text sink' =
+    Appends sink.written text sink'.written
+    ⊎ (Rises sink.faults sink'.faults × AppendsFront sink.written text sink'.written)
 
 -- the text is bad at a line first, and the sink has got just that
 abbrev pub TellsFirst : List ℕ → SinkSide → SinkSide → Type 0
@@ -63,28 +68,36 @@ IsPartial text (Some history) = (lines : List Line) × (world : World) × Replay
 
 -- What each status says of a text that was read, of the sink before and after, and of the book.
 abbrev pub Answers : Status → List ℕ → SinkSide → SinkSide → Option History → Type 0
-Answers status.Done text sink sink' book = (lines : List Line) × (history : History) × (world : World) × Replayed book text lines history world × Reported sink sink' lines history world
+Answers status.Done text sink sink' book = (lines : List Line) × (history : History) × (world : World)
+    × Replayed book text lines history world × Reported sink sink' lines history world
 Answers status.BadLine text sink sink' book = TellsFirst text sink sink' × (book ≡ None)
-Answers status.WriteFault text sink sink' book = (lines : List Line) × (history : History) × (world : World) × Replayed book text lines history world × CutShort sink sink' lines history world
+Answers status.WriteFault text sink sink' book = (lines : List Line) × (history : History) × (world : World)
+    × Replayed book text lines history world × CutShort sink sink' lines history world
 Answers status.NoMemory text sink sink' book = IsPartial text book × (sink'.written ≡ sink.written)
 Answers status.Usage text sink sink' book = ⊥
 Answers status.ReadFault text sink sink' book = ⊥
 
 -- the source gave a text, and the status says this of it
 abbrev pub AnswersAll : Status → SourceSide → SourceSide → SinkSide → SinkSide → Option History → Type 0
-AnswersAll s source source' sink sink' book = (text : List ℕ) × Gave source source' text × Answers s text sink sink' book
+AnswersAll s source source' sink sink' book =
+    (text : List ℕ) × Gave source source' text × Answers s text sink sink' book
 
--- What each status says of a call whose words are a command: of the source and the sink, before and after, and the book.
+-- What each status says of a call whose words are a command: of the source and the sink, before and after, and of the
+-- book.
 abbrev pub Outcome : Status → SourceSide → SourceSide → SinkSide → SinkSide → Option History → Type 0
-Outcome status.ReadFault source source' sink sink' book = Rises source.faults source'.faults × (sink'.written ≡ sink.written) × (book ≡ None)
-Outcome status.NoMemory source source' sink sink' book = ((book ≡ None) × (sink'.written ≡ sink.written)) ⊎ AnswersAll status.NoMemory source source' sink sink' book
+Outcome status.ReadFault source source' sink sink' book =
+    Rises source.faults source'.faults × (sink'.written ≡ sink.written) × (book ≡ None)
+Outcome status.NoMemory source source' sink sink' book =
+    ((book ≡ None) × (sink'.written ≡ sink.written))
+    ⊎ AnswersAll status.NoMemory source source' sink sink' book
 Outcome status.Usage source source' sink sink' book = ⊥
 Outcome s source source' sink sink' book = AnswersAll s source source' sink sink' book
 
 -- what becomes of a report
 abbrev pub Delivers : Status → SinkSide → List ℕ → SinkSide → Type 0
 Delivers status.Done sink text sink' = Appends sink.written text sink'.written
-Delivers status.WriteFault sink text sink' = Rises sink.faults sink'.faults × AppendsFront sink.written text sink'.written
+Delivers status.WriteFault sink text sink' =
+    Rises sink.faults sink'.faults × AppendsFront sink.written text sink'.written
 Delivers status.NoMemory sink text sink' = sink'.written ≡ sink.written
 Delivers s sink text sink' = ⊥
 

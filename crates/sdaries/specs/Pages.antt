@@ -8,8 +8,11 @@ use Rattle.sd_page.specs.Page.{Page, Slot, heap_end, HasRoom}
 
 -- the reply to an insert of a value into a page, and what it makes of the page
 abbrev pub AddsSlot : Page → ℕ → List ℕ → Reply → Page → Type 0
-AddsSlot old p value (reply.At rid) new = HasRoom old.slots (length value) × (rid ≡ record { page = p; slot = length old.slots }) × (new.slots ≡ old.slots ++ (length value, Some value) ∷ [])
-AddsSlot old p value (reply.Refused refusal.PageFull) new = (1024 < heap_end old.slots + length value + 6 * (length old.slots + 1)) × (new ≡ old)
+AddsSlot old p value (reply.At rid) new =
+    HasRoom old.slots (length value) × (rid ≡ record { page = p; slot = length old.slots })
+    × (new.slots ≡ old.slots ++ (length value, Some value) ∷ [])
+AddsSlot old p value (reply.Refused refusal.PageFull) new =
+    (1024 < heap_end old.slots + length value + 6 * (length old.slots + 1)) × (new ≡ old)
 AddsSlot old p value r new = ⊥
 
 -- a slot's row, where it has a value

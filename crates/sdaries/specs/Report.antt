@@ -1,11 +1,12 @@
 -- The text of the report: line after line of the script, what was replied to it.
-use Rattle.std.specs.Prelude.{ℕ, ◌-◌, ◌<◌, ◌≤◌, List, [], ◌∷◌, ◌++◌, Option, Some, length, codes, filter, eqb, ltb, cond, option_map, slice_get}
-use Rattle.std.specs.List.{flat_map, join_with_byte}
+use Rattle.std.specs.Prelude.{ℕ, ◌-◌, ◌<◌, ◌≤◌, List, [], ◌∷◌, ◌++◌, Option, None, Some, length, codes, filter, eqb, ltb, cond, slice_get}
+use Rattle.std.specs.List.{flat_map}
 use Rattle.std.specs.Fmt.{decimal}
+use Rattle.std.specs.Map.{update_all}
+use Rattle.sd_base.specs.Ids.{same_txn}
 use Rattle.sd_base.specs.declared.ids.TxnId.{TxnId}
 use Rattle.sd_base.specs.declared.ids.Rid.{Rid}
-use Rattle.sd_base.specs.declared.refusal.Refusal.{Refusal}
-use Rattle.sd_base.specs.declared.refusal.Refusal.TheVariants as refusal
+use Rattle.sd_model.specs.declared.event.Event.{Event}
 use Rattle.sd_model.specs.declared.event.Reply.{Reply}
 use Rattle.sd_model.specs.declared.event.Reply.TheVariants as reply
 use Rattle.sd_model.specs.declared.event.Entry.{Entry}
@@ -13,45 +14,33 @@ use Rattle.sd_script.specs.declared.line.Form.{Form}
 use Rattle.sd_script.specs.declared.line.Form.TheVariants as form
 use Rattle.sd_script.specs.declared.line.Line.{Line}
 use Rattle.sd_script.specs.Forms.{form_words}
+use Rattle.sdaries.specs.Words.{line_of, rid_text, txn_text, NamesOf, no_names}
+use Rattle.sdaries.specs.Refusals.{refusal_text}
 
--- words with a space between each two, and an LF behind the last
-abbrev pub line_of : List (List ℕ) → List ℕ
-line_of words = join_with_byte 32 words ++ 10 ∷ []
+-- the last of these entries
+abbrev pub last_entry : List Entry → Option Entry
+last_entry entries = slice_get entries (length entries - 1)
 
--- a record: page, dot, slot
-abbrev pub rid_text : Rid → List ℕ
-rid_text r = decimal r.page ++ 46 ∷ decimal r.slot
+-- what an entry replies, or other words where there is none
+abbrev pub replied : (Event → Reply → List ℕ) → List ℕ → Option Entry → List ℕ
+replied text none None = none
+replied text none (Some entry) = text entry.event entry.reply
 
--- a transaction: instance, epoch and number
-abbrev pub txn_text : TxnId → List ℕ
-txn_text t = decimal t.inst ++ 46 ∷ decimal t.epoch ++ 46 ∷ decimal t.seq
+-- the words behind the name for a reply to a begin, an insert and a commit
+abbrev pub begin_words : NamesOf → Event → Reply → List ℕ
+begin_words names e (reply.Began txn) = codes "begin " ++ txn_text txn
+begin_words names e (reply.Refused n) = refusal_text names e n
+begin_words names e r = codes "no reply"
 
--- the words of a refusal; no other comes today
-abbrev pub refusal_text : Refusal → List ℕ
-refusal_text refusal.PageFull = codes "full"
-refusal_text refusal.TooLong = codes "too long"
-refusal_text refusal.NoTxn = codes "ended"
-refusal_text n = []
+abbrev pub insert_words : NamesOf → Event → Reply → List ℕ
+insert_words names e (reply.At rid) = codes "insert " ++ rid_text rid
+insert_words names e (reply.Refused n) = refusal_text names e n
+insert_words names e r = codes "no reply"
 
--- the reply of the last of these entries
-abbrev pub last_reply : List Entry → Option Reply
-last_reply entries = option_map (λ entry. entry.reply) (slice_get entries (length entries - 1))
-
--- the words that report a reply to a begin, an insert and a commit; without an event the name's transaction has ended
-abbrev pub begin_words : List ℕ → Option Reply → List (List ℕ)
-begin_words name (Some (reply.Began txn)) = name ∷ codes "begin" ∷ txn_text txn ∷ []
-begin_words name (Some (reply.Refused n)) = name ∷ refusal_text n ∷ []
-begin_words name r = name ∷ codes "ended" ∷ []
-
-abbrev pub insert_words : List ℕ → Option Reply → List (List ℕ)
-insert_words name (Some (reply.At rid)) = name ∷ codes "insert" ∷ rid_text rid ∷ []
-insert_words name (Some (reply.Refused n)) = name ∷ refusal_text n ∷ []
-insert_words name r = name ∷ codes "ended" ∷ []
-
-abbrev pub commit_words : List ℕ → Option Reply → List (List ℕ)
-commit_words name (Some reply.Did) = name ∷ codes "commit" ∷ []
-commit_words name (Some (reply.Refused n)) = name ∷ refusal_text n ∷ []
-commit_words name r = name ∷ codes "ended" ∷ []
+abbrev pub commit_words : NamesOf → Event → Reply → List ℕ
+commit_words names e reply.Did = codes "commit"
+commit_words names e (reply.Refused n) = refusal_text names e n
+commit_words names e r = codes "no reply"
 
 -- the rows of a reply to a list
 abbrev pub rows_in : Reply → List (Rid × List ℕ)
@@ -69,21 +58,52 @@ row_line row = line_of (rid_text row.0 ∷ row.1 ∷ [])
 abbrev pub table_text : List (Rid × List ℕ) → List ℕ
 table_text rows = flat_map row_line rows ++ line_of (codes "table" ∷ decimal (length rows) ∷ [])
 
--- what is reported of a line with these entries
-abbrev pub reported : Form → List Entry → List ℕ
-reported (form.Complex insts pages frames) entries = line_of (form_words (form.Complex insts pages frames))
-reported (form.Begin inst name) entries = line_of (begin_words name (last_reply entries))
-reported (form.Insert name page value) entries = line_of (insert_words name (last_reply entries))
-reported (form.Commit name) entries = line_of (commit_words name (last_reply entries))
-reported form.Table entries = table_text (table_rows entries)
+-- A table line tells the refusal alone, where its last page is refused, else the rows of all its pages.
+abbrev pub table_lines : NamesOf → List Entry → Event → Reply → List ℕ
+table_lines names entries e (reply.Refused n) = line_of (refusal_text names e n ∷ [])
+table_lines names entries e r = table_text (table_rows entries)
+
+-- What is reported of a line with these entries. Where an insert or a commit has none, its name's transaction has
+-- ended.
+abbrev pub reported : NamesOf → Form → List Entry → List ℕ
+reported names (form.Complex insts pages frames) entries = line_of (form_words (form.Complex insts pages frames))
+reported names (form.Begin inst name) entries =
+    line_of (name ∷ replied (begin_words names) (codes "no reply") (last_entry entries) ∷ [])
+reported names (form.Insert name page value) entries =
+    line_of (name ∷ replied (insert_words names) (codes "ended") (last_entry entries) ∷ [])
+reported names (form.Commit name) entries =
+    line_of (name ∷ replied (commit_words names) (codes "ended") (last_entry entries) ∷ [])
+reported names form.Table entries =
+    replied (table_lines names entries) (line_of (codes "no reply" ∷ [])) (last_entry entries)
 
 -- the entries of a line are those that carry its number
 abbrev pub entries_of : ℕ → List Entry → List Entry
 entries_of number entries = filter (λ entry. eqb entry.line number) entries
 
+-- what the lines give one after another, each by its own entries
+abbrev pub gathered : {X : Type 0} → (Form → List Entry → List X) → List Line → List Entry → List X
+gathered f lines entries = flat_map (λ line. f line.form (entries_of line.number entries)) lines
+
+-- the name that a begin line gives the transaction that began
+abbrev pub given_by : List ℕ → Reply → List (TxnId × List ℕ)
+given_by name (reply.Began txn) = (txn, name) ∷ []
+given_by name r = []
+
+abbrev pub given_at : List ℕ → Option Entry → List (TxnId × List ℕ)
+given_at name None = []
+given_at name (Some entry) = given_by name entry.reply
+
+abbrev pub given : Form → List Entry → List (TxnId × List ℕ)
+given (form.Begin inst name) entries = given_at name (last_entry entries)
+given f entries = []
+
+-- the names that the begin lines of a script gave their transactions
+abbrev pub names_of : List Line → List Entry → NamesOf
+names_of lines entries = update_all same_txn no_names (gathered given lines entries)
+
 -- the report of a script by the entries of its book
 abbrev pub report : List Line → List Entry → List ℕ
-report lines entries = flat_map (λ line. reported line.form (entries_of line.number entries)) lines
+report lines entries = gathered (reported (names_of lines entries)) lines entries
 
 -- the lines of the entries don't fall, and none is below this one
 abbrev pub AreFrom : ℕ → List Entry → Type 0

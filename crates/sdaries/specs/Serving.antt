@@ -42,4 +42,5 @@ pub record Serves (old : Engine) (event : Event) (reply : Reply) (new : Engine) 
   pub bounds : HasBounds new w'
 
 abbrev pub ServesAll : Engine → Event → Reply → Engine → Type 0
-ServesAll old event reply new = (m : State) (w : Bounds) → StandsFor old m → HasBounds old w → (m' : State) × (w' : Bounds) × Serves old event reply new m m' w w'
+ServesAll old event reply new = (m : State) (w : Bounds) → StandsFor old m → HasBounds old w
+    → (m' : State) × (w' : Bounds) × Serves old event reply new m m' w w'

@@ -1,4 +1,5 @@
--- The two streams of a call, each as it is known from outside: what is left or written, where that is told, and its faults.
+-- The two streams of a call, each as it is known from outside: what is left or written, where that is told, and how
+-- often it failed.
 use Rattle.std.specs.Prelude.{ℕ, List, Option}
 
 -- a source: the bytes that are left, and how often it failed

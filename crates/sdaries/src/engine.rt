@@ -75,7 +75,8 @@ impl Engine {
     /// TooLong over 256 bytes, as PageFull where the page has no room. `Memory` changes nothing.
     pub fn insert(&mut self, txn: TxnId, page: PageNo, value: &Bytes) -> Result<Reply, Memory>
         requires { page < vec_len self.old.pages }
-        ensures serves { IfOk result (λ reply. ServesAll self.old (event.Insert txn page value.now (length value.now)) reply self.new) }
+        ensures serves { IfOk result (λ reply.
+            ServesAll self.old (event.Insert txn page value.now (length value.now)) reply self.new) }
         ensures running { self.new.running ≡ self.old.running }
         ensures begins { self.new.begins ≡ self.old.begins }
         ensures pages { vec_len self.new.pages ≡ vec_len self.old.pages }

@@ -21,12 +21,16 @@ mod input;
 mod laws;
 mod names;
 mod output;
+mod parting;
+mod refusals;
 mod replay;
 mod report;
 mod status;
 #[cfg(test)]
 mod tests;
 mod top;
+mod txn_names;
+mod words;
 
 use sd_base::{OpenGate, StdSink, StdSource};
 use sd_rig::MemRig;
@@ -37,7 +41,7 @@ use std::rt::Env;
 use std::{env, io};
 
 // The words behind the program's name.
-fn words(rt: &(impl Env + AllocGlobal)) -> io::Result<Vec<String>> {
+fn arguments(rt: &(impl Env + AllocGlobal)) -> io::Result<Vec<String>> {
     let mut words = Vec::new(rt.alloc());
     for word in env::args(rt)?.skip(1) {
         words.push(word)?;
@@ -49,7 +53,7 @@ fn main(rt: HostRuntime) -> ExitCode {
     let alloc = rt.alloc();
     let mut source = StdSource::new(rt.stdin());
     let mut sink = StdSink::new(rt.stdout());
-    let status = match (words(&rt), MemRig::blank(alloc)) {
+    let status = match (arguments(&rt), MemRig::blank(alloc)) {
         (Ok(words), Ok(rig)) => top::top(
             alloc,
             &words,

@@ -1,98 +1,23 @@
 //! The text of the report, from the script's lines and the entries of the book.
 
-ghost use Rattle.std.specs.Prelude.{◌≡◌, ◌+◌, ◌≤◌, ◌<◌, [], ◌∷◌, ◌++◌, length, map, take, drop, vec_len, string_bytes, Option, IfOk, OnOk, option_map};
-ghost use Rattle.std.specs.Fmt.{decimal};
+ghost use Rattle.std.specs.Prelude.{◌≡◌, ◌+◌, ◌≤◌, [], ◌∷◌, ◌++◌, length, codes, vec_len, IfOk, OnOk};
 ghost use Rattle.std.specs.List.{flat_map};
 ghost use Rattle.std.specs.Option.{option_copied};
-ghost use Rattle.sd_base.specs.declared.ids.Rid.{Rid};
 ghost use Rattle.sd_script.specs.declared.line.Form.TheVariants as form;
+ghost use Rattle.sdaries.specs.Names.{name_in};
+ghost use Rattle.sdaries.specs.Words.{no_names};
 ghost use Rattle.sdaries.specs.Outcome.{bad_text};
-ghost use Rattle.sdaries.specs.Report.{line_of, rid_text, txn_text, refusal_text, begin_words, insert_words, commit_words, last_reply, row_line, table_text, table_rows, rows_in, reported, report, AreFrom, AreAbove, leading, behind, skipped};
+ghost use Rattle.sdaries.specs.Report.{replied, begin_words, insert_words, commit_words, reported, report, AreFrom, AreAbove};
+ghost use Rattle.sdaries.specs.Report.{row_line, rows_in, table_text, table_rows, table_lines};
 
-use sd_base::{Bytes, InstNo, Memory, Refusal, Rid, TxnId, Word};
+use crate::parting::part_at;
+use crate::refusals::{cause_name, push_refusal};
+use crate::txn_names::TxnNames;
+use crate::words::{push_end, push_next, push_number, push_two, push_word, rid_words, txn_words};
+use sd_base::{Bytes, Cause, InstNo, Memory, Rid, Word};
 use sd_model::{Entry, Reply};
 use sd_script::{Form, Line};
 use std::alloc::Global;
-
-// The words of a refusal; no other comes today.
-fn refusal_words(refusal: &Refusal) -> &'static [u8]
-    ensures { result.now ≡ refusal_text refusal.now }
-{
-    match refusal {
-        Refusal::PageFull => b"full",
-        Refusal::TooLong => b"too long",
-        Refusal::NoTxn => b"ended",
-        _ => b"",
-    }
-}
-
-// Appends the first word of a line.
-fn push_word(out: &mut Vec<u8>, word: &[u8]) -> Result<(), Memory>
-    ensures { OnOk result (out.new.items ≡ out.old.items ++ word.now) }
-{
-    out.extend_from_slice(word)?;
-    Ok(())
-}
-
-// Appends a further word, behind a space.
-fn push_next(out: &mut Vec<u8>, word: &[u8]) -> Result<(), Memory>
-    ensures { OnOk result (out.new.items ≡ out.old.items ++ 32 ∷ word.now) }
-{
-    out.push(b' ')?;
-    out.extend_from_slice(word)?;
-    Ok(())
-}
-
-// Ends a line.
-fn push_end(out: &mut Vec<u8>) -> Result<(), Memory>
-    ensures { OnOk result (out.new.items ≡ out.old.items ++ 10 ∷ []) }
-{
-    out.push(b'\n')?;
-    Ok(())
-}
-
-// A line of two words.
-fn push_two(out: &mut Vec<u8>, first: &[u8], second: &[u8]) -> Result<(), Memory>
-    ensures text { OnOk result (out.new.items ≡ out.old.items ++ line_of (first.now ∷ second.now ∷ [])) }
-    ensures bytes { OnOk result (vec_len out.old < vec_len out.new) }
-{
-    push_word(out, first)?;
-    push_next(out, second)?;
-    push_end(out)
-}
-
-// A line of three words.
-fn push_three(out: &mut Vec<u8>, first: &[u8], second: &[u8], third: &[u8]) -> Result<(), Memory>
-    ensures { OnOk result (out.new.items ≡ out.old.items ++ line_of (first.now ∷ second.now ∷ third.now ∷ [])) }
-{
-    push_word(out, first)?;
-    push_next(out, second)?;
-    push_next(out, third)?;
-    push_end(out)
-}
-
-fn number(alloc: Global, n: u32) -> Result<String, Memory>
-    ensures { IfOk result (λ text. string_bytes text ≡ decimal n) }
-{
-    Ok(n.to_string(alloc)?)
-}
-
-fn rid_words(alloc: Global, rid: Rid) -> Result<String, Memory>
-    ensures { IfOk result (λ text. string_bytes text ≡ rid_text rid) }
-{
-    let page = rid.page.get();
-    let slot = rid.slot;
-    Ok(format!(in alloc; "{page}.{slot}")?)
-}
-
-fn txn_words(alloc: Global, txn: TxnId) -> Result<String, Memory>
-    ensures { IfOk result (λ text. string_bytes text ≡ txn_text txn) }
-{
-    let inst = txn.inst.get();
-    let epoch = txn.epoch;
-    let seq = txn.seq;
-    Ok(format!(in alloc; "{inst}.{epoch}.{seq}")?)
-}
 
 fn push_complex(
     alloc: Global,
@@ -101,64 +26,85 @@ fn push_complex(
     pages: u16,
     frames: u16,
 ) -> Result<(), Memory>
-    ensures { OnOk result (out.new.items ≡ out.old.items ++ reported (form.Complex insts pages frames) []) }
+    ensures { OnOk result (out.new.items ≡ out.old.items ++ reported no_names (form.Complex insts pages frames) []) }
 {
-    let insts = number(alloc, u32::from(insts.get()))?;
-    let pages = number(alloc, u32::from(pages))?;
-    let frames = number(alloc, u32::from(frames))?;
     push_word(out, b"complex")?;
-    push_next(out, insts.as_bytes())?;
-    push_next(out, pages.as_bytes())?;
-    push_next(out, frames.as_bytes())?;
+    push_number(alloc, out, u64::from(insts.get()))?;
+    push_number(alloc, out, u64::from(pages))?;
+    push_number(alloc, out, u64::from(frames))?;
     push_end(out)
+}
+
+// The name of a transaction, with the space behind it.
+fn push_name(out: &mut Vec<u8>, name: &Word) -> Result<(), Memory>
+    ensures { OnOk result (out.new.items ≡ out.old.items ++ name.now ++ 32 ∷ []) }
+{
+    push_word(out, name.items())?;
+    push_word(out, b" ")
 }
 
 fn push_begin(
     alloc: Global,
     out: &mut Vec<u8>,
-    name: &Word,
-    reply: Option<&Reply>,
+    names: &TxnNames,
+    last: Option<&Entry>,
 ) -> Result<(), Memory>
-    ensures { OnOk result (out.new.items ≡ out.old.items ++ line_of (begin_words name.now (option_copied reply.entry))) }
+    ensures { OnOk result (out.new.items ≡ out.old.items
+        ++ replied (begin_words (name_in names.now)) (codes "no reply") (option_copied last.entry)) }
 {
-    let name = name.items();
-    match reply {
-        Some(Reply::Began(txn)) => {
+    let Some(entry) = last else {
+        return push_word(out, b"no reply");
+    };
+    match &entry.reply {
+        Reply::Began(txn) => {
             let txn = txn_words(alloc, *txn)?;
-            push_three(out, name, b"begin", txn.as_bytes())
+            push_word(out, b"begin")?;
+            push_next(out, txn.as_bytes())
         }
-        Some(Reply::Refused(refusal)) => push_two(out, name, refusal_words(refusal)),
-        _ => push_two(out, name, b"ended"),
+        Reply::Refused(refusal) => push_refusal(alloc, out, names, &entry.event, refusal),
+        _ => push_word(out, b"no reply"),
     }
 }
 
 fn push_insert(
     alloc: Global,
     out: &mut Vec<u8>,
-    name: &Word,
-    reply: Option<&Reply>,
+    names: &TxnNames,
+    last: Option<&Entry>,
 ) -> Result<(), Memory>
-    ensures { OnOk result (out.new.items ≡ out.old.items ++ line_of (insert_words name.now (option_copied reply.entry))) }
+    ensures { OnOk result (out.new.items ≡ out.old.items
+        ++ replied (insert_words (name_in names.now)) (codes "ended") (option_copied last.entry)) }
 {
-    let name = name.items();
-    match reply {
-        Some(Reply::At(rid)) => {
+    let Some(entry) = last else {
+        return push_word(out, b"ended");
+    };
+    match &entry.reply {
+        Reply::At(rid) => {
             let rid = rid_words(alloc, *rid)?;
-            push_three(out, name, b"insert", rid.as_bytes())
+            push_word(out, b"insert")?;
+            push_next(out, rid.as_bytes())
         }
-        Some(Reply::Refused(refusal)) => push_two(out, name, refusal_words(refusal)),
-        _ => push_two(out, name, b"ended"),
+        Reply::Refused(refusal) => push_refusal(alloc, out, names, &entry.event, refusal),
+        _ => push_word(out, b"no reply"),
     }
 }
 
-fn push_commit(out: &mut Vec<u8>, name: &Word, reply: Option<&Reply>) -> Result<(), Memory>
-    ensures { OnOk result (out.new.items ≡ out.old.items ++ line_of (commit_words name.now (option_copied reply.entry))) }
+fn push_commit(
+    alloc: Global,
+    out: &mut Vec<u8>,
+    names: &TxnNames,
+    last: Option<&Entry>,
+) -> Result<(), Memory>
+    ensures { OnOk result (out.new.items ≡ out.old.items
+        ++ replied (commit_words (name_in names.now)) (codes "ended") (option_copied last.entry)) }
 {
-    let name = name.items();
-    match reply {
-        Some(Reply::Did) => push_two(out, name, b"commit"),
-        Some(Reply::Refused(refusal)) => push_two(out, name, refusal_words(refusal)),
-        _ => push_two(out, name, b"ended"),
+    let Some(entry) = last else {
+        return push_word(out, b"ended");
+    };
+    match &entry.reply {
+        Reply::Did => push_word(out, b"commit"),
+        Reply::Refused(refusal) => push_refusal(alloc, out, names, &entry.event, refusal),
+        _ => push_word(out, b"no reply"),
     }
 }
 
@@ -201,63 +147,65 @@ fn push_entry(alloc: Global, out: &mut Vec<u8>, entry: &Entry) -> Result<usize, 
     }
 }
 
+// What a table line reports: its refusal, or all its rows.
+fn push_listed(
+    alloc: Global,
+    out: &mut Vec<u8>,
+    names: &TxnNames,
+    entries: &[Entry],
+) -> Result<(), Memory>
+    ensures { OnOk result (out.new.items ≡ out.old.items ++ reported (name_in names.now) form.Table entries.now) }
+{
+    let Some(entry) = entries.last() else {
+        push_word(out, b"no reply")?;
+        return push_end(out);
+    };
+    match &entry.reply {
+        Reply::Refused(refusal) => {
+            push_refusal(alloc, out, names, &entry.event, refusal)?;
+            push_end(out)
+        }
+        _ => push_table(alloc, out, entries),
+    }
+}
+
 // What is reported of a line with these entries.
 fn push_reply(
     alloc: Global,
     out: &mut Vec<u8>,
+    names: &TxnNames,
     form: &Form,
     entries: &[Entry],
 ) -> Result<(), Memory>
-    ensures { OnOk result (out.new.items ≡ out.old.items ++ reported form.now entries.now) }
+    ensures { OnOk result (out.new.items ≡ out.old.items ++ reported (name_in names.now) form.now entries.now) }
 {
-    let reply = entries.last().map(|entry| &entry.reply);
     match form {
         Form::Complex {
             insts,
             pages,
             frames,
         } => push_complex(alloc, out, *insts, *pages, *frames),
-        Form::Begin { inst: _, name } => push_begin(alloc, out, name, reply),
+        Form::Begin { inst: _, name } => {
+            push_name(out, name)?;
+            push_begin(alloc, out, names, entries.last())?;
+            push_end(out)
+        }
         Form::Insert {
             name,
             page: _,
             value: _,
-        } => push_insert(alloc, out, name, reply),
-        Form::Commit { name } => push_commit(out, name, reply),
-        Form::Table => push_table(alloc, out, entries),
-    }
-}
-
-// The entries from the line on.
-fn skip_before(number: u32, entries: &[Entry]) -> &[Entry]
-    ensures { result.now ≡ skipped number entries.now }
-{
-    let mut rest = entries;
-    while let [first, after @ ..] = rest {
-        if first.line >= number {
-            break;
+        } => {
+            push_name(out, name)?;
+            push_insert(alloc, out, names, entries.last())?;
+            push_end(out)
         }
-        rest = after;
-    }
-    rest
-}
-
-// How many entries the line has at the front.
-fn count_leading(number: u32, entries: &[Entry]) -> usize
-    ensures own { take result entries.now ≡ leading number entries.now }
-    ensures others { drop result entries.now ≡ behind number entries.now }
-    ensures bound { result ≤ length entries.now }
-{
-    let mut n = 0;
-    let mut rest = entries;
-    while let [first, after @ ..] = rest {
-        if first.line != number {
-            break;
+        Form::Commit { name } => {
+            push_name(out, name)?;
+            push_commit(alloc, out, names, entries.last())?;
+            push_end(out)
         }
-        n += 1;
-        rest = after;
+        Form::Table => push_listed(alloc, out, names, entries),
     }
-    n
 }
 
 /// The report of the script's lines by the entries of the book.
@@ -266,12 +214,12 @@ pub fn render(alloc: Global, lines: &[Line], entries: &[Entry]) -> Result<Vec<u8
     requires entries { AreFrom 0 entries.now }
     ensures { IfOk result (λ text. text.items ≡ report lines.now entries.now) }
 {
+    let names = TxnNames::of(alloc, lines, entries)?;
     let mut out = Vec::new(alloc);
     let mut rest = entries;
     for line in lines {
-        let from = skip_before(line.number, rest);
-        let (own, others) = from.split_at(count_leading(line.number, from));
-        push_reply(alloc, &mut out, &line.form, own)?;
+        let (own, others) = part_at(line.number, rest);
+        push_reply(alloc, &mut out, &names, &line.form, own)?;
         rest = others;
     }
     Ok(out)
@@ -281,12 +229,10 @@ pub fn render(alloc: Global, lines: &[Line], entries: &[Entry]) -> Result<Vec<u8
 pub fn bad_line(alloc: Global, line: u32) -> Result<Vec<u8>, Memory>
     ensures { IfOk result (λ text. text.items ≡ bad_text line) }
 {
-    let line = number(alloc, line)?;
     let mut out = Vec::new(alloc);
-    push_word(&mut out, b"bad")?;
-    push_next(&mut out, b"line")?;
-    push_next(&mut out, line.as_bytes())?;
-    push_next(&mut out, b"word")?;
+    push_word(&mut out, b"bad line")?;
+    push_number(alloc, &mut out, u64::from(line))?;
+    push_next(&mut out, cause_name(Cause::Word))?;
     push_end(&mut out)?;
     Ok(out)
 }

@@ -21,7 +21,8 @@ use sd_rig::Rig;
 use sd_script::{Form, Kind, Line, Script};
 use std::alloc::Global;
 
-/// What `top` answers: its status, the rig, and the book, which is there where the complex was opened and no line is bad.
+/// What `top` answers: its status, the rig, and the book, which is there where a script was read and the complex was
+/// opened.
 #[derive(Drop)]
 pub struct Done<G> {
     pub status: Status,
@@ -41,12 +42,15 @@ pub fn top<S: Source, K: Sink, G: Rig, T: Gate>(
 ) -> Done<G>
     // What each status says of a command: the report of a run that is told of the script, the first bad line, a fault.
     ensures outcome { IsReplay (map string_bytes words.now) → Outcome result.status
-        (record { left = S.left source.old; faults = S.faults source.old }) (record { left = S.left source.new; faults = S.faults source.new })
-        (record { written = K.written sink.old; faults = K.faults sink.old }) (record { written = K.written sink.new; faults = K.faults sink.new }) result.book }
+        (record { left = S.left source.old; faults = S.faults source.old })
+        (record { left = S.left source.new; faults = S.faults source.new })
+        (record { written = K.written sink.old; faults = K.faults sink.old })
+        (record { written = K.written sink.new; faults = K.faults sink.new }) result.book }
     ensures usage { (result.status ≡ status.Usage) ↔ (IsReplay (map string_bytes words.now) → ⊥) }
 
     // Other words touch neither stream, and there is no book.
-    ensures untouched { result.status ≡ status.Usage → (S.left source.new ≡ S.left source.old) × (S.faults source.new ≡ S.faults source.old)
+    ensures untouched { result.status ≡ status.Usage → (S.left source.new ≡ S.left source.old)
+        × (S.faults source.new ≡ S.faults source.old)
         × (K.written sink.new ≡ K.written sink.old) × (K.faults sink.new ≡ K.faults sink.old) × (result.book ≡ None) }
     ensures rig { result.rig ≡ rig }
 
@@ -78,8 +82,10 @@ fn is_replay(words: &[String]) -> bool
 
 fn replay<S: Source, K: Sink>(alloc: Global, source: &mut S, sink: &mut K) -> (Status, Option<Book>)
     ensures outcome { Outcome result.0
-        (record { left = S.left source.old; faults = S.faults source.old }) (record { left = S.left source.new; faults = S.faults source.new })
-        (record { written = K.written sink.old; faults = K.faults sink.old }) (record { written = K.written sink.new; faults = K.faults sink.new }) result.1 }
+        (record { left = S.left source.old; faults = S.faults source.old })
+        (record { left = S.left source.new; faults = S.faults source.new })
+        (record { written = K.written sink.old; faults = K.faults sink.old })
+        (record { written = K.written sink.new; faults = K.faults sink.new }) result.1 }
     ensures bounded { (text : List ℕ) × (length text ≤ 4194305) × Taken (S.left source.old) text (S.left source.new) }
 {
     match read_all(alloc, source) {
@@ -117,7 +123,8 @@ fn report_bad_line<K: Sink>(alloc: Global, line: u32, sink: &mut K) -> Status
 fn replay_lines<K: Sink>(alloc: Global, lines: &[Line], sink: &mut K) -> (Status, Option<Book>)
     requires { (text : List ℕ) × IsScript text lines.now }
     ensures { (text : List ℕ) → IsScript text lines.now → Answers result.0 text
-        (record { written = K.written sink.old; faults = K.faults sink.old }) (record { written = K.written sink.new; faults = K.faults sink.new }) result.1 }
+        (record { written = K.written sink.old; faults = K.faults sink.old })
+        (record { written = K.written sink.new; faults = K.faults sink.new }) result.1 }
 {
     crate::laws::turns_are_steps();
     sd_model::laws::serial_order();
@@ -140,7 +147,8 @@ fn replay_lines<K: Sink>(alloc: Global, lines: &[Line], sink: &mut K) -> (Status
 fn report<K: Sink>(alloc: Global, lines: &[Line], book: &Book, sink: &mut K) -> Status
     requires lines { AreAbove 0 lines.now }
     requires entries { AreFrom 0 book.now.entries }
-    ensures { Delivers result (record { written = K.written sink.old; faults = K.faults sink.old }) (report lines.now book.now.entries)
+    ensures { Delivers result (record { written = K.written sink.old; faults = K.faults sink.old })
+        (report lines.now book.now.entries)
         (record { written = K.written sink.new; faults = K.faults sink.new }) }
 {
     match render(alloc, lines, book.entries()) {

@@ -1,8 +1,12 @@
-use Rattle.std.proofs.Common.{◌≡◌, ◌+◌, ◌++◌, ℕ, List, sym, ap, ◌∙◌, subst}
-use Rattle.sd_model.specs.declared.event.Entry.{Entry}
-use Rattle.sdaries.specs.Report.{reported, skipped, leading, behind}
-use Rattle.sdaries.proofs.LineOrder.{Rendered, rendered_more}
+use Rattle.std.proofs.Common.{◌≡◌, ◌++◌, ℕ, List, take, sym, ap, ◌∙◌}
+use Rattle.std.proofs.lemmas.List.{take_all}
+use Rattle.sdaries.specs.Names.{name_in}
+use Rattle.sdaries.specs.Report.{gathered, reported, names_of}
+use Rattle.sdaries.proofs.LineOrder.{parted_none, parted_more, gathered_more}
 use Rattle.sdaries.proofs.report.render.Goals as goal
+
+pub loop-line-init : goal.loop-line-init
+loop-line-init c = record { parted = (0, parted_none c.args.lines.now c.args.entries.now c.requires.lines c.requires.entries); text = c.new-out.ensures.items }
 
 -- the line's entries are reported, and those behind it are left
 pub loop-line-preserved : goal.loop-line-preserved
@@ -12,15 +16,18 @@ loop-line-preserved c =
     let line = c.line-item.result in
     let i = c.loop-line.line-index in
     let rest = c.loop-line.rest.now in
-    let from : c.skip_before-from.result.now ≡ skipped line.number rest = c.skip_before-from.ensures in
-    let left : behind line.number (skipped line.number rest) ≡ c.split_at.result.1.now =
-    sym (c.split_at.ensures.back ∙ c.count_leading.ensures.others ∙ ap (behind line.number) from) in
-    let own : c.split_at.result.0.now ≡ leading line.number (skipped line.number rest) =
-    c.split_at.ensures.front ∙ c.count_leading.ensures.own ∙ ap (leading line.number) from in
-    let text : c.loop-line.out.items ++ reported line.form (leading line.number (skipped line.number rest)) ≡ c.push_reply.new.out.items =
-    sym (c.in_ok-push_reply.ensures ∙ ap (λ (l : List Entry). c.loop-line.out.items ++ reported line.form l) own) in
-    let more = rendered_more lines entries rest c.loop-line.out.items i c.loop-line.invariant.0 line c.loop-line.invariant.1 c.loop-line-test.true c.line-item.is in (
-      line.number,
-      subst (λ (l : List Entry). Rendered lines entries l c.push_reply.new.out.items (i + 1) line.number) left
-          (subst (λ (t : List ℕ). Rendered lines entries (behind line.number (skipped line.number rest)) t (i + 1) line.number) text more),
-    )
+    let at = c.loop-line.invariant.parted in
+    let f = reported (name_in c.in_ok-names.names) in
+    record {
+      parted = (line.number, parted_more lines entries rest i at.0 line at.1 c.loop-line-test.true c.line-item.is c.part_at.result.1.now c.part_at.ensures.others);
+      text = c.in_ok-push_reply.ensures ∙ ap (λ (l : List ℕ). l ++ f line.form c.part_at.result.0.now) c.loop-line.invariant.text
+          ∙ sym (gathered_more lines entries rest i at.0 line at.1 c.loop-line-test.true c.line-item.is f c.part_at.result.0.now c.part_at.ensures.own);
+    }
+
+pub returns : goal.returns
+returns c =
+    let lines = c.args.lines.now in
+    let entries = c.args.entries.now in
+    let names : name_in c.in_ok-names.names ≡ names_of lines entries = λ i t. c.in_ok-names.ensures t i in
+    let whole : take c.loop-line.line-index lines ≡ lines = take_all c.loop-line.line-index lines c.loop-line-test.false in
+    c.loop-line.invariant.text ∙ (λ i. gathered (reported (names i)) (whole i) entries)

@@ -1,6 +1,6 @@
 use Rattle.std.proofs.Common.{◌≡◌, ◌+◌, ◌++◌, length, take, drop}
 use Rattle.sdaries.specs.Report.{leading, behind}
-use Rattle.sdaries.proofs.report.count_leading.Given as goal
+use Rattle.sdaries.proofs.parting.count_leading.Given as goal
 
 abbrev pub invariant-loop-rest : goal.invariant-loop-rest
 invariant-loop-rest l =

@@ -1,6 +1,6 @@
 use Rattle.std.proofs.Common.{◌≡◌, length}
 use Rattle.sdaries.specs.Report.{skipped}
-use Rattle.sdaries.proofs.report.skip_before.Given as goal
+use Rattle.sdaries.proofs.parting.skip_before.Given as goal
 
 abbrev pub invariant-loop-rest : goal.invariant-loop-rest
 invariant-loop-rest l = skipped l.number l.rest ≡ skipped l.number l.entries
