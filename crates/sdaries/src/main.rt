@@ -13,7 +13,7 @@
 //! To change:
 //! - free: bodies, proofs, the text of what isn't reported
 //! - dear: the clauses of `top`, `Outcome`, `World`
-//! - frozen: the statuses' numbers, the words of the report (`specs/Report.antt`)
+//! - frozen: the statuses' numbers, the words of the report (`specs/Report.antt`, `specs/Refusals.antt`)
 #![tactic(auto)]
 
 mod engine;
@@ -22,6 +22,8 @@ mod laws;
 mod names;
 mod output;
 mod parting;
+#[cfg(test)]
+mod refusal_tests;
 mod refusals;
 mod replay;
 mod report;
