@@ -1,19 +1,27 @@
 -- Records and groups read one after the other, as the loops do. It serves the goals of reading.rt.
-use Rattle.std.proofs.Common.{◌≡◌, ◌⊎◌, inl, inr, ℕ, zero, suc, ◌+◌, ◌-◌, ◌<◌, ◌≤◌, true, false, cond, List, [], ◌∷◌, ◌++◌, length, take, drop, get_or, refl, sym, ap, ◌∙◌, subst, arith, append_assoc, length-append, length-drop}
-use Rattle.std.specs.Prelude.{slice_range, IfErr, Result, Ok, Err, Some, None}
+use Rattle.std.proofs.Common.{◌≡◌, inl, inr, ℕ, zero, suc, ◌+◌, ◌-◌, ◌<◌, ◌≤◌, true, false, cond, List, [], ◌∷◌, ◌++◌, length, take, drop, get_or, refl, sym, ap, ◌∙◌, subst, arith, append_assoc, length-append, length-drop}
+use Rattle.std.specs.Prelude.{slice_range, IfOk, Result, Ok, Err, Some, None}
 use Rattle.std.proofs.Math.ListN.{drop_of_length-le}
+use Rattle.std.specs.List.{flat_map}
+use Rattle.std.proofs.lemmas.Grind.{flat_map-append}
 use Rattle.std.proofs.lemmas.List.{append-nil, drop-drop, drop-take, get_or-drop, take_at}
 use Rattle.sd_logrec.specs.declared.record.Record.{Record}
 use Rattle.sd_base.specs.Twin.{is_open}
 use Rattle.sd_base.specs.declared.refusal.Refusal.{Refusal}
 use Rattle.sd_base.specs.declared.refusal.Refusal.TheVariants as R
 use Rattle.sd_logrec.specs.Kept.{BadGroup, Group, NoRecord, Reading, Records, Whole, area, fits_area, group_before, group_len, group_then, groups_within, placed_from, reading, record_before, record_then, records_at, records_within, spelled}
+use Rattle.sd_logrec.specs.Fronts.{front, front_at, front_then, front_within, fronts_within}
 use Rattle.sd_logrec.specs.Reading.{record_at}
 use Rattle.sd_logrec.specs.Spelling.{HasSpelling, spelling}
 use Rattle.sd_logrec.proofs.Records.{record_again}
 use Rattle.sd_logrec.proofs.Groups.{opened, read_nothing, shut}
+use Rattle.sd_base.specs.declared.refusal.Memory.{Memory}
+use Rattle.sd_log.specs.declared.area.Area.{Area}
+use Rattle.sd_log.specs.declared.area.Area.TheVariants as areas
+use Rattle.sd_log.specs.Areas.{Breaks, IfBroken, IsAt}
 use Rattle.sd_log.specs.JournalStates.{JournalState}
-use Rattle.sd_log.specs.Readings.{AddsGroup, AddsRecords}
+use Rattle.sd_log.specs.Readings.{AddsFront, AddsGroup, AddsRecords, entries}
+use Rattle.sd_log.proofs.Fronts.{entries_are, front_bad_length, front_one, front_opened, front_shut}
 use Rattle.sd_log.proofs.Parted.{placed_from-more, spelled-more}
 use Rattle.sd_log.proofs.Tails.{least_spelling}
 
@@ -40,6 +48,7 @@ pub record ReadsTo (body : List ℕ) (at : ℕ) (old now : JournalState) : Type 
   pub fuel : ℕ
   pub enough : length (drop at body) ≤ fuel
   pub read : with_front (placed_from (old.gate + 5) now.tail) (records_within fuel (old.gate + 5 + at) (drop at body)) ≡ records_at (old.gate + 5) body
+  pub front : placed_from (old.gate + 5) now.tail ++ front_within fuel (old.gate + 5 + at) (drop at body) ≡ front_at (old.gate + 5) body
 
 pub reads_none : (body : List ℕ) (old : JournalState) → old.tail ≡ [] → ReadsTo body 0 old old
 reads_none body old none = record {
@@ -51,6 +60,7 @@ reads_none body old none = record {
   fuel = length body;
   enough = omega arith;
   read = let place : old.gate + 5 + 0 ≡ old.gate + 5 = omega arith in ap (λ (t : List Record). with_front (placed_from (old.gate + 5) t) (records_within (length body) (old.gate + 5 + 0) body)) none ∙ front_none _ ∙ ap (λ p. records_within (length body) p body) place;
+  front = let place : old.gate + 5 + 0 ≡ old.gate + 5 = omega arith in ap (λ (t : List Record). placed_from (old.gate + 5) t ++ front_within (length body) (old.gate + 5 + 0) body) none ∙ ap (λ p. front_within (length body) p body) place;
 }
 
 above : (k : ℕ) → 0 < k → (j : ℕ) × (k ≡ suc j)
@@ -81,6 +91,9 @@ reads_one body at next room r old now h fits stands place within =
     let step : records_within h.fuel (g + at) (drop at body) ≡ record_before (g + at) r (records_within less.0 (g + next) (drop next body)) =
     ap (λ k. records_within k (g + at) (drop at body)) less.1 ∙ one_step less.0 (g + at) (drop at body) (omega (arith, length-drop at body)) ∙ ap (λ x. record_then (g + at) x (records_within less.0)) found
     ∙ ap (λ p. record_before (g + at) r (records_within less.0 p (drop next body))) behind in
+    let ahead : front_within h.fuel (g + at) (drop at body) ≡ (g + at, r) ∷ front_within less.0 (g + next) (drop next body) =
+    ap (λ k. front_within k (g + at) (drop at body)) less.1 ∙ front_one less.0 (g + at) (drop at body) (omega (arith, length-drop at body)) ∙ ap (λ x. front_then (g + at) x (front_within less.0)) found
+    ∙ ap (λ p. (g + at, r) ∷ front_within less.0 p (drop next body)) behind in
     let longer : placed_from g (now.tail ++ r ∷ []) ≡ front ++ (g + at, r) ∷ [] = placed_from-more g now.tail r ∙ ap (λ n. front ++ (g + n, r) ∷ []) size in
     record {
       within = within;
@@ -91,6 +104,7 @@ reads_one body at next room r old now h fits stands place within =
       fuel = less.0;
       enough = omega (arith, less.1, length-drop at body, length-drop next body);
       read = ap (λ (l : Records). with_front l (records_within less.0 (g + next) (drop next body))) longer ∙ sym (front_more front (g + at) r (records_within less.0 (g + next) (drop next body))) ∙ sym (ap (with_front front) step) ∙ h.read;
+      front = ap (λ (l : Records). l ++ front_within less.0 (g + next) (drop next body)) longer ∙ append_assoc front ((g + at, r) ∷ []) (front_within less.0 (g + next) (drop next body)) ∙ sym (ap (λ (l : Records). front ++ l) ahead) ∙ h.front;
     }
 
 pub reads_bad : (body : List ℕ) (at : ℕ) (old now : JournalState) → ReadsTo body at old now → at < length body → ((i : ℕ) → get_or body i 0 < 256) → ((r : Record) (rest : List ℕ) → HasSpelling r → drop at body ≡ spelling r ++ rest → ⊥)
@@ -102,6 +116,20 @@ reads_bad body at old now h lt are none =
     let nothing : record_at (drop at body) ≡ None = read_nothing (drop at body) (λ i. subst (λ x. x < 256) (sym (get_or-drop at body i 0)) (are (at + i))) none in
     sym h.read ∙ ap (λ k. with_front (placed_from (old.gate + 5) now.tail) (records_within k p (drop at body))) less.1
     ∙ ap (with_front (placed_from (old.gate + 5) now.tail)) (one_step less.0 p (drop at body) (omega (arith, length-drop at body)) ∙ ap (λ x. record_then p x (records_within less.0)) nothing)
+
+pub reads_front : (body : List ℕ) (at : ℕ) (old now : JournalState) → ReadsTo body at old now → at < length body → ((i : ℕ) → get_or body i 0 < 256) → ((r : Record) (rest : List ℕ) → HasSpelling r → drop at body ≡ spelling r ++ rest → ⊥)
+    → AddsFront (front_at (old.gate + 5) body) old now
+reads_front body at old now h lt are none =
+    let enough = h.enough in
+    let less = above h.fuel (omega (arith, length-drop at body)) in
+    let p : ℕ = old.gate + 5 + at in
+    let nothing : record_at (drop at body) ≡ None = read_nothing (drop at body) (λ i. subst (λ x. x < 256) (sym (get_or-drop at body i 0)) (are (at + i))) none in
+    let ahead : front_within h.fuel p (drop at body) ≡ [] = ap (λ k. front_within k p (drop at body)) less.1 ∙ front_one less.0 p (drop at body) (omega (arith, length-drop at body)) ∙ ap (λ x. front_then p x (front_within less.0)) nothing in
+    record {
+      gate = h.gate;
+      groups = h.groups;
+      records = sym (append-nil (placed_from (old.gate + 5) now.tail)) ∙ sym (ap (λ (l : Records). placed_from (old.gate + 5) now.tail ++ l) ahead) ∙ h.front;
+    }
 
 pub reads_all : (body : List ℕ) (at : ℕ) (old now : JournalState) → ReadsTo body at old now → length body ≤ at → AddsRecords (records_at (old.gate + 5) body) (length body) old now
 reads_all body at old now h le =
@@ -155,6 +183,9 @@ bad_body n at len bytes place shown long fits bad =
     ∙ ap (λ b. cond b (group_then at (records_at (at + 5) (take len (drop 5 bytes))) (groups_within n (at + 5 + len) (drop (5 + len) bytes))) (BadGroup at)) fits
     ∙ ap (λ q. group_then at q (groups_within n (at + 5 + len) (drop (5 + len) bytes))) bad
 
+abbrev pub records_of : List Group → Records
+records_of groups = flat_map (λ g. g.records) groups
+
 -- How far an area is read: the journal has the groups up to its gate, and those behind it are still to be read.
 pub record ReadsOn (bytes rest : List ℕ) (old now : JournalState) : Type 0 where
   pub place : now.gate + length rest ≡ 1048576
@@ -164,6 +195,10 @@ pub record ReadsOn (bytes rest : List ℕ) (old now : JournalState) : Type 0 whe
   pub fuel : ℕ
   pub enough : length rest ≤ fuel
   pub read : groups_before now.groups (groups_within fuel now.gate rest) ≡ groups_within (length bytes) old.gate bytes
+  pub front : records_of now.groups ++ fronts_within fuel now.gate rest ≡ fronts_within (length bytes) old.gate bytes
+
+records_of-more : (gs : List Group) (g : Group) → records_of (gs ++ g ∷ []) ≡ records_of gs ++ g.records
+records_of-more gs g = flat_map-append (λ (x : Group). x.records) gs (g ∷ []) ∙ ap (λ (l : Records). records_of gs ++ l) (append-nil g.records)
 
 pub reads_first : (bytes : List ℕ) (old : JournalState) → old.gate + length bytes ≡ 1048576 → 0 < length bytes → old.groups ≡ [] → old.tail ≡ [] → ReadsOn bytes bytes old old
 reads_first bytes old place some groups tail = record {
@@ -174,6 +209,7 @@ reads_first bytes old place some groups tail = record {
   fuel = length bytes;
   enough = omega arith;
   read = ap (λ (gs : List Group). groups_before gs (groups_within (length bytes) old.gate bytes)) groups;
+  front = ap (λ (gs : List Group). records_of gs ++ fronts_within (length bytes) old.gate bytes) groups;
 }
 
 pub reads_group : (bytes rest behind body : List ℕ) (len : ℕ) (old now new : JournalState) → ReadsOn bytes rest old now → is_open 0 rest ≡ true → group_len rest ≡ len → fits_area now.gate len ≡ true → body ≡ take len (drop 5 rest) → behind ≡ drop (5 + len) rest
@@ -188,6 +224,10 @@ reads_group bytes rest behind body len old now new h shown long fits body_is beh
     let step : groups_within h.fuel now.gate rest ≡ group_before g (groups_within less.0 new.gate behind) =
     ap (λ k. groups_within k now.gate rest) less.1 ∙ opened less.0 now.gate rest len (placed_from (now.gate + 5) adds.rs) shown long fits (ap (records_at (now.gate + 5)) (sym body_is) ∙ adds.records)
     ∙ ap (λ p. group_before g (groups_within less.0 p (drop (5 + len) rest))) (sym gate) ∙ ap (λ (l : List ℕ). group_before g (groups_within less.0 new.gate l)) (sym behind_is) in
+    let ahead : fronts_within h.fuel now.gate rest ≡ g.records ++ fronts_within less.0 new.gate behind =
+    ap (λ k. fronts_within k now.gate rest) less.1 ∙ front_opened less.0 now.gate len rest (Ok g.records) shown long fits (ap (records_at (now.gate + 5)) (sym body_is) ∙ adds.records)
+    ∙ ap (λ p. g.records ++ fronts_within less.0 p (drop (5 + len) rest)) (sym gate) ∙ ap (λ (l : List ℕ). g.records ++ fronts_within less.0 new.gate l) (sym behind_is) in
+    let more : records_of new.groups ≡ records_of now.groups ++ g.records = ap records_of adds.groups ∙ records_of-more now.groups g in
     record {
       place = omega arith;
       some = omega arith;
@@ -196,6 +236,7 @@ reads_group bytes rest behind body len old now new h shown long fits body_is beh
       fuel = less.0;
       enough = omega (arith, less.1);
       read = ap (λ (gs : List Group). groups_before gs (groups_within less.0 new.gate behind)) adds.groups ∙ sym (before_one now.groups g (groups_within less.0 new.gate behind)) ∙ ap (groups_before now.groups) (sym step) ∙ h.read;
+      front = ap (λ (l : Records). l ++ fronts_within less.0 new.gate behind) more ∙ append_assoc (records_of now.groups) g.records (fronts_within less.0 new.gate behind) ∙ sym (ap (λ (l : Records). records_of now.groups ++ l) ahead) ∙ h.front;
     }
 
 pub reads_to_gate : (bytes rest : List ℕ) (old now : JournalState) → ReadsOn bytes rest old now → is_open 0 rest ≡ false → groups_within (length bytes) old.gate bytes ≡ Whole now.groups now.gate
@@ -216,6 +257,32 @@ reads_bad_body bytes rest body len place old now h shown long fits body_is bad =
     let less = above h.fuel (omega arith) in
     sym h.read ∙ ap (λ k. groups_before now.groups (groups_within k now.gate rest)) less.1 ∙ ap (groups_before now.groups) (bad_body less.0 now.gate len rest place shown long fits (ap (records_at (now.gate + 5)) (sym body_is) ∙ bad)) ∙ before_none now.groups place
 
+-- what the journal has then
+
+no_tail : (now : JournalState) → now.tail ≡ [] → entries now ≡ records_of now.groups ++ []
+no_tail now none = entries_are now ∙ ap (λ (t : List Record). records_of now.groups ++ placed_from (now.gate + 5) t) none
+
+pub front_to_gate : (bytes rest : List ℕ) (old now : JournalState) → ReadsOn bytes rest old now → is_open 0 rest ≡ false → entries now ≡ fronts_within (length bytes) old.gate bytes
+front_to_gate bytes rest old now h closed = no_tail now h.tail ∙ sym (ap (λ (l : Records). records_of now.groups ++ l) (front_shut h.fuel now.gate rest closed)) ∙ h.front
+
+pub front_to_length : (bytes rest : List ℕ) (old now : JournalState) → ReadsOn bytes rest old now → fits_area now.gate (group_len rest) ≡ false → entries now ≡ fronts_within (length bytes) old.gate bytes
+front_to_length bytes rest old now h bad =
+    let enough = h.enough in
+    let some = h.some in
+    let less = above h.fuel (omega arith) in
+    no_tail now h.tail ∙ sym (ap (λ (l : Records). records_of now.groups ++ l) (ap (λ k. fronts_within k now.gate rest) less.1 ∙ front_bad_length less.0 now.gate rest bad)) ∙ h.front
+
+pub front_to_body : (bytes rest body : List ℕ) (len place : ℕ) (old now new : JournalState) → ReadsOn bytes rest old now → is_open 0 rest ≡ true → group_len rest ≡ len → fits_area now.gate len ≡ true → body ≡ take len (drop 5 rest)
+    → records_at (now.gate + 5) body ≡ Err place → AddsFront (front_at (now.gate + 5) body) now new → entries new ≡ fronts_within (length bytes) old.gate bytes
+front_to_body bytes rest body len place old now new h shown long fits body_is bad adds =
+    let enough = h.enough in
+    let some = h.some in
+    let less = above h.fuel (omega arith) in
+    let ahead : fronts_within h.fuel now.gate rest ≡ front_at (now.gate + 5) body =
+    ap (λ k. fronts_within k now.gate rest) less.1 ∙ front_opened less.0 now.gate len rest (Err place) shown long fits (ap (records_at (now.gate + 5)) (sym body_is) ∙ bad) ∙ ap (front_at (now.gate + 5)) (sym body_is) in
+    entries_are new ∙ ap (λ (gs : List Group). records_of gs ++ placed_from (new.gate + 5) new.tail) adds.groups ∙ ap (λ p. records_of now.groups ++ placed_from (p + 5) new.tail) adds.gate
+    ∙ ap (λ (l : Records). records_of now.groups ++ l) (adds.records ∙ sym ahead) ∙ h.front
+
 -- ---- an area that is read from its start place on
 
 pub area_read : (start len size : ℕ) (device out items bytes : List ℕ) → start < 1048576 → len ≡ 1048576 - start → size ≡ len → length out ≡ size → out ≡ slice_range device (130 + start) (130 + start + size) → bytes ≡ take len (out ++ drop (length out) items)
@@ -231,28 +298,42 @@ area_read start len size device out items bytes lt all same long read kept =
 
 -- ---- which refusal a reading is
 
--- no memory, or what breaks the format
-abbrev pub Tells : Reading → Refusal → Type 0
-Tells read e = (e ≡ R.Memory) ⊎ ((place : ℕ) × (e ≡ R.BadLog place) × (read ≡ BadGroup place)) ⊎ ((place : ℕ) × (e ≡ R.BadRecord place) × (read ≡ NoRecord place))
+pub breaks_log : (e : Refusal) (read : Reading) (at : ℕ) → Breaks read e → e ≡ R.BadLog at → read ≡ BadGroup at
+breaks_log e read at (inl x) is = let place : x.0 ≡ at = cc (x.1, is) in x.2 ∙ ap (λ n. BadGroup n) place
+breaks_log e read at (inr x) is = absurd (cc (x.1, is))
 
-tells_log : (e : Refusal) (read : Reading) (at : ℕ) → Tells read e → e ≡ R.BadLog at → read ≡ BadGroup at
-tells_log e read at (inl lacks) is = absurd (cc)
-tells_log e read at (inr (inl x)) is = let place : x.0 ≡ at = cc (x.1, is) in x.2 ∙ ap (λ n. BadGroup n) place
-tells_log e read at (inr (inr x)) is = absurd (cc (x.1, is))
-
-tells_record : (e : Refusal) (read : Reading) (at : ℕ) → Tells read e → e ≡ R.BadRecord at → read ≡ NoRecord at
-tells_record e read at (inl lacks) is = absurd (cc)
-tells_record e read at (inr (inl x)) is = absurd (cc (x.1, is))
-tells_record e read at (inr (inr x)) is = let place : x.0 ≡ at = cc (x.1, is) in x.2 ∙ ap (λ n. NoRecord n) place
-
-pub told_log : {T : Type 0} (r : Result T Refusal) (read : Reading) (at : ℕ) → IfErr r (Tells read) → r ≡ Err (R.BadLog at) → read ≡ BadGroup at
-told_log r read at err is = tells_log (R.BadLog at) read at (subst (λ q. IfErr q (Tells read)) is err) refl
-
-pub told_record : {T : Type 0} (r : Result T Refusal) (read : Reading) (at : ℕ) → IfErr r (Tells read) → r ≡ Err (R.BadRecord at) → read ≡ NoRecord at
-told_record r read at err is = tells_record (R.BadRecord at) read at (subst (λ q. IfErr q (Tells read)) is err) refl
+pub breaks_record : (e : Refusal) (read : Reading) (at : ℕ) → Breaks read e → e ≡ R.BadRecord at → read ≡ NoRecord at
+breaks_record e read at (inl x) is = absurd (cc (x.1, is))
+breaks_record e read at (inr x) is = let place : x.0 ≡ at = cc (x.1, is) in x.2 ∙ ap (λ n. NoRecord n) place
 
 -- ---- an area in memory
 
 pub in_memory : (start : ℕ) (bytes rest : List ℕ) → rest ≡ drop start bytes → reading start bytes ≡ groups_within (length rest) start rest
 unfolding reading
 in_memory start bytes rest e = ap (λ (l : List ℕ). groups_within (length l) start l) (sym e)
+
+pub front_in_memory : (start : ℕ) (bytes rest : List ℕ) → rest ≡ drop start bytes → front start bytes ≡ fronts_within (length rest) start rest
+unfolding front
+front_in_memory start bytes rest e = ap (λ (l : List ℕ). fronts_within (length l) start l) (sym e)
+
+-- what an area says of its fault
+in_area : (a : Area) (P Q : Refusal → Type 0) → ((e : Refusal) → P e → Q e) → IfBroken a P → IfBroken a Q
+in_area (areas.Whole log) P Q f h = tt
+in_area (areas.Broken front fault) P Q f h = f fault h
+
+in_result : (a : Result Area Memory) (P Q : Refusal → Type 0) → ((e : Refusal) → P e → Q e) → IfOk a (λ read. IfBroken read P) → IfOk a (λ read. IfBroken read Q)
+in_result (Ok a) P Q f h = in_area a P Q f h
+in_result (Err e) P Q f h = tt
+
+pub area_log : (a : Result Area Memory) (r s : Reading) → s ≡ r → IfOk a (λ read. IfBroken read (Breaks r)) → IfOk a (λ read. IfBroken read (λ fault. (at : ℕ) → fault ≡ R.BadLog at → s ≡ BadGroup at))
+area_log a r s e h = in_result a (Breaks r) (λ fault. (at : ℕ) → fault ≡ R.BadLog at → s ≡ BadGroup at) (λ fault b at is. e ∙ breaks_log fault r at b is) h
+
+pub area_record : (a : Result Area Memory) (r s : Reading) → s ≡ r → IfOk a (λ read. IfBroken read (Breaks r)) → IfOk a (λ read. IfBroken read (λ fault. (at : ℕ) → fault ≡ R.BadRecord at → s ≡ NoRecord at))
+area_record a r s e h = in_result a (Breaks r) (λ fault. (at : ℕ) → fault ≡ R.BadRecord at → s ≡ NoRecord at) (λ fault b at is. e ∙ breaks_record fault r at b is) h
+
+breaks_at : (read : Reading) (e : Refusal) → Breaks read e → (at : ℕ) × IsAt e at × (at < 1048576)
+breaks_at read e (inl x) = (x.0, inl x.1, x.3)
+breaks_at read e (inr x) = (x.0, inr x.1, x.3)
+
+pub area_at : (a : Result Area Memory) (r : Reading) → IfOk a (λ read. IfBroken read (Breaks r)) → IfOk a (λ read. IfBroken read (λ fault. (at : ℕ) × IsAt fault at × (at < 1048576)))
+area_at a r h = in_result a (Breaks r) (λ fault. (at : ℕ) × IsAt fault at × (at < 1048576)) (breaks_at r) h

@@ -1,12 +1,12 @@
 -- What stands on a log's device while its tail is forced: its groups, with the tail as one more or without it. It serves the goals of `force`.
-use Rattle.std.proofs.Common.{◌≡◌, ◌≢◌, ◌⊎◌, inl, inr, ℕ, ◌+◌, ◌-◌, ◌<◌, ◌≤◌, Bool, true, false, List, [], ◌∷◌, ◌++◌, length, take, drop, get_or, refl, sym, ap, ◌∙◌, subst, arith, append_assoc, length-append}
+use Rattle.std.proofs.Common.{◌≡◌, ◌≢◌, ◌⊎◌, inl, inr, ℕ, ◌+◌, ◌<◌, ◌≤◌, Bool, true, false, List, [], ◌∷◌, ◌++◌, length, take, drop, get_or, refl, sym, ap, ◌∙◌, subst, arith, append_assoc, length-append}
 use Rattle.std.specs.Prelude.{◌==◌, ◌&&◌, nat_le}
 use Rattle.std.specs.List.{AllByRecursion}
 use Rattle.std.proofs.lemmas.Bool.{le-leb}
-use Rattle.std.proofs.lemmas.List.{drop-drop, drop-take, drop_at, get_or-drop, get_or-take, get_or_at, take-take, take_at}
+use Rattle.std.proofs.lemmas.List.{drop-drop, drop-take, get_or-drop, get_or-take, get_or_at, take-take, take_at}
 use Rattle.sd_base.specs.Twin.{body_at, is_open}
 use Rattle.sd_logrec.specs.declared.record.Record.{Record}
-use Rattle.sd_logrec.specs.Kept.{Group, StandsAt, Whole, area, fits_area, placed_from, reading, spelled}
+use Rattle.sd_logrec.specs.Kept.{StandsAt, Whole, area, fits_area, reading, spelled}
 use Rattle.sd_logrec.specs.Spelling.{HasSpelling, four}
 use Rattle.sd_logrec.proofs.Groups.{gate_closed, group_behind, groups_end}
 use Rattle.sd_logrec.proofs.Lengths.{length-four}

@@ -1,10 +1,10 @@
 -- What crashes leave while bytes are written behind a closed gate, and while it is opened. It serves the goals of filling.rt.
-use Rattle.std.proofs.Common.{◌≡◌, ◌≢◌, ◌⊎◌, inl, inr, ℕ, ◌+◌, ◌<◌, ◌≤◌, true, false, List, [], ◌∷◌, length, take, drop, get_or, sym, ap, ◌∙◌, subst, arith}
+use Rattle.std.proofs.Common.{◌≡◌, ◌≢◌, ◌⊎◌, inl, inr, ℕ, ◌+◌, ◌<◌, ◌≤◌, false, List, [], ◌∷◌, length, take, drop, get_or, sym, ap, ◌∙◌, arith}
 use Rattle.std.specs.Prelude.{◌==◌, Result, Ok, Err, OnOk}
 use Rattle.std.proofs.lemmas.List.{get_or-drop, get_or-take}
 use Rattle.sd_base.specs.Twin.{body_at, is_open}
-use Rattle.sd_rig.specs.Devices.{AgreesOutside, Image, Leaves, LeavesOnly, LeavesSame, overwritten}
-use Rattle.sd_rig.specs.Ranges.{outside_behind, outside_place, outside_same, outside_then, outside_wider, written_part}
+use Rattle.sd_rig.specs.Devices.{AgreesOutside, Image, LeavesSame, overwritten}
+use Rattle.sd_rig.specs.Ranges.{outside_behind, outside_place, outside_then, outside_wider, written_part}
 use Rattle.sd_log.specs.Forces.{Fills, LeavesOthers, Writes}
 
 -- a gate that a write doesn't reach

@@ -1,5 +1,5 @@
 -- A record that comes into a journal, and a tail that becomes a group. It serves the goals of journal.rt.
-use Rattle.std.proofs.Common.{◌≡◌, ◌⊎◌, inl, inr, ℕ, ◌+◌, ◌-◌, ◌<◌, ◌≤◌, max, true, false, List, [], ◌∷◌, ◌++◌, length, take, drop, refl, sym, ap, ◌∙◌, subst, arith, length-append, length-drop, vec_len, vec_capacity}
+use Rattle.std.proofs.Common.{◌≡◌, inl, inr, ℕ, ◌+◌, ◌-◌, ◌<◌, ◌≤◌, max, true, false, List, [], ◌∷◌, ◌++◌, length, take, drop, refl, sym, ap, ◌∙◌, subst, arith, length-drop, vec_len, vec_capacity}
 use Rattle.std.specs.Prelude.{map}
 use Rattle.std.specs.Global.{Vec}
 use Rattle.std.proofs.lemmas.List.{drop-append-le, length-map, length-take-le, map-append, take-append-le, take_all}
@@ -83,7 +83,7 @@ settled_groups j v w m len h s =
     ap (λ (ms : List Mark). grouped j.start ms (take (vec_len v) v.items)) s.marks_is ∙ ap (grouped j.start (j.marks.items ++ m ∷ [])) (all_of j v w m len s)
     ∙ grouped-more j.start j.marks.items m front back (sym h.count ∙ sym (front_len j h)) (s.count_is ∙ sym (back_len j))
     ∙ ap (λ at. grouped j.start j.marks.items front ++ record { at = at; records = map entry back } ∷ []) (sym h.gate_is)
-    ∙ ap (λ (l : Records). grouped j.start j.marks.items front ++ record { at = j.gate; records = l } ∷ []) (ap (map entry) (tail_forced j h) ∙ entry-all rs)
+    ∙ ap (λ (l : Records). grouped j.start j.marks.items front ++ record { at = j.gate; records = l } ∷ []) (ap (map entry) (tail_forced j h) ∙ entry-all true rs)
 
 pub settled_is : (j : Inside) (v : Vec Placed) (w : Vec Mark) (m : Mark) (len : ℕ) → IsJournal j → Settles j v w m len
     → IsJournal (record { start = j.start; gate = j.gate + 5 + len; marks = w; placed = v; forced = vec_len v; room = j.room })

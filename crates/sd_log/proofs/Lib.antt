@@ -1,4 +1,5 @@
 pub mod Forcing
+pub mod Fronts
 pub mod Gates
 pub mod Journaling
 pub mod Parted

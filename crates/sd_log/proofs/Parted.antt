@@ -1,7 +1,6 @@
 -- Lists of records parted by marks, and one more group behind them. It serves the goals of journal.rt.
-use Rattle.std.proofs.Common.{◌≡◌, ◌≢◌, ◌⊎◌, inl, inr, ℕ, zero, suc, ◌+◌, ◌-◌, ◌<◌, ◌≤◌, max, true, false, List, [], ◌∷◌, ◌++◌, length, take, drop, get_or, set, refl, sym, ap, ◌∙◌, subst, arith, append_assoc, length-append, length-drop}
-use Rattle.std.specs.Prelude.{Option, Some, None, map, slice_get}
-use Rattle.std.specs.List.{AllByRecursion, flat_map}
+use Rattle.std.proofs.Common.{◌≡◌, ℕ, zero, suc, ◌+◌, ◌-◌, ◌<◌, ◌≤◌, max, Bool, true, false, List, [], ◌∷◌, ◌++◌, length, take, drop, get_or, set, refl, sym, ap, ◌∙◌, subst, arith, append_assoc, length-append, length-drop}
+use Rattle.std.specs.Prelude.{Some, map, slice_get}
 use Rattle.std.proofs.lemmas.List.{append-nil, drop-append-le, get_or-drop, get_or_at, length-map, length-take-le, map-append, take-append-le}
 use Rattle.std.proofs.lemmas.Grind.{flat_map-append}
 use Rattle.std.proofs.Math.Seq.{drop-cons, set-append_seam, take-length, take-suc}
@@ -10,7 +9,6 @@ use Rattle.sd_logrec.specs.Kept.{Group, Records, placed_from, spelled}
 use Rattle.sd_logrec.specs.Spelling.{spelling}
 use Rattle.sd_log.specs.declared.placed.Placed.{Placed}
 use Rattle.sd_log.specs.declared.journal.Mark.{Mark}
-use Rattle.sd_log.specs.Journals.{record_of}
 use Rattle.sd_log.specs.Logs.{lsn_of, placed, placed_groups, placed_tail}
 use Rattle.sd_log.specs.Marks.{AreMarks, as_forced, counted, end_of, entry, greatest_lsn, grouped, high_of}
 
@@ -77,9 +75,9 @@ pub as_forced-all : (rs : Records) → map as_forced (map (placed false) rs) ≡
 as_forced-all [] = refl
 as_forced-all (r ∷ rs) = ap (λ (l : List Placed). placed true r ∷ l) (as_forced-all rs)
 
-pub entry-all : (rs : Records) → map entry (map (placed true) rs) ≡ rs
-entry-all [] = refl
-entry-all (r ∷ rs) = ap (λ (l : Records). (r.0, r.1) ∷ l) (entry-all rs)
+pub entry-all : (is_forced : Bool) (rs : Records) → map entry (map (placed is_forced) rs) ≡ rs
+entry-all is_forced [] = refl
+entry-all is_forced (r ∷ rs) = ap (λ (l : Records). (r.0, r.1) ∷ l) (entry-all is_forced rs)
 
 pub placed_groups-more : (gs : List Group) (g : Group) → placed_groups (gs ++ g ∷ []) ≡ placed_groups gs ++ map (placed true) g.records
 placed_groups-more gs g = flat_map-append (λ (x : Group). map (placed true) x.records) gs (g ∷ []) ∙ ap (λ (l : List Placed). placed_groups gs ++ l) (append-nil (map (placed true) g.records))

@@ -1,26 +1,25 @@
--- The records that are read have a spelling. It serves the goals of `read_from`.
-use Rattle.std.proofs.Common.{◌≡◌, ℕ, zero, suc, ◌+◌, Bool, true, false, cond, List, [], ◌∷◌, ◌++◌, length, take, drop, refl, sym, ap, ◌∙◌, subst}
+-- The records that are read have a spelling. It serves the goals of log.rt.
+use Rattle.std.proofs.Common.{◌≡◌, ℕ, zero, suc, ◌+◌, Bool, true, false, List, [], ◌∷◌, ◌++◌, length, take, drop, refl, sym, ap, ◌∙◌, subst}
 use Rattle.std.specs.Prelude.{Result, Ok, Err, Option, Some, None, map}
 use Rattle.std.specs.List.{AllByRecursion}
-use Rattle.std.proofs.lemmas.List.Elements.{All-append, All-from_recursion, All-map, All-nil, All-same}
-use Rattle.std.proofs.lemmas.List.{append-nil}
+use Rattle.std.proofs.lemmas.List.Elements.{All-from_recursion}
 use Rattle.sd_base.specs.Twin.{is_open}
 use Rattle.sd_logrec.specs.declared.record.Record.{Record}
-use Rattle.sd_logrec.specs.Kept.{BadGroup, Group, NoRecord, Reading, Records, Whole, fits_area, group_len, group_then, groups_within, record_before, record_then, records_at, records_within}
+use Rattle.sd_logrec.specs.Fronts.{front_at, front_then, front_within, fronts_within}
+use Rattle.sd_logrec.specs.Kept.{Records, fits_area, group_len, record_before, record_then, records_at, records_within}
 use Rattle.sd_logrec.specs.Reading.{record_at}
 use Rattle.sd_logrec.specs.Spelling.{HasSpelling, spelling}
 use Rattle.sd_logrec.proofs.Formats.{IsBytes, IsBytes-drop, IsBytes-take}
 use Rattle.sd_logrec.proofs.Records.{record_takes}
 use Rattle.std.proofs.lemmas.List.{drop_at}
 use Rattle.sd_log.specs.declared.placed.Placed.{Placed}
-use Rattle.sd_log.specs.Logs.{AreSpelled, placed, placed_groups, placed_tail}
+use Rattle.sd_log.specs.Logs.{AreSpelled}
+use Rattle.sd_log.specs.Marks.{entry}
+use Rattle.sd_log.proofs.Fronts.{step}
 
 -- placed records of the grammar
 abbrev pub Spelled : Records → Type 0
 Spelled rs = AllByRecursion (λ r. HasSpelling r.1) rs
-
-abbrev pub SpelledGroups : List Group → Type 0
-SpelledGroups groups = AllByRecursion (λ g. Spelled g.records) groups
 
 -- what made whole records: the first one, and those behind it
 record Front (at : ℕ) (o : Option (Record × List ℕ)) (behind : ℕ → List ℕ → Result Records ℕ) (rs : Records) : Type 0 where
@@ -54,38 +53,48 @@ within_spelled (suc n) at (b ∷ body) rs are e =
     let more : Spelled f.more = within_spelled n (at + length (spelling f.first.0)) f.first.1 f.more (behind_bytes (spelling f.first.0) f.first.1 (b ∷ body) t.0 are) f.rest in
     subst Spelled (sym f.all) (t.1, more)
 
--- one step of whole groups
-step_spelled : (o f : Bool) (at : ℕ) (r : Result Records ℕ) (behind : Reading) (groups : List Group) (gate : ℕ) → cond o (cond f (group_then at r behind) (BadGroup at)) (Whole [] at) ≡ Whole groups gate
-    → ((rs : Records) → r ≡ Ok rs → Spelled rs) → ((more : List Group) → behind ≡ Whole more gate → SpelledGroups more) → SpelledGroups groups
-step_spelled false f at r behind groups gate e records more = let none : groups ≡ [] = cc in subst SpelledGroups (sym none) tt
-step_spelled true false at r behind groups gate e records more = absurd (cc)
-step_spelled true true at (Err place) behind groups gate e records more = absurd (cc)
-step_spelled true true at (Ok rs) (BadGroup place) groups gate e records more = absurd (cc)
-step_spelled true true at (Ok rs) (NoRecord place) groups gate e records more = absurd (cc)
-step_spelled true true at (Ok rs) (Whole others end) groups gate e records more =
-    let same : end ≡ gate = cc in
-    let all : groups ≡ record { at = at; records = rs } ∷ others = cc in
-    subst SpelledGroups (sym all) (records rs refl, more others (ap (Whole others) same))
+-- ---- in front of what breaks the format
 
-groups_spelled : (n at : ℕ) (bytes : List ℕ) (groups : List Group) (gate : ℕ) → IsBytes bytes → groups_within n at bytes ≡ Whole groups gate → SpelledGroups groups
-unfolding groups_within
-groups_spelled zero at bytes groups gate are e = let none : groups ≡ [] = cc in subst SpelledGroups (sym none) tt
-groups_spelled (suc n) at bytes groups gate are e =
+then_spelled : (at : ℕ) (o : Option (Record × List ℕ)) (behind : ℕ → List ℕ → Records) → ((x : Record × List ℕ) → o ≡ Some x → HasSpelling x.0 × Spelled (behind (at + length (spelling x.0)) x.1)) → Spelled (front_then at o behind)
+then_spelled at None behind h = tt
+then_spelled at (Some x) behind h = h x refl
+
+front_spelled : (n at : ℕ) (body : List ℕ) → IsBytes body → Spelled (front_within n at body)
+unfolding front_within
+front_spelled n at [] are = tt
+front_spelled zero at (b ∷ body) are = tt
+front_spelled (suc n) at (b ∷ body) are =
+    let each : (x : Record × List ℕ) → record_at (b ∷ body) ≡ Some x → HasSpelling x.0 × Spelled (front_within n (at + length (spelling x.0)) x.1) = λ x found.
+    let t = record_takes (b ∷ body) x are found in
+    (t.1, front_spelled n (at + length (spelling x.0)) x.1 (behind_bytes (spelling x.0) x.1 (b ∷ body) t.0 are)) in
+    then_spelled at (record_at (b ∷ body)) (front_within n) each
+
+both_spelled : (rs qs : Records) → Spelled rs → Spelled qs → Spelled (rs ++ qs)
+both_spelled [] qs f g = g
+both_spelled (r ∷ rs) qs f g = (f.0, both_spelled rs qs f.1 g)
+
+step_spelled : (o f : Bool) (r : Result Records ℕ) (front behind : Records) → ((rs : Records) → r ≡ Ok rs → Spelled rs) → Spelled front → Spelled behind → Spelled (step o f r front behind)
+step_spelled false f r front behind records first more = tt
+step_spelled true false r front behind records first more = tt
+step_spelled true true (Err place) front behind records first more = first
+step_spelled true true (Ok rs) front behind records first more = both_spelled rs behind (records rs refl) more
+
+fronts_spelled : (n at : ℕ) (bytes : List ℕ) → IsBytes bytes → Spelled (fronts_within n at bytes)
+unfolding fronts_within
+fronts_spelled zero at bytes are = tt
+fronts_spelled (suc n) at bytes are =
     let len : ℕ = group_len bytes in
-    step_spelled (is_open 0 bytes) (fits_area at len) at (records_at (at + 5) (take len (drop 5 bytes))) (groups_within n (at + 5 + len) (drop (5 + len) bytes)) groups gate e
-    (λ rs is. within_spelled (length (take len (drop 5 bytes))) (at + 5) (take len (drop 5 bytes)) rs (IsBytes-take len (drop 5 bytes) (IsBytes-drop 5 bytes are)) is)
-    (λ more is. groups_spelled n (at + 5 + len) (drop (5 + len) bytes) more gate (IsBytes-drop (5 + len) bytes are) is)
+    let body : List ℕ = take len (drop 5 bytes) in
+    let bytes_of : IsBytes body = IsBytes-take len (drop 5 bytes) (IsBytes-drop 5 bytes are) in
+    step_spelled (is_open 0 bytes) (fits_area at len) (records_at (at + 5) body) (front_at (at + 5) body) (fronts_within n (at + 5 + len) (drop (5 + len) bytes))
+    (λ rs is. within_spelled (length body) (at + 5) body rs bytes_of is)
+    (front_spelled (length body) (at + 5) body bytes_of)
+    (fronts_spelled n (at + 5 + len) (drop (5 + len) bytes) (IsBytes-drop (5 + len) bytes are))
 
-placed_spelled : (groups : List Group) → SpelledGroups groups → AreSpelled (placed_groups groups)
-placed_spelled [] h = All-nil (λ (p : Placed). HasSpelling p.rec)
-placed_spelled (g ∷ groups) h =
-    All-append (λ (p : Placed). HasSpelling p.rec) (map (placed true) g.records) (placed_groups groups)
-    (All-map (λ (p : Placed). HasSpelling p.rec) (placed true) g.records (All-from_recursion (λ r. HasSpelling r.1) g.records h.0))
-    (placed_spelled groups h.1)
+each_spelled : (ps : List Placed) → Spelled (map entry ps) → AllByRecursion (λ (p : Placed). HasSpelling p.rec) ps
+each_spelled [] h = tt
+each_spelled (p ∷ ps) h = (h.0, each_spelled ps h.1)
 
--- with no tail
-pub read_spelled : (n at : ℕ) (bytes : List ℕ) (groups : List Group) (gate : ℕ) (tail : List Record) → IsBytes bytes → groups_within n at bytes ≡ Whole groups gate → tail ≡ [] → AreSpelled (placed_groups groups ++ placed_tail gate tail)
-read_spelled n at bytes groups gate tail are e none =
-    All-same (λ (p : Placed). HasSpelling p.rec) (placed_groups groups ++ placed_tail gate tail) (placed_groups groups)
-    (ap (λ (rs : List Record). placed_groups groups ++ placed_tail gate rs) none ∙ append-nil (placed_groups groups))
-    (placed_spelled groups (groups_spelled n at bytes groups gate are e))
+-- records in memory that were read
+pub read_spelled : (n at : ℕ) (bytes : List ℕ) (ps : List Placed) → IsBytes bytes → map entry ps ≡ fronts_within n at bytes → AreSpelled ps
+read_spelled n at bytes ps are e = All-from_recursion (λ (p : Placed). HasSpelling p.rec) ps (each_spelled ps (subst Spelled (sym e) (fronts_spelled n at bytes are)))

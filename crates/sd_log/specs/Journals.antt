@@ -1,7 +1,6 @@
 -- What contracts see of the records of a log in memory.
-use Rattle.std.specs.Prelude.{◌≡◌, ℕ, ◌+◌, ◌<◌, ◌≤◌, List, ◌++◌, take, drop, map, vec_len, vec_capacity}
+use Rattle.std.specs.Prelude.{◌≡◌, ◌+◌, ◌<◌, ◌≤◌, take, drop, map, vec_len, vec_capacity}
 use Rattle.sd_logrec.specs.declared.record.Record.{Record}
-use Rattle.sd_logrec.specs.Kept.{Group}
 use Rattle.sd_log.specs.declared.placed.Placed.{Placed}
 use Rattle.sd_log.specs.declared.journal.Journal.TheInside.{Inside}
 use Rattle.sd_log.specs.Logs.{placed_groups, placed_tail}

@@ -1,3 +1,4 @@
+pub mod Areas
 pub mod Buffers
 pub mod Forces
 pub mod JournalStates

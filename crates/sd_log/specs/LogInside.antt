@@ -1,5 +1,5 @@
 -- What is inside a log, and what it stands for.
-use Rattle.std.specs.Prelude.{◌≡◌, ℕ, ◌+◌, ◌*◌, ◌<◌, ◌≤◌, length}
+use Rattle.std.specs.Prelude.{◌≡◌, ◌+◌, ◌*◌, ◌<◌, ◌≤◌, length}
 use Rattle.std.specs.List.{AllByRecursion}
 use Rattle.sd_logrec.specs.Kept.{spelled}
 use Rattle.sd_logrec.specs.Spelling.{HasSpelling}

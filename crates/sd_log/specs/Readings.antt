@@ -1,8 +1,10 @@
 -- What reading a body adds to a journal.
-use Rattle.std.specs.Prelude.{◌≡◌, ℕ, ◌+◌, List, [], ◌∷◌, ◌++◌, length, Result, Ok}
+use Rattle.std.specs.Prelude.{◌≡◌, ℕ, ◌+◌, List, [], ◌∷◌, ◌++◌, length, map, Result, Ok}
 use Rattle.sd_logrec.specs.declared.record.Record.{Record}
 use Rattle.sd_logrec.specs.Kept.{Records, placed_from, spelled}
 use Rattle.sd_log.specs.JournalStates.{JournalState}
+use Rattle.sd_log.specs.Logs.{placed_groups, placed_tail}
+use Rattle.sd_log.specs.Marks.{entry}
 
 -- The tail has the records that are read of a body of this length.
 pub record AddsRecords (read : Result Records ℕ) (len : ℕ) (old new : JournalState) : Type 0 where
@@ -20,3 +22,13 @@ pub record AddsGroup (read : Result Records ℕ) (len : ℕ) (old new : JournalS
   pub groups : new.groups ≡ old.groups ++ record { at = old.gate; records = placed_from (old.gate + 5) rs } ∷ []
   pub tail : new.tail ≡ []
   pub records : read ≡ Ok (placed_from (old.gate + 5) rs)
+
+-- The tail has the records in front of what breaks a body.
+pub record AddsFront (front : Records) (old new : JournalState) : Type 0 where
+  pub gate : new.gate ≡ old.gate
+  pub groups : new.groups ≡ old.groups
+  pub records : placed_from (old.gate + 5) new.tail ≡ front
+
+-- the records of a journal, each with its place
+abbrev pub entries : JournalState → Records
+entries j = map entry (placed_groups j.groups ++ placed_tail j.gate j.tail)

@@ -73,6 +73,13 @@ impl Journal {
         &self.placed
     }
 
+    /// All records in their order, and the journal no more.
+    pub fn into_placed(self) -> Vec<Placed>
+        ensures { result.items ≡ placed_groups self.groups ++ placed_tail self.gate self.tail }
+    {
+        self.placed
+    }
+
     /// The LSN of the last record, or 0.
     pub fn last_lsn(&self) -> Lsn
         ensures { result ≡ last_lsn (placed_groups self.now.groups ++ placed_tail self.now.gate self.now.tail) }

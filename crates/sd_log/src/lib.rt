@@ -5,9 +5,9 @@
 //! Keeps: a closed gate stands behind the last group that is forced; no group passes the area's end.
 //! Promises: a crash at any moment of `force` leaves the log with its tail or without it (`any_moment`), and with it
 //! after `Ok` (`stands`, `durable`); `read_in` answers what the device stands for, and `of_area` what an area in memory
-//! does (`whole`, `bad_log`, `bad_record`).
-//! Refuses: `LogFull` in `append`; `BadLog` and `BadRecord` in `read_in` and `of_area`; `Failed` only where the rig's count
-//! of faults rose.
+//! does (`whole`, `bad_log`, `bad_record`), with the records in front of what breaks the format (`front`).
+//! Refuses: `LogFull` in `append`; `BadLog` and `BadRecord` in `read_in`, and as what `of_area` found; `Failed` only where
+//! the rig's count of faults rose.
 //! Knows nothing of: pages, transactions, other logs, which record may follow which.
 //! Stands on: sd_base, sd_rig, sd_logrec.
 //! Held by the caller: a crash leaves of the device what it reads, and the log's groups stand there (`force`).
@@ -18,6 +18,7 @@
 //! - frozen: the bytes of a group, and the calls of a force in their order (docs/FORMATS.md)
 #![tactic(auto)]
 
+mod area;
 mod buffer;
 mod filling;
 mod journal;
@@ -25,6 +26,7 @@ mod log;
 mod placed;
 mod reading;
 
+pub use area::Area;
 pub use log::Log;
 pub use placed::Placed;
 

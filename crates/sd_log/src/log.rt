@@ -1,14 +1,18 @@
 //! The log of an instance: its calls.
 
-ghost use Rattle.std.specs.Prelude.{◌≡◌, ◌≢◌, ◌⊎◌, ◌↔◌, [], ◌∷◌, ◌++◌, ℕ, ◌+◌, ◌-◌, ◌^◌, ◌<◌, ◌≤◌, false, true, max, if◌then◌else◌, length, Err, Ok, IsOk, IfErr, IfOk, OnErr, OnOk};
+ghost use Rattle.std.specs.Prelude.{◌≡◌, ◌≢◌, ◌⊎◌, ◌↔◌, [], ◌∷◌, ◌++◌, ℕ, ◌+◌, ◌-◌, ◌^◌, ◌<◌, ◌≤◌, false, true, max, if◌then◌else◌, length, map, Err, Ok, IsOk, IfErr, IfOk, OnErr, OnOk};
 ghost use Rattle.sd_base.specs.Streams.{Rises};
 ghost use Rattle.sd_base.specs.declared.refusal.Refusal.TheVariants as R;
+ghost use Rattle.sd_logrec.specs.Fronts.{front, fronts_within};
 ghost use Rattle.sd_logrec.specs.Kept.{BadGroup, NoRecord, Whole, area, groups_within, reading};
 ghost use Rattle.sd_logrec.specs.Spelling.{HasSpelling, spelling};
 ghost use Rattle.sd_rig.specs.Devices.{AgreesOutside, Elapses, IsUnchanged, LeavesOnly, LeavesSame, Span};
+ghost use Rattle.sd_log.specs.Areas.{Breaks, IfBroken, IfWhole, IsAt, read_of};
 ghost use Rattle.sd_log.specs.Forces.{Forces, StandsEither, forced_at, forced_len};
 ghost use Rattle.sd_log.specs.Logs.{AreSpelled, IsStartFor, StandsOn, forced, is_reserved, last_lsn, needed, scanned, with_record, without_tail};
+ghost use Rattle.sd_log.specs.Marks.{entry};
 
+use crate::area::Area;
 use crate::buffer::Buffer;
 use crate::journal::Journal;
 use crate::placed::Placed;
@@ -58,6 +62,7 @@ impl Log {
     ) -> Result<Log, Refusal>
         requires { start < 1048576 }
         ensures whole { IfOk result (λ log. reading start (area (G.seen rig.old inst)) ≡ Whole log.groups log.gate) }
+        ensures spelled { IfOk result (λ log. AreSpelled (scanned log)) }
         ensures inst { IfOk result (λ log. log.inst ≡ inst) }
         ensures start { IfOk result (λ log. log.start ≡ start) }
         ensures tail { IfOk result (λ log. log.tail ≡ []) }
@@ -74,24 +79,29 @@ impl Log {
     {
         let mut bytes = Vec::from_elem(alloc, 0u8, AREA_LEN - start as usize)?;
         rig.read(inst.get(), AREA + start, &mut bytes)?;
-        read_from(alloc, inst, start, &bytes)
+        match read_from(alloc, inst, start, &bytes)? {
+            Area::Whole(log) => Ok(log),
+            Area::Broken { fault, .. } => Err(fault),
+        }
     }
 
     /// Reads the groups of an area that stands in memory, from the place `start` on, as the instance's log.
     ///
-    /// `BadLog` and `BadRecord` come as in `read_in`.
-    pub fn of_area(alloc: Global, inst: InstNo, start: u32, area: &[u8]) -> Result<Log, Refusal>
+    /// `BadLog` and `BadRecord` are what breaks the format exactly where they come in `read_in`; the records in front of
+    /// that place are handed out then.
+    pub fn of_area(alloc: Global, inst: InstNo, start: u32, area: &[u8]) -> Result<Area, Memory>
         requires length { length area.now ≡ 1048576 }
         requires start { start < 1048576 }
-        ensures whole { IfOk result (λ log. reading start area.now ≡ Whole log.groups log.gate) }
-        ensures spelled { IfOk result (λ log. AreSpelled (scanned log)) }
-        ensures inst { IfOk result (λ log. log.inst ≡ inst) }
-        ensures start { IfOk result (λ log. log.start ≡ start) }
-        ensures tail { IfOk result (λ log. log.tail ≡ []) }
+        ensures whole { IfOk result (λ read. IfWhole read (λ log. reading start area.now ≡ Whole log.groups log.gate)) }
+        ensures front { IfOk result (λ read. map entry (read_of read) ≡ front start area.now) }
+        ensures spelled { IfOk result (λ read. AreSpelled (read_of read)) }
+        ensures inst { IfOk result (λ read. IfWhole read (λ log. log.inst ≡ inst)) }
+        ensures start { IfOk result (λ read. IfWhole read (λ log. log.start ≡ start)) }
+        ensures tail { IfOk result (λ read. IfWhole read (λ log. log.tail ≡ [])) }
 
-        ensures bad_log { (at : ℕ) → result ≡ Err (R.BadLog at) → reading start area.now ≡ BadGroup at }
-        ensures bad_record { (at : ℕ) → result ≡ Err (R.BadRecord at) → reading start area.now ≡ NoRecord at }
-        ensures refusals { IfErr result (λ e. (e ≡ R.Memory) ⊎ ((at : ℕ) × (e ≡ R.BadLog at)) ⊎ ((at : ℕ) × (e ≡ R.BadRecord at))) }
+        ensures bad_log { IfOk result (λ read. IfBroken read (λ fault. (at : ℕ) → fault ≡ R.BadLog at → reading start area.now ≡ BadGroup at)) }
+        ensures bad_record { IfOk result (λ read. IfBroken read (λ fault. (at : ℕ) → fault ≡ R.BadRecord at → reading start area.now ≡ NoRecord at)) }
+        ensures refusals { IfOk result (λ read. IfBroken read (λ fault. (at : ℕ) × IsAt fault at × (at < 1048576))) }
     {
         let (_, bytes) = area.split_at(start as usize);
         read_from(alloc, inst, start, bytes)
@@ -226,28 +236,34 @@ impl Log {
     }
 }
 
-// The log of an area of which these bytes stand from the place `start` on.
-fn read_from(alloc: Global, inst: InstNo, start: u32, bytes: &[u8]) -> Result<Log, Refusal>
+// What is read of an area of which these bytes stand from the place `start` on.
+fn read_from(alloc: Global, inst: InstNo, start: u32, bytes: &[u8]) -> Result<Area, Memory>
     requires place { start + length bytes.now ≡ AREA_LEN }
     requires some { 0 < length bytes.now }
-    ensures whole { IfOk result (λ log. groups_within (length bytes.now) start bytes.now ≡ Whole log.groups log.gate) }
-    ensures spelled { IfOk result (λ log. AreSpelled (scanned log)) }
-    ensures inst { IfOk result (λ log. log.inst ≡ inst) }
-    ensures start { IfOk result (λ log. log.start ≡ start) }
-    ensures tail { IfOk result (λ log. log.tail ≡ []) }
-    ensures err { IfErr result (λ e. (e ≡ R.Memory)
-        ⊎ ((place : ℕ) × (e ≡ R.BadLog place) × (groups_within (length bytes.now) start bytes.now ≡ BadGroup place))
-        ⊎ ((place : ℕ) × (e ≡ R.BadRecord place) × (groups_within (length bytes.now) start bytes.now ≡ NoRecord place))) }
+    ensures whole { IfOk result (λ read. IfWhole read (λ log. groups_within (length bytes.now) start bytes.now ≡ Whole log.groups log.gate)) }
+    ensures front { IfOk result (λ read. map entry (read_of read) ≡ fronts_within (length bytes.now) start bytes.now) }
+    ensures spelled { IfOk result (λ read. AreSpelled (read_of read)) }
+    ensures inst { IfOk result (λ read. IfWhole read (λ log. log.inst ≡ inst)) }
+    ensures start { IfOk result (λ read. IfWhole read (λ log. log.start ≡ start)) }
+    ensures tail { IfOk result (λ read. IfWhole read (λ log. log.tail ≡ [])) }
+    ensures broken { IfOk result (λ read. IfBroken read (λ fault. Breaks (groups_within (length bytes.now) start bytes.now) fault)) }
 {
     let mut journal = Journal::new(alloc, start);
-    read_groups(alloc, &mut journal, bytes)?;
+    match read_groups(alloc, &mut journal, bytes) {
+        Ok(()) => {}
+        Err(fault @ (Refusal::BadLog { .. } | Refusal::BadRecord { .. })) => {
+            let front = journal.into_placed();
+            return Ok(Area::Broken { front, fault });
+        }
+        Err(_) => return Err(Memory),
+    }
     let tail = Buffer::new(alloc)?;
-    Ok(Log {
+    Ok(Area::Whole(Log {
         inst,
         journal,
         tail,
         spare: 0,
-    })
+    }))
 }
 
 // How much is to spare behind a record of `len` bytes.

@@ -3,9 +3,11 @@
 ghost use Rattle.std.specs.Prelude.{◌≡◌, ◌≢◌, ◌⊎◌, [], ◌∷◌, ◌++◌, ℕ, ◌+◌, ◌^◌, ◌<◌, ◌≤◌, false, true, Err, Ok, length, IfErr, MatchOption, OnOk};
 ghost use Rattle.sd_base.specs.declared.refusal.Refusal.TheVariants as R;
 ghost use Rattle.sd_base.specs.Twin.{is_open};
+ghost use Rattle.sd_logrec.specs.Fronts.{front_at, fronts_within};
 ghost use Rattle.sd_logrec.specs.Kept.{BadGroup, NoRecord, Whole, fits_area, group_len, groups_within, placed_from, records_at, spelled};
+ghost use Rattle.sd_log.specs.Areas.{Breaks};
 ghost use Rattle.sd_log.specs.JournalStates.{JournalState};
-ghost use Rattle.sd_log.specs.Readings.{AddsRecords, AddsGroup};
+ghost use Rattle.sd_log.specs.Readings.{AddsFront, AddsRecords, AddsGroup, entries};
 
 use crate::filling::OPEN;
 use crate::journal::Journal;
@@ -51,12 +53,13 @@ fn group_len(bytes: &[u8], at: usize) -> Option<usize>
     Some(len)
 }
 
-// Puts the records of a body at the end of the tail.
+// Puts the records of a body at the end of the tail, up to where none starts.
 fn read_records(alloc: Global, journal: &mut Journal, body: &[u8]) -> Result<(), Refusal>
     requires place { journal.old.gate + 5 + length body.now < 2 ^ 32 }
     requires tail { journal.old.tail ≡ [] }
     ensures ok { OnOk result (AddsRecords (records_at (journal.old.gate + 5) body.now) (length body.now) journal.old journal.new) }
-    ensures err { IfErr result (λ e. (e ≡ R.Memory) ⊎ ((place : ℕ) × (e ≡ R.BadRecord place) × (records_at (journal.old.gate + 5) body.now ≡ Err place))) }
+    ensures err { IfErr result (λ e. (e ≡ R.Memory) ⊎ ((place : ℕ) × (e ≡ R.BadRecord place) × (records_at (journal.old.gate + 5) body.now ≡ Err place)
+        × (place < journal.old.gate + 5 + length body.now) × AddsFront (front_at (journal.old.gate + 5) body.now) journal.old journal.new)) }
 {
     let place = journal.gate() as usize + GROUP_HEAD;
     let mut at = 0;
@@ -83,14 +86,16 @@ fn read_group(alloc: Global, journal: &mut Journal, body: &[u8]) -> Result<(), R
     requires some { 0 < length body.now }
     requires tail { journal.old.tail ≡ [] }
     ensures ok { OnOk result (AddsGroup (records_at (journal.old.gate + 5) body.now) (length body.now) journal.old journal.new) }
-    ensures err { IfErr result (λ e. (e ≡ R.Memory) ⊎ ((place : ℕ) × (e ≡ R.BadRecord place) × (records_at (journal.old.gate + 5) body.now ≡ Err place))) }
+    ensures err { IfErr result (λ e. (e ≡ R.Memory) ⊎ ((place : ℕ) × (e ≡ R.BadRecord place) × (records_at (journal.old.gate + 5) body.now ≡ Err place)
+        × (place < journal.old.gate + 5 + length body.now) × AddsFront (front_at (journal.old.gate + 5) body.now) journal.old journal.new)) }
 {
     read_records(alloc, journal, body)?;
     journal.settle(body.len() as u32);
     Ok(())
 }
 
-/// Reads the groups of an area from the journal's gate on, where it has nothing yet, up to a closed gate.
+/// Reads the groups of an area from the journal's gate on, where it has nothing yet, up to a closed gate, or up to what
+/// breaks the format.
 pub fn read_groups(alloc: Global, journal: &mut Journal, bytes: &[u8]) -> Result<(), Refusal>
     requires place { journal.old.gate + length bytes.now ≡ AREA_LEN }
     requires some { 0 < length bytes.now }
@@ -100,9 +105,9 @@ pub fn read_groups(alloc: Global, journal: &mut Journal, bytes: &[u8]) -> Result
     ensures start { OnOk result (journal.new.start ≡ journal.old.start) }
     ensures tail { OnOk result (journal.new.tail ≡ []) }
     ensures gate { OnOk result (journal.new.gate < AREA_LEN) }
-    ensures err { IfErr result (λ e. (e ≡ R.Memory)
-        ⊎ ((place : ℕ) × (e ≡ R.BadLog place) × (groups_within (length bytes.now) journal.old.gate bytes.now ≡ BadGroup place))
-        ⊎ ((place : ℕ) × (e ≡ R.BadRecord place) × (groups_within (length bytes.now) journal.old.gate bytes.now ≡ NoRecord place))) }
+    ensures err { IfErr result (λ e. (e ≡ R.Memory) ⊎ (Breaks (groups_within (length bytes.now) journal.old.gate bytes.now) e
+        × (entries journal.new ≡ fronts_within (length bytes.now) journal.old.gate bytes.now))) }
+    ensures front { OnOk result (entries journal.new ≡ fronts_within (length bytes.now) journal.old.gate bytes.now) }
 {
     let mut rest = bytes;
     while is_open(rest) {

@@ -277,17 +277,52 @@ fn a_tail_is_told_with_its_places_and_dropped(rt: HostRuntime) -> Result<(), Fai
     Ok(())
 }
 
+// Whether the area is a log of these records, with the next gate at this place.
+fn is_log(read: &Area, places: &[(u32, bool)], gate: u32) -> bool {
+    match read {
+        Area::Whole(log) => are_at(log, places) && log.gate() == gate,
+        Area::Broken { .. } => false,
+    }
+}
+
+// Whether the area breaks the format so, with records at these places before.
+fn is_broken(read: &Area, places: &[u32], told: Told) -> bool {
+    let Area::Broken { front, fault } = read else {
+        return false;
+    };
+    let same = match (fault, told) {
+        (Refusal::BadLog { at }, Told::BadLog(place)) => *at == place as u64,
+        (Refusal::BadRecord { at }, Told::BadRecord(place)) => *at == place as u64,
+        _ => false,
+    };
+    same && front.len() == places.len() && front.iter().zip(places).all(|(p, q)| p.place == *q)
+}
+
 #[test]
 fn an_area_in_memory_is_read_from_its_start_place_on(rt: HostRuntime) -> Result<(), Fail> {
     let inst = first_inst()?;
     let mut area = Vec::from_slice(rt.alloc(), &LOG)?;
     area.resize(1_048_576, 0)?;
-    let log = Log::of_area(rt.alloc(), inst, 0, &area)?;
-    assert!(rt; are_at(&log, &[(5, true), (23, true), (64, true)]) && log.gate() == 90);
+    let all = Log::of_area(rt.alloc(), inst, 0, &area)?;
+    assert!(rt; is_log(&all, &[(5, true), (23, true), (64, true)], 90));
     let behind = Log::of_area(rt.alloc(), inst, 18, &area)?;
-    assert!(rt; are_at(&behind, &[(23, true), (64, true)]) && behind.gate() == 90);
+    assert!(rt; is_log(&behind, &[(23, true), (64, true)], 90));
+    Ok(())
+}
+
+#[test]
+fn what_stands_before_a_break_is_handed_out(rt: HostRuntime) -> Result<(), Fail> {
+    let inst = first_inst()?;
+    let mut area = Vec::from_slice(rt.alloc(), &LOG)?;
+    area.resize(1_048_576, 0)?;
+    area[64] = 8;
+    let record = Log::of_area(rt.alloc(), inst, 0, &area)?;
+    assert!(rt; is_broken(&record, &[5, 23], Told::BadRecord(64)));
+    area[19] = 1;
+    let length = Log::of_area(rt.alloc(), inst, 0, &area)?;
+    assert!(rt; is_broken(&length, &[5], Told::BadLog(18)));
     area[1] = 1;
-    let bad = Log::of_area(rt.alloc(), inst, 0, &area);
-    assert!(rt; matches!(bad, Err(Refusal::BadLog { at: 0 })));
+    let nothing = Log::of_area(rt.alloc(), inst, 0, &area)?;
+    assert!(rt; is_broken(&nothing, &[], Told::BadLog(0)));
     Ok(())
 }

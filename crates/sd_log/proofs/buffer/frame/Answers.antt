@@ -1,4 +1,4 @@
-use Rattle.std.proofs.Common.{◌≡◌, ℕ, ◌+◌, ◌-◌, ◌≤◌, length, List, [], ◌∷◌, ◌++◌, get_or, set, drop, refl, sym, ap, ◌∙◌, append_assoc, length-drop, arith}
+use Rattle.std.proofs.Common.{◌≡◌, ℕ, ◌+◌, ◌-◌, ◌≤◌, length, List, [], ◌∷◌, ◌++◌, get_or, set, drop, refl, ap, ◌∙◌, append_assoc, length-drop, arith}
 use Rattle.sd_logrec.specs.Spelling.{four}
 use Rattle.sd_log.specs.Buffers.{framed}
 use Rattle.sd_log.proofs.buffer.frame.Goals as goal

@@ -1,4 +1,4 @@
-use Rattle.std.proofs.Common.{◌<◌, length, arith}
+use Rattle.std.proofs.Common.{arith}
 use Rattle.sd_log.proofs.Parted.{tells}
 use Rattle.sd_log.proofs.journal.mark_forced.Goals as goal
 

@@ -1,4 +1,4 @@
-use Rattle.std.proofs.Common.{◌≡◌, ◌+◌, ◌-◌, ◌++◌, take, drop}
+use Rattle.std.proofs.Common.{◌≡◌, ◌-◌, ◌++◌, take, drop}
 use Rattle.std.specs.Prelude.{map}
 use Rattle.sd_log.specs.Marks.{as_forced}
 use Rattle.sd_log.proofs.journal.mark_forced.Given as goal

@@ -1,23 +1,29 @@
-use Rattle.std.proofs.Common.{◌≡◌, ◌⊎◌, ℕ, ◌+◌, ◌-◌, ◌<◌, ◌≤◌, ◌∙◌, inl, inr, true, false, List, length, take, drop, refl, sym, ap, subst, arith, length-drop}
-use Rattle.std.specs.Prelude.{Err, IfErr}
+use Rattle.std.proofs.Common.{◌≡◌, ℕ, ◌+◌, ◌-◌, ◌∙◌, inl, inr, true, false, List, length, take, drop, sym, ap, subst, arith, length-drop}
 use Rattle.std.proofs.lemmas.List.{drop-drop, take_all}
 use Rattle.std.proofs.lemmas.Result.{err_from_is_err_and}
-use Rattle.sd_base.specs.Twin.{is_open}
 use Rattle.sd_base.specs.declared.refusal.Refusal.TheVariants as R
 use Rattle.sd_logrec.specs.Kept.{fits_area, group_len, records_at}
 use Rattle.sd_log.specs.Readings.{AddsGroup}
 use Rattle.sd_logrec.proofs.Groups.{small_len}
-use Rattle.sd_log.proofs.Bodies.{reads_bad_body, reads_bad_length, reads_group, reads_to_gate}
+use Rattle.sd_log.proofs.Bodies.{front_to_body, front_to_gate, front_to_length, reads_bad_body, reads_bad_length, reads_group, reads_to_gate}
 use Rattle.sd_log.proofs.reading.read_groups.Goals as goal
 
 pub returns-in_default-clause-err : goal.returns-in_default-clause-err
 returns-in_default-clause-err c =
     let shown = sym c.is_open.ensures ∙ c.loop-rest-test.true in
     let bad = subst (λ at. fits_area at (group_len c.loop-rest.rest.now) ≡ false) c.gate-at.ensures c.in_default.ensures in
-    inr (inl (c.loop-rest.journal.gate, ap (λ at. R.BadLog at) c.gate-at.ensures, reads_bad_length c.args.bytes.now c.loop-rest.rest.now c.args.journal.now c.loop-rest.journal c.loop-rest.invariant shown bad))
+    let place = c.loop-rest.invariant.place in
+    let some = c.loop-rest.invariant.some in
+    inr (
+      inl (c.loop-rest.journal.gate, ap (λ at. R.BadLog at) c.gate-at.ensures, reads_bad_length c.args.bytes.now c.loop-rest.rest.now c.args.journal.now c.loop-rest.journal c.loop-rest.invariant shown bad, omega arith),
+      front_to_length c.args.bytes.now c.loop-rest.rest.now c.args.journal.now c.loop-rest.journal c.loop-rest.invariant bad,
+    )
 
 pub returns-clause-ok : goal.returns-clause-ok
 returns-clause-ok c = reads_to_gate c.args.bytes.now c.loop-rest.rest.now c.args.journal.now c.loop-rest.journal c.loop-rest.invariant (sym c.is_open.ensures ∙ c.loop-rest-test.false)
+
+pub returns-clause-front : goal.returns-clause-front
+returns-clause-front c = front_to_gate c.args.bytes.now c.loop-rest.rest.now c.args.journal.now c.loop-rest.journal c.loop-rest.invariant (sym c.is_open.ensures ∙ c.loop-rest-test.false)
 
 pub loop-rest-preserved : goal.loop-rest-preserved
 loop-rest-preserved c =
@@ -44,7 +50,12 @@ returns-in_err-read_group-clause-err c =
     let shown = sym c.is_open.ensures ∙ c.loop-rest-test.true in
     let part : take (length rest - 5) (drop 5 rest) ≡ drop 5 rest = take_all (length rest - 5) (drop 5 rest) (omega (arith, length-drop 5 rest)) in
     let fits = subst (λ at. fits_area at len ≡ true) c.gate-at.ensures is.1 in
+    let small = small_len now.gate len fits in
+    let size = c.split_at.ensures.front_len in
     rw (p.1, p.2) (elim c.in_err-read_group.ensures.err [
       | inl lacks ↦ inl lacks
-      | inr x ↦ inr (inr (x.0, x.1, reads_bad_body c.args.bytes.now rest c.split_at.result.0.now len x.0 c.args.journal.now now c.loop-rest.invariant shown (sym is.0) fits (c.split_at.ensures.front ∙ ap (take len) part) x.2))
+      | inr x ↦ inr (
+        inr (x.0, x.1, reads_bad_body c.args.bytes.now rest c.split_at.result.0.now len x.0 c.args.journal.now now c.loop-rest.invariant shown (sym is.0) fits (c.split_at.ensures.front ∙ ap (take len) part) x.2, omega (arith, x.3, small.1)),
+        front_to_body c.args.bytes.now rest c.split_at.result.0.now len x.0 c.args.journal.now now c.read_group.new.journal c.loop-rest.invariant shown (sym is.0) fits (c.split_at.ensures.front ∙ ap (take len) part) x.2 x.4,
+      )
     ])

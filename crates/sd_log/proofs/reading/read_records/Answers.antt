@@ -1,7 +1,7 @@
-use Rattle.std.proofs.Common.{◌≡◌, ◌⊎◌, ◌+◌, ◌-◌, ◌∙◌, inl, inr, refl, sym, ap, subst, arith}
+use Rattle.std.proofs.Common.{◌+◌, ◌-◌, ◌∙◌, inl, inr, sym, ap, subst, arith}
 use Rattle.sd_base.specs.declared.refusal.Refusal.TheVariants as R
-use Rattle.sd_log.specs.JournalStates.{JournalState, pushed}
-use Rattle.sd_log.proofs.Bodies.{ReadsTo, reads_all, reads_bad, reads_one}
+use Rattle.sd_log.specs.JournalStates.{pushed}
+use Rattle.sd_log.proofs.Bodies.{ReadsTo, reads_all, reads_bad, reads_front, reads_one}
 use Rattle.sd_log.proofs.reading.read_records.Goals as goal
 
 pub loop-at-preserved : goal.loop-at-preserved
@@ -18,6 +18,8 @@ returns-in-Err-BadRecord-clause-err c =
         c.args.journal.now.gate + 5 + c.loop-at.at,
         ap (λ g. R.BadRecord (g + 5 + c.loop-at.at)) c.gate.ensures,
         reads_bad c.args.body.now c.loop-at.at c.args.journal.now c.loop-at.journal c.loop-at.invariant c.loop-at-test.true (λ i. omega (arith, c.type_inv.body i)) (c.in-Err-BadRecord.ensures.bad (cc)),
+        omega arith,
+        reads_front c.args.body.now c.loop-at.at c.args.journal.now c.loop-at.journal c.loop-at.invariant c.loop-at-test.true (λ i. omega (arith, c.type_inv.body i)) (c.in-Err-BadRecord.ensures.bad (cc)),
       )
       | inr lacks ↦ absurd (cc)
     ]

@@ -1,4 +1,4 @@
-use Rattle.std.proofs.Common.{◌≡◌, ◌+◌, ◌-◌, ap, ◌∙◌, sym, subst, refl, arith, max, drop, length, length-drop, vec_len}
+use Rattle.std.proofs.Common.{◌+◌, ◌-◌, ap, ◌∙◌, sym, subst, refl, arith, max, drop, length, length-drop}
 use Rattle.std.proofs.lemmas.List.{take_all}
 use Rattle.sd_log.specs.Marks.{greatest_lsn, high_of}
 use Rattle.sd_log.specs.declared.journal.Mark.{Mark}

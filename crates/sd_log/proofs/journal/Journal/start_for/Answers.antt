@@ -1,4 +1,4 @@
-use Rattle.std.proofs.Common.{rules, of_calls, ◌≡◌, ◌+◌, ◌-◌, ◌≤◌, suc, List, take, length, ap, ◌∙◌, sym, subst, arith}
+use Rattle.std.proofs.Common.{rules, of_calls, ◌≡◌, ◌-◌, ◌≤◌, suc, List, take, length, ap, ◌∙◌, sym, subst, arith}
 use Rattle.std.proofs.lemmas.Fn.{always_returns_same}
 use Rattle.std.specs.Prelude.{nat_lt}
 use Rattle.sd_log.specs.declared.journal.Mark.{Mark}

@@ -1,4 +1,4 @@
-use Rattle.std.proofs.Common.{◌≡◌, ◌-◌, ◌≤◌, false, true, length, ap, sym, ◌∙◌, arith}
+use Rattle.std.proofs.Common.{◌≡◌, ◌-◌, false, true, length, ap, arith}
 use Rattle.sd_logrec.specs.Spelling.{spelling}
 use Rattle.sd_log.specs.Logs.{LogState}
 use Rattle.sd_log.proofs.Tails.{reserved_spelling}

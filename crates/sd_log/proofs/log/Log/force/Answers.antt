@@ -1,14 +1,14 @@
-use Rattle.std.proofs.Common.{◌≡◌, ◌≢◌, ◌⊎◌, ℕ, ◌+◌, ◌∙◌, false, true, List, [], ◌∷◌, ◌++◌, length, refl, sym, ap, subst, arith}
+use Rattle.std.proofs.Common.{◌≡◌, ◌⊎◌, ◌+◌, ◌∙◌, false, true, [], ◌∷◌, ◌++◌, length, refl, sym, ap, subst, arith}
 use Rattle.sd_base.specs.Twin.{body_at, is_open}
-use Rattle.sd_logrec.specs.Kept.{Whole, area, placed_from, reading, spelled}
-use Rattle.sd_rig.specs.Devices.{AgreesOutside, Span}
+use Rattle.sd_logrec.specs.Kept.{Whole, area, reading, spelled}
+use Rattle.sd_rig.specs.Devices.{AgreesOutside}
 use Rattle.sd_rig.specs.Spans.{span-weaker}
 use Rattle.sd_log.specs.Buffers.{framed}
-use Rattle.sd_log.specs.Forces.{Fills, Forces, StandsEither}
+use Rattle.sd_log.specs.Forces.{Fills, Forces}
 use Rattle.sd_log.specs.JournalStates.{JournalState}
 use Rattle.sd_log.specs.LogInside.{log_view}
 use Rattle.sd_log.specs.Logs.{LogState, tail_group, tail_len}
-use Rattle.sd_log.proofs.Forcing.{IsTailed, closed_on, either_tail, forces_of, moved, tailed_of, with_tail_read}
+use Rattle.sd_log.proofs.Forcing.{closed_on, either_tail, forces_of, moved, tailed_of, with_tail_read}
 use Rattle.sd_log.proofs.Tails.{no_text}
 use Rattle.sd_log.proofs.log.Log.force.Goals as goal
 

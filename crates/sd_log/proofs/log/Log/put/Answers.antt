@@ -1,5 +1,4 @@
-use Rattle.std.proofs.Common.{◌≡◌, ℕ, ◌+◌, ◌-◌, ◌*◌, ◌<◌, ◌≤◌, ◌∙◌, ◌/◌, max, List, [], ◌∷◌, ◌++◌, length, sym, ap, subst, arith}
-use Rattle.sd_logrec.specs.declared.record.Record.{Record}
+use Rattle.std.proofs.Common.{◌≡◌, ℕ, ◌+◌, ◌-◌, ◌≤◌, ◌∙◌, ◌/◌, max, List, [], ◌∷◌, ◌++◌, length, sym, ap, arith}
 use Rattle.sd_logrec.specs.Kept.{spelled}
 use Rattle.sd_logrec.specs.Spelling.{spelling}
 use Rattle.sd_log.specs.JournalStates.{JournalState}
