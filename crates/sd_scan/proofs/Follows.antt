@@ -1,6 +1,6 @@
 -- Records that follow one another, as the loop goes. It serves the goals of following.rt.
-use Rattle.std.proofs.Common.{◌≡◌, ◌⊎◌, inl, inr, ℕ, ◌+◌, ◌<◌, ◌≤◌, Bool, true, false, cond, List, [], ◌∷◌, drop, refl, sym, ap, ◌∙◌, subst, arith}
-use Rattle.std.specs.Prelude.{◌↔◌, ◌||◌, IsTrue, nat_eq, nat_lt}
+use Rattle.std.proofs.Common.{◌≡◌, ◌⊎◌, inl, inr, ℕ, ◌+◌, ◌<◌, ◌≤◌, Bool, true, false, cond, List, [], ◌∷◌, refl, sym, ap, ◌∙◌, subst, arith}
+use Rattle.std.specs.Prelude.{◌↔◌, ◌||◌, IsTrue, map, nat_eq, nat_lt}
 use Rattle.std.specs.List.{list_any}
 use Rattle.std.proofs.lemmas.Bool.{both_ways, cases_Bool, eq-eqb, eqb-true, lt-ltb, or_left}
 use Rattle.std.proofs.lemmas.List.Sums.{sum_by-cons}
@@ -8,8 +8,10 @@ use Rattle.sd_logrec.specs.declared.record.Record.{Record}
 use Rattle.sd_logrec.specs.declared.record.Record.TheVariants as records
 use Rattle.sd_logrec.specs.Kept.{Master}
 use Rattle.sd_log.specs.declared.placed.Placed.{Placed}
-use Rattle.sd_chain.specs.Checks.{Follow, IsKnownStart, MayCome, Past, StartFits, lsn_of, past_of, starts_by}
-use Rattle.sd_scan.specs.Following.{MayFollow, bare, known}
+use Rattle.sd_log.specs.Marks.{entry}
+use Rattle.sd_chain.specs.Checks.{Follow, IsKnownStart, MayCome, Past, StartFits, after_record, lsn_of, past_of, starts_by}
+use Rattle.sd_chain.specs.Faults.{Follows, StraysAt}
+use Rattle.sd_scan.specs.Following.{bare, known}
 
 -- ---- Starts that a checkpoint knew
 
@@ -60,7 +62,7 @@ known_case P Q chosen b lsn check is le h = (
 )
 
 pub start_case : (inst : ℕ) (chosen : Bool) (m : Master) (past : Past) (lsn epoch : ℕ) (r : Record) (rest : List Record) (b : Bool) → r ≡ records.Start lsn epoch → past.lsn < lsn_of r → (IsTrue b ↔ StartFits chosen m past (records.Start lsn epoch) rest)
-    → IsTrue b ↔ MayFollow inst chosen m past r rest
+    → IsTrue b ↔ Follows inst chosen m past r rest
 start_case inst chosen m past lsn epoch r rest b is lt h =
     let come : MayCome inst past r = subst (λ (x : Record). MayCome inst past x) (sym is) tt in (
       λ t. (lt, come, subst (λ (x : Record). StartFits chosen m past x rest) (sym is) (h.0 t)),
@@ -69,12 +71,24 @@ start_case inst chosen m past lsn epoch r rest b is lt h =
 
 -- ---- the loop
 
--- How far records are tested: they all follow one another just where those from here on follow what was before.
-pub record Goes (inst : ℕ) (chosen : Bool) (m : Master) (all rest : List Record) (past : Past) (later : ℕ) : Type 0 where
-  pub there : Follow inst chosen m past rest → Follow inst chosen m (past_of m) all
-  pub back : Follow inst chosen m (past_of m) all → Follow inst chosen m past rest
-  pub later_is : later ≡ known m.check rest
+pub bare_entries : (ps : List Placed) → map (λ x. x.1) (map entry ps) ≡ bare ps
+bare_entries [] = refl
+bare_entries (p ∷ ps) = ap (λ (l : List Record). p.rec ∷ l) (bare_entries ps)
 
--- the records from this place on
-abbrev pub from_place : ℕ → List Placed → List Record
-from_place i ps = bare (drop i ps)
+-- How far records are tested: what holds of those from here on, behind what was before, holds of all.
+pub record Goes (inst : ℕ) (chosen : Bool) (m : Master) (all rest : List Placed) (past : Past) (later : ℕ) : Type 0 where
+  pub there : Follow inst chosen m past (bare rest) → Follow inst chosen m (past_of m) (bare all)
+  pub stray : (place : ℕ) → StraysAt inst chosen m past (map entry rest) place → StraysAt inst chosen m (past_of m) (map entry all) place
+  pub later_is : later ≡ known m.check (bare rest)
+
+pub goes_on : (inst : ℕ) (chosen : Bool) (m : Master) (all rest : List Placed) (p : Placed) (past : Past) (before later : ℕ) → Goes inst chosen m all (p ∷ rest) past before → Follows inst chosen m past p.rec (bare rest) → later ≡ known m.check (bare rest)
+    → Goes inst chosen m all rest (after_record past p.rec) later
+goes_on inst chosen m all rest p past before later h may count = record {
+  there = λ f. h.there (may.0, may.1, may.2, f);
+  stray = λ place s. h.stray place (inr (subst (λ (rs : List Record). Follows inst chosen m past p.rec rs) (sym (bare_entries rest)) may, s));
+  later_is = count;
+}
+
+pub strays_here : (inst : ℕ) (chosen : Bool) (m : Master) (all rest : List Placed) (p : Placed) (past : Past) (later : ℕ) → Goes inst chosen m all (p ∷ rest) past later → (Follows inst chosen m past p.rec (bare rest) → ⊥)
+    → StraysAt inst chosen m (past_of m) (map entry all) p.place
+strays_here inst chosen m all rest p past later h never = h.stray p.place (inl (λ f. never (subst (λ (rs : List Record). Follows inst chosen m past p.rec rs) (bare_entries rest) f), refl))

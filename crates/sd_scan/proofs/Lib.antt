@@ -1,3 +1,4 @@
+pub mod Faults
 pub mod Follows
 pub mod Scans
 pub mod Slots

@@ -1,19 +1,20 @@
 -- What was read of a device and its checks. It serves the goals of scanning.rt.
 use Rattle.std.proofs.Common.{◌≡◌, ℕ, ◌<◌, Bool, true, false, List, [], ◌∷◌, ◌++◌, take, drop, refl, sym, ap, ◌∙◌, subst, arith}
-use Rattle.std.specs.Prelude.{◌||◌, IfOk, IfSome, IsOk, IsTrue, OnOk, Option, Some, None, Result, Ok, Err, is_some, map, option_map}
+use Rattle.std.specs.Prelude.{◌||◌, IfOk, IfSome, IsTrue, Option, Some, None, Result, Ok, Err, is_some, map, option_map}
 use Rattle.std.specs.List.{flat_map, list_any}
 use Rattle.std.specs.Option.{unwrap_or}
 use Rattle.std.proofs.lemmas.Bool.{false≢true}
 use Rattle.std.proofs.lemmas.List.{append-nil, map-append}
 use Rattle.sd_base.specs.Twin.{Slot, Neither, First, Second, Same, body_at, body_of, chosen_body, is_open, newer, number_of, slot_of}
 use Rattle.sd_logrec.specs.declared.record.Record.{Record}
-use Rattle.sd_logrec.specs.Kept.{BadGroup, Group, Master, NoRecord, Reading, Records, Whole, area, kept, master, master_of, reading}
+use Rattle.sd_logrec.specs.Kept.{Group, Master, Reading, Records, Whole, area, kept, master, master_of, reading}
 use Rattle.sd_log.specs.declared.placed.Placed.{Placed}
 use Rattle.sd_log.specs.Logs.{placed, placed_groups, placed_tail}
 use Rattle.sd_chain.specs.Checks.{Follow, GroupsAreSound, IsMaster, IsWhole, MasterIsSound, is_end_check, past_of, placed_of, records_in}
+use Rattle.sd_chain.specs.Faults.{SlotsAreSound}
 use Rattle.sd_scan.specs.declared.master.Master as memory
 use Rattle.sd_scan.specs.Following.{IsChecked, bare}
-use Rattle.sd_scan.specs.Masters.{SlotsAreSound, as_kept, master_in, said}
+use Rattle.sd_scan.specs.Masters.{as_kept, master_in, said}
 use Rattle.sd_scan.proofs.Slots.{chosen_as}
 
 -- ---- the master
@@ -93,7 +94,7 @@ records_are bytes groups gate e = ap (λ (r : Reading). map (λ x. x.1) (placed_
 abbrev pub Checks : ℕ → Bool → memory.Master → List Record → Type 0
 Checks inst chosen m rs = IsChecked chosen (as_kept m) rs × Follow inst chosen (as_kept m) (past_of (as_kept m)) rs
 
-ended_by : (bytes : List ℕ) (chosen : Bool) (m : memory.Master) (rs : List Record) → Says bytes chosen m → records_in bytes ≡ rs → IsChecked chosen (as_kept m) rs
+pub ended_by : (bytes : List ℕ) (chosen : Bool) (m : memory.Master) (rs : List Record) → Says bytes chosen m → records_in bytes ≡ rs → IsChecked chosen (as_kept m) rs
     → IfSome (chosen_body 0 64 bytes) (λ _. IsTrue (list_any (λ r. is_end_check (master bytes).check r.1) (placed_of (kept bytes))))
 ended_by bytes chosen m rs h e ok =
     some_if (chosen_body 0 64 bytes) (list_any (λ (r : ℕ × Record). is_end_check (master bytes).check r.1) (placed_of (kept bytes))) (λ some.
@@ -102,7 +103,7 @@ ended_by bytes chosen m rs h e ok =
     ∙ ap (λ (k : Master). list_any (is_end_check k.check) rs) (sym h.says)
     ∙ ok (h.counts ∙ some))
 
-checked_by : (bytes : List ℕ) (chosen : Bool) (m : memory.Master) (rs : List Record) → Says bytes chosen m → records_in bytes ≡ rs
+pub checked_by : (bytes : List ℕ) (chosen : Bool) (m : memory.Master) (rs : List Record) → Says bytes chosen m → records_in bytes ≡ rs
     → IfSome (chosen_body 0 64 bytes) (λ _. IsTrue (list_any (λ r. is_end_check (master bytes).check r.1) (placed_of (kept bytes)))) → IsChecked chosen (as_kept m) rs
 checked_by bytes chosen m rs h e ok = λ is.
     ap (λ (k : Master). list_any (is_end_check k.check) rs) h.says
@@ -111,7 +112,7 @@ checked_by bytes chosen m rs h e ok = λ is.
     ∙ if_some (chosen_body 0 64 bytes) (list_any (λ (r : ℕ × Record). is_end_check (master bytes).check r.1) (placed_of (kept bytes))) ok (sym h.counts ∙ is)
 
 -- the same of records, whatever they are called
-follow_along : (inst : ℕ) (c d : Bool) (m n : Master) (rs qs : List Record) → c ≡ d → m ≡ n → rs ≡ qs → Follow inst c m (past_of m) rs → Follow inst d n (past_of n) qs
+pub follow_along : (inst : ℕ) (c d : Bool) (m n : Master) (rs qs : List Record) → c ≡ d → m ≡ n → rs ≡ qs → Follow inst c m (past_of m) rs → Follow inst d n (past_of n) qs
 follow_along inst c d m n rs qs e f g h =
     subst (λ (l : List Record). Follow inst d n (past_of n) l) g (subst (λ (k : Master). Follow inst d k (past_of k) rs) f (subst (λ b. Follow inst b m (past_of m) rs) e h))
 
@@ -119,7 +120,7 @@ follow_along inst c d m n rs qs e f g h =
 bare_all : (groups : List Group) (gate : ℕ) (tail : List Record) → tail ≡ [] → bare (placed_groups groups ++ placed_tail gate tail) ≡ bare (placed_groups groups)
 bare_all groups gate tail none = ap (λ (t : List Record). bare (placed_groups groups ++ placed_tail gate t)) none ∙ ap bare (append-nil (placed_groups groups))
 
-all_records : (bytes : List ℕ) (groups : List Group) (gate : ℕ) (tail : List Record) → kept bytes ≡ Whole groups gate → tail ≡ [] → records_in bytes ≡ bare (placed_groups groups ++ placed_tail gate tail)
+pub all_records : (bytes : List ℕ) (groups : List Group) (gate : ℕ) (tail : List Record) → kept bytes ≡ Whole groups gate → tail ≡ [] → records_in bytes ≡ bare (placed_groups groups ++ placed_tail gate tail)
 all_records bytes groups gate tail e none = records_are bytes groups gate e ∙ sym (bare_all groups gate tail none)
 
 pub master_sound : (inst : ℕ) (bytes : List ℕ) (chosen : Bool) (m : memory.Master) (groups : List Group) (gate : ℕ) (tail : List Record) → Says bytes chosen m → kept bytes ≡ Whole groups gate → tail ≡ []
@@ -138,24 +139,7 @@ groups_sound inst bytes chosen m groups gate tail h e none ok = record {
   follow = follow_along inst chosen _ (as_kept m) (master bytes) _ (records_in bytes) h.counts h.says (sym (all_records bytes groups gate tail e none)) ok.1;
 }
 
-pub checks_hold : (inst : ℕ) (bytes : List ℕ) (chosen : Bool) (m : memory.Master) (groups : List Group) (gate : ℕ) (tail : List Record) → Says bytes chosen m → kept bytes ≡ Whole groups gate → tail ≡ []
-    → MasterIsSound bytes → GroupsAreSound inst bytes → Checks inst chosen m (bare (placed_groups groups ++ placed_tail gate tail))
-checks_hold inst bytes chosen m groups gate tail h e none one two = (
-  checked_by bytes chosen m _ h (all_records bytes groups gate tail e none) one.ended,
-  follow_along inst _ chosen (master bytes) (as_kept m) (records_in bytes) _ (sym h.counts) (sym h.says) (all_records bytes groups gate tail e none) two.follow,
-)
-
-pub no_group : (inst : ℕ) (bytes : List ℕ) (at : ℕ) → kept bytes ≡ BadGroup at → GroupsAreSound inst bytes → ⊥
-no_group inst bytes at e ok = subst IsWhole e ok.whole
-
-pub no_record : (inst : ℕ) (bytes : List ℕ) (at : ℕ) → kept bytes ≡ NoRecord at → GroupsAreSound inst bytes → ⊥
-no_record inst bytes at e ok = subst IsWhole e ok.whole
-
 -- ---- answers
-
-pub on_ok : {T E : Type 0} (r : Result T E) (P : Type 0) → (IsOk r → P) → OnOk r P
-on_ok (Ok x) P h = h refl
-on_ok (Err e) P h = tt
 
 pub if_same : {T E : Type 0} (r : Result T E) (x : T) (P : T → Type 0) → IfOk r (λ y. y ≡ x) → P x → IfOk r P
 if_same (Ok y) x P is h = subst P (sym is) h

@@ -7,8 +7,9 @@ use Rattle.std.proofs.lemmas.List.{get_or-take}
 use Rattle.sd_base.specs.Twin.{Slot, Neither, First, Second, Same, body_at, body_of, chosen_body, chosen_slot, is_open, newer, number_of, slot_of}
 use Rattle.sd_logrec.specs.Kept.{Master, master_of}
 use Rattle.sd_chain.specs.Checks.{IsMaster, IsSlot}
+use Rattle.sd_chain.specs.Faults.{SlotsAreSound}
 use Rattle.sd_scan.specs.declared.master.Master as memory
-use Rattle.sd_scan.specs.Masters.{SlotsAreSound, as_kept, counting, master_in, named, said, slot_at}
+use Rattle.sd_scan.specs.Masters.{as_kept, counting, master_in, named, said, slot_at}
 
 -- ---- a body
 

@@ -1,8 +1,7 @@
 -- A master in memory, and what the two slots of a device say.
-use Rattle.std.specs.Prelude.{◌≢◌, ℕ, if◌then◌else◌, is_some, List, Option, None, Some, option_map}
-use Rattle.sd_base.specs.Twin.{Slot, Neither, First, Second, Same, body_at, chosen_slot, is_open, slot_of}
+use Rattle.std.specs.Prelude.{ℕ, if◌then◌else◌, is_some, List, Option, None, Some, option_map}
+use Rattle.sd_base.specs.Twin.{Slot, Neither, First, Second, Same, body_at, is_open, slot_of}
 use Rattle.sd_logrec.specs.Kept.{Master, master_of}
-use Rattle.sd_chain.specs.Checks.{IsSlot}
 use Rattle.sd_scan.specs.declared.master.Master as memory
 
 -- a master in memory, as one on a device
@@ -20,12 +19,6 @@ master_in body = master_of (Some body)
 -- the master in the slot at this gate, where it is open
 abbrev pub slot_at : ℕ → List ℕ → Option Master
 slot_at gate bytes = if is_open gate bytes then Some (master_in (body_at 64 gate bytes)) else None
-
--- The slots are well formed and their counts differ.
-pub record SlotsAreSound (bytes : List ℕ) : Type 0 where
-  pub differ : chosen_slot 0 64 bytes ≢ Same
-  pub first : IsSlot 0 bytes
-  pub second : IsSlot 65 bytes
 
 -- the count that a slot says
 abbrev pub count_of : Option memory.Master → ℕ

@@ -1,11 +1,13 @@
 //! Records that follow one another.
 
-ghost use Rattle.std.specs.Prelude.{◌≡◌, ◌↔◌, List, IsNone, IsTrue};
+ghost use Rattle.std.specs.Prelude.{◌≡◌, ◌↔◌, List, map, IsTrue, MatchOption};
 ghost use Rattle.std.specs.List.{list_any};
 ghost use Rattle.sd_logrec.specs.declared.record.Record.{Record};
 ghost use Rattle.sd_logrec.specs.declared.record.Record.TheVariants as records;
 ghost use Rattle.sd_chain.specs.Checks.{Follow, IsKnownStart, IsOwn, StartFits, after_record, is_end_check, past_of, starts_by};
-ghost use Rattle.sd_scan.specs.Following.{MayFollow, as_past, bare, known};
+ghost use Rattle.sd_chain.specs.Faults.{Follows, StraysAt};
+ghost use Rattle.sd_log.specs.Marks.{entry};
+ghost use Rattle.sd_scan.specs.Following.{as_past, bare, known};
 ghost use Rattle.sd_scan.specs.Masters.{as_kept};
 
 use crate::master::Master;
@@ -54,7 +56,8 @@ impl Past {
 /// The place of the first record that may not follow those before it, in bytes from the area's start. `chosen` is whether
 /// a master counts, and `m` what it says, or all 0.
 pub fn first_stray(inst: InstNo, chosen: bool, m: Master, records: &[Placed]) -> Option<u32>
-    ensures { IsNone result ↔ Follow inst chosen (as_kept m) (past_of (as_kept m)) (bare records.now) }
+    ensures { MatchOption result (Follow inst chosen (as_kept m) (past_of (as_kept m)) (bare records.now))
+        (λ place. StraysAt inst chosen (as_kept m) (past_of (as_kept m)) (map entry records.now) place) }
 {
     let mut later = count_known(m.check, records);
     let mut past = Past::of(m);
@@ -90,7 +93,7 @@ fn is_known(rec: &Record, check: Lsn) -> bool
 // Whether a record may come next. `later` is how many Starts that the checkpoint knew are behind it.
 fn may_follow(inst: InstNo, chosen: bool, m: Master, past: Past, rec: &Record, later: usize) -> bool
     ensures { (rest : List Record) → later ≡ known m.check rest
-        → (IsTrue result ↔ MayFollow inst chosen (as_kept m) (as_past past) rec.now rest) }
+        → (IsTrue result ↔ Follows inst chosen (as_kept m) (as_past past) rec.now rest) }
 {
     if rec.lsn() <= past.lsn {
         return false;

@@ -4,7 +4,7 @@
 //! `GroupsAreSound` (`specs/Checks.antt` of sd_chain).
 //! Keeps: nothing.
 //! Promises: `scan` answers the log that the device keeps where both hold (`master`, `groups`, `kept`), and else
-//! `Damaged` (`unsound`).
+//! `Damaged` (`unsound`) with the place of the first fault (`place`, by `specs/Faults.antt` of sd_chain).
 //! Refuses: `Damaged` in `scan`, and want of memory.
 //! Knows nothing of: pages, other logs, what a transaction has open.
 //! Stands on: sd_base, sd_page, sd_logrec, sd_rig, sd_log, sd_chain.

@@ -5,7 +5,8 @@ ghost use Rattle.std.specs.Int.{w32, w64};
 ghost use Rattle.sd_base.specs.Twin.{Same, chosen_body};
 ghost use Rattle.sd_logrec.specs.Kept.{number_in};
 ghost use Rattle.sd_chain.specs.Checks.{IsMaster, IsSlot};
-ghost use Rattle.sd_scan.specs.Masters.{SlotsAreSound, as_kept, counting, master_in, named, said, slot_at};
+ghost use Rattle.sd_chain.specs.Faults.{SlotsAreSound};
+ghost use Rattle.sd_scan.specs.Masters.{as_kept, counting, master_in, named, said, slot_at};
 
 use sd_base::Lsn;
 

@@ -1,17 +1,20 @@
 //! A log device read, and its checks.
 
-ghost use Rattle.std.specs.Prelude.{◌≡◌, ◌⊎◌, ◌↔◌, ℕ, [], length, Err, IfErr, IfOk, IsOk, OnOk};
+ghost use Rattle.std.specs.Prelude.{◌≡◌, ◌⊎◌, ℕ, ◌+◌, ◌<◌, [], length, map, Err, IfErr, IfOk, OnOk};
 ghost use Rattle.sd_base.specs.declared.refusal.Refusal.TheVariants as R;
 ghost use Rattle.sd_logrec.specs.Kept.{Whole, kept};
+ghost use Rattle.sd_log.specs.Areas.{IsAt};
 ghost use Rattle.sd_log.specs.Logs.{AreSpelled, scanned};
+ghost use Rattle.sd_log.specs.Marks.{entry};
 ghost use Rattle.sd_chain.specs.Checks.{Follow, GroupsAreSound, MasterIsSound, past_of};
-ghost use Rattle.sd_scan.specs.Following.{IsChecked, bare};
+ghost use Rattle.sd_chain.specs.Faults.{GroupsFailAt, MasterPasses, StraysAt};
+ghost use Rattle.sd_scan.specs.Following.{BreaksFirst, IsChecked, bare};
 ghost use Rattle.sd_scan.specs.Masters.{as_kept};
 
 use crate::following::{first_stray, has_end_check};
 use crate::master::{AREA_LEN, Master, read_master};
 use sd_base::{InstNo, Refusal};
-use sd_log::Log;
+use sd_log::{Area, Log, Placed};
 use std::alloc::Global;
 
 /// The place of the area on its device, in bytes.
@@ -19,8 +22,10 @@ const AREA: usize = 130;
 
 /// The log of this instance, of the bytes of its device: its groups from the master's start place on.
 ///
-/// `Damaged` comes exactly where the master isn't sound, at place 0, or the groups aren't, at the gate or the record in
-/// which the first fault is, in bytes from the device's start.
+/// `Damaged` comes exactly where the master isn't sound or the groups aren't, with the place of the first fault in bytes
+/// from the device's start: 0 where the slots aren't well formed, or the checkpoint isn't kept in a log that keeps the
+/// format; else that of the first record that may not follow those before it, or, where all in front of it do, of the
+/// group's gate or the record that breaks the format.
 pub fn scan(alloc: Global, device: &[u8], inst: InstNo) -> Result<Log, Refusal>
     requires { length device.now ≡ 2097282 }
     ensures master { OnOk result (MasterIsSound device.now) }
@@ -31,6 +36,8 @@ pub fn scan(alloc: Global, device: &[u8], inst: InstNo) -> Result<Log, Refusal>
     ensures tail { IfOk result (λ log. log.tail ≡ []) }
 
     ensures unsound { (dev at : ℕ) → result ≡ Err (R.Damaged dev at) → MasterIsSound device.now → GroupsAreSound inst device.now → ⊥ }
+    ensures place { (dev at : ℕ) → result ≡ Err (R.Damaged dev at) → ((MasterPasses device.now → ⊥) × (at ≡ 0))
+        ⊎ (MasterPasses device.now × ((place : ℕ) × GroupsFailAt inst device.now place × (at ≡ 130 + place))) }
     ensures refusals { IfErr result (λ e. (e ≡ R.Memory) ⊎ ((at : ℕ) × (e ≡ R.Damaged inst at))) }
 {
     let Ok(chosen) = read_master(device) else {
@@ -38,18 +45,20 @@ pub fn scan(alloc: Global, device: &[u8], inst: InstNo) -> Result<Log, Refusal>
     };
     let m = chosen.unwrap_or(Master::BLANK);
     let area = &device[AREA..AREA + AREA_LEN];
-    match Log::of_area(alloc, inst, m.start, area) {
-        Ok(log) => checked(log, inst, chosen.is_some(), m),
-        Err(e) => Err(of_device(e, inst)),
+    match Log::of_area(alloc, inst, m.start, area)? {
+        Area::Whole(log) => checked(log, inst, chosen.is_some(), m),
+        Area::Broken { front, fault } => { Err(broken(&front, &fault, inst, chosen.is_some(), m)) }
     }
 }
 
 // The log, where it has the checkpoint that its master names, and its records follow one another.
 fn checked(log: Log, inst: InstNo, chosen: bool, m: Master) -> Result<Log, Refusal>
     ensures same { IfOk result (λ same. same ≡ log) }
-    ensures sound { IsOk result ↔ (IsChecked chosen (as_kept m) (bare (scanned log))
+    ensures sound { OnOk result (IsChecked chosen (as_kept m) (bare (scanned log))
         × Follow inst chosen (as_kept m) (past_of (as_kept m)) (bare (scanned log))) }
-    ensures refusals { IfErr result (λ e. (at : ℕ) × (e ≡ R.Damaged inst at)) }
+    ensures err { IfErr result (λ e. ((IsChecked chosen (as_kept m) (bare (scanned log)) → ⊥) × (e ≡ R.Damaged inst 0))
+        ⊎ (IsChecked chosen (as_kept m) (bare (scanned log)) × ((place : ℕ)
+        × StraysAt inst chosen (as_kept m) (past_of (as_kept m)) (map entry (scanned log)) place × (e ≡ R.Damaged inst (130 + place))))) }
 {
     if chosen && !has_end_check(m.check, log.scan()) {
         return Err(damaged(inst, 0));
@@ -60,16 +69,24 @@ fn checked(log: Log, inst: InstNo, chosen: bool, m: Master) -> Result<Log, Refus
     }
 }
 
-// What a log's refusal is on its device.
-fn of_device(e: Refusal, inst: InstNo) -> Refusal
-    requires { (e ≡ R.Memory) ⊎ ((at : ℕ) × (e ≡ R.BadLog at)) ⊎ ((at : ℕ) × (e ≡ R.BadRecord at)) }
-    ensures memory { e ≡ R.Memory → result ≡ R.Memory }
-    ensures refusals { (result ≡ R.Memory) ⊎ ((at : ℕ) × (result ≡ R.Damaged inst at)) }
+// Where a log fails that breaks the format: `front` are the records before that.
+fn broken(front: &[Placed], fault: &Refusal, inst: InstNo, chosen: bool, m: Master) -> Refusal
+    requires { (at : ℕ) × IsAt fault.now at × (at < 1048576) }
+    ensures { (place : ℕ) × BreaksFirst inst chosen (as_kept m) front.now fault.now place × (result ≡ R.Damaged inst (130 + place)) }
 {
-    match e {
-        Refusal::BadLog { at } => damaged(inst, at.saturating_add(AREA as u64)),
-        Refusal::BadRecord { at } => damaged(inst, at.saturating_add(AREA as u64)),
-        other => other,
+    match first_stray(inst, chosen, m, front) {
+        Some(place) => damaged(inst, AREA as u64 + place as u64),
+        None => damaged(inst, AREA as u64 + place_of(fault)),
+    }
+}
+
+// The place that what breaks the format tells.
+fn place_of(fault: &Refusal) -> u64
+    ensures { (at : ℕ) → IsAt fault.now at → result ≡ at }
+{
+    match fault {
+        Refusal::BadLog { at } | Refusal::BadRecord { at } => *at,
+        _ => 0,
     }
 }
 

@@ -105,3 +105,37 @@ fn a_damaged_byte_is_told_with_its_place(rt: HostRuntime) -> Result<(), Fail> {
     }
     Ok(())
 }
+
+// The place that is told of a log without a master: the start of epoch 1, a commit with this LSN of transaction 1.1 of this
+// instance, and these bytes.
+fn told_behind(alloc: Global, lsn: u8, inst: u8, behind: &[u8]) -> Result<Option<u64>, Fail> {
+    let (start, _) = LOG.split_at(18);
+    let mut log = Vec::from_slice(alloc, start)?;
+    log.extend_from_slice(&[0xa5, 0, 0, 0, 26, 4, 0, 0, 0, 0, 0, 0, 0, lsn, inst])?;
+    log.extend_from_slice(&[0, 0, 0, 1, 0, 0, 0, 1, 0, 0, 0, 0, 0, 0, 0, 0])?;
+    log.extend_from_slice(behind)?;
+    let device = device_of(alloc, &[], &[], &log)?;
+    Ok(match scan(alloc, &device, first_inst()?) {
+        Err(Refusal::Damaged { dev: 1, at }) => Some(at),
+        _ => None,
+    })
+}
+
+#[test]
+fn a_stray_record_is_told_before_what_breaks_the_format(rt: HostRuntime) -> Result<(), Fail> {
+    let no_length: [u8; 14] = [0xa5, 0, 0, 0, 0, 0, 0, 0, 0, 0, 0, 0, 0, 0];
+    let no_record: [u8; 14] = [0xa5, 0, 0, 0, 9, 9, 9, 9, 9, 9, 9, 9, 9, 9];
+    let cases: [(u8, u8, [u8; 14], u64); 6] = [
+        (2, 2, no_length, 153),
+        (2, 2, no_record, 153),
+        (1, 1, no_length, 153),
+        (1, 1, no_record, 153),
+        (2, 1, no_length, 179),
+        (2, 1, no_record, 184),
+    ];
+    for (lsn, inst, behind, place) in cases {
+        let told = told_behind(rt.alloc(), lsn, inst, &behind)?;
+        assert_eq!(rt; told, Some(place), "LSN {lsn} of instance {inst}");
+    }
+    Ok(())
+}

@@ -1,9 +1,16 @@
-use Rattle.std.proofs.Common.{◌≡◌, inl, inr, refl, ap}
-use Rattle.std.specs.Prelude.{Err, is_some}
-use Rattle.sd_logrec.specs.Kept.{BadGroup, NoRecord, Whole, kept}
-use Rattle.sd_log.specs.Logs.{LogState}
-use Rattle.sd_scan.proofs.Scans.{checks_hold, groups_sound, if_same, kept_is, master_sound, no_group, no_record, on_ok, says_of, start_within}
-use Rattle.sd_scan.proofs.Slots.{not_ok}
+use Rattle.std.proofs.Common.{◌≡◌, ℕ, ◌<◌, ◌∙◌, [], List, take, drop, refl, sym, ap, subst}
+use Rattle.std.specs.Prelude.{is_some, map}
+use Rattle.std.proofs.lemmas.Result.{IfErr-at_err, IfOk-weaker}
+use Rattle.sd_base.specs.declared.refusal.Refusal.{Refusal}
+use Rattle.sd_base.specs.declared.refusal.Refusal.TheVariants as R
+use Rattle.sd_logrec.specs.Kept.{BadGroup, NoRecord, Whole, kept, reading}
+use Rattle.sd_log.specs.declared.area.Area.{Area}
+use Rattle.sd_log.specs.Areas.{IfBroken, IfWhole, IsAt, read_of}
+use Rattle.sd_log.specs.Logs.{LogState, scanned}
+use Rattle.sd_log.specs.Marks.{entry}
+use Rattle.sd_chain.specs.Checks.{GroupsAreSound, IsWhole, MasterIsSound}
+use Rattle.sd_scan.proofs.Faults.{Broke, Told, broken_fails, err_same, fails_not, front_is, whole_fails}
+use Rattle.sd_scan.proofs.Scans.{all_records, groups_sound, if_same, kept_is, master_sound, says_of, start_within}
 use Rattle.sd_scan.proofs.scanning.scan.Goals as goal
 
 pub of_area-requires-clause-start : goal.of_area-requires-clause-start
@@ -11,41 +18,58 @@ of_area-requires-clause-start c =
     let h = says_of c.args.device.now (is_some c.in-Ok.chosen) c.in-Ok.chosen c.unwrap_or-m.result _ refl refl c.unwrap_or-m.ensures c.in-Ok.ensures.read (c.in-Ok.ensures.sound.0 refl) in
     start_within c.args.device.now _ c.unwrap_or-m.result h
 
-pub returns-in-Ok-of_area-clause-master : goal.returns-in-Ok-of_area-clause-master
-returns-in-Ok-of_area-clause-master c =
-    let log = c.in-Ok-of_area.log in
+pub returns-in-Whole-clause-master : goal.returns-in-Whole-clause-master
+returns-in-Whole-clause-master c =
+    let log = c.in-Whole.log in
     let h = says_of c.args.device.now c.is_some.result c.in-Ok.chosen c.unwrap_or-m.result _ c.is_some.ensures refl c.unwrap_or-m.ensures c.in-Ok.ensures.read (c.in-Ok.ensures.sound.0 refl) in
-    let whole = kept_is c.args.device.now _ c.is_some.result c.unwrap_or-m.result (Whole log.groups log.gate) h refl c.in-Ok-of_area.ensures.whole in
-    on_ok c.checked.result _ (λ ok. master_sound c.args.inst c.args.device.now c.is_some.result c.unwrap_or-m.result log.groups log.gate log.tail h whole c.in-Ok-of_area.ensures.tail (c.checked.ensures.sound.0 ok))
+    let read = subst (λ (x : Area). IfWhole x (λ (l : LogState). reading c.unwrap_or-m.result.start (take 1048576 (drop 130 c.args.device.now)) ≡ Whole l.groups l.gate)) c.in-Whole.is c.in_ok-log.ensures.whole in
+    let whole = kept_is c.args.device.now _ c.is_some.result c.unwrap_or-m.result (Whole log.groups log.gate) h refl read in
+    let none = subst (λ (x : Area). IfWhole x (λ (l : LogState). l.tail ≡ [])) c.in-Whole.is c.in_ok-log.ensures.tail in
+    IfOk-weaker c.checked.result _ (λ _. MasterIsSound c.args.device.now) (λ l ok. master_sound c.args.inst c.args.device.now c.is_some.result c.unwrap_or-m.result log.groups log.gate log.tail h whole none ok) c.checked.ensures.sound
 
-pub returns-in-Ok-of_area-clause-groups : goal.returns-in-Ok-of_area-clause-groups
-returns-in-Ok-of_area-clause-groups c =
-    let log = c.in-Ok-of_area.log in
+pub returns-in-Whole-clause-groups : goal.returns-in-Whole-clause-groups
+returns-in-Whole-clause-groups c =
+    let log = c.in-Whole.log in
     let h = says_of c.args.device.now c.is_some.result c.in-Ok.chosen c.unwrap_or-m.result _ c.is_some.ensures refl c.unwrap_or-m.ensures c.in-Ok.ensures.read (c.in-Ok.ensures.sound.0 refl) in
-    let whole = kept_is c.args.device.now _ c.is_some.result c.unwrap_or-m.result (Whole log.groups log.gate) h refl c.in-Ok-of_area.ensures.whole in
-    on_ok c.checked.result _ (λ ok. groups_sound c.args.inst c.args.device.now c.is_some.result c.unwrap_or-m.result log.groups log.gate log.tail h whole c.in-Ok-of_area.ensures.tail (c.checked.ensures.sound.0 ok))
+    let read = subst (λ (x : Area). IfWhole x (λ (l : LogState). reading c.unwrap_or-m.result.start (take 1048576 (drop 130 c.args.device.now)) ≡ Whole l.groups l.gate)) c.in-Whole.is c.in_ok-log.ensures.whole in
+    let whole = kept_is c.args.device.now _ c.is_some.result c.unwrap_or-m.result (Whole log.groups log.gate) h refl read in
+    let none = subst (λ (x : Area). IfWhole x (λ (l : LogState). l.tail ≡ [])) c.in-Whole.is c.in_ok-log.ensures.tail in
+    IfOk-weaker c.checked.result _ (λ _. GroupsAreSound c.args.inst c.args.device.now) (λ l ok. groups_sound c.args.inst c.args.device.now c.is_some.result c.unwrap_or-m.result log.groups log.gate log.tail h whole none ok) c.checked.ensures.sound
 
-pub returns-in-Ok-of_area-clause-kept : goal.returns-in-Ok-of_area-clause-kept
-returns-in-Ok-of_area-clause-kept c =
-    let log = c.in-Ok-of_area.log in
-    let h = says_of c.args.device.now (is_some c.in-Ok.chosen) c.in-Ok.chosen c.unwrap_or-m.result _ refl refl c.unwrap_or-m.ensures c.in-Ok.ensures.read (c.in-Ok.ensures.sound.0 refl) in
-    let whole = kept_is c.args.device.now _ _ c.unwrap_or-m.result (Whole log.groups log.gate) h refl c.in-Ok-of_area.ensures.whole in
+pub returns-in-Whole-clause-kept : goal.returns-in-Whole-clause-kept
+returns-in-Whole-clause-kept c =
+    let log = c.in-Whole.log in
+    let h = says_of c.args.device.now c.is_some.result c.in-Ok.chosen c.unwrap_or-m.result _ c.is_some.ensures refl c.unwrap_or-m.ensures c.in-Ok.ensures.read (c.in-Ok.ensures.sound.0 refl) in
+    let read = subst (λ (x : Area). IfWhole x (λ (l : LogState). reading c.unwrap_or-m.result.start (take 1048576 (drop 130 c.args.device.now)) ≡ Whole l.groups l.gate)) c.in-Whole.is c.in_ok-log.ensures.whole in
+    let whole = kept_is c.args.device.now _ c.is_some.result c.unwrap_or-m.result (Whole log.groups log.gate) h refl read in
     if_same c.checked.result log (λ (l : LogState). kept c.args.device.now ≡ Whole l.groups l.gate) c.checked.ensures.same whole
 
-pub returns-in-Ok-of_area-clause-unsound : goal.returns-in-Ok-of_area-clause-unsound
-returns-in-Ok-of_area-clause-unsound c dev at is one two =
-    let log = c.in-Ok-of_area.log in
+pub returns-in-Whole-clause-place : goal.returns-in-Whole-clause-place
+returns-in-Whole-clause-place c dev at is =
+    let log = c.in-Whole.log in
     let h = says_of c.args.device.now c.is_some.result c.in-Ok.chosen c.unwrap_or-m.result _ c.is_some.ensures refl c.unwrap_or-m.ensures c.in-Ok.ensures.read (c.in-Ok.ensures.sound.0 refl) in
-    let whole = kept_is c.args.device.now _ c.is_some.result c.unwrap_or-m.result (Whole log.groups log.gate) h refl c.in-Ok-of_area.ensures.whole in
-    not_ok c.checked.result _ is (c.checked.ensures.sound.1 (checks_hold c.args.inst c.args.device.now c.is_some.result c.unwrap_or-m.result log.groups log.gate log.tail h whole c.in-Ok-of_area.ensures.tail one two))
+    let read = subst (λ (x : Area). IfWhole x (λ (l : LogState). reading c.unwrap_or-m.result.start (take 1048576 (drop 130 c.args.device.now)) ≡ Whole l.groups l.gate)) c.in-Whole.is c.in_ok-log.ensures.whole in
+    let whole = kept_is c.args.device.now _ c.is_some.result c.unwrap_or-m.result (Whole log.groups log.gate) h refl read in
+    let none = subst (λ (x : Area). IfWhole x (λ (l : LogState). l.tail ≡ [])) c.in-Whole.is c.in_ok-log.ensures.tail in
+    let first = front_is c.args.device.now _ c.is_some.result c.unwrap_or-m.result (scanned log) h refl (ap (λ (x : Area). map entry (read_of x)) (sym c.in-Whole.is) ∙ c.in_ok-log.ensures.front) in
+    whole_fails c.args.inst c.args.device.now c.is_some.result c.unwrap_or-m.result (scanned log) (R.Damaged dev at) dev at h (subst IsWhole (sym whole) tt) (all_records c.args.device.now log.groups log.gate log.tail whole none) first
+    (IfErr-at_err (Told c.args.inst c.is_some.result c.unwrap_or-m.result (scanned log)) is c.checked.ensures.err) refl
 
-pub returns-in-Err-clause-unsound : goal.returns-in-Err-clause-unsound
-returns-in-Err-clause-unsound c dev at is one two =
-    let h = says_of c.args.device.now (is_some c.in-Ok.chosen) c.in-Ok.chosen c.unwrap_or-m.result _ refl refl c.unwrap_or-m.ensures c.in-Ok.ensures.read (c.in-Ok.ensures.sound.0 refl) in
-    elim c.in-Err.ensures.refusals [
-      | inl lacks ↦ let memory = c.of_device.ensures.memory lacks in absurd (cc)
-      | inr others ↦ elim others [
-        | inl x ↦ no_group c.args.inst c.args.device.now x.0 (kept_is c.args.device.now _ _ c.unwrap_or-m.result (BadGroup x.0) h refl (c.in-Err.ensures.bad_log x.0 (ap (λ y. Err y) x.1))) two
-        | inr x ↦ no_record c.args.inst c.args.device.now x.0 (kept_is c.args.device.now _ _ c.unwrap_or-m.result (NoRecord x.0) h refl (c.in-Err.ensures.bad_record x.0 (ap (λ y. Err y) x.1))) two
-      ]
-    ]
+pub returns-in-Whole-clause-unsound : goal.returns-in-Whole-clause-unsound
+returns-in-Whole-clause-unsound c dev at is one two = fails_not c.args.inst c.args.device.now at (returns-in-Whole-clause-place c dev at is) one two
+
+pub returns-in-Broken-clause-place : goal.returns-in-Broken-clause-place
+returns-in-Broken-clause-place c dev at is =
+    let m = c.unwrap_or-m.result in
+    let chosen = c.is_some-in-Broken.result in
+    let part : List ℕ = take 1048576 (drop 130 c.args.device.now) in
+    let h = says_of c.args.device.now chosen c.in-Ok.chosen m _ c.is_some-in-Broken.ensures refl c.unwrap_or-m.ensures c.in-Ok.ensures.read (c.in-Ok.ensures.sound.0 refl) in
+    let first = front_is c.args.device.now _ chosen m c.deref.result.now h refl (ap (map entry) c.deref.ensures.value ∙ ap (λ (x : Area). map entry (read_of x)) (sym c.in-Broken.is) ∙ c.in_ok-log.ensures.front) in
+    let group = subst (λ (x : Area). IfBroken x (λ (f : Refusal). (p : ℕ) → f ≡ R.BadLog p → reading m.start part ≡ BadGroup p)) c.in-Broken.is c.in_ok-log.ensures.bad_log in
+    let rec = subst (λ (x : Area). IfBroken x (λ (f : Refusal). (p : ℕ) → f ≡ R.BadRecord p → reading m.start part ≡ NoRecord p)) c.in-Broken.is c.in_ok-log.ensures.bad_record in
+    let there = subst (λ (x : Area). IfBroken x (λ (f : Refusal). (p : ℕ) × IsAt f p × (p < 1048576))) c.in-Broken.is c.in_ok-log.ensures.refusals in
+    let broke : Broke c.args.device.now c.in-Broken.fault = (λ p e. kept_is c.args.device.now _ chosen m (BadGroup p) h refl (group p e), λ p e. kept_is c.args.device.now _ chosen m (NoRecord p) h refl (rec p e)) in
+    broken_fails c.args.inst c.args.device.now chosen m c.deref.result.now c.in-Broken.fault c.broken.result dev at h first broke there c.broken.ensures (err_same c.broken.result (R.Damaged dev at) is)
+
+pub returns-in-Broken-clause-unsound : goal.returns-in-Broken-clause-unsound
+returns-in-Broken-clause-unsound c dev at is one two = fails_not c.args.inst c.args.device.now at (returns-in-Broken-clause-place c dev at is) one two
