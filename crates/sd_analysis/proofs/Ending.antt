@@ -1,27 +1,37 @@
 -- The losers of a table of the whole log: for the goals of `losers_of`.
-use Rattle.std.proofs.Common.{◌≡◌, inl, inr, ⊎_elim, Bool, true, false, cond, List, [], ◌∷◌, ◌++◌, map, Option, None, Some, refl, sym, ap, ◌∙◌, subst, append_assoc, append-nil}
+use Rattle.std.proofs.Common.{◌≡◌, ◌≢◌, ◌⊎◌, inl, inr, ⊎_elim, ℕ, zero, suc, ◌<◌, ◌≤◌, Bool, true, false, cond, List, [], ◌∷◌, ◌++◌, length, take, drop, map, slice_get, arith, Option, None, Some, refl, sym, ap, ◌∙◌, subst, append_assoc, append-nil}
 use Rattle.std.specs.List.{list_any, AllByRecursion}
 use Rattle.std.specs.List.Sorted.{IsStrictlySortedBy}
 use Rattle.std.specs.Map.{keys_of, lookup}
 use Rattle.std.specs.Ordering.{is_eq}
 use Rattle.std.specs.declared.cmp.Ordering.TheVariants.{Less}
-use Rattle.std.proofs.lemmas.Bool.{cases_Bool}
+use Rattle.std.specs.Prelude.{is_some, IfSome, MatchOption}
+use Rattle.std.proofs.lemmas.Bool.{cases_Bool, cases_lt}
+use Rattle.std.proofs.lemmas.List.{length-map}
+use Rattle.std.proofs.lemmas.Option.{slice_get_within}
+use Rattle.sd_logrec.specs.View.{Rec, flat}
 use Rattle.std.proofs.lemmas.Map.Keys.{sorted_head, sorted_tail}
 use Rattle.sd_base.specs.declared.ids.TxnId.{TxnId}
 use Rattle.sd_base.specs.Ids.{same_txn, IsBelow}
 use Rattle.sd_log.specs.declared.placed.Placed.{Placed}
 use Rattle.sd_log.specs.Logs.{flats}
 use Rattle.sd_chain.specs.Records.{Each, IsOpen}
-use Rattle.sd_chain.specs.Order.{none_yet, of_txn, Tidy}
+use Rattle.sd_chain.specs.Order.{after_all, first_prev, none_yet, of_txn, speaks, Tidy}
+use Rattle.sd_chain.specs.Faults.{BeginsLate, IsFirstMisplaced, IsMisplaced, IsWrong}
+use Rattle.sd_chain.proofs.Lists.{Each-append, Each-weaker}
 use Rattle.sd_chain.specs.Undoing.{Member}
 use Rattle.sd_chain.proofs.Txns.{cases_txn, eq-same, ne-same}
 use Rattle.sd_analysis.specs.declared.losers.Loser.{Loser}
 use Rattle.sd_analysis.specs.declared.seen.Seen.{Seen}
-use Rattle.sd_analysis.specs.Faults.{BeginsWrong}
-use Rattle.sd_analysis.specs.Losers.{AreAt, AreLosers, AreTidy, IsLoser, Rise}
-use Rattle.sd_analysis.specs.Seen.{Tells, TellsOf, TellsAll}
+use Rattle.sd_analysis.specs.Misplaced.{Covers, IsLeast, IsOff, IsWrongYet}
+use Rattle.sd_analysis.specs.Losers.{record_at, AreAt, AreLosers, AreTidy, IsLoser, Rise}
+use Rattle.sd_analysis.specs.Seen.{EndsAt, Tells, TellsOf, TellsAll}
 use Rattle.sd_analysis.proofs.Keyed.{txn_cmp, txn_is_eq, below_from_cmp}
-use Rattle.sd_analysis.proofs.Prefixes.{open_from, open_ones-is, shut_open, Tidy-none}
+use Rattle.sd_analysis.proofs.Closers.{open_shuts}
+use Rattle.sd_analysis.proofs.Misplaced.{any_at, any_before, parts_at, tidy_not}
+use Rattle.sd_analysis.proofs.Orders.{none_tidy}
+use Rattle.sd_analysis.proofs.Prefixes.{both, first_prev-behind, open_ones-is, own_is, own_of}
+use Rattle.sd_analysis.proofs.Steps.{if_some}
 
 abbrev pub Row : Type 0
 Row = TxnId × Seen
@@ -32,20 +42,24 @@ loser_of row = record { txn = row.0; «open» = row.1.open.items }
 -- the rows that aren't closed
 abbrev pub losers_in : List Row → List Loser
 losers_in [] = []
-losers_in (row ∷ rows) = cond {A = List Loser} row.1.closed (losers_in rows) (loser_of row ∷ losers_in rows)
+losers_in (row ∷ rows) = cond {A = List Loser} (is_some row.1.closed) (losers_in rows) (loser_of row ∷ losers_in rows)
 
--- closed, or with its first record
-abbrev pub IsWhole : Row → Type 0
-IsWhole row = row.1.closed ≡ false → row.1.first_prev ≡ 0
+-- where the transaction runs and its first record isn't the first that it wrote, that record or a lower one is told
+abbrev pub IsCovered : Option ℕ → Row → Type 0
+IsCovered worst row = row.1.closed ≡ None → row.1.first_prev ≢ 0 → Covers worst row.1.first
 
 abbrev pub IsTold : List Placed → Row → Type 0
 IsTold log row = Tells log (flats log) row.0 row.1
 
--- the rows that are left, and the losers so far
-pub record Ending (log : List Placed) (rows left : List Row) (losers : List Loser) : Type 0 where
+-- the rows that are left, and the losers and the least index so far
+pub record Ending (log : List Placed) (rows left : List Row) (losers : List Loser) (worst : Option ℕ) : Type 0 where
   pub parts : losers ++ losers_in left ≡ losers_in rows
   pub told : Each (IsTold log) left
-  pub whole : Each IsWhole left → Each IsWhole rows
+  pub hit : IfSome worst (IsMisplaced (flats log))
+  pub off : (j : ℕ) → IsOff (flats log) j → Covers worst j
+  pub past : List Row
+  pub rows_are : rows ≡ past ++ left
+  pub covered : Each (IsCovered worst) past
 
 abbrev pub IsOrdered : List Row → Type 0
 IsOrdered rows = IsStrictlySortedBy txn_cmp (keys_of rows)
@@ -85,45 +99,103 @@ found_each P (row ∷ rows) t seen each found = ⊎_elim
 pub all_told : (log : List Placed) (rows : List Row) → IsOrdered rows → TellsAll log (flats log) rows → Each (IsTold log) rows
 all_told log rows ordered known = each_found (IsTold log) rows ordered (λ t seen found. subst (TellsOf log (flats log) t) found (known t))
 
--- ---- each transaction is in order
+-- ---- misplaced records
 
-tidy_told : (log : List Placed) (t : TxnId) (seen : Seen) → Tells log (flats log) t seen → IsWhole (t, seen) → Tidy t (flats log)
-tidy_told log t seen tells whole = record {
-  order = tells.order;
-  first = λ o. sym tells.prev ∙ whole (tells.fits.closed_is ∙ shut_open t none_yet (flats log) refl o);
-  undo = λ e. tells.undo (tells.prev ∙ e);
-}
+runs_if : (o : Option ℕ) → is_some o ≡ false → o ≡ None
+runs_if None e = refl
+runs_if (Some k) e = absurd (cc)
 
-pub all_tidy : (log : List Placed) (rows : List Row) → TellsAll log (flats log) rows → Each IsWhole rows → AreTidy log
-all_tidy log rows known whole t = go (lookup (same_txn t) rows) refl (known t)
+get-flats : (log : List Placed) (at : ℕ) → record_at log at ≡ slice_get (flats log) at
+get-flats [] zero = refl
+get-flats [] (suc at) = refl
+get-flats (p ∷ ps) zero = refl
+get-flats (p ∷ ps) (suc at) = get-flats ps at
+
+take-flats : (log : List Placed) (at : ℕ) → flats (take at log) ≡ take at (flats log)
+take-flats [] zero = refl
+take-flats [] (suc at) = refl
+take-flats (p ∷ ps) zero = refl
+take-flats (p ∷ ps) (suc at) = ap (λ (l : List Rec). flat p.rec ∷ l) (take-flats ps at)
+
+-- one that begins late
+late_misplaced : (log : List Placed) (t : TxnId) (seen : Seen) → Tells log (flats log) t seen → seen.closed ≡ None → seen.first_prev ≢ 0 → IsMisplaced (flats log) seen.first
+late_misplaced log t seen tells runs late =
+    let f = tells.first in
+    let named : f.here.txn ≡ t = own_is t f.here f.own in
+    record {
+      here = f.here;
+      there = sym (get-flats log seen.first) ∙ f.there;
+      own = (both (speaks f.here.kind) (same_txn f.here.txn t) f.own).0;
+      wrong = inr (inl (
+        ap (λ (u : TxnId). list_any (of_txn u) (take seen.first (flats log))) named ∙ ap (list_any (of_txn t)) (sym (take-flats log seen.first)) ∙ f.none,
+        (λ z. late (sym f.prev_is ∙ z)),
+        subst (λ (u : TxnId). IsOpen u (flats log)) (sym named) (subst (EndsAt (flats log) t) runs tells.closed),
+      ));
+    }
+
+off_misplaced : (xs : List Rec) (j : ℕ) → IsOff xs j → IsMisplaced xs j
+off_misplaced xs j off = record { here = off.here; there = off.there; own = off.own; wrong = go off.wrong }
   where
-    go : (row : Option Seen) → lookup (same_txn t) rows ≡ row → TellsOf log (flats log) t row → Tidy t (flats log)
-    go None is none = Tidy-none t (flats log) none
-    go (Some seen) is tells = tidy_told log t seen tells
-        (found_each (λ (s : Seen). s.closed ≡ false → s.first_prev ≡ 0) rows t seen whole is)
+    go : IsWrongYet xs j (after_all off.here.txn none_yet (take j xs)) off.here → IsWrong xs j (after_all off.here.txn none_yet (take j xs)) off.here
+    go (inl g) = inl g
+    go (inr w) = inr (inr w)
 
--- one that isn't closed must have its first record
-pub not_whole : (log : List Placed) (t : TxnId) (seen : Seen) → Tells log (flats log) t seen → seen.closed ≡ false
-    → (seen.first_prev ≡ 0 → ⊥) → AreTidy log → ⊥
-not_whole log t seen tells runs bad tidy =
-    bad (tells.prev ∙ (tidy t).first (open_from t none_yet (flats log) tells.order (sym tells.fits.closed_is ∙ runs)))
+-- a row of a log that is noted, by the transaction of a record that begins late
+row_covers : (log : List Placed) (rows : List Row) (worst : Option ℕ) → TellsAll log (flats log) rows → Each (IsCovered worst) rows → (j : ℕ) (x : Rec) → slice_get (flats log) j ≡ Some x → speaks x.kind ≡ true → BeginsLate (flats log) j x → Covers worst j
+row_covers log rows worst known covered j x there own late = go (lookup (same_txn x.txn) rows) refl (known x.txn)
+  where
+    go : (row : Option Seen) → lookup (same_txn x.txn) rows ≡ row → TellsOf log (flats log) x.txn row → Covers worst j
+    go None is none = let c = sym none ∙ any_at (of_txn x.txn) (flats log) j x there (own_of x own) in absurd (cc)
+    go (Some seen) is tells = lower worst seen.first j (covers seen.closed refl tells.closed) (⊎_elim
+        (λ lt. let c = sym tells.first.none ∙ ap (list_any (of_txn x.txn)) (take-flats log seen.first) ∙ any_before (of_txn x.txn) (flats log) j seen.first x lt there (own_of x own) in absurd (cc))
+        (λ le. le) (cases_lt j seen.first))
+      where
+        lower : (o : Option ℕ) (a b : ℕ) → Covers o a → a ≤ b → Covers o b
+        lower None a b h le = h
+        lower (Some k) a b h le = omega arith
 
--- and its first record is at fault
-pub begins_wrong : (log : List Placed) (t : TxnId) (seen : Seen) → Tells log (flats log) t seen → seen.closed ≡ false
-    → (seen.first_prev ≡ 0 → ⊥) → BeginsWrong log seen.first
-begins_wrong log t seen tells runs late = record {
-  txn = t;
-  prev = seen.first_prev;
-  first = tells.first;
-  late = late;
-  runs = open_from t none_yet (flats log) tells.order (sym tells.fits.closed_is ∙ runs);
+        first : first_prev x.txn (flats log) ≡ x.prev
+        first = ap (first_prev x.txn) (parts_at (flats log) j x there) ∙ first_prev-behind x.txn (take j (flats log)) (x ∷ drop (suc j) (flats log)) late.0 ∙ ap (λ b. cond b x.prev (first_prev x.txn (drop (suc j) (flats log)))) (own_of x own)
+
+        covers : (o : Option ℕ) → seen.closed ≡ o → EndsAt (flats log) x.txn o → Covers worst seen.first
+        covers None e runs = found_each (λ (s : Seen). s.closed ≡ None → s.first_prev ≢ 0 → Covers worst s.first) rows x.txn seen covered is e (λ z. late.1 (sym first ∙ sym tells.prev ∙ z))
+        covers (Some k) e end = absurd (open_shuts x.txn (flats log) k end.here late.2 end.there end.closes (own_is x.txn end.here end.own))
+
+-- each misplaced record, or one before it, is told
+pub all_covered : (log : List Placed) (rows : List Row) (worst : Option ℕ) → TellsAll log (flats log) rows → ((j : ℕ) → IsOff (flats log) j → Covers worst j) → Each (IsCovered worst) rows → (j : ℕ) → IsMisplaced (flats log) j → Covers worst j
+all_covered log rows worst known off covered j m = go m.wrong
+  where
+    still : IsWrongYet (flats log) j (after_all m.here.txn none_yet (take j (flats log))) m.here → Covers worst j
+    still w = off j record { here = m.here; there = m.there; own = m.own; wrong = w }
+
+    go : IsWrong (flats log) j (after_all m.here.txn none_yet (take j (flats log))) m.here → Covers worst j
+    go (inl g) = still (inl g)
+    go (inr (inl late)) = row_covers log rows worst known covered j m.here m.there m.own late
+    go (inr (inr w)) = still (inr w)
+
+pub first_of_all : (xs : List Rec) (worst : Option ℕ) (at : ℕ) → worst ≡ Some at → IfSome worst (IsMisplaced xs) → ((j : ℕ) → IsMisplaced xs j → Covers worst j) → IsFirstMisplaced xs at
+first_of_all xs worst at is hit covers = record {
+  wrong = subst (λ (o : Option ℕ). IfSome o (IsMisplaced xs)) is hit;
+  least = λ j lt m. let le : at ≤ j = subst (λ (o : Option ℕ). Covers o j) is (covers j m) in absurd (omega arith);
 }
+
+pub none_at_all : (xs : List Rec) (worst : Option ℕ) → worst ≡ None → ((j : ℕ) → IsMisplaced xs j → Covers worst j) → (t : TxnId) → Tidy t xs
+none_at_all xs worst is covers t = none_tidy xs (λ k m. subst (λ (o : Option ℕ). Covers o k) is (covers k m)) t
+
+pub first_disorders : (log : List Placed) (at : ℕ) → IsFirstMisplaced (flats log) at → AreTidy log → ⊥
+first_disorders log at first tidy = tidy_not (flats log) at tidy first.wrong
+
+pub first_within : (log : List Placed) (at : ℕ) → IsFirstMisplaced (flats log) at → at < length log
+first_within log at first =
+    let lt = slice_get_within (flats log) at first.wrong.here first.wrong.there in
+    let size = length-map log (λ (p : Placed). flat p.rec) in
+    omega arith
 
 -- ---- the losers
 
-loser_told : (log : List Placed) (row : Row) → IsTold log row → row.1.closed ≡ false → IsLoser log (loser_of row)
+loser_told : (log : List Placed) (row : Row) → IsTold log row → row.1.closed ≡ None → IsLoser log (loser_of row)
 loser_told log row tells runs = record {
-  runs = open_from row.0 none_yet (flats log) tells.order (sym tells.fits.closed_is ∙ runs);
+  runs = subst (EndsAt (flats log) row.0) runs tells.closed;
   there = tells.there;
   stack_is = subst (AreAt log row.1.open.items) (open_ones-is row.0 none_yet (flats log)) tells.fits.open_is;
 }
@@ -131,32 +203,32 @@ loser_told log row tells runs = record {
 each_loser : (log : List Placed) (rows : List Row) → Each (IsTold log) rows → Each (IsLoser log) (losers_in rows)
 each_loser log [] told = tt
 each_loser log (row ∷ rows) told = ⊎_elim (λ shut. rw shut (each_loser log rows told.1))
-    (λ runs. rw runs (loser_told log row told.0 runs, each_loser log rows told.1)) (cases_Bool row.1.closed)
+    (λ runs. rw runs (loser_told log row told.0 (runs_if row.1.closed runs), each_loser log rows told.1)) (cases_Bool (is_some row.1.closed))
 
 below_each : (t : TxnId) (rows : List Row) → AllByRecursion (λ y. txn_cmp t y ≡ Less) (keys_of rows)
     → Each (λ (other : Loser). IsBelow t other.txn) (losers_in rows)
 below_each t [] a = tt
 below_each t (row ∷ rows) a = ⊎_elim (λ shut. rw shut (below_each t rows a.1))
-    (λ runs. rw runs (below_from_cmp t row.0 a.0, below_each t rows a.1)) (cases_Bool row.1.closed)
+    (λ runs. rw runs (below_from_cmp t row.0 a.0, below_each t rows a.1)) (cases_Bool (is_some row.1.closed))
 
 rise_in : (rows : List Row) → IsOrdered rows → Rise (losers_in rows)
 rise_in [] ordered = tt
 rise_in (row ∷ rows) ordered =
     let rest = rise_in rows (sorted_tail txn_cmp row.0 (keys_of rows) ordered) in
     ⊎_elim (λ shut. rw shut rest)
-    (λ runs. rw runs (below_each row.0 rows (sorted_head txn_cmp row.0 (keys_of rows) ordered), rest)) (cases_Bool row.1.closed)
+    (λ runs. rw runs (below_each row.0 rows (sorted_head txn_cmp row.0 (keys_of rows) ordered), rest)) (cases_Bool (is_some row.1.closed))
 
 is_same : (t u : TxnId) → same_txn t u ≡ true → t ≡ u
 is_same t u e = ⊎_elim (λ is. is) (λ ne. let f = ne-same t u ne in absurd (cc)) (cases_txn t u)
 
-member_in : (t : TxnId) (seen : Seen) (rows : List Row) → lookup (same_txn t) rows ≡ Some seen → seen.closed ≡ false
+member_in : (t : TxnId) (seen : Seen) (rows : List Row) → lookup (same_txn t) rows ≡ Some seen → is_some seen.closed ≡ false
     → Member t (map (λ l. l.txn) (losers_in rows))
 member_in t seen [] found runs = absurd (cc)
 member_in t seen (row ∷ rows) found runs = ⊎_elim
     (λ is. let e : row.1 ≡ seen = (let f = rw is at found in cc) in
-    let unshut : row.1.closed ≡ false = ap (λ (s : Seen). s.closed) e ∙ runs in rw unshut (inl (is_same t row.0 is)))
+    let unshut : is_some row.1.closed ≡ false = ap (λ (s : Seen). is_some s.closed) e ∙ runs in rw unshut (inl (is_same t row.0 is)))
     (λ off. let rest = member_in t seen rows (rw off at found) runs in
-    ⊎_elim (λ shut. rw shut rest) (λ unshut. rw unshut (inr rest)) (cases_Bool row.1.closed))
+    ⊎_elim (λ shut. rw shut rest) (λ unshut. rw unshut (inr rest)) (cases_Bool (is_some row.1.closed)))
     (cases_Bool (same_txn t row.0))
 
 pub all_losers : (log : List Placed) (rows : List Row) → IsOrdered rows → TellsAll log (flats log) rows → AreLosers log (losers_in rows)
@@ -169,30 +241,71 @@ all_losers log rows ordered known = record {
     go : (t : TxnId) → IsOpen t (flats log) → list_any (of_txn t) (flats log) ≡ true → (row : Option Seen) → lookup (same_txn t) rows ≡ row
         → TellsOf log (flats log) t row → Member t (map (λ l. l.txn) (losers_in rows))
     go t o there None is none = let c = sym there ∙ none in absurd (cc)
-    go t o there (Some seen) is tells = member_in t seen rows is (tells.fits.closed_is ∙ shut_open t none_yet (flats log) refl o)
+    go t o there (Some seen) is tells = member_in t seen rows is (runs seen.closed tells.closed)
+      where
+        runs : (c : Option ℕ) → EndsAt (flats log) t c → is_some c ≡ false
+        runs None e = refl
+        runs (Some k) e = absurd (open_shuts t (flats log) k e.here o e.there e.closes (own_is t e.here e.own))
 
 -- ---- one row after another
 
-pub ending_start : (log : List Placed) (rows : List Row) → IsOrdered rows → TellsAll log (flats log) rows → Ending log rows rows []
-ending_start log rows ordered known = record { parts = refl; told = all_told log rows ordered known; whole = λ w. w }
-
-pub ending_shut : (log : List Placed) (rows left : List Row) (row : Row) (losers : List Loser) → Ending log rows (row ∷ left) losers
-    → row.1.closed ≡ true → Ending log rows left losers
-ending_shut log rows left row losers ending shut = record {
-  parts = ap (λ (b : Bool). losers ++ cond {A = List Loser} b (losers_in left) (loser_of row ∷ losers_in left)) (sym shut) ∙ ending.parts;
-  told = ending.told.1;
-  whole = λ w. ending.whole ((λ runs. let c = sym shut ∙ runs in absurd (cc)), w);
+pub ending_start : (log : List Placed) (rows : List Row) (worst : Option ℕ) → IsOrdered rows → TellsAll log (flats log) rows → IsLeast (flats log) worst → Ending log rows rows [] worst
+ending_start log rows worst ordered known least = record {
+  parts = refl;
+  told = all_told log rows ordered known;
+  hit = if_some worst (IsOff (flats log)) (IsMisplaced (flats log)) (λ j off. off_misplaced (flats log) j off) least.hit;
+  off = least.covers;
+  past = [];
+  rows_are = refl;
+  covered = tt;
 }
 
-pub ending_open : (log : List Placed) (rows left : List Row) (row : Row) (losers : List Loser) → Ending log rows (row ∷ left) losers
-    → row.1.closed ≡ false → row.1.first_prev ≡ 0 → Ending log rows left (losers ++ loser_of row ∷ [])
-ending_open log rows left row losers ending runs first = record {
+rows_more : (rows past left : List Row) (row : Row) → rows ≡ past ++ row ∷ left → rows ≡ (past ++ row ∷ []) ++ left
+rows_more rows past left row e = e ∙ sym (append_assoc past (row ∷ []) left)
+
+pub ending_shut : (log : List Placed) (rows left : List Row) (row : Row) (losers : List Loser) (worst : Option ℕ) → Ending log rows (row ∷ left) losers worst
+    → is_some row.1.closed ≡ true → Ending log rows left losers worst
+ending_shut log rows left row losers worst ending shut = record {
+  parts = ap (λ (b : Bool). losers ++ cond {A = List Loser} b (losers_in left) (loser_of row ∷ losers_in left)) (sym shut) ∙ ending.parts;
+  told = ending.told.1;
+  hit = ending.hit;
+  off = ending.off;
+  past = ending.past ++ row ∷ [];
+  rows_are = rows_more rows ending.past left row ending.rows_are;
+  covered = Each-append (IsCovered worst) ending.past (row ∷ []) ending.covered ((λ runs. let c = sym shut ∙ ap (λ (o : Option ℕ). is_some o) runs in absurd (cc)), tt);
+}
+
+-- what is told of a first record that isn't the first that was written
+abbrev pub IsLate : Seen → Option ℕ → Type 0
+IsLate seen found = MatchOption found (seen.first_prev ≡ 0) (λ k. (k ≡ seen.first) × (seen.first_prev ≢ 0))
+
+late_covers : (seen : Seen) (found : Option ℕ) → IsLate seen found → seen.first_prev ≢ 0 → Covers found seen.first
+late_covers seen None l late = absurd (late l)
+late_covers seen (Some k) l late = let e = l.0 in omega arith
+
+late_hits : (log : List Placed) (t : TxnId) (seen : Seen) (found : Option ℕ) → Tells log (flats log) t seen → seen.closed ≡ None → IsLate seen found → IfSome found (IsMisplaced (flats log))
+late_hits log t seen None tells runs l = tt
+late_hits log t seen (Some k) tells runs l = subst (IsMisplaced (flats log)) (sym l.0) (late_misplaced log t seen tells runs l.1)
+
+pub ending_open : (log : List Placed) (rows left : List Row) (row : Row) (losers : List Loser) (worst late least : Option ℕ) → Ending log rows (row ∷ left) losers worst
+    → is_some row.1.closed ≡ false → IsLate row.1 late → ((least ≡ worst) ⊎ (least ≡ late)) → ((j : ℕ) → Covers worst j ⊎ Covers late j → Covers least j) → Ending log rows left (losers ++ loser_of row ∷ []) least
+ending_open log rows left row losers worst late least ending runs is_late either covers = record {
   parts = append_assoc losers (loser_of row ∷ []) (losers_in left)
       ∙ ap (λ (b : Bool). losers ++ cond {A = List Loser} b (losers_in left) (loser_of row ∷ losers_in left)) (sym runs) ∙ ending.parts;
   told = ending.told.1;
-  whole = λ w. ending.whole ((λ o. first), w);
+  hit = ⊎_elim (λ e. subst (λ (o : Option ℕ). IfSome o (IsMisplaced (flats log))) (sym e) ending.hit)
+      (λ e. subst (λ (o : Option ℕ). IfSome o (IsMisplaced (flats log))) (sym e) (late_hits log row.0 row.1 late ending.told.0 (runs_if row.1.closed runs) is_late)) either;
+  off = λ j off. covers j (inl (ending.off j off));
+  past = ending.past ++ row ∷ [];
+  rows_are = rows_more rows ending.past left row ending.rows_are;
+  covered = Each-append (IsCovered least) ending.past (row ∷ [])
+      (Each-weaker (IsCovered worst) (IsCovered least) (λ r f open_ some. covers r.1.first (inl (f open_ some))) ending.past ending.covered)
+      ((λ open_ some. covers row.1.first (inr (late_covers row.1 late is_late some))), tt);
 }
 
-pub ending_all : (log : List Placed) (rows : List Row) (losers : List Loser) → Ending log rows [] losers
-    → (losers ≡ losers_in rows) × Each IsWhole rows
-ending_all log rows losers ending = (sym (append-nil losers) ∙ ending.parts, ending.whole tt)
+pub ending_all : (log : List Placed) (rows : List Row) (losers : List Loser) (worst : Option ℕ) → Ending log rows [] losers worst
+    → (losers ≡ losers_in rows) × Each (IsCovered worst) rows
+ending_all log rows losers worst ending = (
+  sym (append-nil losers) ∙ ending.parts,
+  subst (Each (IsCovered worst)) (sym (ending.rows_are ∙ append-nil ending.past)) ending.covered,
+)

@@ -16,7 +16,7 @@ pub record EndsWith {X : Type 0} (xs : List X) (x : X) : Type 0 where
   pub front : List X
   pub parts : xs ≡ front ++ x ∷ []
 
-at_end : {X : Type 0} (xs : List X) (x : X) → slice_get (xs ++ x ∷ []) (length xs) ≡ Some x
+pub at_end : {X : Type 0} (xs : List X) (x : X) → slice_get (xs ++ x ∷ []) (length xs) ≡ Some x
 at_end [] x = refl
 at_end (y ∷ xs) x = at_end xs x
 

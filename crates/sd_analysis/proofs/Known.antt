@@ -1,33 +1,33 @@
 -- What the table has of a transaction, with one record more: for the goals of `note`.
-use Rattle.std.proofs.Common.{◌≡◌, ⊎_elim, ℕ, ◌+◌, ◌<◌, Bool, true, false, cond, List, [], ◌∷◌, ◌++◌, length, take, drop, get_or, Option, None, Some, refl, sym, ap, ◌∙◌, subst, append_assoc}
+use Rattle.std.proofs.Common.{◌≡◌, ◌⊎◌, ⊎_elim, ℕ, ◌+◌, ◌<◌, Bool, true, false, cond, List, [], ◌∷◌, ◌++◌, length, take, get_or, Option, None, Some, refl, sym, ap, ◌∙◌, subst, arith}
 use Rattle.std.specs.List.{list_any}
 use Rattle.std.specs.Map.{lookup}
-use Rattle.std.specs.Prelude.{IsTrue, ◌↔◌}
 use Rattle.std.specs.Option.{option_map, unwrap_or}
 use Rattle.std.proofs.lemmas.Option.{slice_get-get_or}
-use Rattle.std.proofs.lemmas.List.{map-append, take_more, take-append-drop}
+use Rattle.std.proofs.lemmas.List.{length-map, length-take-le, map-append, take_more}
 use Rattle.std.proofs.lemmas.Bool.{cases_Bool}
 use Rattle.sd_base.specs.declared.ids.TxnId.{TxnId}
 use Rattle.sd_base.specs.Ids.{same_txn}
 use Rattle.sd_logrec.specs.View.{Rec, flat}
 use Rattle.sd_log.specs.declared.placed.Placed.{Placed}
 use Rattle.sd_log.specs.Logs.{flats}
-use Rattle.sd_chain.specs.Records.{stack_from}
-use Rattle.sd_chain.specs.Order.{speaks, of_txn, Sofar, none_yet, after_all, InOrder, Undoes, UndoesTop, first_prev}
+use Rattle.sd_chain.specs.Order.{speaks, of_txn, Sofar, none_yet, after_all, first_prev}
 use Rattle.sd_chain.proofs.Txns.{cases_txn, eq-same, ne-same}
 use Rattle.sd_analysis.specs.declared.seen.Seen.{Seen}
-use Rattle.sd_analysis.specs.Losers.{record_at, AreTidy}
-use Rattle.sd_analysis.specs.Faults.{ComesWrong, IsFirst, MayCome}
-use Rattle.sd_analysis.specs.Seen.{with_record, Fits, Tells, TellsOf, TellsAll}
-use Rattle.sd_analysis.proofs.Prefixes.{own_of, other_of, silent_of, advance-own, advance-off, after_all-append, after_all-none, InOrder-append, InOrder-back, InOrder-none, Undoes-append, Undoes-back, Undoes-none, Undoes-off, open_ones-is, first_prev-there, first_prev-behind, first_prev-off}
+use Rattle.sd_analysis.specs.Losers.{record_at}
+use Rattle.sd_analysis.specs.Faults.{IsFirst, MayCome}
+use Rattle.sd_analysis.specs.Misplaced.{Covers, Finds, IsLeast}
+use Rattle.sd_analysis.specs.Seen.{closed_by, with_record, EndsAt, Fits, Judged, Tells, TellsOf, TellsAll}
+use Rattle.sd_analysis.proofs.Closers.{ends_off, ends_own, finds_next, finds_silent, none_open}
+use Rattle.sd_analysis.proofs.Steps.{least_more}
+use Rattle.sd_analysis.proofs.Prefixes.{own_of, other_of, silent_of, advance-own, advance-off, after_all-append, after_all-none, first_prev-there, first_prev-behind, first_prev-off}
 
 -- what is seen of the transaction of x before x, which comes next
 pub record Ready (log : List Placed) (xs : List Rec) (x : Rec) (seen : Seen) : Type 0 where
   pub fits : Fits log (after_all x.txn none_yet xs) seen
   pub first : IsFirst log x.txn seen.first seen.first_prev
   pub prev : seen.first_prev ≡ first_prev x.txn (xs ++ x ∷ [])
-  pub order : InOrder x.txn none_yet xs
-  pub undo : seen.first_prev ≡ 0 → Undoes x.txn [] xs
+  pub closed : EndsAt xs x.txn seen.closed
 
 some_more : (t : TxnId) (xs : List Rec) (x : Rec) → of_txn t x ≡ true → list_any (of_txn t) (xs ++ x ∷ []) ≡ true
 some_more t [] x own = rw own refl
@@ -40,8 +40,8 @@ any_off t (y ∷ ys) x off = ⊎_elim (λ is. rw is refl) (λ not. rw not (any_o
 -- a row of the table, or a new one
 pub ready_from : (log : List Placed) (xs : List Rec) (x : Rec) (at : ℕ) (row : Option Seen) (fresh seen : Seen) → of_txn x.txn x ≡ true
     → xs ≡ flats (take at log) → record_at log at ≡ Some x → TellsOf log xs x.txn row → Fits log none_yet fresh → fresh.first ≡ at
-    → fresh.first_prev ≡ x.prev → seen ≡ unwrap_or row fresh → Ready log xs x seen
-ready_from log xs x at None fresh seen own front there none fits first prev is = subst (Ready log xs x) (sym is) (record {
+    → fresh.first_prev ≡ x.prev → fresh.closed ≡ None → seen ≡ unwrap_or row fresh → Ready log xs x seen
+ready_from log xs x at None fresh seen own front there none fits first prev closed is = subst (Ready log xs x) (sym is) (record {
   fits = subst (λ (q : Sofar). Fits log q fresh) (sym (after_all-none x.txn none_yet xs none)) fits;
   first = subst (λ (n : ℕ). IsFirst log x.txn n fresh.first_prev) (sym first) (record {
     here = x;
@@ -51,31 +51,27 @@ ready_from log xs x at None fresh seen own front there none fits first prev is =
     none = ap (list_any (of_txn x.txn)) (sym front) ∙ none;
   });
   prev = prev ∙ sym (first_prev-behind x.txn xs (x ∷ []) none ∙ ap (λ (b : Bool). cond b x.prev 0) own);
-  order = InOrder-none x.txn none_yet xs none;
-  undo = λ e. Undoes-none x.txn [] xs none;
+  closed = subst (EndsAt xs x.txn) (sym closed) (none_open x.txn xs none);
 })
-ready_from log xs x at (Some row) fresh seen own front there tells fits first prev is = subst (Ready log xs x) (sym is) (record {
+ready_from log xs x at (Some row) fresh seen own front there tells fits first prev closed is = subst (Ready log xs x) (sym is) (record {
   fits = tells.fits;
   first = tells.first;
   prev = tells.prev ∙ sym (first_prev-there x.txn xs (x ∷ []) tells.there);
-  order = tells.order;
-  undo = tells.undo;
+  closed = tells.closed;
 })
 
 -- with the record
 pub tells_more : (log : List Placed) (xs : List Rec) (x : Rec) (seen new : Seen) → of_txn x.txn x ≡ true → Ready log xs x seen
-    → MayCome (after_all x.txn none_yet xs) seen.first_prev x → Fits log (with_record (after_all x.txn none_yet xs) x) new
-    → new.first ≡ seen.first → new.first_prev ≡ seen.first_prev → Tells log (xs ++ x ∷ []) x.txn new
-tells_more log xs x seen new own ready may fits first prev = record {
+    → Fits log (with_record (after_all x.txn none_yet xs) x) new
+    → new.first ≡ seen.first → new.first_prev ≡ seen.first_prev → new.closed ≡ closed_by (length xs) x seen.closed → Tells log (xs ++ x ∷ []) x.txn new
+tells_more log xs x seen new own ready fits first prev closed = record {
   fits = subst (λ (q : Sofar). Fits log q new)
       (sym (after_all-append x.txn none_yet xs (x ∷ []) ∙ advance-own x.txn (after_all x.txn none_yet xs) x own)) fits;
   there = some_more x.txn xs x own;
   first = subst (λ (n : ℕ). IsFirst log x.txn n new.first_prev) (sym first)
       (subst (λ (n : ℕ). IsFirst log x.txn seen.first n) (sym prev) ready.first);
   prev = prev ∙ ready.prev;
-  order = InOrder-append x.txn none_yet xs (x ∷ []) ready.order ((λ is. may.next), tt);
-  undo = λ e. Undoes-append x.txn [] xs (x ∷ []) (ready.undo (sym prev ∙ e))
-      ((λ k is. subst (UndoesTop x) (open_ones-is x.txn none_yet xs) (may.undo (sym prev ∙ e) k)), tt);
+  closed = subst (EndsAt (xs ++ x ∷ []) x.txn) (sym closed) (ends_own xs x seen.closed own ready.closed);
 }
 
 -- a record of another transaction, or of none
@@ -88,8 +84,7 @@ tells_other log xs x t (Some seen) off tells = record {
   there = any_off t xs x off ∙ tells.there;
   first = tells.first;
   prev = tells.prev ∙ sym (first_prev-off t xs x off);
-  order = InOrder-append t none_yet xs (x ∷ []) tells.order ((λ is. let c = sym off ∙ is in absurd (cc)), tt);
-  undo = λ e. Undoes-append t [] xs (x ∷ []) (tells.undo e) (Undoes-off t (stack_from t [] xs) x off);
+  closed = ends_off t xs x seen.closed off tells.closed;
 }
 
 -- the table with the new row
@@ -126,9 +121,6 @@ flats-more log at d lt = ap flats (take_more log at d lt) ∙ map-append (λ (q 
 pub found_at : (log : List Placed) (at : ℕ) (d : Placed) → at < length log → record_at log at ≡ Some (flat (get_or log at d).rec)
 found_at log at d lt = ap (option_map (λ (q : Placed). flat q.rec)) (slice_get-get_or log at d lt)
 
-pub flats-parts : (log : List Placed) (at : ℕ) → flats log ≡ flats (take at log) ++ flats (drop at log)
-flats-parts log at = ap flats (sym (take-append-drop at log)) ∙ map-append (λ (q : Placed). flat q.rec) (take at log) (drop at log)
-
 -- ---- the record of an index
 
 -- the record; where it lies outside, that of d
@@ -146,9 +138,9 @@ pub record Noting (log : List Placed) (at : ℕ) (x : Rec) (t : TxnId) (seen : S
 pub noting : (log : List Placed) (at : ℕ) (d : Placed) (t : TxnId) (rows : List (TxnId × Seen)) (row : Option Seen) (fresh seen : Seen)
     → at < length log → TellsAll log (flats (take at log)) rows
     → Some t ≡ cond (speaks (rec_at log at d).kind) (Some (rec_at log at d).txn) None → row ≡ lookup (same_txn t) rows
-    → Fits log none_yet fresh → fresh.first ≡ at → fresh.first_prev ≡ (rec_at log at d).prev → seen ≡ unwrap_or row fresh
+    → Fits log none_yet fresh → fresh.first ≡ at → fresh.first_prev ≡ (rec_at log at d).prev → fresh.closed ≡ None → seen ≡ unwrap_or row fresh
     → Noting log at (rec_at log at d) t seen
-noting log at d t rows row fresh seen lt known says row_is fits first prev seen_is =
+noting log at d t rows row fresh seen lt known says row_is fits first prev closed seen_is =
     let x = rec_at log at d in
     let s = spoken (speaks x.kind) t x.txn says in
     let own = own_of x s.0 in
@@ -160,67 +152,60 @@ noting log at d t rows row fresh seen lt known says row_is fits first prev seen_
       named = s.1;
       own = own;
       ready = ready_from log (flats (take at log)) x at (lookup (same_txn x.txn) rows) fresh seen own refl there (known x.txn) fits
-          first prev
+          first prev closed
           (seen_is ∙ ap (λ (r : Option Seen). unwrap_or r fresh) held);
     }
 
--- where it may not come, its transaction isn't in order
-pub bad_next : (log : List Placed) (at : ℕ) (x : Rec) (t : TxnId) (seen : Seen) → Noting log at x t seen
-    → (MayCome (after_all x.txn none_yet (flats (take at log))) seen.first_prev x → ⊥) → AreTidy log → ⊥
-bad_next log at x t seen noting bad tidy = bad (record {
-  next = (InOrder-back x.txn none_yet xs (x ∷ ys) (subst (InOrder x.txn none_yet) one (tidy x.txn).order)).0 noting.own;
-  undo = λ e k. subst (UndoesTop x) (sym (open_ones-is x.txn none_yet xs))
-      ((Undoes-back x.txn [] xs (x ∷ ys) (subst (Undoes x.txn []) one ((tidy x.txn).undo (first e)))).0 k refl);
-})
-  where
-    xs : List Rec
-    xs = flats (take at log)
+length_front : (log : List Placed) (at : ℕ) → at < length log → length (flats (take at log)) ≡ at
+length_front log at lt = length-map (take at log) (λ (p : Placed). flat p.rec) ∙ length-take-le at log (omega arith)
 
-    ys : List Rec
-    ys = flats (drop (at + 1) log)
+-- what it shows
+pub finds_it : (log : List Placed) (at : ℕ) (x : Rec) (t : TxnId) (seen : Seen) (found : Option ℕ) → at < length log → Noting log at x t seen
+    → ((k : ℕ) → seen.closed ≡ Some k → found ≡ Some k)
+    → ((sofar : Sofar) → Fits log sofar seen → seen.closed ≡ None → Judged at (MayCome sofar seen.first_prev x) found)
+    → Finds (flats (take at log)) (flats (take (at + 1) log)) found
+finds_it log at x t seen found lt noting shut next =
+    let xs = flats (take at log) in
+    let n : length xs ≡ at = length_front log at lt in
+    subst (λ (ys : List Rec). Finds xs ys found) (sym noting.more)
+    (finds_next xs x seen.closed found seen.first_prev noting.own noting.ready.prev noting.ready.closed shut
+    (λ runs. subst (λ k. Judged k (MayCome (after_all x.txn none_yet xs) seen.first_prev x) found) (sym n) (next (after_all x.txn none_yet xs) noting.ready.fits runs)))
 
-    parts : flats log ≡ (xs ++ x ∷ []) ++ ys
-    parts = flats-parts log (at + 1) ∙ ap (λ (l : List Rec). l ++ ys) noting.more
+-- a record of no transaction shows nothing
+pub finds_none : (log : List Placed) (at : ℕ) (d : Placed) → at < length log → None ≡ cond (speaks (rec_at log at d).kind) (Some (rec_at log at d).txn) None
+    → Finds (flats (take at log)) (flats (take (at + 1) log)) None
+finds_none log at d lt says =
+    let x = rec_at log at d in
+    subst (λ (ys : List Rec). Finds (flats (take at log)) ys None) (sym (flats-more log at d lt))
+    (finds_silent (flats (take at log)) x (unspoken (speaks x.kind) x.txn says))
 
-    one : flats log ≡ xs ++ x ∷ ys
-    one = parts ∙ append_assoc xs (x ∷ []) ys
+head_of : (log : List Placed) (at : ℕ) → at < length log → Placed
+head_of [] at lt = absurd (omega arith)
+head_of (p ∷ ps) at lt = p
 
-    first : seen.first_prev ≡ 0 → first_prev x.txn (flats log) ≡ 0
-    first e = ap (first_prev x.txn) parts
-        ∙ first_prev-there x.txn (xs ++ x ∷ []) ys (some_more x.txn xs x noting.own) ∙ sym noting.ready.prev ∙ e
-
--- and the fault is at its index
-pub wrong_at : (log : List Placed) (at : ℕ) (x : Rec) (t : TxnId) (seen : Seen) → Noting log at x t seen
-    → (MayCome (after_all x.txn none_yet (flats (take at log))) seen.first_prev x → ⊥) → ComesWrong log at
-wrong_at log at x t seen noting bad = record {
-  here = x;
-  there = noting.there;
-  own = noting.own;
-  wrong = λ may. bad (subst (λ (n : ℕ). MayCome (after_all x.txn none_yet (flats (take at log))) n x)
-      (ap (first_prev x.txn) noting.more ∙ sym noting.ready.prev) may);
-}
-
--- a test that it may come has failed
-pub refused : (log : List Placed) (xs : List Rec) (x : Rec) (seen : Seen) (b : Bool) → Ready log xs x seen
-    → ((sofar : Sofar) → Fits log sofar seen → IsTrue b ↔ MayCome sofar seen.first_prev x) → b ≡ false
-    → MayCome (after_all x.txn none_yet xs) seen.first_prev x → ⊥
-refused log xs x seen b ready test off may =
-    let yes = (test (after_all x.txn none_yet xs) ready.fits).1 may in let c = sym off ∙ yes in absurd (cc)
+-- the least index with the record
+pub least_at : (log : List Placed) (at : ℕ) (before found least : Option ℕ) → at < length log → IsLeast (flats (take at log)) before → Finds (flats (take at log)) (flats (take (at + 1) log)) found
+    → ((least ≡ before) ⊎ (least ≡ found)) → ((j : ℕ) → Covers before j ⊎ Covers found j → Covers least j) → IsLeast (flats (take (at + 1) log)) least
+least_at log at before found least lt h f either covers =
+    let d = head_of log at lt in
+    let more = flats-more log at d lt in
+    subst (λ (ys : List Rec). IsLeast ys least) (sym more)
+    (least_more (flats (take at log)) (rec_at log at d) before found least h (subst (λ (ys : List Rec). Finds (flats (take at log)) ys found) more f) either covers)
 
 -- the table with the record noted
 pub noted_all : (log : List Placed) (at : ℕ) (x : Rec) (t : TxnId) (rows rows' : List (TxnId × Seen)) (seen new : Seen)
-    → Noting log at x t seen → TellsAll log (flats (take at log)) rows
-    → MayCome (after_all x.txn none_yet (flats (take at log))) seen.first_prev x
+    → at < length log → Noting log at x t seen → TellsAll log (flats (take at log)) rows
     → Fits log (with_record (after_all x.txn none_yet (flats (take at log))) x) new → new.first ≡ seen.first
-    → new.first_prev ≡ seen.first_prev
+    → new.first_prev ≡ seen.first_prev → new.closed ≡ closed_by at x seen.closed
     → ((q : TxnId) → lookup (same_txn q) rows' ≡ cond (same_txn t q) (Some new) (lookup (same_txn q) rows))
     → TellsAll log (flats (take (at + 1) log)) rows'
-noted_all log at x t rows rows' seen new noting known may fits first prev written =
+noted_all log at x t rows rows' seen new lt noting known fits first prev closed written =
     let xs = flats (take at log) in
     subst (λ (ys : List Rec). TellsAll log ys rows') (sym noting.more)
     (all_more log xs x rows rows' new known
     (λ q. written q ∙ ap (λ (u : TxnId). cond (same_txn u q) (Some new) (lookup (same_txn q) rows)) noting.named)
-    (tells_more log xs x seen new noting.own noting.ready may fits first prev))
+    (tells_more log xs x seen new noting.own noting.ready fits first prev
+    (closed ∙ ap (λ k. closed_by k x seen.closed) (sym (length_front log at lt)))))
 
 -- a record of no transaction
 pub silent_all : (log : List Placed) (at : ℕ) (d : Placed) (rows : List (TxnId × Seen)) → at < length log

@@ -5,3 +5,7 @@ pub mod Known
 pub mod Ending
 pub mod Listed
 pub mod Sums
+pub mod Closers
+pub mod Misplaced
+pub mod Orders
+pub mod Steps

@@ -1,19 +1,19 @@
 -- What one record more at the end of a log changes of what its transactions leave: for the goals of `note`.
-use Rattle.std.proofs.Common.{◌≡◌, ◌≢◌, ◌⊎◌, inl, inr, ⊎_elim, Bool, true, false, cond, ◌&&◌, List, [], ◌∷◌, ◌++◌, refl, sym, ap, ◌∙◌}
+use Rattle.std.proofs.Common.{◌≡◌, ◌≢◌, ⊎_elim, Bool, true, false, cond, ◌&&◌, List, [], ◌∷◌, ◌++◌, refl, sym, ap, ◌∙◌}
 use Rattle.std.specs.List.{list_any}
 use Rattle.std.proofs.lemmas.Bool.{cases_Bool}
 use Rattle.sd_base.specs.declared.ids.TxnId.{TxnId}
 use Rattle.sd_base.specs.Ids.{same_txn}
 use Rattle.sd_logrec.specs.View.{Rec, Kind}
 use Rattle.sd_logrec.specs.View.Kind.{Update, Clr, Commit, End, Plain}
-use Rattle.sd_chain.specs.Records.{ends, moved, step, stack_from, IsOpen}
-use Rattle.sd_chain.specs.Order.{speaks, of_txn, Sofar, none_yet, advance, after_all, InOrder, Undoes, first_prev, Tidy}
+use Rattle.sd_chain.specs.Records.{ends, moved, step, stack_from}
+use Rattle.sd_chain.specs.Order.{speaks, of_txn, Sofar, advance, after_all, InOrder, Undoes, first_prev}
 use Rattle.sd_chain.proofs.Lists.{cond_both}
 use Rattle.sd_chain.proofs.Txns.{cases_txn, eq-same, ne-same}
 use Rattle.sd_chain.proofs.Stacks.{step-own, step-other}
 use Rattle.sd_analysis.specs.Seen.{with_record}
 
-both : (a b : Bool) → (a && b) ≡ true → (a ≡ true) × (b ≡ true)
+pub both : (a b : Bool) → (a && b) ≡ true → (a ≡ true) × (b ≡ true)
 both true b e = (refl, e)
 both false b e = absurd (cc)
 
@@ -49,18 +49,13 @@ pub after_all-append : (t : TxnId) (sofar : Sofar) (xs ys : List Rec) → after_
 after_all-append t sofar [] ys = refl
 after_all-append t sofar (x ∷ xs) ys = after_all-append t (advance t sofar x) xs ys
 
-pub InOrder-append : (t : TxnId) (sofar : Sofar) (xs ys : List Rec) → InOrder t sofar xs → InOrder t (after_all t sofar xs) ys
-    → InOrder t sofar (xs ++ ys)
-InOrder-append t sofar [] ys a b = b
-InOrder-append t sofar (x ∷ xs) ys a b = (a.0, InOrder-append t (advance t sofar x) xs ys a.1 b)
-
 pub InOrder-back : (t : TxnId) (sofar : Sofar) (xs ys : List Rec) → InOrder t sofar (xs ++ ys) → InOrder t (after_all t sofar xs) ys
 InOrder-back t sofar [] ys a = a
 InOrder-back t sofar (x ∷ xs) ys a = InOrder-back t (advance t sofar x) xs ys a.1
 
-pub Undoes-append : (t : TxnId) (stk xs ys : List Rec) → Undoes t stk xs → Undoes t (stack_from t stk xs) ys → Undoes t stk (xs ++ ys)
-Undoes-append t stk [] ys a b = b
-Undoes-append t stk (x ∷ xs) ys a b = (a.0, Undoes-append t (step t stk x) xs ys a.1 b)
+pub stack_from-append : (t : TxnId) (stk xs ys : List Rec) → stack_from t stk (xs ++ ys) ≡ stack_from t (stack_from t stk xs) ys
+stack_from-append t stk [] ys = refl
+stack_from-append t stk (x ∷ xs) ys = stack_from-append t (step t stk x) xs ys
 
 pub Undoes-back : (t : TxnId) (stk xs ys : List Rec) → Undoes t stk (xs ++ ys) → Undoes t (stack_from t stk xs) ys
 Undoes-back t stk [] ys a = a
@@ -123,68 +118,14 @@ after_all-none t sofar (x ∷ xs) e = ⊎_elim (λ is. let c = rw is at e in abs
     (λ off. ap (λ (q : Sofar). after_all t q xs) (advance-off t sofar x off)
     ∙ after_all-none t sofar xs (rw off at e)) (cases_Bool (of_txn t x))
 
-pub InOrder-none : (t : TxnId) (sofar : Sofar) (xs : List Rec) → list_any (of_txn t) xs ≡ false → InOrder t sofar xs
-InOrder-none t sofar [] e = tt
-InOrder-none t sofar (x ∷ xs) e = ⊎_elim (λ is. let c = rw is at e in absurd (cc))
-    (λ off. ((λ is. let c = sym off ∙ is in absurd (cc)), InOrder-none t (advance t sofar x) xs (rw off at e))) (cases_Bool (of_txn t x))
-
-clr_speaks : (t : TxnId) (x : Rec) → x.kind ≡ Clr → x.txn ≡ t → of_txn t x ≡ true
+pub clr_speaks : (t : TxnId) (x : Rec) → x.kind ≡ Clr → x.txn ≡ t → of_txn t x ≡ true
 clr_speaks t x k own = let e : speaks x.kind ≡ true = ap speaks k in let f = eq-same x.txn t own in rw (e, f) refl
-
-pub Undoes-off : (t : TxnId) (stk : List Rec) (x : Rec) → of_txn t x ≡ false → Undoes t stk (x ∷ [])
-Undoes-off t stk x off = ((λ k own. let c = sym off ∙ clr_speaks t x k own in absurd (cc)), tt)
-
-pub Undoes-none : (t : TxnId) (stk xs : List Rec) → list_any (of_txn t) xs ≡ false → Undoes t stk xs
-Undoes-none t stk [] e = tt
-Undoes-none t stk (x ∷ xs) e = ⊎_elim (λ is. let c = rw is at e in absurd (cc))
-    (λ off. ((Undoes-off t stk x off).0, Undoes-none t (step t stk x) xs (rw off at e))) (cases_Bool (of_txn t x))
-
-pub Tidy-none : (t : TxnId) (xs : List Rec) → list_any (of_txn t) xs ≡ false → Tidy t xs
-Tidy-none t xs e = record {
-  order = InOrder-none t none_yet xs e;
-  first = λ o. first_prev-none t xs e;
-  undo = λ p. Undoes-none t [] xs e;
-}
 
 -- ---- open or closed
 
-shut_stays : (t : TxnId) (sofar : Sofar) (xs : List Rec) → sofar.shut ≡ true → InOrder t sofar xs → (after_all t sofar xs).shut ≡ true
-shut_stays t sofar [] s o = s
-shut_stays t sofar (x ∷ xs) s o = ⊎_elim
-    (λ is. let c = sym s ∙ (o.0 is).alive in absurd (cc))
-    (λ off. shut_stays t (advance t sofar x) xs (ap (λ (q : Sofar). q.shut) (advance-off t sofar x off) ∙ s) o.1)
-    (cases_Bool (of_txn t x))
-
-ends_speaks : (k : Kind) (b : Bool) → (ends k && b) ≡ true → (ends k ≡ true) × ((speaks k && b) ≡ true)
+pub ends_speaks : (k : Kind) (b : Bool) → (ends k && b) ≡ true → (ends k ≡ true) × ((speaks k && b) ≡ true)
 ends_speaks Update b e = absurd (cc)
 ends_speaks Clr b e = absurd (cc)
 ends_speaks Commit b e = (refl, e)
 ends_speaks End b e = (refl, e)
 ends_speaks Plain b e = absurd (cc)
-
--- one that isn't shut in the end has no Commit and no End
-pub open_from : (t : TxnId) (sofar : Sofar) (xs : List Rec) → InOrder t sofar xs → (after_all t sofar xs).shut ≡ false → IsOpen t xs
-open_from t sofar [] o s = tt
-open_from t sofar (x ∷ xs) o s = (go (cases_Bool (ends x.kind && same_txn x.txn t)), open_from t (advance t sofar x) xs o.1 s)
-  where
-    go : ((ends x.kind && same_txn x.txn t) ≡ true) ⊎ ((ends x.kind && same_txn x.txn t) ≡ false)
-        → (ends x.kind && same_txn x.txn t) ≡ false
-    go (inl is) =
-        let e = ends_speaks x.kind (same_txn x.txn t) is in
-        let shut = shut_stays t (advance t sofar x) xs (ap (λ (q : Sofar). q.shut) (advance-own t sofar x e.1) ∙ e.0) o.1 in
-        let c = sym shut ∙ s in absurd (cc)
-    go (inr off) = off
-
--- and one without them isn't
-pub shut_open : (t : TxnId) (sofar : Sofar) (xs : List Rec) → sofar.shut ≡ false → IsOpen t xs → (after_all t sofar xs).shut ≡ false
-shut_open t sofar [] s o = s
-shut_open t sofar (x ∷ xs) s o =
-    shut_open t (advance t sofar x) xs
-    (cond_both (λ (q : Sofar). q.shut ≡ false) (of_txn t x)
-    (record { open_ones = step t sofar.open_ones x; last = x.lsn; shut = ends x.kind }) sofar
-    (λ is. go (ends x.kind) (speaks x.kind) (same_txn x.txn t) o.0 is) (λ is. s)) o.1
-  where
-    go : (a b c : Bool) → (a && c) ≡ false → (b && c) ≡ true → a ≡ false
-    go true true c e f = sym f ∙ e
-    go true false c e f = absurd (cc)
-    go false b c e f = refl

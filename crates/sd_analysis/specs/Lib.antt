@@ -1,4 +1,5 @@
 pub mod Faults
 pub mod Losers
+pub mod Misplaced
 pub mod Owing
 pub mod Seen

@@ -1,5 +1,5 @@
 -- What is known of a transaction from its records so far.
-use Rattle.std.specs.Prelude.{◌≡◌, true, false, List, [], Option, None, Some}
+use Rattle.std.specs.Prelude.{◌≡◌, ℕ, true, false, if◌then◌else◌, List, Option, None, Some, slice_get, take}
 use Rattle.std.specs.List.{list_any}
 use Rattle.std.specs.Map.{lookup}
 use Rattle.sd_base.specs.declared.ids.TxnId.{TxnId}
@@ -7,8 +7,8 @@ use Rattle.sd_base.specs.Ids.{same_txn}
 use Rattle.sd_logrec.specs.View.{Rec}
 use Rattle.sd_logrec.specs.View.Kind.{Update}
 use Rattle.sd_log.specs.declared.placed.Placed.{Placed}
-use Rattle.sd_chain.specs.Records.{ends, moved, Each}
-use Rattle.sd_chain.specs.Order.{of_txn, Sofar, none_yet, after_all, InOrder, Undoes, first_prev}
+use Rattle.sd_chain.specs.Records.{ends, moved, Each, IsOpen}
+use Rattle.sd_chain.specs.Order.{of_txn, Sofar, none_yet, after_all, first_prev}
 use Rattle.sd_analysis.specs.declared.seen.Seen.{Seen}
 use Rattle.sd_analysis.specs.Faults.{IsFirst}
 use Rattle.sd_analysis.specs.Losers.{AreAt}
@@ -18,20 +18,41 @@ pub record Fits (log : List Placed) (sofar : Sofar) (seen : Seen) : Type 0 where
   pub updates : Each (λ x. x.kind ≡ Update) sofar.open_ones
   pub open_is : AreAt log seen.open.items sofar.open_ones
   pub last_is : seen.last ≡ sofar.last
-  pub closed_is : seen.closed ≡ sofar.shut
 
 -- one record of the transaction more
 abbrev pub with_record : Sofar → Rec → Sofar
 with_record sofar x = record { open_ones = moved x.kind x sofar.open_ones; last = x.lsn; shut = ends x.kind }
 
--- What is seen of t after these records, of which one or more are its own, and all are in order.
+-- The first record that closes the transaction has this index.
+pub record IsFirstEnd (xs : List Rec) (t : TxnId) (k : ℕ) : Type 0 where
+  pub here : Rec
+  pub there : slice_get xs k ≡ Some here
+  pub own : of_txn t here ≡ true
+  pub closes : ends here.kind ≡ true
+  pub before : IsOpen t (take k xs)
+
+-- the index of the record that closes the transaction, if one does
+abbrev pub EndsAt : List Rec → TxnId → Option ℕ → Type 0
+EndsAt xs t None = IsOpen t xs
+EndsAt xs t (Some k) = IsFirstEnd xs t k
+
+-- with one record of the transaction more, at this index
+abbrev pub closed_by : ℕ → Rec → Option ℕ → Option ℕ
+closed_by at x None = if ends x.kind then Some at else None
+closed_by at x (Some k) = Some k
+
+-- What is seen of t after these records, of which one or more are its own.
 pub record Tells (log : List Placed) (xs : List Rec) (t : TxnId) (seen : Seen) : Type 0 where
   pub fits : Fits log (after_all t none_yet xs) seen
   pub there : list_any (of_txn t) xs ≡ true
   pub first : IsFirst log t seen.first seen.first_prev
   pub prev : seen.first_prev ≡ first_prev t xs
-  pub order : InOrder t none_yet xs
-  pub undo : seen.first_prev ≡ 0 → Undoes t [] xs
+  pub closed : EndsAt xs t seen.closed
+
+-- a record at this index may come, or else is told
+abbrev pub Judged : ℕ → Type 0 → Option ℕ → Type 0
+Judged at may None = may
+Judged at may (Some k) = (k ≡ at) × (may → ⊥)
 
 -- what a table has of t; a transaction without a record has no row
 abbrev pub TellsOf : List Placed → List Rec → TxnId → Option Seen → Type 0

@@ -1,9 +1,10 @@
 //! The losers of a log. It sees no page.
 
-ghost use Rattle.std.specs.Prelude.{◌≡◌, ℕ, ◌<◌, length, Err, IfOk, OnOk};
+ghost use Rattle.std.specs.Prelude.{◌≡◌, ◌⊎◌, ℕ, ◌<◌, length, Err, IfOk, OnOk};
 ghost use Rattle.sd_log.specs.Logs.{AreSpelled, flats};
-ghost use Rattle.sd_analysis.specs.Faults.{BeginsWrong, IsFault};
+ghost use Rattle.sd_chain.specs.Faults.{IsFirstMisplaced};
 ghost use Rattle.sd_analysis.specs.Losers.{AreLosers, AreTidy};
+ghost use Rattle.sd_analysis.specs.Misplaced.{Covers, IsLeast};
 ghost use Rattle.sd_analysis.specs.Seen.{TellsAll};
 ghost use Rattle.sd_analysis.specs.declared.losers.Fault.TheVariants as F;
 
@@ -49,43 +50,65 @@ impl<T: Drop> From<AllocFailed<T>> for Fault {
     }
 }
 
-/// The losers of a log. `Disorder` comes exactly where some transaction's records aren't in order, with the index of one
-/// that may not come where it stands, or that begins an open transaction and has a `prev` that isn't 0.
+/// The losers of a log. `Disorder` comes exactly where some transaction's records aren't in order, with the index of the
+/// first one that isn't: it closes its transaction and a record of that stands behind it, it doesn't name the record of its
+/// transaction before it, it ends what is open, it undoes something else than the top, or it begins a transaction that stays
+/// open and names a record before it.
 pub fn analyse(alloc: Global, log: &[Placed]) -> Result<Losers, Fault>
     requires spelled { AreSpelled log.now }
     ensures in_order { OnOk result (AreTidy log.now) }
     ensures losers { IfOk result (AreLosers log.now) }
     ensures disorder { (at : ℕ) → result ≡ Err (F.Disorder at) → AreTidy log.now → ⊥ }
     ensures place { (at : ℕ) → result ≡ Err (F.Disorder at) → at < length log.now }
-    ensures fault { (at : ℕ) → result ≡ Err (F.Disorder at) → IsFault log.now at }
+    ensures first { (at : ℕ) → result ≡ Err (F.Disorder at) → IsFirstMisplaced (flats log.now) at }
 {
     let mut table = BTreeMap::new(alloc);
+    let mut worst = None;
     for at in 0..log.len() {
-        note(alloc, &mut table, log, at)?;
+        let found = note(alloc, &mut table, log, at)?;
+        worst = least(worst, found);
     }
-    losers_of(alloc, log, table)
+    losers_of(alloc, log, table, worst)
 }
 
-// Those that aren't closed, once the whole log is noted. One whose first record isn't the first that it wrote must be
-// closed.
-fn losers_of(alloc: Global, log: &[Placed], table: BTreeMap<TxnId, Seen>) -> Result<Losers, Fault>
+// Those that aren't closed, once the whole log is noted, and `worst` is the least index that is misplaced so far. One whose
+// first record isn't the first that it wrote must be closed.
+fn losers_of(
+    alloc: Global,
+    log: &[Placed],
+    table: BTreeMap<TxnId, Seen>,
+    worst: Option<usize>,
+) -> Result<Losers, Fault>
     requires known { TellsAll log.now (flats log.now) table.entries }
+    requires least { IsLeast (flats log.now) worst }
     ensures in_order { OnOk result (AreTidy log.now) }
     ensures losers { IfOk result (AreLosers log.now) }
-    ensures disorder { (at : ℕ) → result ≡ Err (F.Disorder at) → AreTidy log.now → ⊥ }
-    ensures place { (at : ℕ) → result ≡ Err (F.Disorder at) → at < length log.now }
-    ensures fault { (at : ℕ) → result ≡ Err (F.Disorder at) → BeginsWrong log.now at }
+    ensures first { (at : ℕ) → result ≡ Err (F.Disorder at) → IsFirstMisplaced (flats log.now) at }
 {
     let mut losers = Vec::new(alloc);
+    let mut worst = worst;
     for (txn, seen) in table {
-        if seen.closed {
+        if seen.closed.is_some() {
             continue;
         }
-        if seen.first_prev != 0 {
-            return Err(Fault::Disorder { at: seen.first });
-        }
+        worst = least(worst, seen.late());
         let open = Sequence::of(seen.open);
         losers.push(Loser { txn, open })?;
     }
-    Ok(Sequence::of(losers))
+    match worst {
+        Some(at) => Err(Fault::Disorder { at }),
+        None => Ok(Sequence::of(losers)),
+    }
+}
+
+// The lower one of two indices, where there are two.
+fn least(one: Option<usize>, other: Option<usize>) -> Option<usize>
+    ensures either { (result ≡ one) ⊎ (result ≡ other) }
+    ensures covers { (j : ℕ) → Covers one j ⊎ Covers other j → Covers result j }
+{
+    match (one, other) {
+        (Some(i), Some(j)) => Some(i.min(j)),
+        (Some(i), None) => Some(i),
+        (None, other) => other,
+    }
 }

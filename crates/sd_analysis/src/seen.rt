@@ -1,14 +1,14 @@
 //! What the records so far tell of one transaction.
 
-ghost use Rattle.std.specs.Prelude.{◌≡◌, ◌↔◌, List, Some, [], ◌∷◌, IsTrue, OnOk};
+ghost use Rattle.std.specs.Prelude.{◌≡◌, ◌≢◌, ◌↔◌, ℕ, List, None, Some, [], ◌∷◌, IsTrue, MatchOption, OnOk};
 ghost use Rattle.sd_logrec.specs.View.{flat};
 ghost use Rattle.sd_logrec.specs.View.Kind.{Clr, Update};
 ghost use Rattle.sd_log.specs.declared.placed.Placed.{Placed};
 ghost use Rattle.sd_chain.specs.Records.{ends};
-ghost use Rattle.sd_chain.specs.Order.{none_yet, ComesNext, Sofar, UndoesTop};
+ghost use Rattle.sd_chain.specs.Order.{none_yet, Sofar, UndoesTop};
 ghost use Rattle.sd_analysis.specs.Losers.{record_at};
-ghost use Rattle.sd_analysis.specs.Faults.{MayCome};
-ghost use Rattle.sd_analysis.specs.Seen.{with_record, Fits};
+ghost use Rattle.sd_analysis.specs.Faults.{Joins, MayCome};
+ghost use Rattle.sd_analysis.specs.Seen.{closed_by, with_record, Fits, Judged};
 
 use sd_base::{Bytes, Lsn, Memory};
 use sd_log::Placed;
@@ -16,12 +16,12 @@ use sd_logrec::Record;
 use std::alloc::Global;
 
 /// What the records so far tell of a transaction: its open ones by their indices in the log, the top last; the LSN of its
-/// last record, or 0; whether it is closed; the index and the `prev` of its first record.
+/// last record, or 0; the index of the record that closed it; the index and the `prev` of its first record.
 #[derive(Debug, Drop)]
 pub(crate) struct Seen {
     pub(crate) open: Vec<usize>,
     pub(crate) last: Lsn,
-    pub(crate) closed: bool,
+    pub(crate) closed: Option<usize>,
     pub(crate) first: usize,
     pub(crate) first_prev: Lsn,
 }
@@ -32,19 +32,33 @@ impl Seen {
         ensures empty { (log : List Placed) → Fits log none_yet result }
         ensures first { result.first ≡ first }
         ensures prev { result.first_prev ≡ first_prev }
+        ensures closed { result.closed ≡ None }
     {
         Seen {
             open: Vec::new(alloc),
             last: 0,
-            closed: false,
+            closed: None,
             first,
             first_prev,
         }
     }
 
-    /// Whether the transaction's next record may be this one. What its undos take back is known only where its first
-    /// record is the first that it wrote.
-    pub(crate) fn allows(&self, log: &[Placed], rec: &Record) -> bool
+    /// The index that is misplaced once this record is the transaction's next one, at the index `at`: that of a record
+    /// that closed the transaction, or else this one where it may not come.
+    pub(crate) fn misplaced(&self, log: &[Placed], at: usize, rec: &Record) -> Option<usize>
+        ensures shut { (k : ℕ) → self.now.closed ≡ Some k → result ≡ Some k }
+        ensures next { (sofar : Sofar) → Fits log.now sofar self.now → self.now.closed ≡ None
+            → Judged at (MayCome sofar self.now.first_prev (flat rec.now)) result }
+    {
+        if self.closed.is_some() || self.allows(log, rec) {
+            return self.closed;
+        }
+        Some(at)
+    }
+
+    // Whether the transaction's next record may be this one. What its undos take back is known only where its first
+    // record is the first that it wrote.
+    fn allows(&self, log: &[Placed], rec: &Record) -> bool
         ensures { (sofar : Sofar) → Fits log.now sofar self.now → (IsTrue result ↔ MayCome sofar self.now.first_prev (flat rec.now)) }
     {
         self.comes_next(rec) && (self.first_prev != 0 || self.undoes_top(log, rec))
@@ -52,15 +66,25 @@ impl Seen {
 
     // Whether the record may come next, whatever it undoes.
     fn comes_next(&self, rec: &Record) -> bool
-        ensures { (log : List Placed) (sofar : Sofar) → Fits log sofar self.now → (IsTrue result ↔ ComesNext sofar (flat rec.now)) }
+        ensures { (log : List Placed) (sofar : Sofar) → Fits log sofar self.now → (IsTrue result ↔ Joins sofar (flat rec.now)) }
     {
-        if self.closed || (self.last != 0 && prev_of(rec) != self.last) {
+        if self.last != 0 && prev_of(rec) != self.last {
             return false;
         }
         match rec {
             Record::End { .. } => self.open.is_empty(),
             _ => true,
         }
+    }
+
+    /// The index of its first record, where that isn't the first that it wrote.
+    pub(crate) fn late(&self) -> Option<usize>
+        ensures { MatchOption result (self.now.first_prev ≡ 0) (λ k. (k ≡ self.now.first) × (self.now.first_prev ≢ 0)) }
+    {
+        if self.first_prev == 0 {
+            return None;
+        }
+        Some(self.first)
     }
 
     // Whether the record undoes the top, if it undoes anything.
@@ -84,6 +108,7 @@ impl Seen {
     pub(crate) fn note(&mut self, at: usize, rec: &Record) -> Result<(), Memory>
         ensures noted { OnOk result ((log : List Placed) (sofar : Sofar) → record_at log at ≡ Some (flat rec.now) → Fits log sofar self.old
             → Fits log (with_record sofar (flat rec.now)) self.new) }
+        ensures closed { OnOk result (self.new.closed ≡ closed_by at (flat rec.now) self.old.closed) }
         ensures first { self.new.first ≡ self.old.first }
         ensures prev { self.new.first_prev ≡ self.old.first_prev }
     {
@@ -93,7 +118,9 @@ impl Seen {
             Record::Clr { .. } => drop(self.open.pop()),
             _ => {}
         }
-        self.closed = is_end(rec);
+        if self.closed.is_none() && is_end(rec) {
+            self.closed = Some(at);
+        }
         Ok(())
     }
 }

@@ -172,7 +172,7 @@ fn a_record_out_of_order_is_told(rt: HostRuntime) -> Result<(), Fail> {
     };
     let logs = [
         ([first, second, Line(3, 1, 1, Commit)], 2),
-        ([first, Line(2, 1, 1, Commit), Line(3, 1, 2, End)], 2),
+        ([first, Line(2, 1, 1, Commit), Line(3, 1, 2, End)], 1),
         ([first, second, Line(3, 1, 2, End)], 2),
         ([first, second, Line(3, 1, 2, other_slot)], 2),
         ([first, second, Line(3, 1, 2, back(2, 1))], 2),
@@ -182,6 +182,38 @@ fn a_record_out_of_order_is_told(rt: HostRuntime) -> Result<(), Fail> {
             2,
         ),
         ([first, Line(2, 2, 1, put(1, 2)), Line(3, 1, 1, Commit)], 1),
+        (
+            [
+                Line(1, 1, 9, put(0, 1)),
+                Line(2, 1, 1, Commit),
+                Line(3, 1, 2, End),
+            ],
+            1,
+        ),
+        (
+            [
+                Line(1, 1, 9, put(0, 1)),
+                Line(2, 2, 0, put(1, 2)),
+                Line(3, 2, 1, Commit),
+            ],
+            0,
+        ),
+        (
+            [
+                Line(1, 2, 0, put(0, 1)),
+                Line(2, 2, 9, put(1, 2)),
+                Line(3, 1, 9, put(2, 3)),
+            ],
+            1,
+        ),
+        (
+            [
+                Line(1, 2, 9, put(0, 1)),
+                Line(2, 1, 9, put(1, 2)),
+                Line(3, 1, 2, put(2, 3)),
+            ],
+            0,
+        ),
     ];
     for (lines, at) in logs {
         let log = log_of(alloc, &lines)?;

@@ -1,7 +1,8 @@
 use Rattle.std.proofs.Common.{take}
 use Rattle.sd_log.specs.Logs.{flats}
+use Rattle.sd_analysis.specs.Misplaced.{IsLeast}
 use Rattle.sd_analysis.specs.Seen.{TellsAll}
 use Rattle.sd_analysis.proofs.losers.analyse.Given as goal
 
 abbrev pub invariant-loop-at : goal.invariant-loop-at
-invariant-loop-at l = TellsAll l.log (flats (take l.at l.log)) l.table.entries
+invariant-loop-at l = record { known : TellsAll l.log (flats (take l.at l.log)) l.table.entries; least : IsLeast (flats (take l.at l.log)) l.worst }
