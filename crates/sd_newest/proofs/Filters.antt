@@ -1,6 +1,7 @@
 -- What a filter keeps of a list in another order. It serves the goals of change.rt.
-use Rattle.std.proofs.Common.{◌≡◌, ℕ, zero, suc, ◌<◌, ◌≤◌, Bool, true, false, cond, List, [], ◌∷◌, length, map, get_or, set, refl, sym, ap, ◌∙◌, subst, arith}
-use Rattle.std.specs.Prelude.{filter, IsPermutation}
+use Rattle.std.proofs.Common.{◌≡◌, ℕ, zero, suc, ◌<◌, ◌≤◌, Bool, true, false, cond, eqb, List, [], ◌∷◌, length, map, get_or, set, refl, sym, ap, ◌∙◌, subst, arith}
+use Rattle.std.specs.Prelude.{filter, not, ◌&&◌, IsPermutation}
+use Rattle.std.specs.Ordering.{is_lt, nat_cmp}
 use Rattle.std.specs.List.{swap}
 use Rattle.std.specs.List.Sorted.{IsNonDecreasingBy}
 use Rattle.std.proofs.lemmas.List.{get_or-map, length-map}
@@ -70,3 +71,7 @@ filter_within p q weaker (x ∷ xs) = go (p x) (q x) refl refl (filter_within p 
     go a true e f ih = ap (λ t. cond t (x ∷ filter p (filter q xs)) (filter p (filter q xs))) e ∙ ap (λ l. cond a (x ∷ l) l) ih
     go true false e f ih = let clash = sym f ∙ weaker x e in absurd (cc)
     go false false e f ih = ih
+
+-- numbers that neither is less than the other are equal
+pub ties_nat : (m n : ℕ) → (not (is_lt (nat_cmp m n)) && not (is_lt (nat_cmp n m))) ≡ eqb n m
+ties_nat m n = grind arith

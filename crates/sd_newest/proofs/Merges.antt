@@ -10,12 +10,14 @@ use Rattle.std.proofs.lemmas.List.Sorted.{All-permutation, IsPermutation-append_
 use Rattle.std.proofs.lemmas.Option.{slice_get-get_or}
 use Rattle.sd_logrec.specs.View.{Rec}
 use Rattle.sd_log.specs.Logs.{LogState, flats, log_in, scanned}
-use Rattle.sd_chain.specs.Image.{all_of}
+use Rattle.sd_chain.specs.Image.{all_of, sorted}
 use Rattle.sd_chain.specs.Records.{changes, of_page}
 use Rattle.sd_chain.proofs.Newest.{and_true}
+use Rattle.sd_chain.proofs.Ties.{slow_of}
 use Rattle.sd_newest.specs.declared.change.Change.{Change}
-use Rattle.sd_newest.specs.Changes.{AreChanges, IsChange, IsMerged, chain_of, is_change, redone_of}
-use Rattle.sd_newest.proofs.Filters.{IsNonDecreasingBy-map, IsPermutation-filter, filter_within}
+use Rattle.sd_newest.specs.Changes.{AreChanges, IsChange, IsMerged, LsnsRise, Rises, chain_of, in_turn, is_change, redone_of}
+use Rattle.sd_newest.proofs.Filters.{IsNonDecreasingBy-map, IsPermutation-filter, filter_within, ties_nat}
+use Rattle.sd_newest.proofs.Ordered.{ordered}
 
 -- ---- gathering
 
@@ -31,26 +33,35 @@ all_of-none logs = refl
 pub gathered_none : (logs : List LogState) → filter is_change (all_of (log_in logs) 1) ≡ []
 gathered_none logs = ap (filter is_change) (all_of-next (log_in logs) 0 ∙ all_of-none (log_in logs))
 
-log_in-next : (logs : List LogState) (i : ℕ) (log : LogState) → i < length logs → log ≡ get_or logs i log
+pub log_in-next : (logs : List LogState) (i : ℕ) (log : LogState) → i < length logs → log ≡ get_or logs i log
     → log_in logs (i + 1) ≡ flats (scanned log)
 log_in-next logs i log lt is =
     ap (log_in logs) (add-one i)
     ∙ ap (λ o. option_map_or (λ log. flats (scanned log)) o []) (slice_get-get_or logs i log lt ∙ ap (λ l. Some l) (sym is))
 
 -- with the changes of one more log
-pub gathered_more : (logs : List LogState) (i : ℕ) (log : LogState) (old new : List Rec) → i < length logs → log ≡ get_or logs i log
-    → IsPermutation (filter is_change (all_of (log_in logs) (i + 1))) old → new ≡ old ++ filter is_change (flats (scanned log))
+pub gathered_more : (logs : List LogState) (i : ℕ) (old new : List Rec)
+    → IsPermutation (filter is_change (all_of (log_in logs) (i + 1))) old → new ≡ old ++ filter is_change (log_in logs (i + 1))
     → IsPermutation (filter is_change (all_of (log_in logs) (i + 1 + 1))) new
-gathered_more logs i log old new lt is h e =
-    let here : List Rec = filter is_change (flats (scanned log)) in
+gathered_more logs i old new h e =
+    let here : List Rec = filter is_change (log_in logs (i + 1)) in
     let before : List Rec = filter is_change (all_of (log_in logs) (i + 1)) in
     let parts : filter is_change (all_of (log_in logs) (i + 1 + 1)) ≡ here ++ before =
-    ap (filter is_change) (all_of-next (log_in logs) (i + 1) ∙ ap (λ l. l ++ all_of (log_in logs) (i + 1))
-    (log_in-next logs i log lt is))
-    ∙ filter-append is_change (flats (scanned log)) (all_of (log_in logs) (i + 1)) in
+    ap (filter is_change) (all_of-next (log_in logs) (i + 1)) ∙ filter-append is_change (log_in logs (i + 1)) (all_of (log_in logs) (i + 1)) in
     subst (λ l. IsPermutation l new) (sym parts) (subst (IsPermutation (here ++ before)) (sym e)
     (IsPermutation-trans (here ++ before) (before ++ here) (old ++ here) (IsPermutation-append_comm here before)
     (IsPermutation-append_left here before old h)))
+
+-- the same in the order of the logs
+pub turn_none : (logs : List LogState) → filter is_change (in_turn (log_in logs) (0 + 1)) ≡ []
+turn_none logs = refl
+
+pub turn_more : (logs : List LogState) (i : ℕ) (old new : List Rec) → old ≡ filter is_change (in_turn (log_in logs) (i + 1))
+    → new ≡ old ++ filter is_change (log_in logs (i + 1)) → new ≡ filter is_change (in_turn (log_in logs) (i + 1 + 1))
+turn_more logs i old new h e =
+    e ∙ ap (λ (l : List Rec). l ++ filter is_change (log_in logs (i + 1))) h
+    ∙ sym (filter-append is_change (in_turn (log_in logs) (i + 1)) (log_in logs (i + 1)))
+    ∙ ap (λ (n : ℕ). filter is_change (in_turn (log_in logs) n)) (sym (add-one (i + 1)))
 
 -- ---- sorting
 
@@ -75,10 +86,6 @@ chain_of_page p (c ∷ cs) all =
 
 abbrev lt_page : Change → Change → Bool
 lt_page a b = is_lt (nat_cmp a.page b.page)
-
--- numbers that neither is less than the other are equal
-ties_nat : (m n : ℕ) → (not (is_lt (nat_cmp m n)) && not (is_lt (nat_cmp n m))) ≡ eqb n m
-ties_nat m n = grind arith
 
 tie : (x : Change) (c : Change) → ties lt_page x c ≡ eqb c.page x.page
 tie x c = ties_nat x.page c.page
@@ -123,3 +130,18 @@ merges p n logs gathered by_lsn by_page all are same rises moved stable =
           (IsNonDecreasingBy-filter (λ x. x.lsn) (of_page p) (map redone_of by_lsn)
           (IsNonDecreasingBy-map redone_of (λ x. x.lsn) by_lsn rises));
     }
+
+-- and where LSNs rise in each log
+pub ordered_chain : (n : ℕ) (logs : List LogState) (gathered by_lsn by_page : List Change)
+    → map redone_of gathered ≡ filter is_change (in_turn (log_in logs) n) → AreChanges gathered
+    → IsPermutation gathered by_lsn → IsNonDecreasingBy (λ c. (redone_of c).lsn) by_lsn
+    → IsStableByKey (λ c. (redone_of c).lsn) nat_cmp gathered by_lsn
+    → IsPermutation by_lsn by_page → IsStableByKey (λ c. c.page) nat_cmp by_lsn by_page
+    → LsnsRise logs → (p : ℕ) → chain_of p by_page ≡ sorted (filter (of_page p) (all_of (log_in logs) n))
+ordered_chain n logs gathered by_lsn by_page turn are same rises kept moved stable rise p =
+    chain_stays p by_lsn by_page (All-permutation IsChange gathered by_lsn same are) moved stable
+    ∙ ordered (of_page p) n (log_in logs) gathered by_lsn rise
+    (ap (filter (of_page p)) turn ∙ filter_within (of_page p) is_change (changes_page p) (in_turn (log_in logs) n))
+    (slow_of (filter (of_page p) (map redone_of by_lsn)) (IsNonDecreasingBy-filter (λ x. x.lsn) (of_page p) (map redone_of by_lsn)
+    (IsNonDecreasingBy-map redone_of (λ x. x.lsn) by_lsn rises)))
+    kept

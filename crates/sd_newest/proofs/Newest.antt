@@ -33,7 +33,7 @@ newest_is : (bytes : List ℕ) (logs : List LogState) (p : ℕ) → newest (imag
 unfolding newest chain
 newest_is bytes logs p = refl
 
-chain_is : (bytes : List ℕ) (logs : List LogState) (p : ℕ)
+pub chain_is : (bytes : List ℕ) (logs : List LogState) (p : ℕ)
     → chain (image_of bytes logs) p ≡ sorted (filter (of_page p) (all_of (log_in logs) 9))
 unfolding chain
 chain_is bytes logs p = refl

@@ -1,15 +1,17 @@
 -- Which slot of a page's twin counts, by the images that they hold. It serves the goals of twin.rt.
-use Rattle.std.proofs.Common.{◌≡◌, ◌≢◌, ℕ, ◌+◌, ◌*◌, ◌<◌, Bool, true, false, cond, List, Option, None, Some, refl, sym, ap, ◌∙◌, subst, arith, take, drop, get_or}
-use Rattle.std.specs.Prelude.{nat_lt}
+use Rattle.std.proofs.Common.{◌≡◌, ◌≢◌, ⊎_elim, eq-eqb, le-ltb, ltb-false, ℕ, ◌+◌, ◌*◌, ◌<◌, inl, inr, Bool, true, false, cond, List, Option, None, Some, refl, sym, ap, ◌∙◌, subst, arith, take, drop, get_or}
+use Rattle.std.specs.Prelude.{IsTrue, nat_eq, nat_lt}
+use Rattle.std.proofs.lemmas.Bool.{eqb-true}
 use Rattle.std.proofs.lemmas.List.{get_or-drop, get_or-take}
-use Rattle.sd_base.specs.Twin.{Slot, Neither, First, Second, Same, body_at, body_of, chosen_slot, is_open, number_of, slot_of}
+use Rattle.sd_base.specs.Twin.{Slot, Neither, First, Second, Same, body_at, body_of, chosen_slot, is_open, newer, number_of, slot_of}
 use Rattle.sd_page.specs.Page.{Page, empty_page}
 use Rattle.sd_page.specs.Reading.{eight_at, page_of}
 use Rattle.sd_page.specs.Spelling.{spelling}
 use Rattle.sd_page.proofs.Told.{told, told-lsn}
 use Rattle.sd_chain.specs.Bytes.{disk_page, page_in, twin_at}
 use Rattle.sd_chain.specs.Checks.{IsPageSlot, TwinIsSound}
-use Rattle.sd_newest.specs.Twins.{IsOpenSlot, IsSlot, counting}
+use Rattle.sd_chain.specs.Faults.{TwinFailsAt}
+use Rattle.sd_newest.specs.Twins.{IsOpenSlot, IsSlot, counting, greater}
 
 -- a slot whose image is known is sound
 pub slot_sound : (p gate : ℕ) (bytes : List ℕ) (slot : Option Page) → IsSlot p gate bytes slot → IsPageSlot p gate bytes
@@ -51,107 +53,124 @@ chosen_with at bytes o1 o2 x y e f g h =
     ∙ ap (λ n. slot_of o1 o2 n (number_of (body_at 1024 (at + 1024 + 1) bytes))) g
     ∙ ap (λ n. slot_of o1 o2 x n) h
 
+-- the number of a body is the one that stands there
+number_there : (gate : ℕ) (bytes : List ℕ) → number_of (body_at 1024 gate bytes) ≡ number_of (drop (gate + 1) bytes)
+number_there gate bytes =
+    let near : (i : ℕ) → i < 8 → get_or (take 1024 (drop (gate + 1) bytes)) i 0 ≡ get_or (drop (gate + 1) bytes) i 0 =
+    λ i lt. get_or-take 1024 (drop (gate + 1) bytes) i 0 (omega arith) in
+    omega (
+      arith,
+      near 0 (omega arith),
+      near 1 (omega arith),
+      near 2 (omega arith),
+      near 3 (omega arith),
+      near 4 (omega arith),
+      near 5 (omega arith),
+      near 6 (omega arith),
+      near 7 (omega arith),
+    )
+
+same_numbers : (x y : ℕ) → (IsTrue (nat_eq x y) → newer x y ≡ Same) × (newer x y ≡ Same → IsTrue (nat_eq x y))
+same_numbers x y = (
+  (λ t.
+      let e : x ≡ y = eqb-true x y t in
+      ap (λ b. cond b (Second true) (cond (nat_lt y x) (First true) Same)) (le-ltb x y (omega arith))
+      ∙ ap (λ b. cond b (First true) Same) (le-ltb y x (omega arith))),
+  go (nat_lt x y) (nat_lt y x) refl refl,
+)
+  where
+    go : (q r : Bool) → nat_lt x y ≡ q → nat_lt y x ≡ r → cond q (Second true) (cond r (First true) Same) ≡ Same → IsTrue (nat_eq x y)
+    go true r e f same = absurd (cc)
+    go false true e f same = absurd (cc)
+    go false false e f same =
+        let le = ltb-false x y e in let ge = ltb-false y x f in
+        let is : x ≡ y = omega arith in
+        eq-eqb x y is
+
+-- two open slots count as one exactly where their numbers are equal
+pub same_where : (at : ℕ) (bytes : List ℕ) (x y : ℕ) → is_open at bytes ≡ true → is_open (at + 1025) bytes ≡ true
+    → x ≡ number_of (drop (at + 1) bytes) → y ≡ number_of (drop (at + 1025 + 1) bytes)
+    → (IsTrue (nat_eq x y) → chosen_slot at 1024 bytes ≡ Same) × (chosen_slot at 1024 bytes ≡ Same → IsTrue (nat_eq x y))
+same_where at bytes x y o1 o2 e f =
+    let second : at + 1025 ≡ at + 1024 + 1 = omega arith in
+    let is : chosen_slot at 1024 bytes ≡ newer x y = chosen_with at bytes true true x y o1
+    (subst (λ n. is_open n bytes ≡ true) second o2) (number_there at bytes ∙ sym e)
+    (subst (λ n. number_of (body_at 1024 n bytes) ≡ y) second (number_there (at + 1025) bytes ∙ sym f)) in
+    ((λ t. is ∙ (same_numbers x y).0 t), (λ same. (same_numbers x y).1 (sym is ∙ same)))
+
 disk_with : (p : ℕ) (bytes : List ℕ) (s : Slot) → chosen_slot (twin_at p) 1024 bytes ≡ s
     → disk_page bytes p ≡ page_in p (body_of s (body_at 1024 (twin_at p) bytes) (body_at 1024 (twin_at p + 1024 + 1) bytes))
 disk_with p bytes s e = ap (λ (t : Slot). page_in p (body_of t (body_at 1024 (twin_at p) bytes) (body_at 1024
     (twin_at p + 1024 + 1) bytes))) e
 
--- which image counts, and whether one does
-pub record Counts (p : ℕ) (bytes : List ℕ) (first second : Option Page) : Type 0 where
-  pub image : (image : Page) → counting p first second ≡ Some image → image ≡ disk_page bytes p
-  pub differ : (image : Page) → counting p first second ≡ Some image → chosen_slot (twin_at p) 1024 bytes ≢ Same
-  pub same : counting p first second ≡ None → chosen_slot (twin_at p) 1024 bytes ≡ Same
-
 counts_two : (p : ℕ) (bytes : List ℕ) (a b : Page) → page_of (body_at 1024 (twin_at p) bytes) ≡ a
     → page_of (body_at 1024 (twin_at p + 1024 + 1) bytes) ≡ b
-    → (q r : Bool) → nat_lt a.lsn b.lsn ≡ q → nat_lt b.lsn a.lsn ≡ r
+    → (q r : Bool) → nat_lt a.lsn b.lsn ≡ q
     → chosen_slot (twin_at p) 1024 bytes ≡ cond q (Second true) (cond r (First true) Same)
-    → Counts p bytes (Some a) (Some b)
-counts_two p bytes a b ea eb true r eq er e = record {
-  image = λ image is. let one : Some b ≡ Some image = sym (ap (λ t. cond t (Some b) (cond (nat_lt b.lsn a.lsn) (Some a) None)) eq)
-      ∙ is in
-      let same : b ≡ image = cc in sym same ∙ sym eb ∙ sym (disk_with p bytes (Second true) e);
-  differ = λ image is no. let clash : Second true ≡ Same = sym e ∙ no in cc;
-  same = λ is. let clash : Some b ≡ None = sym (ap (λ t. cond t (Some b) (cond (nat_lt b.lsn a.lsn) (Some a) None)) eq)
-      ∙ is in absurd (cc);
-}
-counts_two p bytes a b ea eb false true eq er e = record {
-  image = λ image is. let one : Some a ≡ Some image = sym
-      (ap (λ t. cond t (Some b) (cond (nat_lt b.lsn a.lsn) (Some a) None)) eq ∙ ap (λ t. cond t (Some a) None) er) ∙ is in
-      let same : a ≡ image = cc in sym same ∙ sym ea ∙ sym (disk_with p bytes (First true) e);
-  differ = λ image is no. let clash : First true ≡ Same = sym e ∙ no in cc;
-  same = λ is. let clash : Some a ≡ None = sym
-      (ap (λ t. cond t (Some b) (cond (nat_lt b.lsn a.lsn) (Some a) None)) eq ∙ ap (λ t. cond t (Some a) None) er) ∙ is in absurd (cc);
-}
-counts_two p bytes a b ea eb false false eq er e = record {
-  image = λ image is. let clash : None ≡ Some image = sym
-      (ap (λ t. cond t (Some b) (cond (nat_lt b.lsn a.lsn) (Some a) None)) eq ∙ ap (λ t. cond t (Some a) None) er) ∙ is in absurd (cc);
-  differ = λ image is no. let clash : None ≡ Some image = sym
-      (ap (λ t. cond t (Some b) (cond (nat_lt b.lsn a.lsn) (Some a) None)) eq ∙ ap (λ t. cond t (Some a) None) er) ∙ is in cc;
-  same = λ is. e;
-}
+    → chosen_slot (twin_at p) 1024 bytes ≢ Same → greater a b ≡ disk_page bytes p
+counts_two p bytes a b ea eb true r eq e differ = ap (λ t. cond t b a) eq ∙ sym eb ∙ sym (disk_with p bytes (Second true) e)
+counts_two p bytes a b ea eb false true eq e differ = ap (λ t. cond t b a) eq ∙ sym ea ∙ sym (disk_with p bytes (First true) e)
+counts_two p bytes a b ea eb false false eq e differ = absurd (differ e)
 
-pub counts : (p : ℕ) (bytes : List ℕ) (first second : Option Page) → IsSlot p (twin_at p) bytes first
-    → IsSlot p (twin_at p + 1024 + 1) bytes second
-    → Counts p bytes first second
-counts p bytes None None s t =
-    let e : chosen_slot (twin_at p) 1024 bytes ≡ Neither = chosen_with (twin_at p) bytes false false _ _ s t refl refl in record {
-      image = λ image is. let same : empty_page p ≡ image = cc in sym same ∙ sym (disk_with p bytes Neither e);
-      differ = λ image is no. let clash : Neither ≡ Same = sym e ∙ no in cc;
-      same = λ is. absurd (cc);
-    }
-counts p bytes (Some a) None s t =
-    let e : chosen_slot (twin_at p) 1024 bytes ≡ First false = chosen_with
-    (twin_at p) bytes true false _ _ s.shown t refl refl in record {
-      image = λ image is. let same : a ≡ image = cc in sym same ∙ sym (body_page p (twin_at p) bytes a s)
-          ∙ sym (disk_with p bytes (First false) e);
-      differ = λ image is no. let clash : First false ≡ Same = sym e ∙ no in cc;
-      same = λ is. absurd (cc);
-    }
-counts p bytes None (Some b) s t =
-    let e : chosen_slot (twin_at p) 1024 bytes ≡ Second false = chosen_with
-    (twin_at p) bytes false true _ _ s t.shown refl refl in record {
-      image = λ image is. let same : b ≡ image = cc in sym same ∙ sym (body_page p (twin_at p + 1024 + 1) bytes b t)
-          ∙ sym (disk_with p bytes (Second false) e);
-      differ = λ image is no. let clash : Second false ≡ Same = sym e ∙ no in cc;
-      same = λ is. absurd (cc);
-    }
-counts p bytes (Some a) (Some b) s t =
+-- the image that counts, unless two slots have one LSN
+counts : (p : ℕ) (bytes : List ℕ) (first second : Option Page) → IsSlot p (twin_at p) bytes first
+    → IsSlot p (twin_at p + 1024 + 1) bytes second → chosen_slot (twin_at p) 1024 bytes ≢ Same
+    → counting p first second ≡ disk_page bytes p
+counts p bytes None None s t differ =
+    sym (disk_with p bytes Neither (chosen_with (twin_at p) bytes false false _ _ s t refl refl))
+counts p bytes (Some a) None s t differ =
+    sym (body_page p (twin_at p) bytes a s)
+    ∙ sym (disk_with p bytes (First false) (chosen_with (twin_at p) bytes true false _ _ s.shown t refl refl))
+counts p bytes None (Some b) s t differ =
+    sym (body_page p (twin_at p + 1024 + 1) bytes b t)
+    ∙ sym (disk_with p bytes (Second false) (chosen_with (twin_at p) bytes false true _ _ s t.shown refl refl))
+counts p bytes (Some a) (Some b) s t differ =
     counts_two p bytes a b (body_page p (twin_at p) bytes a s) (body_page p (twin_at p + 1024 + 1) bytes b t) (nat_lt a.lsn b.lsn)
-    (nat_lt b.lsn a.lsn) refl refl
+    (nat_lt b.lsn a.lsn) refl
     (chosen_with (twin_at p) bytes true true a.lsn b.lsn s.shown t.shown (body_number p (twin_at p) bytes a s)
-    (body_number p (twin_at p + 1024 + 1) bytes b t))
+    (body_number p (twin_at p + 1024 + 1) bytes b t)) differ
 
 -- the same at the places that the code finds
-counts_at : (p q : ℕ) (bytes : List ℕ) (first second : Option Page) → q ≡ p → IsSlot p (2050 * q) bytes first
-    → IsSlot p (2050 * q + 1025) bytes second → Counts p bytes first second
-counts_at p q bytes first second e s t =
-    let here : 2050 * q ≡ twin_at p = omega arith in
-    let next : 2050 * q + 1025 ≡ twin_at p + 1024 + 1 = omega arith in
-    counts p bytes first second (subst (λ n. IsSlot p n bytes first) here s) (subst (λ n. IsSlot p n bytes second) next t)
+module _ (p q : ℕ) (bytes : List ℕ) (e : q ≡ p) where
+  here : 2050 * q ≡ twin_at p
+  here = omega arith
 
-pub image_at : (p q : ℕ) (bytes : List ℕ) (first second : Option Page) (image : Page) → q ≡ p → IsSlot p (2050 * q) bytes first
-    → IsSlot p (2050 * q + 1025) bytes second
-    → Some image ≡ counting p first second → image ≡ disk_page bytes p
-image_at p q bytes first second image e s t is = (counts_at p q bytes first second e s t).image image (sym is)
+  next : 2050 * q + 1025 ≡ twin_at p + 1025
+  next = omega arith
 
-pub sound_at : (p q : ℕ) (bytes : List ℕ) (first second : Option Page) (image : Page) → q ≡ p → IsSlot p (2050 * q) bytes first
-    → IsSlot p (2050 * q + 1025) bytes second
-    → Some image ≡ counting p first second → TwinIsSound p bytes
-sound_at p q bytes first second image e s t is =
-    let here : 2050 * q ≡ twin_at p = omega arith in
-    let next : 2050 * q + 1025 ≡ twin_at p + 1025 = omega arith in record {
-      differ = (counts_at p q bytes first second e s t).differ image (sym is);
-      first = subst (λ n. IsPageSlot p n bytes) here (slot_sound p (2050 * q) bytes first s);
-      second = subst (λ n. IsPageSlot p n bytes) next (slot_sound p (2050 * q + 1025) bytes second t);
-    }
+  pub image_at : (first second : Option Page) → IsSlot p (2050 * q) bytes first → IsSlot p (2050 * q + 1025) bytes second
+      → (chosen_slot (2050 * q) 1024 bytes ≡ Same → ⊥) → counting p first second ≡ disk_page bytes p
+  image_at first second s t differ =
+      let there : 2050 * q + 1025 ≡ twin_at p + 1024 + 1 = omega arith in
+      counts p bytes first second (subst (λ n. IsSlot p n bytes first) here s) (subst (λ n. IsSlot p n bytes second) there t)
+      (subst (λ (n : ℕ). chosen_slot n 1024 bytes ≡ Same → ⊥) here differ)
 
-pub unsound_at : (p q : ℕ) (bytes : List ℕ) (first second : Option Page) → q ≡ p → IsSlot p (2050 * q) bytes first
-    → IsSlot p (2050 * q + 1025) bytes second
-    → None ≡ counting p first second → TwinIsSound p bytes → ⊥
-unsound_at p q bytes first second e s t is sound = sound.differ ((counts_at p q bytes first second e s t).same (sym is))
+  pub sound_at : (first second : Option Page) → IsSlot p (2050 * q) bytes first → IsSlot p (2050 * q + 1025) bytes second
+      → (chosen_slot (2050 * q) 1024 bytes ≡ Same → ⊥) → TwinIsSound p bytes
+  sound_at first second s t differ = record {
+    differ = subst (λ (n : ℕ). chosen_slot n 1024 bytes ≡ Same → ⊥) here differ;
+    first = subst (λ n. IsPageSlot p n bytes) here (slot_sound p (2050 * q) bytes first s);
+    second = subst (λ n. IsPageSlot p n bytes) next (slot_sound p (2050 * q + 1025) bytes second t);
+  }
 
-pub unsound_second : (p q : ℕ) (bytes : List ℕ) → q ≡ p → (IsPageSlot p (2050 * q + 1025) bytes → ⊥) → TwinIsSound p bytes → ⊥
-unsound_second p q bytes e bad sound =
-    let next : twin_at p + 1025 ≡ 2050 * q + 1025 = omega arith in
-    bad (subst (λ n. IsPageSlot p n bytes) next sound.second)
+  pub first_fails : (IsPageSlot p (2050 * q) bytes → ⊥) → TwinFailsAt p bytes (2050 * q)
+  first_fails bad = inl (inl (subst (λ (n : ℕ). IsPageSlot p n bytes → ⊥) here bad), here)
+
+  pub same_fails : chosen_slot (2050 * q) 1024 bytes ≡ Same → TwinFailsAt p bytes (2050 * q)
+  same_fails is = inl (inr (subst (λ (n : ℕ). chosen_slot n 1024 bytes ≡ Same) here is), here)
+
+  pub second_fails : (first : Option Page) → IsSlot p (2050 * q) bytes first → (chosen_slot (2050 * q) 1024 bytes ≡ Same → ⊥)
+      → (IsPageSlot p (2050 * q + 1025) bytes → ⊥) → TwinFailsAt p bytes (2050 * q + 1025)
+  second_fails first s differ bad = inr (
+    (λ fails. elim fails [
+      | inl other ↦ other (subst (λ n. IsPageSlot p n bytes) here (slot_sound p (2050 * q) bytes first s))
+      | inr same ↦ differ (subst (λ (n : ℕ). chosen_slot n 1024 bytes ≡ Same) (sym here) same)
+    ]),
+    subst (λ (n : ℕ). IsPageSlot p n bytes → ⊥) next bad,
+    next,
+  )
+
+-- a twin that fails isn't sound
+pub unsound_twin : (p : ℕ) (bytes : List ℕ) (at : ℕ) → TwinFailsAt p bytes at → TwinIsSound p bytes → ⊥
+unsound_twin p bytes at (inl (first, is)) sound = elim first [ inl bad ↦ bad sound.first | inr same ↦ sound.differ same ]
+unsound_twin p bytes at (inr (none, second, is)) sound = second sound.second

@@ -1,9 +1,10 @@
 -- Changes redone one after another, seen page by page. It serves the goals of redoing.rt.
-use Rattle.std.proofs.Common.{◌≡◌, ◌≢◌, ⊎_elim, ℕ, ◌+◌, ◌<◌, true, false, cond, eqb, ltb, List, [], ◌∷◌, ◌++◌, Some, length, map, take, drop, get_or, set, refl, sym, ap, ap₂, ◌∙◌, subst, arith, eq-eqb, ne_eqb, get_or-set_same, get_or-set_other}
-use Rattle.std.specs.Prelude.{filter, option_map, slice_get, ◌&&◌}
+use Rattle.std.proofs.Common.{◌≡◌, ◌≢◌, ⊎_elim, ℕ, ◌+◌, ◌-◌, ◌<◌, ◌≤◌, true, false, cond, eqb, ltb, List, [], ◌∷◌, ◌++◌, Some, length, map, take, drop, get_or, set, refl, sym, ap, ap₂, ◌∙◌, subst, arith, eq-eqb, ne_eqb, get_or-set_same, get_or-set_other}
+use Rattle.std.specs.Prelude.{All, filter, option_map, slice_get, ◌&&◌}
 use Rattle.std.proofs.lemmas.Bool.{cases_eq}
-use Rattle.std.proofs.lemmas.List.{append-nil, map-append, take_more, take-append-drop, length-set}
-use Rattle.std.proofs.lemmas.List.Elements.{filter-append}
+use Rattle.std.proofs.lemmas.List.{append-nil, append_assoc, get_or-drop, length-drop, map-append, take_more, take-append-drop, length-set}
+use Rattle.std.specs.List.Sorted.{IsNonDecreasingBy}
+use Rattle.std.proofs.lemmas.List.Elements.{All-drop, All-from_get_or, All-get_or, All-head, All-tail, filter-append}
 use Rattle.std.proofs.lemmas.Option.{slice_get-get_or, slice_get_within, get_or_from_slice_get, slice_get-map}
 use Rattle.sd_logrec.specs.declared.record.Record.{Record}
 use Rattle.sd_logrec.specs.declared.record.Record.TheVariants as records
@@ -12,10 +13,10 @@ use Rattle.sd_logrec.specs.View.{Rec}
 use Rattle.sd_page.specs.Page.{Page, empty_page}
 use Rattle.sd_chain.specs.Records.{of_page}
 use Rattle.sd_chain.specs.Pages.{FitAll, FitsPage, redo, replay}
-use Rattle.sd_chain.proofs.Chains.{FitAll-append, FitAll-back, FitAll-front, replay-append}
+use Rattle.sd_chain.proofs.Chains.{FitAll-append, FitAll-back, replay-append}
 use Rattle.sd_newest.specs.declared.change.Change.{Change}
-use Rattle.sd_newest.specs.Changes.{ChangesPage, IsChange, chain_of, redone_of}
-use Rattle.sd_newest.specs.Redone.{IsMisfit, IsRedone}
+use Rattle.sd_newest.specs.Changes.{AreChanges, ChangesPage, IsChange, chain_of, redone_of}
+use Rattle.sd_newest.specs.Redone.{IsMisfit, IsRedone, MisfitsAt}
 
 pub none_redone : (p : ℕ) (old : List Page) → p < length old → IsRedone p [] old old
 none_redone p old lt = record {
@@ -116,29 +117,78 @@ redone_more xs i c old now lsns image after lt is finds step p r =
     (cases_eq c.page p))
 
 pub misfits : (xs : List Change) (i : ℕ) (c : Change) (old now : List Page) (lsns : List ℕ) (image : Page) → i < length xs
-    → c ≡ get_or xs i c
+    → c ≡ get_or xs i c → c.page < 1024
     → Finds c old now lsns image → ((get_or lsns c.page 0 < (redone_of c).lsn → FitsPage image (redone_of c)) → ⊥)
-    → IsRedone c.page (take i xs) old now → IsMisfit c.page xs old
-misfits xs i c old now lsns image lt is finds bad r =
+    → ((p : ℕ) → p < 1024 → IsRedone p (take i xs) old now) → MisfitsAt xs old c.dev (130 + c.found.now.place)
+misfits xs i c old now lsns image lt is small finds bad redone =
     let p : ℕ = c.page in
-    let x : Rec = redone_of c in
+    let r : IsRedone p (take i xs) old now = redone p small in
     let chain : List Rec = chain_of p (take i xs) in
-    let rest : List Rec = chain_of p (drop (i + 1) xs) in
-    let front : take (i + 1) xs ≡ take i xs ++ c ∷ [] = take_more xs i c lt ∙ ap (λ d. take i xs ++ d ∷ []) (sym is) in
-    let parts : chain_of p xs ≡ (chain ++ x ∷ []) ++ rest =
-    ap (chain_of p) (sym (take-append-drop (i + 1) xs)) ∙ chain_of-append p (take (i + 1) xs) (drop (i + 1) xs)
-    ∙ ap (λ l. chain_of p l ++ rest) front
-    ∙ ap (λ l. l ++ rest) (chain_of-append p (take i xs) (c ∷ []) ∙ ap (λ l. chain ++ l) (chain_here c finds.is)) in
     let low : get_or lsns p 0 ≡ r.page.lsn = disk_lsn_is old lsns p r.page finds.lsns_are r.before in
     let found : image ≡ replay r.page.lsn r.page chain = finds.image_is
     ∙ get_or_from_slice_get now p (replay r.page.lsn r.page chain) image r.after in record {
+      index = i;
+      change = c;
+      there = slice_get-get_or xs i c lt ∙ ap (λ (d : Change). Some d) (sym is);
+      dev_is = refl;
+      at_is = refl;
+      few = small;
+      front = λ q few. let s = redone q few in record { page = s.page; before = s.before; fit = s.fit };
       page = r.page;
       before = r.before;
-      misfit = λ all.
-          let fit = (FitAll-back r.page.lsn r.page chain (x ∷ [])
-          (FitAll-front r.page.lsn r.page (chain ++ x ∷ []) rest (subst (λ l. FitAll r.page.lsn r.page l) parts all))).0 in
-          bad (λ h. subst (λ q. FitsPage q x) (sym found) (fit (omega arith)));
+      misfit = λ fit. bad (λ h. subst (λ q. FitsPage q (redone_of c)) (sym found) (fit (omega arith)));
     }
+
+-- the chain of a change's page has it behind those of the changes before it
+pub chain_parts : (xs : List Change) (i : ℕ) (c : Change) → AreChanges xs → slice_get xs i ≡ Some c
+    → chain_of c.page xs ≡ chain_of c.page (take i xs) ++ redone_of c ∷ chain_of c.page (drop (i + 1) xs)
+chain_parts xs i c are there =
+    let p : ℕ = c.page in
+    let lt : i < length xs = slice_get_within xs i c there in
+    let is : get_or xs i c ≡ c = get_or_from_slice_get xs i c c there in
+    let mine : IsChange c = subst IsChange is (All-get_or IsChange xs i c lt are) in
+    let front : take (i + 1) xs ≡ take i xs ++ c ∷ [] = take_more xs i c lt ∙ ap (λ d. take i xs ++ d ∷ []) is in
+    let rest : List Rec = chain_of p (drop (i + 1) xs) in
+    ap (chain_of p) (sym (take-append-drop (i + 1) xs)) ∙ chain_of-append p (take (i + 1) xs) (drop (i + 1) xs)
+    ∙ ap (λ l. chain_of p l ++ rest) front
+    ∙ ap (λ l. l ++ rest) (chain_of-append p (take i xs) (c ∷ []) ∙ ap (λ l. chain_of p (take i xs) ++ l) (chain_here c mine))
+    ∙ append_assoc (chain_of p (take i xs)) (redone_of c ∷ []) rest
+
+-- the first misfit is one
+pub misfit_of : (xs : List Change) (old : List Page) (dev at : ℕ) → AreChanges xs → (m : MisfitsAt xs old dev at)
+    → IsMisfit m.change.page xs old
+misfit_of xs old dev at are m =
+    let p : ℕ = m.change.page in
+    let chain : List Rec = chain_of p (take m.index xs) in
+    let rest : List Rec = chain_of p (drop (m.index + 1) xs) in record {
+      page = m.page;
+      before = m.before;
+      misfit = λ all. m.misfit (FitAll-back m.page.lsn m.page chain (redone_of m.change ∷ rest)
+          (subst (λ l. FitAll m.page.lsn m.page l) (chain_parts xs m.index m.change are m.there) all)).0;
+    }
+
+-- changes of higher pages are none of this one
+higher_none : (q : ℕ) (cs : List Change) → AreChanges cs → All (λ c. q < c.page) cs → chain_of q cs ≡ []
+higher_none q [] are high = refl
+higher_none q (c ∷ cs) are high =
+    let ne : c.page ≢ q = λ e. let lt = All-head (λ (d : Change). q < d.page) c cs high in absurd (omega arith) in
+    ap (λ b. cond b (redone_of c ∷ chain_of q cs) (chain_of q cs)) (no_other_page c q (All-head IsChange c cs are) ne)
+    ∙ higher_none q cs (All-tail IsChange c cs are) (All-tail (λ (d : Change). q < d.page) c cs high)
+
+-- the chain of a lower page stands before a change
+pub lower_chain : (xs : List Change) (i : ℕ) (c : Change) (q : ℕ) → AreChanges xs → IsNonDecreasingBy (λ c. c.page) xs
+    → slice_get xs i ≡ Some c → q < c.page → chain_of q xs ≡ chain_of q (take i xs)
+lower_chain xs i c q are rises there lt =
+    let is : get_or xs i c ≡ c = get_or_from_slice_get xs i c c there in
+    let len : length (drop i xs) ≡ length xs - i = length-drop i xs in
+    let high : All (λ (d : Change). q < d.page) (drop i xs) = All-from_get_or (λ (d : Change). q < d.page) (drop i xs) c (λ k few.
+    let up : (get_or xs i c).page ≤ (get_or xs (i + k) c).page = rises i (i + k) c (omega arith) (omega arith) in
+    let here : (get_or xs i c).page ≡ c.page = ap (λ (d : Change). d.page) is in
+    let there : (get_or (drop i xs) k c).page ≡ (get_or xs (i + k) c).page = ap (λ (d : Change). d.page) (get_or-drop i xs k c) in
+    omega arith) in
+    ap (chain_of q) (sym (take-append-drop i xs)) ∙ chain_of-append q (take i xs) (drop i xs)
+    ∙ ap (λ l. chain_of q (take i xs) ++ l) (higher_none q (drop i xs) (All-drop IsChange i xs are) high)
+    ∙ append-nil (chain_of q (take i xs))
 
 -- a record of the grammar changes a page of the data device
 small_page : (r : Record) (p : ℕ) → HasSpelling r → ChangesPage r p → p < 1024

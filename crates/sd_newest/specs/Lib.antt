@@ -1,4 +1,5 @@
 pub mod Changes
+pub mod Misfits
 pub mod Reading
 pub mod Redone
 pub mod Twins

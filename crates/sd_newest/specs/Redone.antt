@@ -1,10 +1,10 @@
 -- Pages with their changes redone.
-use Rattle.std.specs.Prelude.{◌≡◌, ℕ, ◌<◌, List, Some, slice_get}
+use Rattle.std.specs.Prelude.{◌≡◌, ℕ, ◌+◌, ◌<◌, List, Some, slice_get, take}
 use Rattle.sd_logrec.specs.View.{Rec}
 use Rattle.sd_page.specs.Page.{Page}
 use Rattle.sd_chain.specs.Pages.{FitAll, FitsPage, replay}
 use Rattle.sd_newest.specs.declared.change.Change.{Change}
-use Rattle.sd_newest.specs.Changes.{chain_of}
+use Rattle.sd_newest.specs.Changes.{chain_of, redone_of}
 
 -- the record fits the page where it is above the LSN that the page has on disk
 abbrev pub FitsAbove : ℕ → Page → Rec → Type 0
@@ -22,3 +22,22 @@ pub record IsMisfit (p : ℕ) (cs : List Change) (old : List Page) : Type 0 wher
   pub page : Page
   pub before : slice_get old p ≡ Some page
   pub misfit : FitAll page.lsn page (chain_of p cs) → ⊥
+
+-- the changes of page p fit
+pub record FitOn (p : ℕ) (cs : List Change) (old : List Page) : Type 0 where
+  pub page : Page
+  pub before : slice_get old p ≡ Some page
+  pub fit : FitAll page.lsn page (chain_of p cs)
+
+-- The first change that doesn't fit the page that it finds stands in the log of this device at this place.
+pub record MisfitsAt (cs : List Change) (old : List Page) (dev at : ℕ) : Type 0 where
+  pub index : ℕ
+  pub change : Change
+  pub there : slice_get cs index ≡ Some change
+  pub dev_is : dev ≡ change.dev
+  pub at_is : at ≡ 130 + change.found.now.place
+  pub few : change.page < 1024
+  pub front : (p : ℕ) → p < 1024 → FitOn p (take index cs) old
+  pub page : Page
+  pub before : slice_get old change.page ≡ Some page
+  pub misfit : FitsAbove page.lsn (replay page.lsn page (chain_of change.page (take index cs))) (redone_of change) → ⊥

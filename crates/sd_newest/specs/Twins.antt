@@ -16,13 +16,13 @@ abbrev pub IsSlot : ℕ → ℕ → List ℕ → Option Page → Type 0
 IsSlot p gate bytes None = is_open gate bytes ≡ false
 IsSlot p gate bytes (Some image) = IsOpenSlot p gate bytes image
 
--- of two images the one with the greater LSN
-abbrev pub greater : Page → Page → Option Page
-greater first second = if nat_lt first.lsn second.lsn then Some second else if nat_lt second.lsn first.lsn then Some first else None
+-- of two images the one with the greater LSN, or the first
+abbrev pub greater : Page → Page → Page
+greater first second = if nat_lt first.lsn second.lsn then second else first
 
 -- the image that counts of page p, by those of its open slots
-abbrev pub counting : ℕ → Option Page → Option Page → Option Page
+abbrev pub counting : ℕ → Option Page → Option Page → Page
 counting p (Some first) (Some second) = greater first second
-counting p (Some first) None = Some first
-counting p None (Some second) = Some second
-counting p None None = Some (empty_page p)
+counting p (Some first) None = first
+counting p None (Some second) = second
+counting p None None = empty_page p

@@ -3,9 +3,11 @@
 ghost use Rattle.std.specs.Prelude.{◌≡◌, ℕ, ◌+◌, ◌<◌, ◌++◌, false, filter, length, map, All, IfOk, IfSome, IsPermutation, OnOk};
 ghost use Rattle.sd_base.specs.declared.refusal.Refusal.TheVariants as R;
 ghost use Rattle.sd_logrec.specs.View.{flat};
-ghost use Rattle.sd_log.specs.Logs.{AreSpelled, flats, log_in, scanned};
-ghost use Rattle.sd_chain.specs.Image.{all_of};
-ghost use Rattle.sd_newest.specs.Changes.{AreChanges, ChangesPage, IsMerged, is_change, redone_of};
+ghost use Rattle.sd_log.specs.Logs.{AreSpelled, log_in, scanned};
+ghost use Rattle.std.specs.List.Sorted.{IsNonDecreasingBy};
+ghost use Rattle.sd_chain.specs.Image.{all_of, sorted};
+ghost use Rattle.sd_chain.specs.Records.{of_page};
+ghost use Rattle.sd_newest.specs.Changes.{AllStand, AreChanges, ChangesPage, IsMerged, LsnsRise, chain_of, in_turn, is_change, redone_of};
 
 use sd_base::{Lsn, Memory, Refusal};
 use sd_log::{Log, Placed};
@@ -29,6 +31,7 @@ impl<'a> Change<'a> {
         ensures none { result ≡ None → is_change (flat found.now.rec) ≡ false }
         ensures found { IfSome result (λ change. change.found.now ≡ found.now) }
         ensures page { IfSome result (λ change. ChangesPage change.found.now.rec change.page) }
+        ensures dev { IfSome result (λ change. change.dev ≡ dev) }
     {
         match found.rec {
             Record::Update { page, .. } | Record::Clr { page, .. } => Some(Change {
@@ -57,12 +60,16 @@ impl<'a> Change<'a> {
     }
 }
 
-/// The changes of all logs by page, and of each page by LSN.
+/// The changes of all logs by page, of each page by LSN, and of each LSN in the order of the logs.
 pub(crate) fn merged_changes(alloc: Global, logs: &[Log]) -> Result<Vec<Change>, Memory>
     requires few { length logs.now < 256 }
     requires spelled { All (λ log. AreSpelled (scanned log)) logs.now }
     ensures changes { IfOk result (λ changes. AreChanges changes.items) }
+    ensures stand { IfOk result (λ changes. AllStand logs.now changes.items) }
+    ensures rises { IfOk result (λ changes. IsNonDecreasingBy (λ c. c.page) changes.items) }
     ensures merged { IfOk result (λ changes. (p : ℕ) → IsMerged p (log_in logs.now) (length logs.now + 1) changes.items) }
+    ensures chains { IfOk result (λ changes. LsnsRise logs.now → (p : ℕ) → chain_of p changes.items
+        ≡ sorted (filter (of_page p) (all_of (log_in logs.now) (length logs.now + 1)))) }
 {
     let mut changes = gathered_changes(alloc, logs)?;
     changes.sort_by_key(|change| change.lsn())?;
@@ -75,26 +82,32 @@ fn gathered_changes(alloc: Global, logs: &[Log]) -> Result<Vec<Change>, Memory>
     requires few { length logs.now < 256 }
     requires spelled { All (λ log. AreSpelled (scanned log)) logs.now }
     ensures changes { IfOk result (λ changes. AreChanges changes.items) }
+    ensures stand { IfOk result (λ changes. AllStand logs.now changes.items) }
     ensures gathered { IfOk result (λ changes. IsPermutation (filter is_change (all_of (log_in logs.now) (length logs.now + 1)))
         (map redone_of changes.items)) }
+    ensures in_turn { IfOk result (λ changes. map redone_of changes.items ≡ filter is_change (in_turn (log_in logs.now) (length logs.now + 1))) }
 {
     let mut changes = Vec::new(alloc);
-    for (index, log) in logs.iter().enumerate() {
-        gather(&mut changes, index as u8 + 1, log.scan())?;
+    for index in 0..logs.len() {
+        gather(&mut changes, logs, index)?;
     }
     Ok(changes)
 }
 
-// Puts the changes of one log behind the others.
-fn gather<'a>(changes: &mut Vec<Change<'a>>, dev: u8, found: &'a [Placed]) -> Result<(), Memory>
-    requires spelled { AreSpelled found.now }
+// Puts the changes of the log of this index behind the others.
+fn gather<'a>(changes: &mut Vec<Change<'a>>, logs: &'a [Log], index: usize) -> Result<(), Memory>
+    requires few { length logs.now < 256 }
+    requires there { index < length logs.now }
+    requires spelled { All (λ log. AreSpelled (scanned log)) logs.now }
     requires changes { AreChanges changes.old.items }
+    requires stand { AllStand logs.now changes.old.items }
     ensures changes { OnOk result (AreChanges changes.new.items) }
+    ensures stand { OnOk result (AllStand logs.now changes.new.items) }
     ensures gathered { OnOk result (map redone_of changes.new.items
-        ≡ map redone_of changes.old.items ++ filter is_change (flats found.now)) }
+        ≡ map redone_of changes.old.items ++ filter is_change (log_in logs.now (index + 1))) }
 {
-    for placed in found {
-        if let Some(change) = Change::of(dev, placed) {
+    for found in logs[index].scan() {
+        if let Some(change) = Change::of(index as u8 + 1, found) {
             changes.push(change)?;
         }
     }

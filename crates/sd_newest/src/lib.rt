@@ -4,7 +4,7 @@
 //! told in sd_chain.
 //! Keeps: nothing.
 //! Promises: `newest_pages` answers the newest version of each page (`newest`) where each twin is sound and each chain
-//! fits (`twins`, `fit`), and else `Damaged` (`refusals`).
+//! fits (`twins`, `fit`), and else `Damaged` (`refusals`) at the first place that fails (`place`, `specs/Misfits.antt`).
 //! Refuses: `Damaged` in `newest_pages`, twins before chains, each by page; and want of memory.
 //! Knows nothing of: transactions, groups, masters.
 //! Stands on: sd_base, sd_page, sd_logrec, sd_rig, sd_log, sd_chain.

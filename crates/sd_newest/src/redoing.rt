@@ -1,10 +1,10 @@
 //! Changes redone on the disk images, as far as they are newer (ARIES, section 6.2).
 
-ghost use Rattle.std.specs.Prelude.{◌≡◌, ◌⊎◌, ℕ, ◌<◌, cond, length, ltb, map, IfErr, IfOk, OnOk};
+ghost use Rattle.std.specs.Prelude.{◌≡◌, ◌⊎◌, ℕ, ◌+◌, ◌<◌, cond, length, ltb, map, IfErr, IfOk, OnOk};
 ghost use Rattle.sd_base.specs.declared.refusal.Refusal.TheVariants as R;
 ghost use Rattle.sd_chain.specs.Pages as pages;
 ghost use Rattle.sd_newest.specs.Changes.{AreChanges, IsChange, redone_of};
-ghost use Rattle.sd_newest.specs.Redone.{FitsAbove, IsMisfit, IsRedone};
+ghost use Rattle.sd_newest.specs.Redone.{FitsAbove, IsRedone, MisfitsAt};
 
 use crate::change::Change;
 use sd_base::{Lsn, Refusal};
@@ -31,7 +31,7 @@ pub(crate) fn redo_changes(
     requires changes { AreChanges changes.now }
     ensures redone { OnOk result ((p : ℕ) → p < 1024 → IsRedone p changes.now pages.old pages.new) }
     ensures refusals { IfErr result (λ e. (e ≡ R.Memory)
-        ⊎ ((dev : ℕ) × (at : ℕ) × (p : ℕ) × (e ≡ R.Damaged dev at) × (p < 1024) × IsMisfit p changes.now pages.old)) }
+        ⊎ ((dev : ℕ) × (at : ℕ) × (e ≡ R.Damaged dev at) × MisfitsAt changes.now pages.old dev at)) }
 {
     for change in changes {
         let place = change.page as usize;
@@ -47,7 +47,7 @@ fn redo_change(image: &mut Image, disk_lsn: Lsn, change: &Change) -> Result<(), 
     ensures redone { OnOk result (image.new
         ≡ cond (ltb disk_lsn (redone_of change.now).lsn) (pages.redo image.old (redone_of change.now)) image.old) }
     ensures refusals { IfErr result (λ e. (e ≡ R.Memory)
-        ⊎ ((dev : ℕ) × (at : ℕ) × (e ≡ R.Damaged dev at) × (FitsAbove disk_lsn image.old (redone_of change.now) → ⊥))) }
+        ⊎ ((e ≡ R.Damaged change.now.dev (130 + change.now.found.now.place)) × (FitsAbove disk_lsn image.old (redone_of change.now) → ⊥))) }
 {
     let record = &change.found.rec;
     if record.lsn() <= disk_lsn {

@@ -187,6 +187,8 @@ fn a_twin_that_is_not_sound_is_told(rt: HostRuntime) -> Result<(), Fail> {
     let mut both = with_slot(one, 0, &red_page(alloc, 5)?);
     assert!(rt; damage(alloc, &both, &logs) == Some((0, 0)));
     both[SECOND + 1000] = 1;
+    assert!(rt; damage(alloc, &both, &logs) == Some((0, 0)));
+    both[0] = 0;
     assert!(rt; damage(alloc, &both, &logs) == Some((0, 1025)));
     both[SECOND] = 0;
     assert!(rt; damage(alloc, &both, &logs).is_none());

@@ -1,14 +1,16 @@
 //! The disk image of each page: the slot of its twin that counts.
 
-ghost use Rattle.std.specs.Prelude.{◌≡◌, ◌⊎◌, ℕ, ◌+◌, ◌≤◌, ◌<◌, None, Some, length, slice_get, IfErr, IfOk, MatchOption, OnOk};
+ghost use Rattle.std.specs.Prelude.{◌≡◌, ◌⊎◌, ◌↔◌, ℕ, ◌+◌, ◌≤◌, ◌<◌, Some, drop, length, slice_get, IfErr, IfOk, IsTrue, MatchOption, OnOk};
 ghost use Rattle.sd_base.specs.declared.refusal.Refusal.TheVariants as R;
+ghost use Rattle.sd_base.specs.Twin.{Same, chosen_slot, number_of};
 ghost use Rattle.sd_page.specs.Page.{Fits};
 ghost use Rattle.sd_page.specs.Spelling.{spelling, WellFormed};
 ghost use Rattle.sd_chain.specs.Bytes.{disk_page};
 ghost use Rattle.sd_chain.specs.Checks.{IsPageSlot, TwinIsSound};
+ghost use Rattle.sd_chain.specs.Faults.{FailsInTwin, TwinFailsAt};
 ghost use Rattle.sd_newest.specs.Twins.{IsSlot, counting, greater};
 
-use sd_base::{PageNo, Refusal};
+use sd_base::{Lsn, PageNo, Refusal};
 use sd_page::Image;
 use std::alloc::Global;
 
@@ -21,14 +23,14 @@ const SLOT: usize = 1025;
 /// What the gate of a slot holds that is open.
 const OPEN: u8 = 0xA5;
 
-/// The disk image of each page by its number. `Damaged` names the first slot that isn't sound.
+/// The disk image of each page by its number. `Damaged` names the least slot that fails of the first twin that isn't sound.
 pub(crate) fn disk_images(alloc: Global, bytes: &[u8]) -> Result<Vec<Image>, Refusal>
     requires { length bytes.now ≡ 2099200 }
     ensures count { IfOk result (λ pages. length pages.items ≡ 1024) }
     ensures images { IfOk result (λ pages. (p : ℕ) → p < 1024 → slice_get pages.items p ≡ Some (disk_page bytes.now p)) }
     ensures sound { OnOk result ((p : ℕ) → p < 1024 → TwinIsSound p bytes.now) }
     ensures refusals { IfErr result (λ e. (e ≡ R.Memory)
-        ⊎ ((at : ℕ) × (p : ℕ) × (e ≡ R.Damaged 0 at) × (p < 1024) × (TwinIsSound p bytes.now → ⊥))) }
+        ⊎ ((at : ℕ) × (e ≡ R.Damaged 0 at) × FailsInTwin (λ _. bytes.now) 0 at)) }
 {
     let mut pages = Vec::with_capacity(alloc, PAGES as usize)?;
     for p in 0..PAGES {
@@ -43,15 +45,36 @@ fn disk_image(bytes: &[u8], p: PageNo) -> Result<Image, Refusal>
     requires { length bytes.now ≡ 2099200 }
     ensures image { IfOk result (λ image. image ≡ disk_page bytes.now p) }
     ensures sound { OnOk result (TwinIsSound p bytes.now) }
-    ensures refusals { IfErr result (λ e. (at : ℕ) × (e ≡ R.Damaged 0 at) × (TwinIsSound p bytes.now → ⊥)) }
+    ensures refusals { IfErr result (λ e. (at : ℕ) × (e ≡ R.Damaged 0 at) × TwinFailsAt p bytes.now at) }
 {
     let at = 2 * SLOT * p.get() as usize;
     let first = slot_image(bytes, at, p)?;
-    let second = slot_image(bytes, at + SLOT, p)?;
-    match counting_image(first, second, p) {
-        Some(image) => Ok(image),
-        None => Err(damaged(at)),
+    if have_one_lsn(bytes, at) {
+        return Err(damaged(at));
     }
+    let second = slot_image(bytes, at + SLOT, p)?;
+    Ok(counting_image(first, second, p))
+}
+
+// Whether both slots of the twin at this place are open, with one LSN.
+fn have_one_lsn(bytes: &[u8], at: usize) -> bool
+    requires { at + 2050 ≤ length bytes.now }
+    ensures { IsTrue result ↔ (chosen_slot at 1024 bytes.now ≡ Same) }
+{
+    let second = at + SLOT;
+    if bytes[at] != OPEN || bytes[second] != OPEN {
+        return false;
+    }
+    lsn_at(bytes, at + 1) == lsn_at(bytes, second + 1)
+}
+
+// The LSN that an image at this place begins with.
+fn lsn_at(bytes: &[u8], at: usize) -> Lsn
+    requires { at + 8 ≤ length bytes.now }
+    ensures { result ≡ number_of (drop at bytes.now) }
+{
+    let b = &bytes[at..at + 8];
+    u64::from_be_bytes([b[0], b[1], b[2], b[3], b[4], b[5], b[6], b[7]])
 }
 
 // The image in the slot with this gate; none where the slot is closed.
@@ -78,26 +101,24 @@ fn image_in(body: &[u8], p: PageNo) -> Option<Image>
     Some(image)
 }
 
-// Of two images the one with the greater LSN, and none of two with one LSN; without any the empty page.
-fn counting_image(first: Option<Image>, second: Option<Image>, p: PageNo) -> Option<Image>
+// Of two images the one with the greater LSN; without any the empty page.
+fn counting_image(first: Option<Image>, second: Option<Image>, p: PageNo) -> Image
     ensures { result ≡ counting p first second }
 {
     match (first, second) {
         (Some(first), Some(second)) => newer(first, second),
-        (Some(image), None) | (None, Some(image)) => Some(image),
-        (None, None) => Some(Image::empty(p)),
+        (Some(image), None) | (None, Some(image)) => image,
+        (None, None) => Image::empty(p),
     }
 }
 
-fn newer(first: Image, second: Image) -> Option<Image>
+fn newer(first: Image, second: Image) -> Image
     ensures { result ≡ greater first second }
 {
     if first.lsn() < second.lsn() {
-        Some(second)
-    } else if second.lsn() < first.lsn() {
-        Some(first)
+        second
     } else {
-        None
+        first
     }
 }
 

@@ -1,4 +1,4 @@
-use Rattle.std.proofs.Common.{◌<◌, ap, get_or, inl, inr, sym, subst, arith}
+use Rattle.std.proofs.Common.{◌+◌, ◌<◌, ap, get_or, inl, inr, sym, subst, arith}
 use Rattle.std.proofs.lemmas.List.{take_all}
 use Rattle.std.proofs.lemmas.List.Elements.{All-get_or}
 use Rattle.std.proofs.lemmas.Result.{err_from_is_err_and}
@@ -44,14 +44,12 @@ returns-in_err-redo_change-clause-refusals c =
     rw (p.1, p.2) (elim c.in_err-redo_change.ensures.refusals [
       | inl memory ↦ inl memory
       | inr bad ↦ inr (
+        c.change-item.result.dev,
+        130 + c.change-item.result.found.now.place,
         bad.0,
-        bad.1,
-        c.change-item.result.page,
-        bad.2,
-        small,
         misfits c.args.changes.now c.loop-change.change-index
             c.change-item.result c.args.pages.now c.loop-change.pages c.args.disk_lsns.now image
-            (omega arith) c.change-item.is finds bad.3 (c.loop-change.invariant c.change-item.result.page small),
+            (omega arith) c.change-item.is small finds bad.1 c.loop-change.invariant,
       )
     ])
 

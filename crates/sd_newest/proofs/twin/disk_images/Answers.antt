@@ -1,4 +1,4 @@
-use Rattle.std.proofs.Common.{◌≡◌, ◌∙◌, ℕ, [], ◌∷◌, Option, inr, ap, subst, arith, length, length-append, below_more}
+use Rattle.std.proofs.Common.{◌≡◌, ◌∙◌, ℕ, [], ◌∷◌, Option, inr, ap, refl, subst, arith, length, length-append, below_more}
 use Rattle.std.specs.Prelude.{IfSome}
 use Rattle.std.proofs.lemmas.Result.{err_from_is_err_and}
 use Rattle.sd_chain.specs.Bytes.{disk_page}
@@ -12,7 +12,17 @@ returns-in_err-image-clause-refusals c =
     let bad = c.in_err-image.ensures.refusals in
     let number : c.unwrap.result ≡ c.loop-p.p = subst
     (λ (o : Option ℕ). IfSome o (λ i. i ≡ c.loop-p.p)) c.unwrap.ensures c.new.ensures.value in
-    rw (p.1, p.2) (inr (bad.0, c.unwrap.result, bad.1, omega arith, bad.2))
+    rw (p.1, p.2) (inr (
+      bad.0,
+      bad.1,
+      record {
+        data_device = refl;
+        page = c.unwrap.result;
+        few = omega arith;
+        before = λ q lt. c.loop-p.invariant.sound q (omega arith);
+        here = bad.2;
+      },
+    ))
 
 pub loop-p-preserved : goal.loop-p-preserved
 loop-p-preserved c =
