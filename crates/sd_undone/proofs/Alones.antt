@@ -100,7 +100,7 @@ below-alone img t u y ne alone =
     (λ x h own kind is. h (λ f. ne (sym own ∙ f)) (of_rid-from y.page y.slot x kind is))
     (img.logs (home t)) (alone (home t)))
 
-first-at : (P : Rec → Type 0) (p s : ℕ) (xs : List Rec) → Each P xs → filter (at p s) xs ≢ [] → (x : Rec) × (at p s x ≡ true) × P x
+pub first-at : (P : Rec → Type 0) (p s : ℕ) (xs : List Rec) → Each P xs → filter (at p s) xs ≢ [] → (x : Rec) × (at p s x ≡ true) × P x
 first-at P p s [] a some = absurd (some refl)
 first-at P p s (x ∷ xs) a some = ⊎_elim
     (λ is. (x, is, a.0))

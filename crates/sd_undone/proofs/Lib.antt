@@ -9,3 +9,7 @@ pub mod Finds
 pub mod Alones
 pub mod Opened
 pub mod Whole
+pub mod Stopping
+pub mod Lowest
+pub mod Fronts
+pub mod Firsts

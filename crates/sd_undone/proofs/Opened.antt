@@ -37,11 +37,11 @@ some-all : {B : Type 0} (ys : List B) → filter_map (λ (o : Option B). o) (map
 some-all [] = refl
 some-all (y ∷ ys) = ap (λ l. y ∷ l) (some-all ys)
 
-picked-is : (log : List Placed) (open_ones : List ℕ) (xs : List Rec) → AreAt log open_ones xs → picked log (reverse open_ones) ≡ xs
+pub picked-is : (log : List Placed) (open_ones : List ℕ) (xs : List Rec) → AreAt log open_ones xs → picked log (reverse open_ones) ≡ xs
 picked-is log open_ones xs e =
     sym (somes (record_at log) (reverse open_ones)) ∙ ap (filter_map (λ (o : Option Rec). o)) e ∙ some-all xs
 
-each-map : {A B : Type 0} (f : A → B) (P : B → Type 0) (xs : List A) → Each (λ x. P (f x)) xs → Each P (map f xs)
+pub each-map : {A B : Type 0} (f : A → B) (P : B → Type 0) (xs : List A) → Each (λ x. P (f x)) xs → Each P (map f xs)
 each-map f P [] a = tt
 each-map f P (x ∷ xs) a = (a.0, each-map f P xs a.1)
 
@@ -50,7 +50,7 @@ Each-both P Q R f [] a b = tt
 Each-both P Q R f (x ∷ xs) a b = (f x a.0 b.0, Each-both P Q R f xs a.1 b.1)
 
 -- the image's logs from j on are these
-abbrev Follows : Image → ℕ → List LogState → Type 0
+abbrev pub Follows : Image → ℕ → List LogState → Type 0
 Follows img j [] = Unit {0}
 Follows img j (log ∷ logs) = (img.logs j ≡ flats (scanned log)) × Follows img (suc j) logs
 
@@ -61,7 +61,7 @@ follows img (log ∷ logs) j h = (
   follows img logs (suc j) (λ i. let e : suc j + i ≡ j + suc i = omega arith in ap img.logs e ∙ h (suc i)),
 )
 
-abbrev ids : List Loser → List TxnId
+abbrev pub ids : List Loser → List TxnId
 ids ls = map (λ l. l.txn) ls
 
 -- what is known of the records that a transaction has open
@@ -92,10 +92,10 @@ right-stack t ps h =
 
 -- one log
 module _ (img : Image) (j : ℕ) (log : LogState) (is : img.logs j ≡ flats (scanned log)) where
-  log-of : (t : TxnId) → home t ≡ j → img.logs (home t) ≡ flats (scanned log)
+  pub log-of : (t : TxnId) → home t ≡ j → img.logs (home t) ≡ flats (scanned log)
   log-of t e = ap img.logs e ∙ is
 
-  stacks-of : (ls : List Loser) → Each (IsLoser (scanned log)) ls → Each (λ l. home l.txn ≡ j) ls
+  pub stacks-of : (ls : List Loser) → Each (IsLoser (scanned log)) ls → Each (λ l. home l.txn ≡ j) ls
       → stacks_in (scanned log) ls ≡ stacks_of img (ids ls)
   stacks-of [] a own = refl
   stacks-of (l ∷ ls) a own =
@@ -163,7 +163,7 @@ rights_from img j (log ∷ logs) (ls ∷ losers) f a h =
     (rights_from img (suc j) logs losers f.1 a.1 (All-tail (λ (l : LogState). AreSpelled (scanned l)) log logs h))
 
 -- none is listed twice
-below-ne : (t u : TxnId) → IsBelow t u → t ≢ u
+pub below-ne : (t u : TxnId) → IsBelow t u → t ≢ u
 below-ne t u (inl lt) e = let i = ap (λ (k : TxnId). k.inst) e in absurd (omega (arith, lt, i))
 below-ne t u (inr h) e = by h.1
   where
@@ -171,19 +171,24 @@ below-ne t u (inr h) e = by h.1
     by (inl lt) = let i = ap (λ (k : TxnId). k.epoch) e in omega (arith, lt, i)
     by (inr g) = let i = ap (λ (k : TxnId). k.seq) e in let lt = g.1 in omega (arith, lt, i)
 
-rise-apart : (ls : List Loser) → Rise ls → Apart (ids ls)
-rise-apart [] r = tt
-rise-apart (l ∷ ls) r = (
-  each-map (λ (k : Loser). k.txn) (λ u. l.txn ≢ u) ls
-      (Each-weaker (λ other. IsBelow l.txn other.txn) (λ other. l.txn ≢ other.txn) (λ other. below-ne l.txn other.txn) ls r.0),
-  rise-apart ls r.1,
-)
+-- each is below those behind it
+abbrev pub Rises : List TxnId → Type 0
+Rises [] = Unit {0}
+Rises (t ∷ ts) = Each (λ u. IsBelow t u) ts × Rises ts
 
-apart-append : (ts us : List TxnId) → Apart ts → Apart us → Each (λ t. Each (λ u. t ≢ u) us) ts → Apart (ts ++ us)
-apart-append [] us a b c = b
-apart-append (t ∷ ts) us a b c = (Each-append (λ u. t ≢ u) ts us a.0 c.0, apart-append ts us a.1 b c.1)
+rises-apart : (ts : List TxnId) → Rises ts → Apart ts
+rises-apart [] r = tt
+rises-apart (t ∷ ts) r = (Each-weaker (λ u. IsBelow t u) (λ u. t ≢ u) (λ u. below-ne t u) ts r.0, rises-apart ts r.1)
 
-later-homes : (j : ℕ) (logs : List LogState) (losers : List (List Loser)) → AreLosersFrom j logs losers
+rises-log : (ls : List Loser) → Rise ls → Rises (ids ls)
+rises-log [] r = tt
+rises-log (l ∷ ls) r = (each-map (λ (k : Loser). k.txn) (λ u. IsBelow l.txn u) ls r.0, rises-log ls r.1)
+
+rises-append : (ts us : List TxnId) → Rises ts → Rises us → Each (λ t. Each (λ u. IsBelow t u) us) ts → Rises (ts ++ us)
+rises-append [] us a b c = b
+rises-append (t ∷ ts) us a b c = (Each-append (λ u. IsBelow t u) ts us a.0 c.0, rises-append ts us a.1 b c.1)
+
+pub later-homes : (j : ℕ) (logs : List LogState) (losers : List (List Loser)) → AreLosersFrom j logs losers
     → Each (λ t. j ≤ home t) (txns_of losers)
 later-homes j [] [] a = tt
 later-homes j [] (ls ∷ losers) a = absurd a
@@ -195,19 +200,16 @@ later-homes j (log ∷ logs) (ls ∷ losers) a =
     (Each-weaker (λ t. suc j ≤ home t) (λ t. j ≤ home t) (λ t le. omega (arith, le)) (txns_of losers)
     (later-homes (suc j) logs losers a.1))
 
-once-open : (j : ℕ) (logs : List LogState) (losers : List (List Loser)) → AreLosersFrom j logs losers → Apart (txns_of losers)
-once-open j [] [] a = tt
-once-open j [] (ls ∷ losers) a = absurd a
-once-open j (log ∷ logs) [] a = absurd a
-once-open j (log ∷ logs) (ls ∷ losers) a =
-    apart-append (ids ls) (txns_of losers) (rise-apart ls a.0.losers_are.rise) (once-open (suc j) logs losers a.1)
-    (each-map (λ (l : Loser). l.txn) (λ t. Each (λ u. t ≢ u) (txns_of losers)) ls
-    (Each-weaker (λ l. home l.txn ≡ j) (λ l. Each (λ u. l.txn ≢ u) (txns_of losers))
-    (λ l e. Each-weaker (λ u. suc j ≤ home u) (λ u. l.txn ≢ u) (λ u le. apart-homes l.txn u e le) (txns_of losers)
+pub losers-rise : (j : ℕ) (logs : List LogState) (losers : List (List Loser)) → AreLosersFrom j logs losers → Rises (txns_of losers)
+losers-rise j [] [] a = tt
+losers-rise j [] (ls ∷ losers) a = absurd a
+losers-rise j (log ∷ logs) [] a = absurd a
+losers-rise j (log ∷ logs) (ls ∷ losers) a =
+    rises-append (ids ls) (txns_of losers) (rises-log ls a.0.losers_are.rise) (losers-rise (suc j) logs losers a.1)
+    (each-map (λ (l : Loser). l.txn) (λ t. Each (λ u. IsBelow t u) (txns_of losers)) ls
+    (Each-weaker (λ l. home l.txn ≡ j) (λ l. Each (λ u. IsBelow l.txn u) (txns_of losers))
+    (λ l e. Each-weaker (λ u. suc j ≤ home u) (λ u. IsBelow l.txn u) (λ u le. inl (omega (arith, e, le))) (txns_of losers)
     (later-homes (suc j) logs losers a.1)) ls a.0.own))
-  where
-    apart-homes : (t u : TxnId) → home t ≡ j → suc j ≤ home u → t ≢ u
-    apart-homes t u e le same = let i = ap (λ (k : TxnId). k.inst) same in absurd (omega (arith, e, le, i))
 
 -- each open one that has a record is listed
 covers : (img : Image) (j : ℕ) (logs : List LogState) (losers : List (List Loser)) → Follows img j logs → AreLosersFrom j logs losers
@@ -247,7 +249,7 @@ module _ (img : Image) (logs : List LogState) (losers : List (List Loser)) (logs
   pub are-open : AreOpen img (txns_of losers)
   are-open = record {
     each = each-open img 1 logs losers follows-all found;
-    once = once-open 1 logs losers found;
+    once = rises-apart (txns_of losers) (losers-rise 1 logs losers found);
     all = λ t o. ⊎_elim
         (λ e. inl (none-past t (home t) refl (inl e)))
         (λ ne. covers img 1 logs losers follows-all found t o (pos (home t) ne) (λ le. none-past t (home t) refl (inr le)))

@@ -23,77 +23,97 @@ use Rattle.sd_undone.proofs.Rows.{slots-here}
 use Rattle.sd_undone.proofs.Stacks.{each-stacks, member-each, stacks-each}
 use Rattle.sd_undone.proofs.Steps.{Each-weaker}
 
-module _ (img : Image) (pages : List Page) (logs : List LogState) (losers : List (List Loser)) (read : IsRead img pages logs)
-    (found : AreLosersOf logs losers) where
-  slots-newest : (p : ℕ) → p < 1024 → slots_in pages p ≡ (newest img p).slots
+-- the stacks of some transactions that may be taken back are as they were left
+module _ (img : Image) (pages : List Page) (logs : List LogState) (read : IsRead img pages logs) where
+  pub slots-newest : (p : ℕ) → p < 1024 → slots_in pages p ≡ (newest img p).slots
   slots-newest p lt = slots-here pages p (newest img p) (read.pages_are p lt)
 
-  agree : Agree (values_in pages) (now img)
+  pub agree : Agree (values_in pages) (now img)
   agree p s lt = ap (λ (slots : List Slot). value slots s) (slots-newest p lt)
 
-  -- the values of the pages once all was taken back
-  pub values-undone : (p s : ℕ) → p < 1024
-      → undo_all (values_in pages) (open_in logs losers) p s ≡ undo_all (now img) (stacks_of img (txns_of losers)) p s
-  values-undone p s lt =
-      ap (λ (xs : List Rec). undo_all (values_in pages) xs p s) (open-stacks img logs losers read.logs_are found)
-      ∙ agree-all (values_in pages) (now img) (stacks_of img (txns_of losers)) agree p s lt
+  pub nil-fits : (t : TxnId) → opens img t ≡ [] → StackFits img t
+  nil-fits t none = record {
+    places = subst (Each (λ x. HasPlace (newest img x.page).slots x)) (sym none) tt;
+    linked = λ p s. subst (λ (xs : List Rec). Linked (now img p s) (filter (at p s) xs)) (sym none) tt;
+    alone = subst (Each (Alone img t)) (sym none) tt;
+  }
 
-  module _ (spelled : All (λ log. AreSpelled (scanned log)) logs) where
-    each-right : Each (λ t. Each (Right t) (opens img t)) (txns_of losers)
-    each-right = rights img logs losers read.logs_are found spelled
-
-    bounded : Each (λ x. x.page < 1024) (stacks_of img (txns_of losers))
-    bounded = each-stacks img (λ x. x.page < 1024) (txns_of losers)
+  module _ (ts : List TxnId) (each-right : Each (λ t. Each (Right t) (opens img t)) ts) where
+    pub bounded : Each (λ x. x.page < 1024) (stacks_of img ts)
+    bounded = each-stacks img (λ x. x.page < 1024) ts
         (Each-weaker (λ t. Each (Right t) (opens img t)) (λ t. Each (λ x. x.page < 1024) (opens img t))
-        (λ t. Each-weaker (Right t) (λ x. x.page < 1024) (λ x r. r.2) (opens img t)) (txns_of losers) each-right)
+        (λ t. Each-weaker (Right t) (λ x. x.page < 1024) (λ x r. r.2) (opens img t)) ts each-right)
 
-    module _ (may : MayTake pages (by_others logs) (open_in logs losers)) where
-      it : MayTake pages (by_others logs) (stacks_of img (txns_of losers))
-      it = subst (MayTake pages (by_others logs)) (open-stacks img logs losers read.logs_are found) may
+    module _ (it : MayTake pages (by_others logs) (stacks_of img ts)) where
+      found-now : EachFound (now img) (stacks_of img ts)
+      found-now = agree-found (values_in pages) (now img) (stacks_of img ts) agree bounded it.found
 
-      found-now : EachFound (now img) (stacks_of img (txns_of losers))
-      found-now = agree-found (values_in pages) (now img) (stacks_of img (txns_of losers)) agree bounded it.found
-
-      each-place : Each (λ t. Each (λ x. HasPlace (newest img x.page).slots x) (opens img t)) (txns_of losers)
+      each-place : Each (λ t. Each (λ x. HasPlace (newest img x.page).slots x) (opens img t)) ts
       each-place = Each-both (λ t. Each (λ x. HasPlace (slots_in pages x.page) x) (opens img t)) (λ t. Each (Right t) (opens img t))
           (λ t. Each (λ x. HasPlace (newest img x.page).slots x) (opens img t))
           (λ t. Each-both (λ x. HasPlace (slots_in pages x.page) x) (Right t) (λ x. HasPlace (newest img x.page).slots x)
           (λ x h r. subst (λ (slots : List Slot). HasPlace slots x) (slots-newest x.page r.2) h) (opens img t))
-          (txns_of losers) (stacks-each img (λ x. HasPlace (slots_in pages x.page) x) (txns_of losers) it.places) each-right
+          ts (stacks-each img (λ x. HasPlace (slots_in pages x.page) x) ts it.places) each-right
 
-      each-alone : Each (λ t. Each (Alone img t) (opens img t)) (txns_of losers)
+      pub each-alone : Each (λ t. Each (Alone img t) (opens img t)) ts
       each-alone = Each-both (λ t. Each (λ x. by_others logs x.txn x.page x.slot < x.lsn) (opens img t)) (λ t. Each (Right t) (opens img t))
           (λ t. Each (Alone img t) (opens img t))
           (λ t. Each-both (λ x. by_others logs x.txn x.page x.slot < x.lsn) (Right t) (Alone img t)
           (λ x lt r. alone-from img logs read.logs_are t x (by t x lt r)) (opens img t))
-          (txns_of losers) (stacks-each img (λ x. by_others logs x.txn x.page x.slot < x.lsn) (txns_of losers) it.last) each-right
+          ts (stacks-each img (λ x. by_others logs x.txn x.page x.slot < x.lsn) ts it.last) each-right
         where
           by : (t : TxnId) (x : Rec) → by_others logs x.txn x.page x.slot < x.lsn → Right t x
               → last_of_others t x.page x.slot (all_in logs) < x.lsn
           by t x lt r = let e = ap (λ (k : TxnId). last_of_others k x.page x.slot (all_in logs)) r.0 in omega (arith, lt, e)
 
-      nil-fits : (t : TxnId) → opens img t ≡ [] → StackFits img t
-      nil-fits t none = record {
-        places = subst (Each (λ x. HasPlace (newest img x.page).slots x)) (sym none) tt;
-        linked = λ p s. subst (λ (xs : List Rec). Linked (now img p s) (filter (at p s) xs)) (sym none) tt;
-        alone = subst (Each (Alone img t)) (sym none) tt;
-      }
-
-      member-fits : (t : TxnId) → Member t (txns_of losers) → StackFits img t
+      pub member-fits : (t : TxnId) → Member t ts → StackFits img t
       member-fits t m =
-          let alone = member-each (λ t. Each (Alone img t) (opens img t)) t (txns_of losers) m each-alone in record {
-            places = member-each (λ t. Each (λ x. HasPlace (newest img x.page).slots x) (opens img t)) t (txns_of losers) m each-place;
+          let alone = member-each (λ t. Each (Alone img t) (opens img t)) t ts m each-alone in record {
+            places = member-each (λ t. Each (λ x. HasPlace (newest img x.page).slots x) (opens img t)) t ts m each-place;
             linked = λ p s. ⊎_elim
                 (λ none. subst (Linked (now img p s)) (sym none) tt)
-                (λ some. member-linked img t p s (now img) (txns_of losers) found-now m
+                (λ some. member-linked img t p s (now img) ts found-now m
                 (Each-weaker (λ u. Each (Alone img u) (opens img u)) (λ u. t ≢ u → filter (at p s) (opens img u) ≡ [])
-                (λ u a ne. not-both img p s t u ne alone a some) (txns_of losers) each-alone))
+                (λ u a ne. not-both img p s t u ne alone a some) ts each-alone))
                 (nil_or (filter (at p s) (opens img t)));
             alone = alone;
           }
 
-      pub stacks-fit : (t : TxnId) → Open img t → StackFits img t
-      stacks-fit t o = ⊎_elim (nil-fits t) (member-fits t) ((are-open img logs losers read.logs_are found).all t o)
+  -- records of a stack that fits are above what others did to them
+  pub fits-last : (t : TxnId) → Each (Right t) (opens img t) → Each (Alone img t) (opens img t)
+      → Each (λ x. by_others logs x.txn x.page x.slot < x.lsn) (opens img t)
+  fits-last t right alone =
+      Each-both (Alone img t) (Right t) (λ x. by_others logs x.txn x.page x.slot < x.lsn) (λ x a r. by x a r) (opens img t) alone right
+    where
+      by : (x : Rec) → Alone img t x → Right t x → by_others logs x.txn x.page x.slot < x.lsn
+      by x a r = let lt = alone-last img logs read.logs_are t x r.3 a in
+          let e = ap (λ (k : TxnId). last_of_others k x.page x.slot (all_in logs)) r.0 in omega (arith, lt, e)
+
+  -- and have their places in the pages
+  pub fits-places : (t : TxnId) → Each (Right t) (opens img t) → Each (λ x. HasPlace (newest img x.page).slots x) (opens img t)
+      → Each (λ x. HasPlace (slots_in pages x.page) x) (opens img t)
+  fits-places t right places =
+      Each-both (λ x. HasPlace (newest img x.page).slots x) (Right t) (λ x. HasPlace (slots_in pages x.page) x)
+      (λ x h r. subst (λ (slots : List Slot). HasPlace slots x) (sym (slots-newest x.page r.2)) h) (opens img t) places right
+
+module _ (img : Image) (pages : List Page) (logs : List LogState) (losers : List (List Loser)) (read : IsRead img pages logs)
+    (found : AreLosersOf logs losers) where
+  -- the values of the pages once all was taken back
+  pub values-undone : (p s : ℕ) → p < 1024
+      → undo_all (values_in pages) (open_in logs losers) p s ≡ undo_all (now img) (stacks_of img (txns_of losers)) p s
+  values-undone p s lt =
+      ap (λ (xs : List Rec). undo_all (values_in pages) xs p s) (open-stacks img logs losers read.logs_are found)
+      ∙ agree-all (values_in pages) (now img) (stacks_of img (txns_of losers)) (agree img pages logs read) p s lt
+
+  module _ (spelled : All (λ log. AreSpelled (scanned log)) logs) where
+    pub each-right : Each (λ t. Each (Right t) (opens img t)) (txns_of losers)
+    each-right = rights img logs losers read.logs_are found spelled
+
+    pub stacks-fit : MayTake pages (by_others logs) (open_in logs losers) → (t : TxnId) → Open img t → StackFits img t
+    stacks-fit may t o = ⊎_elim (nil-fits img pages logs read t)
+        (member-fits img pages logs read (txns_of losers) each-right
+        (subst (MayTake pages (by_others logs)) (open-stacks img logs losers read.logs_are found) may) t)
+        ((are-open img logs losers read.logs_are found).all t o)
 
     -- in a sound image all may be taken back
     pub sound-takes : UndoingFinds → Sound img → MayTake pages (by_others logs) (open_in logs losers)
@@ -103,21 +123,12 @@ module _ (img : Image) (pages : List Page) (logs : List LogState) (losers : List
           kinds = each-stacks img (λ x. x.kind ≡ Update) ts
               (Each-weaker (λ t. Each (Right t) (opens img t)) (λ t. Each (λ x. x.kind ≡ Update) (opens img t))
               (λ t. Each-weaker (Right t) (λ x. x.kind ≡ Update) (λ x r. r.1) (opens img t)) ts each-right);
-          found = agree-found (now img) (values_in pages) (stacks_of img ts) (λ p s lt. sym (agree p s lt)) bounded
-              (finds img sound ts listed);
+          found = agree-found (now img) (values_in pages) (stacks_of img ts) (λ p s lt. sym (agree img pages logs read p s lt))
+              (bounded img pages logs read ts each-right) (finds img sound ts listed);
           places = each-stacks img (λ x. HasPlace (slots_in pages x.page) x) ts
               (Each-both (Open img) (λ t. Each (Right t) (opens img t)) (λ t. Each (λ x. HasPlace (slots_in pages x.page) x) (opens img t))
-              (λ t o. Each-both (λ x. HasPlace (newest img x.page).slots x) (Right t) (λ x. HasPlace (slots_in pages x.page) x)
-              (λ x h r. subst (λ (slots : List Slot). HasPlace slots x) (sym (slots-newest x.page r.2)) h) (opens img t)
-              (sound.stacks t o).places)
-              ts listed.each each-right);
+              (λ t o r. fits-places img pages logs read t r (sound.stacks t o).places) ts listed.each each-right);
           last = each-stacks img (λ x. by_others logs x.txn x.page x.slot < x.lsn) ts
               (Each-both (Open img) (λ t. Each (Right t) (opens img t)) (λ t. Each (λ x. by_others logs x.txn x.page x.slot < x.lsn) (opens img t))
-              (λ t o. Each-both (Alone img t) (Right t) (λ x. by_others logs x.txn x.page x.slot < x.lsn) (λ x a r. by t x a r) (opens img t)
-              (sound.stacks t o).alone)
-              ts listed.each each-right);
+              (λ t o r. fits-last img pages logs read t r (sound.stacks t o).alone) ts listed.each each-right);
         })
-      where
-        by : (t : TxnId) (x : Rec) → Alone img t x → Right t x → by_others logs x.txn x.page x.slot < x.lsn
-        by t x a r = let lt = alone-last img logs read.logs_are t x r.3 a in
-            let e = ap (λ (k : TxnId). last_of_others k x.page x.slot (all_in logs)) r.0 in omega (arith, lt, e)

@@ -2,3 +2,4 @@ pub mod Reading
 pub mod Values
 pub mod Others
 pub mod Taking
+pub mod Stops

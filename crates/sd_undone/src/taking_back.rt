@@ -5,6 +5,7 @@ ghost use Rattle.sd_logrec.specs.View.{flat};
 ghost use Rattle.sd_page.specs.Page.{size};
 ghost use Rattle.sd_chain.specs.Pages.{write};
 ghost use Rattle.sd_undone.specs.Others.{seen_in};
+ghost use Rattle.sd_undone.specs.Stops.{StopsAt, StopsIn};
 ghost use Rattle.sd_undone.specs.Taking.{Holds, MayTake, Taken, lowest_place, open_in, picked, stacks_in};
 ghost use Rattle.sd_undone.specs.declared.undoing.Fault.TheVariants as F;
 
@@ -16,7 +17,8 @@ use sd_log::{Log, Placed};
 use sd_logrec::Record;
 use sd_page::{Image, Op};
 
-/// Takes back what the losers of all logs have open. `Misfit` comes exactly where a record may not be taken back.
+/// Takes back what the losers of all logs have open. `Misfit` comes exactly where a record may not be taken back, and names
+/// the first such stack.
 pub fn take_back_all(
     pages: &mut [Image],
     last: &LastChanges,
@@ -28,6 +30,7 @@ pub fn take_back_all(
     ensures fits { OnOk result (MayTake pages.old (seen_in last.now) (open_in logs.now losers.now)) }
     ensures taken { OnOk result (Taken pages.old pages.new (open_in logs.now losers.now)) }
     ensures misfit { (inst place : ℕ) → result ≡ Err (F.Misfit inst place) → MayTake pages.old (seen_in last.now) (open_in logs.now losers.now) → ⊥ }
+    ensures first { (inst place : ℕ) → result ≡ Err (F.Misfit inst place) → StopsAt pages.old (seen_in last.now) logs.now losers.now inst place }
 {
     for (j, log) in logs.iter().enumerate() {
         take_back_log(pages, last, log.scan(), losers[j].items())?;
@@ -46,6 +49,7 @@ fn take_back_log(
     ensures fits { OnOk result (MayTake pages.old (seen_in last.now) (stacks_in log.now losers.now)) }
     ensures taken { OnOk result (Taken pages.old pages.new (stacks_in log.now losers.now)) }
     ensures misfit { (inst place : ℕ) → result ≡ Err (F.Misfit inst place) → MayTake pages.old (seen_in last.now) (stacks_in log.now losers.now) → ⊥ }
+    ensures first { (inst place : ℕ) → result ≡ Err (F.Misfit inst place) → StopsIn pages.old (seen_in last.now) log.now losers.now inst place }
 {
     for loser in losers {
         if !take_back_stack(pages, last, log, loser.open.items())? {

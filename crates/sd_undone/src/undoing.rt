@@ -9,6 +9,7 @@ ghost use Rattle.sd_chain.specs.Image.{Image as Disks, Open, Sound, StackFits, n
 ghost use Rattle.sd_chain.specs.Undoing.{stacks_of, undo_all};
 ghost use Rattle.sd_undone.specs.Reading.{AreLosersOf, IsRead, txns_of};
 ghost use Rattle.sd_undone.specs.Others.{by_others};
+ghost use Rattle.sd_undone.specs.Stops.{FirstMisfit, StopsAt};
 ghost use Rattle.sd_undone.specs.Taking.{MayTake, open_in};
 ghost use Rattle.sd_undone.specs.Values.{values_in};
 ghost use Rattle.sd_undone.specs.declared.undoing.Fault.TheVariants as F;
@@ -27,7 +28,8 @@ use std::alloc::Global;
 /// Why stacks aren't taken back.
 #[derive(Clone, Copy, Debug, PartialEq, Eq)]
 pub enum Fault {
-    /// A stack of this instance's log isn't as it was left; its lowest record stands at this place of the area.
+    /// A stack of this instance's log isn't as it was left; its lowest record stands at this place of the area. Of several
+    /// such stacks it is the first, by instance and then by transaction.
     Misfit { inst: u8, place: u32 },
     /// There was no memory.
     Memory,
@@ -44,7 +46,8 @@ impl From<Memory> for Fault {
 /// The table that the newest pages hold once the stacks of all losers are taken back.
 ///
 /// `Misfit` comes exactly where some stack isn't as its transaction left it: a record has no place in its page, the
-/// newest value isn't the last one's, or another transaction changed the record after the first of them.
+/// newest value isn't the last one's, or another transaction changed the record after the first of them. It names the
+/// first of these transactions, by instance, epoch and number, and the lowest record of its stack.
 pub fn undone(
     alloc: Global,
     pages: Vec<Image>,
@@ -59,13 +62,14 @@ pub fn undone(
     ensures values { IfOk result (λ table. (img : Disks) → IsRead img pages.items logs.now → (p s : ℕ) → p < 1024
         → contents table (record { page = p; slot = s }) ≡ undo_all (now img) (stacks_of img (txns_of losers.now)) p s) }
     ensures misfit { (inst place : ℕ) → result ≡ Err (F.Misfit inst place) → (img : Disks) → IsRead img pages.items logs.now → Sound img → ⊥ }
+    ensures first { (inst place : ℕ) → result ≡ Err (F.Misfit inst place) → (img : Disks) → IsRead img pages.items logs.now → FirstMisfit img logs.now inst place }
 {
     recovery();
     undo(alloc, pages, logs, losers)
 }
 
 /// Undo in the pages alone: the table that they hold once what these losers have open is taken back, whoever they are.
-/// `Misfit` comes exactly where a record may not be taken back, with the place of the first such stack.
+/// `Misfit` comes exactly where a record may not be taken back, with the place of the first such stack behind those before it.
 pub fn undo(
     alloc: Global,
     pages: Vec<Image>,
@@ -79,6 +83,7 @@ pub fn undo(
         ≡ undo_all (values_in pages.items) (open_in logs.now losers.now) r.page r.slot) }
     ensures misfit { (inst place : ℕ) → result ≡ Err (F.Misfit inst place)
         → MayTake pages.items (by_others logs.now) (open_in logs.now losers.now) → ⊥ }
+    ensures first { (inst place : ℕ) → result ≡ Err (F.Misfit inst place) → StopsAt pages.items (by_others logs.now) logs.now losers.now inst place }
 {
     let last = LastChanges::of(alloc, logs)?;
     let mut pages = pages;

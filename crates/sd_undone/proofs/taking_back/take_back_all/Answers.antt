@@ -6,6 +6,8 @@ use Rattle.sd_log.specs.Logs.{scanned}
 use Rattle.sd_analysis.specs.declared.losers.Loser.{Loser}
 use Rattle.sd_undone.specs.Others.{seen_in}
 use Rattle.sd_undone.specs.Taking.{MayTake, Taken, open_in, stacks_in}
+use Rattle.sd_undone.specs.Stops.{StopsIn}
+use Rattle.sd_undone.proofs.Stopping.{listed, stops_at}
 use Rattle.sd_undone.proofs.Walks.{open-more, open-parts, walk-more, walk-stops}
 use Rattle.sd_undone.proofs.taking_back.take_back_all.Goals as goal
 
@@ -39,3 +41,16 @@ returns-in_err-take_back_log-clause-misfit c = λ inst place is may.
     (open-parts logs losers (j + 1) (omega (arith, lt)) c.requires.losers
     ∙ ap (λ (l : List Rec). l ++ open_in (drop (j + 1) logs) (drop (j + 1) losers))
     (open-more logs losers j log first lt c.requires.losers c.index-logs-j.is c.index-losers-j.is)) may
+
+pub returns-in_err-take_back_log-clause-first : goal.returns-in_err-take_back_log-clause-first
+returns-in_err-take_back_log-clause-first c = λ inst place is.
+    let logs = c.args.logs.now in let losers = c.args.losers.now in let j = c.loop-j.j in
+    let log = c.index-logs-j.result in let own = c.index-losers-j.result in
+    let lt : j < length logs = omega arith in let top = seen_in c.args.last.now in
+    let lt' : j < length losers = omega (arith, lt, c.requires.losers) in
+    let p = err_from_is_err_and c.from_residual.result c.from_residual.ensures.1 in
+    stops_at top c.args.pages.now c.loop-j.pages logs losers j log own inst place (listed logs j log lt c.index-logs-j.is)
+    (listed losers j own lt' c.index-losers-j.is) c.loop-j.invariant
+    (subst (λ (l : List Placed). StopsIn c.loop-j.pages top l own inst place) c.scan.ensures
+    (subst (λ (ls : List Loser). StopsIn c.loop-j.pages top c.scan.result.now ls inst place) c.items.ensures
+    (c.in_err-take_back_log.ensures.first inst place (ap Err (sym p.2) ∙ sym p.1 ∙ is))))

@@ -1,7 +1,10 @@
-use Rattle.std.proofs.Common.{◌<◌, ◌+◌, ℕ, List, ◌++◌, Ok, length, reverse, take, drop, subst, ap, ◌∙◌, arith}
+use Rattle.std.proofs.Common.{◌≡◌, ◌<◌, ◌+◌, ℕ, List, ◌++◌, Ok, Err, Result, length, reverse, take, drop, subst, ap, ◌∙◌, arith}
 use Rattle.sd_logrec.specs.View.{Rec}
 use Rattle.sd_undone.specs.Others.{seen_in}
-use Rattle.sd_undone.specs.Taking.{MayTake, Taken, picked, stacks_in}
+use Rattle.sd_undone.specs.Taking.{MayTake, Taken, lowest_place, picked, stacks_in}
+use Rattle.sd_undone.specs.declared.undoing.Fault.{Fault}
+use Rattle.sd_undone.specs.declared.undoing.Fault.TheVariants as F
+use Rattle.sd_undone.proofs.Stopping.{listed, stops_in}
 use Rattle.sd_undone.proofs.Walks.{stacks-more, stacks-parts, walk-more, walk-stops}
 use Rattle.sd_undone.proofs.taking_back.take_back_log.Goals as goal
 
@@ -26,3 +29,18 @@ returns-then-not-branch-clause-misfit c = λ inst place _ may.
     (c.in_ok-take_back_stack.ensures.misfit (ap Ok c.if-not-branch.true)))
     (stacks-parts log losers (i + 1)
     ∙ ap (λ (l : List Rec). l ++ stacks_in log (drop (i + 1) losers)) (stacks-more log losers i x lt c.loser-item.is)) may
+
+-- the loser and the place that a misfit names
+named : {T : Type 0} (e : Fault) (inst place inst' place' : ℕ) → e ≡ F.Misfit inst' place' → ◌≡◌ {A = Result T Fault} (Err e) (Err (F.Misfit inst place))
+    → (inst ≡ inst') × (place ≡ place')
+named e inst place inst' place' f is = (cc, cc)
+
+pub returns-then-not-branch-clause-first : goal.returns-then-not-branch-clause-first
+returns-then-not-branch-clause-first c = λ inst place is.
+    let log = c.args.log.now in let losers = c.args.losers.now in let i = c.loop-loser.loser-index in
+    let x = c.loser-item.result in let lt : i < length losers = omega arith in let top = seen_in c.args.last.now in
+    let names = named {T = Unit {0}} c.misfit.result inst place x.txn.inst (lowest_place log x.open) c.misfit.ensures is in
+    stops_in top c.args.pages.now c.loop-loser.pages log losers i x inst place (listed losers i x lt c.loser-item.is) names.0 names.1
+    c.loop-loser.invariant
+    (subst (λ (o : List ℕ). MayTake c.loop-loser.pages top (picked log (reverse o)) → ⊥) c.items.ensures
+    (c.in_ok-take_back_stack.ensures.misfit (ap Ok c.if-not-branch.true)))

@@ -8,6 +8,7 @@ use Rattle.sd_chain.specs.Records.{Val}
 use Rattle.sd_undone.specs.declared.undoing.Fault.{Fault}
 use Rattle.sd_undone.specs.declared.undoing.Fault.TheVariants as F
 use Rattle.sd_undone.specs.Others.{by_others, seen_in}
+use Rattle.sd_undone.specs.Stops.{StopsAt}
 use Rattle.sd_undone.specs.Taking.{MayTake, Taken, open_in}
 use Rattle.sd_undone.specs.Values.{values_in}
 use Rattle.sd_undone.proofs.undoing.undo.Goals as goal
@@ -24,6 +25,16 @@ returns-in_err-take_back_all-clause-misfit c = λ inst place is may.
     (ap Err (same_err c.in_err-take_back_all.field-0.0 (F.Misfit inst place) (ap Err (sym p.2) ∙ sym p.1 ∙ is)))
     (subst (λ (pages : List Page). MayTake pages (seen_in c.in_ok-last.last) all) (sym c.deref_mut.ensures.value)
     (subst (λ (f : TxnId → ℕ → ℕ → ℕ). MayTake c.args.pages.items f all) (sym top) may))
+
+pub returns-in_err-take_back_all-clause-first : goal.returns-in_err-take_back_all-clause-first
+returns-in_err-take_back_all-clause-first c = λ inst place is.
+    let p = err_from_is_err_and c.from_residual-in_err-take_back_all.result c.from_residual-in_err-take_back_all.ensures.1 in
+    let logs = c.args.logs.now in let losers = c.args.losers.now in
+    let top : seen_in c.in_ok-last.last ≡ by_others logs = λ i t p s. c.in_ok-last.ensures t p s i in
+    subst (λ (f : TxnId → ℕ → ℕ → ℕ). StopsAt c.args.pages.items f logs losers inst place) top
+    (subst (λ (pages : List Page). StopsAt pages (seen_in c.in_ok-last.last) logs losers inst place) c.deref_mut.ensures.value
+    (c.in_err-take_back_all.ensures.first inst place
+    (ap Err (same_err c.in_err-take_back_all.field-0.0 (F.Misfit inst place) (ap Err (sym p.2) ∙ sym p.1 ∙ is)))))
 
 pub returns-clause-fits : goal.returns-clause-fits
 returns-clause-fits c =

@@ -1,5 +1,6 @@
 use Rattle.std.proofs.Common.{◌∙◌}
 use Rattle.std.proofs.lemmas.Result.{IfOk-weaker, on_ok_weaker}
+use Rattle.sd_undone.proofs.Firsts.{first_misfit}
 use Rattle.sd_undone.proofs.Opened.{losers-length}
 use Rattle.sd_undone.proofs.Whole.{sound-takes, stacks-fit, values-undone}
 use Rattle.sd_undone.proofs.undoing.undone.Goals as goal
@@ -12,6 +13,11 @@ returns-clause-misfit c = λ inst place is img read sound.
     c.undo.ensures.misfit inst place is
     (sound-takes img c.args.pages.items c.args.logs.now c.args.losers.now read c.requires.losers c.requires.spelled
     c.recovery.ensures.found sound)
+
+pub returns-clause-first : goal.returns-clause-first
+returns-clause-first c = λ inst place is img read.
+    first_misfit img c.args.pages.items c.args.logs.now c.args.losers.now inst place read c.requires.losers c.requires.spelled
+    (c.undo.ensures.first inst place is)
 
 pub returns-clause-stacks : goal.returns-clause-stacks
 returns-clause-stacks c =
