@@ -11,3 +11,7 @@ pub mod Sound
 pub mod Sums
 pub mod Whole
 pub mod Nine
+pub mod Placed
+pub mod Faults
+pub mod LogFaults
+pub mod Room

@@ -94,23 +94,24 @@ module _ (x : List ℕ) (ds : List (List ℕ)) (logs : List LogState) (losers : 
     logs_are = alike;
   }
 
-  room_at : EndsFit logs → (k : ℕ) → k < 8 → RoomIsLeft (suc k) (devices_of (x ∷ ds))
-  room_at fit k lt =
+  pub room_at : (k : ℕ) → k < 8 → ((log : LogState) → slice_get logs k ≡ Some log → HasRoom log) → RoomIsLeft (suc k) (devices_of (x ∷ ds))
+  room_at k lt has =
       let h = here k lt in
       let devs = devices_of (x ∷ ds) in
-      let room : HasRoom h.log = All-at HasRoom logs k h.log fit.room h.log_at in
+      let room : HasRoom h.log = has h.log h.log_at in
       let gate : gate_of (kept (devs (suc k))) ≡ h.log.gate = ap gate_of h.read.kept_is in
       let records : log_of devs (suc k) ≡ flats (scanned h.log) = alike (suc k) ∙ log_here k h.log h.log_at in
       let reserved = ap reserve records in
       omega (arith, room, gate, reserved)
 
   pub room : EndsFit logs → (j : ℕ) → 1 ≤ j → j ≤ 8 → RoomIsLeft j (devices_of (x ∷ ds))
-  room fit = by_instance (λ j d. RoomIsLeft j (devices_of (x ∷ ds))) (room_at fit)
+  room fit = by_instance (λ j d. RoomIsLeft j (devices_of (x ∷ ds)))
+      (λ k lt. room_at k lt (λ log at. All-at HasRoom logs k log fit.room at))
 
-  pub log_lsns : EndsFit logs → (j : ℕ) → Each (λ r. r.lsn + owed_by_all (devices_of (x ∷ ds)) < 2 ^ 62) (log_of (devices_of (x ∷ ds)) j)
-  log_lsns fit j =
+  pub log_lsns : All (IsLogLow (owed_in logs)) logs → (j : ℕ) → Each (λ r. r.lsn + owed_by_all (devices_of (x ∷ ds)) < 2 ^ 62) (log_of (devices_of (x ∷ ds)) j)
+  log_lsns low j =
       subst (Each (λ r. r.lsn + owed_by_all (devices_of (x ∷ ds)) < 2 ^ 62)) (sym (alike j))
       (in_log (Each (λ r. r.lsn + owed_by_all (devices_of (x ∷ ds)) < 2 ^ 62)) logs tt
       (λ k log at. Each-flats (λ r. r.lsn + owed_by_all (devices_of (x ∷ ds)) < 2 ^ 62) (scanned log)
       (subst (λ (n : ℕ). All (λ p. (flat p.rec).lsn + n < 2 ^ 62) (scanned log)) (sym owed_alike)
-      (All-at (IsLogLow (owed_in logs)) logs k log fit.records at))) j)
+      (All-at (IsLogLow (owed_in logs)) logs k log low at))) j)

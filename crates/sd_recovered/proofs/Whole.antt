@@ -9,7 +9,7 @@ use Rattle.sd_page.specs.Page.{Page}
 use Rattle.sd_log.specs.Logs.{AreSpelled, LogState, log_in, scanned}
 use Rattle.sd_analysis.specs.declared.losers.Loser.{Loser}
 use Rattle.sd_chain.specs.Bytes.{log_of}
-use Rattle.sd_chain.specs.Checks.{DevicesAreSound, GroupsAreSound, MasterIsSound, RoomIsLeft, TxnsAreSound, TwinIsSound, gate_of, owed_by_all, reserve}
+use Rattle.sd_chain.specs.Checks.{DevicesAreSound, GroupsAreSound, LsnsAreLeft, MasterIsSound, RoomIsLeft, TxnsAreSound, TwinIsSound, gate_of, owed_by_all, reserve}
 use Rattle.sd_chain.specs.Image.{Image, Open, StackFits, chain, newest}
 use Rattle.sd_chain.specs.Pages.{FitAll}
 use Rattle.sd_chain.specs.Records.{Each}
@@ -77,6 +77,10 @@ module _ (x : List ℕ) (ds : List (List ℕ)) (logs : List LogState) (losers : 
       let same = parts.owed_alike x ds logs losers eight are in
       omega (arith, top, below, same)
 
+  pub lsns_left : ((p : ℕ) → p < 1024 → ChainFits (image_of x logs) p) → All (IsPageLow (owed_in logs)) pages
+      → All (IsLogLow (owed_in logs)) logs → LsnsAreLeft (devices_of (x ∷ ds))
+  lsns_left fit low lows = record { logs = parts.log_lsns x ds logs losers eight are lows; pages = page_lsns fit low }
+
   pub passed : length x ≡ 2099200 → All (λ log. AreSpelled (scanned log)) logs → ((p : ℕ) → p < 1024 → TwinIsSound p x)
       → ((p : ℕ) → p < 1024 → ChainFits (image_of x logs) p) → ((t : TxnId) → Open img t → StackFits img t)
       → All (IsPageLow (owed_in logs)) pages → EndsFit logs → DevicesAreSound (devices_of (x ∷ ds))
@@ -87,13 +91,13 @@ module _ (x : List ℕ) (ds : List (List ℕ)) (logs : List LogState) (losers : 
     twins = twins;
     kept = record { disks = disk_within x size twins; pages = fits fit spelled; stacks = stacks };
     room = parts.room x ds logs losers eight are ends;
-    lsns = record { logs = parts.log_lsns x ds logs losers eight are ends; pages = page_lsns fit low };
+    lsns = lsns_left fit low ends.records;
   }
 
   -- the other way round
 
-  pub low_pages : length pages ≡ 1024 → DevicesAreSound (devices_of (x ∷ ds)) → All (IsPageLow (owed_in logs)) pages
-  low_pages count sound =
+  pub low_pages : length pages ≡ 1024 → LsnsAreLeft (devices_of (x ∷ ds)) → All (IsPageLow (owed_in logs)) pages
+  low_pages count left =
       All-from_each (IsPageLow (owed_in logs)) pages
       (λ p page at.
       let lt = slice_get_within pages p page at in
@@ -101,32 +105,43 @@ module _ (x : List ℕ) (ds : List (List ℕ)) (logs : List LogState) (losers : 
       let same : newest (image_of x logs) p ≡ page = one_page (newest_is p few) at in
       subst (λ (q : Page). q.lsn + owed_in logs < 2 ^ 62) same
       (newest_lsn (λ l. l + owed_in logs < 2 ^ 62) (image_of x logs) p
-      (subst (λ (n : ℕ). (img.disk p).lsn + n < 2 ^ 62) (parts.owed_alike x ds logs losers eight are) (sound.lsns.pages p few))
+      (subst (λ (n : ℕ). (img.disk p).lsn + n < 2 ^ 62) (parts.owed_alike x ds logs losers eight are) (left.pages p few))
       (λ j. subst (Each (λ r. r.lsn + owed_in logs < 2 ^ 62)) (alike j)
       (subst (λ (n : ℕ). Each (λ r. r.lsn + n < 2 ^ 62) (log_of (devices_of (x ∷ ds)) j)) (parts.owed_alike x ds logs losers eight are)
-      (sound.lsns.logs j)))))
+      (left.logs j)))))
     where
       one_page : {o : Option Page} {a b : Page} → o ≡ Some a → o ≡ Some b → a ≡ b
       one_page e f = cc
 
-  pub ends : DevicesAreSound (devices_of (x ∷ ds)) → EndsFit logs
-  ends sound = record {
-    records = All-from_each (IsLogLow (owed_in logs)) logs (λ k log at.
-        All-flats (λ r. r.lsn + owed_in logs < 2 ^ 62) (scanned log)
-        (subst (Each (λ r. r.lsn + owed_in logs < 2 ^ 62)) (alike (suc k) ∙ parts.log_here x ds logs losers eight are k log at)
-        (subst (λ (n : ℕ). Each (λ r. r.lsn + n < 2 ^ 62) (log_of (devices_of (x ∷ ds)) (suc k))) (parts.owed_alike x ds logs losers eight are)
-        (sound.lsns.logs (suc k)))));
-    room = All-from_each HasRoom logs (λ k log at.
-        let lt = slice_get_within logs k log at in
-        let few : k < 8 = omega (arith, lt, eight) in
-        let h = parts.here x ds logs losers eight are k few in
-        let same : h.log ≡ log = one_log h.log_at at in
-        let left : RoomIsLeft (suc k) (devices_of (x ∷ ds)) = sound.room (suc k) (omega arith) (omega (arith, few)) in
-        let gate : gate_of (kept (devices_of (x ∷ ds) (suc k))) ≡ log.gate =
-        ap gate_of h.read.kept_is ∙ ap (λ (l : LogState). l.gate) same in
-        let reserved = ap reserve (alike (suc k) ∙ parts.log_here x ds logs losers eight are k log at) in
-        omega (arith, left, gate, reserved));
-  }
+  pub low_logs : LsnsAreLeft (devices_of (x ∷ ds)) → All (IsLogLow (owed_in logs)) logs
+  low_logs left = All-from_each (IsLogLow (owed_in logs)) logs (λ k log at.
+      All-flats (λ r. r.lsn + owed_in logs < 2 ^ 62) (scanned log)
+      (subst (Each (λ r. r.lsn + owed_in logs < 2 ^ 62)) (alike (suc k) ∙ parts.log_here x ds logs losers eight are k log at)
+      (subst (λ (n : ℕ). Each (λ r. r.lsn + n < 2 ^ 62) (log_of (devices_of (x ∷ ds)) (suc k))) (parts.owed_alike x ds logs losers eight are)
+      (left.logs (suc k)))))
+
+  -- the log of an instance, at its next gate
+  pub gate_at : (k : ℕ) (log : LogState) → slice_get logs k ≡ Some log → gate_of (kept (devices_of (x ∷ ds) (suc k))) ≡ log.gate
+  gate_at k log at =
+      let lt = slice_get_within logs k log at in
+      let h = parts.here x ds logs losers eight are k (omega (arith, lt, eight)) in
+      let same : h.log ≡ log = one_log h.log_at at in
+      ap gate_of h.read.kept_is ∙ ap (λ (l : LogState). l.gate) same
     where
       one_log : {o : Option LogState} {a b : LogState} → o ≡ Some a → o ≡ Some b → a ≡ b
       one_log e f = cc
+
+  pub has_room : (k : ℕ) (log : LogState) → slice_get logs k ≡ Some log → RoomIsLeft (suc k) (devices_of (x ∷ ds)) → HasRoom log
+  has_room k log at left =
+      let gate = gate_at k log at in
+      let reserved = ap reserve (alike (suc k) ∙ parts.log_here x ds logs losers eight are k log at) in
+      omega (arith, left, gate, reserved)
+
+  pub ends : DevicesAreSound (devices_of (x ∷ ds)) → EndsFit logs
+  ends sound = record {
+    records = low_logs sound.lsns;
+    room = All-from_each HasRoom logs (λ k log at.
+        let lt = slice_get_within logs k log at in
+        let few : k < 8 = omega (arith, lt, eight) in
+        has_room k log at (sound.room (suc k) (omega arith) (omega (arith, few))));
+  }

@@ -1,8 +1,10 @@
 -- What is read of the log devices, one by one.
-use Rattle.std.specs.Prelude.{◌≡◌, ◌⊎◌, ℕ, suc, List, [], ◌∷◌}
+use Rattle.std.specs.Prelude.{◌≡◌, ◌⊎◌, ℕ, suc, ◌+◌, ◌<◌, List, [], ◌∷◌, Some, slice_get}
 use Rattle.sd_logrec.specs.Kept.{Whole, kept}
-use Rattle.sd_log.specs.Logs.{AreSpelled, LogState, scanned}
+use Rattle.sd_log.specs.Logs.{AreSpelled, LogState, flats, scanned}
 use Rattle.sd_chain.specs.Checks.{GroupsAreSound, MasterIsSound, TxnsAreSound}
+use Rattle.sd_log.specs.declared.placed.Placed.{Placed}
+use Rattle.sd_chain.specs.Faults.{IsFirstMisplaced, LogFailsAt, LogIsSound}
 use Rattle.sd_analysis.specs.declared.losers.Loser.{Loser}
 use Rattle.sd_analysis.specs.Losers.{AreLosers, AreTidy}
 
@@ -33,3 +35,20 @@ IsUnread j device = MasterIsSound device → GroupsAreSound j device → TxnsAre
 abbrev pub SomeUnread : ℕ → List (List ℕ) → Type 0
 SomeUnread j [] = ⊥
 SomeUnread j (d ∷ devices) = IsUnread j d ⊎ SomeUnread (suc j) devices
+
+-- The first record of the log that isn't in its transaction's order stands at this place of the device.
+pub record Misplaced (log : List Placed) (at : ℕ) : Type 0 where
+  pub index : ℕ
+  pub found : Placed
+  pub there : slice_get log index ≡ Some found
+  pub at_is : at ≡ 130 + found.place
+  pub first : IsFirstMisplaced (flats log) index
+
+-- Of these log devices, the first of which is that of instance 1, this is the first that isn't sound.
+pub record FailsAmong (devices : List (List ℕ)) (dev at : ℕ) : Type 0 where
+  pub index : ℕ
+  pub device : List ℕ
+  pub there : slice_get devices index ≡ Some device
+  pub dev_is : dev ≡ 1 + index
+  pub before : (k : ℕ) (d : List ℕ) → k < index → slice_get devices k ≡ Some d → LogIsSound (1 + k) d
+  pub here : LogFailsAt (1 + index) device at

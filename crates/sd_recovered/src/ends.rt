@@ -1,12 +1,12 @@
 //! Room for what ends the losers: LSNs, and bytes in each log.
 
-ghost use Rattle.std.specs.Prelude.{◌≡◌, ◌≢◌, ◌⊎◌, ℕ, ◌+◌, ◌-◌, ◌^◌, ◌<◌, ◌≤◌, ◌↔◌, [], List, All, IfErr, IsTrue, OnOk, length, min};
+ghost use Rattle.std.specs.Prelude.{◌≡◌, ◌≢◌, ◌⊎◌, ℕ, ◌+◌, ◌-◌, ◌^◌, ◌<◌, ◌≤◌, ◌↔◌, [], List, All, Err, IfErr, IsTrue, OnOk, length, min};
 ghost use Rattle.sd_base.specs.declared.refusal.Refusal.TheVariants as R;
 ghost use Rattle.sd_log.specs.Logs.{LogState, flats, scanned};
 ghost use Rattle.sd_chain.specs.Checks as checks;
 ghost use Rattle.sd_analysis.specs.Losers.{AreLosers};
 ghost use Rattle.sd_undone.specs.Reading.{AreLosersFrom, AreLosersOf};
-ghost use Rattle.sd_recovered.specs.Ends.{EndsFit, HasRoom, IsLogLow, IsLow, IsPageLow, owed_in};
+ghost use Rattle.sd_recovered.specs.Ends.{EndsFailAt, EndsFit, HasRoom, IsLogLow, IsLow, IsPageLow, LacksRoom, owed_in};
 
 use crate::logs::damaged;
 use sd_analysis::{Losers, owed, reserve};
@@ -53,6 +53,13 @@ fn is_log_low(log: &Log, owed: u64) -> bool
         .all(|placed| is_low(placed.rec.lsn(), owed))
 }
 
+// Whether so many LSNs are left above those of these logs.
+fn are_logs_low(logs: &[Log], owed: u64) -> bool
+    ensures { (n : ℕ) → owed ≡ min n (2 ^ 64 - 1) → IsTrue result ↔ All (IsLogLow n) logs.now }
+{
+    logs.iter().all(|log| is_log_low(log, owed))
+}
+
 // Whether the log has room for what ends its losers.
 fn has_room(log: &Log, losers: &Losers) -> bool
     requires { AreLosers (scanned log.now) losers.now }
@@ -64,16 +71,18 @@ fn has_room(log: &Log, losers: &Losers) -> bool
 
 /// Room for what ends the losers, in each log and above all LSNs; `low` says it of the pages' LSNs.
 ///
-/// `Damaged` comes exactly where there is none, at the next gate of the first log that lacks it.
+/// `Damaged` comes exactly where there is none: where LSNs lack at the next gate of log 1, else at that of the first log
+/// that lacks bytes.
 pub fn check_ends(logs: &[Log], losers: &[Losers], low: bool) -> Result<(), Refusal>
     requires losers { AreLosersOf logs.now losers.now }
     requires eight { length logs.now ≡ 8 }
     ensures low { OnOk result (IsTrue low) }
     ensures fit { OnOk result (EndsFit logs.now) }
     ensures unfit { IfErr result (λ e. (dev : ℕ) × (at : ℕ) × (e ≡ R.Damaged dev at) × (IsTrue low → EndsFit logs.now → ⊥)) }
+    ensures place { (dev at : ℕ) → result ≡ Err (R.Damaged dev at) → EndsFailAt low logs.now dev at }
 {
     let owed = owed_by(losers);
-    if !low || !logs.iter().all(|log| is_log_low(log, owed)) {
+    if !low || !are_logs_low(logs, owed) {
         return Err(damaged(1, logs[0].gate()));
     }
     check_room(logs, losers, 1)
@@ -85,6 +94,7 @@ fn check_room(logs: &[Log], losers: &[Losers], inst: u8) -> Result<(), Refusal>
     requires few { inst + length logs.now < 256 }
     ensures fit { OnOk result (All HasRoom logs.now) }
     ensures unfit { IfErr result (λ e. (dev : ℕ) × (at : ℕ) × (e ≡ R.Damaged dev at) × (All HasRoom logs.now → ⊥)) }
+    ensures place { (dev at : ℕ) → result ≡ Err (R.Damaged dev at) → LacksRoom inst logs.now dev at }
 {
     match (logs, losers) {
         ([log, logs @ ..], [found, losers @ ..]) => {

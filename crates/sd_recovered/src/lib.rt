@@ -4,7 +4,7 @@
 //! `IsRecovered` says it of a table (`specs/Devices.antt`).
 //! Keeps: nothing.
 //! Promises: `recovered` answers the table where the devices are sound (`sound`, `recovered`), and else `Damaged`
-//! (`unsound`); it changes nothing on them.
+//! (`unsound`) at the first place that fails (`place`); it changes nothing on them.
 //! Refuses: `Damaged` in `recovered`, and want of memory.
 //! Knows nothing of: rigs, pools, locks, running transactions.
 //! Stands on: sd_base, sd_model, sd_page, sd_logrec, sd_rig, sd_log, sd_chain, sd_scan, sd_analysis, sd_newest, sd_undone.

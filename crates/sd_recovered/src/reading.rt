@@ -4,6 +4,7 @@ ghost use Rattle.std.specs.Prelude.{◌≡◌, ◌⊎◌, ℕ, ◌∷◌, All, E
 ghost use Rattle.sd_base.specs.declared.refusal.Refusal.TheVariants as R;
 ghost use Rattle.sd_log.specs.Logs.{AreSpelled, scanned};
 ghost use Rattle.sd_chain.specs.Checks.{DevicesAreSound};
+ghost use Rattle.sd_chain.specs.Faults.{FailsFirstAt};
 ghost use Rattle.sd_undone.specs.Reading.{AreLosersOf};
 ghost use Rattle.sd_recovered.specs.Devices.{AreDevices, IsRecovered, devices_of};
 ghost use Rattle.sd_recovered.specs.Reading.{AreRead};
@@ -22,14 +23,22 @@ use std::alloc::Global;
 /// The table that nine device images stand for, device 0 first: each record as the committed transactions left it, with
 /// what unfinished ones changed taken back.
 ///
-/// `Damaged` comes exactly where the images aren't sound. It names the device and the place, in bytes, of the first of the
-/// seven checks that fails: masters, groups and the order of each transaction log by log, twins, chains, stacks, room.
+/// `Damaged` comes exactly where the images aren't sound. It names the device, and the place in bytes from the device's
+/// start, of the first of the seven checks that fails, at its least place:
+/// - 1 to 3, log by log: the master at place 0; the first record that may not follow those before it, or, where all in front
+///   of it do, the gate or the record that breaks the format; the first record that isn't in its transaction's order.
+/// - 4: of the first page whose twin isn't sound the least slot that fails, which is the first where both have one LSN.
+/// - 5: of the first page with a record that doesn't fit the first such record, by LSN and then by device.
+/// - 6: of the first open transaction, by instance, epoch and number, whose stack isn't as it was left the lowest record
+///   of its stack.
+/// - 7: the next gate of log 1 where LSNs lack, else that of the first log without room for what ends its transactions.
 pub fn recovered(alloc: Global, images: &[Bytes]) -> Result<Table, Refusal>
     requires devices { AreDevices images.now }
     ensures sound { OnOk result (DevicesAreSound (devices_of images.now)) }
     ensures recovered { IfOk result (IsRecovered (devices_of images.now)) }
 
     ensures unsound { (dev at : ℕ) → result ≡ Err (R.Damaged dev at) → DevicesAreSound (devices_of images.now) → ⊥ }
+    ensures place { (dev at : ℕ) → result ≡ Err (R.Damaged dev at) → FailsFirstAt (devices_of images.now) dev at }
     ensures refusals { IfErr result (λ e. (e ≡ R.Memory) ⊎ ((dev : ℕ) × (at : ℕ) × (e ≡ R.Damaged dev at))) }
 {
     let (logs, losers) = read_logs(alloc, &images[1..])?;
@@ -47,6 +56,8 @@ fn table_of(alloc: Global, bytes: &[u8], logs: &[Log], losers: &[Losers]) -> Res
 
     ensures unsound { IfErr result (λ e. (e ≡ R.Memory) ⊎ ((dev : ℕ) × (at : ℕ) × (e ≡ R.Damaged dev at)
         × ((devices : List (List ℕ)) → AreRead 1 devices logs.now losers.now → DevicesAreSound (devices_of (bytes.now ∷ devices)) → ⊥))) }
+    ensures place { (dev at : ℕ) → result ≡ Err (R.Damaged dev at) → (devices : List (List ℕ)) → AreRead 1 devices logs.now losers.now
+        → FailsFirstAt (devices_of (bytes.now ∷ devices)) dev at }
 {
     let pages = newest_pages(alloc, bytes, logs)?;
     let low = are_low(&pages, owed_by(losers));

@@ -1,6 +1,6 @@
 //! The table of the newest pages, with what the losers changed taken back.
 
-ghost use Rattle.std.specs.Prelude.{◌≡◌, ◌⊎◌, ℕ, ◌<◌, All, IfErr, IfOk, OnOk, length};
+ghost use Rattle.std.specs.Prelude.{◌≡◌, ◌⊎◌, ℕ, ◌+◌, ◌<◌, All, Err, IfErr, IfOk, OnOk, length};
 ghost use Rattle.sd_base.specs.declared.ids.TxnId.{TxnId};
 ghost use Rattle.sd_base.specs.declared.refusal.Refusal.TheVariants as R;
 ghost use Rattle.sd_model.specs.Tables.{contents};
@@ -8,6 +8,7 @@ ghost use Rattle.sd_log.specs.Logs.{AreSpelled, scanned};
 ghost use Rattle.sd_chain.specs.Image.{Image as Disks, Open, Sound, StackFits, now};
 ghost use Rattle.sd_chain.specs.Undoing.{stacks_of, undo_all};
 ghost use Rattle.sd_undone.specs.Reading.{AreLosersOf, IsRead, txns_of};
+ghost use Rattle.sd_undone.specs.Stops.{FirstMisfit};
 
 use crate::logs::damaged;
 use sd_analysis::Losers;
@@ -18,7 +19,8 @@ use sd_page::Image;
 use sd_undone::{Fault, undone};
 use std::alloc::Global;
 
-/// The table of the newest pages with what the losers changed taken back; `Damaged` where some stack isn't as it was left.
+/// The table of the newest pages with what the losers changed taken back; `Damaged` where some stack isn't as it was left,
+/// at the lowest record of the first such stack.
 pub fn take_back(
     alloc: Global,
     pages: Vec<Image>,
@@ -34,6 +36,8 @@ pub fn take_back(
         → contents table (record { page = p; slot = s }) ≡ undo_all (now img) (stacks_of img (txns_of losers.now)) p s) }
     ensures misfit { IfErr result (λ e. (e ≡ R.Memory) ⊎ ((dev : ℕ) × (at : ℕ) × (e ≡ R.Damaged dev at)
         × ((img : Disks) → IsRead img pages.items logs.now → Sound img → ⊥))) }
+    ensures first { (dev at : ℕ) → result ≡ Err (R.Damaged dev at) → (img : Disks) → IsRead img pages.items logs.now
+        → (place : ℕ) × (at ≡ 130 + place) × FirstMisfit img logs.now dev place }
 {
     match undone(alloc, pages, logs, losers) {
         Ok(table) => Ok(table),

@@ -56,6 +56,50 @@ const UNLINKED: [u8; 64] = [
     0xff, 0, 3, 0x72, 0x65, 0x64,
 ];
 
+// A transaction that goes on behind its commit.
+const BEHIND_COMMIT: [u8; 75] = [
+    0xa5, 0, 0, 0, 0x0d, 1, 0, 0, 0, 0, 0, 0, 0, 1, 0, 0, 0, 1, 0xa5, 0, 0, 0, 0x34, 4, 0, 0, 0, 0,
+    0, 0, 0, 2, 1, 0, 0, 0, 1, 0, 0, 0, 1, 0, 0, 0, 0, 0, 0, 0, 0, 5, 0, 0, 0, 0, 0, 0, 0, 3, 1, 0,
+    0, 0, 1, 0, 0, 0, 1, 0, 0, 0, 0, 0, 0, 0, 2,
+];
+
+// The same, with an undo of nothing by another one between.
+const BEHIND_COMMIT_AND_CLR: [u8; 117] = [
+    0xa5, 0, 0, 0, 0x0d, 1, 0, 0, 0, 0, 0, 0, 0, 1, 0, 0, 0, 1, 0xa5, 0, 0, 0, 0x5e, 4, 0, 0, 0, 0,
+    0, 0, 0, 2, 1, 0, 0, 0, 1, 0, 0, 0, 1, 0, 0, 0, 0, 0, 0, 0, 0, 3, 0, 0, 0, 0, 0, 0, 0, 3, 1, 0,
+    0, 0, 1, 0, 0, 0, 2, 0, 0, 0, 0, 0, 0, 0, 0, 0, 0, 0, 0, 0, 0, 0, 0, 0, 0, 0, 0, 0, 0, 0xff,
+    0xff, 5, 0, 0, 0, 0, 0, 0, 0, 4, 1, 0, 0, 0, 1, 0, 0, 0, 1, 0, 0, 0, 0, 0, 0, 0, 2,
+];
+
+// A transaction whose first record names a former one, in front of an undo of nothing.
+const UNLINKED_AND_CLR: [u8; 106] = [
+    0xa5, 0, 0, 0, 0x0d, 1, 0, 0, 0, 0, 0, 0, 0, 1, 0, 0, 0, 1, 0xa5, 0, 0, 0, 0x53, 2, 0, 0, 0, 0,
+    0, 0, 0, 2, 1, 0, 0, 0, 1, 0, 0, 0, 1, 0, 0, 0, 0, 0, 0, 0, 7, 0, 0, 0, 0, 0, 0, 0, 3, 0xff,
+    0xff, 0, 3, 0x72, 0x65, 0x64, 3, 0, 0, 0, 0, 0, 0, 0, 3, 1, 0, 0, 0, 1, 0, 0, 0, 2, 0, 0, 0, 0,
+    0, 0, 0, 0, 0, 0, 0, 0, 0, 0, 0, 0, 0, 0, 0, 0, 0, 0, 0xff, 0xff,
+];
+
+// Two transactions whose first records name former ones, that of the greater number in front.
+const TWO_UNLINKED: [u8; 105] = [
+    0xa5, 0, 0, 0, 0x0d, 1, 0, 0, 0, 0, 0, 0, 0, 1, 0, 0, 0, 1, 0xa5, 0, 0, 0, 0x52, 2, 0, 0, 0, 0,
+    0, 0, 0, 2, 1, 0, 0, 0, 1, 0, 0, 0, 2, 0, 0, 0, 0, 0, 0, 0, 7, 0, 0, 0, 0, 0, 0, 0, 3, 0xff,
+    0xff, 0, 3, 0x72, 0x65, 0x64, 2, 0, 0, 0, 0, 0, 0, 0, 3, 1, 0, 0, 0, 1, 0, 0, 0, 1, 0, 0, 0, 0,
+    0, 0, 0, 7, 0, 0, 0, 0, 0, 0, 0, 3, 0xff, 0xff, 0, 3, 0x72, 0x65, 0x64,
+];
+
+// A commit of another instance's transaction, in front of a gate without a length.
+const FOREIGN_AND_OPEN: [u8; 50] = [
+    0xa5, 0, 0, 0, 0x0d, 1, 0, 0, 0, 0, 0, 0, 0, 1, 0, 0, 0, 1, 0xa5, 0, 0, 0, 0x1a, 4, 0, 0, 0, 0,
+    0, 0, 0, 2, 2, 0, 0, 0, 1, 0, 0, 0, 1, 0, 0, 0, 0, 0, 0, 0, 0, 0xa5,
+];
+
+// A commit whose LSN does not rise, in front of a group that holds no record.
+const LOW_AND_NINES: [u8; 63] = [
+    0xa5, 0, 0, 0, 0x0d, 1, 0, 0, 0, 0, 0, 0, 0, 1, 0, 0, 0, 1, 0xa5, 0, 0, 0, 0x1a, 4, 0, 0, 0, 0,
+    0, 0, 0, 1, 1, 0, 0, 0, 1, 0, 0, 0, 1, 0, 0, 0, 0, 0, 0, 0, 0, 0xa5, 0, 0, 0, 9, 9, 9, 9, 9, 9,
+    9, 9, 9, 9,
+];
+
 // A change of a value that its page doesn't have.
 const UNFOUND: [u8; 67] = [
     0xa5, 0, 0, 0, 0x0d, 1, 0, 0, 0, 0, 0, 0, 0, 1, 0, 0, 0, 1, 0xa5, 0, 0, 0, 0x2c, 2, 0, 0, 0, 0,
@@ -190,6 +234,39 @@ fn a_group_that_is_not_sound_is_told_at_its_gate_or_record(rt: HostRuntime) -> R
     );
     assert_eq!(rt; damage(alloc, &[log(1, &FOREIGN)])?, (1, 153));
     assert_eq!(rt; damage(alloc, &[log(1, &UNLINKED)])?, (1, 153));
+    Ok(())
+}
+
+#[test]
+fn of_several_faults_of_a_log_the_least_place_is_told(rt: HostRuntime) -> Result<(), Fail> {
+    let alloc = rt.alloc();
+    let logs: [&[u8]; 6] = [
+        &BEHIND_COMMIT,
+        &BEHIND_COMMIT_AND_CLR,
+        &UNLINKED_AND_CLR,
+        &TWO_UNLINKED,
+        &FOREIGN_AND_OPEN,
+        &LOW_AND_NINES,
+    ];
+    for bytes in logs {
+        assert_eq!(rt; damage(alloc, &[log(1, bytes)])?, (1, 153));
+    }
+    Ok(())
+}
+
+#[test]
+fn of_two_slots_with_one_lsn_the_first_is_told(rt: HostRuntime) -> Result<(), Fail> {
+    let alloc = rt.alloc();
+    let ill_formed = Patch {
+        dev: 0,
+        at: 2_025,
+        bytes: &[1],
+    };
+    assert_eq!(rt;
+        damage(alloc, &[open(0, 0), open(0, 1_025), ill_formed])?,
+        (0, 0)
+    );
+    assert_eq!(rt; damage(alloc, &[open(0, 1_025), ill_formed])?, (0, 1_025));
     Ok(())
 }
 

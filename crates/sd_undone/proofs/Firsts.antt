@@ -1,5 +1,5 @@
 -- The loser at which taking back stops is the first open transaction whose stack isn't as it was left. It serves the goals of undone.
-use Rattle.std.proofs.Common.{◌≡◌, ◌≢◌, ◌⊎◌, inl, inr, ⊎_elim, ◌+◌, ◌-◌, ◌<◌, ℕ, suc, List, [], ◌∷◌, ◌++◌, Some, append_assoc, length, reverse, slice_get, take, drop, refl, sym, ap, ap₂, subst, ◌∙◌, arith}
+use Rattle.std.proofs.Common.{◌≡◌, ◌≢◌, ◌⊎◌, inl, inr, ⊎_elim, ◌+◌, ◌-◌, ◌<◌, ◌≤◌, ℕ, suc, List, [], ◌∷◌, ◌++◌, Some, append_assoc, length, reverse, slice_get, take, drop, refl, sym, ap, ap₂, subst, ◌∙◌, arith}
 use Rattle.std.specs.Prelude.{All, filter}
 use Rattle.std.proofs.lemmas.Bool.{cases_Bool}
 use Rattle.sd_base.specs.declared.ids.TxnId.{TxnId}
@@ -178,6 +178,7 @@ module _ (img : Image) (pages : List Page) (logs : List LogState) (losers : List
       let number : t.inst ≡ 1 + s.number = g.own.1 in
       let back : t.inst - 1 ≡ s.number = omega (arith, number) in record {
         log = s.log;
+        some = omega (arith, number);
         log_is = ap (slice_get logs) back ∙ s.log_is;
         index = low.index;
         found = low.found;

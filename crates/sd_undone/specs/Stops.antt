@@ -1,6 +1,6 @@
 -- Where taking back stops: the first loser whose stack may not be taken back, and of an image the first open transaction
 -- whose stack isn't as it was left.
-use Rattle.std.specs.Prelude.{◌≡◌, ℕ, ◌-◌, ◌<◌, List, [], ◌∷◌, ◌++◌, Some, reverse, slice_get, take}
+use Rattle.std.specs.Prelude.{◌≡◌, ℕ, ◌-◌, ◌<◌, ◌≤◌, List, [], ◌∷◌, ◌++◌, Some, reverse, slice_get, take}
 use Rattle.sd_base.specs.declared.ids.TxnId.{TxnId}
 use Rattle.sd_base.specs.Ids.{IsBelow}
 use Rattle.sd_page.specs.Page.{Page}
@@ -44,6 +44,7 @@ pub record StopsAt (pages : List Page) (others : TxnId → ℕ → ℕ → ℕ) 
 -- The lowest record of the transaction's stack stands at this place of its log, of which the first is log 1.
 pub record StandsLowest (img : Image) (logs : List LogState) (t : TxnId) (place : ℕ) : Type 0 where
   pub log : LogState
+  pub some : 1 ≤ t.inst
   pub log_is : slice_get logs (t.inst - 1) ≡ Some log
   pub index : ℕ
   pub found : Placed

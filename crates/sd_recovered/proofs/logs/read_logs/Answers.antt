@@ -9,7 +9,9 @@ use Rattle.sd_recovered.specs.Reading.{AreRead, IsRead, IsUnread}
 use Rattle.sd_recovered.proofs.Covers.{all_spelled, as_many}
 use Rattle.sd_recovered.proofs.Own.{losers_read}
 use Rattle.sd_recovered.proofs.OneMore.{AreRead-more, some_unread}
-use Rattle.sd_recovered.proofs.Refusals.{told_on}
+use Rattle.sd_chain.specs.Faults.{LogFailsAt}
+use Rattle.sd_recovered.proofs.LogFaults.{fails_among}
+use Rattle.sd_recovered.proofs.Refusals.{came, told_on}
 use Rattle.sd_recovered.proofs.logs.read_logs.Goals as goal
 
 pub returns-in_err-log-clause-unsound : goal.returns-in_err-log-clause-unsound
@@ -32,6 +34,19 @@ returns-in_err-log-clause-unsound c =
     c.in_err-log.ensures.unsound in
     let p = err_from_is_err_and c.from_residual.result c.from_residual.ensures.1 in
     told_on _ c.from_residual.result p.0 c.in_err-log.field-0.0 p.1 p.2 told
+
+pub returns-in_err-log-clause-place : goal.returns-in_err-log-clause-place
+returns-in_err-log-clause-place c = λ dev at is.
+    let i = c.loop-i.i in
+    let devices : List (List ℕ) = c.args.devices.now in
+    let device : List ℕ = c.items.result.now in
+    let number : c.unwrap-inst.result ≡ i + 1 = subst (λ (r : Option ℕ). IfSome r (λ x. x ≡ i + 1)) c.unwrap-inst.ensures c.new.ensures.value in
+    let next : c.unwrap-inst.result ≡ 1 + i = omega (arith, number) in
+    let held : List ℕ = c.index-devices-i.result in
+    let p = err_from_is_err_and c.from_residual.result c.from_residual.ensures.1 in
+    let f = c.in_err-log.ensures.place dev at (came c.from_residual.result p.0 c.in_err-log.field-0.0 dev at p.1 p.2 is) in
+    fails_among devices i held c.loop-i.logs.items c.loop-i.losers.items dev at c.loop-i-test.true c.index-devices-i.is c.loop-i.invariant
+    (f.0 ∙ next) (subst (λ (x : List ℕ). LogFailsAt (1 + i) x at) c.items.ensures (subst (λ (n : ℕ). LogFailsAt n device at) next f.1))
 
 pub loop-i-preserved : goal.loop-i-preserved
 loop-i-preserved c =

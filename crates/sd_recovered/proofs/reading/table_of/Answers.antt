@@ -1,4 +1,4 @@
-use Rattle.std.proofs.Common.{inl, inr, ⊎_elim, List, sym, subst}
+use Rattle.std.proofs.Common.{ℕ, inl, inr, ⊎_elim, List, sym, subst}
 use Rattle.std.specs.Prelude.{All}
 use Rattle.std.proofs.lemmas.Result.{err_from_is_err_and}
 use Rattle.sd_page.specs.Page.{Page}
@@ -7,7 +7,8 @@ use Rattle.sd_chain.specs.Image.{Recovered}
 use Rattle.sd_undone.specs.Reading.{txns_of}
 use Rattle.sd_undone.proofs.Opened.{are-open}
 use Rattle.sd_recovered.specs.Ends.{IsPageLow, owed_in}
-use Rattle.sd_recovered.proofs.Refusals.{told_on}
+use Rattle.sd_recovered.proofs.Refusals.{came, told_on}
+use Rattle.sd_recovered.proofs.Faults as faults
 use Rattle.sd_recovered.proofs.Whole as whole
 use Rattle.sd_recovered.proofs.reading.table_of.Goals as goal
 
@@ -46,13 +47,73 @@ returns-in_err-check_ends-clause-unsound c =
       c.in_err-check_ends.ensures.unfit.2,
       λ ds are sound.
           let each = whole.low_pages c.args.bytes.now ds logs c.args.losers.now c.requires.eight are pages c.in_ok-pages.ensures.newest
-          c.in_ok-pages.ensures.count sound in
+          c.in_ok-pages.ensures.count sound.lsns in
           c.in_err-check_ends.ensures.unfit.3
           (low.1 (subst (All (IsPageLow (owed_in logs))) (sym c.deref.ensures.value) each))
           (whole.ends c.args.bytes.now ds logs c.args.losers.now c.requires.eight are pages c.in_ok-pages.ensures.newest sound),
     ) in
     let p = err_from_is_err_and c.from_residual-in_err-check_ends.result c.from_residual-in_err-check_ends.ensures.1 in
     told_on _ c.from_residual-in_err-check_ends.result p.0 c.in_err-check_ends.field-0.0 p.1 p.2 told
+
+pub returns-in_err-pages-clause-place : goal.returns-in_err-pages-clause-place
+returns-in_err-pages-clause-place c = λ dev at is ds are.
+    let x : List ℕ = c.args.bytes.now in
+    let logs : List LogState = c.args.logs.now in
+    let losers = c.args.losers.now in
+    let p = err_from_is_err_and c.from_residual.result c.from_residual.ensures.1 in
+    let sound = faults.logs_sound x ds logs losers c.requires.eight are in
+    elim (c.in_err-pages.ensures.place dev at (came c.from_residual.result p.0 c.in_err-pages.field-0.0 dev at p.1 p.2 is)) [
+      | inl twin ↦ inr (inl (sound, faults.in_twin x ds logs losers c.requires.eight are dev at twin))
+      | inr behind ↦ inr (inr (inl (
+        sound,
+        behind.0,
+        faults.in_chain x ds logs losers c.requires.eight are dev at (behind.1 (faults.lsns_rise x ds logs losers c.requires.eight are)),
+      )))
+    ]
+
+pub returns-in_err-table-clause-place : goal.returns-in_err-table-clause-place
+returns-in_err-table-clause-place c = λ dev at is ds are.
+    let x : List ℕ = c.args.bytes.now in
+    let logs : List LogState = c.args.logs.now in
+    let losers = c.args.losers.now in
+    let pages : List Page = c.in_ok-pages.pages.items in
+    let p = err_from_is_err_and c.from_residual-in_err-table.result c.from_residual-in_err-table.ensures.1 in
+    let sound = faults.logs_sound x ds logs losers c.requires.eight are in
+    let img = whole.img x ds logs losers c.requires.eight are pages c.in_ok-pages.ensures.newest in
+    let read = whole.is_read x ds logs losers c.requires.eight are pages c.in_ok-pages.ensures.newest in
+    let f = c.in_err-table.ensures.first dev at (came c.from_residual-in_err-table.result p.0 c.in_err-table.field-0.0 dev at p.1 p.2 is) img read in
+    inr (inr (inr (inl (
+      sound,
+      c.in_ok-pages.ensures.twins,
+      faults.chains_fit x ds logs losers c.requires.eight are c.in_ok-pages.ensures.fit,
+      faults.in_stack x ds logs losers c.requires.eight are dev at f.0 f.1 f.2,
+    ))))
+
+pub returns-in_err-check_ends-clause-place : goal.returns-in_err-check_ends-clause-place
+returns-in_err-check_ends-clause-place c = λ dev at is ds are.
+    let x : List ℕ = c.args.bytes.now in
+    let logs : List LogState = c.args.logs.now in
+    let losers = c.args.losers.now in
+    let pages : List Page = c.in_ok-pages.pages.items in
+    let p = err_from_is_err_and c.from_residual-in_err-check_ends.result c.from_residual-in_err-check_ends.ensures.1 in
+    let sound = faults.logs_sound x ds logs losers c.requires.eight are in
+    let img = whole.img x ds logs losers c.requires.eight are pages c.in_ok-pages.ensures.newest in
+    let read = whole.is_read x ds logs losers c.requires.eight are pages c.in_ok-pages.ensures.newest in
+    let owed = c.owed_by.ensures 1 logs c.requires.losers in
+    let low = c.are_low-low.ensures (owed_in logs) owed in
+    let f = c.in_err-check_ends.ensures.place dev at
+    (came c.from_residual-in_err-check_ends.result p.0 c.in_err-check_ends.field-0.0 dev at p.1 p.2 is) in
+    inr (inr (inr (inr (
+      sound,
+      c.in_ok-pages.ensures.twins,
+      faults.chains_fit x ds logs losers c.requires.eight are c.in_ok-pages.ensures.fit,
+      c.in_ok-table.ensures.stacks img read,
+      faults.in_room x ds logs losers c.requires.eight are pages c.in_ok-pages.ensures.newest c.in_ok-pages.ensures.count
+          c.in_ok-pages.ensures.fit c.are_low-low.result (
+            (λ t. subst (All (IsPageLow (owed_in logs))) c.deref.ensures.value (low.0 t)),
+            (λ all. low.1 (subst (All (IsPageLow (owed_in logs))) (sym c.deref.ensures.value) all)),
+          ) dev at f,
+    ))))
 
 pub returns-clause-sound : goal.returns-clause-sound
 returns-clause-sound c =
