@@ -12,7 +12,7 @@ use crate::change::merged_changes;
 use crate::redoing::{page_lsns, redo_changes};
 use crate::twin::disk_images;
 use sd_base::Refusal;
-use sd_chain::laws::merging;
+use sd_chain::laws;
 use sd_log::Log;
 use sd_page::Image;
 use std::alloc::Global;
@@ -36,7 +36,7 @@ pub fn newest_pages(alloc: Global, bytes: &[u8], logs: &[Log]) -> Result<Vec<Ima
     ensures refusals { IfErr result (λ e. (e ≡ R.Memory)
         ⊎ ((dev : ℕ) × (at : ℕ) × (p : ℕ) × (e ≡ R.Damaged dev at) × (p < 1024) × IsUnsound p bytes.now (image_of bytes.now logs.now))) }
 {
-    merging();
+    laws::merging();
     let mut pages = disk_images(alloc, bytes)?;
     let disk_lsns = page_lsns(alloc, &pages)?;
     let changes = merged_changes(alloc, logs)?;

@@ -14,7 +14,7 @@ use crate::logs::read_logs;
 use crate::table::take_back;
 use sd_analysis::Losers;
 use sd_base::{Bytes, Refusal};
-use sd_chain::laws::recovery;
+use sd_chain::laws;
 use sd_log::Log;
 use sd_model::Table;
 use sd_newest::newest_pages;
@@ -63,6 +63,6 @@ fn table_of(alloc: Global, bytes: &[u8], logs: &[Log], losers: &[Losers]) -> Res
     let low = are_low(&pages, owed_by(losers));
     let table = take_back(alloc, pages, logs, losers)?;
     check_ends(logs, losers, low)?;
-    recovery();
+    laws::recovery();
     Ok(table)
 }

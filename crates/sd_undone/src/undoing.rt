@@ -19,7 +19,7 @@ use crate::table::table_of;
 use crate::taking_back::take_back_all;
 use sd_analysis::Losers;
 use sd_base::Memory;
-use sd_chain::laws::recovery;
+use sd_chain::laws;
 use sd_log::Log;
 use sd_model::Table;
 use sd_page::Image;
@@ -64,7 +64,7 @@ pub fn undone(
     ensures misfit { (inst place : ℕ) → result ≡ Err (F.Misfit inst place) → (img : Disks) → IsRead img pages.items logs.now → Sound img → ⊥ }
     ensures first { (inst place : ℕ) → result ≡ Err (F.Misfit inst place) → (img : Disks) → IsRead img pages.items logs.now → FirstMisfit img logs.now inst place }
 {
-    recovery();
+    laws::recovery();
     undo(alloc, pages, logs, losers)
 }
 
