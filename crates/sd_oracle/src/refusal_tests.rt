@@ -163,12 +163,12 @@ fn is_free_of(
     rt: &(impl Abort + AllocGlobal),
     table: &mut SerialTable,
     seq: u32,
-    by: TxnId,
+    by: &TxnId,
 ) -> Result<(), Memory> {
     let mut cycle = Vec::new(rt.alloc());
-    cycle.push(by)?;
+    cycle.push(*by)?;
     let replies = [
-        Reply::Refused(Refusal::Blocked { by }),
+        Reply::Refused(Refusal::Blocked { by: *by }),
         Reply::Refused(Refusal::Deadlock {
             cycle: Cycle::of(cycle),
         }),
@@ -180,11 +180,11 @@ fn is_free_of(
 #[test]
 fn an_insert_where_nobody_else_is_waits_for_nobody(rt: HostRuntime) -> Result<(), Fail> {
     let mut table = alone(&rt)?;
-    is_free_of(&rt, &mut table, 1, txn(&rt, 2))?;
-    is_free_of(&rt, &mut table, 1, txn(&rt, 1))?;
+    is_free_of(&rt, &mut table, 1, &txn(&rt, 2))?;
+    is_free_of(&rt, &mut table, 1, &txn(&rt, 1))?;
     let event = insert(&rt, rt.alloc(), 1)?;
     follows(&rt, &mut table, &event, &Reply::At(rid(&rt, 0)))?;
-    is_free_of(&rt, &mut table, 1, txn(&rt, 1))?;
+    is_free_of(&rt, &mut table, 1, &txn(&rt, 1))?;
     Ok(())
 }
 
@@ -197,7 +197,7 @@ fn an_insert_waits_for_one_that_claims_an_absent_record(rt: HostRuntime) -> Resu
     judged(&rt, &mut table, &event, &blocked, Verdict::Follows)?;
     // A record that is there is in no insert's way, whoever claims it.
     follows(&rt, &mut table, &commit(&rt, 1), &Reply::Did)?;
-    is_free_of(&rt, &mut table, 2, txn(&rt, 1))?;
+    is_free_of(&rt, &mut table, 2, &txn(&rt, 1))?;
     let begin = Event::Begin { inst: one(&rt) };
     follows(&rt, &mut table, &begin, &Reply::Began(txn(&rt, 3)))?;
     let read = Event::Read {
@@ -206,7 +206,7 @@ fn an_insert_waits_for_one_that_claims_an_absent_record(rt: HostRuntime) -> Resu
     };
     let red = Reply::Value(Some(text(rt.alloc(), b"red")?));
     follows(&rt, &mut table, &read, &red)?;
-    is_free_of(&rt, &mut table, 2, txn(&rt, 3))?;
+    is_free_of(&rt, &mut table, 2, &txn(&rt, 3))?;
     follows(&rt, &mut table, &event, &Reply::At(rid(&rt, 1)))?;
     Ok(())
 }
