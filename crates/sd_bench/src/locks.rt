@@ -1,6 +1,6 @@
 //! Requests and releases of record locks.
 
-use sd_base::{InstNo, Mode, PageNo, Refusal, Rid, TxnId};
+use sd_base::{InstNo, Memory, Mode, PageNo, Refusal, Rid, TxnId};
 use sd_reclock::RecordLocks;
 use std::alloc::Global;
 
@@ -8,36 +8,34 @@ const RECORDS: u32 = 1000;
 
 const TXNS: u32 = 64;
 
-/// Asks so many times for an exclusive lock: 64 transactions in turn, over 1,000 records in turn. Each transaction lets go
-/// of its locks after each eighth of its requests. `false` where there was no memory.
+/// Asks so many times for an exclusive lock: 64 transactions in turn, over 1,000 records in turn. Each transaction lets
+/// go of its locks after each eighth of its requests. `false` where there was no memory.
 pub fn requests(alloc: Global, times: u32) -> bool {
     let mut locks = RecordLocks::new(alloc);
     for n in 0..times {
-        if !request(&mut locks, n) {
+        let (Some(txn), Some(rid)) = (txn_of(n), rid_of(n)) else {
+            return false;
+        };
+        if request(&mut locks, &txn, &rid).is_err() {
             return false;
         }
         if n / TXNS % 8 == 7 {
-            release(&mut locks, n);
+            locks.release_all(&txn);
         }
     }
     true
 }
 
-// One request; `false` for want of memory.
-fn request(locks: &mut RecordLocks, n: u32) -> bool {
-    let (Some(txn), Some(rid)) = (txn_of(n), rid_of(n)) else {
-        return false;
-    };
-    match locks.request(txn, rid, Mode::Excl) {
-        Err(Refusal::Memory) => false,
-        _ => true,
+// One request, as a call of the complex makes it: it looks, and then takes the lock or notes the wait.
+fn request(locks: &mut RecordLocks, txn: &TxnId, rid: &Rid) -> Result<(), Memory> {
+    match locks.look(txn, rid, Mode::Excl) {
+        Ok(()) => locks.grant(txn, rid, Mode::Excl)?,
+        Err(Refusal::Blocked { by: _ }) => return locks.wait(txn, rid, Mode::Excl),
+        Err(Refusal::Memory) => return Err(Memory),
+        Err(_) => {}
     }
-}
-
-fn release(locks: &mut RecordLocks, n: u32) {
-    if let Some(txn) = txn_of(n) {
-        locks.release_all(txn);
-    }
+    locks.calm(txn);
+    Ok(())
 }
 
 fn txn_of(n: u32) -> Option<TxnId> {

@@ -16,7 +16,7 @@ use Rattle.sd_reclock.specs.Indexing.{Index, names, rids_of, IsIndexed}
 use Rattle.sd_reclock.proofs.Orders.{cases_rid, cases_txn, same-rid, same-txn, apart-rid, apart-txn, same_rid-sym}
 use Rattle.sd_reclock.proofs.Writes.{Changes, PutsTxn, and-false}
 
-clash-sym : (m n : Mode) → Clash m n → Clash n m
+pub clash-sym : (m n : Mode) → Clash m n → Clash n m
 clash-sym modes.Shared modes.Shared c = c
 clash-sym modes.Shared modes.Excl c = tt
 clash-sym modes.Excl modes.Shared c = tt
@@ -37,7 +37,7 @@ other_rid t u r q ne = ap (λ (b : Bool). same_txn t u && b) (apart-rid r q ne) 
 other_txn : (t u : TxnId) (r q : Rid) → t ≢ u → (same_txn t u && same_rid r q) ≡ false
 other_txn t u r q ne = ap (λ (b : Bool). b && same_rid r q) (apart-txn t u ne)
 
-here : (old new : Held) (t : TxnId) (r : Rid) (x : Option Mode) → Changes old new t r x → held_in new t r ≡ x
+pub here : (old new : Held) (t : TxnId) (r : Rid) (x : Option Mode) → Changes old new t r x → held_in new t r ≡ x
 here old new t r x changed = changed t r ∙ cond-true (same_txn t t && same_rid r r) x (held_in old t r) (ap (λ (b : Bool). b && same_rid r r) (same-txn t) ∙ same-rid r)
 
 -- nobody's lock conflicts with t's raised one

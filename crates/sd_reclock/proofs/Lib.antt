@@ -9,3 +9,7 @@ pub mod Walks
 pub mod Layers
 pub mod Noting
 pub mod Waiting
+pub mod Lowering
+pub mod Owners
+pub mod Ranging
+pub mod Unnaming

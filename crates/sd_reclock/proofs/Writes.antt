@@ -12,7 +12,7 @@ use Rattle.sd_base.specs.declared.place.Mode.{Mode}
 use Rattle.sd_base.specs.Ids.{same_txn, same_rid}
 use Rattle.sd_reclock.specs.Locks.{Held, Modes, held_in, mode_among}
 use Rattle.sd_reclock.specs.Indexing.{Index, names, rids_of}
-use Rattle.sd_reclock.proofs.Orders.{cases_rid, cases_txn, same-rid, same-txn, apart-rid, apart-txn}
+use Rattle.sd_reclock.proofs.Orders.{cases_rid, cases_txn, same-rid, same-txn, apart-rid, apart-txn, same-txn-is, same-rid-is}
 
 pub and-true : (b : Bool) → (b && true) ≡ b
 and-true true = refl
@@ -117,3 +117,21 @@ gone_in_turn true true false x y z e f = e ∙ f
 gone_in_turn true false true x y z e f = e
 gone_in_turn true false false x y z e f = e ∙ f
 gone_in_turn false b d x y z e f = e ∙ f
+
+-- a record that is named already
+pub named_already : (index : Index) (t : TxnId) (r : Rid) → names index t r ≡ true → (u : TxnId) (q : Rid) → names index u q ≡ (names index u q || (same_txn t u && same_rid q r))
+named_already index t r has u q = ⊎_elim
+    (λ h. let a : t ≡ u = same-txn-is t u (left (same_txn t u) (same_rid q r) h) in
+    let b : r ≡ q = sym (same-rid-is q r (right (same_txn t u) (same_rid q r) h)) in
+    let is : names index u q ≡ true = subst (λ (z : Rid). names index u z ≡ true) b (subst (λ (z : TxnId). names index z r ≡ true) a has) in
+    is ∙ sym (ap (λ (x : Bool). x || (same_txn t u && same_rid q r)) is))
+    (λ h. sym (ap (λ (x : Bool). names index u q || x) h ∙ or-false (names index u q)))
+    (cases_Bool (same_txn t u && same_rid q r))
+  where
+    left : (a b : Bool) → (a && b) ≡ true → a ≡ true
+    left true b h = refl
+    left false b h = h
+
+    right : (a b : Bool) → (a && b) ≡ true → b ≡ true
+    right true b h = h
+    right false b h = absurd (cc h)

@@ -3,3 +3,4 @@ pub mod Answers
 pub mod Indexing
 pub mod Reaching
 pub mod Searching
+pub mod Owning

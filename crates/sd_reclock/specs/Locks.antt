@@ -1,5 +1,5 @@
 -- What a table of record locks says: who holds what, who stands in whose way, and who waits for what.
-use Rattle.std.specs.Prelude.{◌≡◌, ◌≢◌, List, Option, None, Some, IsSome, option_map}
+use Rattle.std.specs.Prelude.{◌≡◌, ◌≢◌, ℕ, List, Option, None, Some, IsSome, option_map}
 use Rattle.std.specs.Map.{lookup}
 use Rattle.sd_base.specs.declared.ids.TxnId.{TxnId}
 use Rattle.sd_base.specs.declared.ids.Rid.{Rid}
@@ -49,6 +49,32 @@ raised None mode = mode
 abbrev pub IsLowestHolder : (TxnId → Option Mode) → TxnId → Option TxnId → Type 0
 IsLowestHolder modes_at not None = (u : TxnId) → not ≢ u → modes_at u ≡ None
 IsLowestHolder modes_at not (Some by) = (not ≢ by) × IsSome (modes_at by) × ((u : TxnId) → not ≢ u → IsSome (modes_at u) → IsBelow u by → ⊥)
+
+-- a lock that is lowered so, or taken away, is no stronger than it was
+abbrev pub IsNoStronger : Option Mode → Option Mode → Type 0
+IsNoStronger None had = Unit {0}
+IsNoStronger (Some modes.Shared) had = IsSome had
+IsNoStronger (Some modes.Excl) had = had ≡ Some modes.Excl
+
+-- this transaction alone has an Excl lock, or none has
+abbrev pub IsOwner : (TxnId → Option Mode) → Option TxnId → Type 0
+IsOwner modes_at None = (u : TxnId) → modes_at u ≡ Some modes.Excl → ⊥
+IsOwner modes_at (Some by) = (modes_at by ≡ Some modes.Excl) × ((u : TxnId) → modes_at u ≡ Some modes.Excl → u ≡ by)
+
+-- two locks of two transactions among these never conflict
+abbrev pub AgreeAmong : (TxnId → Option Mode) → Type 0
+AgreeAmong modes_at = (t u : TxnId) (m n : Mode) → t ≢ u → modes_at t ≡ Some m → modes_at u ≡ Some n → Clash m n → ⊥
+
+-- u has an Excl lock on a record of the page
+pub record OwnsIn (locks : Held) (p : ℕ) (u : TxnId) : Type 0 where
+  pub rid : Rid
+  pub inside : rid.page ≡ p
+  pub owns : held_in locks u rid ≡ Some modes.Excl
+
+-- of those with an Excl lock on a record of the page this is the lowest, or there is none
+abbrev pub IsLowestOwner : Held → ℕ → Option TxnId → Type 0
+IsLowestOwner locks p None = (u : TxnId) → OwnsIn locks p u → ⊥
+IsLowestOwner locks p (Some by) = OwnsIn locks p by × ((u : TxnId) → OwnsIn locks p u → IsBelow u by → ⊥)
 
 abbrev pub wait_of : Asked → Wait
 wait_of asked = record { rid = asked.rid; mode = asked.mode }

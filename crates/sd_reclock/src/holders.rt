@@ -3,7 +3,7 @@
 ghost use Rattle.std.specs.Prelude.{◌≡◌, [], None, Some, cond, IsTrue, OnOk, OnErr, ◌↔◌};
 ghost use Rattle.sd_base.specs.declared.ids.TxnId.{TxnId};
 ghost use Rattle.sd_base.specs.Ids.{same_txn};
-ghost use Rattle.sd_reclock.specs.Locks.{mode_of, raised, IsLowestHolder};
+ghost use Rattle.sd_reclock.specs.Locks.{mode_of, raised, AgreeAmong, IsLowestHolder, IsNoStronger, IsOwner};
 
 use crate::wait::raise;
 use sd_base::{Memory, Mode, TxnId};
@@ -77,10 +77,32 @@ impl Holders {
         Ok(())
     }
 
-    /// Takes a transaction's lock away. It takes no memory.
-    pub fn remove(&mut self, t: &TxnId)
-        ensures { (u : TxnId) → mode_of self.new u ≡ cond (same_txn t.now u) None (mode_of self.old u) }
+    /// Lowers a transaction's lock, or takes it away. It takes no memory.
+    pub fn lower(&mut self, t: &TxnId, to: Option<Mode>)
+        requires weaker { IsNoStronger to (mode_of self.old t.now) }
+        ensures { (u : TxnId) → mode_of self.new u ≡ cond (same_txn t.now u) to (mode_of self.old u) }
     {
-        self.modes.remove(t);
+        match to {
+            Some(mode) => {
+                if let Some(held) = self.modes.get_mut(t) {
+                    *held = mode;
+                }
+            }
+            None => {
+                self.modes.remove(t);
+            }
+        }
+    }
+
+    /// The transaction with an `Excl` lock: it has the only one.
+    pub fn owner(&self) -> Option<TxnId>
+        requires agree { AgreeAmong (mode_of self.now) }
+        ensures { IsOwner (mode_of self.now) result }
+    {
+        let (t, mode) = self.modes.iter().next()?;
+        match mode {
+            Mode::Excl => Some(*t),
+            Mode::Shared => None,
+        }
     }
 }

@@ -3,9 +3,10 @@
 //! Meaning: a `LockTable` is the locks and the waits (`specs/Locks.antt`); who is blocked and which cycle is
 //! closed is said in sd_base (`specs/Waits.antt`).
 //! Keeps: two locks of two transactions on one record never conflict.
-//! Promises: `request` and `test` answer exactly (`refused`): the lowest obstacle, or a shortest cycle, the lowest
-//! by numbers; a lock is raised in place; `holder` is the lowest other holder; `release_all` and `retain` leave
-//! no lock or wait that they name.
+//! Promises: `look` answers exactly (`ok`, `free`, `refused`): the lowest obstacle, or a shortest cycle, the lowest
+//! by numbers; `grant` raises a lock in place; `holder` is the lowest other holder, `owner_in` the lowest with an
+//! `Excl` lock in a page; `lower`, `calm`, `release_all` and `retain` take away what they name and nothing else,
+//! without memory.
 //! Refuses: `Blocked`, `Deadlock`, and `Memory`, which leaves all as before.
 //! Knows nothing of: pages, logs, what a transaction does with a record, when it ends.
 //! Stands on: sd_base.
@@ -16,7 +17,6 @@
 //! - frozen: nothing; no byte on a device depends on it
 #![tactic(auto)]
 
-mod answer;
 mod holders;
 mod locks;
 mod search;

@@ -1,21 +1,24 @@
 //! The locks on all records, and an index from a transaction to its records. They see no wait.
 
-ghost use Rattle.std.specs.Prelude.{◌≡◌, ◌≢◌, ◌↔◌, ◌||◌, ◌&&◌, [], None, Some, cond, OnOk, OnErr, MatchOption, IfSome};
+ghost use Rattle.std.specs.Prelude.{◌≡◌, ◌⊎◌, ◌+◌, ◌||◌, ◌&&◌, [], None, Some, cond, true, false, IsTrue, OnOk, OnErr, MatchOption, IfSome};
 ghost use Rattle.std.specs.List.{list_any};
+ghost use Rattle.std.specs.declared.ops.Bound.TheVariants.{Excluded, Unbounded};
 ghost use Rattle.sd_base.specs.declared.ids.TxnId.{TxnId};
 ghost use Rattle.sd_base.specs.declared.ids.Rid.{Rid};
 ghost use Rattle.sd_base.specs.Ids.{same_txn, same_rid, IsBelow};
-ghost use Rattle.sd_reclock.specs.Locks.{held_in, raised, wait_of, Agree, IsLowestHolder, StandsIn};
+ghost use Rattle.sd_reclock.specs.Locks.{held_in, raised, wait_of, Agree, IsLowestHolder, IsLowestOwner, IsNoStronger, StandsIn};
 ghost use Rattle.sd_reclock.specs.Answers.{IsFree};
 ghost use Rattle.sd_reclock.specs.Indexing.{names};
+ghost use Rattle.sd_reclock.specs.Owning.{IsLowerOf};
 
 use crate::holders::Holders;
 use crate::search::Standing;
 use crate::wait::{Asked, clashes};
-use sd_base::{Memory, Mode, Rid, TxnId};
+use sd_base::{Memory, Mode, PageNo, Rid, TxnId};
 use std::alloc::Global;
 use std::collections::BTreeMap;
 use std::marker::Model;
+use std::ops::Bound;
 
 /// Who holds which record. Contracts see the list of locked records, each with its holders.
 #[derive(Debug, Drop)]
@@ -97,8 +100,34 @@ impl Locks {
         ensures agree { Agree self.new }
         ensures same { OnErr result (self.new ≡ self.old) }
     {
-        name(self.alloc, &mut self.index, t, &wait.rid)?;
+        let had = self.mode_of(t, &wait.rid).is_some();
+        name(self.alloc, &mut self.index, t, &wait.rid, had)?;
         put(self.alloc, &mut self.records, t, wait)
+    }
+
+    /// Lowers a lock, or takes it away. It takes no memory.
+    pub fn lower(&mut self, t: &TxnId, r: &Rid, to: Option<Mode>)
+        requires weaker { IsNoStronger to (held_in self.old t.now r.now) }
+        ensures lowered { (u : TxnId) (q : Rid) → held_in self.new u q
+            ≡ cond (same_txn t.now u && same_rid r.now q) to (held_in self.old u q) }
+        ensures agree { Agree self.new }
+    {
+        lower(&mut self.records, t, r, to);
+        unname(&mut self.index, t, r, to);
+    }
+
+    /// The lowest transaction with an `Excl` lock on a record of the page.
+    pub fn owner_in(&self, p: PageNo) -> Option<TxnId>
+        ensures { IsLowestOwner self.now p result }
+    {
+        let from = Bound::Included(Rid { page: p, slot: 0 });
+        let mut lowest: Option<TxnId> = None;
+        for (rid, holders) in self.records.range((from, end_of(p))) {
+            if rid.page == p {
+                lowest = lower_of(lowest, holders.owner());
+            }
+        }
+        lowest
     }
 
     /// Takes all locks of a transaction away. It takes no memory.
@@ -126,17 +155,43 @@ impl Standing for Locks {
     }
 }
 
-// Names the record at the transaction. After `Memory` the index is as before.
+// Where the records of the page end.
+fn end_of(p: PageNo) -> Bound<Rid>
+    ensures { (result ≡ Unbounded) ⊎ (result ≡ Excluded (record { page = p + 1; slot = 0 })) }
+{
+    match PageNo::new(p.get() + 1) {
+        Some(page) => Bound::Excluded(Rid { page, slot: 0 }),
+        None => Bound::Unbounded,
+    }
+}
+
+// The lower of two, either of which may be missing.
+fn lower_of(first: Option<TxnId>, second: Option<TxnId>) -> Option<TxnId>
+    ensures { IsLowerOf first second result }
+{
+    match (first, second) {
+        (Some(a), Some(b)) => Some(if b < a { b } else { a }),
+        (Some(a), None) => Some(a),
+        (None, b) => b,
+    }
+}
+
+// Names the record at the transaction, unless it had it. After `Memory` the index is as before.
 fn name(
     alloc: Global,
     index: &mut BTreeMap<TxnId, Vec<Rid>>,
     t: &TxnId,
     r: &Rid,
+    had: bool,
 ) -> Result<(), Memory>
+    requires had { IsTrue had → names index.old.entries t.now r.now ≡ true }
     ensures named { OnOk result ((u : TxnId) (q : Rid) → names index.new.entries u q
         ≡ (names index.old.entries u q || (same_txn t.now u && same_rid q r.now))) }
     ensures same { OnErr result ((u : TxnId) (q : Rid) → names index.new.entries u q ≡ names index.old.entries u q) }
 {
+    if had {
+        return Ok(());
+    }
     if let Some(rids) = index.get_mut(t) {
         rids.push(*r)?;
         return Ok(());
@@ -145,6 +200,26 @@ fn name(
     rids.push(*r)?;
     index.insert(*t, rids)?;
     Ok(())
+}
+
+// Takes the record's name from the transaction's, where the lock is taken away and it was the last that was named:
+// so it is where a call takes back what it gave. It takes no memory.
+fn unname(index: &mut BTreeMap<TxnId, Vec<Rid>>, t: &TxnId, r: &Rid, to: Option<Mode>)
+    ensures { (u : TxnId) (q : Rid) → names index.new.entries u q ≡ false
+        → (names index.old.entries u q ≡ false) ⊎ ((to ≡ None) × (t.now ≡ u) × (q ≡ r.now)) }
+{
+    match to {
+        Some(_) => return,
+        None => {
+            if let Some(rids) = index.get_mut(t) {
+                if let Some(last) = rids.last().copied() {
+                    if last == *r {
+                        rids.pop();
+                    }
+                }
+            }
+        }
+    }
 }
 
 // Gives the lock, or raises one that is there. After `Memory` the records are as before.
@@ -173,19 +248,20 @@ fn release_each(records: &mut BTreeMap<Rid, Holders>, t: &TxnId, rids: &[Rid])
         ≡ cond (same_txn t.now u && list_any (same_rid q) rids.now) None (held_in records.old.entries u q) }
 {
     for rid in rids {
-        release(records, t, rid);
+        lower(records, t, rid, None);
     }
 }
 
-// Takes a transaction's lock on a record away. A record without locks leaves the table.
-fn release(records: &mut BTreeMap<Rid, Holders>, t: &TxnId, r: &Rid)
+// Lowers a transaction's lock on a record, or takes it away. A record without locks leaves the table.
+fn lower(records: &mut BTreeMap<Rid, Holders>, t: &TxnId, r: &Rid, to: Option<Mode>)
+    requires weaker { IsNoStronger to (held_in records.old.entries t.now r.now) }
     ensures { (u : TxnId) (q : Rid) → held_in records.new.entries u q
-        ≡ cond (same_txn t.now u && same_rid r.now q) None (held_in records.old.entries u q) }
+        ≡ cond (same_txn t.now u && same_rid r.now q) to (held_in records.old.entries u q) }
 {
     let Some(holders) = records.get_mut(r) else {
         return;
     };
-    holders.remove(t);
+    holders.lower(t, to);
     if holders.is_empty() {
         records.remove(r);
     }

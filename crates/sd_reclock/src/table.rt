@@ -1,22 +1,26 @@
-//! The table of record locks: it answers what is asked, and keeps who waits for what.
+//! The table of record locks: it tells who may have a lock, and keeps who holds and who waits for what.
 
-ghost use Rattle.std.specs.Prelude.{◌≡◌, ◌&&◌, [], None, Some, cond, nat_eq, IfOk, IfErr, OnOk, OnErr};
+ghost use Rattle.std.specs.Prelude.{◌≡◌, ◌&&◌, [], None, Some, cond, nat_eq, IsOk, IfErr, OnOk, OnErr};
 ghost use Rattle.sd_base.specs.declared.ids.TxnId.{TxnId};
 ghost use Rattle.sd_base.specs.declared.ids.Rid.{Rid};
 ghost use Rattle.sd_base.specs.Ids.{same_txn, same_rid};
-ghost use Rattle.sd_reclock.specs.Locks.{held, stands, waits, raised, wait_of, wait_for, Agree, IsLowestHolder};
-ghost use Rattle.sd_reclock.specs.Answers.{waits_after, IsAnswer, IsFree, IsRefused, SaysSo};
+ghost use Rattle.sd_base.specs.Waits.{with_wait};
+ghost use Rattle.sd_reclock.specs.Locks.{held, stands, waits, raised, wait_for};
+ghost use Rattle.sd_reclock.specs.Locks.{Agree, IsLowestHolder, IsLowestOwner, IsNoStronger};
+ghost use Rattle.sd_reclock.specs.Answers.{IsFree, IsRefused};
 
-use crate::answer::Answer;
 use crate::locks::Locks;
 use crate::search::Asking;
 use crate::wait::Asked;
-use sd_base::{InstNo, Memory, Mode, Refusal, Rid, TxnId};
+use sd_base::{InstNo, Memory, Mode, PageNo, Refusal, Rid, TxnId};
 use std::alloc::Global;
 use std::collections::BTreeMap;
 use std::marker::Model;
 
 /// Who holds which record, and who waits for which. Contracts see it as a `LockTable`.
+///
+/// A call looks first, does what else may find no memory, and changes last: after `look` is Ok it
+/// can `grant`; after `Blocked` it notes the `wait`; else it ends the wait by `calm`.
 #[derive(Debug, Drop)]
 pub struct RecordLocks {
     locks: Locks,
@@ -47,100 +51,111 @@ impl RecordLocks {
         }
     }
 
-    /// Tells whether the transaction could have the lock.
+    /// Tells whether the transaction may have the lock. It changes no lock and no wait.
     ///
-    /// Ok comes where no other transaction holds a conflicting lock; it then waits for nothing.
-    /// `Blocked` names the lowest that does where no cycle arises; it then waits for this lock.
-    /// `Deadlock` comes where its wait would close a cycle, with a shortest one, the lowest by
-    /// numbers; it then waits for nothing. `Memory` leaves all as before. The locks stay.
-    pub fn test(&mut self, t: TxnId, r: Rid, mode: Mode) -> Result<(), Refusal>
-        ensures ok { OnOk result (IsFree (stands self.old) t (wait_for r mode)) }
-        ensures refused { IfErr result (IsRefused (stands self.old) (waits self.old) t (wait_for r mode)) }
-        ensures waits { (u : TxnId) → waits self.new u ≡ waits_after result t (wait_for r mode) (waits self.old) u }
-        ensures locks { self.new.locks ≡ self.old.locks }
+    /// Ok comes exactly where no other transaction holds a conflicting lock: then it may be granted.
+    /// `Blocked` comes where the wait would close no cycle, and names the lowest transaction that
+    /// stands in the way; `Deadlock` comes where it would close one, and tells a shortest, the lowest
+    /// by numbers. `Memory` comes where somebody stands in the way and the search finds no memory.
+    pub fn look(&self, t: &TxnId, r: &Rid, mode: Mode) -> Result<(), Refusal>
+        ensures ok { OnOk result (IsFree (stands self.now) t.now (wait_for r.now mode)) }
+        ensures free { IsFree (stands self.now) t.now (wait_for r.now mode) → IsOk result }
+        ensures refused { IfErr result (IsRefused (stands self.now) (waits self.now) t.now (wait_for r.now mode)) }
     {
-        let wait = Asked { rid: r, mode };
-        let answer = self.judge(&t, &wait)?;
-        self.note(&t, &wait, answer)
-    }
-
-    /// Gives the lock, or raises one that is there, where `test` would answer Ok.
-    /// The answers are those of `test`, and after a refusal the locks are as before.
-    pub fn request(&mut self, t: TxnId, r: Rid, mode: Mode) -> Result<(), Refusal>
-        ensures ok { OnOk result (IsFree (stands self.old) t (wait_for r mode)) }
-        ensures refused { IfErr result (IsRefused (stands self.old) (waits self.old) t (wait_for r mode)) }
-        ensures waits { (u : TxnId) → waits self.new u ≡ waits_after result t (wait_for r mode) (waits self.old) u }
-        ensures given { OnOk result ((u : TxnId) (q : Rid) → held self.new u q
-            ≡ cond (same_txn t u && same_rid r q) (Some (raised (held self.old t r) mode)) (held self.old u q)) }
-        ensures same { OnErr result (self.new.locks ≡ self.old.locks) }
-        ensures agree { Agree self.new.locks }
-    {
-        let wait = Asked { rid: r, mode };
-        let answer = self.judge(&t, &wait)?;
-        if let Answer::Free = &answer {
-            self.locks.put(&t, &wait)?;
-        }
-        self.note(&t, &wait, answer)
-    }
-
-    // The answer to an asked lock, as the table is.
-    fn judge(&self, t: &TxnId, wait: &Asked) -> Result<Answer, Memory>
-        ensures { IfOk result (IsAnswer (stands self.now) (waits self.now) t.now (wait_of wait.now)) }
-    {
-        let Some(by) = self.locks.obstacle(t, wait) else {
-            return Ok(Answer::Free);
+        let wait = Asked { rid: *r, mode };
+        let Some(by) = self.locks.obstacle(t, &wait) else {
+            return Ok(());
         };
         let asking = Asking {
             locks: &self.locks,
             waits: &self.waits,
             asker: *t,
-            wait: *wait,
+            wait,
         };
         match asking.cycle(self.alloc)? {
-            Some(cycle) => Ok(Answer::Deadlock { cycle }),
-            None => Ok(Answer::Blocked { by }),
+            Some(cycle) => Err(Refusal::Deadlock { cycle }),
+            None => Err(Refusal::Blocked { by }),
         }
     }
 
-    // Keeps the wait of a blocked transaction, and clears it after another answer.
-    fn note(&mut self, t: &TxnId, wait: &Asked, answer: Answer) -> Result<(), Refusal>
-        ensures says { SaysSo answer result }
-        ensures waits { (u : TxnId) → waits self.new u ≡ waits_after result t.now (wait_of wait.now) (waits self.old) u }
+    /// Notes that the transaction waits for this lock, in place of what it waited for. All locks
+    /// stay, and all other waits. After `Memory` the table is as before.
+    pub fn wait(&mut self, t: &TxnId, r: &Rid, mode: Mode) -> Result<(), Memory>
+        ensures waits { OnOk result ((u : TxnId) → waits self.new u
+            ≡ with_wait t.now (Some (wait_for r.now mode)) (waits self.old) u) }
+        ensures locks { self.new.locks ≡ self.old.locks }
+        ensures same { OnErr result (self.new ≡ self.old) }
+    {
+        self.waits.insert(*t, Asked { rid: *r, mode })?;
+        Ok(())
+    }
+
+    /// Gives the lock, or raises one that is there, where nobody stands in the way: `Excl` stays.
+    /// All other locks stay, and all waits, its own too. After `Memory` the table is as before.
+    pub fn grant(&mut self, t: &TxnId, r: &Rid, mode: Mode) -> Result<(), Memory>
+        requires free { IsFree (stands self.old) t.now (wait_for r.now mode) }
+        ensures given { OnOk result ((u : TxnId) (q : Rid) → held self.new u q
+            ≡ cond (same_txn t.now u && same_rid r.now q)
+            (Some (raised (held self.old t.now r.now) mode)) (held self.old u q)) }
+        ensures same { OnErr result (self.new ≡ self.old) }
+        ensures waits { self.new.waiting ≡ self.old.waiting }
+        ensures agree { Agree self.new.locks }
+    {
+        self.locks.put(t, &Asked { rid: *r, mode })
+    }
+
+    /// The mode in which the transaction holds the record; `None` where it doesn't.
+    pub fn mode(&self, t: &TxnId, r: &Rid) -> Option<Mode>
+        ensures held { result ≡ held self.now t.now r.now }
+    {
+        self.locks.mode_of(t, r)
+    }
+
+    /// Lowers the transaction's lock on the record to what `mode` told before it was raised or given:
+    /// `Shared`, or none. All other locks stay, and all waits. It takes no memory.
+    pub fn lower(&mut self, t: &TxnId, r: &Rid, to: Option<Mode>)
+        requires weaker { IsNoStronger to (held self.old t.now r.now) }
+        ensures lowered { (u : TxnId) (q : Rid) → held self.new u q
+            ≡ cond (same_txn t.now u && same_rid r.now q) to (held self.old u q) }
+        ensures waits { self.new.waiting ≡ self.old.waiting }
+        ensures agree { Agree self.new.locks }
+    {
+        self.locks.lower(t, r, to);
+    }
+
+    /// Ends the transaction's wait. All locks stay, and all other waits. It takes no memory.
+    pub fn calm(&mut self, t: &TxnId)
+        ensures waits { (u : TxnId) → waits self.new u ≡ with_wait t.now None (waits self.old) u }
         ensures locks { self.new.locks ≡ self.old.locks }
     {
-        match answer {
-            Answer::Free => {
-                self.waits.remove(t);
-                Ok(())
-            }
-            Answer::Blocked { by } => {
-                self.waits.insert(*t, *wait)?;
-                Err(Refusal::Blocked { by })
-            }
-            Answer::Deadlock { cycle } => {
-                self.waits.remove(t);
-                Err(Refusal::Deadlock { cycle })
-            }
-        }
+        self.waits.remove(t);
+    }
+
+    /// The lowest transaction with an `Excl` lock on a record of the page, whatever its slot;
+    /// `None` exactly where there is none.
+    pub fn owner_in(&self, p: PageNo) -> Option<TxnId>
+        ensures lowest { IsLowestOwner self.now.locks p result }
+    {
+        self.locks.owner_in(p)
     }
 
     /// The lowest transaction other than `not` with a lock on the record; `None` exactly where
     /// there is none.
-    pub fn holder(&self, r: Rid, not: TxnId) -> Option<TxnId>
-        ensures lowest { IsLowestHolder (λ u. held self.now u r) not result }
+    pub fn holder(&self, r: &Rid, not: &TxnId) -> Option<TxnId>
+        ensures lowest { IsLowestHolder (λ u. held self.now u r.now) not.now result }
         ensures agree { Agree self.now.locks }
     {
-        self.locks.holder(&r, &not)
+        self.locks.holder(r, not)
     }
 
-    /// Takes all locks of the transaction away, and its wait. It takes no memory.
-    pub fn release_all(&mut self, t: TxnId)
-        ensures locks { (u : TxnId) (q : Rid) → held self.new u q ≡ cond (same_txn t u) None (held self.old u q) }
-        ensures waits { (u : TxnId) → waits self.new u ≡ cond (same_txn t u) None (waits self.old u) }
+    /// Takes all locks of the transaction away, and its wait. All others stay. It takes no memory.
+    pub fn release_all(&mut self, t: &TxnId)
+        ensures locks { (u : TxnId) (q : Rid) → held self.new u q ≡ cond (same_txn t.now u) None (held self.old u q) }
+        ensures waits { (u : TxnId) → waits self.new u ≡ cond (same_txn t.now u) None (waits self.old u) }
         ensures agree { Agree self.new.locks }
     {
-        self.waits.remove(&t);
-        self.locks.release_all(&t);
+        self.calm(t);
+        self.locks.release_all(t);
     }
 
     /// Drops the waits of an instance's transactions; their locks stay. It takes no memory.

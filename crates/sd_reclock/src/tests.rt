@@ -1,5 +1,5 @@
 //! Cycles of several lengths with several shortest ones, shared holders, raised locks and cleared waits,
-//! as tables of what is asked and answered in turn.
+//! as tables of what is asked and answered in turn; and the calls as their users make them.
 
 use crate::RecordLocks;
 use sd_base::{InstNo, Mode, PageNo, Refusal, Rid, TxnId};
@@ -16,7 +16,7 @@ const X: Mode = Mode::Excl;
 enum Act {
     /// A transaction asks for a record, and gets this answer.
     Ask(u32, u16, Mode, Answer),
-    /// The same, but the lock isn't taken.
+    /// The same, but the lock isn't taken where it is free.
     Test(u32, u16, Mode, Answer),
     /// A transaction ends.
     Ends(u32),
@@ -65,19 +65,39 @@ fn says(told: &Result<(), Refusal>, answer: &Answer) -> bool {
     }
 }
 
+// Looks, and then notes the wait, or takes the lock, and ends the wait: as a call of the complex does.
+fn asks(
+    table: &mut RecordLocks,
+    t: &TxnId,
+    r: &Rid,
+    mode: Mode,
+    takes: bool,
+) -> Result<(), Refusal> {
+    let told = table.look(t, r, mode);
+    match &told {
+        Err(Refusal::Blocked { by: _ }) => table.wait(t, r, mode)?,
+        Ok(()) if takes => {
+            table.grant(t, r, mode)?;
+            table.calm(t);
+        }
+        _ => table.calm(t),
+    }
+    told
+}
+
 // Does what the line says, and tells whether the answer is its answer.
 fn agrees(table: &mut RecordLocks, act: &Act) -> Option<bool> {
     match act {
         Ask(t, r, mode, answer) => {
-            let result = table.request(txn(*t)?, rid(*r)?, *mode);
+            let result = asks(table, &txn(*t)?, &rid(*r)?, *mode, true);
             Some(says(&result, answer))
         }
         Test(t, r, mode, answer) => {
-            let result = table.test(txn(*t)?, rid(*r)?, *mode);
+            let result = asks(table, &txn(*t)?, &rid(*r)?, *mode, false);
             Some(says(&result, answer))
         }
         Ends(t) => {
-            table.release_all(txn(*t)?);
+            table.release_all(&txn(*t)?);
             Some(true)
         }
         Fails(inst) => {
@@ -85,7 +105,7 @@ fn agrees(table: &mut RecordLocks, act: &Act) -> Option<bool> {
             Some(true)
         }
         Holder(r, t, number) => {
-            let holder = table.holder(rid(*r)?, txn(*t)?);
+            let holder = table.holder(&rid(*r)?, &txn(*t)?);
             Some(holder.map(|t| t.seq) == *number)
         }
     }
@@ -191,7 +211,7 @@ fn waits_end_with_answers_and_failures(rt: HostRuntime) {
         Test(100, 1, X, Deadlock(&[100, 1, 100])),
         // the deadlock cleared its wait, so no cycle is left
         Test(1, 2, S, Blocked(100)),
-        // a test that is Ok clears a wait
+        // an ask that is Ok ends a wait
         Test(1, 1, X, Answer::Ok),
         Test(100, 1, X, Blocked(1)),
         Test(1, 2, S, Deadlock(&[1, 100, 1])),
@@ -210,4 +230,112 @@ fn waits_end_with_answers_and_failures(rt: HostRuntime) {
         Ask(1, 2, S, Answer::Ok),
     ];
     runs(&rt, rt.alloc(), &acts);
+}
+
+// From the first look to the last release, as the calls of two instances make them.
+#[test]
+fn a_lock_is_looked_for_waited_for_granted_lowered_and_released(rt: HostRuntime) {
+    let mut table = RecordLocks::new(rt.alloc());
+    assert!(rt; locks_are_taken(&mut table).is_some());
+    assert!(rt; waits_are_noted_and_ended(&mut table).is_some());
+    assert!(rt; locks_are_lowered_and_released(&mut table).is_some());
+    assert!(rt; a_failed_instance_waits_for_nothing(&mut table).is_some());
+}
+
+// 1 and 2 each look, find nobody in their way, and take a lock in one page, whose lowest owner is told.
+fn locks_are_taken(table: &mut RecordLocks) -> Option<()> {
+    let (a, b) = (txn(1)?, txn(2)?);
+    let (r, q) = (rid(1)?, rid(900)?);
+    is(owner_in_page(table)? == 0)?;
+    is(takes(table, &b, &q, X)?)?;
+    is(owner_in_page(table)? == 2)?;
+    is(takes(table, &a, &r, X)?)?;
+    is(owner_in_page(table)? == 1)?;
+    is(table.mode(&a, &r) == Some(X))?;
+    is(table.mode(&a, &q).is_none())?;
+    is(table.holder(&r, &b).map(|t| t.seq) == Some(1))?;
+    is(table.holder(&r, &a).is_none())
+}
+
+// A look alone closes no cycle; a wait that is noted does, until it is ended.
+fn waits_are_noted_and_ended(table: &mut RecordLocks) -> Option<()> {
+    let (a, b) = (txn(1)?, txn(2)?);
+    let (r, q) = (rid(1)?, rid(900)?);
+    is(says(&table.look(&a, &q, S), &Blocked(2)))?;
+    is(says(&table.look(&b, &r, S), &Blocked(1)))?;
+    table.wait(&a, &q, S).ok()?;
+    is(says(&table.look(&b, &r, S), &Deadlock(&[2, 1, 2])))?;
+    table.calm(&a);
+    is(says(&table.look(&b, &r, S), &Blocked(1)))
+}
+
+// A lock that is lowered lets others share it, and one that is given back counts as it did before.
+fn locks_are_lowered_and_released(table: &mut RecordLocks) -> Option<()> {
+    let (a, b) = (txn(1)?, txn(2)?);
+    let (r, q) = (rid(1)?, rid(900)?);
+    is(shares(table, &a, &r))?;
+    is(table.mode(&a, &r) == Some(S))?;
+    is(owner_in_page(table)? == 2)?;
+    is(takes(table, &b, &r, S)?)?;
+    is(!gives_back(table, &a, &r)?)?;
+    table.release_all(&b);
+    is(table.mode(&b, &q).is_none())?;
+    is(gives_back(table, &a, &r)?)?;
+    is(table.mode(&a, &r) == Some(S))?;
+    is(gives_back(table, &a, &q)?)?;
+    is(table.mode(&a, &q).is_none())?;
+    table.release_all(&a);
+    is(table.holder(&r, &b).is_none())
+}
+
+fn a_failed_instance_waits_for_nothing(table: &mut RecordLocks) -> Option<()> {
+    let (a, b) = (txn(1)?, txn(100)?);
+    let (r, q) = (rid(1)?, rid(2)?);
+    is(takes(table, &a, &r, X)?)?;
+    is(takes(table, &b, &q, X)?)?;
+    table.wait(&b, &r, X).ok()?;
+    is(says(&table.look(&a, &q, S), &Deadlock(&[1, 100, 1])))?;
+    table.retain(b.inst);
+    is(says(&table.look(&a, &q, S), &Blocked(100)))
+}
+
+// None where it isn't so.
+fn is(so: bool) -> Option<()> {
+    if so { Some(()) } else { None }
+}
+
+// The lowest owner in the page of `rid`, by number; 0 where there is none.
+fn owner_in_page(table: &RecordLocks) -> Option<u32> {
+    let r = rid(0)?;
+    Some(table.owner_in(r.page).map_or(0, |t| t.seq))
+}
+
+// Takes a lock as a call does: it looks, and grants what it looked for; a call ends the wait. Whether it was free.
+fn takes(table: &mut RecordLocks, t: &TxnId, r: &Rid, mode: Mode) -> Option<bool> {
+    let Ok(()) = table.look(t, r, mode) else {
+        return Some(false);
+    };
+    table.grant(t, r, mode).ok()?;
+    table.calm(t);
+    Some(true)
+}
+
+// Raises a lock, or takes one, and gives back what it took. Whether it was free.
+fn gives_back(table: &mut RecordLocks, t: &TxnId, r: &Rid) -> Option<bool> {
+    let was = table.mode(t, r);
+    let Ok(()) = table.look(t, r, X) else {
+        return Some(false);
+    };
+    table.grant(t, r, X).ok()?;
+    table.lower(t, r, was);
+    Some(true)
+}
+
+// Lowers a lock to a shared one. Whether there was one.
+fn shares(table: &mut RecordLocks, t: &TxnId, r: &Rid) -> bool {
+    let holds = table.mode(t, r).is_some();
+    if holds {
+        table.lower(t, r, Some(S));
+    }
+    holds
 }

@@ -4,7 +4,7 @@ use Rattle.std.specs.Option.{IsSome}
 use Rattle.sd_base.specs.declared.ids.Rid.{Rid}
 use Rattle.sd_reclock.specs.Indexing.{rids_of}
 use Rattle.sd_reclock.proofs.Orders.{put-txn, look-txn}
-use Rattle.sd_reclock.proofs.Writes.{gains, stay, on_err}
+use Rattle.sd_reclock.proofs.Writes.{gains, stay, on_err, named_already}
 use Rattle.sd_reclock.proofs.locks.name.Goals as goal
 
 pub returns-in_err-push-clause-same : goal.returns-in_err-push-clause-same
@@ -28,3 +28,6 @@ returns-clause-named c =
     gains c.args.index.now.entries c.insert.new.self.entries c.args.t.now c.args.r.now c.push-2.new.self
     (λ u. put-txn c.args.t.now u (Some c.push-2.new.self) c.args.index.now.entries c.insert.new.self.entries (rw c.get_mut.follows.holds-at-none at (c.in_ok-insert.ensures.updates.0 u)))
     (c.in_ok-push-2.ensures.items ∙ ap (λ (rids : List Rid). rids ++ c.args.r.now ∷ []) (c.new-rids.ensures.items ∙ ap rids_of (c.in_default.ensures.value ∙ look-txn c.args.t.now c.args.index.now.entries)))
+
+pub returns-then-had-clause-named : goal.returns-then-had-clause-named
+returns-then-had-clause-named c = named_already c.args.index.now.entries c.args.t.now c.args.r.now (c.requires.had c.if-had.true)

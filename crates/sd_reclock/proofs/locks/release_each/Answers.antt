@@ -10,4 +10,4 @@ use Rattle.sd_reclock.proofs.locks.release_each.Goals as goal
 pub loop-rid-preserved : goal.loop-rid-preserved
 loop-rid-preserved c = λ u q. rw (list_any_more (same_rid q) c.args.rids.now c.loop-rid.rid-index c.rid-item.result c.loop-rid-test.true, ← c.rid-item.is, same_rid-sym q c.rid-item.result)
     (gone_in_turn (same_txn c.args.t.now u) (list_any (same_rid q) (take c.loop-rid.rid-index c.args.rids.now)) (same_rid c.rid-item.result q)
-    (held_in c.release.new.records.entries u q) (held_in c.loop-rid.records.entries u q) (held_in c.args.records.now.entries u q) (c.release.ensures u q) (c.loop-rid.invariant u q))
+    (held_in c.lower.new.records.entries u q) (held_in c.loop-rid.records.entries u q) (held_in c.args.records.now.entries u q) (c.lower.ensures u q) (c.loop-rid.invariant u q))
