@@ -1,5 +1,5 @@
 -- What loading a device keeps. It serves the goals of `at`.
-use Rattle.std.proofs.Common.{◌≡◌, ◌≢◌, ◌≤◌, ℕ, List, ap, sym, subst, ⊎_elim}
+use Rattle.std.proofs.Common.{◌≡◌, ◌≢◌, ℕ, List, sym, subst, ⊎_elim}
 use Rattle.std.proofs.lemmas.Bool.{cases_eq}
 use Rattle.sd_rig.specs.Devices.{LeavesOnly}
 use Rattle.sd_rig.specs.Disk.{DiskState, MayLeave}

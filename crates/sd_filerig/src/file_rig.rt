@@ -91,7 +91,7 @@ fn sync_all(files: &mut [Backing]) -> bool {
 }
 
 impl Rig for FileRig {
-    ghost use Rattle.sd_rig.specs.Laws.{leaves_what_is_seen, leaves_whole, left_earlier, left_now, left_only_now};
+    ghost use Rattle.sd_rig.specs.Laws.{leaves_bytes, leaves_what_is_seen, leaves_whole, left_earlier, left_now, left_only_now};
     ghost use Rattle.sd_rig.specs.Rigs.{devices, done};
 
     ghost seen = { λ rig. ⟦<MemRig as Rig>⟧.seen (mirror rig) };
@@ -113,6 +113,8 @@ impl Rig for FileRig {
     ghost leaves_seen = { λ rig dev le. leaves_what_is_seen (devices (mirror rig)) (mirror rig).drives.devices dev le };
 
     ghost whole = { λ rig dev bytes le left. leaves_whole (devices (mirror rig)) (mirror rig).drives.devices dev bytes le left };
+
+    ghost bytes = { λ rig dev c le left. leaves_bytes (devices (mirror rig)) dev c left };
 
     /// Reads the memory. It fails where trouble meets it, or the device's file has failed.
     fn read(&mut self, dev: u8, at: u32, out: &mut [u8]) -> Result<(), Failed> {

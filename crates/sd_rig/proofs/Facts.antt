@@ -1,14 +1,16 @@
 -- What the calls of the devices in memory promise to the layers above. It serves the goals of memory_rig.rt.
 use Rattle.std.proofs.Common.{◌≡◌, ◌⊎◌, ⊎_elim, inl, inr, ℕ, ◌+◌, ◌-◌, ◌<◌, ◌≤◌, Bool, true, false, List, [], ◌∷◌, ◌++◌, length, take, drop, map, get_or, set, refl, sym, ap, ◌∙◌, subst, arith, length-append}
 use Rattle.std.proofs.lemmas.List.{take_all, take-append-le, ext_get_or, get_or_past, get_or-take, get_or-drop, take_at, drop_at, drop_all, append-nil, length-take-le, length-drop}
+use Rattle.std.proofs.lemmas.List.Elements.{All-drop, All-take}
 use Rattle.std.proofs.lemmas.List.FromFn.{get_or-map-range_with_len, length-map-range_with_len}
 use Rattle.std.proofs.lemmas.Bool.{cases_lt, cases_Bool, cases_eq}
 use Rattle.sd_base.specs.declared.trouble.Pick.{Pick}
 use Rattle.sd_base.specs.declared.trouble.Pick.TheVariants.{Keep}
-use Rattle.sd_rig.specs.Devices.{AgreesOutside, Elapses, Image, IsOneStep, Leaves, LeavesOnly, LeavesTorn, MayTear, device_len, overwritten}
+use Rattle.sd_rig.specs.Devices.{AgreesOutside, AreBytes, Elapses, Image, IsOneStep, Leaves, LeavesOnly, LeavesTorn, MayTear, device_len, overwritten}
 use Rattle.sd_rig.specs.Disk.{DiskState, IsSettled, IsSound, MayLeave, left_at, settled, written}
 use Rattle.sd_rig.specs.History.{Event, Synced}
 use Rattle.sd_rig.specs.Replay.{AreDevices, AreSettled, LeftSince, blanks, changed, disk_at, left_of, replayed}
+use Rattle.sd_rig.proofs.Bytes.{bytes-left, bytes-middle}
 use Rattle.sd_rig.proofs.Replays.{disk_at-map, disk_at-set_other, disk_at-set_same, settled-settled, settled-sound}
 use Rattle.sd_rig.proofs.Places.{get_or-before, get_or-behind, get_or-inside, left_at-settled, length-middle, marked-before, marked-behind, outside_marks}
 
@@ -93,9 +95,9 @@ pub agrees_same : (at n : ℕ) (bytes : List ℕ) → AgreesOutside at n bytes b
 agrees_same at n bytes = record { size = refl; before = refl; behind = refl }
 
 -- what may be left after a write was left before, but for the range
-torn_from : (at : ℕ) (bytes : List ℕ) (k : DiskState) → at + length bytes ≤ length k.seen → IsSound k → (c : List ℕ) → MayLeave (written at bytes k) c → (b : List ℕ) × MayLeave k b × AgreesOutside at (length bytes) b c
+torn_from : (at : ℕ) (bytes : List ℕ) (k : DiskState) → at + length bytes ≤ length k.seen → IsSound k → (c : List ℕ) → MayLeave (written at bytes k) c → (b : List ℕ) × MayLeave k b × AgreesOutside at (length bytes) b c × AreBytes c
 torn_from at bytes k h sound c left =
-    (b, record { size = b_size; stable = b_stable }, record { size = size ∙ sym b_size; before = sym before; behind = sym behind })
+    (b, record { size = b_size; stable = b_stable; are_bytes = b_bytes }, record { size = size ∙ sym b_size; before = sym before; behind = sym behind }, left.are_bytes)
   where
     n : ℕ
     n = length bytes
@@ -121,6 +123,9 @@ torn_from at bytes k h sound c left =
     within : at + length mid ≤ length c
     within = omega (arith, mid_size, fits, size)
 
+    b_bytes : AreBytes b
+    b_bytes = bytes-middle at (at + length mid) mid c c (All-take (λ x. x < 256) (length bytes) (drop at k.synced) (All-drop (λ x. x < 256) at k.synced sound.synced_bytes)) left.are_bytes left.are_bytes
+
     b_size : length b ≡ length k.synced
     b_size = length-middle at mid c within ∙ size
 
@@ -139,17 +144,18 @@ torn_from at bytes k h sound c left =
         (cases_lt i (at + length bytes)))
         (cases_lt i at)
 
-torn_to : (at : ℕ) (bytes : List ℕ) (k : DiskState) → at + length bytes ≤ length k.seen → IsSound k → (b c : List ℕ) → MayLeave k b → AgreesOutside at (length bytes) b c → MayLeave (written at bytes k) c
-torn_to at bytes k h sound b c left a = record {
+torn_to : (at : ℕ) (bytes : List ℕ) (k : DiskState) → at + length bytes ≤ length k.seen → IsSound k → (b c : List ℕ) → MayLeave k b → AgreesOutside at (length bytes) b c → AreBytes c → MayLeave (written at bytes k) c
+torn_to at bytes k h sound b c left a are = record {
   size = a.size ∙ left.size;
   stable = λ i none. let out = outside_marks at (length bytes) i k.pending (omega (arith, sound.pending_len)) none in agrees_place at (length bytes) b c a i out.0 ∙ left.stable i out.1;
+  are_bytes = are;
 }
 
 pub torn-written : (at : ℕ) (bytes : List ℕ) (k : DiskState) → at + length bytes ≤ length k.seen → IsSound k → LeavesTorn at (length bytes) (MayLeave k) (MayLeave (written at bytes k))
-torn-written at bytes k h sound c = (torn_from at bytes k h sound c, λ f. torn_to at bytes k h sound f.0 c f.1 f.2)
+torn-written at bytes k h sound c = (torn_from at bytes k h sound c, λ f. torn_to at bytes k h sound f.0 c f.1 f.2 f.3)
 
 pub tear-written : (at : ℕ) (bytes : List ℕ) (k : DiskState) → at + length bytes ≤ length k.seen → IsSound k → MayTear at (length bytes) (MayLeave k) (MayLeave (written at bytes k))
-tear-written at bytes k h sound c = (λ l. torn_to at bytes k h sound c c l (agrees_same at (length bytes) c), torn_from at bytes k h sound c)
+tear-written at bytes k h sound c = (λ l. torn_to at bytes k h sound c c l (agrees_same at (length bytes) c) l.are_bytes, λ l. let f = torn_from at bytes k h sound c l in (f.0, f.1, f.2))
 
 pub tear-same : (at n : ℕ) (leaves : List ℕ → Type 0) → MayTear at n leaves leaves
 tear-same at n leaves c = (λ l. l, λ l. (c, l, agrees_same at n c))
@@ -158,7 +164,7 @@ tear-same at n leaves c = (λ l. l, λ l. (c, l, agrees_same at n c))
 pub only-settled : (k : DiskState) → IsSound k → IsSettled k → LeavesOnly k.seen (MayLeave k)
 only-settled k sound none c = (
   λ left. ext_get_or 0 c k.seen (left.size ∙ sound.synced_len) (λ i h. left.stable i (none i) ∙ sym (sound.same i (none i))),
-  λ e. subst (MayLeave k) (sym e) (record { size = sym sound.synced_len; stable = sound.same }),
+  λ e. subst (MayLeave k) (sym e) (record { size = sym sound.synced_len; stable = sound.same; are_bytes = sound.seen_bytes }),
 )
 
 -- a sync keeps what a read gives
@@ -170,8 +176,8 @@ synced-seen k sound = ext_get_or 0 (settled Keep k).seen k.seen (length-map-rang
     kept i = ⊎_elim (λ e. rw e refl) (λ e. left_at-settled Keep k i sound e) (cases_Bool (get_or k.pending i false))
 
 -- what a crash makes of a device is what it may leave
-pub left-settled : (pick : Pick) (k : DiskState) → MayLeave k (settled pick k).seen
-left-settled pick k = record { size = length-map-range_with_len (left_at pick k) 0 (length k.synced); stable = each }
+pub left-settled : (pick : Pick) (k : DiskState) → IsSound k → MayLeave k (settled pick k).seen
+left-settled pick k sound = record { size = length-map-range_with_len (left_at pick k) 0 (length k.synced); stable = each; are_bytes = bytes-left pick k sound }
   where
     none_at : (i : ℕ) → get_or k.pending i false ≡ false → left_at pick k i ≡ get_or k.synced i 0
     none_at i e = rw e refl
@@ -222,7 +228,7 @@ seen-synced disks disks' dev are le made d =
 pub crash-left : (pick : Pick) (disks disks' : List DiskState) → AreDevices disks → disks' ≡ map (settled pick) disks → Leaves (left_of disks) (λ d. (disk_at disks' d).seen)
 crash-left pick disks disks' are made d h =
     let here : disk_at disks' d ≡ settled pick (disk_at disks d) = ap (λ (ks : List DiskState). disk_at ks d) made ∙ disk_at-map disks (settled pick) d are h in
-    subst (λ (j : DiskState). MayLeave (disk_at disks d) j.seen) (sym here) (left-settled pick (disk_at disks d))
+    subst (λ (j : DiskState). MayLeave (disk_at disks d) j.seen) (sym here) (left-settled pick (disk_at disks d) (are.sound d h))
 
 pub crash-durable : (disks : List DiskState) → AreDevices disks → AreSettled disks → (d : ℕ) → d ≤ 8 → LeavesOnly (disk_at disks d).seen (left_of disks d)
 crash-durable disks are none d h = only-settled (disk_at disks d) (are.sound d h) (none d h)

@@ -1,3 +1,4 @@
+pub mod Bytes
 pub mod Answered
 pub mod Entries
 pub mod Facts

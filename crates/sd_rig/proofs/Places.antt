@@ -5,7 +5,8 @@ use Rattle.std.proofs.lemmas.List.FromFn.{fill_by_all}
 use Rattle.std.proofs.lemmas.Bool.{cases_lt, true≢false}
 use Rattle.std.specs.List.{range_with_len}
 use Rattle.sd_base.specs.declared.trouble.Pick.{Pick}
-use Rattle.sd_rig.specs.Devices.{overwritten}
+use Rattle.sd_rig.specs.Devices.{AreBytes, overwritten}
+use Rattle.sd_rig.proofs.Bytes.{bytes-copies, bytes-middle}
 use Rattle.sd_rig.specs.Disk.{DiskState, IsSound, Lies, SameAt, SettledAt, Settles, blank, copies, length-copies, copies-is, marked, written, left_at, settled}
 
 pub get_or-copies : {X : Type 0} (n i : ℕ) (x d : X) → i < n → get_or (copies n x) i d ≡ x
@@ -99,14 +100,16 @@ get_or-overwritten at i bytes old h = ⊎_elim
     (λ lt. get_or-before at i bytes old 0 (omega arith) lt)
     (λ le. get_or-behind at i bytes old 0 h le)
 
-pub written-sound : (at : ℕ) (bytes : List ℕ) (k : DiskState) → at + length bytes ≤ length k.seen → IsSound k → IsSound (written at bytes k)
-written-sound at bytes k h sound =
+pub written-sound : (at : ℕ) (bytes : List ℕ) (k : DiskState) → at + length bytes ≤ length k.seen → AreBytes bytes → IsSound k → IsSound (written at bytes k)
+written-sound at bytes k h are sound =
     let fits : at + length bytes ≤ length k.pending = omega (arith, sound.pending_len) in
     let size : length (overwritten at bytes k.seen) ≡ length k.seen = length-middle at bytes k.seen h in
     record {
       synced_len = sound.synced_len ∙ sym size;
       pending_len = length-marked at (length bytes) k.pending fits ∙ sound.pending_len ∙ sym size;
       same = λ i none. let where_is = outside_marks at (length bytes) i k.pending fits none in get_or-overwritten at i bytes k.seen h where_is.0 ∙ sound.same i where_is.1;
+      seen_bytes = bytes-middle at (at + length bytes) bytes k.seen k.seen are sound.seen_bytes sound.seen_bytes;
+      synced_bytes = sound.synced_bytes;
     }
 
 pub marked-lies : (at n low high low' high' : ℕ) (marks : List Bool) → at + n ≤ length marks → Lies marks low high → low' ≤ high' → high' ≤ max high (at + n) → (low < high → (low' ≤ low) × (high ≤ high')) → (at < at + n → (low' ≤ at) × (at + n ≤ high')) → Lies (marked at n marks) low' high'
@@ -140,6 +143,8 @@ blank-sound n = record {
   synced_len = refl;
   pending_len = length-copies n false ∙ sym (length-copies n 0);
   same = λ i none. refl;
+  seen_bytes = bytes-copies n;
+  synced_bytes = bytes-copies n;
 }
 
 pub blank-lies : (n : ℕ) → Lies (blank n).pending 0 0

@@ -5,10 +5,11 @@ use Rattle.std.proofs.lemmas.List.FromFn.{length-map-range_with_len, get_or-map-
 use Rattle.std.proofs.lemmas.Bool.{cases_eq}
 use Rattle.std.specs.List.{All}
 use Rattle.sd_base.specs.declared.trouble.Pick.{Pick}
-use Rattle.sd_rig.specs.Devices.{device_len}
+use Rattle.sd_rig.specs.Devices.{AreBytes, device_len}
 use Rattle.sd_rig.specs.Disk.{DiskState, IsSound, IsSettled, blank, length-copies, left_at, poked, settled, written}
 use Rattle.sd_rig.specs.History.{Event}
 use Rattle.sd_rig.specs.Replay.{AreDevices, AreSettled, blanks, changed, disk_at, replayed}
+use Rattle.sd_rig.proofs.Bytes.{bytes-copies, bytes-left, bytes-set}
 use Rattle.sd_rig.proofs.Places.{get_or-copies_any, settles-is, written-sound, length-middle}
 
 pub replayed-more : (events : List Event) (e : Event) (disks : List DiskState) → replayed (events ++ e ∷ []) disks ≡ changed e (replayed events disks)
@@ -57,6 +58,8 @@ settled-sound pick k sound = record {
   synced_len = refl;
   pending_len = length-copies (length k.pending) false ∙ sound.pending_len ∙ sym (length-settled pick k sound);
   same = λ i h. refl;
+  seen_bytes = bytes-left pick k sound;
+  synced_bytes = bytes-left pick k sound;
 }
 
 pub settled-settled : (pick : Pick) (k : DiskState) → IsSettled (settled pick k)
@@ -86,22 +89,24 @@ map-settled_same pick disks are none =
     let le : i ≤ 8 = omega (arith, length-map disks (settled pick)) in
     disk_at-map disks (settled pick) i are le ∙ settled-same pick (disk_at disks i) (are.sound i le) (none i le))
 
-pub written-devices : (disks : List DiskState) (dev at : ℕ) (bytes : List ℕ) → AreDevices disks → dev ≤ 8 → at + length bytes ≤ device_len dev → AreDevices (set disks dev (written at bytes (disk_at disks dev)))
-written-devices disks dev at bytes are le h =
+pub written-devices : (disks : List DiskState) (dev at : ℕ) (bytes : List ℕ) → AreDevices disks → dev ≤ 8 → at + length bytes ≤ device_len dev → AreBytes bytes → AreDevices (set disks dev (written at bytes (disk_at disks dev)))
+written-devices disks dev at bytes are le h new =
     let k = disk_at disks dev in
     let fits : at + length bytes ≤ length k.seen = subst (λ n. at + length bytes ≤ n) (sym (are.lens dev le)) h in
-    devices-set disks dev (written at bytes k) are le (length-middle at bytes k.seen fits ∙ are.lens dev le) (written-sound at bytes k fits (are.sound dev le))
+    devices-set disks dev (written at bytes k) are le (length-middle at bytes k.seen fits ∙ are.lens dev le) (written-sound at bytes k fits new (are.sound dev le))
 
 pub synced-devices : (pick : Pick) (disks : List DiskState) (dev : ℕ) → AreDevices disks → dev ≤ 8 → AreDevices (set disks dev (settled pick (disk_at disks dev)))
 synced-devices pick disks dev are le =
     let k = disk_at disks dev in
     devices-set disks dev (settled pick k) are le (length-settled pick k (are.sound dev le) ∙ are.lens dev le) (settled-sound pick k (are.sound dev le))
 
-poked-sound : (at byte : ℕ) (k : DiskState) → at < length k.seen → IsSound k → IsSound (poked at byte k)
-poked-sound at byte k h sound = record {
+poked-sound : (at byte : ℕ) (k : DiskState) → at < length k.seen → byte < 256 → IsSound k → IsSound (poked at byte k)
+poked-sound at byte k h small sound = record {
   synced_len = length-set k.synced at byte ∙ sound.synced_len ∙ sym (length-set k.seen at byte);
   pending_len = length-set k.pending at false ∙ sound.pending_len ∙ sym (length-set k.seen at byte);
   same = λ i none. ⊎_elim (λ e. here i e) (λ ne. other i ne none) (cases_eq i at);
+  seen_bytes = bytes-set k.seen at byte small sound.seen_bytes;
+  synced_bytes = bytes-set k.synced at byte small sound.synced_bytes;
 }
   where
     here : (i : ℕ) → i ≡ at → get_or (set k.seen at byte) i 0 ≡ get_or (set k.synced at byte) i 0
@@ -110,11 +115,11 @@ poked-sound at byte k h sound = record {
     other : (i : ℕ) → (i ≡ at → ⊥) → get_or (set k.pending at false) i false ≡ false → get_or (set k.seen at byte) i 0 ≡ get_or (set k.synced at byte) i 0
     other i ne none = get_or-set_other k.seen at i byte 0 ne ∙ sound.same i (sym (get_or-set_other k.pending at i false false ne) ∙ none) ∙ sym (get_or-set_other k.synced at i byte 0 ne)
 
-pub poked-devices : (disks : List DiskState) (dev at byte : ℕ) → AreDevices disks → dev ≤ 8 → at < device_len dev → AreDevices (set disks dev (poked at byte (disk_at disks dev)))
-poked-devices disks dev at byte are le h =
+pub poked-devices : (disks : List DiskState) (dev at byte : ℕ) → AreDevices disks → dev ≤ 8 → at < device_len dev → byte < 256 → AreDevices (set disks dev (poked at byte (disk_at disks dev)))
+poked-devices disks dev at byte are le h small =
     let k = disk_at disks dev in
     let fits : at < length k.seen = subst (λ n. at < n) (sym (are.lens dev le)) h in
-    devices-set disks dev (poked at byte k) are le (length-set k.seen at byte ∙ are.lens dev le) (poked-sound at byte k fits (are.sound dev le))
+    devices-set disks dev (poked at byte k) are le (length-set k.seen at byte ∙ are.lens dev le) (poked-sound at byte k fits small (are.sound dev le))
 
 pub poked-settled : (at byte : ℕ) (k : DiskState) → at < length k.pending → IsSettled k → IsSettled (poked at byte k)
 poked-settled at byte k h none i = ⊎_elim
@@ -138,6 +143,8 @@ devices-blanks = record {
     synced_len = refl;
     pending_len = length-copies (device_len d) false ∙ sym (length-copies (device_len d) 0);
     same = λ i none. refl;
+    seen_bytes = bytes-copies (device_len d);
+    synced_bytes = bytes-copies (device_len d);
   });
 }
 

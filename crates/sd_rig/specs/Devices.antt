@@ -1,5 +1,5 @@
 -- What the calls of a rig do to its devices, what a crash may leave of them, and what crashes since a moment may have left.
-use Rattle.std.specs.Prelude.{◌≡◌, ◌⊎◌, ◌↔◌, ℕ, ◌+◌, ◌≤◌, ◌==◌, List, ◌++◌, length, take, drop, if◌then◌else◌}
+use Rattle.std.specs.Prelude.{◌≡◌, ◌⊎◌, ◌↔◌, ℕ, ◌+◌, ◌<◌, ◌≤◌, ◌==◌, List, ◌++◌, length, take, drop, if◌then◌else◌, All}
 
 -- The bytes of each device, by its number: 0 is the data device, n the log of instance n.
 abbrev pub Image : Type 0
@@ -8,6 +8,10 @@ Image = ℕ → List ℕ
 -- in bytes
 abbrev pub device_len : ℕ → ℕ
 device_len dev = if dev == 0 then 2099200 else 2097282
+
+-- Each is a byte.
+abbrev pub AreBytes : List ℕ → Type 0
+AreBytes bytes = All (λ b. b < 256) bytes
 
 -- old with these bytes at this place
 abbrev pub overwritten : ℕ → List ℕ → List ℕ → List ℕ
@@ -25,7 +29,7 @@ LeavesSame old new = (c : List ℕ) → new c ↔ old c
 
 -- A crash may leave any n bytes at this place, and elsewhere what it might leave before.
 abbrev pub LeavesTorn : ℕ → ℕ → (List ℕ → Type 0) → (List ℕ → Type 0) → Type 0
-LeavesTorn at n old new = (c : List ℕ) → new c ↔ ((b : List ℕ) × old b × AgreesOutside at n b c)
+LeavesTorn at n old new = (c : List ℕ) → new c ↔ ((b : List ℕ) × old b × AgreesOutside at n b c × AreBytes c)
 
 -- A crash may leave what it might leave before, and besides at most other bytes at these n places.
 abbrev pub MayTear : ℕ → ℕ → (List ℕ → Type 0) → (List ℕ → Type 0) → Type 0

@@ -5,7 +5,7 @@ use Rattle.std.specs.List.{range_with_len}
 use Rattle.std.proofs.lemmas.List.{length-replicate}
 use Rattle.sd_base.specs.declared.trouble.Pick.{Pick}
 use Rattle.sd_base.specs.declared.trouble.Pick.TheVariants.{Keep, Lose, Tear, Junk}
-use Rattle.sd_rig.specs.Devices.{overwritten}
+use Rattle.sd_rig.specs.Devices.{AreBytes, overwritten}
 
 -- The bytes as read, the bytes as at the last sync, and which bytes a crash may change.
 pub record DiskState : Type 0 where
@@ -66,11 +66,13 @@ settled pick k =
 abbrev pub poked : ℕ → ℕ → DiskState → DiskState
 poked at byte k = record { seen = set k.seen at byte; synced = set k.synced at byte; pending = set k.pending at false }
 
--- The parts have one length, and a byte that isn't pending reads as at the last sync.
+-- The parts have one length and hold bytes, and a byte that isn't pending reads as at the last sync.
 pub record IsSound (k : DiskState) : Type 0 where
   pub synced_len : length k.synced ≡ length k.seen
   pub pending_len : length k.pending ≡ length k.seen
   pub same : (i : ℕ) → get_or k.pending i false ≡ false → get_or k.seen i 0 ≡ get_or k.synced i 0
+  pub seen_bytes : AreBytes k.seen
+  pub synced_bytes : AreBytes k.synced
 
 -- No byte is pending.
 abbrev pub IsSettled : DiskState → Type 0
@@ -80,6 +82,7 @@ IsSettled k = (i : ℕ) → get_or k.pending i false ≡ false
 pub record MayLeave (k : DiskState) (bytes : List ℕ) : Type 0 where
   pub size : length bytes ≡ length k.synced
   pub stable : (i : ℕ) → get_or k.pending i false ≡ false → get_or bytes i 0 ≡ get_or k.synced i 0
+  pub are_bytes : AreBytes bytes
 
 -- Pending bytes lie from low up to high.
 pub record Lies (pending : List Bool) (low high : ℕ) : Type 0 where

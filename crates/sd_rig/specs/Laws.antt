@@ -2,7 +2,7 @@
 use Rattle.std.specs.Prelude.{◌≡◌, ℕ, ◌≤◌, List, length, take}
 use Rattle.std.proofs.Common.{sym, ap, ◌∙◌, subst, arith}
 use Rattle.std.proofs.lemmas.List.{take_all}
-use Rattle.sd_rig.specs.Devices.{Image, Leaves, device_len}
+use Rattle.sd_rig.specs.Devices.{AreBytes, Image, Leaves, device_len}
 use Rattle.sd_rig.specs.Disk.{DiskState, MayLeave}
 use Rattle.sd_rig.specs.History.{Event}
 use Rattle.sd_rig.specs.Replay.{AreDevices, LeftSince, blanks, disk_at, left_of, replayed}
@@ -32,7 +32,10 @@ left_earlier events t u img le since =
     record { moment = since.moment; from = omega arith; until = since.until; left = since.left }
 
 pub leaves_what_is_seen : (disks : List DiskState) → AreDevices disks → (dev : ℕ) → dev ≤ 8 → MayLeave (disk_at disks dev) (disk_at disks dev).seen
-leaves_what_is_seen disks are dev le = record { size = sym (are.sound dev le).synced_len; stable = (are.sound dev le).same }
+leaves_what_is_seen disks are dev le = record { size = sym (are.sound dev le).synced_len; stable = (are.sound dev le).same; are_bytes = (are.sound dev le).seen_bytes }
 
 pub leaves_whole : (disks : List DiskState) → AreDevices disks → (dev : ℕ) (bytes : List ℕ) → dev ≤ 8 → MayLeave (disk_at disks dev) bytes → length bytes ≡ device_len dev
 leaves_whole disks are dev bytes le left = left.size ∙ (are.sound dev le).synced_len ∙ are.lens dev le
+
+pub leaves_bytes : (disks : List DiskState) (dev : ℕ) (bytes : List ℕ) → MayLeave (disk_at disks dev) bytes → AreBytes bytes
+leaves_bytes disks dev bytes left = left.are_bytes

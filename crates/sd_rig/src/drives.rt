@@ -10,6 +10,7 @@ ghost use Rattle.std.specs.Coded.{Coded-set, coded_list};
 
 use crate::disk::Disk;
 use crate::history::History;
+use crate::rig::device_len;
 use sd_base::{Memory, Pick};
 use std::alloc::Global;
 
@@ -21,13 +22,6 @@ pub struct Drives {
     ghost devices: { AreDevices disks.items },
     ghost told: { disks.items ≡ replayed history.events blanks } by { Coded-set (coded_list disk_code) _ _ },
     ghost kept: { history.kept ≡ false → AreSettled disks.items },
-}
-
-/// The length of a device in bytes: 0 is the data device, and the others are logs.
-pub fn device_len(dev: u8) -> u32
-    ensures { result ≡ device_len dev }
-{
-    if dev == 0 { 2_099_200 } else { 2_097_282 }
 }
 
 impl Drives {

@@ -3,7 +3,8 @@
 //! Meaning: `Rig` tells what a read gives, what a crash now may leave, and what crashes since a moment may have
 //! left (`specs/Devices.antt`, `specs/Spans.antt`); `MemRig` tells them from a record of what was done
 //! (`specs/Replay.antt`).
-//! Keeps: after a sync that succeeds a crash leaves what a read gives; a crash touches only ranges that were written.
+//! Keeps: after a sync that succeeds a crash leaves what a read gives; a crash touches only ranges that were written, and
+//! leaves bytes.
 //! Promises: `Failed` only where the count of faults rose (`cause`); a `MemRig` fails exactly where its armed trouble
 //! meets the call or `short` rose (`met`, `fails`), never in a call whose memory was reserved (`found`).
 //! Refuses: nothing; the range lies in the device by condition.
@@ -24,7 +25,7 @@ mod rig;
 mod troubles;
 
 pub use memory_rig::MemRig;
-pub use rig::Rig;
+pub use rig::{DATA_LEN, LOG_LEN, Rig, device_len};
 
 #[cfg(test)]
 mod tests;

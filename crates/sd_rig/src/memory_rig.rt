@@ -129,7 +129,7 @@ impl Rig for MemRig {
     ghost use Rattle.sd_rig.specs.Replay.{AreSettled, LeftSince, left_of};
     ghost use Rattle.sd_rig.specs.Disk.{settled};
     ghost use Rattle.sd_rig.specs.Devices.{AgreesOutside, Elapses, IsOneStep, Leaves, LeavesOnly, LeavesTorn, MayTear};
-    ghost use Rattle.sd_rig.specs.Laws.{leaves_what_is_seen, leaves_whole, left_earlier, left_now, left_only_now};
+    ghost use Rattle.sd_rig.specs.Laws.{leaves_bytes, leaves_what_is_seen, leaves_whole, left_earlier, left_now, left_only_now};
     ghost use Rattle.sd_rig.specs.Rigs.{Does, KeepsAll, Lacks, armed, device, devices, done, fault_count, short_count, spare};
 
     ghost seen = { λ rig dev. (device rig dev).seen };
@@ -151,6 +151,8 @@ impl Rig for MemRig {
     ghost leaves_seen = { λ rig dev le. leaves_what_is_seen (devices rig) rig.drives.devices dev le };
 
     ghost whole = { λ rig dev bytes le left. leaves_whole (devices rig) rig.drives.devices dev bytes le left };
+
+    ghost bytes = { λ rig dev c le left. leaves_bytes (devices rig) dev c left };
 
     /// Fails exactly where the armed trouble meets it.
     fn read(&mut self, dev: u8, at: u32, out: &mut [u8]) -> Result<(), Failed>

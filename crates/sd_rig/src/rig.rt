@@ -2,9 +2,22 @@
 
 ghost use Rattle.std.specs.Prelude.{◌≡◌, ◌≢◌, ◌⊎◌, ℕ, ◌+◌, ◌≤◌, List, length, slice_range, OnOk, OnErr};
 ghost use Rattle.sd_base.specs.Streams.{Rises};
-ghost use Rattle.sd_rig.specs.Devices.{AgreesOutside, Elapses, Image, IsOneStep, IsUnchanged, Leaves, LeavesOnly, LeavesSame, LeavesTorn, MayTear, device_len, overwritten};
+ghost use Rattle.sd_rig.specs.Devices.{AgreesOutside, AreBytes, Elapses, Image, IsOneStep, IsUnchanged, Leaves, LeavesOnly, LeavesSame, LeavesTorn, MayTear, device_len, overwritten};
 
 use sd_base::{Failed, Pick, Trouble};
+
+/// The length of the data device in bytes.
+pub const DATA_LEN: u32 = 2_099_200;
+
+/// The length of a log device in bytes.
+pub const LOG_LEN: u32 = 2_097_282;
+
+/// The length of a device in bytes: 0 is the data device, and the others are logs.
+pub fn device_len(dev: u8) -> u32
+    ensures { result ≡ device_len dev }
+{
+    if dev == 0 { DATA_LEN } else { LOG_LEN }
+}
 
 /// The data device, number 0, and the logs of instances 1 to 8. Between two syncs a crash may leave any bytes in each
 /// range that was written, and outside what was there; after a sync that succeeds it leaves what a read gives.
@@ -97,4 +110,7 @@ pub trait Rig {
 
     /// A device has its length, as read and as left.
     ghost whole: { (rig : Self) (dev : ℕ) (bytes : List ℕ) → dev ≤ 8 → leaves rig dev bytes → length bytes ≡ device_len dev };
+
+    /// A device's bytes are below 256, as left and so, by `leaves_seen`, as read.
+    ghost bytes: { (rig : Self) (dev : ℕ) (c : List ℕ) → dev ≤ 8 → leaves rig dev c → AreBytes c };
 }

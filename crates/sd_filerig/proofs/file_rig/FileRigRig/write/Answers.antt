@@ -1,5 +1,5 @@
-use Rattle.std.proofs.Common.{◌≡◌, ℕ, List, length, sym, ap, subst}
-use Rattle.sd_rig.specs.Devices.{Image, IsOneStep, MayTear}
+use Rattle.std.proofs.Common.{List, length, sym, subst}
+use Rattle.sd_rig.specs.Devices.{IsOneStep, MayTear}
 use Rattle.sd_rig.specs.Disk.{DiskState}
 use Rattle.sd_rig.specs.History.{Event}
 use Rattle.sd_rig.specs.Replay.{LeftSince, left_of}
@@ -13,7 +13,7 @@ returns-then-not-write_file-clause-torn_err c =
     let zero = mirror c.args.self.now in
     let keeps = c.fail-then-not-write_file.ensures.keeps in
     subst (λ (ks : List DiskState). MayTear c.args.at (length c.args.bytes.now) (left_of (devices zero) c.args.dev) (left_of ks c.args.dev)) (sym keeps.devices_stay)
-    (tear_either c.write-answer.result c.args.at (length c.args.bytes.now) _ _ c.write-answer.ensures.torn c.write-answer.ensures.torn_err)
+    (tear_either c.write-answer.result c.args.at (length c.args.bytes.now) _ _ (λ bytes left. left.are_bytes) c.write-answer.ensures.torn c.write-answer.ensures.torn_err)
 
 pub returns-then-not-write_file-clause-step : goal.returns-then-not-write_file-clause-step
 returns-then-not-write_file-clause-step c =

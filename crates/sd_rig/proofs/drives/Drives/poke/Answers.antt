@@ -17,7 +17,7 @@ invariant_of-self-2 c =
     let size = (s.devices.sound c.args.dev le).pending_len in
     let within = c.requires.range in
     record {
-      devices = subst AreDevices (sym made) (poked-devices now c.args.dev c.args.at c.args.byte s.devices le c.requires.range);
+      devices = subst AreDevices (sym made) (poked-devices now c.args.dev c.args.at c.args.byte s.devices le c.requires.range (omega arith));
       told = made ∙ told-more s.history.events c.note_poke.new.self.events (Poked c.args.dev c.args.at c.args.byte) now s.told c.in_ok-note_poke.ensures.noted;
       kept = λ none. let was = s.kept (sym c.note_poke.ensures.kept ∙ none) in subst AreSettled (sym made) (settled-set now c.args.dev (poked c.args.at c.args.byte k) s.devices le was (poked-settled c.args.at c.args.byte k (omega arith) (was c.args.dev le)));
     }
