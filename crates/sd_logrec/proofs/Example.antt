@@ -1,6 +1,6 @@
 -- A log of two groups, byte by byte: it shows that reading computes.
-use Rattle.std.proofs.Common.{◌≡◌, ℕ, List, [], ◌∷◌, refl}
-use Rattle.std.specs.Prelude.{Option, None, Some}
+use Rattle.std.proofs.Common.{◌≡◌, [], ◌∷◌, refl}
+use Rattle.std.specs.Prelude.{None, Some}
 use Rattle.sd_logrec.specs.declared.record.Record.TheVariants.{Start, Update, Commit}
 use Rattle.sd_logrec.specs.Kept.{Whole, reading, groups_within, records_within}
 use Rattle.sd_logrec.specs.Spelling.{eight, four, two}

@@ -1,5 +1,5 @@
 -- Groups that are read from an area, and one more behind them. It serves the laws of what a log device stands for.
-use Rattle.std.proofs.Common.{◌≡◌, ◌⊎◌, inl, inr, ℕ, zero, suc, ◌+◌, ◌-◌, ◌<◌, ◌≤◌, ◌^◌, Bool, true, false, cond, List, [], ◌∷◌, ◌++◌, length, take, drop, get_or, refl, sym, ap, ◌∙◌, subst, arith, append_assoc, length-append, length-drop}
+use Rattle.std.proofs.Common.{◌≡◌, ◌⊎◌, inl, inr, ℕ, zero, suc, ◌+◌, ◌-◌, ◌<◌, ◌≤◌, ◌^◌, Bool, true, false, cond, List, [], ◌∷◌, ◌++◌, length, take, drop, get_or, refl, sym, ap, ◌∙◌, arith, length-append, length-drop}
 use Rattle.std.specs.Prelude.{◌==◌, ◌&&◌, nat_le, Result, Ok, Err, Option, Some, None}
 use Rattle.std.specs.Int.{w32, from_be_bytes}
 use Rattle.std.specs.List.{AllByRecursion}
@@ -19,7 +19,7 @@ use Rattle.sd_logrec.proofs.Formats.{IsBytes}
 -- ---- one step
 
 -- what made a whole reading: a closed gate, or an open one with a group behind it
-step_of : (o f : Bool) (at : ℕ) (r : Result Records ℕ) (behind : Reading) (groups : List Group) (gate : ℕ) → cond o (cond f (group_then at r behind) (BadGroup at)) (Whole [] at) ≡ Whole groups gate
+pub step_of : (o f : Bool) (at : ℕ) (r : Result Records ℕ) (behind : Reading) (groups : List Group) (gate : ℕ) → cond o (cond f (group_then at r behind) (BadGroup at)) (Whole [] at) ≡ Whole groups gate
     → ((o ≡ false) × (groups ≡ []) × (gate ≡ at)) ⊎ ((rs : Records) × (more : List Group) × (o ≡ true) × (f ≡ true) × (r ≡ Ok rs) × (behind ≡ Whole more gate) × (groups ≡ record { at = at; records = rs } ∷ more))
 step_of false f at r behind groups gate e = inl (refl, cc, cc)
 step_of true false at r behind groups gate e = absurd (cc)

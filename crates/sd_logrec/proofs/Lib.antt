@@ -8,4 +8,5 @@ pub mod Parts
 pub mod Places
 pub mod Records
 pub mod Rising
+pub mod WholeFronts
 pub mod Writes

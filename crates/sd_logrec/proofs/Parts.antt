@@ -1,14 +1,13 @@
 -- The fields of records as formats, each in its range. It serves the laws of records.
-use Rattle.std.proofs.Common.{◌≡◌, ◌⊎◌, ℕ, zero, suc, ◌+◌, ◌^◌, ◌<◌, ◌≤◌, Bool, true, false, cond, ltb, eqb, ◌&&◌, List, [], ◌∷◌, ◌++◌, length, refl, sym, ap, subst, ◌∙◌, append_assoc, arith, inl, inr, IsTrue}
+use Rattle.std.proofs.Common.{◌≡◌, ◌⊎◌, ℕ, zero, suc, ◌^◌, ◌<◌, ◌≤◌, Bool, true, false, cond, eqb, ◌&&◌, List, [], ◌∷◌, ◌++◌, length, refl, sym, ap, subst, ◌∙◌, append_assoc, arith, inl, inr}
 use Rattle.std.specs.Prelude.{Option, Some, None, option_map, nat_lt, nat_le}
-use Rattle.std.specs.Int.{w16, w32, w64}
+use Rattle.std.specs.Int.{w16}
 use Rattle.std.specs.List.{flat_map, AllByRecursion}
 use Rattle.std.proofs.lemmas.Bool.{leb-true, le-leb, eqb-true}
 use Rattle.std.proofs.lemmas.Bool.Decides.{nat_tests}
-use Rattle.std.proofs.lemmas.List.Concat.{flat_map-cons}
 use Rattle.sd_base.specs.declared.ids.TxnId.{TxnId}
 use Rattle.sd_logrec.specs.Spelling.{Span, Changed, one, two, four, eight, transaction, value, span, changed, counted, IsLsn, IsOrdinal, IsTxn, IsValue, AreSpans, AreRecs, is_before, is_rising}
-use Rattle.sd_logrec.specs.Reading.{Reader, ◌then◌, only, made, byte_at, number_at, is_lsn, lsn_at, inst_at, ordinal_at, txn_at, page_at, slot_at, capacity_at, bytes_at, value_behind, value_at, span_at, changed_at, items_at, counted_at, spans_at, recs_at}
+use Rattle.sd_logrec.specs.Reading.{Reader, made, number_at, is_lsn, lsn_at, inst_at, ordinal_at, txn_at, page_at, slot_at, capacity_at, bytes_at, value_behind, value_at, span_at, changed_at, items_at, counted_at, spans_at, recs_at}
 use Rattle.sd_logrec.proofs.Formats.{IsBytes, Takes, Takes-then, IsFormat, and_then_some, map_some, then_is, only_is, made_is}
 use Rattle.sd_logrec.proofs.Numbers.{two_is, four_is, eight_is, one_is, bytes_is}
 

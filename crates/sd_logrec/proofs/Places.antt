@@ -1,5 +1,5 @@
 -- The place of a record and the place behind it. It serves the goals of take.rt.
-use Rattle.std.proofs.Common.{◌≡◌, ℕ, zero, suc, ◌+◌, ◌-◌, ◌<◌, ◌≤◌, List, [], ◌∷◌, ◌++◌, length, drop, Option, Some, None, refl, sym, ap, ◌∙◌, arith, length-drop, length-append}
+use Rattle.std.proofs.Common.{◌≡◌, ℕ, ◌+◌, ◌-◌, ◌<◌, ◌≤◌, List, ◌++◌, length, drop, Some, refl, sym, ap, ◌∙◌, arith, length-drop, length-append}
 use Rattle.std.proofs.lemmas.Grind.{common_steps}
 use Rattle.std.proofs.lemmas.List.{drop_at}
 use Rattle.sd_logrec.specs.declared.record.Record.{Record}
@@ -8,7 +8,7 @@ use Rattle.sd_logrec.specs.Spelling.{spelling, spelled_length, HasSpelling}
 use Rattle.sd_logrec.specs.Reading.{record_at}
 use Rattle.sd_logrec.proofs.Formats.{IsBytes, IsBytes-drop}
 use Rattle.sd_logrec.proofs.Lengths.{length-spelling}
-use Rattle.sd_logrec.proofs.Records.{record_takes, record_again, no_prefix}
+use Rattle.sd_logrec.proofs.Records.{record_takes, record_again}
 
 some_length : (r : Record) → 0 < spelled_length r
 some_length (records.Start lsn epoch) = omega arith

@@ -1,14 +1,13 @@
 -- What is read as a record is spelled so, and what is spelled so is read. It serves the goals of take.rt and laws.rt.
-use Rattle.std.proofs.Common.{◌≡◌, ◌⊎◌, ℕ, ◌+◌, ◌^◌, ◌<◌, ◌≤◌, Bool, true, false, cond, eqb, List, [], ◌∷◌, ◌++◌, length, refl, sym, ap, subst, ◌∙◌, append_assoc, arith, inl, inr}
+use Rattle.std.proofs.Common.{◌≡◌, ℕ, cond, eqb, List, [], ◌∷◌, ◌++◌, refl, sym, ap, subst, ◌∙◌, append_assoc, inl, inr}
 use Rattle.std.specs.Prelude.{Option, Some, None, option_map, option_and_then}
-use Rattle.std.specs.Int.{w16, w32, w64}
 use Rattle.std.proofs.lemmas.Bool.{eqb-true}
 use Rattle.std.proofs.lemmas.Option.{some_pair_parts}
 use Rattle.sd_logrec.specs.declared.record.Record.{Record}
 use Rattle.sd_logrec.specs.declared.record.Record.TheVariants as records
-use Rattle.sd_logrec.specs.Spelling.{one, two, four, eight, transaction, value, span, changed, counted, row, spelling, IsLsn, IsOrdinal, IsTxn, IsValue, AreSpans, AreRecs, HasSpelling}
-use Rattle.sd_logrec.specs.Reading.{Reader, ◌then◌, made, byte_at, number_at, lsn_at, ordinal_at, txn_at, page_at, slot_at, capacity_at, value_at, spans_at, recs_at, start_at, update_at, clr_at, commit_at, end_at, end_check_at, fields_at, record_at}
-use Rattle.sd_logrec.proofs.Formats.{IsBytes, Takes, Takes-then, IsFormat, and_then_some, map_some, then_is}
+use Rattle.sd_logrec.specs.Spelling.{four, eight, transaction, span, changed, counted, row, spelling, IsLsn, HasSpelling}
+use Rattle.sd_logrec.specs.Reading.{Reader, made, byte_at, lsn_at, start_at, update_at, clr_at, commit_at, end_at, end_check_at, fields_at, record_at}
+use Rattle.sd_logrec.proofs.Formats.{IsBytes, IsFormat, and_then_some, map_some, then_is}
 use Rattle.sd_logrec.proofs.Numbers.{one_is, eight_is}
 use Rattle.sd_logrec.proofs.Parts.{chosen, lsn_is, ordinal_is, txn_is, page_is, slot_is, capacity_is, value_is, spans_is, recs_is}
 

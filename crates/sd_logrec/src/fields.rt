@@ -4,12 +4,10 @@ ghost use Rattle.std.specs.Prelude.{◌≡◌};
 ghost use Rattle.std.specs.Int.{w16, w32, w64};
 ghost use Rattle.sd_logrec.specs.Reading.{Finds, Gives, byte_at, number_at, lsn_at, inst_at, ordinal_at, txn_at, page_at, slot_at, capacity_at, bytes_at, value_at};
 
+use crate::layout::MAX_LSN;
 use crate::miss::Miss;
 use sd_base::{Bytes, InstNo, Lsn, PageNo, Sequence, TxnId};
 use std::alloc::Global;
-
-/// The greatest LSN of a record, 2^62 - 1.
-const MAX_LSN: Lsn = (1 << 62) - 1;
 
 /// The most slots of a page.
 const MAX_SLOTS: u16 = 168;

@@ -2,7 +2,8 @@
 //!
 //! Meaning: a `Record` is its fields; `spelling` gives its bytes by one table, and `HasSpelling` says which records
 //! have any (`specs/Spelling.antt`); `flat` is the same record with the same fields whatever its kind, for laws on
-//! chains of records (`specs/View.antt`). `kept` says what groups a log device stands for (`specs/Kept.antt`).
+//! chains of records (`specs/View.antt`). `kept` says what groups a log device stands for (`specs/Kept.antt`); `layout`
+//! names the places and lengths of one.
 //! Keeps: nothing behind a call.
 //! Promises: `put` appends a record's spelling, and takes no memory where there is room; `take` reads a record exactly
 //! where its spelling stands, whatever follows; each record has one spelling and none begins another (`no_prefix`);
@@ -20,12 +21,14 @@
 mod copy;
 mod fields;
 pub mod laws;
+mod layout;
 mod miss;
 mod put;
 mod record;
 mod rows;
 mod take;
 
+pub use layout::{AREA, AREA_LEN, GROUP_HEAD, MASTER_BODY, MAX_LSN};
 pub use record::Record;
 pub use rows::{Recs, Rows, Spans};
 

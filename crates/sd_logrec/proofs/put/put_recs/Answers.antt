@@ -1,6 +1,6 @@
-use Rattle.std.proofs.Common.{◌≡◌, ◌<◌, length, get_or, rules}
+use Rattle.std.proofs.Common.{length}
 use Rattle.sd_logrec.specs.Spelling.{two, changed}
-use Rattle.sd_logrec.proofs.Writes.{room_for, one_more, none_yet}
+use Rattle.sd_logrec.proofs.Writes.{room_for, one_more}
 use Rattle.sd_logrec.proofs.put.put_recs.Goals as goal
 
 pub put_rec-requires : goal.put_rec-requires

@@ -1,6 +1,6 @@
-use Rattle.std.proofs.Common.{◌≡◌, ◌<◌, length, get_or, rules}
+use Rattle.std.proofs.Common.{length}
 use Rattle.sd_logrec.specs.Spelling.{two, span}
-use Rattle.sd_logrec.proofs.Writes.{room_for, one_more, none_yet}
+use Rattle.sd_logrec.proofs.Writes.{room_for, one_more}
 use Rattle.sd_logrec.proofs.put.put_spans.Goals as goal
 
 pub put_span-requires : goal.put_span-requires

@@ -1,4 +1,3 @@
-use Rattle.std.proofs.Common.{◌≡◌, ◌++◌, ◌∷◌, []}
 use Rattle.sd_logrec.specs.Reading.{items_at, changed_at}
 use Rattle.sd_logrec.proofs.Lists.{goes_on, ends, is_done}
 use Rattle.sd_logrec.proofs.take.rec_list.Goals as goal

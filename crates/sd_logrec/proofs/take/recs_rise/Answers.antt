@@ -1,4 +1,4 @@
-use Rattle.std.proofs.Common.{◌≡◌, ℕ, false, nat_lt, arith, ap, sym, ◌∙◌}
+use Rattle.std.proofs.Common.{◌≡◌, false, nat_lt, arith, ap, sym, ◌∙◌}
 use Rattle.std.proofs.lemmas.Bool.{le-ltb}
 use Rattle.sd_logrec.specs.Spelling.{Changed}
 use Rattle.sd_logrec.proofs.Rising.{falls_at, rises_to}

@@ -1,6 +1,5 @@
-use Rattle.std.proofs.Common.{◌≡◌, ℕ, ◌+◌, ◌<◌, true, get_or, nat_lt}
+use Rattle.std.proofs.Common.{◌≡◌, true, nat_lt}
 use Rattle.std.specs.List.{AllAdjacentBelow}
-use Rattle.sd_logrec.specs.Spelling.{is_before}
 use Rattle.sd_logrec.proofs.take.recs_rise.Given as goal
 
 abbrev pub invariant-loop-i : goal.invariant-loop-i

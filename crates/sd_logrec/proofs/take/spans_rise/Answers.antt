@@ -1,4 +1,4 @@
-use Rattle.std.proofs.Common.{◌≡◌, ℕ, false, arith, rules, sym, ◌∙◌}
+use Rattle.std.proofs.Common.{◌≡◌, false, arith, rules}
 use Rattle.sd_logrec.specs.Spelling.{is_before}
 use Rattle.sd_logrec.proofs.Rising.{falls_at, rises_to}
 use Rattle.sd_logrec.proofs.take.spans_rise.Goals as goal

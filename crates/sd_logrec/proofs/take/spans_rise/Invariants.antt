@@ -1,4 +1,4 @@
-use Rattle.std.proofs.Common.{◌≡◌, ℕ, ◌+◌, ◌<◌, true, get_or, nat_lt}
+use Rattle.std.proofs.Common.{◌≡◌, true}
 use Rattle.std.specs.List.{AllAdjacentBelow}
 use Rattle.sd_logrec.specs.Spelling.{is_before}
 use Rattle.sd_logrec.proofs.take.spans_rise.Given as goal

@@ -1,5 +1,5 @@
-use Rattle.std.proofs.Common.{◌≡◌, length, sym, ap, ◌∙◌, arith}
-use Rattle.sd_logrec.specs.Spelling.{spelling, spelled_length}
+use Rattle.std.proofs.Common.{length, sym, ap, ◌∙◌, arith}
+use Rattle.sd_logrec.specs.Spelling.{spelled_length}
 use Rattle.sd_logrec.proofs.Lengths.{length-spelling}
 use Rattle.sd_logrec.proofs.record.Record.len.Goals as goal
 

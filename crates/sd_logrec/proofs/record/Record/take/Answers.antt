@@ -1,9 +1,7 @@
 use Rattle.std.proofs.lemmas.Option.{none-some, some_pair_parts}
-use Rattle.std.proofs.Common.{◌≡◌, ℕ, ◌+◌, ◌-◌, ◌++◌, drop, length, List, Option, Some, None, Result, Ok, Err, ap, sym, ◌∙◌, inl, inr, arith}
-use Rattle.sd_base.specs.declared.refusal.Refusal.{Refusal}
+use Rattle.std.proofs.Common.{◌≡◌, ℕ, ◌+◌, ◌-◌, ◌++◌, length, List, Option, Some, ap, sym, ◌∙◌, inl, arith}
 use Rattle.sd_logrec.specs.declared.record.Record.{Record}
-use Rattle.sd_logrec.specs.Spelling.{spelling, HasSpelling}
-use Rattle.sd_logrec.specs.Reading.{record_at}
+use Rattle.sd_logrec.specs.Spelling.{spelling}
 use Rattle.sd_logrec.proofs.Places.{Taken, is_taken, is_only}
 use Rattle.sd_logrec.proofs.record.Record.take.Goals as goal
 
