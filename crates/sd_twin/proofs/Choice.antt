@@ -5,8 +5,9 @@ use Rattle.std.proofs.lemmas.Bool.{cases_Bool, le-ltb, lt-ltb}
 use Rattle.sd_base.specs.Twin.{Slot, Neither, First, Second, Same, body_at, body_of, chosen_body, chosen_slot, is_open, newer, number_of, slot_of}
 use Rattle.sd_rig.specs.Devices.{AgreesOutside}
 use Rattle.sd_rig.specs.Ranges.{outside_before, outside_behind, outside_wider}
-use Rattle.sd_twin.specs.Puts.{after_put, filled_gate, kept_gate, twin_len}
-use Rattle.sd_twin.proofs.Filling.{same_body, same_gate}
+use Rattle.sd_gate.specs.Slots.{slots_len}
+use Rattle.sd_gate.proofs.Gates.{same_body, same_gate}
+use Rattle.sd_twin.specs.Puts.{after_put, filled_gate, kept_gate}
 
 -- a slot that a call left alone
 pub record SameSlot (n gate : ℕ) (old new : List ℕ) : Type 0 where
@@ -32,7 +33,7 @@ kept_same (Second other) at n old new a = behind_slot at n old new a
 kept_same Same at n old new a = behind_slot at n old new a
 
 -- the slot that is filled lies in the twin
-pub filled_within : (s : Slot) (at n : ℕ) → (at ≤ filled_gate s at n) × (filled_gate s at n + (n + 1) ≤ at + twin_len n)
+pub filled_within : (s : Slot) (at n : ℕ) → (at ≤ filled_gate s at n) × (filled_gate s at n + (n + 1) ≤ at + slots_len n)
 filled_within Neither at n = (omega arith, omega arith)
 filled_within (First other) at n = (omega arith, omega arith)
 filled_within (Second other) at n = (omega arith, omega arith)

@@ -4,11 +4,13 @@ use Rattle.std.specs.Prelude.{IfSome}
 use Rattle.sd_base.specs.Twin.{Slot, Same, chosen_body, chosen_slot, number_of}
 use Rattle.sd_rig.specs.Devices.{AgreesOutside, Image, LeavesSame}
 use Rattle.sd_rig.specs.Ranges.{outside_then, outside_wider}
-use Rattle.sd_twin.specs.declared.twin.Chosen.{Chosen}
-use Rattle.sd_twin.specs.declared.twin.Chosen.TheVariants as C
-use Rattle.sd_twin.specs.Puts.{Closes, Fills, Puts, filled_gate, slot, twin_len}
+use Rattle.sd_gate.specs.declared.slots.Chosen.{Chosen}
+use Rattle.sd_gate.specs.declared.slots.Chosen.TheVariants as C
+use Rattle.sd_gate.specs.Gates.{Closes, Fills}
+use Rattle.sd_gate.specs.Slots.{slot, slots_len}
+use Rattle.sd_gate.proofs.Gates.{others_from}
+use Rattle.sd_twin.specs.Puts.{Puts, filled_gate}
 use Rattle.sd_twin.proofs.Choice.{closing_counts, filled_within, filling_counts}
-use Rattle.sd_twin.proofs.Filling.{others_from}
 use Rattle.sd_twin.proofs.Slots.{closing_differs, closing_from, filling_differs, filling_from}
 
 pub slot_differs : (c : Chosen) → c ≢ C.Same → slot c ≢ Same
@@ -22,14 +24,14 @@ pub slot_after : (gate n : ℕ) (a b c : List ℕ) → AgreesOutside gate 1 a b 
 slot_after gate n a b c f g = outside_then gate (n + 1) a b c (outside_wider gate (n + 1) gate 1 a b f (omega arith) (omega arith)) g
 
 -- and the slot lies in the twin
-pub twin_outside : (s : Slot) (at n m : ℕ) (old new : List ℕ) → m ≤ n + 1 → AgreesOutside (filled_gate s at n) m old new → AgreesOutside at (twin_len n) old new
+pub twin_outside : (s : Slot) (at n m : ℕ) (old new : List ℕ) → m ≤ n + 1 → AgreesOutside (filled_gate s at n) m old new → AgreesOutside at (slots_len n) old new
 twin_outside s at n m old new le a =
     let within = filled_within s at n in
     let low : at ≤ filled_gate s at n = within.0 in
-    let high : filled_gate s at n + (n + 1) ≤ at + twin_len n = within.1 in
+    let high : filled_gate s at n + (n + 1) ≤ at + slots_len n = within.1 in
     let first : filled_gate s at n + m ≤ filled_gate s at n + (n + 1) = omega arith in
-    let all : filled_gate s at n + m ≤ at + twin_len n = omega arith in
-    outside_wider at (twin_len n) (filled_gate s at n) m old new a low all
+    let all : filled_gate s at n + m ≤ at + slots_len n = omega arith in
+    outside_wider at (slots_len n) (filled_gate s at n) m old new a low all
 
 pub puts_close : (s : Slot) (dev gate at n : ℕ) (body : List ℕ) (seen : Image) (leaves : ℕ → List ℕ → Type 0) (img : Image) → gate ≡ filled_gate s at n → chosen_slot at n (seen dev) ≡ s → s ≢ Same → Closes dev gate seen leaves img → Puts dev at n body seen leaves img
 puts_close s dev gate at n body seen leaves img is e ne w =

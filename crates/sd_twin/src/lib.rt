@@ -2,25 +2,26 @@
 //! the old body or the new one, whole.
 //!
 //! Meaning: `chosen_slot` and `chosen_body` (`specs/Twin.antt` of sd_base), what the bytes of a twin stand for.
-//! Keeps: a gate is opened only once its body is stable, and a body is written only behind a closed gate.
+//! Keeps: a put changes the slot that doesn't count, and only behind its closed gate.
 //! Promises: `put` leaves the old body or the new one at any moment (`any_moment`), and the new one at `Ok` (`body`,
 //! `durable`); `choose` answers the slot that counts (`chosen`) and changes nothing (`stays`).
 //! Refuses: `Failed` only where the rig's count of faults rose; no call takes memory.
 //! Knows nothing of: what a body means but its number; how a device is settled after a failure.
-//! Stands on: sd_base, sd_rig.
+//! Stands on: sd_base, sd_rig, sd_gate.
 //! Held by the caller: a crash leaves of the device what it reads (`put`, `stable`).
 //!
 //! To change:
 //! - free: bodies and private helpers
 //! - dear: the clauses of `put`, and `Puts` (`specs/Puts.antt`)
-//! - frozen: the open gate, 0xA5, and where the gates stand (docs/FORMATS.md)
+//! - frozen: which slot a put fills (docs/FORMATS.md)
 #![tactic(auto)]
 
 mod putting;
 mod twin;
 
 pub use putting::put;
-pub use twin::{Chosen, Twin, choose};
+pub use sd_gate::Chosen;
+pub use twin::{Twin, choose};
 
 #[cfg(test)]
 mod tests;

@@ -3,40 +3,22 @@
 ghost use Rattle.std.specs.Prelude.{◌≡◌, ◌≢◌, ◌⊎◌, ℕ, Some, ◌+◌, ◌<◌, ◌≤◌, true, false, length, IfSome, OnErr, OnOk, if◌then◌else◌};
 ghost use Rattle.sd_base.specs.Streams.{Rises};
 ghost use Rattle.sd_base.specs.Twin as twin;
-ghost use Rattle.sd_rig.specs.Devices.{AgreesOutside, Elapses, LeavesOnly, LeavesSame, Span, device_len, overwritten};
-ghost use Rattle.sd_twin.specs.Puts.{Closes, Fills, Puts, Writes, after_put, filled_gate, filled_open, slot, twin_len};
+ghost use Rattle.sd_rig.specs.Devices.{AgreesOutside, Elapses, LeavesOnly, LeavesSame, Span, device_len};
+ghost use Rattle.sd_gate.specs.Gates.{Closes};
+ghost use Rattle.sd_gate.specs.Slots.{slot, slots_len};
+ghost use Rattle.sd_twin.specs.Puts.{Puts, after_put, filled_gate, filled_open};
 
-use crate::twin::{Chosen, OPEN, Twin};
+use crate::twin::Twin;
 use sd_base::Failed;
+use sd_gate::{Chosen, close, fill};
 use sd_rig::Rig;
 
-// Writes and syncs.
-fn write_synced<G: Rig>(rig: &mut G, dev: u8, at: u32, bytes: &[u8]) -> Result<(), Failed>
-    requires device { dev ≤ 8 }
-    requires range { at + length bytes.now ≤ device_len dev }
-    requires stable { LeavesOnly (G.seen rig.old dev) (G.leaves rig.old dev) }
-    ensures written { OnOk result (G.seen rig.new dev ≡ overwritten at bytes.now (G.seen rig.old dev)) }
-    ensures durable { OnOk result (LeavesOnly (G.seen rig.new dev) (G.leaves rig.new dev)) }
-    ensures outside { AgreesOutside at (length bytes.now) (G.seen rig.old dev) (G.seen rig.new dev) }
-    ensures any_moment { Span (G.moment rig.old) (G.since rig.new) (Writes dev at (length bytes.now) (G.seen rig.old) (G.leaves rig.old)) }
-    ensures others { (d : ℕ) → d ≢ dev → G.seen rig.new d ≡ G.seen rig.old d }
-    ensures others_leave { (d : ℕ) → d ≢ dev → LeavesSame (G.leaves rig.old d) (G.leaves rig.new d) }
-    ensures time { Elapses (G.moment rig.old) (G.moment rig.new) (G.since rig.old) (G.since rig.new) }
-    ensures tick { OnOk result (G.moment rig.new ≡ G.moment rig.old + 2) }
-    ensures cause { OnErr result (Rises (G.faults rig.old) (G.faults rig.new)) }
-    ensures quiet { OnOk result (G.faults rig.new ≡ G.faults rig.old) }
-    ensures count { G.faults rig.old ≤ G.faults rig.new }
-{
-    rig.write(dev, at, bytes)?;
-    rig.sync(dev)
-}
-
-// Closes the gate of a slot, if it is to be closed.
-fn close<G: Rig>(rig: &mut G, dev: u8, gate: u32, closing: bool) -> Result<(), Failed>
+// Closes the gate of a slot, if it is open.
+fn make_closed<G: Rig>(rig: &mut G, dev: u8, gate: u32, is_open: bool) -> Result<(), Failed>
     requires device { dev ≤ 8 }
     requires range { gate + 1 ≤ device_len dev }
     requires stable { LeavesOnly (G.seen rig.old dev) (G.leaves rig.old dev) }
-    requires open { twin.is_open gate (G.seen rig.old dev) ≡ closing }
+    requires open { twin.is_open gate (G.seen rig.old dev) ≡ is_open }
     ensures closed { OnOk result (twin.is_open gate (G.seen rig.new dev) ≡ false) }
     ensures durable { OnOk result (LeavesOnly (G.seen rig.new dev) (G.leaves rig.new dev)) }
     ensures outside { AgreesOutside gate 1 (G.seen rig.old dev) (G.seen rig.new dev) }
@@ -45,43 +27,20 @@ fn close<G: Rig>(rig: &mut G, dev: u8, gate: u32, closing: bool) -> Result<(), F
     ensures others { (d : ℕ) → d ≢ dev → G.seen rig.new d ≡ G.seen rig.old d }
     ensures others_leave { (d : ℕ) → d ≢ dev → LeavesSame (G.leaves rig.old d) (G.leaves rig.new d) }
     ensures time { Elapses (G.moment rig.old) (G.moment rig.new) (G.since rig.old) (G.since rig.new) }
-    ensures tick { OnOk result (G.moment rig.new ≡ G.moment rig.old + (if closing then 2 else 0)) }
+    ensures tick { OnOk result (G.moment rig.new ≡ G.moment rig.old + (if is_open then 2 else 0)) }
     ensures cause { OnErr result (Rises (G.faults rig.old) (G.faults rig.new)) }
     ensures quiet { OnOk result (G.faults rig.new ≡ G.faults rig.old) }
     ensures count { G.faults rig.old ≤ G.faults rig.new }
 {
-    if !closing {
+    if !is_open {
         return Ok(());
     }
-    write_synced(rig, dev, gate, &[0])
-}
-
-// Fills a slot whose gate is closed, and then opens it.
-fn fill<G: Rig>(rig: &mut G, dev: u8, gate: u32, body: &[u8]) -> Result<(), Failed>
-    requires device { dev ≤ 8 }
-    requires range { gate + 1 + length body.now ≤ device_len dev }
-    requires stable { LeavesOnly (G.seen rig.old dev) (G.leaves rig.old dev) }
-    requires closed { twin.is_open gate (G.seen rig.old dev) ≡ false }
-    ensures filled { OnOk result ((twin.is_open gate (G.seen rig.new dev) ≡ true) × (twin.body_at (length body.now) gate (G.seen rig.new dev) ≡ body.now)) }
-    ensures durable { OnOk result (LeavesOnly (G.seen rig.new dev) (G.leaves rig.new dev)) }
-    ensures outside { AgreesOutside gate (length body.now + 1) (G.seen rig.old dev) (G.seen rig.new dev) }
-    ensures whole { (twin.is_open gate (G.seen rig.new dev) ≡ false) ⊎ (twin.body_at (length body.now) gate (G.seen rig.new dev) ≡ body.now) }
-    ensures any_moment { Span (G.moment rig.old) (G.since rig.new) (Fills dev gate (length body.now) body.now (G.seen rig.old) (G.leaves rig.old)) }
-    ensures others { (d : ℕ) → d ≢ dev → G.seen rig.new d ≡ G.seen rig.old d }
-    ensures others_leave { (d : ℕ) → d ≢ dev → LeavesSame (G.leaves rig.old d) (G.leaves rig.new d) }
-    ensures time { Elapses (G.moment rig.old) (G.moment rig.new) (G.since rig.old) (G.since rig.new) }
-    ensures tick { OnOk result (G.moment rig.new ≡ G.moment rig.old + 4) }
-    ensures cause { OnErr result (Rises (G.faults rig.old) (G.faults rig.new)) }
-    ensures quiet { OnOk result (G.faults rig.new ≡ G.faults rig.old) }
-    ensures count { G.faults rig.old ≤ G.faults rig.new }
-{
-    write_synced(rig, dev, gate + 1, body)?;
-    write_synced(rig, dev, gate, &[OPEN])
+    close(rig, dev, gate)
 }
 
 // The gate of the slot that a put fills, and whether it is open.
 fn target(t: Twin, old: Chosen) -> (u32, bool)
-    requires range { t.at + twin_len t.body ≤ device_len t.dev }
+    requires range { t.at + slots_len t.body ≤ device_len t.dev }
     ensures gate { result.0 ≡ filled_gate (slot old) t.at t.body }
     ensures open { result.1 ≡ filled_open (slot old) }
 {
@@ -101,7 +60,7 @@ fn target(t: Twin, old: Chosen) -> (u32, bool)
 pub fn put<G: Rig>(rig: &mut G, t: Twin, old: Chosen, body: &[u8]) -> Result<(), Failed>
     requires device { t.dev ≤ 8 }
     requires numbered { 8 ≤ t.body }
-    requires range { t.at + twin_len t.body ≤ device_len t.dev }
+    requires range { t.at + slots_len t.body ≤ device_len t.dev }
     requires length { length body.now ≡ t.body }
     requires stable { LeavesOnly (G.seen rig.old t.dev) (G.leaves rig.old t.dev) }
     requires chosen { twin.chosen_slot t.at t.body (G.seen rig.old t.dev) ≡ slot old }
@@ -115,7 +74,7 @@ pub fn put<G: Rig>(rig: &mut G, t: Twin, old: Chosen, body: &[u8]) -> Result<(),
     // A crash during the call, or after it, leaves the old body or the new one, and so does a read.
     ensures any_moment { Span (G.moment rig.old) (G.since rig.new) (Puts t.dev t.at t.body body.now (G.seen rig.old) (G.leaves rig.old)) }
     ensures whole { (twin.chosen_body t.at t.body (G.seen rig.new t.dev) ≡ twin.chosen_body t.at t.body (G.seen rig.old t.dev)) ⊎ (twin.chosen_body t.at t.body (G.seen rig.new t.dev) ≡ Some body.now) }
-    ensures outside { AgreesOutside t.at (twin_len t.body) (G.seen rig.old t.dev) (G.seen rig.new t.dev) }
+    ensures outside { AgreesOutside t.at (slots_len t.body) (G.seen rig.old t.dev) (G.seen rig.new t.dev) }
     ensures others { (d : ℕ) → d ≢ t.dev → G.seen rig.new d ≡ G.seen rig.old d }
     ensures others_leave { (d : ℕ) → d ≢ t.dev → LeavesSame (G.leaves rig.old d) (G.leaves rig.new d) }
     ensures time { Elapses (G.moment rig.old) (G.moment rig.new) (G.since rig.old) (G.since rig.new) }
@@ -125,7 +84,7 @@ pub fn put<G: Rig>(rig: &mut G, t: Twin, old: Chosen, body: &[u8]) -> Result<(),
     ensures quiet { OnOk result (G.faults rig.new ≡ G.faults rig.old) }
     ensures count { G.faults rig.old ≤ G.faults rig.new }
 {
-    let (gate, closing) = target(t, old);
-    close(rig, t.dev, gate, closing)?;
+    let (gate, is_open) = target(t, old);
+    make_closed(rig, t.dev, gate, is_open)?;
     fill(rig, t.dev, gate, body)
 }

@@ -2,11 +2,11 @@
 
 ghost use Rattle.std.specs.Prelude.{◌≡◌, ◌*◌, ◌<◌, ◌≤◌, length, option_copied, IfSome, IsTrue, OnOk};
 ghost use Rattle.sd_rig.specs.Devices.{LeavesOnly};
-ghost use Rattle.sd_base.specs.Twin.{number_of};
+ghost use Rattle.sd_base.specs.Twin as twin;
 
 use super::*;
-use crate::twin::{OPEN, number_at};
 use sd_base::{Failed, Pick, Trouble};
+use sd_gate::{is_open, number_of};
 use sd_rig::{MemRig, Rig};
 use std::test::Fail;
 
@@ -39,11 +39,11 @@ fn body_of(number: u8) -> [u8; BODY] {
 fn is_greater(body: &[u8], counts: Option<&[u8]>) -> bool
     requires body { 8 ≤ length body.now }
     requires counts { IfSome (option_copied counts) (λ b. 8 ≤ length b) }
-    ensures { IsTrue result → IfSome (option_copied counts.entry) (λ b. number_of b < number_of body.now) }
+    ensures { IsTrue result → IfSome (option_copied counts.entry) (λ b. twin.number_of b < twin.number_of body.now) }
 {
     match counts {
         None => true,
-        Some(counts) => number_at(counts, 0) < number_at(body, 0),
+        Some(counts) => number_of(counts) < number_of(body),
     }
 }
 
@@ -57,7 +57,7 @@ fn put_next<G: Rig>(rig: &mut G, page: u32, number: u8) -> Result<Option<Chosen>
     let body = body_of(number);
     let mut both = [0u8; BOTH];
     let old = choose(rig, t, &mut both)?;
-    if old == Chosen::Same || !is_greater(&body, old.body(t, &both)) {
+    if old == Chosen::Same || !is_greater(&body, old.body(t.body as usize, &both)) {
         return Ok(None);
     }
     put(rig, t, old, &body)?;
@@ -68,7 +68,7 @@ fn put_next<G: Rig>(rig: &mut G, page: u32, number: u8) -> Result<Option<Chosen>
 fn is_whole(slot: &[u8], puts: u8) -> bool
     requires { length slot.now ≡ 1025 }
 {
-    slot[0] != OPEN || (1..=puts).any(|number| &slot[1..] == body_of(number).as_slice())
+    !is_open(slot, 0) || (1..=puts).any(|number| &slot[1..] == body_of(number).as_slice())
 }
 
 fn are_whole(both: &[u8], puts: u8) -> bool
@@ -89,9 +89,9 @@ fn stands(rig: &mut MemRig, page: u32, puts: u8) -> Result<bool, Fail>
     if !are_whole(&both, puts) {
         return Ok(false);
     }
-    let number = match counts.body(t, &both) {
+    let number = match counts.body(t.body as usize, &both) {
         None => return Ok(false),
-        Some(body) => number_at(body, 0),
+        Some(body) => number_of(body),
     };
     Ok(number == u64::from(puts) || number == u64::from(puts) - 1)
 }
@@ -178,7 +178,7 @@ fn puts_fill_the_slots_in_turn(rt: HostRuntime) -> Result<(), Fail> {
     let mut both = [0u8; BOTH];
     let counts = choose(&mut rig, t, &mut both)?;
     assert_eq!(rt; counts, Chosen::First { other: true });
-    let body = counts.body(t, &both).ok_or("a body")?;
+    let body = counts.body(t.body as usize, &both).ok_or("a body")?;
     assert!(rt; body == body_of(3).as_slice());
     assert_eq!(rt; rig.short(), 0);
     Ok(())

@@ -2,41 +2,43 @@ use Rattle.std.proofs.Common.{◌≡◌, ◌⊎◌, ◌+◌, ℕ, List, length, 
 use Rattle.sd_base.specs.Twin.{body_at, is_open}
 use Rattle.sd_rig.specs.Devices.{AgreesOutside}
 use Rattle.sd_rig.specs.Spans.{elapses-then, span-then, span-weaker}
-use Rattle.sd_twin.specs.Puts.{Closes, Fills, Puts, filled_gate, slot}
+use Rattle.sd_gate.specs.Gates.{Closes, Fills}
+use Rattle.sd_gate.specs.Slots.{slot}
+use Rattle.sd_gate.proofs.Gates.{on_ok_from}
+use Rattle.sd_twin.specs.Puts.{Puts, filled_gate}
 use Rattle.sd_twin.proofs.Choice.{closing_counts, filling_counts, kept_same, new_counts, new_slot}
-use Rattle.sd_twin.proofs.Filling.{on_ok_from}
 use Rattle.sd_twin.proofs.Images.{puts_close, puts_fill, slot_after, slot_differs, twin_outside}
 use Rattle.sd_twin.proofs.putting.put.Goals as goal
 
-pub returns-in_err-close-clause-any_moment : goal.returns-in_err-close-clause-any_moment
-returns-in_err-close-clause-any_moment g c =
+pub returns-in_err-make_closed-clause-any_moment : goal.returns-in_err-make_closed-clause-any_moment
+returns-in_err-make_closed-clause-any_moment g c =
     let r = g.G.Rig in
     let t = c.args.t in
     let zero = c.args.rig.now in
-    let one = c.close.new.rig in
+    let one = c.make_closed.new.rig in
     span-weaker (r.moment zero) (r.since one) (Closes t.dev c.target-gate.result.0 (r.seen zero) (r.leaves zero)) (Puts t.dev t.at t.body c.args.body.now (r.seen zero) (r.leaves zero))
     (λ img w. puts_close (slot c.args.old) t.dev c.target-gate.result.0 t.at t.body c.args.body.now (r.seen zero) (r.leaves zero) img c.target-gate.ensures.gate c.requires.chosen (slot_differs c.args.old c.requires.differs) w)
-    c.close.ensures.any_moment
+    c.make_closed.ensures.any_moment
 
-pub returns-in_err-close-clause-whole : goal.returns-in_err-close-clause-whole
-returns-in_err-close-clause-whole g c =
+pub returns-in_err-make_closed-clause-whole : goal.returns-in_err-make_closed-clause-whole
+returns-in_err-make_closed-clause-whole g c =
     let r = g.G.Rig in
     let t = c.args.t in
     let s = slot c.args.old in
     let before : List ℕ = r.seen c.args.rig.now t.dev in
-    let after : List ℕ = r.seen c.close.new.rig t.dev in
+    let after : List ℕ = r.seen c.make_closed.new.rig t.dev in
     let gate : c.target-gate.result.0 ≡ filled_gate s t.at t.body = c.target-gate.ensures.gate in
     inl (closing_counts s t.at t.body before after c.requires.chosen (slot_differs c.args.old c.requires.differs)
-    (subst (λ p. AgreesOutside p 1 before after) gate c.close.ensures.outside)
-    (subst (λ p. is_open p after ≡ true → is_open p before ≡ true) gate c.close.ensures.shut))
+    (subst (λ p. AgreesOutside p 1 before after) gate c.make_closed.ensures.outside)
+    (subst (λ p. is_open p after ≡ true → is_open p before ≡ true) gate c.make_closed.ensures.shut))
 
-pub returns-in_err-close-clause-outside : goal.returns-in_err-close-clause-outside
-returns-in_err-close-clause-outside g c =
+pub returns-in_err-make_closed-clause-outside : goal.returns-in_err-make_closed-clause-outside
+returns-in_err-make_closed-clause-outside g c =
     let r = g.G.Rig in
     let t = c.args.t in
     let before : List ℕ = r.seen c.args.rig.now t.dev in
-    let after : List ℕ = r.seen c.close.new.rig t.dev in
-    twin_outside (slot c.args.old) t.at t.body 1 before after (omega arith) (subst (λ p. AgreesOutside p 1 before after) c.target-gate.ensures.gate c.close.ensures.outside)
+    let after : List ℕ = r.seen c.make_closed.new.rig t.dev in
+    twin_outside (slot c.args.old) t.at t.body 1 before after (omega arith) (subst (λ p. AgreesOutside p 1 before after) c.target-gate.ensures.gate c.make_closed.ensures.outside)
 
 pub returns-clause-outside : goal.returns-clause-outside
 returns-clause-outside g c =
@@ -45,11 +47,11 @@ returns-clause-outside g c =
     let s = slot c.args.old in
     let body : List ℕ = c.args.body.now in
     let before : List ℕ = r.seen c.args.rig.now t.dev in
-    let one : List ℕ = r.seen c.close.new.rig t.dev in
+    let one : List ℕ = r.seen c.make_closed.new.rig t.dev in
     let after : List ℕ = r.seen c.fill.new.rig t.dev in
     let gate : c.target-gate.result.0 ≡ filled_gate s t.at t.body = c.target-gate.ensures.gate in
     let len : length body ≡ t.body = c.requires.length in
-    let first : AgreesOutside (filled_gate s t.at t.body) 1 before one = subst (λ p. AgreesOutside p 1 before one) gate c.in_ok-close.ensures.outside in
+    let first : AgreesOutside (filled_gate s t.at t.body) 1 before one = subst (λ p. AgreesOutside p 1 before one) gate c.in_ok-make_closed.ensures.outside in
     let second : AgreesOutside (filled_gate s t.at t.body) (t.body + 1) one after = subst (λ m. AgreesOutside (filled_gate s t.at t.body) (m + 1) one after) len (subst (λ p. AgreesOutside p (length body + 1) one after) gate c.fill.ensures.outside) in
     let all = slot_after (filled_gate s t.at t.body) t.body before one after first second in
     twin_outside s t.at t.body (t.body + 1) before after (omega arith) all
@@ -61,11 +63,11 @@ returns-clause-body g c =
     let s = slot c.args.old in
     let body : List ℕ = c.args.body.now in
     let before : List ℕ = r.seen c.args.rig.now t.dev in
-    let one : List ℕ = r.seen c.close.new.rig t.dev in
+    let one : List ℕ = r.seen c.make_closed.new.rig t.dev in
     let after : List ℕ = r.seen c.fill.new.rig t.dev in
     let gate : c.target-gate.result.0 ≡ filled_gate s t.at t.body = c.target-gate.ensures.gate in
     let len : length body ≡ t.body = c.requires.length in
-    let first : AgreesOutside (filled_gate s t.at t.body) 1 before one = subst (λ p. AgreesOutside p 1 before one) gate c.in_ok-close.ensures.outside in
+    let first : AgreesOutside (filled_gate s t.at t.body) 1 before one = subst (λ p. AgreesOutside p 1 before one) gate c.in_ok-make_closed.ensures.outside in
     let second : AgreesOutside (filled_gate s t.at t.body) (t.body + 1) one after = subst (λ m. AgreesOutside (filled_gate s t.at t.body) (m + 1) one after) len (subst (λ p. AgreesOutside p (length body + 1) one after) gate c.fill.ensures.outside) in
     let all = slot_after (filled_gate s t.at t.body) t.body before one after first second in
     let ne = slot_differs c.args.old c.requires.differs in
@@ -84,11 +86,11 @@ returns-clause-slot g c =
     let s = slot c.args.old in
     let body : List ℕ = c.args.body.now in
     let before : List ℕ = r.seen c.args.rig.now t.dev in
-    let one : List ℕ = r.seen c.close.new.rig t.dev in
+    let one : List ℕ = r.seen c.make_closed.new.rig t.dev in
     let after : List ℕ = r.seen c.fill.new.rig t.dev in
     let gate : c.target-gate.result.0 ≡ filled_gate s t.at t.body = c.target-gate.ensures.gate in
     let len : length body ≡ t.body = c.requires.length in
-    let first : AgreesOutside (filled_gate s t.at t.body) 1 before one = subst (λ p. AgreesOutside p 1 before one) gate c.in_ok-close.ensures.outside in
+    let first : AgreesOutside (filled_gate s t.at t.body) 1 before one = subst (λ p. AgreesOutside p 1 before one) gate c.in_ok-make_closed.ensures.outside in
     let second : AgreesOutside (filled_gate s t.at t.body) (t.body + 1) one after = subst (λ m. AgreesOutside (filled_gate s t.at t.body) (m + 1) one after) len (subst (λ p. AgreesOutside p (length body + 1) one after) gate c.fill.ensures.outside) in
     let all = slot_after (filled_gate s t.at t.body) t.body before one after first second in
     let ne = slot_differs c.args.old c.requires.differs in
@@ -107,11 +109,11 @@ returns-clause-whole g c =
     let s = slot c.args.old in
     let body : List ℕ = c.args.body.now in
     let before : List ℕ = r.seen c.args.rig.now t.dev in
-    let one : List ℕ = r.seen c.close.new.rig t.dev in
+    let one : List ℕ = r.seen c.make_closed.new.rig t.dev in
     let after : List ℕ = r.seen c.fill.new.rig t.dev in
     let gate : c.target-gate.result.0 ≡ filled_gate s t.at t.body = c.target-gate.ensures.gate in
     let len : length body ≡ t.body = c.requires.length in
-    let first : AgreesOutside (filled_gate s t.at t.body) 1 before one = subst (λ p. AgreesOutside p 1 before one) gate c.in_ok-close.ensures.outside in
+    let first : AgreesOutside (filled_gate s t.at t.body) 1 before one = subst (λ p. AgreesOutside p 1 before one) gate c.in_ok-make_closed.ensures.outside in
     let second : AgreesOutside (filled_gate s t.at t.body) (t.body + 1) one after = subst (λ m. AgreesOutside (filled_gate s t.at t.body) (m + 1) one after) len (subst (λ p. AgreesOutside p (length body + 1) one after) gate c.fill.ensures.outside) in
     let all = slot_after (filled_gate s t.at t.body) t.body before one after first second in
     let ne = slot_differs c.args.old c.requires.differs in
@@ -121,7 +123,7 @@ returns-clause-whole g c =
 
 pub returns-clause-time : goal.returns-clause-time
 returns-clause-time g c =
-    elapses-then _ _ _ _ (g.G.Rig.since c.close.new.rig) _ (λ t u img le since. g.met.G.Rig.earlier c.fill.new.rig t u img le since) c.in_ok-close.ensures.time c.fill.ensures.time
+    elapses-then _ _ _ _ (g.G.Rig.since c.make_closed.new.rig) _ (λ t u img le since. g.met.G.Rig.earlier c.fill.new.rig t u img le since) c.in_ok-make_closed.ensures.time c.fill.ensures.time
 
 pub returns-clause-any_moment : goal.returns-clause-any_moment
 returns-clause-any_moment g c =
@@ -130,12 +132,12 @@ returns-clause-any_moment g c =
     let gate = c.target-gate.result.0 in
     let body : List ℕ = c.args.body.now in
     let zero = c.args.rig.now in
-    let one = c.close.new.rig in
+    let one = c.make_closed.new.rig in
     let two = c.fill.new.rig in
     let ne = slot_differs c.args.old c.requires.differs in
-    let time = c.in_ok-close.ensures.time in
+    let time = c.in_ok-make_closed.ensures.time in
     span-then (r.moment zero) (r.moment one) (r.moment two) (r.since one) (r.since two) (Puts t.dev t.at t.body body (r.seen zero) (r.leaves zero)) time.later c.fill.ensures.time
     (span-weaker (r.moment zero) (r.since one) (Closes t.dev gate (r.seen zero) (r.leaves zero)) (Puts t.dev t.at t.body body (r.seen zero) (r.leaves zero))
-    (λ img w. puts_close (slot c.args.old) t.dev gate t.at t.body body (r.seen zero) (r.leaves zero) img c.target-gate.ensures.gate c.requires.chosen ne w) c.in_ok-close.ensures.any_moment)
+    (λ img w. puts_close (slot c.args.old) t.dev gate t.at t.body body (r.seen zero) (r.leaves zero) img c.target-gate.ensures.gate c.requires.chosen ne w) c.in_ok-make_closed.ensures.any_moment)
     (span-weaker (r.moment one) (r.since two) (Fills t.dev gate (length body) body (r.seen one) (r.leaves one)) (Puts t.dev t.at t.body body (r.seen zero) (r.leaves zero))
-    (λ img w. puts_fill (slot c.args.old) t.dev gate t.at t.body body (r.seen zero) (r.seen one) (r.leaves zero) (r.leaves one) img c.target-gate.ensures.gate c.requires.length c.requires.chosen ne c.requires.greater c.in_ok-close.ensures.outside c.in_ok-close.ensures.others_leave w) c.fill.ensures.any_moment)
+    (λ img w. puts_fill (slot c.args.old) t.dev gate t.at t.body body (r.seen zero) (r.seen one) (r.leaves zero) (r.leaves one) img c.target-gate.ensures.gate c.requires.length c.requires.chosen ne c.requires.greater c.in_ok-make_closed.ensures.outside c.in_ok-make_closed.ensures.others_leave w) c.fill.ensures.any_moment)

@@ -1,5 +1,5 @@
 use Rattle.std.proofs.Common.{◌∙◌}
-use Rattle.sd_twin.proofs.Parts.{body_read, chosen_read}
+use Rattle.sd_gate.proofs.Parts.{body_read, chosen_read}
 use Rattle.sd_twin.proofs.twin.choose.Goals as goal
 
 pub returns-clause-chosen : goal.returns-clause-chosen

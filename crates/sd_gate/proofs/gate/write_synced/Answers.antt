@@ -1,5 +1,5 @@
 use Rattle.sd_rig.specs.Spans.{elapses-then}
-use Rattle.sd_twin.proofs.putting.write_synced.Goals as goal
+use Rattle.sd_gate.proofs.gate.write_synced.Goals as goal
 
 pub returns-clause-time : goal.returns-clause-time
 returns-clause-time g c =

@@ -1,9 +1,9 @@
 use Rattle.std.proofs.Common.{◌≡◌, ◌+◌, length, ◌∙◌, arith}
 use Rattle.sd_base.specs.Twin.{body_at}
 use Rattle.sd_rig.specs.Spans.{elapses-then, span-then, span-weaker}
-use Rattle.sd_twin.specs.Puts.{Fills, Writes}
-use Rattle.sd_twin.proofs.Filling.{fills_first, fills_second, on_ok_from, outside_slot, same_body, written_body, written_gate}
-use Rattle.sd_twin.proofs.putting.fill.Goals as goal
+use Rattle.sd_gate.specs.Gates.{Fills, Writes}
+use Rattle.sd_gate.proofs.Gates.{fills_while_written, fills_while_opened, on_ok_from, outside_slot, same_body, written_body, written_gate}
+use Rattle.sd_gate.proofs.gate.fill.Goals as goal
 
 pub returns-clause-filled : goal.returns-clause-filled
 returns-clause-filled g c =
@@ -36,9 +36,9 @@ returns-clause-any_moment g c =
     let time = c.in_ok-write_synced.ensures.time in
     span-then (r.moment zero) (r.moment one) (r.moment two) (r.since one) (r.since two) (Fills dev gate (length body) body (r.seen zero) (r.leaves zero)) time.later c.write_synced-2.ensures.time
     (span-weaker (r.moment zero) (r.since one) (Writes dev (gate + 1) (length body) (r.seen zero) (r.leaves zero)) (Fills dev gate (length body) body (r.seen zero) (r.leaves zero))
-    (λ img w. fills_first dev gate body (r.seen zero) (r.leaves zero) img c.requires.closed w) c.in_ok-write_synced.ensures.any_moment)
+    (λ img w. fills_while_written dev gate body (r.seen zero) (r.leaves zero) img c.requires.closed w) c.in_ok-write_synced.ensures.any_moment)
     (span-weaker (r.moment one) (r.since two) (Writes dev gate 1 (r.seen one) (r.leaves one)) (Fills dev gate (length body) body (r.seen zero) (r.leaves zero))
-    (λ img w. fills_second dev gate body (r.seen zero) (r.seen one) (r.leaves zero) (r.leaves one) img c.in_ok-write_synced.ensures.outside whole c.in_ok-write_synced.ensures.others_leave w) c.write_synced-2.ensures.any_moment)
+    (λ img w. fills_while_opened dev gate body (r.seen zero) (r.seen one) (r.leaves zero) (r.leaves one) img c.in_ok-write_synced.ensures.outside whole c.in_ok-write_synced.ensures.others_leave w) c.write_synced-2.ensures.any_moment)
 
 pub returns-clause-outside : goal.returns-clause-outside
 returns-clause-outside g c =

@@ -1,11 +1,11 @@
--- What crashes leave while a slot is closed, and while it is filled and opened. It serves the goals of putting.rt.
-use Rattle.std.proofs.Common.{◌≡◌, ◌≢◌, ◌⊎◌, inl, inr, ℕ, ◌+◌, ◌<◌, ◌≤◌, true, false, List, [], ◌∷◌, length, take, drop, get_or, sym, ap, ◌∙◌, subst, arith}
+-- What crashes leave while a gate is closed, and while bytes are written behind it and it is opened. It serves the goals of gate.rt.
+use Rattle.std.proofs.Common.{◌≡◌, ◌≢◌, ◌⊎◌, inl, inr, ℕ, ◌+◌, ◌<◌, ◌≤◌, false, List, [], ◌∷◌, length, take, drop, get_or, sym, ap, ◌∙◌, subst, arith}
 use Rattle.std.specs.Prelude.{◌==◌, Result, Ok, Err, OnOk}
 use Rattle.std.proofs.lemmas.List.{get_or-drop, get_or-take}
 use Rattle.sd_base.specs.Twin.{body_at, is_open}
 use Rattle.sd_rig.specs.Devices.{AgreesOutside, Image, Leaves, LeavesOnly, LeavesSame, overwritten}
 use Rattle.sd_rig.specs.Ranges.{outside_behind, outside_place, outside_same, outside_then, outside_wider, written_part}
-use Rattle.sd_twin.specs.Puts.{Closes, Fills, LeavesOthers, Writes}
+use Rattle.sd_gate.specs.Gates.{Closes, Fills, LeavesOthers, Writes}
 
 -- a gate that a write doesn't reach
 pub same_gate : (at n gate : ℕ) (old new : List ℕ) → AgreesOutside at n old new → (gate < at) ⊎ (at + n ≤ gate) → is_open gate new ≡ is_open gate old
@@ -39,24 +39,21 @@ closes_none dev gate seen leaves img le only left =
       shut = λ shown. ap (is_open gate) (sym here) ∙ shown;
     }
 
-pub closes_write : (dev gate : ℕ) (seen : Image) (leaves : ℕ → List ℕ → Type 0) (img : Image) → is_open gate (seen dev) ≡ true → Writes dev gate 1 seen leaves img → Closes dev gate seen leaves img
-closes_write dev gate seen leaves img shown w = record { others = w.others; outside = w.outside; shut = λ _. shown }
-
 pub outside_slot : (gate n : ℕ) (a b c : List ℕ) → AgreesOutside (gate + 1) n a b → AgreesOutside gate 1 b c → AgreesOutside gate (n + 1) a c
 outside_slot gate n a b c f g =
     outside_then gate (n + 1) a b c (outside_wider gate (n + 1) (gate + 1) n a b f (omega arith) (omega arith)) (outside_wider gate (n + 1) gate 1 b c g (omega arith) (omega arith))
 
 -- while the body is written the gate is closed
-pub fills_first : (dev gate : ℕ) (body : List ℕ) (seen : Image) (leaves : ℕ → List ℕ → Type 0) (img : Image) → is_open gate (seen dev) ≡ false → Writes dev (gate + 1) (length body) seen leaves img → Fills dev gate (length body) body seen leaves img
-fills_first dev gate body seen leaves img closed w = record {
+pub fills_while_written : (dev gate : ℕ) (body : List ℕ) (seen : Image) (leaves : ℕ → List ℕ → Type 0) (img : Image) → is_open gate (seen dev) ≡ false → Writes dev (gate + 1) (length body) seen leaves img → Fills dev gate (length body) body seen leaves img
+fills_while_written dev gate body seen leaves img closed w = record {
   others = w.others;
   outside = outside_wider gate (length body + 1) (gate + 1) (length body) (seen dev) (img dev) w.outside (omega arith) (omega arith);
   whole = inl (same_gate (gate + 1) (length body) gate (seen dev) (img dev) w.outside (inl (omega arith)) ∙ closed);
 }
 
 -- while the gate is written the body is whole
-pub fills_second : (dev gate : ℕ) (body : List ℕ) (seen seen' : Image) (leaves leaves' : ℕ → List ℕ → Type 0) (img : Image) → AgreesOutside (gate + 1) (length body) (seen dev) (seen' dev) → body_at (length body) gate (seen' dev) ≡ body → ((d : ℕ) → d ≢ dev → LeavesSame (leaves d) (leaves' d)) → Writes dev gate 1 seen' leaves' img → Fills dev gate (length body) body seen leaves img
-fills_second dev gate body seen seen' leaves leaves' img first whole same w = record {
+pub fills_while_opened : (dev gate : ℕ) (body : List ℕ) (seen seen' : Image) (leaves leaves' : ℕ → List ℕ → Type 0) (img : Image) → AgreesOutside (gate + 1) (length body) (seen dev) (seen' dev) → body_at (length body) gate (seen' dev) ≡ body → ((d : ℕ) → d ≢ dev → LeavesSame (leaves d) (leaves' d)) → Writes dev gate 1 seen' leaves' img → Fills dev gate (length body) body seen leaves img
+fills_while_opened dev gate body seen seen' leaves leaves' img first whole same w = record {
   others = others_from dev leaves leaves' img same w.others;
   outside = outside_slot gate (length body) (seen dev) (seen' dev) (img dev) first w.outside;
   whole = inr (same_body gate (length body) (seen' dev) (img dev) w.outside ∙ whole);
