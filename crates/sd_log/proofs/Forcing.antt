@@ -13,7 +13,8 @@ use Rattle.sd_logrec.proofs.Lengths.{length-four}
 use Rattle.sd_rig.specs.Devices.{AgreesOutside, Image}
 use Rattle.sd_rig.specs.Ranges.{outside_before}
 use Rattle.sd_log.specs.Buffers.{framed}
-use Rattle.sd_log.specs.Forces.{Fills, Forces, StandsEither, forced_at, forced_len}
+use Rattle.sd_gate.specs.Gates.{Fills}
+use Rattle.sd_log.specs.Forces.{Forces, StandsEither, forced_at, forced_len}
 use Rattle.sd_log.specs.declared.log.Log.TheInside.{Inside}
 use Rattle.sd_log.specs.LogInside.{IsLog, log_view}
 use Rattle.sd_log.specs.Logs.{LogState, StandsOn, forced, forced_with, tail_group, tail_len}

@@ -1,6 +1,6 @@
+pub mod Counted
 pub mod Forcing
 pub mod Fronts
-pub mod Gates
 pub mod Journaling
 pub mod Parted
 pub mod Bodies

@@ -1,5 +1,5 @@
 -- The records that are read have a spelling. It serves the goals of log.rt.
-use Rattle.std.proofs.Common.{◌≡◌, ℕ, zero, suc, ◌+◌, Bool, true, false, List, [], ◌∷◌, ◌++◌, length, take, drop, refl, sym, ap, ◌∙◌, subst}
+use Rattle.std.proofs.Common.{◌≡◌, ℕ, zero, suc, ◌+◌, ◌*◌, ◌≤◌, Bool, true, false, List, [], ◌∷◌, ◌++◌, length, take, drop, refl, sym, ap, ◌∙◌, subst, arith, length-append}
 use Rattle.std.specs.Prelude.{Result, Ok, Err, Option, Some, None, map}
 use Rattle.std.specs.List.{AllByRecursion}
 use Rattle.std.proofs.lemmas.List.Elements.{All-from_recursion}
@@ -11,11 +11,12 @@ use Rattle.sd_logrec.specs.Reading.{record_at}
 use Rattle.sd_logrec.specs.Spelling.{HasSpelling, spelling}
 use Rattle.sd_logrec.proofs.Formats.{IsBytes, IsBytes-drop, IsBytes-take}
 use Rattle.sd_logrec.proofs.Records.{record_takes}
+use Rattle.sd_logrec.proofs.WholeFronts.{step}
 use Rattle.std.proofs.lemmas.List.{drop_at}
 use Rattle.sd_log.specs.declared.placed.Placed.{Placed}
 use Rattle.sd_log.specs.Logs.{AreSpelled}
 use Rattle.sd_log.specs.Marks.{entry}
-use Rattle.sd_log.proofs.Fronts.{step}
+use Rattle.sd_log.proofs.Tails.{least_spelling}
 
 -- placed records of the grammar
 abbrev pub Spelled : Records → Type 0
@@ -52,6 +53,17 @@ within_spelled (suc n) at (b ∷ body) rs are e =
     let t = record_takes (b ∷ body) f.first are f.found in
     let more : Spelled f.more = within_spelled n (at + length (spelling f.first.0)) f.first.1 f.more (behind_bytes (spelling f.first.0) f.first.1 (b ∷ body) t.0 are) f.rest in
     subst Spelled (sym f.all) (t.1, more)
+
+-- each record of a body takes nine bytes of it at least
+pub within_bytes : (n at : ℕ) (body : List ℕ) (rs : Records) → IsBytes body → records_within n at body ≡ Ok rs → 9 * length rs ≤ length body
+unfolding records_within
+within_bytes n at [] rs are e = let none : rs ≡ [] = cc in omega (arith, ap length none)
+within_bytes zero at (b ∷ body) rs are e = absurd (cc)
+within_bytes (suc n) at (b ∷ body) rs are e =
+    let f = then_ok at (record_at (b ∷ body)) (records_within n) rs e in
+    let t = record_takes (b ∷ body) f.first are f.found in
+    let more = within_bytes n (at + length (spelling f.first.0)) f.first.1 f.more (behind_bytes (spelling f.first.0) f.first.1 (b ∷ body) t.0 are) f.rest in
+    omega (arith, more, ap length f.all, ap length t.0, length-append (spelling f.first.0) f.first.1, least_spelling f.first.0)
 
 -- ---- in front of what breaks the format
 

@@ -43,7 +43,9 @@ reserved_spelling r e = omega (arith, length-spelling r, reserved_length r e)
 
 -- what putting a record makes of the parts
 pub record Puts (l : Inside) (r : Record) (kept : ℕ) (journal : JournalState) (tail : BufferState) : Type 0 where
+  pub start_is : journal.start ≡ l.journal.start
   pub gate_is : journal.gate ≡ l.journal.gate
+  pub groups_is : journal.groups ≡ l.journal.groups
   pub tail_is : journal.tail ≡ l.journal.tail ++ r ∷ []
   pub text_is : tail.text ≡ l.tail.text ++ spelling r
   pub fits_record : HasSpelling r
@@ -61,6 +63,7 @@ put_is l r kept journal tail h p =
     record {
       text_is = p.text_is ∙ ap (λ (x : List ℕ). x ++ spelling r) h.text_is ∙ sym (spelled-more l.journal.tail r) ∙ ap spelled (sym p.tail_is);
       spelled_ones = rw p.tail_is (all-more HasSpelling l.journal.tail r h.spelled_ones p.fits_record);
+      forced_are = rw (p.start_is, p.gate_is, p.groups_is) h.forced_are;
       gate_within = omega arith;
       fits = λ _. omega arith;
       least = λ _. omega arith;

@@ -1,23 +1,8 @@
--- What a crash may leave of the devices while a group is written, and of a log that is forced.
-use Rattle.std.specs.Prelude.{◌≡◌, ◌≢◌, ◌⊎◌, ℕ, ◌+◌, ◌≤◌, false, List}
-use Rattle.sd_base.specs.Twin.{body_at, is_open}
+-- What a crash may leave of the devices while a log is forced.
+use Rattle.std.specs.Prelude.{◌⊎◌, ℕ, ◌+◌, List}
 use Rattle.sd_rig.specs.Devices.{AgreesOutside, Image}
+use Rattle.sd_gate.specs.Gates.{LeavesOthers}
 use Rattle.sd_log.specs.Logs.{LogState, StandsOn, forced, tail_len}
-
--- Each other device is left as it might be before.
-abbrev pub LeavesOthers : ℕ → (ℕ → List ℕ → Type 0) → Image → Type 0
-LeavesOthers dev leaves img = (d : ℕ) → d ≤ 8 → d ≢ dev → leaves d (img d)
-
--- An image in which n bytes at this place of a device may be any.
-pub record Writes (dev at n : ℕ) (seen : Image) (leaves : ℕ → List ℕ → Type 0) (img : Image) : Type 0 where
-  pub others : LeavesOthers dev leaves img
-  pub outside : AgreesOutside at n (seen dev) (img dev)
-
--- An image in which the gate at this place is closed, or these bytes stand behind it, whole.
-pub record Fills (dev gate n : ℕ) (bytes : List ℕ) (seen : Image) (leaves : ℕ → List ℕ → Type 0) (img : Image) : Type 0 where
-  pub others : LeavesOthers dev leaves img
-  pub outside : AgreesOutside gate (n + 1) (seen dev) (img dev)
-  pub whole : (is_open gate (img dev) ≡ false) ⊎ (body_at n gate (img dev) ≡ bytes)
 
 -- the bytes of its device that a force of the log may change
 abbrev pub forced_at : LogState → ℕ

@@ -101,10 +101,6 @@ without_tail log = record { inst = log.inst; start = log.start; gate = log.gate;
 abbrev pub with_record : Record → ℕ → LogState → LogState
 with_record r spare log = record { inst = log.inst; start = log.start; gate = log.gate; groups = log.groups; tail = log.tail ++ r ∷ []; spare = spare }
 
--- with this memory
-abbrev pub with_spare : ℕ → LogState → LogState
-with_spare spare log = record { inst = log.inst; start = log.start; gate = log.gate; groups = log.groups; tail = log.tail; spare = spare }
-
 -- The log's groups stand on its device, with a closed gate behind them.
 abbrev pub StandsOn : LogState → List ℕ → Type 0
 StandsOn log device = reading log.start (area device) ≡ Whole log.groups log.gate

@@ -5,12 +5,13 @@ ghost use Rattle.sd_base.specs.Streams.{Rises};
 ghost use Rattle.sd_base.specs.Twin as twin;
 ghost use Rattle.sd_logrec.specs.Spelling.{HasSpelling, four, spelling};
 ghost use Rattle.sd_rig.specs.Devices.{AgreesOutside, Elapses, LeavesOnly, LeavesSame, Span, device_len};
+ghost use Rattle.sd_gate.specs.Gates.{Fills};
 ghost use Rattle.sd_log.specs.Buffers.{BufferState, framed};
-ghost use Rattle.sd_log.specs.Forces.{Fills};
 
-use crate::filling::fill;
+use byteorder::{BigEndian, ByteOrder};
 use sd_base::{Failed, Memory};
-use sd_logrec::Record;
+use sd_gate::fill;
+use sd_logrec::{GROUP_HEAD, Record};
 use sd_rig::Rig;
 use std::alloc::Global;
 use std::marker::Model;
@@ -86,16 +87,16 @@ impl Buffer {
     pub fn write<G: Rig>(&mut self, rig: &mut G, dev: u8, gate: u32) -> Result<(), Failed>
         requires device { dev ≤ 8 }
         requires short { length self.old.text < 2 ^ 32 }
-        requires range { gate + 1 + (4 + length self.old.text + 1) ≤ device_len dev }
+        requires range { gate + 1 + (HEAD + length self.old.text + 1) ≤ device_len dev }
         requires stable { LeavesOnly (G.seen rig.old dev) (G.leaves rig.old dev) }
         requires closed { twin.is_open gate (G.seen rig.old dev) ≡ false }
         ensures text { self.new.text ≡ self.old.text }
         ensures room { self.old.room ≤ self.new.room }
-        ensures filled { OnOk result ((twin.is_open gate (G.seen rig.new dev) ≡ true) × (twin.body_at (5 + length self.old.text) gate (G.seen rig.new dev) ≡ framed self.old.text)) }
+        ensures filled { OnOk result ((twin.is_open gate (G.seen rig.new dev) ≡ true) × (twin.body_at (GROUP_HEAD + length self.old.text) gate (G.seen rig.new dev) ≡ framed self.old.text)) }
         ensures durable { OnOk result (LeavesOnly (G.seen rig.new dev) (G.leaves rig.new dev)) }
-        ensures outside { AgreesOutside gate (5 + length self.old.text + 1) (G.seen rig.old dev) (G.seen rig.new dev) }
-        ensures whole { (twin.is_open gate (G.seen rig.new dev) ≡ false) ⊎ (twin.body_at (5 + length self.old.text) gate (G.seen rig.new dev) ≡ framed self.old.text) }
-        ensures any_moment { Span (G.moment rig.old) (G.since rig.new) (Fills dev gate (5 + length self.old.text) (framed self.old.text) (G.seen rig.old) (G.leaves rig.old)) }
+        ensures outside { AgreesOutside gate (GROUP_HEAD + length self.old.text + 1) (G.seen rig.old dev) (G.seen rig.new dev) }
+        ensures whole { (twin.is_open gate (G.seen rig.new dev) ≡ false) ⊎ (twin.body_at (GROUP_HEAD + length self.old.text) gate (G.seen rig.new dev) ≡ framed self.old.text) }
+        ensures any_moment { Span (G.moment rig.old) (G.since rig.new) (Fills dev gate (GROUP_HEAD + length self.old.text) (framed self.old.text) (G.seen rig.old) (G.leaves rig.old)) }
         ensures others { (d : ℕ) → d ≢ dev → G.seen rig.new d ≡ G.seen rig.old d }
         ensures others_leave { (d : ℕ) → d ≢ dev → LeavesSame (G.leaves rig.old d) (G.leaves rig.new d) }
         ensures time { Elapses (G.moment rig.old) (G.moment rig.new) (G.since rig.old) (G.since rig.new) }
@@ -114,17 +115,14 @@ impl Buffer {
 
 // Writes the group's length in front, and a closed gate behind.
 fn frame(bytes: &mut Vec<u8>)
-    requires head { 4 ≤ vec_len bytes.old }
-    requires short { vec_len bytes.old < 2 ^ 32 + 4 }
+    requires head { HEAD ≤ vec_len bytes.old }
+    requires short { vec_len bytes.old < 2 ^ 32 + HEAD }
     requires room { vec_len bytes.old + 1 ≤ vec_capacity bytes.old }
-    ensures items { bytes.new.items ≡ framed (drop 4 bytes.old.items) }
+    ensures items { bytes.new.items ≡ framed (drop HEAD bytes.old.items) }
     ensures len { vec_len bytes.new ≡ vec_len bytes.old + 1 }
     ensures capacity { vec_capacity bytes.old ≤ vec_capacity bytes.new }
 {
-    let head = ((bytes.len() - HEAD) as u32).to_be_bytes();
-    bytes[0] = head[0];
-    bytes[1] = head[1];
-    bytes[2] = head[2];
-    bytes[3] = head[3];
+    let len = (bytes.len() - HEAD) as u32;
+    BigEndian::write_u32(bytes, len);
     bytes.push(0).unwrap();
 }

@@ -8,7 +8,7 @@ ghost use Rattle.sd_log.specs.Marks.{as_forced, greatest_lsn, high_of};
 
 use crate::placed::Placed;
 use sd_base::{Lsn, Memory};
-use sd_logrec::Record;
+use sd_logrec::{GROUP_HEAD, Record};
 use std::alloc::Global;
 use std::marker::Model;
 
@@ -122,7 +122,7 @@ impl Journal {
     /// Puts a record at the end of the tail, without memory. `place` is where it comes to stand.
     pub fn push(&mut self, rec: Record, place: u32)
         requires room { 1 ≤ self.old.room }
-        requires place { place ≡ self.old.gate + 5 + length (spelled self.old.tail) }
+        requires place { place ≡ self.old.gate + GROUP_HEAD + length (spelled self.old.tail) }
         ensures { self.new ≡ pushed rec self.old }
     {
         let forced = false;
@@ -133,12 +133,12 @@ impl Journal {
     /// Makes the tail a group with a body of `len` bytes, without memory.
     pub fn settle(&mut self, len: u32)
         requires tail { self.old.tail ≢ [] }
-        requires fits { self.old.gate + 5 + len < 2 ^ 32 }
+        requires fits { self.old.gate + GROUP_HEAD + len < 2 ^ 32 }
         ensures { self.new ≡ settled len self.old }
     {
         let count = self.placed.len() - self.forced;
         let high = high_of(&self.marks).max(greatest_lsn(&self.placed[self.forced..]));
-        let end = self.gate + 5 + len;
+        let end = self.gate + GROUP_HEAD as u32 + len;
         mark_forced(&mut self.placed, self.forced);
         self.marks.push(Mark { end, count, high }).unwrap();
         self.gate = end;

@@ -2,14 +2,15 @@
 //!
 //! Meaning: a `Log` is its forced groups, the place of the next gate, and the tail (`LogState`, `specs/Logs.antt`); what
 //! its device stands for is `reading` (`specs/Kept.antt` of sd_logrec), and `StandsOn` says that it is these groups.
-//! Keeps: a closed gate stands behind the last group that is forced; no group passes the area's end.
+//! Keeps: a closed gate stands behind the last group that is forced; no group passes the area's end, and records of at
+//! least 9 bytes each are few (`keeps`).
 //! Promises: a crash at any moment of `force` leaves the log with its tail or without it (`any_moment`), and with it
 //! after `Ok` (`stands`, `durable`); `read_in` answers what the device stands for, and `of_area` what an area in memory
 //! does (`whole`, `bad_log`, `bad_record`), with the records in front of what breaks the format (`front`).
-//! Refuses: `LogFull` in `append`; `BadLog` and `BadRecord` in `read_in`, and as what `of_area` found; `Failed` only where
-//! the rig's count of faults rose.
+//! Refuses: `LogFull` in `append`, as `lacks_room` tells before; `BadLog` and `BadRecord` in `read_in`, and as what
+//! `of_area` found; `Failed` only where the rig's count of faults rose.
 //! Knows nothing of: pages, transactions, other logs, which record may follow which.
-//! Stands on: sd_base, sd_rig, sd_logrec.
+//! Stands on: sd_base, sd_rig, sd_logrec, sd_gate.
 //! Held by the caller: a crash leaves of the device what it reads, and the log's groups stand there (`force`).
 //!
 //! To change:
@@ -20,7 +21,6 @@
 
 mod area;
 mod buffer;
-mod filling;
 mod journal;
 mod log;
 mod placed;

@@ -1,6 +1,6 @@
 //! The log of an instance: its calls.
 
-ghost use Rattle.std.specs.Prelude.{◌≡◌, ◌≢◌, ◌⊎◌, ◌↔◌, [], ◌∷◌, ◌++◌, ℕ, ◌+◌, ◌-◌, ◌^◌, ◌<◌, ◌≤◌, false, true, max, if◌then◌else◌, length, map, Err, Ok, IsOk, IfErr, IfOk, OnErr, OnOk};
+ghost use Rattle.std.specs.Prelude.{◌≡◌, ◌≢◌, ◌⊎◌, ◌↔◌, [], ◌∷◌, ◌++◌, ℕ, ◌+◌, ◌-◌, ◌^◌, ◌<◌, ◌≤◌, false, true, max, min, if◌then◌else◌, length, map, Err, Ok, IsTrue, IsOk, IfErr, IfOk, OnErr, OnOk};
 ghost use Rattle.sd_base.specs.Streams.{Rises};
 ghost use Rattle.sd_base.specs.declared.refusal.Refusal.TheVariants as R;
 ghost use Rattle.sd_logrec.specs.Fronts.{front, fronts_within};
@@ -9,16 +9,16 @@ ghost use Rattle.sd_logrec.specs.Spelling.{HasSpelling, spelling};
 ghost use Rattle.sd_rig.specs.Devices.{AgreesOutside, Elapses, IsUnchanged, LeavesOnly, LeavesSame, Span};
 ghost use Rattle.sd_log.specs.Areas.{Breaks, IfBroken, IfWhole, IsAt, read_of};
 ghost use Rattle.sd_log.specs.Forces.{Forces, StandsEither, forced_at, forced_len};
-ghost use Rattle.sd_log.specs.Logs.{AreSpelled, IsStartFor, StandsOn, forced, is_reserved, last_lsn, needed, scanned, with_record, without_tail};
+ghost use Rattle.sd_log.specs.Logs.{AreSpelled, IsStartFor, StandsOn, forced, is_reserved, last_lsn, needed, scanned, tail_len, with_record, without_tail};
 ghost use Rattle.sd_log.specs.Marks.{entry};
 
 use crate::area::Area;
 use crate::buffer::Buffer;
 use crate::journal::Journal;
 use crate::placed::Placed;
-use crate::reading::{AREA, AREA_LEN, GROUP_HEAD, read_groups};
+use crate::reading::read_groups;
 use sd_base::{Failed, InstNo, Lsn, Memory, Refusal};
-use sd_logrec::Record;
+use sd_logrec::{AREA, AREA_LEN, GROUP_HEAD, MAX_LSN, Record};
 use sd_rig::Rig;
 use std::alloc::Global;
 use std::marker::Model;
@@ -48,6 +48,19 @@ impl Model for Log {
 }
 
 impl Log {
+    /// The log of a blank device: it has nothing yet, and begins at the area's start. No device call is made.
+    pub fn new(alloc: Global, inst: InstNo) -> Result<Log, Memory>
+        ensures { IfOk result (λ log. log ≡ record { inst = inst; start = 0; gate = 0; groups = []; tail = []; spare = 0 }) }
+    {
+        let tail = Buffer::new(alloc)?;
+        Ok(Log {
+            inst,
+            journal: Journal::new(alloc, 0),
+            tail,
+            spare: 0,
+        })
+    }
+
     /// Reads the groups of the instance's log from the place `start` of its area, by one read of the device, which it
     /// leaves as it is.
     ///
@@ -60,7 +73,7 @@ impl Log {
         inst: InstNo,
         start: u32,
     ) -> Result<Log, Refusal>
-        requires { start < 1048576 }
+        requires { start < AREA_LEN }
         ensures whole { IfOk result (λ log. reading start (area (G.seen rig.old inst)) ≡ Whole log.groups log.gate) }
         ensures spelled { IfOk result (λ log. AreSpelled (scanned log)) }
         ensures inst { IfOk result (λ log. log.inst ≡ inst) }
@@ -77,7 +90,7 @@ impl Log {
             (G.moment rig.old) (G.moment rig.new) (G.since rig.old) (G.since rig.new) }
         ensures count { G.faults rig.old ≤ G.faults rig.new }
     {
-        let mut bytes = Vec::from_elem(alloc, 0u8, AREA_LEN - start as usize)?;
+        let mut bytes = Vec::from_elem(alloc, 0u8, (AREA_LEN - start) as usize)?;
         rig.read(inst.get(), AREA + start, &mut bytes)?;
         match read_from(alloc, inst, start, &bytes)? {
             Area::Whole(log) => Ok(log),
@@ -90,8 +103,8 @@ impl Log {
     /// `BadLog` and `BadRecord` are what breaks the format exactly where they come in `read_in`; the records in front of
     /// that place are handed out then.
     pub fn of_area(alloc: Global, inst: InstNo, start: u32, area: &[u8]) -> Result<Area, Memory>
-        requires length { length area.now ≡ 1048576 }
-        requires start { start < 1048576 }
+        requires length { length area.now ≡ AREA_LEN }
+        requires start { start < AREA_LEN }
         ensures whole { IfOk result (λ read. IfWhole read (λ log. reading start area.now ≡ Whole log.groups log.gate)) }
         ensures front { IfOk result (λ read. map entry (read_of read) ≡ front start area.now) }
         ensures spelled { IfOk result (λ read. AreSpelled (read_of read)) }
@@ -101,19 +114,52 @@ impl Log {
 
         ensures bad_log { IfOk result (λ read. IfBroken read (λ fault. (at : ℕ) → fault ≡ R.BadLog at → reading start area.now ≡ BadGroup at)) }
         ensures bad_record { IfOk result (λ read. IfBroken read (λ fault. (at : ℕ) → fault ≡ R.BadRecord at → reading start area.now ≡ NoRecord at)) }
-        ensures refusals { IfOk result (λ read. IfBroken read (λ fault. (at : ℕ) × IsAt fault at × (at < 1048576))) }
+        ensures refusals { IfOk result (λ read. IfBroken read (λ fault. (at : ℕ) × IsAt fault at × (at < AREA_LEN))) }
     {
         let (_, bytes) = area.split_at(start as usize);
         read_from(alloc, inst, start, bytes)
     }
 
-    /// The LSN of the next record, of a change to a page with this LSN: one more than the greater of this and the last
-    /// record's.
-    pub fn next_lsn(&self, page_lsn: Lsn) -> Lsn
-        requires { max (last_lsn (scanned self.now)) page_lsn + 1 < 2 ^ 62 }
-        ensures { result ≡ max (last_lsn (scanned self.now)) page_lsn + 1 }
+    /// The LSN of the last record, or 0.
+    pub fn last_lsn(&self) -> Lsn
+        ensures { result ≡ last_lsn (scanned self.now) }
     {
-        self.journal.last_lsn().max(page_lsn) + 1
+        self.journal.last_lsn()
+    }
+
+    /// The LSN of the next record, of a change to a page with this LSN: one more than the greater of this and the last
+    /// record's, wherever the LSNs reach so far, and else the greatest LSN.
+    pub fn next_lsn(&self, page_lsn: Lsn) -> Lsn
+        ensures { result ≡ min (max (last_lsn (scanned self.now)) page_lsn + 1) (2 ^ 62 - 1) }
+    {
+        self.last_lsn().max(page_lsn).min(MAX_LSN - 1) + 1
+    }
+
+    /// What holds of every log: it begins at or before the next gate, which lies in the area; the tail, where it isn't
+    /// empty, fits behind it as a group with a gate of its own behind; each record is one of the grammar, of 9 bytes at
+    /// least, so there are at most 116,508.
+    pub fn keeps(&self)
+        ensures gate { self.now.gate < AREA_LEN }
+        ensures start { self.now.start ≤ self.now.gate }
+        ensures fits { self.now.tail ≢ [] → self.now.gate + GROUP_HEAD + tail_len self.now + 1 ≤ AREA_LEN }
+        ensures spelled { AreSpelled (scanned self.now) }
+        ensures few { length (scanned self.now) ≤ 116508 }
+    {
+        let _ = &self.journal;
+    }
+
+    /// Whether a record of `len` bytes finds no room, with `reserve` bytes reserved behind it: whether the tail as a group,
+    /// with both, would pass the area's end.
+    pub fn lacks_room(&self, len: usize, reserve: u32) -> bool
+        ensures { IsTrue result ↔ (AREA_LEN < needed self.now len reserve) }
+    {
+        let area = AREA_LEN as usize;
+        let used = self.journal.gate() as usize
+            + GROUP_HEAD
+            + self.tail.len()
+            + reserve as usize
+            + 1;
+        used > area || len > area - used
     }
 
     /// Puts a record at the end of the tail. `reserve` is how many bytes are reserved behind it, for records that end
@@ -126,7 +172,7 @@ impl Log {
         requires { HasSpelling r }
         ensures ok { OnOk result (self.new ≡ with_record r self.new.spare self.old) }
         ensures stays { OnErr result (self.new ≡ self.old) }
-        ensures full { (result ≡ Err R.LogFull) ↔ (1048576 < needed self.old (length (spelling r)) reserve) }
+        ensures full { (result ≡ Err R.LogFull) ↔ (AREA_LEN < needed self.old (length (spelling r)) reserve) }
         ensures refusals { IfErr result (λ e. (e ≡ R.LogFull) ⊎ (e ≡ R.Memory)) }
 
         ensures reserves { OnOk result (is_reserved r ≡ false → max self.old.spare reserve ≤ self.new.spare) }
@@ -134,12 +180,10 @@ impl Log {
         ensures there { is_reserved r ≡ true → length (spelling r) ≤ self.old.spare → (result ≡ Ok tt) ⊎ (result ≡ Err R.LogFull) }
     {
         let len = r.len();
-        let reserve = reserve as usize;
-        let used = self.journal.gate() as usize + GROUP_HEAD + self.tail.len() + reserve + 1;
-        if used > AREA_LEN || len > AREA_LEN - used {
+        if self.lacks_room(len, reserve) {
             return Err(Refusal::LogFull);
         }
-        let kept = spare_after(&r, self.spare, len, reserve);
+        let kept = spare_after(&r, self.spare, len, reserve as usize);
         self.put(r, len, kept)?;
         Ok(())
     }
@@ -148,11 +192,11 @@ impl Log {
     fn put(&mut self, r: Record, len: usize, kept: usize) -> Result<(), Memory>
         requires fits { HasSpelling r }
         requires len { len ≡ length (spelling r) }
-        requires room { needed self.old len 0 ≤ 1048576 }
-        requires kept { kept ≤ 1048576 }
+        requires room { needed self.old len 0 ≤ AREA_LEN }
+        requires kept { kept ≤ AREA_LEN }
         ensures ok { OnOk result (self.new ≡ with_record r kept self.old) }
         ensures stays { OnErr result (self.new ≡ self.old) }
-        ensures there { max len 26 + kept ≤ self.old.spare → IsOk result }
+        ensures there { max len SHORTEST + kept ≤ self.old.spare → IsOk result }
     {
         let all = len.max(SHORTEST) + kept;
         self.tail.reserve(all)?;

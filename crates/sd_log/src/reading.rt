@@ -2,40 +2,21 @@
 
 ghost use Rattle.std.specs.Prelude.{◌≡◌, ◌≢◌, ◌⊎◌, [], ◌∷◌, ◌++◌, ℕ, ◌+◌, ◌^◌, ◌<◌, ◌≤◌, false, true, Err, Ok, length, IfErr, MatchOption, OnOk};
 ghost use Rattle.sd_base.specs.declared.refusal.Refusal.TheVariants as R;
-ghost use Rattle.sd_base.specs.Twin.{is_open};
 ghost use Rattle.sd_logrec.specs.Fronts.{front_at, fronts_within};
 ghost use Rattle.sd_logrec.specs.Kept.{BadGroup, NoRecord, Whole, fits_area, group_len, groups_within, placed_from, records_at, spelled};
 ghost use Rattle.sd_log.specs.Areas.{Breaks};
 ghost use Rattle.sd_log.specs.JournalStates.{JournalState};
 ghost use Rattle.sd_log.specs.Readings.{AddsFront, AddsRecords, AddsGroup, entries};
 
-use crate::filling::OPEN;
 use crate::journal::Journal;
+use byteorder::{BigEndian, ByteOrder};
 use sd_base::Refusal;
-use sd_logrec::Record;
+use sd_gate::is_open;
+use sd_logrec::{AREA_LEN, GROUP_HEAD, Record};
 use std::alloc::Global;
-
-/// The place of an area on its device, in bytes.
-pub const AREA: u32 = 130;
-
-/// The length of an area, in bytes.
-pub const AREA_LEN: usize = 1_048_576;
-
-/// The bytes of a group before its body: the gate and the length.
-pub const GROUP_HEAD: usize = 5;
 
 /// The least length of a body: that of the shortest record.
 const LEAST_BODY: usize = 9;
-
-// Whether the gate at the front is open.
-fn is_open(bytes: &[u8]) -> bool
-    ensures { result ≡ is_open 0 bytes.now }
-{
-    match bytes {
-        [] => false,
-        [gate, ..] => *gate == OPEN,
-    }
-}
 
 // The length of the group at the front, where it lies in the area with the next gate.
 fn group_len(bytes: &[u8], at: usize) -> Option<usize>
@@ -45,9 +26,8 @@ fn group_len(bytes: &[u8], at: usize) -> Option<usize>
     if bytes.len() < GROUP_HEAD {
         return None;
     }
-    let head = &bytes[1..GROUP_HEAD];
-    let len = u32::from_be_bytes([head[0], head[1], head[2], head[3]]) as usize;
-    if len < LEAST_BODY || at + GROUP_HEAD + len + 1 > AREA_LEN {
+    let len = BigEndian::read_u32(&bytes[1..]) as usize;
+    if len < LEAST_BODY || at + GROUP_HEAD + len + 1 > AREA_LEN as usize {
         return None;
     }
     Some(len)
@@ -55,11 +35,11 @@ fn group_len(bytes: &[u8], at: usize) -> Option<usize>
 
 // Puts the records of a body at the end of the tail, up to where none starts.
 fn read_records(alloc: Global, journal: &mut Journal, body: &[u8]) -> Result<(), Refusal>
-    requires place { journal.old.gate + 5 + length body.now < 2 ^ 32 }
+    requires place { journal.old.gate + GROUP_HEAD + length body.now < 2 ^ 32 }
     requires tail { journal.old.tail ≡ [] }
-    ensures ok { OnOk result (AddsRecords (records_at (journal.old.gate + 5) body.now) (length body.now) journal.old journal.new) }
-    ensures err { IfErr result (λ e. (e ≡ R.Memory) ⊎ ((place : ℕ) × (e ≡ R.BadRecord place) × (records_at (journal.old.gate + 5) body.now ≡ Err place)
-        × (place < journal.old.gate + 5 + length body.now) × AddsFront (front_at (journal.old.gate + 5) body.now) journal.old journal.new)) }
+    ensures ok { OnOk result (AddsRecords (records_at (journal.old.gate + GROUP_HEAD) body.now) (length body.now) journal.old journal.new) }
+    ensures err { IfErr result (λ e. (e ≡ R.Memory) ⊎ ((place : ℕ) × (e ≡ R.BadRecord place) × (records_at (journal.old.gate + GROUP_HEAD) body.now ≡ Err place)
+        × (place < journal.old.gate + GROUP_HEAD + length body.now) × AddsFront (front_at (journal.old.gate + GROUP_HEAD) body.now) journal.old journal.new)) }
 {
     let place = journal.gate() as usize + GROUP_HEAD;
     let mut at = 0;
@@ -82,12 +62,12 @@ fn read_records(alloc: Global, journal: &mut Journal, body: &[u8]) -> Result<(),
 
 // Reads a body as one more group.
 fn read_group(alloc: Global, journal: &mut Journal, body: &[u8]) -> Result<(), Refusal>
-    requires place { journal.old.gate + 5 + length body.now < 2 ^ 32 }
+    requires place { journal.old.gate + GROUP_HEAD + length body.now < 2 ^ 32 }
     requires some { 0 < length body.now }
     requires tail { journal.old.tail ≡ [] }
-    ensures ok { OnOk result (AddsGroup (records_at (journal.old.gate + 5) body.now) (length body.now) journal.old journal.new) }
-    ensures err { IfErr result (λ e. (e ≡ R.Memory) ⊎ ((place : ℕ) × (e ≡ R.BadRecord place) × (records_at (journal.old.gate + 5) body.now ≡ Err place)
-        × (place < journal.old.gate + 5 + length body.now) × AddsFront (front_at (journal.old.gate + 5) body.now) journal.old journal.new)) }
+    ensures ok { OnOk result (AddsGroup (records_at (journal.old.gate + GROUP_HEAD) body.now) (length body.now) journal.old journal.new) }
+    ensures err { IfErr result (λ e. (e ≡ R.Memory) ⊎ ((place : ℕ) × (e ≡ R.BadRecord place) × (records_at (journal.old.gate + GROUP_HEAD) body.now ≡ Err place)
+        × (place < journal.old.gate + GROUP_HEAD + length body.now) × AddsFront (front_at (journal.old.gate + GROUP_HEAD) body.now) journal.old journal.new)) }
 {
     read_records(alloc, journal, body)?;
     journal.settle(body.len() as u32);
@@ -110,7 +90,7 @@ pub fn read_groups(alloc: Global, journal: &mut Journal, bytes: &[u8]) -> Result
     ensures front { OnOk result (entries journal.new ≡ fronts_within (length bytes.now) journal.old.gate bytes.now) }
 {
     let mut rest = bytes;
-    while is_open(rest) {
+    while is_open(rest, 0) {
         let at = journal.gate();
         let Some(len) = group_len(rest, at as usize) else {
             return Err(Refusal::BadLog { at: at as u64 });

@@ -3,11 +3,11 @@
 ghost use Rattle.std.specs.Prelude.{◌≡◌, ℕ, ◌^◌, ◌<◌, ◌≤◌, IfOk};
 ghost use Rattle.sd_logrec.specs.Spelling.{HasSpelling, spelling};
 ghost use Rattle.sd_rig.specs.Devices.{LeavesOnly};
-ghost use Rattle.sd_log.specs.Logs.{StandsOn, last_lsn, scanned};
+ghost use Rattle.sd_log.specs.Logs.{StandsOn};
 
 use super::*;
 use sd_base::{InstNo, Lsn, PageNo, Pick, Refusal, Sequence, Trouble, TxnId};
-use sd_logrec::Record;
+use sd_logrec::{AREA, AREA_LEN, MAX_LSN, Record};
 use sd_rig::{MemRig, Rig};
 use std::alloc::{AllocError, Global};
 use std::test::Fail;
@@ -134,10 +134,27 @@ fn a_stopped_force_leaves_the_tail_whole_or_not_at_all(rt: HostRuntime) -> Resul
 }
 
 #[test]
+fn a_new_log_has_nothing(rt: HostRuntime) -> Result<(), Fail> {
+    let mut log = Log::new(rt.alloc(), first_inst()?)?;
+    log.keeps();
+    assert!(rt;
+        log.scan().len() == 0 && log.gate() == 0 && log.last_lsn() == 0 && log.next_lsn(0) == 1
+    );
+    log.append(Record::Start { lsn: 1, epoch: 1 }, 0)?;
+    assert!(rt; are_at(&log, &[(5, false)]));
+    Ok(())
+}
+
+#[test]
 fn a_record_fits_up_to_the_end_of_the_area(rt: HostRuntime) -> Result<(), Fail> {
     let mut rig = MemRig::blank(rt.alloc())?;
     let mut log = write_log(rt.alloc(), &mut rig)?;
     let inst = first_inst()?;
+    assert!(rt;
+        log.lacks_room(26, 1_048_455)
+            && !log.lacks_room(26, 1_048_454)
+            && log.lacks_room(usize::MAX, 0)
+    );
     let full = log.append(commit(inst, 4), 1_048_455);
     assert!(rt; matches!(full, Err(Refusal::LogFull)));
     assert!(rt; log.append(commit(inst, 4), 1_048_454).is_ok());
@@ -160,7 +177,7 @@ fn is_told(alloc: Global, rig: &mut MemRig, at: usize, byte: u8, told: Told) -> 
     requires { at < 73 }
 {
     let inst = first_inst()?;
-    let place = 130 + FROM + at as u32;
+    let place = AREA + FROM + at as u32;
     rig.poke(1, place, byte)?;
     let read = Log::read_in(alloc, rig, inst, FROM);
     rig.poke(1, place, LOG[18 + at])?;
@@ -202,7 +219,7 @@ fn a_damaged_byte_is_refused_or_read_as_it_stands(rt: HostRuntime) -> Result<(),
     let alloc = rt.alloc();
     let mut rig = MemRig::blank(alloc)?;
     for (at, byte) in LOG[18..].iter().enumerate() {
-        rig.poke(1, 130 + FROM + at as u32, *byte)?;
+        rig.poke(1, AREA + FROM + at as u32, *byte)?;
     }
     for byte in 0..=255u8 {
         assert!(rt;
@@ -222,31 +239,12 @@ fn a_damaged_byte_is_refused_or_read_as_it_stands(rt: HostRuntime) -> Result<(),
     Ok(())
 }
 
-fn last_lsn(log: &Log) -> Lsn
-    ensures { result ≡ last_lsn (scanned log.now) }
-{
-    match log.scan().last() {
-        None => 0,
-        Some(last) => last.rec.lsn(),
-    }
-}
-
-// The next LSN of a change to a page, where LSNs are small.
-fn next(log: &Log, page_lsn: Lsn) -> Option<Lsn>
-    requires { page_lsn < 1000 }
-{
-    let last = last_lsn(log);
-    if last >= 1000 {
-        return None;
-    }
-    Some(log.next_lsn(page_lsn))
-}
-
 #[test]
 fn a_log_tells_where_it_may_begin_and_its_next_lsn(rt: HostRuntime) -> Result<(), Fail> {
     let mut rig = MemRig::blank(rt.alloc())?;
     let log = write_log(rt.alloc(), &mut rig)?;
-    assert!(rt; next(&log, 0) == Some(4) && next(&log, 9) == Some(10));
+    assert!(rt; log.last_lsn() == 3 && log.next_lsn(0) == 4 && log.next_lsn(9) == 10);
+    assert!(rt; log.next_lsn(MAX_LSN - 1) == MAX_LSN && log.next_lsn(u64::MAX) == MAX_LSN);
     assert!(rt; log.start_for(1) == 0 && log.start_for(2) == 18 && log.start_for(4) == 90);
     Ok(())
 }
@@ -302,7 +300,7 @@ fn is_broken(read: &Area, places: &[u32], told: Told) -> bool {
 fn an_area_in_memory_is_read_from_its_start_place_on(rt: HostRuntime) -> Result<(), Fail> {
     let inst = first_inst()?;
     let mut area = Vec::from_slice(rt.alloc(), &LOG)?;
-    area.resize(1_048_576, 0)?;
+    area.resize(AREA_LEN as usize, 0)?;
     let all = Log::of_area(rt.alloc(), inst, 0, &area)?;
     assert!(rt; is_log(&all, &[(5, true), (23, true), (64, true)], 90));
     let behind = Log::of_area(rt.alloc(), inst, 18, &area)?;
@@ -314,7 +312,7 @@ fn an_area_in_memory_is_read_from_its_start_place_on(rt: HostRuntime) -> Result<
 fn what_stands_before_a_break_is_handed_out(rt: HostRuntime) -> Result<(), Fail> {
     let inst = first_inst()?;
     let mut area = Vec::from_slice(rt.alloc(), &LOG)?;
-    area.resize(1_048_576, 0)?;
+    area.resize(AREA_LEN as usize, 0)?;
     area[64] = 8;
     let record = Log::of_area(rt.alloc(), inst, 0, &area)?;
     assert!(rt; is_broken(&record, &[5, 23], Told::BadRecord(64)));

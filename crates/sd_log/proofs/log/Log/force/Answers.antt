@@ -4,10 +4,12 @@ use Rattle.sd_logrec.specs.Kept.{Whole, area, reading, spelled}
 use Rattle.sd_rig.specs.Devices.{AgreesOutside}
 use Rattle.sd_rig.specs.Spans.{span-weaker}
 use Rattle.sd_log.specs.Buffers.{framed}
-use Rattle.sd_log.specs.Forces.{Fills, Forces}
+use Rattle.sd_gate.specs.Gates.{Fills}
+use Rattle.sd_log.specs.Forces.{Forces}
 use Rattle.sd_log.specs.JournalStates.{JournalState}
 use Rattle.sd_log.specs.LogInside.{log_view}
 use Rattle.sd_log.specs.Logs.{LogState, tail_group, tail_len}
+use Rattle.sd_log.proofs.Counted.{settled_log}
 use Rattle.sd_log.proofs.Forcing.{closed_on, either_tail, forces_of, moved, tailed_of, with_tail_read}
 use Rattle.sd_log.proofs.Tails.{no_text}
 use Rattle.sd_log.proofs.log.Log.force.Goals as goal
@@ -110,3 +112,14 @@ returns-clause-stands g c some =
     let len : tail_len (log_view l) ≡ c.len-len.result = ap length (sym c.self.invariant.text_is) ∙ sym c.len-len.ensures in
     subst (λ (j : JournalState). reading j.start (area (r.seen one log.inst)) ≡ Whole j.groups j.gate) (sym c.settle.ensures)
     (subst (λ n. reading l.journal.start (area (r.seen one log.inst)) ≡ Whole (l.journal.groups ++ tail_group (log_view l) ∷ []) (l.journal.gate + 5 + n)) len inside)
+
+pub invariant_of-self-2 : goal.invariant_of-self-2
+invariant_of-self-2 g c =
+    let room = c.write.ensures.room in
+    settled_log c.self.inside c.len-len.result c.settle.new.self c.clear.new.self c.self.invariant record {
+      journal_is = c.settle.ensures;
+      len_is = c.len-len.ensures;
+      some = omega (arith, c.if-len-eq0.false);
+      text_is = c.clear.ensures.text;
+      room = omega (arith, room, c.clear.ensures.room);
+    }

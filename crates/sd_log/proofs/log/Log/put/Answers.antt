@@ -20,7 +20,9 @@ invariant_of-self-2 c =
     let records : (c.max.result + c.args.kept) / 26 ≤ c.reserve-2.new.self.room = c.in_ok-reserve-2.ensures.ok in
     let left : c.reserve.new.self.room ≤ c.put.new.self.room + length (spelling c.args.r) = c.put.ensures.room in
     put_is l c.args.r c.args.kept c.push.new.self c.put.new.self c.self.invariant record {
+      start_is = ap (λ (j : JournalState). j.start) c.push.ensures ∙ ap (λ (j : JournalState). j.start) same;
       gate_is = ap (λ (j : JournalState). j.gate) c.push.ensures ∙ ap (λ (j : JournalState). j.gate) same;
+      groups_is = ap (λ (j : JournalState). j.groups) c.push.ensures ∙ ap (λ (j : JournalState). j.groups) same;
       tail_is = ap (λ (j : JournalState). j.tail) c.push.ensures ∙ ap (λ (j : JournalState). j.tail ++ c.args.r ∷ []) same;
       text_is = c.put.ensures.text ∙ ap (λ (t : List ℕ). t ++ spelling c.args.r) c.reserve.ensures.text;
       fits_record = c.requires.fits;

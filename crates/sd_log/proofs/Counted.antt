@@ -1,0 +1,139 @@
+-- Nine bytes for each forced record lie before the gate, and each is one of the grammar. It serves the goals of log.rt.
+use Rattle.std.proofs.Common.{◌≡◌, inl, inr, ℕ, zero, suc, ◌+◌, ◌*◌, ◌<◌, ◌≤◌, Bool, true, false, List, [], ◌∷◌, ◌++◌, length, take, drop, refl, sym, ap, ◌∙◌, subst, arith, length-append}
+use Rattle.std.specs.Prelude.{map}
+use Rattle.std.specs.List.{AllByRecursion}
+use Rattle.std.proofs.lemmas.List.{append-nil, length-map, length-take}
+use Rattle.std.proofs.lemmas.List.Elements.{All-append, All-from_recursion, All-nil}
+use Rattle.sd_base.specs.Twin.{is_open}
+use Rattle.sd_logrec.specs.declared.record.Record.{Record}
+use Rattle.sd_logrec.specs.Kept.{Group, Whole, fits_area, group_len, groups_within, placed_from, records_at, spelled}
+use Rattle.sd_logrec.specs.Spelling.{HasSpelling, spelling}
+use Rattle.sd_logrec.proofs.Formats.{IsBytes, IsBytes-drop, IsBytes-take}
+use Rattle.sd_logrec.proofs.Groups.{step_of}
+use Rattle.sd_log.specs.declared.log.Log.TheInside.{Inside}
+use Rattle.sd_log.specs.declared.placed.Placed.{Placed}
+use Rattle.sd_log.specs.Buffers.{BufferState}
+use Rattle.sd_log.specs.JournalStates.{JournalState, settled}
+use Rattle.sd_log.specs.LogInside.{AreForced, IsLog, log_view}
+use Rattle.sd_log.specs.Logs.{AreSpelled, placed, placed_groups, placed_tail, scanned}
+use Rattle.sd_log.proofs.Parted.{placed_groups-more}
+use Rattle.sd_log.proofs.Spelled.{within_bytes}
+use Rattle.sd_log.proofs.Tails.{least_spelling, no_text}
+
+-- ---- records of a tail
+
+least_bytes : (rs : List Record) → 9 * length rs ≤ length (spelled rs)
+least_bytes [] = omega arith
+least_bytes (r ∷ rs) = omega (arith, least_bytes rs, least_spelling r, length-append (spelling r) (spelled rs))
+
+length-placed : (is_forced : Bool) (at : ℕ) (rs : List Record) → length (map (placed is_forced) (placed_from at rs)) ≡ length rs
+length-placed is_forced at [] = refl
+length-placed is_forced at (r ∷ rs) = ap suc (length-placed is_forced (at + length (spelling r)) rs)
+
+each_placed : (is_forced : Bool) (at : ℕ) (rs : List Record) → AllByRecursion HasSpelling rs → AllByRecursion (λ (p : Placed). HasSpelling p.rec) (map (placed is_forced) (placed_from at rs))
+each_placed is_forced at [] h = tt
+each_placed is_forced at (r ∷ rs) h = (h.0, each_placed is_forced (at + length (spelling r)) rs h.1)
+
+placed_spelled : (is_forced : Bool) (at : ℕ) (rs : List Record) → AllByRecursion HasSpelling rs → AreSpelled (map (placed is_forced) (placed_from at rs))
+placed_spelled is_forced at rs h = All-from_recursion (λ (p : Placed). HasSpelling p.rec) (map (placed is_forced) (placed_from at rs)) (each_placed is_forced at rs h)
+
+-- ---- forced records
+
+pub forced_none : (at : ℕ) → AreForced at at []
+forced_none at = record { bytes = omega arith; spelled = All-nil (λ (p : Placed). HasSpelling p.rec) }
+
+-- a tail that becomes a group
+pub forced_more : (start gate len : ℕ) (groups : List Group) (tail : List Record) → AreForced start gate groups → AllByRecursion HasSpelling tail → len ≡ length (spelled tail)
+    → AreForced start (gate + 5 + len) (groups ++ record { at = gate; records = placed_from (gate + 5) tail } ∷ [])
+forced_more start gate len groups tail h fits size =
+    let more : List Placed = map (placed true) (placed_from (gate + 5) tail) in
+    let all = placed_groups-more groups (record { at = gate; records = placed_from (gate + 5) tail }) in
+    let bytes = h.bytes in
+    record {
+      bytes = omega (arith, ap length all, length-append (placed_groups groups) more, length-placed true (gate + 5) tail, least_bytes tail);
+      spelled = subst AreSpelled (sym all) (All-append (λ (p : Placed). HasSpelling p.rec) (placed_groups groups) more h.spelled (placed_spelled true (gate + 5) tail fits));
+    }
+
+-- what forcing makes of the parts
+pub record Settles (l : Inside) (len : ℕ) (journal : JournalState) (tail : BufferState) : Type 0 where
+  pub journal_is : journal ≡ settled len l.journal
+  pub len_is : len ≡ length l.tail.text
+  pub some : 0 < len
+  pub text_is : tail.text ≡ []
+  pub room : l.tail.room ≤ tail.room
+
+pub settled_log : (l : Inside) (len : ℕ) (journal : JournalState) (tail : BufferState) → IsLog l → Settles l len journal tail → IsLog (record { inst = l.inst; journal = journal; tail = tail; spare = l.spare })
+settled_log l len journal tail h p =
+    let some = p.some in
+    let size = p.len_is in
+    let fits = h.fits (omega arith) in
+    let room = p.room in
+    let gate : journal.gate ≡ l.journal.gate + 5 + len = ap (λ (j : JournalState). j.gate) p.journal_is in
+    let records : journal.room ≡ l.journal.room = ap (λ (j : JournalState). j.room) p.journal_is in
+    let none : length tail.text ≡ 0 = ap length p.text_is in
+    let spare_text = h.spare_text in
+    let spare_records = h.spare_records in
+    record {
+      text_is = p.text_is ∙ sym (ap (λ (j : JournalState). spelled j.tail) p.journal_is);
+      spelled_ones = subst (λ (j : JournalState). AllByRecursion HasSpelling j.tail) (sym p.journal_is) tt;
+      forced_are = subst (λ (j : JournalState). AreForced j.start j.gate j.groups) (sym p.journal_is) (forced_more l.journal.start l.journal.gate len l.journal.groups l.journal.tail h.forced_are h.spelled_ones (size ∙ ap length h.text_is));
+      gate_within = omega arith;
+      fits = λ more. absurd (omega arith);
+      least = λ more. absurd (omega arith);
+      spare_small = h.spare_small;
+      spare_text = omega arith;
+      spare_records = omega arith;
+    }
+
+-- ---- groups that are read
+
+read_bytes : (n at : ℕ) (bytes : List ℕ) (groups : List Group) (gate : ℕ) → IsBytes bytes → groups_within n at bytes ≡ Whole groups gate → at + 9 * length (placed_groups groups) ≤ gate
+unfolding groups_within
+read_bytes zero at bytes groups gate are e =
+    let none : groups ≡ [] = cc in
+    let here : gate ≡ at = cc in
+    omega (arith, ap (λ (gs : List Group). length (placed_groups gs)) none)
+read_bytes (suc n) at bytes groups gate are e =
+    let len : ℕ = group_len bytes in
+    let body : List ℕ = take len (drop 5 bytes) in
+    elim (step_of (is_open 0 bytes) (fits_area at len) at (records_at (at + 5) body) (groups_within n (at + 5 + len) (drop (5 + len) bytes)) groups gate e) [
+      | inl h ↦ omega (arith, h.2, ap (λ (gs : List Group). length (placed_groups gs)) h.1)
+      | inr h ↦
+          let more = read_bytes n (at + 5 + len) (drop (5 + len) bytes) h.1 gate (IsBytes-drop (5 + len) bytes are) h.5 in
+          let first : 9 * length h.0 ≤ length body = within_bytes (length body) (at + 5) body h.0 (IsBytes-take len (drop 5 bytes) (IsBytes-drop 5 bytes are)) h.4 in
+          omega (arith, more, first, length-take len (drop 5 bytes), ap (λ (gs : List Group). length (placed_groups gs)) h.6, length-append (map (placed true) h.0) (placed_groups h.1), length-map h.0 (placed true))
+    ]
+
+pub read_forced : (start gate : ℕ) (bytes : List ℕ) (groups : List Group) (tail : List Record) → IsBytes bytes → groups_within (length bytes) start bytes ≡ Whole groups gate → tail ≡ []
+    → AreSpelled (placed_groups groups ++ placed_tail gate tail) → AreForced start gate groups
+read_forced start gate bytes groups tail are e none spelled_ones = record {
+  bytes = read_bytes (length bytes) start bytes groups gate are e;
+  spelled = subst AreSpelled (append-nil (placed_groups groups)) (subst (λ (rs : List Record). AreSpelled (placed_groups groups ++ placed_tail gate rs)) none spelled_ones);
+}
+
+-- ---- what every log keeps
+
+pub tail_fits : (l : Inside) → IsLog l → (l.journal.tail ≡ [] → ⊥) → l.journal.gate + 5 + length (spelled l.journal.tail) + 1 ≤ 1048576
+tail_fits l h some =
+    let size : length l.tail.text ≡ length (spelled l.journal.tail) = ap length h.text_is in
+    let positive : 0 < length l.tail.text = above (length l.tail.text) (λ none. some (no_text l.journal.tail (sym size ∙ none))) in
+    let fits = h.fits positive in
+    omega arith
+  where
+    above : (n : ℕ) → (n ≡ 0 → ⊥) → 0 < n
+    above zero none = absurd (none refl)
+    above (suc n) none = omega arith
+
+pub all_spelled : (l : Inside) → IsLog l → AreSpelled (scanned (log_view l))
+all_spelled l h = All-append (λ (p : Placed). HasSpelling p.rec) (placed_groups l.journal.groups) (placed_tail l.journal.gate l.journal.tail) h.forced_are.spelled (placed_spelled false (l.journal.gate + 5) l.journal.tail h.spelled_ones)
+
+few_of : (start gate : ℕ) (groups : List Group) (tail : List Record) → AreForced start gate groups → gate < 1048576 → ((tail ≡ [] → ⊥) → gate + 5 + length (spelled tail) + 1 ≤ 1048576)
+    → length (placed_groups groups ++ placed_tail gate tail) ≤ 116508
+few_of start gate groups [] h within fits = let bytes = h.bytes in omega (arith, length-append (placed_groups groups) (placed_tail gate []))
+few_of start gate groups (r ∷ rs) h within fits =
+    let bytes = h.bytes in
+    let room = fits (λ none. cc) in
+    omega (arith, room, length-append (placed_groups groups) (placed_tail gate (r ∷ rs)), length-placed false (gate + 5) (r ∷ rs), least_bytes (r ∷ rs))
+
+pub few_records : (l : Inside) → IsLog l → length (scanned (log_view l)) ≤ 116508
+few_records l h = few_of l.journal.start l.journal.gate l.journal.groups l.journal.tail h.forced_are h.gate_within (tail_fits l h)
