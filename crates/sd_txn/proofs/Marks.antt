@@ -1,5 +1,5 @@
 -- Marks under the names of a map's keys, in the order of their numbers: for the goals of `Txn` and `trim`.
-use Rattle.std.proofs.Common.{◌≡◌, ◌⊎◌, inl, inr, Bool, true, false, cond, ℕ, suc, ◌+◌, ◌-◌, ◌≤◌, ◌<◌, List, [], ◌∷◌, ◌++◌, length, map, filter, leb, nat_lt, Option, None, Some, slice_get, is_some, is_ok, Result, Ok, Err, OnOk, refl, sym, ap, subst, ◌∙◌, arith, length-append}
+use Rattle.std.proofs.Common.{◌≡◌, inl, inr, Bool, true, false, cond, ℕ, suc, ◌-◌, ◌≤◌, ◌<◌, List, [], ◌∷◌, ◌++◌, length, filter, leb, nat_lt, Option, None, Some, slice_get, is_some, is_ok, Result, Ok, Err, OnErr, OnOk, refl, sym, ap, subst, ◌∙◌, arith, length-append}
 use Rattle.std.proofs.lemmas.Bool.{leb-true, le-leb}
 use Rattle.std.proofs.lemmas.Bool.Decides.{leb_tells}
 use Rattle.std.proofs.lemmas.List.{map-append}
@@ -15,7 +15,7 @@ module _ {X : Type 0} (P : X → Type 0) where
   all-front [] e a = (tt, a.0)
   all-front (x ∷ xs) e a = let rest = all-front xs e a.1 in ((a.0, rest.0), rest.1)
 
-  all-push : (xs : List X) (e : X) → AllByRecursion P xs → P e → AllByRecursion P (xs ++ e ∷ [])
+  pub all-push : (xs : List X) (e : X) → AllByRecursion P xs → P e → AllByRecursion P (xs ++ e ∷ [])
   all-push [] e a p = (p, tt)
   all-push (x ∷ xs) e a p = (a.0, all-push xs e a.1 p)
 
@@ -30,7 +30,7 @@ module _ {X : Type 0} (P : X → Type 0) where
   all-follows Q so [] a = tt
   all-follows Q so (x ∷ xs) a = (so x a.0, all-follows Q so xs a.1)
 
-all-remove_entry : {K V : Type 0} (P : K × V → Type 0) (test : K → Bool) (es : List (K × V)) → AllByRecursion P es → AllByRecursion P (remove_entry test es)
+pub all-remove_entry : {K V : Type 0} (P : K × V → Type 0) (test : K → Bool) (es : List (K × V)) → AllByRecursion P es → AllByRecursion P (remove_entry test es)
 all-remove_entry P test [] a = tt
 all-remove_entry P test (e ∷ es) a = elim (test e.0) as (λ b. AllByRecursion P (cond b es (e ∷ remove_entry test es))) [
   | true ↦ a.1
@@ -41,6 +41,22 @@ all-remove_entry P test (e ∷ es) a = elim (test e.0) as (λ b. AllByRecursion 
 pub at_ok : {T E P : Type 0} (r : Result T E) → is_ok r ≡ true → OnOk r P → P
 at_ok (Ok x) ok h = h
 at_ok (Err e) ok h = cc
+
+pub at_err : {T E P : Type 0} (r : Result T E) → P → OnErr r P
+at_err (Ok x) p = tt
+at_err (Err e) p = p
+
+pub ok_so : {T E P Q : Type 0} (r : Result T E) → (P → Q) → OnOk r P → OnOk r Q
+ok_so (Ok x) so h = so h
+ok_so (Err e) so h = tt
+
+pub err_so : {T E P Q : Type 0} (r : Result T E) → (P → Q) → OnErr r P → OnErr r Q
+err_so (Ok x) so h = tt
+err_so (Err e) so h = so h
+
+pub either_way : {T E P Q G : Type 0} (r : Result T E) → OnOk r P → OnErr r Q → (P → G) → (Q → G) → G
+either_way (Ok x) ok err from_ok from_err = from_ok ok
+either_way (Err e) ok err from_ok from_err = from_err err
 
 -- ---- marks whose numbers don't fall
 

@@ -1,11 +1,13 @@
--- What a table is once a loan of one transaction's part has ended.
-use Rattle.std.specs.Prelude.{◌≡◌, Option}
+-- What a list is once a loan of one transaction's part has ended.
+use Rattle.std.specs.Prelude.{◌≡◌, List, Option}
 use Rattle.std.specs.Borrow.{Fml, MutBor, LendsSo}
+use Rattle.std.specs.Map.{set_value}
+use Rattle.sd_base.specs.Ids.{same_txn}
 use Rattle.sd_base.specs.declared.ids.TxnId.{TxnId}
-use Rattle.sd_txn.specs.contracts.table.TxnTable.{the_row}
+use Rattle.sd_txn.specs.contracts.list.TxnList.{the_row}
 use Rattle.sd_txn.specs.contracts.txn.Txn.{the_row as txn_row}
-use Rattle.sd_txn.specs.Transactions.{Transaction, Transactions, Sets}
+use Rattle.sd_txn.specs.Transactions.{Transaction}
 
--- the transaction's part is the last one written through r; where none was lent, the table stays
-abbrev pub LendsTxn : MutBor Transactions → TxnId → Option (MutBor Transaction) → Fml
-LendsTxn table t r = LendsSo the_row txn_row table r (λ after x. Sets table.now after t x) (λ after. after ≡ table.now)
+-- the transaction's part is the last one written through r; where none was lent, the list stays
+abbrev pub LendsTxn : MutBor (List (TxnId × Transaction)) → TxnId → Option (MutBor Transaction) → Fml
+LendsTxn list t r = LendsSo the_row txn_row list r (λ after x. after ≡ set_value (same_txn t) list.now x) (λ after. after ≡ list.now)

@@ -104,9 +104,10 @@ pub record SameOrder (old new : Transactions) : Type 0 where
   pub same_epoch : new.epoch ≡ old.epoch
   pub same_begins : new.begins ≡ old.begins
 
--- x is what is now known of t, where t is unresolved; nothing else changes
-pub record Sets (old new : Transactions) (t : TxnId) (x : Transaction) : Type 0 where
-  pub there : IsUnresolved old t → txn_at new t ≡ Some x
+-- what is known of t was x and is y; nothing else changes
+pub record Replaces (old new : Transactions) (t : TxnId) (x y : Transaction) : Type 0 where
+  pub was : txn_at old t ≡ Some x
+  pub now : txn_at new t ≡ Some y
   pub others : OthersStay old new t
   pub order : SameOrder old new
 

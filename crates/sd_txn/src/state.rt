@@ -13,6 +13,8 @@ pub enum TxnState {
     Retained,
     /// A failure cut its commit.
     Doubt,
+    /// Its commit was cut, and recovery found it committed; it stays unresolved until it is finished.
+    Committed,
 }
 
 /// A record of the log that a rollback undoes: its LSN, the LSN of the transaction's record before it, the record that

@@ -1,9 +1,11 @@
 //! One transaction: its undo stack, and the marks in it.
 
 ghost use Rattle.std.specs.Prelude.{◌≡◌, OnErr, OnOk, filter, leb, option_copied, vec_items};
+ghost use Rattle.sd_txn.specs.Kept.{undo_of};
 ghost use Rattle.sd_txn.specs.Marked.{ends_above as is_above, named, AreRising};
 ghost use Rattle.sd_txn.specs.Transactions.{depth, mark_of, noted, popped, pushed, saved, started, top, with_mark, with_state};
 
+use crate::owed::undo_len;
 use crate::{OpenRec, TxnState};
 use indexmap::IndexMap;
 use sd_base::{Lsn, Memory, Word};
@@ -11,25 +13,27 @@ use std::alloc::Global;
 use std::marker::Model;
 
 /// An unresolved transaction. A mark is the number of records that were open when it was saved, by its name, in the
-/// order of the saves; so the marks above a number are the last ones.
+/// order of the saves; so the marks above a number are the last ones. The bytes of its undo are a running sum.
 #[derive(Debug, Drop)]
 pub(crate) struct Txn {
     state: TxnState,
     marks: IndexMap<Vec<u8>, usize>,
     stack: Vec<OpenRec>,
+    undo: u64,
     span: Option<(Lsn, Lsn)>,
 }
 
 impl Model for Txn {
     ghost use Rattle.std.specs.Prelude.{length, vec_items};
-    ghost use Rattle.sd_txn.specs.Marked.{named, AreMarks};
+    ghost use Rattle.sd_txn.specs.Kept.{IsTxn};
+    ghost use Rattle.sd_txn.specs.Marked.{named};
     ghost use Rattle.sd_txn.specs.Transactions.{Transaction};
 
     ghost Value = { Transaction };
 
     ghost view = { λ x. record { state = x.state; marks = named vec_items x.marks.entries; stack = x.stack.items; span = x.span } };
 
-    ghost invariant = { λ x. AreMarks (named vec_items x.marks.entries) (length x.stack.items) };
+    ghost invariant = { λ x. IsTxn (named vec_items x.marks.entries) x.stack.items x.undo };
 }
 
 impl Txn {
@@ -41,6 +45,7 @@ impl Txn {
             state,
             marks: IndexMap::new(alloc),
             stack: Vec::new(alloc),
+            undo: 0,
             span: None,
         }
     }
@@ -93,12 +98,14 @@ impl Txn {
         self.marks.get(mark.items()).copied()
     }
 
-    /// Opens a record. `Memory` changes nothing.
+    /// Opens a record. `Memory` comes also where the bytes of its undo would pass 2^64; it changes nothing.
     pub(crate) fn push(&mut self, rec: OpenRec) -> Result<(), Memory>
         ensures ok { OnOk result (self.new ≡ pushed rec self.old) }
         ensures err { OnErr result (self.new ≡ self.old) }
     {
+        let undo = self.undo.checked_add(undo_len(&rec)).ok_or(Memory)?;
         self.stack.push(rec)?;
+        self.undo = undo;
         Ok(())
     }
 
@@ -115,6 +122,7 @@ impl Txn {
         ensures rest { self.new ≡ popped self.old }
     {
         let top = self.stack.pop()?;
+        self.undo -= undo_len(&top);
         trim(&mut self.marks, self.stack.len());
         Some(top)
     }
@@ -124,6 +132,13 @@ impl Txn {
         ensures { result ≡ depth self.now }
     {
         self.stack.len()
+    }
+
+    /// The bytes of the undo of its open records.
+    pub(crate) fn undo(&self) -> u64
+        ensures { result ≡ undo_of self.now }
+    {
+        self.undo
     }
 }
 

@@ -1,15 +1,24 @@
-use Rattle.std.proofs.Common.{◌≡◌, None, ap, sym, ◌∙◌}
-use Rattle.sd_txn.specs.Transactions.{txn_at, without}
-use Rattle.sd_txn.specs.contracts.table.TxnTable.{the_view}
-use Rattle.sd_txn.proofs.Keyed.{eq-other, look-up, ended}
+use Rattle.std.proofs.Common.{sym, ap, subst, ◌∙◌}
+use Rattle.std.specs.Map.{lookup}
+use Rattle.sd_base.specs.Ids.{same_txn}
+use Rattle.sd_txn.specs.Kept.{IsTable}
+use Rattle.sd_txn.specs.Transactions.{Transactions, txn_at}
+use Rattle.sd_txn.proofs.Keyed.{lookup-remove_entry_other, remove_entry-absent}
+use Rattle.sd_txn.proofs.Steps.{IsTable-removed, IsWithin-part}
 use Rattle.sd_txn.proofs.table.TxnTable.end.Goals as goal
 
-pub returns-clause-rest : goal.returns-clause-rest
-returns-clause-rest c = ended (the_view c.self.inside) c.shift_remove.new.self.entries c.args.t c.shift_remove.ensures.entries ∙ ap (λ table. without table c.args.t) c.self.view_is
+pub forget-requires : goal.forget-requires
+forget-requires c = IsWithin-part c.self.inside.owed c.self.inside.txns c.self.invariant c.args.t.now c.in-Some.txn (sym c.in-Some.ensures.value)
 
-pub returns-clause-gone : goal.returns-clause-gone
-returns-clause-gone c = sym (look-up c.args.t c.shift_remove.new.self.entries) ∙ c.shift_remove.ensures.updates.1
+pub invariant_of-self : goal.invariant_of-self
+invariant_of-self c = subst (IsTable c.forget.new.self) (sym c.in-Some.ensures.rest)
+    (IsTable-removed c.self.inside.owed c.self.inside.txns c.self.invariant c.args.t.now c.in-Some.txn (sym c.in-Some.ensures.value) c.forget.new.self c.forget.ensures)
 
-pub returns-clause-others : goal.returns-clause-others
-returns-clause-others c = λ u apart. sym (look-up u c.shift_remove.new.self.entries) ∙ c.shift_remove.ensures.updates.2 u (eq-other c.args.t u apart)
-    ∙ look-up u c.self.inside.txns.entries ∙ ap (λ table. txn_at table u) c.self.view_is
+pub invariant_of-self-in_default : goal.invariant_of-self-in_default
+invariant_of-self-in_default c = subst (IsTable c.self.inside.owed) (sym (remove_entry-absent c.args.t.now c.self.inside.txns (sym c.remove.ensures.value ∙ c.in_default.is)) ∙ sym c.remove.ensures.rest) c.self.invariant
+
+pub returns-in-Some-clause-others : goal.returns-in-Some-clause-others
+returns-in-Some-clause-others c = λ u apart. ap (lookup (same_txn u)) c.remove.ensures.rest ∙ lookup-remove_entry_other c.args.t.now u apart c.self.inside.txns ∙ ap (λ (table : Transactions). txn_at table u) c.self.view_is
+
+pub returns-in_default-clause-others : goal.returns-in_default-clause-others
+returns-in_default-clause-others c = λ u apart. ap (lookup (same_txn u)) c.remove.ensures.rest ∙ lookup-remove_entry_other c.args.t.now u apart c.self.inside.txns ∙ ap (λ (table : Transactions). txn_at table u) c.self.view_is

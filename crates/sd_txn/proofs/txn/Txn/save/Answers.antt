@@ -9,5 +9,8 @@ invariant_of-self-2 c =
     let old = named vec_items c.self.inside.marks.entries in
     let name = c.into_items.result.items in
     let depth : c.len.result ≡ length c.self.inside.stack.items = search rules in
-    subst (λ marks. AreMarks marks (length c.self.inside.stack.items)) (sym (c.in_ok-put_mark.ensures.ok ∙ ap (λ n. with_mark name n old) depth))
-    (AreMarks-with_mark old (length c.self.inside.stack.items) name c.self.invariant)
+    record {
+      marked = subst (λ marks. AreMarks marks (length c.self.inside.stack.items)) (sym (c.in_ok-put_mark.ensures.ok ∙ ap (λ n. with_mark name n old) depth))
+          (AreMarks-with_mark old (length c.self.inside.stack.items) name c.self.invariant.marked);
+      summed = c.self.invariant.summed;
+    }
