@@ -1,5 +1,5 @@
--- What each call makes of a pool: for the goals of the calls of `Pool`.
-use Rattle.std.proofs.Common.{◌≡◌, ◌≢◌, ℕ, suc, ◌-◌, ◌≤◌, Bool, true, false, cond, List, [], ◌∷◌, length, take, Option, Some, None, IfSome, is_some, slice_get, option_map, eqb, refl, sym, ap, subst, ◌∙◌, arith}
+-- What each call makes of a pool: for the goals of the calls of `Pool`, and for the law.
+use Rattle.std.proofs.Common.{◌≡◌, ◌≢◌, ℕ, suc, ◌-◌, ◌≤◌, Bool, true, false, cond, List, [], ◌∷◌, length, take, Option, Some, None, IfSome, IsSome, is_some, slice_get, option_map, eqb, refl, sym, ap, subst, ◌∙◌, arith}
 use Rattle.std.specs.Cmp.{nat_eq_equiv}
 use Rattle.std.specs.List.{IsDistinct}
 use Rattle.std.specs.Map.{keys_of, lookup, remove_entry, set_value}
@@ -10,7 +10,7 @@ use Rattle.std.proofs.lemmas.Map.Keys.{IsDistinct-cons}
 use Rattle.std.proofs.lemmas.Option.{slice_get-get_or}
 use Rattle.lru.specs.LruCache.{LruCache, last_entry, promoted, put_entries, lru_cache}
 use Rattle.sd_page.specs.Page.{Page}
-use Rattle.sd_pool.specs.Buffers.{Buffers, image_at, least_recent, rewritten, used, with_page, without, IsPool, LacksFrame}
+use Rattle.sd_pool.specs.Buffers.{Buffers, image_at, least_recent, pages, rewritten, used, with_page, without, IsPool, LacksFrame}
 use Rattle.sd_pool.proofs.Held.{lookup_entry-lookup, remove_entry-absent, set_value-absent, lookup-remove_entry_other, IsDistinct-remove_entry, differs-remove_entry, lookup-remove_entry_same, length-remove_entry_le, length-remove_entry_held, IsSome-lookup_at, length-keys, slice_get-keys}
 
 pub IsPool-cleared : (pool : Buffers) → IsPool pool → IsPool (record { held = []; frames = pool.frames })
@@ -164,3 +164,37 @@ module _ (cache : LruCache ℕ Page) (p : ℕ) (image : Page) where
       by : (o : Option Page) → image_at (seen cache) p ≡ o → IsPool (option_map_or (λ _. with_page (seen cache) p image) o (seen cache))
       by None h = ok
       by (Some v) h = IsPool-with_page (seen cache) p image ok (λ lacks. let not : Some v ≡ None = sym h ∙ lacks.0 in cc)
+
+-- ---- a pool with an image written back
+
+module _ (pool : Buffers) (p : ℕ) (image : Page) where
+  abbrev put_back : Option Page → Buffers
+  put_back o = option_map_or (λ _. with_page pool p image) o pool
+
+  pub image_at-rewritten : IsSome (image_at pool p) → image_at (rewritten pool p image) p ≡ Some image
+  image_at-rewritten held = by (image_at pool p) held
+    where
+      by : (o : Option Page) → IsSome o → image_at (put_back o) p ≡ Some image
+      by None h = cc
+      by (Some v) h = image_at-with_page pool p image
+
+  pub image_at-rewritten_other : (q : ℕ) → q ≢ p → image_at (rewritten pool p image) q ≡ image_at pool q
+  image_at-rewritten_other q apart = by (image_at pool p)
+    where
+      by : (o : Option Page) → image_at (put_back o) q ≡ image_at pool q
+      by None = refl
+      by (Some v) = image_at-with_page_other pool p image q apart
+
+  pub pages-rewritten : pages (rewritten pool p image) ≡ pages (used pool p)
+  pages-rewritten = by (image_at pool p)
+    where
+      by : (o : Option Page) → pages (put_back o) ≡ pages (option_map_or (with_page pool p) o pool)
+      by None = refl
+      by (Some v) = refl
+
+  pub frames-rewritten : (rewritten pool p image).frames ≡ pool.frames
+  frames-rewritten = by (image_at pool p)
+    where
+      by : (o : Option Page) → (put_back o).frames ≡ pool.frames
+      by None = refl
+      by (Some v) = refl
