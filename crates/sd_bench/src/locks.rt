@@ -1,5 +1,7 @@
 //! Requests and releases of record locks.
 
+ghost use Rattle.std.specs.Prelude.{◌<◌};
+
 use sd_base::{InstNo, Memory, Mode, PageNo, Refusal, Rid, TxnId};
 use sd_reclock::RecordLocks;
 use std::alloc::Global;
@@ -13,7 +15,7 @@ const TXNS: u32 = 64;
 pub fn requests(alloc: Global, times: u32) -> bool {
     let mut locks = RecordLocks::new(alloc);
     for n in 0..times {
-        let (Some(txn), Some(rid)) = (txn_of(n), rid_of(n)) else {
+        let (Some(txn), Some(rid)) = (txn_of(n % TXNS + 1), rid_of(n)) else {
             return false;
         };
         if request(&mut locks, &txn, &rid).is_err() {
@@ -21,6 +23,48 @@ pub fn requests(alloc: Global, times: u32) -> bool {
         }
         if n / TXNS % 8 == 7 {
             locks.release_all(&txn);
+        }
+    }
+    true
+}
+
+/// Asks so many times for an exclusive lock of one that waits for nobody. For the asker a first one waits, for that one a
+/// second one, and so on: so many in all. `false` where there was no memory.
+pub fn requests_beside(alloc: Global, waiters: u32, times: u32) -> bool
+    requires { waiters < 512 }
+{
+    let mut locks = RecordLocks::new(alloc);
+    is_chained(&mut locks, waiters) && are_done(&mut locks, 0, waiters + 1, times)
+}
+
+// Gives each of the transactions, and the one behind the last waiter, its own record; then each of the waiters, from
+// the last on, waits for the record of the one before.
+fn is_chained(locks: &mut RecordLocks, waiters: u32) -> bool
+    requires { waiters < 512 }
+{
+    for n in 0..waiters + 2 {
+        if !are_done(locks, n, n, 1) {
+            return false;
+        }
+    }
+    for n in (0..waiters).rev() {
+        if !are_done(locks, n + 1, n, 1) {
+            return false;
+        }
+    }
+    true
+}
+
+// Asks so many times for the record of the second for the first.
+fn are_done(locks: &mut RecordLocks, asker: u32, owner: u32, times: u32) -> bool
+    requires { asker < 514 }
+{
+    let (Some(txn), Some(rid)) = (txn_of(asker + 1), rid_of(owner)) else {
+        return false;
+    };
+    for _ in 0..times {
+        if request(locks, &txn, &rid).is_err() {
+            return false;
         }
     }
     true
@@ -38,12 +82,12 @@ fn request(locks: &mut RecordLocks, txn: &TxnId, rid: &Rid) -> Result<(), Memory
     Ok(())
 }
 
-fn txn_of(n: u32) -> Option<TxnId> {
+fn txn_of(seq: u32) -> Option<TxnId> {
     let inst = InstNo::new(1)?;
     Some(TxnId {
         inst,
         epoch: 1,
-        seq: n % TXNS + 1,
+        seq,
     })
 }
 

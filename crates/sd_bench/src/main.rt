@@ -5,7 +5,7 @@
 //! Promises: nothing but that it does nothing undefined.
 //! Refuses: words that name no loop, by exit status 2; a loop that a layer stops, by exit status 1.
 //! Knows nothing of: time, which `benches/` takes from outside.
-//! Stands on: sd_base, sd_rig, sd_filerig, sd_logrec, sd_log, sd_reclock, sd_recovered.
+//! Stands on: sd_base, sd_rig, sd_gate, sd_filerig, sd_logrec, sd_log, sd_reclock, sd_recovered.
 //!
 //! To change:
 //! - free: all
@@ -48,6 +48,11 @@ fn run(rt: &HostRuntime, alloc: Global, words: &[String]) -> Option<bool> {
         [name, times] if name.as_str() == "locks" => {
             let times = times.parse::<u32>().ok()?;
             Some(locks::requests(alloc, times))
+        }
+        [name, waiters, times] if name.as_str() == "locks" => {
+            let waiters = waiters.parse::<u32>().ok().filter(|n| *n < 512)?;
+            let times = times.parse::<u32>().ok()?;
+            Some(locks::requests_beside(alloc, waiters, times))
         }
         [name, transfers, reads] if name.as_str() == "recovery" => {
             let transfers = transfers.parse::<u32>().ok()?;

@@ -6,16 +6,11 @@ ghost use Rattle.sd_rig.specs.Devices.{device_len};
 ghost use Rattle.sd_recovered.specs.Devices.{AreDevices};
 
 use sd_base::{Bytes, InstNo, Lsn, Memory, PageNo, TxnId};
-use sd_logrec::Record;
+use sd_gate::OPEN;
+use sd_logrec::{AREA, Record};
 use sd_recovered::recovered;
+use sd_rig::{DATA_LEN, LOG_LEN};
 use std::alloc::Global;
-
-/// The place of an area on its device, and the lengths of a log device and of the data device, in bytes.
-const AREA: usize = 130;
-
-const LOG_LEN: usize = 2_097_282;
-
-const DATA_LEN: usize = 2_099_200;
 
 /// Reads nine devices so many times, the first log of which has so many committed transfers between two records.
 /// `false` where they aren't read.
@@ -49,29 +44,29 @@ fn devices(alloc: Global, transfers: u32) -> Result<Vec<Bytes>, Memory>
     Ok(Vec::from_array(alloc, devices)?)
 }
 
-fn blank(alloc: Global, len: usize) -> Result<Bytes, Memory>
+fn blank(alloc: Global, len: u32) -> Result<Bytes, Memory>
     ensures { IfOk result (λ device. length device ≡ len) }
 {
-    Ok(Bytes::of(Vec::from_elem(alloc, 0u8, len)?))
+    Ok(Bytes::of(Vec::from_elem(alloc, 0u8, len as usize)?))
 }
 
 // A log device: the start of epoch 1, and each transfer as a group of its own.
 fn log(alloc: Global, transfers: u32) -> Result<Bytes, Memory>
     ensures { IfOk result (λ device. length device ≡ device_len 1) }
 {
-    let mut bytes = Vec::from_elem(alloc, 0u8, AREA)?;
+    let mut bytes = Vec::from_elem(alloc, 0u8, AREA as usize)?;
     let mut start = Vec::new(alloc);
     Record::Start { lsn: 1, epoch: 1 }.put(&mut start)?;
     put_group(&mut bytes, &start)?;
     for n in 0..transfers {
         put_group(&mut bytes, &transfer(alloc, n)?)?;
     }
-    bytes.resize(LOG_LEN, 0)?;
+    bytes.resize(LOG_LEN as usize, 0)?;
     Ok(Bytes::of(bytes))
 }
 
 fn put_group(bytes: &mut Vec<u8>, body: &[u8]) -> Result<(), Memory> {
-    bytes.push(0xA5)?;
+    bytes.push(OPEN)?;
     let len = u32::try_from(body.len()).unwrap_or(u32::MAX);
     bytes.extend_from_slice(&len.to_be_bytes())?;
     bytes.extend_from_slice(body)?;

@@ -1,6 +1,7 @@
 //! What stands in an event's way: claims of others, unresolved transactions, changed pages.
 
-ghost use Rattle.std.specs.Prelude.{◌≡◌, ◌↔◌, ℕ, IsTrue};
+ghost use Rattle.std.specs.Prelude.{◌≡◌, ◌↔◌, ℕ, IsTrue, IfOk};
+ghost use Rattle.std.specs.List.{Contains};
 ghost use Rattle.sd_base.specs.declared.ids.TxnId.{TxnId};
 ghost use Rattle.sd_model.specs.declared.act.Claim.TheVariants.{Excl};
 ghost use Rattle.sd_model.specs.Claims.{Clash};
@@ -12,8 +13,9 @@ ghost use Rattle.sd_oracle.specs.Lists.{meaning, claims_in, HasExcl};
 
 use crate::lists::Lists;
 use crate::standing::{claim, last_standing};
-use sd_base::{InstNo, PageNo, Rid, TxnId};
+use sd_base::{InstNo, Memory, PageNo, Rid, TxnId};
 use sd_model::{Claim, Life};
+use std::alloc::Global;
 
 impl Lists {
     /// Whether another transaction has a claim on the record that conflicts.
@@ -36,6 +38,26 @@ impl Lists {
             return false;
         }
         clashes(mode, self.claim(other, rid))
+    }
+
+    /// All other transactions whose claims on the record conflict with one of `txn` in the mode; one may be named more
+    /// than once.
+    pub fn obstacles(
+        &self,
+        alloc: Global,
+        txn: &TxnId,
+        rid: &Rid,
+        mode: Claim,
+    ) -> Result<Vec<TxnId>, Memory>
+        ensures { IfOk result (λ all. (u : TxnId) → (Contains all.items u ↔ Obstructs (meaning self.now) txn.now rid.now mode u)) }
+    {
+        let mut all = Vec::new(alloc);
+        for (other, _) in &self.parts {
+            if self.conflicts(other, txn, rid, mode) {
+                all.push(*other)?;
+            }
+        }
+        Ok(all)
     }
 
     /// Whether this is the lowest transaction whose claim on the record conflicts with one of `txn` in the mode.

@@ -1,6 +1,7 @@
 //! The serial table as a plain program: it says of each event and its reply whether the reply may follow.
 
 ghost use Rattle.std.specs.Prelude.{◌≡◌, ◌↔◌, IsTrue, IfOk, OnErr, None};
+ghost use Rattle.std.specs.List.{Contains};
 
 use crate::lists::Lists;
 use crate::outcome::Outcome;
@@ -26,6 +27,7 @@ impl Model for SerialTable {
 }
 
 impl SerialTable {
+    ghost use Rattle.sd_base.specs.declared.ids.TxnId.{TxnId};
     ghost use Rattle.sd_oracle.specs.Lists.{state_of, fresh_with};
     ghost use Rattle.sd_oracle.specs.Judging.{Judges};
     ghost use Rattle.sd_oracle.specs.Claimers.{Obstructs, IsLowestObstacle};
@@ -83,6 +85,19 @@ impl SerialTable {
         ensures { IsTrue result ↔ Obstructs (state_of self.now) txn.now rid.now mode other.now }
     {
         self.lists.conflicts(other, txn, rid, mode)
+    }
+
+    /// All that obstruct `txn` so, in any order; one may be named more than once.
+    pub fn obstacles(
+        &self,
+        alloc: Global,
+        txn: &TxnId,
+        rid: &Rid,
+        mode: Claim,
+    ) -> Result<Vec<TxnId>, Memory>
+        ensures { IfOk result (λ all. (u : TxnId) → (Contains all.items u ↔ Obstructs (state_of self.now) txn.now rid.now mode u)) }
+    {
+        self.lists.obstacles(alloc, txn, rid, mode)
     }
 
     /// Whether the last one is the lowest that obstructs `txn` so.

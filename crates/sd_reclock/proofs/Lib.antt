@@ -2,13 +2,12 @@ pub mod Orders
 pub mod Lowest
 pub mod Writes
 pub mod Agreeing
-pub mod Levels
-pub mod Choosing
-pub mod Parting
 pub mod Walks
-pub mod Layers
+pub mod Reached
+pub mod Counting
+pub mod Meeting
+pub mod Clashing
 pub mod Noting
-pub mod Waiting
 pub mod Lowering
 pub mod Owners
 pub mod Ranging

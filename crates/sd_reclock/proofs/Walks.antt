@@ -1,42 +1,99 @@
--- The lowest walk down the levels, and what it says of cycles. It serves the goals of search.rt.
-use Rattle.std.proofs.Common.{◌≡◌, ℕ, suc, ◌<◌, ◌≤◌, List, [], ◌∷◌, ◌++◌, length, Option, Some, refl, sym, ap, subst, ◌∙◌, ⊎_elim, arith, length-append, append_assoc, get_or}
+-- Walks told from their ends and from their starts, and what the first of them says of cycles. It serves the goals of search.rt.
+use Rattle.std.proofs.Common.{◌≡◌, ◌⊎◌, suc, ◌+◌, ◌<◌, ◌≤◌, List, [], ◌∷◌, ◌++◌, length, reverse, Option, Some, refl, sym, ap, subst, ◌∙◌, inl, inr, ⊎_elim, arith}
 use Rattle.std.proofs.lemmas.Bool.{cases_lt}
-use Rattle.std.proofs.lemmas.List.{append-nil, get_or_append_left}
-use Rattle.std.proofs.Math.Seq.{get_or-append_seam}
+use Rattle.std.proofs.lemmas.List.{append-nil, append_assoc, reverse-append, reverse-reverse, length-reverse}
 use Rattle.std.specs.Option.{IfSome}
-use Rattle.std.proofs.lemmas.Option.{slice_get_within, slice_get-get_or, get_or_from_slice_get}
-use Rattle.std.specs.List.{Contains, slice_get}
-use Rattle.std.specs.Global.{Vec}
 use Rattle.sd_base.specs.declared.ids.TxnId.{TxnId}
 use Rattle.sd_base.specs.Ids.{IsBelow}
 use Rattle.sd_base.specs.Waits.{Wait, Waits, WaitsFor, Obstacles, ComesBefore, EndsWith, IsChain, IsCycle, IsDeadlock, asking}
-use Rattle.sd_reclock.specs.Reaching.{Steps, Reaches, IsAt, AreLevels, Leads, IsTail, IsLowestTail}
-use Rattle.sd_reclock.proofs.Orders.{not_below_itself}
-use Rattle.sd_reclock.proofs.Levels.{IsLevel, at_next}
+use Rattle.sd_reclock.specs.Reaching.{Steps, IsBack, IsEarlier, Precedes}
+use Rattle.sd_reclock.proofs.Orders.{not_below_itself, below_trans}
 
-pub reaches_by : (steps : Steps) (t u : TxnId) (tail : List TxnId) → IsTail steps t u tail → Reaches steps t (length tail) u
-reaches_by steps t u [] h = h
-reaches_by steps t u (v ∷ vs) h = (v, h.0, reaches_by steps t v vs h.1)
+earlier_trans : (a b c : List TxnId) → IsEarlier a b → IsEarlier b c → IsEarlier a c
+earlier_trans [] b c h k = absurd h
+earlier_trans (x ∷ xs) [] c h k = absurd h
+earlier_trans (x ∷ xs) (y ∷ ys) [] h k = absurd k
+earlier_trans (x ∷ xs) (y ∷ ys) (z ∷ zs) h k = ⊎_elim
+    (λ e. ⊎_elim (λ f. inl (earlier_trans xs ys zs e f)) (λ f. inl (subst (λ (ws : List TxnId). IsEarlier xs ws) f.0 e)) k)
+    (λ e. ⊎_elim (λ f. inl (subst (λ (ws : List TxnId). IsEarlier ws zs) (sym e.0) f)) (λ f. inr (e.0 ∙ f.0, below_trans x y z e.1 f.1)) k)
+    h
 
-reaches_in : (steps : Steps) (t u : TxnId) (tail : List TxnId) (n : ℕ) → length tail ≡ n → IsTail steps t u tail → Reaches steps t n u
-reaches_in steps t u tail n e h = subst (λ (k : ℕ). Reaches steps t k u) e (reaches_by steps t u tail h)
+pub precedes_trans : (a b c : List TxnId) → Precedes a b → Precedes b c → Precedes a c
+precedes_trans a b c h k = ⊎_elim
+    (λ l. ⊎_elim (λ m. inl (omega arith)) (λ m. let e = m.0 in inl (omega arith)) k)
+    (λ l. let e = l.0 in ⊎_elim (λ m. inl (omega arith)) (λ m. let f = m.0 in inr (e ∙ f, earlier_trans a b c l.1 m.1)) k)
+    h
 
--- one more place of the lowest walk
-pub lowest_more : (steps : Steps) (t : TxnId) (n : ℕ) (u v : TxnId) (level tail : List TxnId) → IsLevel steps t n level → IsAt steps t (suc n) u → steps u v
-    → ((w : TxnId) → Contains level w → steps u w → IsBelow w v → ⊥) → IsLowestTail steps t v tail → length tail ≡ n → IsLowestTail steps t u (v ∷ tail)
-lowest_more steps t n u v level tail is at step low rest e = record {
-  leads = (step, rest.leads);
-  lowest = λ other leads same before. lower other leads same before;
-}
-  where
-    lower : (other : List TxnId) → IsTail steps t u other → length other ≡ length (v ∷ tail) → ComesBefore other (v ∷ tail) → ⊥
-    lower [] leads same before = before
-    lower (w ∷ ws) leads same before =
-        let short : length ws ≡ length tail = omega (arith, same) in
-        ⊎_elim
-        (λ b. low w ((is w).1 (at_next steps t n u w leads.0 at (reaches_in steps t w ws n (short ∙ e) leads.1))) leads.0 b)
-        (λ b. rest.lowest ws (subst (λ (x : TxnId). IsTail steps t x ws) b.0 leads.1) short b.1)
-        before
+pub precedes_length : (a b : List TxnId) → Precedes a b → length a ≤ length b
+precedes_length a b h = ⊎_elim (λ l. omega arith) (λ l. let e = l.0 in omega arith) h
+
+-- one step more, to whomever
+pub precedes_more : (x y : TxnId) (a b : List TxnId) → Precedes a b → Precedes (x ∷ a) (y ∷ b)
+precedes_more x y a b h = ⊎_elim (λ l. inl (omega arith)) (λ l. inr (ap suc l.0, inl l.1)) h
+
+-- one step more, to the lower one
+pub precedes_below : (x y : TxnId) (a : List TxnId) → IsBelow x y → Precedes (x ∷ a) (y ∷ a)
+precedes_below x y a b = inr (refl, inr (refl, b))
+
+-- to one end
+pub precedes_less : (x : TxnId) (a b : List TxnId) → Precedes (x ∷ a) (x ∷ b) → Precedes a b
+precedes_less x a b h = ⊎_elim
+    (λ l. inl (omega arith))
+    (λ l. let e = l.0 in ⊎_elim (λ f. inr (omega arith, f)) (λ f. absurd (not_below_itself x f.1)) l.1)
+    h
+
+reverse_cons : (x : TxnId) (xs : List TxnId) → reverse (x ∷ xs) ≡ reverse xs ++ x ∷ []
+reverse_cons x xs = reverse-append (x ∷ []) xs
+
+before_push : (fs gs : List TxnId) (x y : TxnId) → length fs ≡ length gs → ComesBefore (fs ++ x ∷ []) (gs ++ y ∷ []) → ComesBefore fs gs ⊎ ((fs ≡ gs) × IsBelow x y)
+before_push [] [] x y e h = ⊎_elim (λ b. inr (refl, b)) (λ b. absurd b.1) h
+before_push [] (b ∷ gs) x y e h = absurd (omega (arith, e))
+before_push (a ∷ fs) [] x y e h = absurd (omega (arith, e))
+before_push (a ∷ fs) (b ∷ gs) x y e h = ⊎_elim
+    (λ f. inl (inl f))
+    (λ f. ⊎_elim
+    (λ g. inl (inr (f.0, g)))
+    (λ g. inr (ap (λ (z : TxnId). z ∷ fs) f.0 ∙ ap (λ (zs : List TxnId). b ∷ zs) g.0, g.1))
+    (before_push fs gs x y (omega (arith, e)) f.1))
+    h
+
+-- the order of walks is the same from their ends
+pub earlier_from_before : (xs ys : List TxnId) → length xs ≡ length ys → ComesBefore (reverse xs) (reverse ys) → IsEarlier xs ys
+earlier_from_before [] ys e h = h
+earlier_from_before (x ∷ xs) [] e h = absurd (omega (arith, e))
+earlier_from_before (x ∷ xs) (y ∷ ys) e h =
+    let short : length xs ≡ length ys = omega (arith, e) in
+    ⊎_elim
+    (λ f. inl (earlier_from_before xs ys short f))
+    (λ f. inr (sym (reverse-reverse xs) ∙ ap reverse f.0 ∙ reverse-reverse ys, f.1))
+    (before_push (reverse xs) (reverse ys) x y (length-reverse xs ∙ short ∙ sym (length-reverse ys))
+    (subst (λ (zs : List TxnId). ComesBefore (reverse xs ++ x ∷ []) zs) (reverse_cons y ys) (subst (λ (zs : List TxnId). ComesBefore zs (reverse (y ∷ ys))) (reverse_cons x xs) h)))
+
+-- a walk from u that ends with t goes through these
+abbrev pub IsTail : Steps → TxnId → TxnId → List TxnId → Type 0
+IsTail steps t u [] = u ≡ t
+IsTail steps t u (v ∷ vs) = steps u v × IsTail steps t v vs
+
+turned : (u : TxnId) (back tail : List TxnId) → reverse (u ∷ back) ++ tail ≡ reverse back ++ u ∷ tail
+turned u back tail = ap (λ (xs : List TxnId). xs ++ tail) (reverse_cons u back) ∙ append_assoc (reverse back) (u ∷ []) tail
+
+-- a walk that is told from its end, from its start
+pub tail_from_back : (steps : Steps) (t e u : TxnId) (back tail : List TxnId) → IsBack steps t u back → IsTail steps e u tail
+    → (whole : List TxnId) × (reverse (u ∷ back) ++ tail ≡ t ∷ whole) × IsTail steps e t whole × (length whole ≡ length back + length tail)
+tail_from_back steps t e u [] tail h k = (tail, ap (λ (x : TxnId). x ∷ tail) h, subst (λ (x : TxnId). IsTail steps e x tail) h k, omega arith)
+tail_from_back steps t e u (v ∷ vs) tail h k =
+    let rest = tail_from_back steps t e v vs (u ∷ tail) h.1 (h.0, k) in
+    let long = rest.3 in
+    (rest.0, turned u (v ∷ vs) tail ∙ rest.1, rest.2, omega arith)
+
+-- and the other way round
+pub back_from_tail : (steps : Steps) (t e u : TxnId) (back tail : List TxnId) → IsBack steps t u back → IsTail steps e u tail
+    → (whole : List TxnId) × (reverse (u ∷ back) ++ tail ≡ reverse (e ∷ whole)) × IsBack steps t e whole × (length whole ≡ length back + length tail)
+back_from_tail steps t e u back [] h k = (back, append-nil (reverse (u ∷ back)) ∙ ap (λ (x : TxnId). reverse (x ∷ back)) k, subst (λ (x : TxnId). IsBack steps t x back) k h, omega arith)
+back_from_tail steps t e u back (v ∷ vs) h k =
+    let rest = back_from_tail steps t e v (u ∷ back) vs (k.0, h) k.1 in
+    let long = rest.3 in
+    (rest.0, sym (turned v (u ∷ back) vs) ∙ rest.1, rest.2, omega arith)
 
 -- a chain that ends with t is a walk to t
 tail_from_chain : (stands : Obstacles) (waits : Waits) (t u v : TxnId) (ts : List TxnId) → EndsWith t (v ∷ ts) → IsChain stands waits (u ∷ v ∷ ts) → IsTail (WaitsFor stands waits) t u (v ∷ ts)
@@ -55,110 +112,63 @@ chain_from_tail stands waits t u v (w ∷ ws) h = (h.0, chain_from_tail stands w
 walk_from_cycle : (stands : Obstacles) (waits : Waits) (t u v : TxnId) (ts : List TxnId) → IsCycle stands waits t (u ∷ v ∷ ts) → IsTail (WaitsFor stands waits) t t (v ∷ ts)
 walk_from_cycle stands waits t u v ts h = subst (λ (x : TxnId). IsTail (WaitsFor stands waits) t x (v ∷ ts)) h.0 (tail_from_chain stands waits t u v ts h.1 h.2)
 
-cycle_from_walk : (stands : Obstacles) (waits : Waits) (t : TxnId) (tail : List TxnId) (n : ℕ) → length tail ≡ suc n → IsTail (WaitsFor stands waits) t t tail → IsCycle stands waits t (t ∷ tail)
-cycle_from_walk stands waits t [] n e h = absurd (omega (arith, e))
-cycle_from_walk stands waits t (v ∷ ts) n e h = (refl, ends_from_tail stands waits t t v ts h, chain_from_tail stands waits t t v ts h)
+cycle_from_walk : (stands : Obstacles) (waits : Waits) (t : TxnId) (tail : List TxnId) → 0 < length tail → IsTail (WaitsFor stands waits) t t tail → IsCycle stands waits t (t ∷ tail)
+cycle_from_walk stands waits t [] l h = absurd (omega arith)
+cycle_from_walk stands waits t (v ∷ ts) l h = (refl, ends_from_tail stands waits t t v ts h, chain_from_tail stands waits t t v ts h)
 
--- where t is not within reach of itself, there is no cycle
-pub no_cycle : (stands : Obstacles) (waits : Waits) (t : TxnId) → ((m : ℕ) → 0 < m → Reaches (WaitsFor stands waits) t m t → ⊥) → (cycle : List TxnId) → IsCycle stands waits t cycle → ⊥
+-- a cycle, told from its end
+back_from_cycle : (stands : Obstacles) (waits : Waits) (t u v : TxnId) (ts : List TxnId) → IsCycle stands waits t (u ∷ v ∷ ts)
+    → (back : List TxnId) × (u ∷ v ∷ ts ≡ reverse (t ∷ back)) × IsBack (WaitsFor stands waits) t t back × (length back ≡ suc (length ts))
+back_from_cycle stands waits t u v ts h =
+    let rest = back_from_tail (WaitsFor stands waits) t t t [] (v ∷ ts) refl (walk_from_cycle stands waits t u v ts h) in
+    let long = rest.3 in
+    (rest.0, ap (λ (x : TxnId). x ∷ v ∷ ts) h.0 ∙ rest.1, rest.2, omega arith)
+
+-- where no walk of a step or more leads back, there is no cycle
+pub no_cycle : (stands : Obstacles) (waits : Waits) (t : TxnId) → ((back : List TxnId) → 0 < length back → IsBack (WaitsFor stands waits) t t back → ⊥) → (cycle : List TxnId) → IsCycle stands waits t cycle → ⊥
 no_cycle stands waits t never [] h = h
 no_cycle stands waits t never (u ∷ []) h = h
-no_cycle stands waits t never (u ∷ v ∷ ts) h = never (length (v ∷ ts)) (omega arith) (reaches_by (WaitsFor stands waits) t t (v ∷ ts) (walk_from_cycle stands waits t u v ts h))
+no_cycle stands waits t never (u ∷ v ∷ ts) h =
+    let b = back_from_cycle stands waits t u v ts h in
+    let long = b.3 in
+    never b.0 (omega arith) b.2
 
--- the lowest walk from t to t, of the least length, is the cycle that is told
-pub told_cycle : (stands : Obstacles) (waits : Waits) (t : TxnId) (wait : Wait) (tail : List TxnId) (n : ℕ) → IsAt (WaitsFor stands (asking t wait waits)) t (suc n) t → length tail ≡ suc n
-    → IsLowestTail (WaitsFor stands (asking t wait waits)) t t tail → IsDeadlock stands waits t wait (t ∷ tail)
-told_cycle stands waits t wait tail n at e low = record {
-  closes = cycle_from_walk stands (asking t wait waits) t tail n e low.leads;
+-- the first of the walks that lead back is the cycle that is told
+pub told_cycle : (stands : Obstacles) (waits : Waits) (t : TxnId) (wait : Wait) (back : List TxnId) → 0 < length back → IsBack (WaitsFor stands (asking t wait waits)) t t back
+    → ((other : List TxnId) → 0 < length other → IsBack (WaitsFor stands (asking t wait waits)) t t other → Precedes other back → ⊥) → IsDeadlock stands waits t wait (reverse (t ∷ back))
+told_cycle stands waits t wait back some leads first = record {
+  closes = subst (λ (xs : List TxnId). IsCycle stands (asking t wait waits) t xs) (sym is) (cycle_from_walk stands (asking t wait waits) t whole.0 (omega (arith, whole.3)) whole.2);
   shortest = λ other h. short other h;
   lowest = λ other h same before. lower other h same before;
 }
   where
-    short : (other : List TxnId) → IsCycle stands (asking t wait waits) t other → length (t ∷ tail) ≤ length other
+    whole : (xs : List TxnId) × (reverse (t ∷ back) ++ [] ≡ t ∷ xs) × IsTail (WaitsFor stands (asking t wait waits)) t t xs × (length xs ≡ length back + length {A = TxnId} [])
+    whole = tail_from_back (WaitsFor stands (asking t wait waits)) t t t back [] leads refl
+
+    is : reverse (t ∷ back) ≡ t ∷ whole.0
+    is = sym (append-nil (reverse (t ∷ back))) ∙ whole.1
+
+    short : (other : List TxnId) → IsCycle stands (asking t wait waits) t other → length (reverse (t ∷ back)) ≤ length other
     short [] h = absurd h
     short (u ∷ []) h = absurd h
-    short (u ∷ v ∷ ts) h = ⊎_elim
-        (λ l. absurd (at.least (length (v ∷ ts)) (omega arith) l (reaches_by (WaitsFor stands (asking t wait waits)) t t (v ∷ ts) (walk_from_cycle stands (asking t wait waits) t u v ts h))))
-        (λ l. omega (arith, e))
-        (cases_lt (length (v ∷ ts)) (suc n))
+    short (u ∷ v ∷ ts) h =
+        let b = back_from_cycle stands (asking t wait waits) t u v ts h in
+        let long = b.3 in
+        let size = length-reverse (t ∷ back) in
+        ⊎_elim (λ l. absurd (first b.0 (omega arith) b.2 (inl l))) (λ l. omega arith) (cases_lt (length b.0) (length back))
 
-    lower : (other : List TxnId) → IsCycle stands (asking t wait waits) t other → length other ≡ length (t ∷ tail) → ComesBefore other (t ∷ tail) → ⊥
+    lower : (other : List TxnId) → IsCycle stands (asking t wait waits) t other → length other ≡ length (reverse (t ∷ back)) → ComesBefore other (reverse (t ∷ back)) → ⊥
     lower [] h same before = h
     lower (u ∷ []) h same before = h
-    lower (u ∷ v ∷ ts) h same before = ⊎_elim
-        (λ b. not_below_itself t (subst (λ (x : TxnId). IsBelow x t) h.0 b))
-        (λ b. low.lowest (v ∷ ts) (walk_from_cycle stands (asking t wait waits) t u v ts h) (omega (arith, same)) b.1)
-        before
-
--- the walk so far: whatever the lowest walk from here is, it ends the lowest walk from t
-pub record IsOnWay (steps : Steps) (t : TxnId) (all left : List (Vec TxnId)) (at : TxnId) (path : List TxnId) : Type 0 where
-  pub levels : AreLevels steps t left
-  pub here : IsAt steps t (length left) at
-  pub ends : (tail : List TxnId) → IsLowestTail steps t at tail → length tail ≡ length left
-      → (whole : List TxnId) × (path ++ tail ≡ t ∷ whole) × IsLowestTail steps t t whole × (length whole ≡ length all)
-
-get_front : (xs ys : List (Vec TxnId)) (k : ℕ) (x : Vec TxnId) → slice_get xs k ≡ Some x → slice_get (xs ++ ys) k ≡ Some x
-get_front xs ys k x e =
-    let l : k < length xs = slice_get_within xs k x e in
-    slice_get-get_or (xs ++ ys) k x (omega (arith, length-append xs ys)) ∙ ap (λ (y : Vec TxnId). Some y) (get_or_append_left xs ys x k l ∙ get_or_from_slice_get xs k x x e)
-
-get_last : (xs : List (Vec TxnId)) (x : Vec TxnId) → slice_get (xs ++ x ∷ []) (length xs) ≡ Some x
-get_last xs x = slice_get-get_or (xs ++ x ∷ []) (length xs) x (omega (arith, length-append xs (x ∷ []))) ∙ ap (λ (y : Vec TxnId). Some y) (get_or-append_seam xs x [] x)
-
--- the last level, and those below it
-pub levels_below : (steps : Steps) (t : TxnId) (all below : List (Vec TxnId)) (level : Vec TxnId) → all ≡ below ++ level ∷ [] → AreLevels steps t all → AreLevels steps t below
-levels_below steps t all below level e are n l u is = are n l u (subst (λ (xs : List (Vec TxnId)). slice_get xs n ≡ Some l) (sym e) (get_front below (level ∷ []) n l is))
-
-pub level_last : (steps : Steps) (t : TxnId) (all below : List (Vec TxnId)) (level : Vec TxnId) → all ≡ below ++ level ∷ [] → AreLevels steps t all → IsLevel steps t (length below) level.items
-level_last steps t all below level e are u = are (length below) level u (subst (λ (xs : List (Vec TxnId)). slice_get xs (length below) ≡ Some level) (sym e) (get_last below level))
-
-pub levels_push : (steps : Steps) (t : TxnId) (below : List (Vec TxnId)) (level : Vec TxnId) → AreLevels steps t below → IsLevel steps t (length below) level.items → AreLevels steps t (below ++ level ∷ [])
-levels_push steps t below level are is n l u e = ⊎_elim
-    (λ low. are n l u (slice_get-get_or below n l low ∙ ap (λ (y : Vec TxnId). Some y) (sym (get_or_append_left below (level ∷ []) l n low) ∙ get_or_from_slice_get (below ++ level ∷ []) n l l e)))
-    (λ high.
-    let bound : n < length (below ++ level ∷ []) = slice_get_within (below ++ level ∷ []) n l e in
-    let same : n ≡ length below = omega (arith, length-append below (level ∷ [])) in
-    let here : l ≡ level = sym (get_or_from_slice_get (below ++ level ∷ []) n l level e) ∙ ap (λ (k : ℕ). get_or (below ++ level ∷ []) k level) same ∙ get_or-append_seam below level [] level in
-    let Q : TxnId → List TxnId → ℕ → Type 0 = λ u xs k. (Contains xs u → IsAt steps t k u) × (IsAt steps t k u → Contains xs u) in
-    subst (λ (k : ℕ). Q u l.items k) (sym same) (subst (λ (x : Vec TxnId). Q u x.items (length below)) (sym here) (is u)))
-    (cases_lt n (length below))
-
-leads_at : (steps : Steps) (t : TxnId) (n : ℕ) (u : TxnId) (level : List TxnId) → IsLevel steps t n level → IsAt steps t (suc n) u → Leads steps level u
-leads_at steps t n u level is at = (at.reaches.0, (is at.reaches.0).1 (at_next steps t n u at.reaches.0 at.reaches.1 at at.reaches.2), at.reaches.1)
-
-long : (all below : List (Vec TxnId)) (level : Vec TxnId) → all ≡ below ++ level ∷ [] → length all ≡ suc (length below)
-long all below level e = ap length e ∙ length-append below (level ∷ []) ∙ omega arith
-
--- from where the walk stands, a step leads into the last level
-pub way_leads : (steps : Steps) (t at : TxnId) (all left below : List (Vec TxnId)) (level : Vec TxnId) (path : List TxnId) → left ≡ below ++ level ∷ [] → IsOnWay steps t all left at path → Leads steps level.items at
-way_leads steps t at all left below level path e way =
-    leads_at steps t (length below) at level.items (level_last steps t left below level e way.levels) (subst (λ (k : ℕ). IsAt steps t k at) (long left below level e) way.here)
-
-pub way_more : (steps : Steps) (t at next : TxnId) (all left below : List (Vec TxnId)) (level : Vec TxnId) (path : List TxnId) → left ≡ below ++ level ∷ []
-    → Contains level.items next → steps at next → ((w : TxnId) → Contains level.items w → steps at w → IsBelow w next → ⊥)
-    → IsOnWay steps t all left at path → IsOnWay steps t all below next (path ++ next ∷ [])
-way_more steps t at next all left below level path e in_level step low way =
-    let is = level_last steps t left below level e way.levels in
-    let here : IsAt steps t (suc (length below)) at = subst (λ (k : ℕ). IsAt steps t k at) (long left below level e) way.here in
-    record {
-      levels = levels_below steps t left below level e way.levels;
-      here = (is next).0 in_level;
-      ends = λ tail lowest same.
-          let rest = way.ends (next ∷ tail) (lowest_more steps t (length below) at next level.items tail is here step low lowest same) (ap suc same ∙ sym (long left below level e)) in
-          (rest.0, append_assoc path (next ∷ []) tail ∙ rest.1, rest.2, rest.3);
-    }
-
-none_before : (other : List TxnId) → ComesBefore other [] → ⊥
-none_before [] h = h
-none_before (x ∷ xs) h = h
-
--- where no level is left, the walk is whole
-pub way_end : (steps : Steps) (t at : TxnId) (all left : List (Vec TxnId)) (path : List TxnId) → left ≡ [] → IsOnWay steps t all left at path
-    → (whole : List TxnId) × (path ≡ t ∷ whole) × IsLowestTail steps t t whole × (length whole ≡ length all)
-way_end steps t at all left path e way =
-    let here : IsAt steps t 0 at = subst (λ (xs : List (Vec TxnId)). IsAt steps t (length xs) at) e way.here in
-    let rest = way.ends [] (record { leads = here.reaches; lowest = λ other leads same before. none_before other before }) (sym (ap length e)) in
-    (rest.0, sym (append-nil path) ∙ rest.1, rest.2, rest.3)
+    lower (u ∷ v ∷ ts) h same before =
+        let b = back_from_cycle stands (asking t wait waits) t u v ts h in
+        let long = b.3 in
+        let size = length-reverse (t ∷ back) in
+        let equal : length b.0 ≡ length back = omega arith in
+        ⊎_elim
+        (λ e. first b.0 (omega arith) b.2 (inr (equal, e)))
+        (λ e. not_below_itself t e.1)
+        (earlier_from_before (t ∷ b.0) (t ∷ back) (ap suc equal) (subst (λ (xs : List TxnId). ComesBefore xs (reverse (t ∷ back))) b.1 before))
 
 pub at_some : (o : Option TxnId) (x : TxnId) (P : TxnId → Type 0) → o ≡ Some x → IfSome o P → P x
 at_some o x P e h = let Q : Option TxnId → Type 0 = λ y. IfSome y P in subst Q e h

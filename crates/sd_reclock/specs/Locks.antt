@@ -16,6 +16,10 @@ Modes = List (TxnId × Mode)
 abbrev pub mode_of : Modes → TxnId → Option Mode
 mode_of holders t = lookup (same_txn t) holders
 
+-- u is another one than t, and its lock conflicts with one in the mode
+abbrev pub ClashesIn : Modes → TxnId → Mode → TxnId → Type 0
+ClashesIn holders t mode u = (t ≢ u) × ((held : Mode) × (mode_of holders u ≡ Some held) × Clash mode held)
+
 -- the locks on all records
 abbrev pub Held : Type 0
 Held = List (Rid × Modes)

@@ -1,53 +1,66 @@
--- In how many steps a transaction is reached, where each step leads from one that waits to one that it waits for.
-use Rattle.std.specs.Prelude.{◌≡◌, ◌⊎◌, ℕ, zero, suc, ◌+◌, ◌<◌, ◌≤◌, List, [], ◌∷◌, length, slice_get, Some}
-use Rattle.std.specs.List.{All, Contains}
-use Rattle.std.specs.Global.{Vec}
+-- Walks along steps, from one that waits to one that it waits for, and how far the search for the first walk has come.
+use Rattle.std.specs.Prelude.{◌≡◌, ◌≢◌, ◌⊎◌, ◌↔◌, ℕ, ◌<◌, ◌≤◌, Bool, true, List, [], ◌∷◌, length, slice_index_or}
+use Rattle.std.specs.List.{Contains}
 use Rattle.sd_base.specs.declared.ids.TxnId.{TxnId}
-use Rattle.sd_base.specs.Waits.{ComesBefore}
+use Rattle.sd_base.specs.Ids.{IsBelow}
+use Rattle.sd_reclock.specs.declared.search.Met.{Met}
 
 abbrev pub Steps : Type 1
 Steps = TxnId → TxnId → Type 0
 
--- t is reached from u in exactly so many steps
-abbrev pub Reaches : Steps → TxnId → ℕ → TxnId → Type 0
-Reaches steps t zero u = u ≡ t
-Reaches steps t (suc n) u = (v : TxnId) × steps u v × Reaches steps t n v
+-- exactly those of which P holds
+abbrev pub AreThose : (TxnId → Type 0) → List TxnId → Type 0
+AreThose P xs = (u : TxnId) → (Contains xs u ↔ P u)
 
--- t is reached from u in at least one step, and in at most so many
-abbrev pub IsWithin : Steps → TxnId → ℕ → TxnId → Type 0
-IsWithin steps t n u = (m : ℕ) × (0 < m) × (m ≤ n) × Reaches steps t m u
+-- the same, from the lowest up
+pub record AreNext (P : TxnId → Type 0) (xs : List TxnId) : Type 0 where
+  pub those : AreThose P xs
+  pub rising : (i j : ℕ) (d : TxnId) → i < j → j < length xs → IsBelow (slice_index_or xs j d) (slice_index_or xs i d) → ⊥
 
--- t is reached from u in so many steps, and in fewer only in none
-pub record IsAt (steps : Steps) (t : TxnId) (n : ℕ) (u : TxnId) : Type 0 where
-  pub reaches : Reaches steps t n u
-  pub least : (m : ℕ) → 0 < m → m < n → Reaches steps t m u → ⊥
+-- a walk from t to u, told from its end: the list has who comes before u, then who comes before that one, down to t
+abbrev pub IsBack : Steps → TxnId → TxnId → List TxnId → Type 0
+IsBack steps t u [] = u ≡ t
+IsBack steps t u (v ∷ vs) = steps v u × IsBack steps t v vs
 
--- level n has exactly those from which t is reached in n steps, and in fewer only in none
-abbrev pub AreLevels : Steps → TxnId → List (Vec TxnId) → Type 0
-AreLevels steps t levels = (n : ℕ) (level : Vec TxnId) (u : TxnId) → slice_get levels n ≡ Some level → (Contains level.items u → IsAt steps t n u) × (IsAt steps t n u → Contains level.items u)
+-- of two walks of one length, told from their ends, the first comes before: the first difference from t on decides
+abbrev pub IsEarlier : List TxnId → List TxnId → Type 0
+IsEarlier [] ys = ⊥
+IsEarlier (x ∷ xs) [] = ⊥
+IsEarlier (x ∷ xs) (y ∷ ys) = IsEarlier xs ys ⊎ ((xs ≡ ys) × IsBelow x y)
 
--- the rest has all others that make a step
-pub record IsRest (steps : Steps) (t : TxnId) (n : ℕ) (rest : List TxnId) : Type 0 where
-  pub farther : (u : TxnId) → Contains rest u → IsWithin steps t n u → ⊥
-  pub covers : (u v : TxnId) → steps u v → IsWithin steps t n u ⊎ Contains rest u
+-- the first walk is shorter, or as long and comes before
+abbrev pub Precedes : List TxnId → List TxnId → Type 0
+Precedes xs ys = (length xs < length ys) ⊎ ((length xs ≡ length ys) × IsEarlier xs ys)
 
--- a step leads from u to one of the goals
-abbrev pub Leads : Steps → List TxnId → TxnId → Type 0
-Leads steps goals u = (v : TxnId) × Contains goals v × steps u v
+-- the one at a place; t is at the first
+abbrev pub met_at : TxnId → List Met → ℕ → Met
+met_at t found k = slice_index_or found k (record { txn = t; from = 0 })
 
--- the rest in two parts: those from which a step leads to a goal, and the others
-pub record IsParted (steps : Steps) (goals rest near far : List TxnId) : Type 0 where
-  pub near_leads : All (λ u. Contains rest u × Leads steps goals u) near
-  pub far_stays : All (λ u. Contains rest u × (Leads steps goals u → ⊥)) far
-  pub whole : All (λ u. Contains near u ⊎ Contains far u) rest
-  pub size : length near + length far ≡ length rest
+-- the way by which the one at the place k was met, told from its end
+abbrev pub IsWay : TxnId → List Met → ℕ → List TxnId → Type 0
+IsWay t found k [] = k ≡ 0
+IsWay t found k (x ∷ xs) = (0 < k) × ((met_at t found (met_at t found k).from).txn ≡ x) × IsWay t found (met_at t found k).from xs
 
--- a walk from u that ends with t goes through these
-abbrev pub IsTail : Steps → TxnId → TxnId → List TxnId → Type 0
-IsTail steps t u [] = u ≡ t
-IsTail steps t u (v ∷ vs) = steps u v × IsTail steps t v vs
+-- u was met
+abbrev pub IsMet : TxnId → List Met → TxnId → Type 0
+IsMet t found u = (k : ℕ) × (k < length found) × ((met_at t found k).txn ≡ u)
 
--- the lowest of its length
-pub record IsLowestTail (steps : Steps) (t : TxnId) (u : TxnId) (tail : List TxnId) : Type 0 where
-  pub leads : IsTail steps t u tail
-  pub lowest : (other : List TxnId) → IsTail steps t u other → length other ≡ length tail → ComesBefore other tail → ⊥
+-- Those in front of the place `at` have been looked at: all that wait of those that they wait for are met, and t isn't among
+-- these; of those that the one at the place waits for these are done. Each was met by the first of the walks to it, and they
+-- stand in the order of their walks.
+pub record IsReached (steps : Steps) (waits : TxnId → Type 0) (t : TxnId) (found : List Met) (seen : TxnId → Bool) (at : ℕ) (done : List TxnId) : Type 0 where
+  pub way : ℕ → List TxnId
+  pub some : 0 < length found
+  pub start : (met_at t found 0).txn ≡ t
+  pub origin : way 0 ≡ []
+  pub back : (k : ℕ) → 0 < k → k < length found → (met_at t found k).from < k
+  pub before : (k : ℕ) → 0 < k → k < length found → (met_at t found k).from ≤ at
+  pub child : (k : ℕ) → 0 < k → k < length found → (met_at t found k).from ≡ at → Contains done (met_at t found k).txn
+  pub longer : (k : ℕ) → 0 < k → k < length found → way k ≡ (met_at t found (met_at t found k).from).txn ∷ way (met_at t found k).from
+  pub leads : (k : ℕ) → k < length found → IsBack steps t (met_at t found k).txn (way k)
+  pub order : (k l : ℕ) → k < l → l < length found → Precedes ((met_at t found k).txn ∷ way k) ((met_at t found l).txn ∷ way l)
+  pub least : (k : ℕ) → k < length found → (walk : List TxnId) → IsBack steps t (met_at t found k).txn walk → Precedes walk (way k) → ⊥
+  pub closed : (k : ℕ) → k < at → k < length found → (u : TxnId) → steps (met_at t found k).txn u → (u ≢ t) × (waits u → IsMet t found u)
+  pub gone : (u : TxnId) → Contains done u → waits u → IsMet t found u
+  pub seen_met : (u : TxnId) → seen u ≡ true → IsMet t found u
+  pub met_seen : (u : TxnId) → IsMet t found u → u ≢ t → seen u ≡ true

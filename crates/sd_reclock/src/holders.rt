@@ -1,11 +1,12 @@
 //! The locks on one record, in the order of their transactions. They see no other record and no wait.
 
-ghost use Rattle.std.specs.Prelude.{◌≡◌, [], None, Some, cond, IsTrue, OnOk, OnErr, ◌↔◌};
+ghost use Rattle.std.specs.Prelude.{◌≡◌, [], None, Some, cond, IsTrue, IfOk, OnOk, OnErr, ◌↔◌};
 ghost use Rattle.sd_base.specs.declared.ids.TxnId.{TxnId};
 ghost use Rattle.sd_base.specs.Ids.{same_txn};
-ghost use Rattle.sd_reclock.specs.Locks.{mode_of, raised, AgreeAmong, IsLowestHolder, IsNoStronger, IsOwner};
+ghost use Rattle.sd_reclock.specs.Locks.{mode_of, raised, AgreeAmong, ClashesIn, IsLowestHolder, IsNoStronger, IsOwner};
+ghost use Rattle.sd_reclock.specs.Reaching.{AreThose};
 
-use crate::wait::raise;
+use crate::wait::{clashes, raise};
 use sd_base::{Memory, Mode, TxnId};
 use std::alloc::Global;
 use std::collections::BTreeMap;
@@ -64,6 +65,19 @@ impl Holders {
                 None => None,
             },
         }
+    }
+
+    /// All other transactions whose lock conflicts with one in the mode.
+    pub fn clashing(&self, alloc: Global, not: &TxnId, mode: Mode) -> Result<Vec<TxnId>, Memory>
+        ensures { IfOk result (λ all. AreThose (ClashesIn self.now not.now mode) all.items) }
+    {
+        let mut all = Vec::new(alloc);
+        for (t, held) in &self.modes {
+            if t != not && clashes(mode, *held) {
+                all.push(*t)?;
+            }
+        }
+        Ok(all)
     }
 
     /// Gives the lock, or raises one that is there. After `Memory` all is as before.

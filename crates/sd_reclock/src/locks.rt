@@ -1,6 +1,6 @@
 //! The locks on all records, and an index from a transaction to its records. They see no wait.
 
-ghost use Rattle.std.specs.Prelude.{◌≡◌, ◌⊎◌, ◌+◌, ◌||◌, ◌&&◌, [], None, Some, cond, true, false, IsTrue, OnOk, OnErr, MatchOption, IfSome};
+ghost use Rattle.std.specs.Prelude.{◌≡◌, ◌⊎◌, ◌+◌, ◌||◌, ◌&&◌, ◌↔◌, [], None, Some, cond, true, false, IsTrue, OnOk, OnErr, MatchOption, IfSome};
 ghost use Rattle.std.specs.List.{list_any};
 ghost use Rattle.std.specs.declared.ops.Bound.TheVariants.{Excluded, Unbounded};
 ghost use Rattle.sd_base.specs.declared.ids.TxnId.{TxnId};
@@ -92,6 +92,19 @@ impl Locks {
         }
     }
 
+    // Whether the last one stands in the way of the first.
+    fn stands(&self, t: &TxnId, wait: &Asked, u: &TxnId) -> bool
+        ensures { IsTrue result ↔ StandsIn self.now t.now (wait_of wait.now) u.now }
+    {
+        if t == u {
+            return false;
+        }
+        match self.mode_of(u, &wait.rid) {
+            Some(mode) => clashes(wait.mode, mode),
+            None => false,
+        }
+    }
+
     /// Gives the lock, or raises one that is there. After `Memory` the locks are as before.
     pub fn put(&mut self, t: &TxnId, wait: &Asked) -> Result<(), Memory>
         requires free { IsFree (StandsIn self.old) t.now (wait_of wait.now) }
@@ -144,13 +157,13 @@ impl Locks {
 impl Standing for Locks {
     ghost stands = { StandsIn };
 
-    fn stands(&self, t: &TxnId, wait: &Asked, u: &TxnId) -> bool {
-        if t == u {
-            return false;
+    fn obstacles(&self, alloc: Global, t: &TxnId, wait: &Asked) -> Result<Vec<TxnId>, Memory> {
+        if self.obstacle(t, wait).is_none() {
+            return Ok(Vec::new(alloc));
         }
-        match self.mode_of(u, &wait.rid) {
-            Some(mode) => clashes(wait.mode, mode),
-            None => false,
+        match self.records.get(&wait.rid) {
+            Some(holders) => holders.clashing(alloc, t, wait.mode),
+            None => Ok(Vec::new(alloc)),
         }
     }
 }

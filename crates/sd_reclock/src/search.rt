@@ -1,27 +1,25 @@
 //! The search for the cycle that an asked lock would close. It sees locks and waits, and changes nothing.
 
-ghost use Rattle.std.specs.Prelude.{◌≡◌, ◌↔◌, ◌⊎◌, ◌∷◌, List, Some, IsTrue, IsSome, IfSome, IfOk, IfNone, length, option_map};
-ghost use Rattle.std.specs.List.{Contains};
-ghost use Rattle.std.specs.BTreeMap.{keys};
+ghost use Rattle.std.specs.Prelude.{◌≡◌, ◌+◌, ◌<◌, ◌≤◌, ◌∷◌, [], ℕ, List, IfSome, IfOk, IfNone, OnOk, length, option_map, reverse};
 ghost use Rattle.sd_base.specs.declared.ids.TxnId.{TxnId};
-ghost use Rattle.sd_base.specs.Ids.{IsBelow};
 ghost use Rattle.sd_base.specs.Waits.{Wait, asking};
 ghost use Rattle.sd_reclock.specs.Locks.{wait_of};
-ghost use Rattle.sd_reclock.specs.Reaching.{AreLevels, IsAt, IsLowestTail, IsParted, Leads};
-ghost use Rattle.sd_reclock.specs.Searching.{steps_of, waits_of, ClosesFirst, ClosesNone};
+ghost use Rattle.sd_reclock.specs.Reaching.{met_at, AreNext, AreThose, IsReached, IsWay};
+ghost use Rattle.sd_reclock.specs.Searching.{has_seen, steps_of, unseen, waits_of, ClosesFirst, ClosesNone, IsWaiting};
 
 use crate::wait::Asked;
 use sd_base::{Cycle, Memory, TxnId};
 use std::alloc::Global;
-use std::collections::BTreeMap;
+use std::collections::{BTreeMap, BTreeSet};
 
 /// Who stands in whose way. A table of locks says it, or any other keeper of locks.
 pub trait Standing {
     ghost stands: { Self → TxnId → Wait → TxnId → Type 0 };
 
-    /// Whether the last one stands in the way of the first, which would wait so.
-    fn stands(&self, t: &TxnId, wait: &Asked, u: &TxnId) -> bool
-        ensures { IsTrue result ↔ stands self.now t.now (wait_of wait.now) u.now };
+    /// All that stand in the way of the transaction, which would wait so, in any order; one may be named
+    /// more than once.
+    fn obstacles(&self, alloc: Global, t: &TxnId, wait: &Asked) -> Result<Vec<TxnId>, Memory>
+        ensures { IfOk result (λ all. AreThose (stands self.now t.now (wait_of wait.now)) all.items) };
 }
 
 /// The locks and the waits as they are while a transaction asks for a lock. A wait of the asker that the
@@ -46,141 +44,93 @@ impl<L: Standing> Asking<'_, L> {
         }
     }
 
-    // Whether the first waits for the second.
-    fn steps(&self, t: &TxnId, u: &TxnId) -> bool
-        ensures { IsTrue result ↔ steps_of L.stands self.now t.now u.now }
+    // Those that this one waits for, from the lowest up.
+    fn next_of(&self, alloc: Global, t: &TxnId) -> Result<Vec<TxnId>, Memory>
+        ensures { IfOk result (λ next. AreNext (steps_of L.stands self.now t.now) next.items) }
     {
-        match self.wait_of(t) {
-            Some(wait) => self.locks.stands(t, &wait, u),
-            None => false,
-        }
-    }
-
-    // All that the table has as waiting.
-    fn blocked(&self, alloc: Global) -> Result<Vec<TxnId>, Memory>
-        ensures { IfOk result (λ all. all.items ≡ keys self.now.waits.now) }
-    {
-        Ok(self.waits.keys().copied().collect(alloc)?)
-    }
-
-    // All that wait, with the asker.
-    fn waiting(&self, alloc: Global) -> Result<Vec<TxnId>, Memory>
-        ensures { IfOk result (λ all. (t u : TxnId) → steps_of L.stands self.now t u → Contains all.items t) }
-    {
-        let mut all = self.blocked(alloc)?;
-        all.push(self.asker)?;
-        Ok(all)
-    }
-
-    // Whether a step leads from this one to one of the goals.
-    fn leads(&self, t: &TxnId, goals: &[TxnId]) -> bool
-        ensures { IsTrue result ↔ Leads (steps_of L.stands self.now) goals.now t.now }
-    {
-        for goal in goals {
-            if self.steps(t, goal) {
-                return true;
-            }
-        }
-        false
-    }
-
-    // Parts the rest into those from which a step leads to a goal, and the others.
-    fn part(
-        &self,
-        alloc: Global,
-        rest: &[TxnId],
-        goals: &[TxnId],
-    ) -> Result<(Vec<TxnId>, Vec<TxnId>), Memory>
-        ensures { IfOk result (λ parts. IsParted (steps_of L.stands self.now) goals.now rest.now parts.0.items parts.1.items) }
-    {
-        let mut near = Vec::new(alloc);
-        let mut far = Vec::new(alloc);
-        for t in rest {
-            if self.leads(t, goals) {
-                near.push(*t)?;
-            } else {
-                far.push(*t)?;
-            }
-        }
-        Ok((near, far))
-    }
-
-    // The lowest of the level that this one waits for.
-    fn lowest(&self, t: &TxnId, level: &[TxnId]) -> Option<TxnId>
-        ensures some { Leads (steps_of L.stands self.now) level.now t.now → IsSome result }
-        ensures there { IfSome result (λ u. Contains level.now u × steps_of L.stands self.now t.now u) }
-        ensures lowest { IfSome result (λ u. (v : TxnId) → Contains level.now v → steps_of L.stands self.now t.now v → IsBelow v u → ⊥) }
-    {
-        let mut lowest: Option<TxnId> = None;
-        for u in level {
-            if self.steps(t, u) {
-                lowest = Some(lower(lowest, u));
-            }
-        }
-        lowest
-    }
-
-    // Goes down the levels from the asker, each time to the lowest that the last one waits for.
-    fn walk(&self, alloc: Global, mut levels: Vec<Vec<TxnId>>) -> Result<Vec<TxnId>, Memory>
-        requires levels { AreLevels (steps_of L.stands self.now) self.now.asker levels.items }
-        requires start { IsAt (steps_of L.stands self.now) self.now.asker (length levels.items) self.now.asker }
-        ensures { IfOk result (λ path. (tail : List TxnId) × (path.items ≡ self.now.asker ∷ tail)
-            × IsLowestTail (steps_of L.stands self.now) self.now.asker self.now.asker tail × (length tail ≡ length levels.items)) }
-    {
-        let mut at = same(&self.asker);
-        let mut path = Vec::new(alloc);
-        path.push(same(&at))?;
-        while let Some(level) = levels.pop() {
-            let next = self.lowest(&at, &level).unwrap();
-            path.push(same(&next))?;
-            at = next;
-        }
-        Ok(path)
+        let Some(wait) = self.wait_of(t) else {
+            return Ok(Vec::new(alloc));
+        };
+        let mut next = self.locks.obstacles(alloc, t, &wait)?;
+        next.sort_unstable();
+        Ok(next)
     }
 
     /// The cycle that the asker's wait would close: a shortest one, the lowest of them by numbers.
     /// `None` exactly where there is no cycle.
     ///
-    /// Level by level, it finds from which of the waiting ones the asker is reached in so many steps.
+    /// From the asker on, level by level, it goes to those that the last ones wait for, until it meets the
+    /// asker. Those of a level stand in the order of the lowest ways to them, so the first way that meets
+    /// the asker is the lowest of the shortest.
     pub fn cycle(&self, alloc: Global) -> Result<Option<Cycle>, Memory>
         ensures none { IfOk result (λ found. IfNone found (ClosesNone L.stands self.now)) }
         ensures found { IfOk result (λ found. IfSome found (ClosesFirst L.stands self.now)) }
     {
-        let mut levels = Vec::new(alloc);
-        let mut goals = Vec::new(alloc);
-        goals.push(self.asker)?;
-        let mut rest = self.waiting(alloc)?;
-        'level: loop {
-            let (near, far) = self.part(alloc, &rest, &goals)?;
-            levels.push(goals)?;
-            if near.contains(&self.asker) {
-                let path = self.walk(alloc, levels)?;
-                return Ok(Some(Cycle::of(path)));
+        let mut seen = BTreeSet::new(alloc);
+        let mut found = Vec::new(alloc);
+        found.push(Met {
+            txn: self.asker,
+            from: 0,
+        })?;
+        let mut at = 0;
+        'place: while at < found.len() {
+            let next = self.next_of(alloc, &found[at].txn)?;
+            if next.contains(&self.asker) {
+                let way = self.way(alloc, &found, at)?;
+                return Ok(Some(Cycle::of(way)));
             }
-            if near.is_empty() {
-                return Ok(None);
-            }
-            goals = near;
-            rest = far;
+            self.meet(&next, at, &mut seen, &mut found)?;
+            at += 1;
         }
+        Ok(None)
+    }
+
+    // Adds those that the one at the place waits for, as far as they wait themselves, each once.
+    fn meet(
+        &self,
+        next: &[TxnId],
+        at: usize,
+        seen: &mut BTreeSet<TxnId>,
+        found: &mut Vec<Met>,
+    ) -> Result<(), Memory>
+        requires reached { IsReached (steps_of L.stands self.now) (IsWaiting self.now) self.now.asker found.old.items (has_seen seen.old) at [] }
+        requires inside { at < length found.old.items }
+        requires next { AreNext (steps_of L.stands self.now (met_at self.now.asker found.old.items at).txn) next.now }
+        requires apart { steps_of L.stands self.now (met_at self.now.asker found.old.items at).txn self.now.asker → ⊥ }
+        ensures reached { OnOk result (IsReached (steps_of L.stands self.now) (IsWaiting self.now) self.now.asker found.new.items (has_seen seen.new) (at + 1) []) }
+        ensures left { OnOk result (unseen self.now seen.new + length found.new.items ≤ unseen self.now seen.old + length found.old.items) }
+    {
+        for u in next {
+            if self.waits.contains_key(u) && seen.insert(*u)? {
+                found.push(Met { txn: *u, from: at })?;
+            }
+        }
+        Ok(())
+    }
+
+    // The way by which the one at the place was met, from the asker on, and from it to the asker.
+    fn way(&self, alloc: Global, found: &[Met], last: usize) -> Result<Vec<TxnId>, Memory>
+        requires back { (k : ℕ) → 0 < k → k < length found.now → (met_at self.now.asker found.now k).from < k }
+        requires inside { last < length found.now }
+        ensures { IfOk result (λ way. (back : List TxnId) → IsWay self.now.asker found.now last back
+            → way.items ≡ reverse (self.now.asker ∷ (met_at self.now.asker found.now last).txn ∷ back)) }
+    {
+        let mut way = Vec::new(alloc);
+        way.push(self.asker)?;
+        way.push(found[last].txn)?;
+        let mut at = last;
+        while at != 0 {
+            at = found[at].from;
+            way.push(found[at].txn)?;
+        }
+        way.reverse();
+        Ok(way)
     }
 }
 
-// The lower of two, of which the first may be missing.
-fn lower(first: Option<TxnId>, second: &TxnId) -> TxnId
-    ensures second { IsBelow second.now result → ⊥ }
-    ensures first { IfSome first (λ t. IsBelow t result → ⊥) }
-    ensures either { (first ≡ Some result) ⊎ (second.now ≡ result) }
-{
-    match first {
-        Some(first) if first < *second => first,
-        _ => *second,
-    }
-}
-
-// The same transaction, as a value of its own.
-fn same(t: &TxnId) -> TxnId
-    ensures { result ≡ t.now }
-{
-    *t
+// One that was met, and the place of one that waits for it.
+#[derive(Debug, Drop)]
+struct Met {
+    txn: TxnId,
+    from: usize,
 }

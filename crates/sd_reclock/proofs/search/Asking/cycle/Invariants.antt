@@ -1,10 +1,10 @@
-use Rattle.std.proofs.Common.{vec_len}
-use Rattle.sd_reclock.specs.Searching.{steps_of}
-use Rattle.sd_reclock.proofs.Layers.{IsLayered}
+use Rattle.std.proofs.Common.{◌+◌, ◌-◌, [], length}
+use Rattle.sd_reclock.specs.Reaching.{IsReached}
+use Rattle.sd_reclock.specs.Searching.{has_seen, steps_of, unseen, IsWaiting}
 use Rattle.sd_reclock.proofs.search.Asking.cycle.Given as goal
 
-abbrev pub invariant-level : goal.invariant-level
-invariant-level g l = IsLayered (steps_of g.L.Standing.stands l.self) l.self.asker l.levels.items l.goals.items l.rest.items
+abbrev pub invariant-place : goal.invariant-place
+invariant-place g l = IsReached (steps_of g.L.Standing.stands l.self) (IsWaiting l.self) l.self.asker l.found.items (has_seen l.seen) l.at []
 
-abbrev pub decreases-level : goal.decreases-level
-decreases-level g l = vec_len l.rest
+abbrev pub decreases-place : goal.decreases-place
+decreases-place g l = (unseen l.self l.seen + length l.found.items) - l.at
