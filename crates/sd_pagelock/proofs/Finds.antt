@@ -3,7 +3,6 @@ use Rattle.std.proofs.Common.{◌≡◌, ℕ, ◌<◌, Bool, true, false, cond, 
 use Rattle.std.specs.Prelude.{find, IsSomeAnd, MatchOption, IfSome, IfNone, unwrap_or}
 use Rattle.std.specs.Option.{option_map}
 use Rattle.std.specs.Ordering.{nat_cmp, is_eq}
-use Rattle.std.specs.declared.cmp.Ordering.{Ordering}
 use Rattle.std.specs.declared.cmp.Ordering.TheVariants as orderings
 use Rattle.std.specs.Cmp.{nat_cmp_is}
 use Rattle.std.specs.List.Sorted.{IsStrictlySortedBy}
@@ -13,11 +12,10 @@ use Rattle.std.proofs.lemmas.Cmp.{eq_by_cmp_equiv, nat_cmp_total}
 use Rattle.std.proofs.lemmas.Map.{lookup-none}
 use Rattle.std.proofs.lemmas.Map.Entries.{none_past_head, none_below_head}
 use Rattle.std.proofs.lemmas.Map.Keys.{sorted_tail, IsDistinct-from_sorted}
-use Rattle.std.proofs.lemmas.Map.Lookups.{exact_unsigned}
 use Rattle.sd_pagelock.specs.declared.queue.Ask.{Ask}
 use Rattle.sd_pagelock.specs.Asks.{Queues, asks_for}
 use Rattle.sd_pagelock.proofs.Members.{not_both}
-use Rattle.sd_pagelock.proofs.Lookups.{absent}
+use Rattle.sd_pagelock.proofs.Lookups.{absent, same_page}
 
 -- what a closure made of what was found
 pub made_of : {A B : Type 0} (o : Option A) (r : Option B) (h : A → B) (post : A → B → Type 0) → ((x : A) (y : B) → post x y → y ≡ h x) → MatchOption o (r ≡ None) (λ x. IsSomeAnd r (post x)) → r ≡ option_map h o
@@ -31,14 +29,6 @@ in_turn f h (Some x) = refl
 
 inside : {A : Type 0} {x y : A} → Some x ≡ Some y → x ≡ y
 inside e = cc
-
-same_page : (p q : ℕ) → is_at (nat_cmp p) q ≡ true → p ≡ q
-same_page p q e = go (nat_cmp p q) e (exact_unsigned p q)
-  where
-    go : (o : Ordering) → is_eq o ≡ true → (o ≡ orderings.Equal → p ≡ q) → p ≡ q
-    go orderings.Less e f = absurd (cc)
-    go orderings.Equal e f = f refl
-    go orderings.Greater e f = absurd (cc)
 
 at_itself : (p : ℕ) → is_at (nat_cmp p) p ≡ true
 at_itself p = ap is_eq (sym (nat_cmp_is p p orderings.Equal refl))

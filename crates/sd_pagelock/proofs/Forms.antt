@@ -121,5 +121,4 @@ formed-move from to (IsMove.take m e) f = subst Formed (sym e) (formed-taken fro
 formed-move from to (IsMove.evict i m e) f = subst Formed (sym e) (formed-fallen i from f)
 formed-move from to (IsMove.write m e) f = subst Formed (sym e) (formed-written from f)
 formed-move from to (IsMove.change i m e) f = subst Formed (sym e) tt
-formed-move from to (IsMove.fall i m e) f = subst Formed (sym e) (formed-fallen i from f)
 formed-move from to (IsMove.rebuild m e) f = subst Formed (sym e) (formed-written from f)

@@ -8,8 +8,9 @@ use Rattle.sd_base.specs.declared.place.Place as coded
 use Rattle.sd_base.specs.declared.place.Place.TheVariants as variants
 use Rattle.sd_base.specs.Sets.{has, members}
 use Rattle.sd_pagelock.specs.Places.{seen, changed, Formed, InRange}
-use Rattle.sd_pagelock.specs.Directory.{IsKept}
+use Rattle.sd_pagelock.specs.Directory.{IsKept, lost_among}
 use Rattle.sd_pagelock.proofs.Alone.{member_range}
+use Rattle.sd_pagelock.proofs.Counts.{none_counted}
 
 -- the receiver of a page, and those who hold it
 pub moving_range : (to b k : ℕ) → 1 ≤ to → to ≤ 8 → cond (eqb to k) true (has k (members b)) ≡ true → (1 ≤ k) × (k ≤ 8)
@@ -25,16 +26,17 @@ each P xs i x d lt here all q = ⊎_elim
     (λ ne. subst (P q) (sym (get_or-set_other xs i q x d ne)) (all q))
     (cases_eq q i)
 
-pub kept-write : (places : List coded.Place) (recs : List (Option ℕ)) (images i : ℕ) (to : coded.Place) (rec : Option ℕ)
-    → IsKept places recs images → i < 1024 → Formed (seen to) → InRange (seen to) → is_some rec ≡ changed (seen to)
-    → IsKept (slice_set places i to) (slice_set recs i rec) images
-kept-write places recs images i to rec k lt formed range marked =
+pub kept-write : (places : List coded.Place) (recs : List (Option ℕ)) (images lost n i : ℕ) (to : coded.Place) (rec : Option ℕ)
+    → IsKept places recs images lost → n ≡ lost_among (slice_set places i to) → i < 1024 → Formed (seen to) → InRange (seen to) → is_some rec ≡ changed (seen to)
+    → IsKept (slice_set places i to) (slice_set recs i rec) images n
+kept-write places recs images lost n i to rec k counted lt formed range marked =
     let in_places : i < length places = omega (arith, k.pages) in
     let in_recs : i < length recs = omega (arith, k.marks) in
     record {
       pages = length-set places i to ∙ k.pages;
       marks = length-set recs i rec ∙ k.marks;
       frames = k.frames;
+      counted = counted;
       formed = each (λ (q : ℕ) (x : coded.Place). Formed (seen x)) places i to variants.Free in_places formed k.formed;
       in_range = each (λ (q : ℕ) (x : coded.Place). InRange (seen x)) places i to variants.Free in_places range k.in_range;
       marked = λ q. ⊎_elim
@@ -49,11 +51,12 @@ get_or-replicate zero i x = refl
 get_or-replicate (suc n) zero x = refl
 get_or-replicate (suc n) (suc i) x = get_or-replicate n i x
 
-pub kept-new : (images : ℕ) (places : List coded.Place) (recs : List (Option ℕ)) → places ≡ replicate 1024 variants.Free → recs ≡ replicate 1024 None → images ≡ 1024 → IsKept places recs images
+pub kept-new : (images : ℕ) (places : List coded.Place) (recs : List (Option ℕ)) → places ≡ replicate 1024 variants.Free → recs ≡ replicate 1024 None → images ≡ 1024 → IsKept places recs images 0
 kept-new images places recs free clean frames = record {
   pages = ap length free ∙ length-replicate 1024 variants.Free;
   marks = ap length clean ∙ length-replicate {A = Option ℕ} 1024 None;
   frames = frames;
+  counted = sym (ap lost_among free ∙ none_counted 1024);
   formed = λ p. subst (λ (x : coded.Place). Formed (seen x)) (sym (at p)) tt;
   in_range = λ p. subst (λ (x : coded.Place). InRange (seen x)) (sym (at p)) (λ k used. absurd (cc));
   marked = λ p. ap is_some (ap (λ (xs : List (Option ℕ)). get_or xs p None) clean ∙ get_or-replicate 1024 p None) ∙ ap (λ (x : coded.Place). changed (seen x)) (sym (at p));

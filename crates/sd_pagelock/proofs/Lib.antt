@@ -1,9 +1,13 @@
 pub mod Alone
+pub mod Counts
+pub mod Drops
 pub mod Members
+pub mod Fallen
 pub mod Falls
 pub mod Finds
 pub mod Forms
 pub mod Kept
 pub mod Lookups
+pub mod Losses
 pub mod Queues
 pub mod Rowwise

@@ -18,9 +18,18 @@ use Rattle.std.proofs.lemmas.Map.Lookups.{exact_unsigned}
 use Rattle.sd_base.specs.declared.place.Mode.{Mode}
 use Rattle.sd_pagelock.specs.declared.queue.Ask.{Ask}
 use Rattle.sd_pagelock.specs.Places.{Entry}
-use Rattle.sd_pagelock.specs.Asks.{Queues, AreAsked, IsAsked, IsOneEach, asks_for, queued, stronger, is_open, open_asks, asks_without, nobody}
+use Rattle.sd_pagelock.specs.Asks.{Queues, AreAsked, IsAsked, IsOneEach, asks_for, queued, stronger, is_open, open_asks, nobody}
 use Rattle.sd_pagelock.proofs.Members.{not_both}
 use Rattle.sd_pagelock.proofs.Queues.{one_each-queued, one_each-filter}
+
+-- the same page
+pub same_page : (p q : ℕ) → is_at (nat_cmp p) q ≡ true → p ≡ q
+same_page p q e = go (nat_cmp p q) e (exact_unsigned p q)
+  where
+    go : (o : Ordering) → is_eq o ≡ true → (o ≡ orderings.Equal → p ≡ q) → p ≡ q
+    go orderings.Less e f = absurd (cc)
+    go orderings.Equal e f = f refl
+    go orderings.Greater e f = absurd (cc)
 
 -- another page
 pub elsewhere : (p q : ℕ) → q ≢ p → is_at (nat_cmp p) q ≡ false
@@ -100,54 +109,56 @@ abbrev pub nonempty : List Ask → Option (List Ask)
 nonempty [] = None
 nonempty (ask ∷ asks) = Some (ask ∷ asks)
 
--- what is listed for a page of which i's ask is taken off
-abbrev pub remaining : ℕ → Option (List Ask) → Option (List Ask)
-remaining i None = None
-remaining i (Some asks) = nonempty (asks_without i asks)
+-- what is listed for a page of which some asks are kept
+abbrev pub remaining : (List Ask → List Ask) → Option (List Ask) → Option (List Ask)
+remaining keep None = None
+remaining keep (Some asks) = nonempty (keep asks)
 
-one_kept : (i : ℕ) (t : Bool) (w v : List Ask) (ks ls : Option (List Ask)) → w ≡ asks_without i v → (t ≡ true → ls ≡ None) → ks ≡ remaining i ls
-    → cond {A = Option (List Ask)} (not (nobody w)) (cond {A = Option (List Ask)} t (Some w) ks) ks ≡ remaining i (cond {A = Option (List Ask)} t (Some v) ls)
-one_kept i true [] v ks ls e past rest = rest ∙ ap (remaining i) (past refl) ∙ ap nonempty e
-one_kept i true (x ∷ xs) v ks ls e past rest = ap nonempty e
-one_kept i false [] v ks ls e past rest = rest
-one_kept i false (x ∷ xs) v ks ls e past rest = rest
+one_kept : (f g : List Ask → List Ask) (t : Bool) (w v : List Ask) (ks ls : Option (List Ask)) → w ≡ f v → (t ≡ true → (ls ≡ None) × (f v ≡ g v)) → ks ≡ remaining g ls
+    → cond {A = Option (List Ask)} (not (nobody w)) (cond {A = Option (List Ask)} t (Some w) ks) ks ≡ remaining g (cond {A = Option (List Ask)} t (Some v) ls)
+one_kept f g true [] v ks ls e past rest = rest ∙ ap (remaining g) (past refl).0 ∙ ap nonempty (e ∙ (past refl).1)
+one_kept f g true (x ∷ xs) v ks ls e past rest = ap nonempty (e ∙ (past refl).1)
+one_kept f g false [] v ks ls e past rest = rest
+one_kept f g false (x ∷ xs) v ks ls e past rest = rest
 
 looked_up : (test : ℕ → Bool) (b : Bool) (e : ℕ × List Ask) (es : Queues) → lookup test (cond {A = Queues} b (e ∷ es) es) ≡ cond {A = Option (List Ask)} b (lookup test (e ∷ es)) (lookup test es)
 looked_up test true e es = refl
 looked_up test false e es = refl
 
--- each queue without i's ask, and only those in which somebody asks
-pub forgotten : {F : Type 0} (T : F → ℕ → List Ask → Bool → List Ask → F → Type 0) (f : F) (i : ℕ)
-    → ((p : ℕ) (v : List Ask) (b : Bool) (w : List Ask) (f' : F) → T f p v b w f' → (w ≡ asks_without i v) × (b ≡ not (nobody w)) × (f' ≡ f))
+-- of each queue what is kept for its page, and only those in which somebody asks
+pub kept_each : {F : Type 0} (T : F → ℕ → List Ask → Bool → List Ask → F → Type 0) (f : F) (keep : ℕ → List Ask → List Ask)
+    → ((p : ℕ) (v : List Ask) (b : Bool) (w : List Ask) (f' : F) → T f p v b w f' → (w ≡ keep p v) × (b ≡ not (nobody w)) × (f' ≡ f))
     → (old new : Queues) → IsDistinct (eq_by_cmp nat_cmp) (keys_of old) → RetainsPairs T f old new
-    → (p : ℕ) → lookup (is_at (nat_cmp p)) new ≡ remaining i (lookup (is_at (nat_cmp p)) old)
-forgotten T f i says [] new apart r p = ap (lookup (is_at (nat_cmp p))) r
-forgotten {F} T f i says (e ∷ es) new apart r p =
+    → (p : ℕ) → lookup (is_at (nat_cmp p)) new ≡ remaining (keep p) (lookup (is_at (nat_cmp p)) old)
+kept_each T f keep says [] new apart r p = ap (lookup (is_at (nat_cmp p))) r
+kept_each {F} T f keep says (e ∷ es) new apart r p =
     let said = says e.0 e.1 r.0 r.1 r.2 r.4 in
     let after : RetainsPairs T f es r.3 = subst (λ (g : F). RetainsPairs T g es r.3) said.2 r.5 in
-    let rest : lookup (is_at (nat_cmp p)) r.3 ≡ remaining i (lookup (is_at (nat_cmp p)) es) = forgotten T f i says es r.3 (IsDistinct-tail (eq_by_cmp nat_cmp) e.0 (keys_of es) apart) after p in
+    let rest : lookup (is_at (nat_cmp p)) r.3 ≡ remaining (keep p) (lookup (is_at (nat_cmp p)) es) = kept_each T f keep says es r.3 (IsDistinct-tail (eq_by_cmp nat_cmp) e.0 (keys_of es) apart) after p in
     ap (lookup (is_at (nat_cmp p))) (r.6 ∙ ap (λ (b : Bool). cond {A = Queues} b ((e.0, r.1) ∷ r.3) r.3) said.1)
     ∙ looked_up (is_at (nat_cmp p)) (not (nobody r.1)) (e.0, r.1) r.3
-    ∙ one_kept i (is_at (nat_cmp p) e.0) r.1 e.1 (lookup (is_at (nat_cmp p)) r.3) (lookup (is_at (nat_cmp p)) es) said.0 (λ t. lookup-none (is_at (nat_cmp p)) es (none_past_head (eq_by_cmp_equiv nat_cmp_total) p e es apart t)) rest
+    ∙ one_kept (keep e.0) (keep p) (is_at (nat_cmp p) e.0) r.1 e.1 (lookup (is_at (nat_cmp p)) r.3) (lookup (is_at (nat_cmp p)) es) said.0
+    (λ t. (lookup-none (is_at (nat_cmp p)) es (none_past_head (eq_by_cmp_equiv nat_cmp_total) p e es apart t), ap (λ (z : ℕ). keep z e.1) (sym (same_page p e.0 t)))) rest
 
-pub asks_for-forgotten : (i : ℕ) (old new : Queues) (p : ℕ) → lookup (is_at (nat_cmp p)) new ≡ remaining i (lookup (is_at (nat_cmp p)) old) → asks_for new p ≡ asks_without i (asks_for old p)
-asks_for-forgotten i old new p e = ap (λ (o : Option (List Ask)). unwrap_or o []) e ∙ go (lookup (is_at (nat_cmp p)) old)
+pub asks_for-kept : (keep : List Ask → List Ask) → keep [] ≡ [] → (old new : Queues) (p : ℕ) → lookup (is_at (nat_cmp p)) new ≡ remaining keep (lookup (is_at (nat_cmp p)) old) → asks_for new p ≡ keep (asks_for old p)
+asks_for-kept keep none old new p e = ap (λ (o : Option (List Ask)). unwrap_or o []) e ∙ go (lookup (is_at (nat_cmp p)) old)
   where
     full : (xs : List Ask) → unwrap_or (nonempty xs) [] ≡ xs
     full [] = refl
     full (x ∷ xs) = refl
 
-    go : (o : Option (List Ask)) → unwrap_or (remaining i o) [] ≡ asks_without i (unwrap_or o [])
-    go None = refl
-    go (Some xs) = full (asks_without i xs)
+    go : (o : Option (List Ask)) → unwrap_or (remaining keep o) [] ≡ keep (unwrap_or o [])
+    go None = sym none
+    go (Some xs) = full (keep xs)
 
-pub asked-forget : (i : ℕ) (old new : Queues) → AreAsked old → ((p : ℕ) → lookup (is_at (nat_cmp p)) new ≡ remaining i (lookup (is_at (nat_cmp p)) old)) → AreAsked new
-asked-forget i old new asked e p asks found = go (lookup (is_at (nat_cmp p)) old) (asked p) (sym (e p) ∙ found)
+pub asked-kept : (keep : ℕ → List Ask → List Ask) → ((p : ℕ) (xs : List Ask) → IsOneEach xs → IsOneEach (keep p xs))
+    → (old new : Queues) → AreAsked old → ((p : ℕ) → lookup (is_at (nat_cmp p)) new ≡ remaining (keep p) (lookup (is_at (nat_cmp p)) old)) → AreAsked new
+asked-kept keep apart old new asked e p asks found = go (lookup (is_at (nat_cmp p)) old) (asked p) (sym (e p) ∙ found)
   where
     full : (xs : List Ask) → nonempty xs ≡ Some asks → IsOneEach xs → IsAsked asks
     full [] e each = absurd (absent e refl)
     full (x ∷ xs) e each = subst IsAsked (inside e) ((λ n. absurd (cc)), each)
 
-    go : (o : Option (List Ask)) → ((xs : List Ask) → o ≡ Some xs → IsAsked xs) → remaining i o ≡ Some asks → IsAsked asks
+    go : (o : Option (List Ask)) → ((xs : List Ask) → o ≡ Some xs → IsAsked xs) → remaining (keep p) o ≡ Some asks → IsAsked asks
     go None was e = absurd (absent e refl)
-    go (Some xs) was e = full (asks_without i xs) e (one_each-filter (λ (ask : Ask). not (eqb ask.by i)) xs (was xs refl).1)
+    go (Some xs) was e = full (keep p xs) e (apart p xs (was xs refl).1)

@@ -32,7 +32,7 @@ at_end by mode [] d none = refl
 at_end by mode (x ∷ xs) d none = ap (λ (l : List Ask). x ∷ l) (at_end by mode xs d (λ k lt. none (suc k) (omega arith)))
     ∙ sym (ap (λ (b : Bool). cond {A = List Ask} b ((record { by = x.by; mode = stronger x.mode mode }) ∷ xs) (x ∷ queued by mode xs)) (none 0 (omega arith)))
 
-past_end : (p : Ask → Bool) (xs : List Ask) → position p xs ≡ None → length xs ≤ position_or_len p xs
+pub past_end : {X : Type 0} (p : X → Bool) (xs : List X) → position p xs ≡ None → length xs ≤ position_or_len p xs
 past_end p xs missing = ltb-false (position_or_len p xs) (length xs) (go (ltb (position_or_len p xs) (length xs)) missing)
   where
     go : (b : Bool) → cond {A = Option ℕ} b (Some (position_or_len p xs)) None ≡ None → b ≡ false

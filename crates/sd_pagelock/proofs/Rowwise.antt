@@ -1,5 +1,5 @@
 -- Which row leads from a place to another. It serves lawful.rt.
-use Rattle.std.proofs.Common.{◌≡◌, ℕ, Bool, true, false, cond, eqb, not, ◌&&◌, Some, refl, sym, ap, ◌∙◌}
+use Rattle.std.proofs.Common.{◌≡◌, ℕ, Bool, true, false, cond, eqb, not, ◌&&◌, Some, is_some, refl, sym, ap, ◌∙◌}
 use Rattle.sd_base.specs.declared.place.Mode.{Mode}
 use Rattle.sd_base.specs.declared.place.Mode.TheVariants as modes
 use Rattle.sd_base.specs.declared.place.Place as coded
@@ -47,19 +47,25 @@ or_true : (b : Bool) → cond b true true ≡ true
 or_true true = refl
 or_true false = refl
 
-evict_uses : (i : ℕ) (e : Entry) → may_evict i e ≡ true → uses e i ≡ true
+pub evict_uses : (i : ℕ) (e : Entry) → may_evict i e ≡ true → uses e i ≡ true
 evict_uses i Entry.Free m = absurd (cc)
 evict_uses i Entry.Lost m = absurd (cc)
 evict_uses i (Entry.Shared set writer) m = and_left (has i set) _ m
 evict_uses i (Entry.Excl holder dirty) m = and_left (eqb holder i) (not dirty) m
 evict_uses i (Entry.Moving to mode rest dirty) m = ap (λ (b : Bool). cond (eqb to i) true b) m ∙ or_true (eqb to i)
 
-drop_uses : (i : ℕ) (e : Entry) → may_drop i e ≡ true → uses e i ≡ true
-drop_uses i Entry.Free m = absurd (cc)
-drop_uses i Entry.Lost m = absurd (cc)
-drop_uses i (Entry.Shared set writer) m = and_left (has i set) (not (is_only i set)) m
-drop_uses i (Entry.Excl holder dirty) m = absurd (cc)
-drop_uses i (Entry.Moving to mode rest dirty) m = absurd (cc)
+-- a copy that may be dropped isn't the only one
+pub drop_evicts : (i : ℕ) (e : Entry) → may_drop i e ≡ true → may_evict i e ≡ true
+drop_evicts i Entry.Free m = absurd (cc)
+drop_evicts i Entry.Lost m = absurd (cc)
+drop_evicts i (Entry.Shared set writer) m = go (has i set) (is_only i set) m
+  where
+    go : (a b : Bool) → (a && not b) ≡ true → (a && not (b && is_some writer)) ≡ true
+    go true true m = absurd (cc)
+    go true false m = refl
+    go false b m = absurd (cc)
+drop_evicts i (Entry.Excl holder dirty) m = absurd (cc)
+drop_evicts i (Entry.Moving to mode rest dirty) m = absurd (cc)
 
 pub gains-move : (i : ℕ) (from to : Entry) → Gains i from to → IsMove from to
 gains-move i from to (Gains.lock mode m e) = IsMove.lock i mode m e
@@ -79,12 +85,11 @@ move-groups from to (IsMove.lock i mode m e) f g h = f i (Gains.lock mode m e)
 move-groups from to (IsMove.raise i m e) f g h = f i (Gains.raise m e)
 move-groups from to (IsMove.share i m e) f g h = f i (Gains.share m e)
 move-groups from to (IsMove.yield i m e) f g h = f i (Gains.yield m e)
-move-groups from to (IsMove.drop i m e) f g h = h i (drop_uses i from m, e)
+move-groups from to (IsMove.drop i m e) f g h = h i (drop_evicts i from m, e)
 move-groups from to (IsMove.take m e) f g h = g (Turns.take m e)
-move-groups from to (IsMove.evict i m e) f g h = h i (evict_uses i from m, e)
+move-groups from to (IsMove.evict i m e) f g h = h i (m, e)
 move-groups from to (IsMove.write m e) f g h = g (Turns.write m e)
 move-groups from to (IsMove.change i m e) f g h = f i (Gains.change m e)
-move-groups from to (IsMove.fall i m e) f g h = h i (m, e)
 move-groups from to (IsMove.rebuild m e) f g h = g (Turns.rebuild m e)
 
 coded_of : Entry → coded.Place

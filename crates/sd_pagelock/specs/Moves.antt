@@ -1,8 +1,9 @@
--- The lawful moves of a page: each leads by one row from the place that it finds to the place that it leaves.
+-- The lawful moves of a page: each leads by one row from the place that it finds to the place that it leaves. An
+-- instance's fall is no move: it may leave a page lost.
 use Rattle.std.specs.Prelude.{◌≡◌, ℕ, true, Option, None, Some}
 use Rattle.sd_base.specs.declared.place.Mode.{Mode}
 use Rattle.sd_base.specs.Sets.{first}
-use Rattle.sd_pagelock.specs.Places.{Entry, is_free, is_lost, owns, passes, uses}
+use Rattle.sd_pagelock.specs.Places.{Entry, is_free, is_lost, owns, passes}
 use Rattle.sd_pagelock.specs.Rows.{locked, may_raise, raised, may_share, given_shared, may_yield, given_excl, taken, may_drop, may_evict, fallen, may_write, written, dirtied}
 
 -- one row leads from the one to the other
@@ -25,8 +26,6 @@ pub data IsMove (from to : Entry) : Type 0 where
   write : may_write from ≡ true → to ≡ written from → IsMove from to
   -- i changes the page that it has alone
   change : (i : ℕ) → owns from i ≡ true → to ≡ dirtied i → IsMove from to
-  -- i, a holder or the receiver, goes down
-  fall : (i : ℕ) → uses from i ≡ true → to ≡ fallen i from → IsMove from to
   -- the page is built again from the logs, and written
   rebuild : is_lost from ≡ true → to ≡ written from → IsMove from to
 
@@ -46,9 +45,9 @@ pub data Turns (from to : Entry) : Type 0 where
   write : may_write from ≡ true → to ≡ written from → Turns from to
   rebuild : is_lost from ≡ true → to ≡ written from → Turns from to
 
--- i's copy goes, or what moves to i
+-- i's copy goes; one that may be dropped may be evicted too
 abbrev pub Loses : ℕ → Entry → Entry → Type 0
-Loses i from to = (uses from i ≡ true) × (to ≡ fallen i from)
+Loses i from to = (may_evict i from ≡ true) × (to ≡ fallen i from)
 
 -- the one who gains a page, by the place that this leaves
 abbrev pub newcomer : Entry → Option ℕ

@@ -1,5 +1,5 @@
 -- Where a page is, as laws see it: sets of instances are rising lists.
-use Rattle.std.specs.Prelude.{◌≡◌, ◌≢◌, ℕ, ◌<◌, ◌≤◌, Bool, true, false, List, [], Option, Some, is_some, eqb, cond}
+use Rattle.std.specs.Prelude.{◌≡◌, ◌≢◌, ℕ, ◌<◌, ◌≤◌, Bool, true, false, List, [], Option, Some, is_some, eqb, cond, get_or}
 use Rattle.sd_base.specs.declared.place.Mode.{Mode}
 use Rattle.sd_base.specs.declared.place.Mode.TheVariants as modes
 use Rattle.sd_base.specs.declared.place.Place as coded
@@ -23,6 +23,10 @@ seen (variants.Shared set writer) = Entry.Shared (members set.bits) writer
 seen (variants.Excl holder dirty) = Entry.Excl holder dirty
 seen (variants.Moving to mode rest dirty) = Entry.Moving to mode (members rest.bits) dirty
 seen variants.Lost = Entry.Lost
+
+-- where the page is, by a list of all places
+abbrev pub place_at : List coded.Place → ℕ → Entry
+place_at places p = seen (get_or places p variants.Free)
 
 -- the pool of k has the page
 abbrev pub holds : Entry → ℕ → Bool

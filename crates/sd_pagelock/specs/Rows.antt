@@ -3,7 +3,7 @@ use Rattle.std.specs.Prelude.{ℕ, Bool, true, false, List, [], ◌∷◌, Optio
 use Rattle.sd_base.specs.declared.place.Mode.{Mode}
 use Rattle.sd_base.specs.declared.place.Mode.TheVariants as modes
 use Rattle.sd_base.specs.Sets.{has, without, with_member}
-use Rattle.sd_pagelock.specs.Places.{Entry, changed}
+use Rattle.sd_pagelock.specs.Places.{Entry, changed, holds}
 
 -- a page that one alone reads from disk
 abbrev pub locked : ℕ → Mode → Entry
@@ -123,6 +123,20 @@ may_evict i (Entry.Shared set writer) = has i set && not (is_only i set && is_so
 may_evict i (Entry.Excl holder dirty) = eqb holder i && not dirty
 may_evict i (Entry.Moving to mode rest dirty) = has i rest
 may_evict i Entry.Lost = false
+
+-- a page that one alone shares is that one's alone; every other place stays
+abbrev pub left_alone : Entry → Entry
+left_alone Entry.Free = Entry.Free
+left_alone (Entry.Shared [] writer) = Entry.Shared [] writer
+left_alone (Entry.Shared (x ∷ []) writer) = Entry.Excl x (is_some writer)
+left_alone (Entry.Shared (x ∷ y ∷ xs) writer) = Entry.Shared (x ∷ y ∷ xs) writer
+left_alone (Entry.Excl holder dirty) = Entry.Excl holder dirty
+left_alone (Entry.Moving to mode rest dirty) = Entry.Moving to mode rest dirty
+left_alone Entry.Lost = Entry.Lost
+
+-- j drops its copy for i, who has the page alone where nobody else is left
+abbrev pub dropped : ℕ → ℕ → Entry → Entry
+dropped j i place = cond {A = Entry} (holds (left_alone (fallen j place)) i) (left_alone (fallen j place)) (fallen j place)
 
 -- a page that rests, changed
 abbrev pub may_write : Entry → Bool

@@ -1,10 +1,10 @@
 //! Who asks for which page. Only the pages that are asked for are listed.
 
-ghost use Rattle.std.specs.Prelude.{◌≡◌, ◌≢◌, ◌↔◌, ℕ, [], OnOk, OnErr, IsTrue, unwrap_or};
+ghost use Rattle.std.specs.Prelude.{◌≡◌, ◌≢◌, ◌↔◌, ℕ, [], OnOk, OnErr, IsTrue, length, unwrap_or};
 ghost use Rattle.std.specs.Option.{option_map};
 ghost use Rattle.std.specs.Ordering.{nat_cmp};
 ghost use Rattle.std.specs.BTreeMap.{get};
-ghost use Rattle.sd_pagelock.specs.Places.{seen};
+ghost use Rattle.sd_pagelock.specs.Places.{seen, place_at};
 ghost use Rattle.sd_pagelock.specs.Asks.{asks_for, queued, oldest, open_asks, asks_without, IsOneEach};
 
 use crate::queue::Queue;
@@ -90,6 +90,27 @@ impl Asks {
             !queue.is_empty()
         });
     }
+
+    /// Takes off what the fall of the instance ends: all asks of it, and those that no place that it left leaves open.
+    pub(crate) fn fall(&mut self, i: InstNo, places: &[Place])
+        requires { length places.now ≡ 1024 }
+        ensures { (p : ℕ) → asks_for self.new p
+            ≡ open_asks (place_at places.now p) (asks_without i (asks_for self.old p)) }
+    {
+        self.queues.retain(|p, queue| {
+            settle(queue, i, *p, places);
+            !queue.is_empty()
+        });
+    }
+}
+
+// Takes off what the fall of `gone`, which left these places, ends of the asks for the page.
+fn settle(queue: &mut Queue, gone: InstNo, p: PageNo, places: &[Place])
+    requires { length places.now ≡ 1024 }
+    ensures { queue.new ≡ open_asks (place_at places.now p) (asks_without gone queue.old) }
+{
+    queue.forget(gone);
+    queue.close(&places[p.get() as usize]);
 }
 
 // One more ask for the page.

@@ -1,11 +1,12 @@
 //! The directory: each page's place and RecLSN, what of it is on its way, and the asks for it.
 
-ghost use Rattle.std.specs.Prelude.{◌≡◌, IfOk, replicate};
+ghost use Rattle.std.specs.Prelude.{◌≡◌, ◌+◌, ◌≤◌, ℕ, true, IfOk, cond, length, position, replicate};
+ghost use Rattle.sd_pagelock.specs.Places.{seen, is_lost};
 
 use crate::asks::Asks;
 use crate::laws;
-use crate::moves::{holds, rests};
 use crate::queue::Queue;
+use crate::rows::{changed, fallen, holds, is_lost, receives, rests};
 use sd_base::{InstNo, Lsn, Memory, Mode, PageNo, Place};
 use std::alloc::Global;
 use std::marker::Model;
@@ -20,6 +21,8 @@ pub struct Directory<I> {
     rec_lsns: Vec<Option<Lsn>>,
     images: Vec<Option<I>>,
     asks: Asks,
+    // how many of the places are lost
+    lost: usize,
 }
 
 impl<I> Model for Directory<I> {
@@ -35,15 +38,16 @@ impl<I> Model for Directory<I> {
       queues = d.asks;
     } };
 
-    ghost invariant = { λ d. IsKept d.places.items d.rec_lsns.items (length d.images.items) };
+    ghost invariant = { λ d. IsKept d.places.items d.rec_lsns.items (length d.images.items) d.lost };
 }
 
 impl<I: Drop> Directory<I> {
-    ghost use Rattle.std.specs.Prelude.{◌≡◌, ◌≢◌, ◌<◌, ℕ, [], None, Some, IsTrue, IfOk, is_some, option_copied};
-    ghost use Rattle.sd_pagelock.specs.Places.{Entry, seen, is_free, changed, Formed, InRange};
+    ghost use Rattle.std.specs.Prelude.{◌≡◌, ◌≢◌, ◌<◌, ◌≤◌, ℕ, [], None, Some, IsTrue, IfOk, is_some, option_copied, cond, true, false, Option};
+    ghost use Rattle.sd_pagelock.specs.Places.{Entry, seen, is_free, changed, receives, Formed, InRange};
+    ghost use Rattle.sd_pagelock.specs.Rows.{fallen};
     ghost use Rattle.sd_pagelock.specs.Moves.{IsMove};
     ghost use Rattle.sd_pagelock.specs.Asks.{queued, oldest, open_asks, asks_without, IsOneEach};
-    ghost use Rattle.sd_pagelock.specs.Directory.{entry_at, rec_lsn_at, image_at, asks_at, can_give, is_wanted};
+    ghost use Rattle.sd_pagelock.specs.Directory.{entry_at, rec_lsn_at, image_at, asks_at, can_give, is_wanted, kept_rec};
 
     /// The directory of 1,024 free pages, with no asks and nothing on its way. It takes all memory that places and
     /// images need.
@@ -58,12 +62,14 @@ impl<I: Drop> Directory<I> {
             rec_lsns: repeated(alloc, None)?,
             images: nothing(alloc)?,
             asks: Asks::new(alloc),
+            lost: 0,
         })
     }
 
-    /// What holds of every directory: its places are well formed, over instances of the complex; a page has a RecLSN
-    /// exactly where it is changed; an instance asks once for a page.
+    /// What holds of every directory: its places are well formed, over instances of the complex, and those past the last
+    /// page are free; a page has a RecLSN exactly where it is changed; an instance asks once for a page.
     pub fn keeps(&self)
+        ensures past { (p : ℕ) → 1024 ≤ p → entry_at self.now p ≡ Entry.Free }
         ensures formed { (p : ℕ) → Formed (entry_at self.now p) }
         ensures in_range { (p : ℕ) → InRange (entry_at self.now p) }
         ensures marked { (p : ℕ) → is_some (rec_lsn_at self.now p) ≡ changed (entry_at self.now p) }
@@ -87,22 +93,46 @@ impl<I: Drop> Directory<I> {
         self.rec_lsns[p.get() as usize]
     }
 
-    /// The page moves to this place, by a row of the table. The asks that it fulfils go, and all of them where the page
-    /// is lost; the others keep their order. It takes no memory.
+    /// The page moves to this place, by a row of the table. `rec` is the LSN of the change where it is the first that the
+    /// disk doesn't have; a page that is changed already keeps its RecLSN, and a clean one has none. The asks that the
+    /// place fulfils go; the others keep their order. It takes no memory.
     pub fn set(&mut self, p: PageNo, to: Place, rec: Option<Lsn>)
         requires lawful { IsMove (entry_at self.old p) (seen to) }
-        requires marked { is_some rec ≡ changed (seen to) }
+        requires first { changed (entry_at self.old p) ≡ false → changed (seen to) ≡ true → is_some rec ≡ true }
 
         ensures here { entry_at self.new p ≡ seen to }
-        ensures rec_lsn { rec_lsn_at self.new p ≡ rec }
+        ensures rec_lsn { rec_lsn_at self.new p
+            ≡ kept_rec (changed (entry_at self.old p)) (changed (seen to)) (rec_lsn_at self.old p) rec }
         ensures asks { asks_at self.new p ≡ open_asks (seen to) (asks_at self.old p) }
         ensures images { (q : ℕ) → image_at self.new q ≡ image_at self.old q }
         ensures others { (q : ℕ) → q ≢ p → entry_at self.new q ≡ entry_at self.old q }
         ensures other_rec_lsns { (q : ℕ) → q ≢ p → rec_lsn_at self.new q ≡ rec_lsn_at self.old q }
         ensures other_asks { (q : ℕ) → q ≢ p → asks_at self.new q ≡ asks_at self.old q }
     {
+        let rec = self.kept_rec(p, &to, rec);
         self.asks.close(p, &to);
         self.write(p, to, rec);
+    }
+
+    /// The instance goes down: of each page its copy goes, and what moved to it. Its asks go, and those that the places
+    /// that are left fulfil, all of them where a page is lost; the others keep their order. Each page keeps its RecLSN. It
+    /// takes no memory.
+    pub fn fall(&mut self, i: InstNo)
+        ensures places { (p : ℕ) → entry_at self.new p ≡ fallen i (entry_at self.old p) }
+        ensures rec_lsns { (p : ℕ) → rec_lsn_at self.new p ≡ rec_lsn_at self.old p }
+        ensures asks { (p : ℕ) → asks_at self.new p
+            ≡ open_asks (fallen i (entry_at self.old p)) (asks_without i (asks_at self.old p)) }
+        ensures images { (p : ℕ) → image_at self.new p
+            ≡ cond {A = Option I} (receives (entry_at self.old p) i) None (image_at self.old p) }
+    {
+        self.keeps();
+        for n in 0..1024 {
+            match PageNo::new(n) {
+                Some(p) => self.fall_at(p, i),
+                None => {}
+            }
+        }
+        self.asks.fall(i, &self.places);
     }
 
     /// A restart finds that only logs have the page's changes, the first of them at `rec`. It takes no memory.
@@ -152,14 +182,15 @@ impl<I: Drop> Directory<I> {
 }
 
 impl<I: Drop> Directory<I> {
-    ghost use Rattle.std.specs.Prelude.{◌≡◌, ◌≢◌, ◌<◌, ℕ, IfSome, IfNone, OnOk, OnErr, find, is_some, true, false};
+    ghost use Rattle.std.specs.Prelude.{◌≡◌, ◌≢◌, ◌<◌, ℕ, None, Option, IfSome, IfNone, OnOk, OnErr, find, is_some, cond, true, false};
     ghost use Rattle.std.specs.Option.{option_map};
     ghost use Rattle.std.specs.Ordering.{nat_cmp};
     ghost use Rattle.std.specs.Map.{keys_of};
     ghost use Rattle.std.specs.List.Sorted.{IsStrictlySortedBy};
-    ghost use Rattle.sd_pagelock.specs.Places.{seen, changed, holds, rests, Formed};
+    ghost use Rattle.sd_pagelock.specs.Places.{seen, changed, is_lost, holds, receives, rests, Formed};
+    ghost use Rattle.sd_pagelock.specs.Rows.{fallen};
     ghost use Rattle.sd_pagelock.specs.Asks.{queued, oldest, open_asks, asks_without};
-    ghost use Rattle.sd_pagelock.specs.Directory.{entry_at, rec_lsn_at, image_at, asks_at, can_give, is_wanted};
+    ghost use Rattle.sd_pagelock.specs.Directory.{entry_at, rec_lsn_at, image_at, asks_at, can_give, is_wanted, kept_rec};
 
     /// `i` asks for the page: at the end of its asks, or in the place of its older ask, which becomes the stronger of
     /// both. After `Memory` all is as before.
@@ -189,6 +220,18 @@ impl<I: Drop> Directory<I> {
         ensures none { IfNone result ((q : ℕ) → is_wanted self.now i q ≡ false) }
     {
         self.first_given(i)
+    }
+
+    /// The lowest lost page; `None` exactly where there is none, which is told without a search.
+    pub fn first_lost(&self) -> Option<PageNo>
+        ensures found { IfSome result (λ p. is_lost (entry_at self.now p) ≡ true) }
+        ensures lowest { IfSome result (λ p. (q : ℕ) → q < p → is_lost (entry_at self.now q) ≡ false) }
+        ensures none { IfNone result ((q : ℕ) → is_lost (entry_at self.now q) ≡ false) }
+    {
+        if self.lost == 0 {
+            return None;
+        }
+        lost_page(&self.places)
     }
 
     /// All asks of `i` are gone; the others keep their order. It takes no memory.
@@ -221,6 +264,40 @@ impl<I: Drop> Directory<I> {
         rests(&place) && holds(&place, i) && queue.oldest(i).is_some()
     }
 
+    // The RecLSN of the page where it moves to this place.
+    fn kept_rec(&self, p: PageNo, to: &Place, rec: Option<Lsn>) -> Option<Lsn>
+        ensures { result
+            ≡ kept_rec (changed (entry_at self.now p)) (changed (seen to.now)) (rec_lsn_at self.now p) rec }
+    {
+        if !changed(to) {
+            None
+        } else if changed(&self.entry(p)) {
+            self.rec_lsn(p)
+        } else {
+            rec
+        }
+    }
+
+    // What the fall of `i` leaves of the page, without its asks.
+    fn fall_at(&mut self, p: PageNo, i: InstNo)
+        ensures here { entry_at self.new p ≡ fallen i (entry_at self.old p) }
+        ensures image { image_at self.new p
+            ≡ cond {A = Option I} (receives (entry_at self.old p) i) None (image_at self.old p) }
+        ensures others { (q : ℕ) → q ≢ p → entry_at self.new q ≡ entry_at self.old q }
+        ensures other_images { (q : ℕ) → q ≢ p → image_at self.new q ≡ image_at self.old q }
+        ensures rec_lsn { rec_lsn_at self.new p ≡ rec_lsn_at self.old p }
+        ensures other_rec_lsns { (q : ℕ) → q ≢ p → rec_lsn_at self.new q ≡ rec_lsn_at self.old q }
+        ensures asks { (q : ℕ) → asks_at self.new q ≡ asks_at self.old q }
+    {
+        self.keeps();
+        let place = self.entry(p);
+        let rec = self.rec_lsn(p);
+        self.write(p, fallen(i, &place), rec);
+        if receives(&place, i) {
+            self.images[p.get() as usize] = None;
+        }
+    }
+
     // Writes the page's place and RecLSN, and leaves its asks.
     fn write(&mut self, p: PageNo, to: Place, rec: Option<Lsn>)
         requires formed { Formed (seen to) }
@@ -234,9 +311,38 @@ impl<I: Drop> Directory<I> {
     {
         laws::users_are_instances(&to);
         let at = p.get() as usize;
+        self.lost = recounted(self.lost, &self.places[at], &to);
         self.places[at] = to;
         self.rec_lsns[at] = rec;
     }
+}
+
+// The lowest lost page.
+fn lost_page(places: &[Place]) -> Option<PageNo>
+    requires { length places.now ≡ 1024 }
+    ensures { result ≡ position (λ place. is_lost (seen place)) places.now }
+{
+    match lost_at(places) {
+        Some(at) => PageNo::new(at as u16),
+        None => None,
+    }
+}
+
+// Where the first lost page stands.
+fn lost_at(places: &[Place]) -> Option<usize>
+    ensures { result ≡ position (λ place. is_lost (seen place)) places.now }
+{
+    places.iter().position(|place| is_lost(place))
+}
+
+// The number of lost pages where one of the counted places becomes another.
+fn recounted(lost: usize, was: &Place, to: &Place) -> usize
+    requires low { is_lost (seen was.now) ≡ true → 1 ≤ lost }
+    requires high { lost ≤ 1024 }
+    ensures { result + cond {A = ℕ} (is_lost (seen was.now)) 1 0 ≡ lost + cond {A = ℕ} (is_lost (seen to.now)) 1 0 }
+{
+    let others = if is_lost(was) { lost - 1 } else { lost };
+    if is_lost(to) { others + 1 } else { others }
 }
 
 // One value for each page.

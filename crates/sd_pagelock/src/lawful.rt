@@ -8,9 +8,9 @@ ghost use Rattle.sd_pagelock.specs.Rows as rows;
 ghost use Rattle.sd_pagelock.specs.Moves as lawful;
 
 use crate::laws;
-use crate::moves::{
-    dirtied, fallen, given_excl, given_shared, is_free, is_lost, locked, may_raise, may_share,
-    may_write, may_yield, owns, passes, raised, taken, uses, written,
+use crate::rows::{
+    dirtied, fallen, given_excl, given_shared, is_free, is_lost, locked, may_evict, may_raise,
+    may_share, may_write, may_yield, owns, passes, raised, taken, written,
 };
 use sd_base::{InstNo, InstSet, Mode, Place};
 
@@ -114,7 +114,7 @@ fn turns(from: &Place, to: &Place) -> bool
     is_lost(from) && is_same(to, &written(from))
 }
 
-// Whether an instance's copy goes, or what moves to it.
+// Whether an instance's copy goes, which isn't the only one of a change.
 fn goes(from: &Place, to: &Place) -> bool
     ensures { IsTrue result ↔ ((i : ℕ) × lawful.Loses i (seen from.now) (seen to.now)) }
 {
@@ -132,7 +132,7 @@ fn goes(from: &Place, to: &Place) -> bool
 fn loses(i: InstNo, from: &Place, to: &Place) -> bool
     ensures { IsTrue result ↔ lawful.Loses i (seen from.now) (seen to.now) }
 {
-    uses(from, i) && is_same(to, &fallen(i, from))
+    may_evict(i, from) && is_same(to, &fallen(i, from))
 }
 
 fn is_same(a: &Place, b: &Place) -> bool

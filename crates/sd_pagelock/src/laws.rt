@@ -3,8 +3,9 @@
 
 ghost use Rattle.std.specs.Prelude.{◌≡◌, ℕ, true, false, eqb, cond, ◌||◌};
 ghost use Rattle.sd_base.specs.declared.place.Mode.{Mode};
+ghost use Rattle.sd_base.specs.declared.place.Place as coded;
 ghost use Rattle.sd_pagelock.specs.Places.{Entry, seen, InRange, holds, owns, passes, receives, uses, changed, is_lost, Formed};
-ghost use Rattle.sd_pagelock.specs.Rows.{locked, may_raise, raised, may_share, given_shared, may_yield, given_excl, taken, fallen, may_write, written, dirtied};
+ghost use Rattle.sd_pagelock.specs.Rows.{locked, may_raise, raised, may_share, given_shared, may_yield, given_excl, taken, may_drop, fallen, dropped, may_write, written, dirtied};
 ghost use Rattle.sd_pagelock.specs.Moves.{IsMove};
 
 use sd_base::Place;
@@ -64,6 +65,21 @@ pub fn after_fall()
     ensures formed { (i : ℕ) (e : Entry) → Formed e → Formed (fallen i e) }
 {}
 
+/// A page of which an instance dropped its copy for another.
+pub fn after_drop()
+    ensures holds { (j i k : ℕ) (e : Entry) → holds (dropped j i e) k ≡ cond (eqb j k) false (holds e k) }
+    ensures passes { (j i : ℕ) (e : Entry) → may_drop j e ≡ true → passes (dropped j i e) ≡ false }
+    ensures changed { (j i : ℕ) (e : Entry) → changed (dropped j i e) ≡ changed e }
+    ensures uses { (j i k : ℕ) (e : Entry) → uses (dropped j i e) k ≡ cond (eqb j k) false (uses e k) }
+    ensures formed { (j i : ℕ) (e : Entry) → Formed e → Formed (dropped j i e) }
+{}
+
+/// A copy that is dropped for another instance is one move, or two where that one is left alone: it has the page raised.
+pub fn a_drop_is_two_moves()
+    ensures { (j i : ℕ) (e : Entry) → dropped j i e
+        ≡ cond {A = Entry} (may_raise i (fallen j e)) (raised i (fallen j e)) (fallen j e) }
+{}
+
 /// A page whose newest version is on disk now.
 pub fn after_write()
     ensures holds { (k : ℕ) (e : Entry) → holds (written e) k ≡ holds e k }
@@ -85,6 +101,20 @@ pub fn after_change()
 /// Each lawful move leaves a well formed place.
 pub fn moves_keep_form()
     ensures { (from to : Entry) → IsMove from to → Formed from → Formed to }
+{}
+
+/// No lawful move loses a page, and a changed page becomes clean by the page write or the rebuild alone.
+pub fn only_copy()
+    ensures kept { (from : coded.Place) (to : Entry) → Formed (seen from) → IsMove (seen from) to → is_lost to ≡ false }
+    ensures written { (from to : Entry) → IsMove from to → changed from ≡ true → changed to ≡ false
+        → ((may_write from || is_lost from) ≡ true) × (to ≡ written from) }
+{}
+
+/// One who may change a page is the only one who holds it, and it isn't on its way.
+pub fn owner_is_alone()
+    ensures holds { (i k : ℕ) (e : Entry) → owns e i ≡ true → holds e k ≡ eqb i k }
+    ensures passes { (i : ℕ) (e : Entry) → owns e i ≡ true → passes e ≡ false }
+    ensures uses { (i k : ℕ) (e : Entry) → owns e i ≡ true → uses e k ≡ eqb i k }
 {}
 
 /// Those who hold a page or receive it are instances of the complex.

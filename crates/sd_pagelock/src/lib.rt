@@ -4,15 +4,16 @@
 //! says of each page (`specs/Directory.antt`).
 //! Keeps: a shared page has a holder, and its writer is one; the receiver of a page holds no copy of it; a page has a
 //! RecLSN exactly where its place is changed; an instance asks once for a page.
-//! Promises: a page's place changes by a row of the table alone (`set`, `lawful`; `specs/Rows.antt`, `specs/Moves.antt`);
-//! `oldest_ask` and `first_for` answer exactly (`value`; `found`, `lowest`, `none`).
+//! Promises: a page's place changes by a row of the table (`set`, `lawful`; `rows`, `specs/Moves.antt`), which never loses
+//! it (`laws::only_copy`), or by a fall (`fall`); a changed page keeps its RecLSN (`set`, `rec_lsn`); `oldest_ask`,
+//! `first_for` and `first_lost` answer exactly (`value`; `found`, `lowest`, `none`).
 //! Refuses: nothing but want of memory, in `new` and `ask`.
 //! Knows nothing of: pools, logs, devices; what an image is; which instances run.
 //! Stands on: sd_base.
 //!
 //! To change:
 //! - free: bodies and private helpers
-//! - dear: the rows and the laws (`src/laws.rt`), the clauses of `set`
+//! - dear: the rows (`rows`) and the laws (`laws`), the clauses of `set` and `fall`
 //! - frozen: nothing
 #![tactic(auto)]
 
@@ -20,16 +21,11 @@ mod asks;
 mod directory;
 mod lawful;
 pub mod laws;
-mod moves;
 mod queue;
+pub mod rows;
 
 pub use directory::Directory;
 pub use lawful::is_lawful;
-pub use moves::{
-    changed, dirtied, fallen, given_excl, given_shared, holds, holds_as, is_free, is_lost, locked,
-    may_drop, may_evict, may_raise, may_share, may_write, may_yield, owns, passes, raised, rests,
-    taken, uses, written,
-};
 pub use queue::Ask;
 
 #[cfg(test)]

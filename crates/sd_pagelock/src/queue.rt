@@ -4,7 +4,7 @@ ghost use Rattle.std.specs.Prelude.{◌≡◌, [], ◌∷◌, List, IfOk, OnOk, 
 ghost use Rattle.sd_pagelock.specs.Places.{seen};
 ghost use Rattle.sd_pagelock.specs.Asks as asks;
 
-use crate::moves::{holds_as, is_lost};
+use crate::rows::{holds_as, is_lost};
 use sd_base::{InstNo, Memory, Mode, Place};
 use std::alloc::Global;
 use std::marker::Model;

@@ -1,6 +1,7 @@
 //! The table of the directory, row by row, each with an unlawful neighbour, and one life of a page.
 
 use super::*;
+use crate::rows::{changed, dirtied, locked};
 use sd_base::{InstNo, InstSet, Lsn, Mode, PageNo, Place};
 use std::alloc::Global;
 use std::process::Abort;
@@ -122,17 +123,16 @@ fn rows_of_leaving(alloc: Global) -> Result<Vec<Case>, Fail> {
         Case(excl(one, true), Place::Free, false),
         Case(shared(6, Some(three)), shared(2, Some(two)), true),
         Case(shared(6, Some(three)), shared(2, Some(three)), false),
-        Case(shared(1, Some(one)), Place::Lost, true),
-        Case(shared(1, None), Place::Lost, false),
-        Case(excl(one, true), Place::Lost, true),
+        Case(shared(1, Some(one)), Place::Lost, false),
+        Case(shared(1, Some(one)), Place::Free, false),
+        Case(excl(one, true), Place::Lost, false),
         Case(
             moving(two, Mode::Shared, 5, true),
             shared(5, Some(one)),
-            true
+            false
         ),
-        Case(moving(two, Mode::Shared, 5, true), shared(5, None), false),
-        Case(moving(two, Mode::Excl, 0, true), Place::Lost, true),
-        Case(moving(two, Mode::Excl, 0, false), Place::Free, true),
+        Case(moving(two, Mode::Excl, 0, true), Place::Lost, false),
+        Case(moving(two, Mode::Excl, 0, false), Place::Free, false),
         Case(Place::Free, Place::Lost, false),
     ]?)
 }
@@ -166,9 +166,13 @@ fn each_is_told(rt: &impl Abort, table: &[Case]) -> Result<(), Fail> {
     Ok(())
 }
 
-// Moves the page where that is lawful.
+// Moves the page where that is lawful, and the LSN of a first change is given.
 fn moved(directory: &mut Directory<u32>, p: PageNo, to: Place, rec: Option<Lsn>) -> bool {
-    if !is_lawful(&directory.entry(p), &to) || rec.is_some() != changed(&to) {
+    let from = directory.entry(p);
+    if !is_lawful(&from, &to) {
+        return false;
+    }
+    if changed(&to) && !changed(&from) && rec.is_none() {
         return false;
     }
     directory.set(p, to, rec);
@@ -185,6 +189,66 @@ fn each_row_is_lawful_and_its_neighbour_is_not(rt: HostRuntime) -> Result<(), Fa
     Ok(())
 }
 
+// The page moves, with this RecLSN given, or an instance falls and leaves it so.
+#[derive(Drop)]
+enum Event {
+    Moves(Place, Option<Lsn>),
+    Falls(InstNo, Place),
+}
+
+// An event, and the page's RecLSN after it.
+#[derive(Drop)]
+struct Turn(Event, Option<Lsn>);
+
+fn one_life(alloc: Global) -> Result<Vec<Turn>, Fail> {
+    let (one, two, three) = (inst(1)?, inst(2)?, inst(3)?);
+    Ok(vec![in alloc;
+        Turn(Event::Moves(excl(one, false), None), None),
+        Turn(Event::Moves(excl(one, true), Some(5)), Some(5)),
+        Turn(Event::Moves(excl(one, true), Some(9)), Some(5)),
+        Turn(
+            Event::Moves(moving(two, Mode::Shared, 1, true), None),
+            Some(5)
+        ),
+        Turn(Event::Moves(shared(3, Some(one)), None), Some(5)),
+        Turn(
+            Event::Moves(moving(three, Mode::Shared, 3, true), Some(9)),
+            Some(5)
+        ),
+        Turn(Event::Moves(shared(7, Some(one)), None), Some(5)),
+        Turn(Event::Falls(one, shared(6, Some(two))), Some(5)),
+        Turn(Event::Moves(shared(4, Some(three)), None), Some(5)),
+        Turn(Event::Moves(excl(three, true), None), Some(5)),
+        Turn(Event::Moves(excl(three, false), Some(9)), None),
+        Turn(Event::Moves(excl(three, true), Some(12)), Some(12)),
+        Turn(Event::Falls(three, Place::Lost), Some(12)),
+    ]?)
+}
+
+#[test]
+fn a_changed_page_keeps_its_rec_lsn(rt: HostRuntime) -> Result<(), Fail> {
+    let p = page(1023)?;
+    let mut directory: Directory<u32> = Directory::new(rt.alloc())?;
+    for Turn(event, rec) in &one_life(rt.alloc())? {
+        match event {
+            Event::Moves(to, given) => {
+                assert!(rt; moved(&mut directory, p, *to, *given), "{to:?}");
+                assert_eq!(rt; directory.first_lost(), None);
+            }
+            Event::Falls(i, left) => {
+                directory.fall(*i);
+                assert_eq!(rt; directory.entry(p), *left);
+            }
+        }
+        assert_eq!(rt; directory.rec_lsn(p), *rec);
+    }
+    assert_eq!(rt; directory.first_lost(), Some(p));
+    assert!(rt; moved(&mut directory, p, Place::Free, None));
+    assert_eq!(rt; directory.rec_lsn(p), None);
+    assert_eq!(rt; directory.first_lost(), None);
+    Ok(())
+}
+
 #[test]
 fn a_page_passes_from_one_to_another(rt: HostRuntime) -> Result<(), Fail> {
     let (one, two, three) = (inst(1)?, inst(2)?, inst(3)?);
@@ -193,7 +257,6 @@ fn a_page_passes_from_one_to_another(rt: HostRuntime) -> Result<(), Fail> {
     assert!(rt; moved(&mut directory, p, locked(one, Mode::Excl), None));
     assert!(rt; !moved(&mut directory, p, dirtied(one), None));
     assert!(rt; moved(&mut directory, p, dirtied(one), Some(7)));
-    assert_eq!(rt; directory.rec_lsn(p), Some(7));
     directory.ask(two, p, Mode::Shared)?;
     directory.ask(three, p, Mode::Excl)?;
     directory.ask(two, p, Mode::Excl)?;
@@ -202,12 +265,12 @@ fn a_page_passes_from_one_to_another(rt: HostRuntime) -> Result<(), Fail> {
     assert_eq!(rt; directory.oldest_ask(p, two), Some((three, Mode::Excl)));
     assert_eq!(rt; directory.first_for(one), Some(p));
     assert_eq!(rt; directory.first_for(two), None);
-    assert!(rt; moved(&mut directory, p, moving(two, Mode::Excl, 0, true), Some(7)));
+    assert!(rt; moved(&mut directory, p, moving(two, Mode::Excl, 0, true), None));
     directory.send(p, 40);
     assert_eq!(rt; directory.under_way(p), Some(&40));
     assert_eq!(rt; directory.arrive(p), Some(40));
     assert_eq!(rt; directory.first_for(one), None);
-    assert!(rt; moved(&mut directory, p, excl(two, true), Some(7)));
+    assert!(rt; moved(&mut directory, p, excl(two, true), None));
     assert_eq!(rt; directory.oldest_ask(p, one), Some((three, Mode::Excl)));
     directory.forget(three);
     assert_eq!(rt; directory.oldest_ask(p, one), None);
@@ -215,21 +278,25 @@ fn a_page_passes_from_one_to_another(rt: HostRuntime) -> Result<(), Fail> {
 }
 
 #[test]
-fn a_lost_page_has_no_asks(rt: HostRuntime) -> Result<(), Fail> {
+fn a_fall_takes_images_and_asks(rt: HostRuntime) -> Result<(), Fail> {
     let (one, two) = (inst(1)?, inst(2)?);
     let (low, high) = (page(3)?, page(9)?);
     let mut directory: Directory<u32> = Directory::new(rt.alloc())?;
     assert!(rt; moved(&mut directory, high, locked(one, Mode::Excl), None));
     assert!(rt; moved(&mut directory, high, dirtied(one), Some(7)));
-    assert!(rt; moved(&mut directory, low, locked(one, Mode::Shared), None));
+    assert!(rt; moved(&mut directory, low, locked(two, Mode::Shared), None));
+    assert!(rt; moved(&mut directory, low, moving(one, Mode::Excl, 0, false), None));
+    directory.send(low, 40);
     directory.ask(two, high, Mode::Shared)?;
     directory.ask(two, low, Mode::Excl)?;
-    directory.ask(one, low, Mode::Excl)?;
-    assert_eq!(rt; directory.first_for(one), Some(low));
-    assert!(rt; moved(&mut directory, low, excl(one, false), None));
-    assert_eq!(rt; directory.oldest_ask(low, two), None);
-    assert!(rt; moved(&mut directory, high, Place::Lost, Some(7)));
+    directory.ask(one, low, Mode::Shared)?;
+    directory.fall(one);
+    assert_eq!(rt; directory.entry(high), Place::Lost);
+    assert_eq!(rt; directory.entry(low), Place::Free);
+    assert_eq!(rt; directory.under_way(low), None);
     assert_eq!(rt; directory.oldest_ask(high, one), None);
-    assert_eq!(rt; directory.rec_lsn(high), Some(7));
+    assert_eq!(rt; directory.oldest_ask(low, two), None);
+    assert_eq!(rt; directory.oldest_ask(low, one), Some((two, Mode::Excl)));
+    assert_eq!(rt; directory.first_lost(), Some(high));
     Ok(())
 }

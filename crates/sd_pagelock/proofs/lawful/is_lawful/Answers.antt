@@ -10,7 +10,7 @@ returns-then-comes c = let h = c.comes.ensures.0 c.if-comes.true in (λ t. gains
 
 pub returns : goal.returns
 returns c = (
-  λ t. let h = c.goes.ensures.0 t in lawful.IsMove.fall h.0 h.1.0 h.1.1,
+  λ t. let h = c.goes.ensures.0 t in lawful.IsMove.evict h.0 h.1.0 h.1.1,
   λ m. move-groups (seen c.args.from.now) (seen c.args.to.now) m
       (λ i w. not_both (c.comes.ensures.1 (i, w)) c.if-comes.false)
       (λ w. not_both (c.turns.ensures.1 w) c.if-turns.false)

@@ -93,6 +93,16 @@ pub fn uses(place: &Place, i: InstNo) -> bool
     }
 }
 
+/// Whether the page moves to `i`.
+pub fn receives(place: &Place, i: InstNo) -> bool
+    ensures { result ≡ places.receives (seen place.now) i }
+{
+    match *place {
+        Place::Moving { to, .. } => to == i,
+        _ => false,
+    }
+}
+
 /// The place of a page that `i` reads from disk, where it was in no pool.
 pub fn locked(i: InstNo, mode: Mode) -> Place
     ensures { seen result ≡ rows.locked i mode }
@@ -263,6 +273,38 @@ pub fn fallen(i: InstNo, place: &Place) -> Place
         }
         _ => *place,
     }
+}
+
+/// The place of a page that one alone shares, who has it alone now. Every other place stays.
+pub fn left_alone(place: &Place) -> Place
+    ensures { seen result ≡ rows.left_alone (seen place.now) }
+{
+    match *place {
+        Place::Shared { set, writer } => match set.first() {
+            None => *place,
+            Some(x) => {
+                if is_only(x, set) {
+                    Place::Excl {
+                        holder: x,
+                        dirty: writer.is_some(),
+                    }
+                } else {
+                    *place
+                }
+            }
+        },
+        _ => *place,
+    }
+}
+
+/// The place of a page of which `j` drops its copy for `i`: where nobody else is left, `i` has the page alone.
+pub fn dropped(j: InstNo, i: InstNo, place: &Place) -> Place
+    requires { IsTrue (rows.may_drop j (seen place.now)) }
+    ensures { seen result ≡ rows.dropped j i (seen place.now) }
+{
+    let left = fallen(j, place);
+    let alone = left_alone(&left);
+    if holds(&alone, i) { alone } else { left }
 }
 
 /// Whether the page rests, changed, so that its holder or writer may write it to disk.

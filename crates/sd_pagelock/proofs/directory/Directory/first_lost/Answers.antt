@@ -1,0 +1,13 @@
+use Rattle.std.proofs.Common.{◌∙◌, ap}
+use Rattle.sd_pagelock.specs.Directory.{DirectoryState}
+use Rattle.sd_pagelock.proofs.Counts.{lost_at, first-found, first-lowest, first-none}
+use Rattle.sd_pagelock.proofs.directory.Directory.first_lost.Goals as goal
+
+pub returns-clause-found : goal.returns-clause-found
+returns-clause-found g c = first-found c.args.self.now.places c.lost_page.result (c.lost_page.ensures ∙ ap lost_at (c.deref.ensures.value ∙ ap (λ (s : DirectoryState g.row.I.Denot). s.places) c.self.view_is))
+
+pub returns-clause-lowest : goal.returns-clause-lowest
+returns-clause-lowest g c = first-lowest c.args.self.now.places c.lost_page.result (c.lost_page.ensures ∙ ap lost_at (c.deref.ensures.value ∙ ap (λ (s : DirectoryState g.row.I.Denot). s.places) c.self.view_is))
+
+pub returns-clause-none : goal.returns-clause-none
+returns-clause-none g c = first-none c.args.self.now.places c.lost_page.result (c.lost_page.ensures ∙ ap lost_at (c.deref.ensures.value ∙ ap (λ (s : DirectoryState g.row.I.Denot). s.places) c.self.view_is))
