@@ -1,6 +1,5 @@
 -- The record that closes a transaction, and what one record more shows. It serves the goals of table.rt.
 use Rattle.std.proofs.Common.{◌≡◌, ◌≢◌, ◌⊎◌, inl, inr, ⊎_elim, ℕ, zero, suc, ◌<◌, ◌≤◌, Bool, true, false, cond, ◌&&◌, List, [], ◌∷◌, ◌++◌, length, take, Option, None, Some, slice_get, refl, sym, ap, ◌∙◌, subst, arith}
-use Rattle.std.specs.List.{list_any}
 use Rattle.std.proofs.lemmas.Bool.{cases_Bool, cases_eq, cases_lt}
 use Rattle.std.proofs.lemmas.List.{take-append-le, take_at}
 use Rattle.std.proofs.lemmas.Option.{slice_get_within}
@@ -17,18 +16,10 @@ use Rattle.sd_analysis.specs.Faults.{MayCome}
 use Rattle.sd_analysis.specs.Misplaced.{Finds, IsOff}
 use Rattle.sd_analysis.specs.Seen.{EndsAt, IsFirstEnd, Judged, closed_by}
 use Rattle.sd_analysis.proofs.Misplaced.{any_behind, dec_empty, dec_top, front_get, mid_get}
-use Rattle.sd_analysis.proofs.Prefixes.{both, ends_speaks, own_is}
+use Rattle.sd_chain.proofs.Whose.{both, ends-off, own_is}
 use Rattle.sd_analysis.proofs.Steps.{IsWrongHere, Shuts, shown}
 
 -- ---- records that close nothing
-
--- a record that isn't one of t doesn't close it
-off_open : (t : TxnId) (x : Rec) → of_txn t x ≡ false → (ends x.kind && same_txn x.txn t) ≡ false
-off_open t x off = ⊎_elim (λ is. let c = sym off ∙ (ends_speaks x.kind (same_txn x.txn t) is).1 in absurd (cc)) (λ no. no) (cases_Bool (ends x.kind && same_txn x.txn t))
-
-pub none_open : (t : TxnId) (xs : List Rec) → list_any (of_txn t) xs ≡ false → IsOpen t xs
-none_open t [] e = tt
-none_open t (x ∷ xs) e = ⊎_elim (λ is. let c = rw is at e in absurd (cc)) (λ off. (off_open t x off, none_open t xs (rw off at e))) (cases_Bool (of_txn t x))
 
 open_at : (t : TxnId) (xs : List Rec) (k : ℕ) (x : Rec) → IsOpen t xs → slice_get xs k ≡ Some x → (ends x.kind && same_txn x.txn t) ≡ false
 open_at t [] k x o e = absurd (cc)
@@ -65,7 +56,7 @@ ends_still t xs x k e =
     }
 
 pub ends_off : (t : TxnId) (xs : List Rec) (x : Rec) (closed : Option ℕ) → of_txn t x ≡ false → EndsAt xs t closed → EndsAt (xs ++ x ∷ []) t closed
-ends_off t xs x None off o = Each-append (λ (z : Rec). (ends z.kind && same_txn z.txn t) ≡ false) xs (x ∷ []) o (off_open t x off, tt)
+ends_off t xs x None off o = Each-append (λ (z : Rec). (ends z.kind && same_txn z.txn t) ≡ false) xs (x ∷ []) o (ends-off t x off, tt)
 ends_off t xs x (Some k) off e = ends_still t xs x k e
 
 pub ends_own : (xs : List Rec) (x : Rec) (closed : Option ℕ) → of_txn x.txn x ≡ true → EndsAt xs x.txn closed → EndsAt (xs ++ x ∷ []) x.txn (closed_by (length xs) x closed)

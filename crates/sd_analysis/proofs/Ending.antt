@@ -30,7 +30,7 @@ use Rattle.sd_analysis.proofs.Keyed.{txn_cmp, txn_is_eq, below_from_cmp}
 use Rattle.sd_analysis.proofs.Closers.{open_shuts}
 use Rattle.sd_analysis.proofs.Misplaced.{any_at, any_before, parts_at, tidy_not}
 use Rattle.sd_analysis.proofs.Orders.{none_tidy}
-use Rattle.sd_analysis.proofs.Prefixes.{both, first_prev-behind, open_ones-is, own_is, own_of}
+use Rattle.sd_chain.proofs.Whose.{both, first_prev-behind, open_ones-is, own_is, own_of}
 use Rattle.sd_analysis.proofs.Steps.{if_some}
 
 abbrev pub Row : Type 0

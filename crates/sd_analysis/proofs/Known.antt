@@ -18,9 +18,10 @@ use Rattle.sd_analysis.specs.Losers.{record_at}
 use Rattle.sd_analysis.specs.Faults.{IsFirst, MayCome}
 use Rattle.sd_analysis.specs.Misplaced.{Covers, Finds, IsLeast}
 use Rattle.sd_analysis.specs.Seen.{closed_by, with_record, EndsAt, Fits, Judged, Tells, TellsOf, TellsAll}
-use Rattle.sd_analysis.proofs.Closers.{ends_off, ends_own, finds_next, finds_silent, none_open}
+use Rattle.sd_analysis.proofs.Closers.{ends_off, ends_own, finds_next, finds_silent}
 use Rattle.sd_analysis.proofs.Steps.{least_more}
-use Rattle.sd_analysis.proofs.Prefixes.{own_of, other_of, silent_of, advance-own, advance-off, after_all-append, after_all-none, first_prev-there, first_prev-behind, first_prev-off}
+use Rattle.sd_analysis.proofs.Prefixes.{advance-own}
+use Rattle.sd_chain.proofs.Whose.{none_open, own_of, other_of, silent_of, advance-off, after_all-append, after_all-none, first_prev-there, first_prev-behind, first_prev-off}
 
 -- what is seen of the transaction of x before x, which comes next
 pub record Ready (log : List Placed) (xs : List Rec) (x : Rec) (seen : Seen) : Type 0 where

@@ -3,7 +3,6 @@ pub mod Keyed
 pub mod Prefixes
 pub mod Known
 pub mod Ending
-pub mod Listed
 pub mod Sums
 pub mod Closers
 pub mod Misplaced

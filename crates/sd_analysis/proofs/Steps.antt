@@ -13,7 +13,7 @@ use Rattle.sd_chain.specs.Order.{speaks, of_txn, none_yet, after_all}
 use Rattle.sd_chain.specs.Faults.{LeavesOpen, Skips, UndoesOther}
 use Rattle.sd_analysis.specs.Misplaced.{Covers, Finds, IsLeast, IsOff, IsWrongYet}
 use Rattle.sd_analysis.proofs.Misplaced.{any_at, front_get}
-use Rattle.sd_analysis.proofs.Prefixes.{own_of, first_prev-there}
+use Rattle.sd_chain.proofs.Whose.{own_of, first_prev-there}
 
 where_is : (xs : List Rec) (x : Rec) (j : ℕ) (y : Rec) → slice_get (xs ++ x ∷ []) j ≡ Some y → ((j < length xs) × (slice_get xs j ≡ Some y)) ⊎ ((j ≡ length xs) × (y ≡ x))
 where_is [] x zero y e = inr (refl, cc)

@@ -17,7 +17,7 @@ use Rattle.sd_chain.specs.Checks as checks
 use Rattle.sd_analysis.specs.declared.losers.Loser.{Loser}
 use Rattle.sd_analysis.specs.Losers.{record_at, AreLosers, IsLoser, Rise}
 use Rattle.sd_analysis.specs.Owing.{bytes_at, bytes_for}
-use Rattle.sd_analysis.proofs.Listed.{sums-agree, apart-open_in, open_in-is, is-open_in}
+use Rattle.sd_chain.proofs.Members.{sums-agree, apart-open_in, open_in-is, is-open_in}
 
 sum-map : {A B : Type 0} (f : B → ℕ) (g : A → B) (xs : List A) → sum_by (λ a. f (g a)) xs ≡ sum_by f (map g xs)
 sum-map f g [] = refl

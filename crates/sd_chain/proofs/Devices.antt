@@ -1,4 +1,5 @@
--- What a put of a twin and a force of a log do to what the devices keep. It serves the goals of `devices` in laws.rt.
+-- What a put of a twin and a force of a log do to what the devices keep: for the goals of `devices` in laws.rt, and lent to the
+-- crates above.
 use Rattle.std.proofs.Common.{◌≡◌, ◌≢◌, ⊎_elim, inl, inr, ℕ, ◌+◌, ◌-◌, ◌*◌, ◌<◌, ◌≤◌, List, [], take, drop, get_or, cond, ltb, ◌&&◌, sym, ap, ◌∙◌, arith}
 use Rattle.std.specs.Prelude.{◌==◌}
 use Rattle.std.proofs.lemmas.Bool.{cases_lt, cases_eq}
@@ -24,11 +25,13 @@ part_within at len from n bytes h =
     sym (drop-take from n (take len (drop at bytes))) ∙ ap (drop from) (take-take (from + n) len (drop at bytes) h)
     ∙ drop-take from n (drop at bytes) ∙ ap (take n) (drop-drop from at bytes)
 
-open_within : (at len gate : ℕ) (bytes : List ℕ) → gate < len
+-- a gate within a part stands open where it does on the device
+pub open_within : (at len gate : ℕ) (bytes : List ℕ) → gate < len
     → is_open gate (take len (drop at bytes)) ≡ is_open (at + gate) bytes
 open_within at len gate bytes h = ap (λ b. b == 165) (byte_within at len gate bytes h)
 
-body_within : (at len gate n : ℕ) (bytes : List ℕ) → gate + 1 + n ≤ len
+-- a body within a part is that on the device
+pub body_within : (at len gate n : ℕ) (bytes : List ℕ) → gate + 1 + n ≤ len
     → body_at n gate (take len (drop at bytes)) ≡ body_at n (at + gate) bytes
 body_within at len gate n bytes h = let place : at + (gate + 1) ≡ at + gate + 1 = omega arith in
     part_within at len (gate + 1) n bytes h ∙ ap (λ p. take n (drop p bytes)) place
@@ -58,19 +61,21 @@ chosen_within at n bytes =
     (slot_of (is_open at bytes) (is_open (at + n + 1) bytes) (number_of (body_at n at bytes)) (number_of b))
     (body_at n at bytes) b) b2
 
-chosen_same : (at n : ℕ) (old new : List ℕ) → take (2 * (n + 1)) (drop at new) ≡ take (2 * (n + 1)) (drop at old)
+-- the body of a twin that counts stays where the bytes of both slots do
+pub chosen_same : (at n : ℕ) (old new : List ℕ) → take (2 * (n + 1)) (drop at new) ≡ take (2 * (n + 1)) (drop at old)
     → chosen_body at n new ≡ chosen_body at n old
 chosen_same at n old new same = sym (chosen_within at n new) ∙ ap (chosen_body 0 n) same ∙ chosen_within at n old
 
--- a part in front of what may differ, and one behind it
-part_before : (at n from len : ℕ) (old new : List ℕ) → AgreesOutside at n old new → from + len ≤ at
+-- a part in front of what may differ is as it was
+pub part_before : (at n from len : ℕ) (old new : List ℕ) → AgreesOutside at n old new → from + len ≤ at
     → take len (drop from new) ≡ take len (drop from old)
 part_before at n from len old new a le =
     sym (drop-take from len new)
     ∙ ap (drop from) (sym (take-take (from + len) at new le) ∙ ap (take (from + len)) a.before
     ∙ take-take (from + len) at old le) ∙ drop-take from len old
 
-part_behind : (at n from len : ℕ) (old new : List ℕ) → AgreesOutside at n old new → at + n ≤ from
+-- a part behind what may differ is as it was
+pub part_behind : (at n from len : ℕ) (old new : List ℕ) → AgreesOutside at n old new → at + n ≤ from
     → take len (drop from new) ≡ take len (drop from old)
 part_behind at n from len old new a le =
     let place : at + n + (from - (at + n)) ≡ from = omega (arith, le) in

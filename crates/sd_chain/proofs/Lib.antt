@@ -1,6 +1,8 @@
 pub mod Txns
 pub mod Lists
 pub mod Stacks
+pub mod Whose
+pub mod Members
 pub mod Slots
 pub mod Chains
 pub mod Newest
@@ -24,3 +26,7 @@ pub mod Written
 pub mod Left
 pub mod Replays
 pub mod Devices
+pub mod Narrowed
+pub mod Soundly
+pub mod Losers
+pub mod Fates

@@ -1,7 +1,7 @@
 -- The order of a transaction's records, with one more or from a later place.
-use Rattle.std.proofs.Common.{◌≡◌, ◌≢◌, ◌⊎◌, inl, inr, ⊎_elim, ℕ, ◌<◌, Bool, true, false, cond, ◌&&◌, List, [], ◌∷◌, ◌++◌, refl, sym, ap, ◌∙◌, subst, arith}
+use Rattle.std.proofs.Common.{◌≡◌, ◌⊎◌, inl, inr, ⊎_elim, ℕ, ◌<◌, Bool, true, false, cond, ◌&&◌, List, [], ◌∷◌, ◌++◌, refl, sym, ap, ◌∙◌, subst, arith}
 use Rattle.std.proofs.lemmas.Bool.{cases_Bool}
-use Rattle.sd_chain.proofs.Txns.{cases_txn, eq-same, ne-same}
+use Rattle.sd_chain.proofs.Txns.{cases_txn, eq-same}
 use Rattle.sd_logrec.specs.View.{Rec, Kind}
 use Rattle.sd_base.specs.declared.ids.TxnId.{TxnId}
 use Rattle.sd_base.specs.Ids.{same_txn}
@@ -11,6 +11,7 @@ use Rattle.sd_chain.proofs.Lists.{Each-append, Each-front, Each-weaker, cond_bot
 use Rattle.std.proofs.Common.{append-nil}
 use Rattle.sd_chain.specs.Order.{speaks, of_txn, Sofar, none_yet, advance, after_all, ComesNext, InOrder, Undoes, first_prev, Tidy, MayFollow}
 use Rattle.sd_chain.proofs.Stacks.{step-own, step-other}
+use Rattle.sd_chain.proofs.Whose.{after_all-none, ends-off, first_prev-behind, none_of, other_of, open_ones-is, InOrder-back, Undoes-back}
 
 InOrder-append : (t : TxnId) (sofar : Sofar) (xs ys : List Rec) → InOrder t sofar xs → InOrder t (after_all t sofar xs) ys
     → InOrder t sofar (xs ++ ys)
@@ -20,41 +21,6 @@ InOrder-append t sofar (x ∷ xs) ys a b = (a.0, InOrder-append t (advance t sof
 Undoes-append : (t : TxnId) (stk xs ys : List Rec) → Undoes t stk xs → Undoes t (stack_from t stk xs) ys → Undoes t stk (xs ++ ys)
 Undoes-append t stk [] ys a b = b
 Undoes-append t stk (x ∷ xs) ys a b = (a.0, Undoes-append t (step t stk x) xs ys a.1 b)
-
--- the parts of what is so far
-off_txn : (t : TxnId) (x : Rec) → x.txn ≢ t → of_txn t x ≡ false
-off_txn t x ne = let e : same_txn x.txn t ≡ false = ne-same x.txn t ne in rw e (and_false (speaks x.kind))
-  where
-    and_false : (a : Bool) → (a && false) ≡ false
-    and_false true = refl
-    and_false false = refl
-
-step_off : (t : TxnId) (stk : List Rec) (x : Rec) → of_txn t x ≡ false → step t stk x ≡ stk
-step_off t stk x off =
-    ⊎_elim (λ e. step-own t stk x e ∙ silent x.kind (by_txn e)) (λ ne. step-other t stk x ne) (cases_txn x.txn t)
-  where
-    by_txn : x.txn ≡ t → speaks x.kind ≡ false
-    by_txn e = go (speaks x.kind) (same_txn x.txn t) off (eq-same x.txn t e)
-      where
-        go : (a b : Bool) → (a && b) ≡ false → b ≡ true → a ≡ false
-        go true b e f = sym f ∙ e
-        go false b e f = refl
-
-    silent : (k : Kind) → speaks k ≡ false → moved k x stk ≡ stk
-    silent Update e = absurd (cc)
-    silent Clr e = absurd (cc)
-    silent Commit e = refl
-    silent End e = refl
-    silent Plain e = refl
-
-after_all-open_ones : (t : TxnId) (sofar : Sofar) (xs : List Rec)
-    → (after_all t sofar xs).open_ones ≡ stack_from t sofar.open_ones xs
-after_all-open_ones t sofar [] = refl
-after_all-open_ones t sofar (x ∷ xs) = after_all-open_ones t (advance t sofar x) xs
-    ∙ ap (λ (l : List Rec). stack_from t l xs)
-    (cond_both (λ (q : Sofar). q.open_ones ≡ step t sofar.open_ones x) (of_txn t x)
-    (record { open_ones = step t sofar.open_ones x; last = x.lsn; shut = ends x.kind }) sofar (λ is. refl)
-    (λ is. sym (step_off t sofar.open_ones x is)))
 
 -- an open transaction isn't shut
 shut_open : (t : TxnId) (sofar : Sofar) (xs : List Rec) → sofar.shut ≡ false → IsOpen t xs → (after_all t sofar xs).shut ≡ false
@@ -80,8 +46,7 @@ last_up t sofar (x ∷ xs) pos lt =
     (record { open_ones = step t sofar.open_ones x; last = x.lsn; shut = ends x.kind }) sofar (λ is. pos.0) (λ is. lt))
 
 off_first_prev : (t : TxnId) (xs ys : List Rec) → Each (λ x. of_txn t x ≡ false) xs → first_prev t (xs ++ ys) ≡ first_prev t ys
-off_first_prev t [] ys a = refl
-off_first_prev t (x ∷ xs) ys a = rw a.0 (off_first_prev t xs ys a.1)
+off_first_prev t xs ys a = first_prev-behind t xs ys (none_of (of_txn t) xs a)
 
 -- either none is the transaction's, or the last LSN is above 0 and the first prev stays
 some_or_none : (t : TxnId) (xs ys : List Rec) → Each (λ x. 0 < x.lsn) xs
@@ -112,11 +77,7 @@ some_or_none t (x ∷ xs) ys pos = go (some_or_none t xs ys pos.1) (cases_Bool (
     )
 
 after_off : (t : TxnId) (sofar : Sofar) (xs : List Rec) → Each (λ x. of_txn t x ≡ false) xs → after_all t sofar xs ≡ sofar
-after_off t sofar [] a = refl
-after_off t sofar (x ∷ xs) a =
-    ap (λ (b : Bool). after_all t
-    (cond b (record { open_ones = step t sofar.open_ones x; last = x.lsn; shut = ends x.kind }) sofar) xs) a.0
-    ∙ after_off t sofar xs a.1
+after_off t sofar xs a = after_all-none t sofar xs (none_of (of_txn t) xs a)
 
 Undoes-none : (t : TxnId) (stk xs : List Rec) → Each (λ x. of_txn t x ≡ false) xs → Undoes t stk xs
 Undoes-none t stk [] a = tt
@@ -149,7 +110,7 @@ tidy-own log y pos tidy may = record {
     (λ is. record {
       alive = shut_open y.txn none_yet log refl may.alive;
       prev = λ ne. may.prev;
-      done = λ k. after_all-open_ones y.txn none_yet log ∙ may.done k;
+      done = λ k. open_ones-is y.txn none_yet log ∙ may.done k;
     }),
     tt,
   );
@@ -169,7 +130,7 @@ pub tidy-push : (log : List Rec) (y : Rec) → Each (λ x. 0 < x.lsn) log → ((
     → (t : TxnId) → Tidy t (log ++ y ∷ [])
 tidy-push log y pos tidy may t =
     ⊎_elim (λ e. subst (λ (k : TxnId). Tidy k (log ++ y ∷ [])) e (tidy-own log y pos (tidy y.txn) may))
-    (λ ne. tidy-other t log y (off_txn t y ne) pos (tidy t)) (cases_txn y.txn t)
+    (λ ne. tidy-other t log y (other_of t y ne) pos (tidy t)) (cases_txn y.txn t)
 
 -- The records left when a log is read from a later place.
 record Weaker (b a : Sofar) : Type 0 where
@@ -222,14 +183,6 @@ InOrder-weaker t b a [] w o = tt
 InOrder-weaker t b a (x ∷ xs) w o =
     ((λ is. next_weaker x b a w (o.0 is)), InOrder-weaker t (advance t b x) (advance t a x) xs (advance_weaker t x b a w) o.1)
 
-InOrder-back : (t : TxnId) (sofar : Sofar) (xs ys : List Rec) → InOrder t sofar (xs ++ ys) → InOrder t (after_all t sofar xs) ys
-InOrder-back t sofar [] ys a = a
-InOrder-back t sofar (x ∷ xs) ys a = InOrder-back t (advance t sofar x) xs ys a.1
-
-Undoes-back : (t : TxnId) (stk xs ys : List Rec) → Undoes t stk (xs ++ ys) → Undoes t (stack_from t stk xs) ys
-Undoes-back t stk [] ys a = a
-Undoes-back t stk (x ∷ xs) ys a = Undoes-back t (step t stk x) xs ys a.1
-
 -- none of its records, or a first one with a former one
 first_some : (t : TxnId) (sofar : Sofar) (xs : List Rec) → 0 < sofar.last → InOrder t sofar xs
     → Each (λ x. of_txn t x ≡ false) xs ⊎ (0 < first_prev t xs)
@@ -246,16 +199,6 @@ first_some t sofar (x ∷ xs) lt o =
     go (inl is) ih = inr (rw is (let e = (o.0 is).prev (λ e. absurd (omega arith)) in omega arith))
     go (inr off) ih = ⊎_elim (λ none. inl (off, none)) (λ some. inr (rw off some)) (ih off)
 
-ends-off : (t : TxnId) (x : Rec) → of_txn t x ≡ false → (ends x.kind && same_txn x.txn t) ≡ false
-ends-off t x off = go x.kind (same_txn x.txn t) off
-  where
-    go : (k : Kind) (b : Bool) → (speaks k && b) ≡ false → (ends k && b) ≡ false
-    go Update b e = refl
-    go Clr b e = refl
-    go Commit b e = e
-    go End b e = e
-    go Plain b e = refl
-
 pub tidy-later : (t : TxnId) (gone log : List Rec) → Each (λ x. 0 < x.lsn) gone → Tidy t (gone ++ log)
     → Each (λ x. of_txn t x ≡ false) gone ⊎ ((IsOpen t log → ⊥) ⊎ Each (λ x. of_txn t x ≡ false) log) → Tidy t log
 tidy-later t gone log pos tidy closed = record {
@@ -271,7 +214,7 @@ tidy-later t gone log pos tidy closed = record {
       closed;
   undo = λ e. ⊎_elim
       (λ off. subst (λ (l : List Rec). Undoes t l log)
-      (sym (after_all-open_ones t none_yet gone) ∙ ap (λ (q : Sofar). q.open_ones) (after_off t none_yet gone off))
+      (sym (open_ones-is t none_yet gone) ∙ ap (λ (q : Sofar). q.open_ones) (after_off t none_yet gone off))
       (Undoes-back t [] gone log (tidy.undo (off_first_prev t gone log off ∙ e))))
       (λ some. ⊎_elim (λ none. Undoes-none t [] log none) (λ up. absurd (omega (arith, up, e)))
       (first_some t (after_all t none_yet gone) log some.0 (InOrder-back t none_yet gone log tidy.order)))

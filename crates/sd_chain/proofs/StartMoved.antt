@@ -2,20 +2,20 @@
 use Rattle.std.proofs.Common.{◌≡◌, ◌≢◌, ◌⊎◌, inl, inr, ⊎_elim, ℕ, zero, suc, ◌<◌, ◌≤◌, Bool, true, false, cond, ltb, ◌&&◌, List, [], ◌∷◌, ◌++◌, refl, sym, ap, ◌∙◌, subst, arith, le-ltb, ltb-true, ltb-false, ap₂}
 use Rattle.std.specs.Prelude.{filter}
 use Rattle.std.proofs.lemmas.Bool.{cases_Bool, cases_eq}
-use Rattle.sd_logrec.specs.View.{Rec, Kind}
+use Rattle.sd_logrec.specs.View.{Rec}
 use Rattle.sd_base.specs.declared.ids.TxnId.{TxnId}
 use Rattle.sd_base.specs.Ids.{same_txn}
-use Rattle.sd_chain.specs.Records.{Val, of_page, of_rid, at, ends, Each, home, stack, step, stack_from, moved, IsOpen}
-use Rattle.sd_logrec.specs.View.Kind.{Update, Clr, Commit, End, Plain}
+use Rattle.sd_chain.specs.Records.{Val, of_page, of_rid, at, ends, Each, home, stack, step, stack_from, IsOpen}
 use Rattle.sd_page.specs.Page.{Page, size}
 use Rattle.sd_chain.specs.Pages.{value, capacity, redo, replay, FitAll}
-use Rattle.sd_chain.specs.Order.{of_txn, speaks}
+use Rattle.sd_chain.specs.Order.{of_txn}
 use Rattle.sd_chain.specs.Image.{Image, chain, newest, now, opens, Open, HasPlace, Linked, undone, Alone, StackFits, Sound, Recovered}
 use Rattle.sd_chain.proofs.Lists.{Each-append, Each-back, Each-weaker, filter-cons, filter-skip}
 use Rattle.std.proofs.lemmas.List.Elements.{filter-append}
 use Rattle.sd_chain.specs.Image.{all_of, inserted, sorted}
 use Rattle.sd_chain.specs.Changes.{StartMoved}
 use Rattle.sd_chain.proofs.Stacks.{stack_from-append}
+use Rattle.sd_chain.proofs.Whose.{step-off, ends-off}
 
 -- the records above the floor
 abbrev pub high : ℕ → Rec → Bool
@@ -120,28 +120,6 @@ of_high-low floor p (x ∷ xs) a = ⊎_elim
     ∙ filter-skip (high floor) x (filter (of_page p) xs) (le-ltb floor x.lsn (a.0 is)) ∙ of_high-low floor p xs a.1)
     (λ is. ap (filter (high floor)) (filter-skip (of_page p) x xs is) ∙ of_high-low floor p xs a.1)
     (cases_Bool (of_page p x))
-
--- a record that isn't the transaction's leaves it as it is
-step-off : (t : TxnId) (stk : List Rec) (x : Rec) → of_txn t x ≡ false → step t stk x ≡ stk
-step-off t stk x off = go x.kind (same_txn x.txn t) off
-  where
-    go : (k : Kind) (b : Bool) → (speaks k && b) ≡ false → cond b (moved k x stk) stk ≡ stk
-    go Update true e = absurd (cc)
-    go Clr true e = absurd (cc)
-    go Commit true e = refl
-    go End true e = refl
-    go Plain true e = refl
-    go k false e = refl
-
-pub ends-off : (t : TxnId) (x : Rec) → of_txn t x ≡ false → (ends x.kind && same_txn x.txn t) ≡ false
-ends-off t x off = go x.kind (same_txn x.txn t) off
-  where
-    go : (k : Kind) (b : Bool) → (speaks k && b) ≡ false → (ends k && b) ≡ false
-    go Update b e = refl
-    go Clr b e = refl
-    go Commit b e = e
-    go End b e = e
-    go Plain b e = refl
 
 pub stack_from-none : (t : TxnId) (stk xs : List Rec) → Each (λ x. of_txn t x ≡ false) xs → stack_from t stk xs ≡ stk
 stack_from-none t stk [] a = refl

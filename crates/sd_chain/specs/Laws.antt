@@ -14,6 +14,9 @@ use Rattle.sd_chain.specs.Pages.{FitAll, replay}
 use Rattle.sd_chain.specs.Image.{Image, Open, Sound, Recovered, newest, now, opens, sorted}
 use Rattle.sd_chain.specs.Order.{Tidy, speaks}
 use Rattle.sd_chain.specs.Bytes.{PutsTwin, ForcesLog, stable}
+use Rattle.sd_chain.specs.Checks.{DevicesAreSound}
+use Rattle.sd_chain.specs.Fates.{Fate, fate_in}
+use Rattle.sd_chain.specs.Losers.{OwnLogs, losers_in, table_in}
 use Rattle.sd_chain.specs.Crashes.{Leaves, StandsFor, DuringForce, DuringPut}
 use Rattle.sd_chain.specs.Images.{Tails, Keeps, IsSafe, Gives, Allowed, Grows, Redone, Commits, Settled, Shortened, MayChange, MayUndo, MaySeal, all_kept, kept_at, log, or_written}
 
@@ -35,6 +38,10 @@ pub record Opens (img : Image) : Type 0 where
   pub eight : (j : ℕ) → 9 ≤ j → img.logs j ≡ []
   pub numbered : (j : ℕ) → Each (λ x. 0 < x.lsn) (img.logs j)
   pub order : (j : ℕ) (t : TxnId) → Tidy t (img.logs j)
+
+-- that of sound devices is one
+abbrev pub SoundOpens : Type 0
+SoundOpens = (devices : rig.Image) → DevicesAreSound devices → Opens (stable devices) × OwnLogs (stable devices)
 
 -- opening
 abbrev pub OpeningIsSafe : Type 0
@@ -156,6 +163,35 @@ UndoingRecovers = (img : Image) → Sound img → (ts : List TxnId) → AreOpen 
 abbrev pub UndoingFinds : Type 0
 UndoingFinds = (img : Image) → Sound img → (ts : List TxnId) → AreOpen img ts → EachFound (now img) (stacks_of img ts)
 
+-- what may be left of each page, may be left by the wider one, too
+abbrev pub Narrows : May → May → Type 0
+Narrows wide may = (p : ℕ) (x : Page) → may p x → wide p x
+
+-- so what holds of all that the wider one may leave holds of what this one may leave
+abbrev pub NarrowedIsSafe : May → May → Type 0
+NarrowedIsSafe wide may = Narrows wide may → (tails : Tails) (version : Keeps → ℕ → Page) → IsSafe tails wide version
+    → IsSafe tails may version
+
+abbrev pub NarrowedGives : May → May → Type 0
+NarrowedGives wide may = Narrows wide may → (tails : Tails) (value : Keeps → ℕ → ℕ → Val) → Gives tails wide value
+    → Gives tails may value
+
+-- and what this one leaves the wider one may leave
+abbrev pub NarrowedLeaves : May → May → Type 0
+NarrowedLeaves wide may = Narrows wide may → (tails : Tails) (img : Image) → Leaves tails may img → Leaves tails wide img
+
+-- the listed ones are the open transactions
+abbrev pub LosersAreOpen : Type 0
+LosersAreOpen = (img : Image) → OwnLogs img → AreOpen img (losers_in img)
+
+-- they are those whose fate is open
+abbrev pub LosersHaveFateOpen : Type 0
+LosersHaveFateOpen = (img : Image) → OwnLogs img → (t : TxnId) → Member t (losers_in img) ↔ (fate_in img t ≡ Fate.Open)
+
+-- and undoing all that they have open gives what recovery gives
+abbrev pub OpeningRecovers : Type 0
+OpeningRecovers = (img : Image) → OwnLogs img → Sound img → (p s : ℕ) → Recovered img p s (table_in img p s)
+
 -- no two transactions hold one record
 abbrev pub OneHolder : (TxnId → ℕ → ℕ → Type 0) → Type 0
 OneHolder holds = (t u : TxnId) (p s : ℕ) → holds t p s → holds u p s → t ≡ u
@@ -173,7 +209,7 @@ LocksKeepApart holds = OneHolder holds → (tails : Tails) → HoldsOpen holds t
 -- what a crash leaves of safe logs and pages stands for the table that belongs to it
 abbrev pub LeftStands : May → Type 0
 LeftStands may = (tails : Tails) (version : Keeps → ℕ → Page) (value : Keeps → ℕ → ℕ → Val) (img : Image)
-    → IsSafe tails may version → Gives tails may value → Leaves tails may img → StandsFor value img
+    → IsSafe tails may version → Gives tails may value → Leaves tails may img → StandsFor tails value img
 
 -- and so does what it leaves while a log is forced
 abbrev pub ForceLeaves : May → Type 0

@@ -8,6 +8,8 @@ pub mod Cuts
 pub mod Order
 pub mod Images
 pub mod Crashes
+pub mod Fates
+pub mod Losers
 pub mod Laws
 pub mod Undoing
 pub mod Faults

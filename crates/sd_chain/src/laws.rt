@@ -1,14 +1,22 @@
-//! What each event does to all images that a crash may leave: laws, each the contract of a call that does nothing.
+//! What each event does to all images that a crash may leave: laws, each the contract of a call that does nothing. They are
+//! stated for a `may` that is fixed: a crate whose `may` moves with a rig cites the lemmas of `proofs/Images.antt`, of which
+//! these laws are instances.
 
 ghost use Rattle.std.specs.Prelude.{ℕ};
 ghost use Rattle.sd_base.specs.declared.ids.TxnId.{TxnId};
 ghost use Rattle.sd_page.specs.Page.{Page};
-ghost use Rattle.sd_chain.specs.Laws.{OpeningIsSafe, OpeningGives, ChangeIsSafe, ChangeGives, UndoIsSafe, UndoGives, SealIsSafe, PlainGives, EndGives, CommitGives, SettlingIsSafe, SettlingGives, WriteIsSafe, WriteGives, ShorteningIsSafe, ShorteningGives, RecoveredIsOne, MergedFit, MergedReplay, UndoingRecovers, UndoingFinds, LocksKeepApart, LeftStands, ForceLeaves, PutLeaves, TwinIsPut, LogIsForced};
+ghost use Rattle.sd_chain.specs.Fates.{UnknownHasNone, OpenIsOpen, ClosedHasEnd, CommittedHasCommit, EndedHasEnd, OthersKeepFate, CommittedStays, EndedStays, OwnMakesFate};
+ghost use Rattle.sd_chain.specs.Laws.{SoundOpens, NarrowedIsSafe, NarrowedGives, NarrowedLeaves, LosersAreOpen, LosersHaveFateOpen, OpeningRecovers, OpeningIsSafe, OpeningGives, ChangeIsSafe, ChangeGives, UndoIsSafe, UndoGives, SealIsSafe, PlainGives, EndGives, CommitGives, SettlingIsSafe, SettlingGives, WriteIsSafe, WriteGives, ShorteningIsSafe, ShorteningGives, RecoveredIsOne, MergedFit, MergedReplay, UndoingRecovers, UndoingFinds, LocksKeepApart, LeftStands, ForceLeaves, PutLeaves, TwinIsPut, LogIsForced};
 
 /// What a crash may leave as the disk image of each page.
 pub trait Crashes {
     ghost may: { ℕ → Page → Type 0 };
 }
+
+/// Sound devices keep an image from which a complex may be opened, and each log has its own instance's transactions alone.
+pub fn sound_devices()
+    ensures opens { SoundOpens }
+{}
 
 /// An image that is sound, and whose logs are in order, is safe to begin with.
 pub fn opening()
@@ -61,7 +69,14 @@ pub fn crashed<C: Crashes>()
     ensures put { PutLeaves C.may }
 {}
 
-/// The same, told of the devices' bytes.
+/// What is safe whatever one may leave of each page is safe where less may be left, and recovery gives the same.
+pub fn narrowing<C: Crashes, D: Crashes>()
+    ensures safe { NarrowedIsSafe C.may D.may }
+    ensures gives { NarrowedGives C.may D.may }
+    ensures leaves { NarrowedLeaves C.may D.may }
+{}
+
+/// What a crash leaves, told of the devices' bytes.
 pub fn devices<C: Crashes>()
     ensures put { TwinIsPut C.may }
     ensures forced { LogIsForced C.may }
@@ -88,4 +103,24 @@ pub fn recovery()
     ensures one { RecoveredIsOne }
     ensures undone { UndoingRecovers }
     ensures found { UndoingFinds }
+{}
+
+/// What is open in an image, listed log by log: undoing it gives what recovery gives.
+pub fn losers()
+    ensures open { LosersAreOpen }
+    ensures fated { LosersHaveFateOpen }
+    ensures recovers { OpeningRecovers }
+{}
+
+/// What a transaction's kept records tell of its end, and what further records change of that.
+pub fn fates()
+    ensures unknown { UnknownHasNone }
+    ensures open { OpenIsOpen }
+    ensures closed { ClosedHasEnd }
+    ensures committed { CommittedHasCommit }
+    ensures ended { EndedHasEnd }
+    ensures kept { OthersKeepFate }
+    ensures committed_stays { CommittedStays }
+    ensures ended_stays { EndedStays }
+    ensures own { OwnMakesFate }
 {}

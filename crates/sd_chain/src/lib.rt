@@ -10,10 +10,14 @@
 //! Refuses: nothing but for want of memory.
 //! Knows nothing of: pools, locks, who holds what; how groups and twins are written.
 //! Stands on: sd_base, sd_page, sd_logrec, sd_rig.
+//! Lends: in `proofs`, Images (the lemma of each event, over any `may`), Narrowed (over a smaller one), Left (what is left
+//! stands), Devices (parts of a device), Soundly (sound devices may be opened), Losers and Fates; of lists of records
+//! Lists, Txns, Stacks, Whose, Members, Chains, Newest, Sorts, Ties and Recover.
 //!
 //! To change:
 //! - free: bodies, proofs
-//! - dear: `Sound`, `Recovered`, `IsSafe`, `Gives`, and the premises `MayChange`, `MayUndo`, `MaySeal`
+//! - dear: `Sound`, `Recovered`, `IsSafe`, `Gives`, `StandsFor`, the premises `MayChange`, `MayUndo`, `MaySeal`, and what is
+//!   lent
 //! - frozen: nothing
 #![tactic(auto)]
 

@@ -1,4 +1,5 @@
--- Lists of transactions with the same members, and their sums: for the goals of `reserve` and `owed`.
+-- The transactions of a log and those it leaves open, each once, and sums over lists with the same members: for the goals of
+-- `losers`, and lent to sd_analysis.
 use Rattle.std.proofs.Common.{◌≡◌, ◌≢◌, inl, inr, ⊎_elim, ℕ, ◌+◌, Bool, true, false, not, ◌&&◌, ◌||◌, List, [], ◌∷◌, filter, sum_by, refl, sym, ap, ◌∙◌, subst, arith}
 use Rattle.std.specs.List.{list_any}
 use Rattle.std.proofs.lemmas.Bool.{cases_Bool}
@@ -12,7 +13,7 @@ use Rattle.sd_chain.specs.Undoing.{Member, Apart}
 use Rattle.sd_chain.specs.Checks.{txns_of, open_in}
 use Rattle.sd_chain.proofs.Lists.{Each-filter, Each-weaker}
 use Rattle.sd_chain.proofs.Txns.{cases_txn, eq-same, ne-same}
-use Rattle.sd_analysis.proofs.Prefixes.{other_of, own_of, silent_of}
+use Rattle.sd_chain.proofs.Whose.{other_of, own_of, silent_of}
 
 -- the others
 abbrev pub others : TxnId → List TxnId → List TxnId
