@@ -1,0 +1,5 @@
+pub mod Logs
+pub mod Soundly
+pub mod Appends
+pub mod Starts
+pub mod Laws
