@@ -12,13 +12,8 @@ use crate::logs::damaged;
 use sd_analysis::{Losers, owed, reserve};
 use sd_base::{Lsn, Refusal};
 use sd_log::{Log, Placed};
+use sd_logrec::{AREA_LEN, MAX_LSN};
 use sd_page::Image;
-
-/// The length of an area, in bytes.
-const AREA_LEN: u64 = 1_048_576;
-
-/// LSNs end below this one.
-const LSN_END: u64 = 1 << 62;
 
 /// How many records end these losers, at most 2^64 - 1.
 pub fn owed_by(losers: &[Losers]) -> u64
@@ -34,7 +29,7 @@ pub fn owed_by(losers: &[Losers]) -> u64
 fn is_low(lsn: Lsn, owed: u64) -> bool
     ensures { (n : ℕ) → owed ≡ min n (2 ^ 64 - 1) → IsTrue result ↔ IsLow n lsn }
 {
-    lsn.saturating_add(owed) < LSN_END
+    lsn.saturating_add(owed) <= MAX_LSN
 }
 
 /// Whether so many LSNs are left above those of these pages.
@@ -66,7 +61,7 @@ fn has_room(log: &Log, losers: &Losers) -> bool
     ensures { IsTrue result ↔ HasRoom log.now }
 {
     let reserved = reserve(log.scan(), losers);
-    u64::from(log.gate()).saturating_add(reserved) < AREA_LEN
+    u64::from(log.gate()).saturating_add(reserved) < u64::from(AREA_LEN)
 }
 
 /// Room for what ends the losers, in each log and above all LSNs; `low` says it of the pages' LSNs.

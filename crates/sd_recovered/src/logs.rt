@@ -11,19 +11,17 @@ ghost use Rattle.sd_recovered.specs.Reading.{AreRead, FailsAmong, IsRead, IsUnre
 use sd_analysis::{Fault, Losers, analyse};
 use sd_base::{Bytes, InstNo, Refusal};
 use sd_log::Log;
-use sd_scan::scan;
+use sd_logrec::AREA;
+use sd_scan::{Scanned, scan};
 use std::alloc::Global;
-
-/// Where the area begins on its device, in bytes.
-const AREA: u64 = 130;
 
 /// A log device isn't sound at this place of its area.
 pub fn damaged(dev: u8, place: u32) -> Refusal
-    ensures { result ≡ R.Damaged dev (130 + place) }
+    ensures { result ≡ R.Damaged dev (AREA + place) }
 {
     Refusal::Damaged {
         dev,
-        at: AREA + u64::from(place),
+        at: u64::from(AREA) + u64::from(place),
     }
 }
 
@@ -57,7 +55,7 @@ fn read_log(alloc: Global, device: &[u8], inst: InstNo) -> Result<(Log, Losers),
     ensures unsound { IfErr result (λ e. (e ≡ R.Memory) ⊎ ((dev : ℕ) × (at : ℕ) × (e ≡ R.Damaged dev at) × IsUnread inst device.now)) }
     ensures place { (dev at : ℕ) → result ≡ Err (R.Damaged dev at) → (dev ≡ inst) × LogFailsAt inst device.now at }
 {
-    let log = scan(alloc, device, inst)?;
+    let Scanned { log, .. } = scan(alloc, device, inst)?;
     let losers = losers_of(alloc, &log, inst)?;
     Ok((log, losers))
 }

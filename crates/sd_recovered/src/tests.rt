@@ -6,7 +6,9 @@ ghost use Rattle.sd_recovered.specs.Devices.{AreDevices};
 
 use crate::recovered;
 use sd_base::{Bytes, Memory, PageNo, Refusal, Rid};
+use sd_logrec::AREA;
 use sd_model::Table;
+use sd_rig::device_len;
 use std::alloc::Global;
 use std::process::Abort;
 use std::test::Fail;
@@ -128,7 +130,7 @@ struct Patch<'a> {
 
 // Bytes at the start of an instance's log area.
 fn log<'a>(dev: u8, bytes: &'a [u8]) -> Patch<'a> {
-    let at = 130;
+    let at = AREA as usize;
     Patch { dev, at, bytes }
 }
 
@@ -141,8 +143,7 @@ fn put(device: &mut [u8], at: usize, bytes: &[u8]) {
 fn device(alloc: Global, dev: u8, patches: &[Patch<'_>]) -> Result<Bytes, Memory>
     ensures { IfOk result (λ device. length device ≡ device_len dev) }
 {
-    let len = if dev == 0 { 2_099_200 } else { 2_097_282 };
-    let mut bytes = Vec::from_elem(alloc, 0u8, len)?;
+    let mut bytes = Vec::from_elem(alloc, 0u8, device_len(dev) as usize)?;
     for patch in patches {
         if patch.dev == dev {
             put(&mut bytes, patch.at, patch.bytes);

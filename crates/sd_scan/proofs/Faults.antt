@@ -10,7 +10,7 @@ use Rattle.sd_logrec.specs.Kept.{BadGroup, Master, NoRecord, Reading, Records, W
 use Rattle.sd_log.specs.declared.placed.Placed.{Placed}
 use Rattle.sd_log.specs.Areas.{IsAt}
 use Rattle.sd_log.specs.Marks.{entry}
-use Rattle.sd_log.proofs.Fronts.{whole_front}
+use Rattle.sd_logrec.proofs.WholeFronts.{whole_front}
 use Rattle.sd_chain.specs.Checks.{Follow, GroupsAreSound, IsWhole, MasterIsSound, Past, after_record, past_of, placed_of, records_in}
 use Rattle.sd_chain.specs.Faults.{BreaksAt, GroupsFailAt, MasterPasses, StraysAt, front_of}
 use Rattle.sd_scan.specs.declared.master.Master as memory
@@ -107,3 +107,7 @@ broken_fails inst bytes chosen m ps fault e dev at h first b there x is =
 
 pub err_same : {T E : Type 0} (x y : E) → ◌≡◌ {A = Result T E} (Err x) (Err y) → x ≡ y
 err_same x y e = cc
+
+-- the refusal that comes is that of the call
+pub came : {T : Type 0} (r : Result T Refusal) (y e : Refusal) (dev at : ℕ) → r ≡ Err y → y ≡ e → r ≡ Err (R.Damaged dev at) → e ≡ R.Damaged dev at
+came r y e dev at a b is = cc

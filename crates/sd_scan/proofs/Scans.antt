@@ -138,9 +138,3 @@ groups_sound inst bytes chosen m groups gate tail h e none ok = record {
   whole = subst IsWhole (sym e) tt;
   follow = follow_along inst chosen _ (as_kept m) (master bytes) _ (records_in bytes) h.counts h.says (sym (all_records bytes groups gate tail e none)) ok.1;
 }
-
--- ---- answers
-
-pub if_same : {T E : Type 0} (r : Result T E) (x : T) (P : T → Type 0) → IfOk r (λ y. y ≡ x) → P x → IfOk r P
-if_same (Ok y) x P is h = subst P (sym is) h
-if_same (Err e) x P is h = tt

@@ -1,34 +1,32 @@
-//! The master of a log device: two slots, of which one counts.
+//! The master of a log device: two slots, of which one counts. It sees no group.
 
-ghost use Rattle.std.specs.Prelude.{◌≡◌, ◌≢◌, ◌↔◌, ◌+◌, ◌≤◌, length, map, option_map, IfOk, IsOk, IsTrue};
-ghost use Rattle.std.specs.Int.{w32, w64};
-ghost use Rattle.sd_base.specs.Twin.{Same, chosen_body};
-ghost use Rattle.sd_logrec.specs.Kept.{number_in};
+ghost use Rattle.std.specs.Prelude.{◌≡◌, ◌↔◌, ◌+◌, ◌≤◌, length, map, option_map, IfOk, IsOk, IsTrue};
+ghost use Rattle.sd_base.specs.Twin.{chosen_body};
+ghost use Rattle.sd_logrec.specs.Kept.{master};
 ghost use Rattle.sd_chain.specs.Checks.{IsMaster, IsSlot};
 ghost use Rattle.sd_chain.specs.Faults.{SlotsAreSound};
-ghost use Rattle.sd_scan.specs.Masters.{as_kept, counting, master_in, named, said, slot_at};
+ghost use Rattle.sd_scan.specs.Masters.{as_kept, as_master, master_in, said};
 
+use byteorder::{BigEndian, ByteOrder};
 use sd_base::Lsn;
-
-/// The length of an area, in bytes; a log starts in it.
-pub const AREA_LEN: usize = 1_048_576;
-
-/// The length of a slot's body, in bytes.
-const BODY: usize = 64;
+use sd_gate::{Chosen, chosen_of, is_open};
+use sd_logrec::{AREA, AREA_LEN, MASTER_BODY};
 
 /// The bytes of a body that say something.
 const FIELDS: usize = 25;
 
-/// What the gate of an open slot holds.
-const OPEN: u8 = 0xA5;
-
-/// The master of a log: where its log starts, and the checkpoint and the epoch that are known.
+/// The master of a log: how often one was written, where its log starts, and the checkpoint and the epoch that are known.
 #[derive(Clone, Copy, Debug, PartialEq, Eq)]
 pub struct Master {
+    /// It is greater than that of each master before.
     pub count: u64,
+    /// The area of the log: 0.
     pub area: u8,
+    /// The epoch of the last Start that the checkpoint knew.
     pub epoch: u32,
+    /// The LSN of the record that ended the checkpoint.
     pub check: Lsn,
+    /// The place of the log's first group, in bytes from the area's start.
     pub start: u32,
 }
 
@@ -47,78 +45,45 @@ impl Master {
 #[derive(Clone, Copy, Debug, PartialEq, Eq)]
 pub struct Unsound;
 
-/// The master of a device's slots that counts; `None` where neither is open.
+/// The master that counts on a log device, of which the bytes in front of its area suffice; `None` where neither slot is
+/// open. `Unsound` comes exactly where an open slot isn't well formed, or both are open with equal counts.
 pub fn read_master(device: &[u8]) -> Result<Option<Master>, Unsound>
-    requires { 130 ≤ length device.now }
-    ensures read { IfOk result (λ m. said m ≡ option_map master_in (chosen_body 0 64 device.now)) }
+    requires { AREA ≤ length device.now }
+    ensures read { IfOk result (λ m. said m ≡ option_map master_in (chosen_body 0 MASTER_BODY device.now)) }
+    ensures says { IfOk result (λ m. as_master m ≡ master device.now) }
     ensures sound { IsOk result ↔ SlotsAreSound device.now }
 {
-    let first = read_slot(device, 0)?;
-    let second = read_slot(device, BODY + 1)?;
-    newer(first, second)
-}
-
-// The master in the slot with this gate; `None` where it is closed.
-fn read_slot(device: &[u8], gate: usize) -> Result<Option<Master>, Unsound>
-    requires { gate + 65 ≤ length device.now }
-    ensures read { IfOk result (λ m. said m ≡ slot_at gate device.now) }
-    ensures sound { IsOk result ↔ IsSlot gate device.now }
-{
-    if device[gate] != OPEN {
-        return Ok(None);
-    }
-    let body = &device[gate + 1..gate + 1 + BODY];
-    let m = master_of(body);
-    if !is_sound(m, body) {
+    if !is_slot(device, 0) || !is_slot(device, MASTER_BODY + 1) {
         return Err(Unsound);
     }
-    Ok(Some(m))
+    let slots = &device[..AREA as usize];
+    match chosen_of(slots, MASTER_BODY) {
+        Chosen::Same => Err(Unsound),
+        chosen => match chosen.body(MASTER_BODY, slots) {
+            Some(body) => Ok(Some(master_of(body))),
+            None => Ok(None),
+        },
+    }
 }
 
-// Of two slots the one that counts.
-fn newer(first: Option<Master>, second: Option<Master>) -> Result<Option<Master>, Unsound>
-    ensures picked { IfOk result (λ m. m ≡ named (counting first second) first second) }
-    ensures differ { IsOk result ↔ (counting first second ≢ Same) }
+// Whether the slot with this gate is closed or well formed.
+fn is_slot(device: &[u8], gate: usize) -> bool
+    requires { gate + MASTER_BODY + 1 ≤ length device.now }
+    ensures { IsTrue result ↔ IsSlot gate device.now }
 {
-    let Some(x) = first else {
-        return Ok(second);
-    };
-    let Some(y) = second else {
-        return Ok(first);
-    };
-    if x.count == y.count {
-        return Err(Unsound);
-    }
-    if x.count < y.count {
-        return Ok(second);
-    }
-    Ok(first)
+    !is_open(device, gate) || is_master(&device[gate + 1..gate + 1 + MASTER_BODY])
 }
 
-// What a body says.
-fn master_of(body: &[u8]) -> Master
-    requires { length body.now ≡ BODY }
-    ensures { as_kept result ≡ master_in body.now }
-{
-    Master {
-        count: u64_at(body, 0),
-        area: body[8],
-        epoch: u32_at(body, 9),
-        check: u64_at(body, 13),
-        start: u32_at(body, 21),
-    }
-}
-
-// Whether the master of this body names area 0 and a place in it, with zeros behind.
-fn is_sound(m: Master, body: &[u8]) -> bool
-    requires body { length body.now ≡ BODY }
-    requires is { as_kept m ≡ master_in body.now }
+// Whether a body names area 0 and a place in it, with zeros behind.
+fn is_master(body: &[u8]) -> bool
+    requires { length body.now ≡ MASTER_BODY }
     ensures { IsTrue result ↔ IsMaster body.now }
 {
+    let m = master_of(body);
     if m.area != 0 {
         return false;
     }
-    if m.start as usize >= AREA_LEN {
+    if m.start >= AREA_LEN {
         return false;
     }
     are_zeros(&body[FIELDS..])
@@ -130,20 +95,16 @@ fn are_zeros(bytes: &[u8]) -> bool
     bytes.iter().all(|b| *b == 0)
 }
 
-// The number of eight bytes at a place.
-fn u64_at(body: &[u8], at: usize) -> u64
-    requires { at + 8 ≤ length body.now }
-    ensures { result ≡ number_in w64 at body.now }
+// What a body says.
+fn master_of(body: &[u8]) -> Master
+    requires { length body.now ≡ MASTER_BODY }
+    ensures { as_kept result ≡ master_in body.now }
 {
-    let b = &body[at..at + 8];
-    u64::from_be_bytes([b[0], b[1], b[2], b[3], b[4], b[5], b[6], b[7]])
-}
-
-// The number of four bytes at a place.
-fn u32_at(body: &[u8], at: usize) -> u32
-    requires { at + 4 ≤ length body.now }
-    ensures { result ≡ number_in w32 at body.now }
-{
-    let b = &body[at..at + 4];
-    u32::from_be_bytes([b[0], b[1], b[2], b[3]])
+    Master {
+        count: BigEndian::read_u64(body),
+        area: body[8],
+        epoch: BigEndian::read_u32(&body[9..]),
+        check: BigEndian::read_u64(&body[13..]),
+        start: BigEndian::read_u32(&body[21..]),
+    }
 }

@@ -1,78 +1,92 @@
 //! A log device read, and its checks.
 
-ghost use Rattle.std.specs.Prelude.{◌≡◌, ◌⊎◌, ℕ, ◌+◌, ◌<◌, [], length, map, Err, IfErr, IfOk, OnOk};
+ghost use Rattle.std.specs.Prelude.{◌≡◌, ◌⊎◌, ℕ, ◌+◌, ◌<◌, [], length, map, option_map, Err, IfErr, IfOk, OnOk};
+ghost use Rattle.sd_base.specs.Twin.{chosen_body};
 ghost use Rattle.sd_base.specs.declared.refusal.Refusal.TheVariants as R;
-ghost use Rattle.sd_logrec.specs.Kept.{Whole, kept};
+ghost use Rattle.sd_logrec.specs.Kept.{Whole, kept, master};
 ghost use Rattle.sd_log.specs.Areas.{IsAt};
 ghost use Rattle.sd_log.specs.Logs.{AreSpelled, scanned};
 ghost use Rattle.sd_log.specs.Marks.{entry};
 ghost use Rattle.sd_chain.specs.Checks.{Follow, GroupsAreSound, MasterIsSound, past_of};
 ghost use Rattle.sd_chain.specs.Faults.{GroupsFailAt, MasterPasses, StraysAt};
 ghost use Rattle.sd_scan.specs.Following.{BreaksFirst, IsChecked, bare};
-ghost use Rattle.sd_scan.specs.Masters.{as_kept};
+ghost use Rattle.sd_scan.specs.Masters.{as_kept, as_master, master_in, said};
 
 use crate::following::{first_stray, has_end_check};
-use crate::master::{AREA_LEN, Master, read_master};
+use crate::master::{Master, read_master};
 use sd_base::{InstNo, Refusal};
 use sd_log::{Area, Log, Placed};
+use sd_logrec::{AREA, AREA_LEN, MASTER_BODY};
 use std::alloc::Global;
 
-/// The place of the area on its device, in bytes.
-const AREA: usize = 130;
+/// A log device as it was read: its groups, and the master that counts, if any does.
+#[derive(Debug, Drop)]
+pub struct Scanned {
+    pub log: Log,
+    pub master: Option<Master>,
+}
 
-/// The log of this instance, of the bytes of its device: its groups from the master's start place on.
+/// The log of this instance and its master, of the bytes of its device: its groups from the master's start place on, or
+/// from the area's start where no master counts.
 ///
 /// `Damaged` comes exactly where the master isn't sound or the groups aren't, with the place of the first fault in bytes
 /// from the device's start: 0 where the slots aren't well formed, or the checkpoint isn't kept in a log that keeps the
 /// format; else that of the first record that may not follow those before it, or, where all in front of it do, of the
 /// group's gate or the record that breaks the format.
-pub fn scan(alloc: Global, device: &[u8], inst: InstNo) -> Result<Log, Refusal>
+pub fn scan(alloc: Global, device: &[u8], inst: InstNo) -> Result<Scanned, Refusal>
     requires { length device.now ≡ 2097282 }
     ensures master { OnOk result (MasterIsSound device.now) }
     ensures groups { OnOk result (GroupsAreSound inst device.now) }
-    ensures kept { IfOk result (λ log. kept device.now ≡ Whole log.groups log.gate) }
-    ensures spelled { IfOk result (λ log. AreSpelled (scanned log)) }
-    ensures inst { IfOk result (λ log. log.inst ≡ inst) }
-    ensures tail { IfOk result (λ log. log.tail ≡ []) }
+    ensures kept { IfOk result (λ s. kept device.now ≡ Whole s.log.groups s.log.gate) }
+    ensures start { IfOk result (λ s. s.log.start ≡ (master device.now).start) }
+    ensures spelled { IfOk result (λ s. AreSpelled (scanned s.log)) }
+    ensures inst { IfOk result (λ s. s.log.inst ≡ inst) }
+    ensures tail { IfOk result (λ s. s.log.tail ≡ []) }
+
+    // The master that counts, or none; and what it says, or all 0.
+    ensures counts { IfOk result (λ s. said s.master ≡ option_map master_in (chosen_body 0 MASTER_BODY device.now)) }
+    ensures says { IfOk result (λ s. as_master s.master ≡ master device.now) }
 
     ensures unsound { (dev at : ℕ) → result ≡ Err (R.Damaged dev at) → MasterIsSound device.now → GroupsAreSound inst device.now → ⊥ }
     ensures place { (dev at : ℕ) → result ≡ Err (R.Damaged dev at) → ((MasterPasses device.now → ⊥) × (at ≡ 0))
-        ⊎ (MasterPasses device.now × ((place : ℕ) × GroupsFailAt inst device.now place × (at ≡ 130 + place))) }
+        ⊎ (MasterPasses device.now × ((place : ℕ) × GroupsFailAt inst device.now place × (at ≡ AREA + place))) }
     ensures refusals { IfErr result (λ e. (e ≡ R.Memory) ⊎ ((at : ℕ) × (e ≡ R.Damaged inst at))) }
 {
-    let Ok(chosen) = read_master(device) else {
+    let Ok(master) = read_master(device) else {
         return Err(damaged(inst, 0));
     };
-    let m = chosen.unwrap_or(Master::BLANK);
-    let area = &device[AREA..AREA + AREA_LEN];
+    let m = master.unwrap_or(Master::BLANK);
+    let area = &device[AREA as usize..(AREA + AREA_LEN) as usize];
     match Log::of_area(alloc, inst, m.start, area)? {
-        Area::Whole(log) => checked(log, inst, chosen.is_some(), m),
-        Area::Broken { front, fault } => { Err(broken(&front, &fault, inst, chosen.is_some(), m)) }
+        Area::Whole(log) => {
+            check_records(&log, inst, master.is_some(), m)?;
+            Ok(Scanned { log, master })
+        }
+        Area::Broken { front, fault } => { Err(broken(&front, &fault, inst, master.is_some(), m)) }
     }
 }
 
-// The log, where it has the checkpoint that its master names, and its records follow one another.
-fn checked(log: Log, inst: InstNo, chosen: bool, m: Master) -> Result<Log, Refusal>
-    ensures same { IfOk result (λ same. same ≡ log) }
-    ensures sound { OnOk result (IsChecked chosen (as_kept m) (bare (scanned log))
-        × Follow inst chosen (as_kept m) (past_of (as_kept m)) (bare (scanned log))) }
-    ensures err { IfErr result (λ e. ((IsChecked chosen (as_kept m) (bare (scanned log)) → ⊥) × (e ≡ R.Damaged inst 0))
-        ⊎ (IsChecked chosen (as_kept m) (bare (scanned log)) × ((place : ℕ)
-        × StraysAt inst chosen (as_kept m) (past_of (as_kept m)) (map entry (scanned log)) place × (e ≡ R.Damaged inst (130 + place))))) }
+// Whether the log has the checkpoint that its master names, and its records follow one another.
+fn check_records(log: &Log, inst: InstNo, chosen: bool, m: Master) -> Result<(), Refusal>
+    ensures sound { OnOk result (IsChecked chosen (as_kept m) (bare (scanned log.now))
+        × Follow inst chosen (as_kept m) (past_of (as_kept m)) (bare (scanned log.now))) }
+    ensures err { IfErr result (λ e. ((IsChecked chosen (as_kept m) (bare (scanned log.now)) → ⊥) × (e ≡ R.Damaged inst 0))
+        ⊎ (IsChecked chosen (as_kept m) (bare (scanned log.now)) × ((place : ℕ)
+        × StraysAt inst chosen (as_kept m) (past_of (as_kept m)) (map entry (scanned log.now)) place × (e ≡ R.Damaged inst (AREA + place))))) }
 {
     if chosen && !has_end_check(m.check, log.scan()) {
         return Err(damaged(inst, 0));
     }
     match first_stray(inst, chosen, m, log.scan()) {
         Some(place) => Err(damaged(inst, AREA as u64 + place as u64)),
-        None => Ok(log),
+        None => Ok(()),
     }
 }
 
 // Where a log fails that breaks the format: `front` are the records before that.
 fn broken(front: &[Placed], fault: &Refusal, inst: InstNo, chosen: bool, m: Master) -> Refusal
-    requires { (at : ℕ) × IsAt fault.now at × (at < 1048576) }
-    ensures { (place : ℕ) × BreaksFirst inst chosen (as_kept m) front.now fault.now place × (result ≡ R.Damaged inst (130 + place)) }
+    requires { (at : ℕ) × IsAt fault.now at × (at < AREA_LEN) }
+    ensures { (place : ℕ) × BreaksFirst inst chosen (as_kept m) front.now fault.now place × (result ≡ R.Damaged inst (AREA + place)) }
 {
     match first_stray(inst, chosen, m, front) {
         Some(place) => damaged(inst, AREA as u64 + place as u64),

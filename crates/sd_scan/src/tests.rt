@@ -46,8 +46,9 @@ fn first_inst() -> Result<InstNo, Fail> {
 #[test]
 fn a_device_of_zeros_is_an_empty_log(rt: HostRuntime) -> Result<(), Fail> {
     let device = device_of(rt.alloc(), &[], &[], &[])?;
-    let log = scan(rt.alloc(), &device, first_inst()?)?;
+    let Scanned { log, master } = scan(rt.alloc(), &device, first_inst()?)?;
     assert!(rt; log.scan().is_empty() && log.gate() == 0);
+    assert_eq!(rt; master, None);
     Ok(())
 }
 
@@ -55,9 +56,37 @@ fn a_device_of_zeros_is_an_empty_log(rt: HostRuntime) -> Result<(), Fail> {
 fn a_log_without_a_master_is_read_from_its_front(rt: HostRuntime) -> Result<(), Fail> {
     let (front, _) = LOG.split_at(90);
     let device = device_of(rt.alloc(), &[], &[], front)?;
-    let log = scan(rt.alloc(), &device, first_inst()?)?;
+    let Scanned { log, .. } = scan(rt.alloc(), &device, first_inst()?)?;
     let places: [u32; 3] = [5, 23, 64];
     assert!(rt; log.scan().iter().map(|p| p.place).eq(places) && log.gate() == 90);
+    Ok(())
+}
+
+// The master that the bytes in front of the area tell.
+fn master_in_front(device: &[u8]) -> Result<Option<Master>, Unsound>
+    requires { length device.now ≡ 2097282 }
+{
+    let (front, _) = device.split_at(130);
+    read_master(front)
+}
+
+#[test]
+fn the_master_is_read_with_the_log_and_of_the_bytes_in_front_of_it(
+    rt: HostRuntime,
+) -> Result<(), Fail> {
+    let newer = Master {
+        count: 2,
+        area: 0,
+        epoch: 1,
+        check: 5,
+        start: 0,
+    };
+    let device = device_of(rt.alloc(), &OLD_SLOT, &NEW_SLOT, &LOG)?;
+    let in_front = master_in_front(&device);
+    let Scanned { log, master } = scan(rt.alloc(), &device, first_inst()?)?;
+    assert!(rt; log.scan().len() == 6 && log.gate() == 138);
+    assert_eq!(rt; master, Some(newer));
+    assert_eq!(rt; in_front, Ok(Some(newer)));
     Ok(())
 }
 
@@ -82,8 +111,6 @@ fn told(alloc: Global, device: &mut [u8], inst: InstNo, at: usize, byte: u8) -> 
 fn a_damaged_byte_is_told_with_its_place(rt: HostRuntime) -> Result<(), Fail> {
     let mut device = device_of(rt.alloc(), &OLD_SLOT, &NEW_SLOT, &LOG)?;
     let inst = first_inst()?;
-    let log = scan(rt.alloc(), &device, inst)?;
-    assert!(rt; log.scan().len() == 6 && log.gate() == 138);
     let cases: [(&str, usize, u8, u64); 11] = [
         ("equal counts", 73, 1, 0),
         ("area 1", 9, 1, 0),
