@@ -1,7 +1,7 @@
 -- What the slots of a page's twin hold, and which image counts.
-use Rattle.std.specs.Prelude.{◌≡◌, ℕ, true, false, List, Option, None, Some, nat_lt, if◌then◌else◌}
-use Rattle.sd_base.specs.Twin.{body_at, is_open}
-use Rattle.sd_page.specs.Page.{Page, Fits, empty_page}
+use Rattle.std.specs.Prelude.{◌≡◌, ℕ, true, false, List, Option, None, Some}
+use Rattle.sd_base.specs.Twin.{Slot, Neither, First, Second, Same, body_at, is_open}
+use Rattle.sd_page.specs.Page.{Page, Fits}
 use Rattle.sd_page.specs.Spelling.{spelling}
 
 -- an open slot holds the image of the page
@@ -16,13 +16,9 @@ abbrev pub IsSlot : ℕ → ℕ → List ℕ → Option Page → Type 0
 IsSlot p gate bytes None = is_open gate bytes ≡ false
 IsSlot p gate bytes (Some image) = IsOpenSlot p gate bytes image
 
--- of two images the one with the greater LSN, or the first
-abbrev pub greater : Page → Page → Page
-greater first second = if nat_lt first.lsn second.lsn then second else first
-
--- the image that counts of page p, by those of its open slots
-abbrev pub counting : ℕ → Option Page → Option Page → Page
-counting p (Some first) (Some second) = greater first second
-counting p (Some first) None = first
-counting p None (Some second) = second
-counting p None None = empty_page p
+-- of the images in both slots that of the one that counts
+abbrev pub chosen_image : Slot → Option Page → Option Page → Option Page
+chosen_image Neither first second = None
+chosen_image (First other) first second = first
+chosen_image (Second other) first second = second
+chosen_image Same first second = None

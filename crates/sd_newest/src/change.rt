@@ -11,11 +11,8 @@ ghost use Rattle.sd_newest.specs.Changes.{AllStand, AreChanges, ChangesPage, IsM
 
 use sd_base::{Lsn, Memory, Refusal};
 use sd_log::{Log, Placed};
-use sd_logrec::Record;
+use sd_logrec::{AREA, Record};
 use std::alloc::Global;
-
-/// Where the records of a log begin on its device, in bytes.
-const AREA: u64 = 130;
 
 /// A record that changes the page of this number, and the device of its log.
 #[derive(Drop)]
@@ -55,7 +52,7 @@ impl<'a> Change<'a> {
     {
         Refusal::Damaged {
             dev: self.dev,
-            at: AREA + u64::from(self.found.place),
+            at: u64::from(AREA) + u64::from(self.found.place),
         }
     }
 }

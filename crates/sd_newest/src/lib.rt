@@ -7,7 +7,7 @@
 //! fits (`twins`, `fit`), and else `Damaged` (`refusals`) at the first place that fails (`place`, `specs/Misfits.antt`).
 //! Refuses: `Damaged` in `newest_pages`, twins before chains, each by page; and want of memory.
 //! Knows nothing of: transactions, groups, masters.
-//! Stands on: sd_base, sd_page, sd_logrec, sd_rig, sd_log, sd_chain.
+//! Stands on: sd_base, sd_page, sd_logrec, sd_rig, sd_gate, sd_log, sd_chain.
 //!
 //! To change:
 //! - free: bodies, private helpers
