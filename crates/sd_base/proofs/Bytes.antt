@@ -10,11 +10,11 @@ same [] (y ∷ ys) = false
 same (x ∷ xs) [] = false
 same (x ∷ xs) (y ∷ ys) = eqb x y && same xs ys
 
-abbrev each_below : ℕ → (ℕ → Bool) → Bool
+abbrev pub each_below : ℕ → (ℕ → Bool) → Bool
 each_below zero test = true
 each_below (suc n) test = test n && each_below n test
 
-and_true : (a b : Bool) → (a && b) ≡ true → (a ≡ true) × (b ≡ true)
+pub and_true : (a b : Bool) → (a && b) ≡ true → (a ≡ true) × (b ≡ true)
 and_true true b e = (refl, e)
 and_true false b e = absurd (cc)
 
@@ -24,7 +24,7 @@ same_is [] (y ∷ ys) e = absurd (cc)
 same_is (x ∷ xs) [] e = absurd (cc)
 same_is (x ∷ xs) (y ∷ ys) e = let both = and_true (eqb x y) (same xs ys) e in ap (λ (z : ℕ). z ∷ xs) (eqb-true x y both.0) ∙ ap (λ (l : List ℕ). y ∷ l) (same_is xs ys both.1)
 
-of_each : (n : ℕ) (test : ℕ → Bool) → each_below n test ≡ true → (k : ℕ) → k < n → test k ≡ true
+pub of_each : (n : ℕ) (test : ℕ → Bool) → each_below n test ≡ true → (k : ℕ) → k < n → test k ≡ true
 of_each zero test e k lt = absurd (omega arith)
 of_each (suc n) test e k lt = let both = and_true (test n) (each_below n test) e in
     ⊎_elim (λ is. ap test is ∙ both.0) (λ ne. of_each n test both.1 k (omega arith)) (cases_eq k n)

@@ -3,3 +3,4 @@ pub mod Streams
 pub mod Twin
 pub mod Ids
 pub mod Waits
+pub mod Values

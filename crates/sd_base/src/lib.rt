@@ -16,6 +16,7 @@
 
 mod gate;
 mod ids;
+mod limits;
 mod memory_streams;
 mod place;
 mod refusal;
@@ -24,9 +25,11 @@ mod set;
 mod standard_streams;
 mod streams;
 mod trouble;
+mod value;
 
 pub use gate::{Gate, OpenGate};
 pub use ids::{InstNo, Lsn, PageNo, Rid, TxnId};
+pub use limits::{MAX_CAPACITY, MAX_SLOTS, NO_VALUE, PAGES};
 pub use memory_streams::{MemSink, MemSource};
 pub use place::{Mode, Place, Status};
 pub use refusal::{Cause, Failed, Memory, Refusal};
@@ -35,6 +38,7 @@ pub use set::InstSet;
 pub use standard_streams::{StdSink, StdSource};
 pub use streams::{Sink, Source};
 pub use trouble::{Pick, Trouble};
+pub use value::{copy_value, lent_value, same_value, value_len};
 
 #[cfg(test)]
 mod tests;

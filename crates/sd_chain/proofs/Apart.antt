@@ -2,7 +2,6 @@
 use Rattle.std.proofs.Common.{◌≡◌, ◌≢◌, ◌⊎◌, inl, inr, ⊎_elim, ℕ, ◌<◌, true, false, List, [], ◌∷◌, refl, sym, ap, ◌∙◌, arith}
 use Rattle.std.specs.Prelude.{filter}
 use Rattle.std.proofs.lemmas.Bool.{cases_Bool}
-use Rattle.sd_chain.proofs.Txns.{cases_txn}
 use Rattle.sd_logrec.specs.View.{Rec}
 use Rattle.sd_base.specs.declared.ids.TxnId.{TxnId}
 use Rattle.sd_chain.specs.Records.{Val, of_rid, at, changes, Each, home}
@@ -11,6 +10,7 @@ use Rattle.sd_chain.specs.Image.{Image, now, opens, Open, undone, Alone, Sound, 
 use Rattle.sd_chain.proofs.Lists.{Each-weaker, Each-both, Each-filter, filter-cons, filter-skip}
 use Rattle.sd_chain.proofs.Newest.{at_is, at_from, of_rid_from}
 use Rattle.sd_chain.proofs.Opens.{Each-stack}
+use Rattle.sd_base.proofs.SameIds.{cases_txn}
 
 pub nil_or : (xs : List Rec) → (xs ≡ []) ⊎ (xs ≢ [])
 nil_or [] = inl refl

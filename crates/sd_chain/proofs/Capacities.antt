@@ -3,7 +3,8 @@ use Rattle.std.proofs.Common.{◌≡◌, ℕ, zero, suc, ◌<◌, ◌≤◌, Boo
 use Rattle.sd_logrec.specs.View.{Rec, Kind}
 use Rattle.sd_chain.specs.Records.{Val, of_page, changes, Each}
 use Rattle.sd_logrec.specs.View.Kind.{Update, Clr, Commit, End, Plain}
-use Rattle.sd_page.specs.Page.{Page, Slot, size}
+use Rattle.sd_base.specs.Values.{size}
+use Rattle.sd_page.specs.Page.{Page, Slot}
 use Rattle.sd_chain.specs.Pages.{value, capacity, write, redo, replay, FitAll, FitsKind}
 use Rattle.sd_chain.specs.Image.{Image, chain, newest, all_of}
 use Rattle.sd_chain.proofs.Lists.{cond_both, Each-filter, Each-sorted}

@@ -2,11 +2,11 @@
 use Rattle.std.proofs.Common.{◌≡◌, ◌≢◌, ⊎_elim, ℕ, ◌<◌, ◌≤◌, true, false, List, [], refl, sym, ap, ◌∙◌, subst}
 use Rattle.std.specs.Prelude.{filter}
 use Rattle.std.proofs.lemmas.Bool.{cases_Bool, cases_eq}
-use Rattle.sd_chain.proofs.Txns.{cases_txn}
 use Rattle.sd_logrec.specs.View.{Rec}
 use Rattle.sd_base.specs.declared.ids.TxnId.{TxnId}
 use Rattle.sd_chain.specs.Records.{Val, of_page, of_rid, at, changes, Each}
-use Rattle.sd_page.specs.Page.{Page, size}
+use Rattle.sd_base.specs.Values.{size}
+use Rattle.sd_page.specs.Page.{Page}
 use Rattle.sd_chain.specs.Pages.{value, capacity, redo, FitAll, FitsKind}
 use Rattle.sd_chain.specs.Image.{Image, chain, newest, now, opens, Open, HasPlace, Linked, Alone, StackFits, Sound}
 use Rattle.sd_chain.specs.Changes.{Appended, IsAbovePage}
@@ -16,6 +16,7 @@ use Rattle.sd_chain.proofs.Newest.{at_is, at_from, of_rid_is, of_rid_from, pages
 use Rattle.sd_chain.proofs.Opens
 use Rattle.sd_chain.proofs.Opens.{Each-stack}
 use Rattle.sd_chain.proofs.Apart.{none_at}
+use Rattle.sd_base.proofs.SameIds.{cases_txn}
 
 module _ (i : ℕ) (y : Rec) (old new : Image) (app : Appended i y old new) (changes_it : changes y.kind ≡ true)
     (above : IsAbovePage old y) (fits : FitsKind y.kind y (newest old y.page).slots)

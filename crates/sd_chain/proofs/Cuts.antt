@@ -2,7 +2,6 @@
 use Rattle.std.proofs.Common.{◌≡◌, ◌≢◌, ⊎_elim, ℕ, zero, suc, ◌<◌, Bool, true, false, cond, ◌&&◌, List, [], ◌∷◌, ◌++◌, refl, sym, ap, ap₂, ◌∙◌, subst}
 use Rattle.std.specs.Prelude.{filter}
 use Rattle.std.proofs.lemmas.Bool.{cases_Bool, cases_eq}
-use Rattle.sd_chain.proofs.Txns.{cases_txn}
 use Rattle.sd_logrec.specs.View.{Rec, Kind}
 use Rattle.sd_base.specs.declared.ids.TxnId.{TxnId}
 use Rattle.sd_base.specs.Ids.{same_txn}
@@ -24,6 +23,7 @@ use Rattle.sd_chain.proofs.Stacks.{stack_from-append, step-own, step-other}
 use Rattle.sd_chain.proofs.Update
 use Rattle.sd_chain.proofs.Undo
 use Rattle.sd_chain.proofs.Seal
+use Rattle.sd_base.proofs.SameIds.{cases_txn}
 
 -- the chain is read off each log's records of the page
 filter-all_of : (p : ℕ) (logs logs' : ℕ → List Rec) → ((j : ℕ) → filter (of_page p) (logs' j) ≡ filter (of_page p) (logs j))

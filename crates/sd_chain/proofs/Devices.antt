@@ -14,27 +14,7 @@ use Rattle.sd_rig.specs.Devices as rig
 use Rattle.sd_chain.specs.Images.{Tails}
 use Rattle.sd_chain.specs.Crashes.{Leaves, DuringForce, DuringPut}
 use Rattle.sd_chain.specs.Bytes.{disk_page, log_of, page_in, records_of, stable, twin_at, PutsTwin, ForcesLog}
-
--- a byte and a part of a part
-byte_within : (at len i : ℕ) (bytes : List ℕ) → i < len → get_or (take len (drop at bytes)) i 0 ≡ get_or bytes (at + i) 0
-byte_within at len i bytes h = get_or-take len (drop at bytes) i 0 h ∙ get_or-drop at bytes i 0
-
-part_within : (at len from n : ℕ) (bytes : List ℕ) → from + n ≤ len
-    → take n (drop from (take len (drop at bytes))) ≡ take n (drop (at + from) bytes)
-part_within at len from n bytes h =
-    sym (drop-take from n (take len (drop at bytes))) ∙ ap (drop from) (take-take (from + n) len (drop at bytes) h)
-    ∙ drop-take from n (drop at bytes) ∙ ap (take n) (drop-drop from at bytes)
-
--- a gate within a part stands open where it does on the device
-pub open_within : (at len gate : ℕ) (bytes : List ℕ) → gate < len
-    → is_open gate (take len (drop at bytes)) ≡ is_open (at + gate) bytes
-open_within at len gate bytes h = ap (λ b. b == 165) (byte_within at len gate bytes h)
-
--- a body within a part is that on the device
-pub body_within : (at len gate n : ℕ) (bytes : List ℕ) → gate + 1 + n ≤ len
-    → body_at n gate (take len (drop at bytes)) ≡ body_at n (at + gate) bytes
-body_within at len gate n bytes h = let place : at + (gate + 1) ≡ at + gate + 1 = omega arith in
-    part_within at len (gate + 1) n bytes h ∙ ap (λ p. take n (drop p bytes)) place
+use Rattle.sd_base.proofs.Twins.{byte_within, part_within, open_within, body_within}
 
 -- the body that counts hangs on the bytes of both slots alone
 chosen_within : (at n : ℕ) (bytes : List ℕ) → chosen_body 0 n (take (2 * (n + 1)) (drop at bytes)) ≡ chosen_body at n bytes

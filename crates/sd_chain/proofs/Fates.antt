@@ -10,8 +10,8 @@ use Rattle.sd_logrec.specs.View.Kind.{Update, Clr, Commit, End, Plain}
 use Rattle.sd_chain.specs.Records.{Each, IsOpen, ends}
 use Rattle.sd_chain.specs.Order.{speaks, of_txn, MayFollow}
 use Rattle.sd_chain.specs.Fates.{Fate, is_commit, is_end, commits, finishes, fate_by, fate, fate_after}
-use Rattle.sd_chain.proofs.Txns.{eq-same}
 use Rattle.sd_chain.proofs.Whose.{both, ends-off, neither, none_of, of_none, own_is, own_of, silent_of}
+use Rattle.sd_base.proofs.SameIds.{eq-same}
 
 -- ---- tests
 

@@ -1,4 +1,3 @@
-pub mod Txns
 pub mod Lists
 pub mod Stacks
 pub mod Whose
@@ -22,11 +21,10 @@ pub mod Sorts
 pub mod Images
 pub mod Recover
 pub mod Ties
-pub mod Written
 pub mod Left
-pub mod Replays
 pub mod Devices
 pub mod Narrowed
 pub mod Soundly
 pub mod Losers
 pub mod Fates
+pub mod Pasts

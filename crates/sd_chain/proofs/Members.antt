@@ -12,8 +12,8 @@ use Rattle.sd_chain.specs.Order.{of_txn, speaks}
 use Rattle.sd_chain.specs.Undoing.{Member, Apart}
 use Rattle.sd_chain.specs.Checks.{txns_of, open_in}
 use Rattle.sd_chain.proofs.Lists.{Each-filter, Each-weaker}
-use Rattle.sd_chain.proofs.Txns.{cases_txn, eq-same, ne-same}
 use Rattle.sd_chain.proofs.Whose.{other_of, own_of, silent_of}
+use Rattle.sd_base.proofs.SameIds.{cases_txn, eq-same, ne-same}
 
 -- the others
 abbrev pub others : TxnId → List TxnId → List TxnId
@@ -40,7 +40,7 @@ module _ (test : TxnId → Bool) where
       (Each-weaker (λ (v : TxnId). u ≢ v) (λ v. test v ≡ true → u ≢ v) (λ v ne is. ne) us a.0) in
       ⊎_elim (λ q. rw q (head, rest)) (λ q. rw q rest) (cases_Bool (test u))
 
-member-each : (P : TxnId → Type 0) (t : TxnId) (ts : List TxnId) → Member t ts → Each P ts → P t
+pub member-each : (P : TxnId → Type 0) (t : TxnId) (ts : List TxnId) → Member t ts → Each P ts → P t
 member-each P t [] m a = absurd m
 member-each P t (u ∷ us) m a = ⊎_elim (λ e. subst P (sym e) a.0) (λ rest. member-each P t us rest a.1) m
 

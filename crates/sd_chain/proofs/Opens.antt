@@ -1,7 +1,6 @@
 -- What one more record does to the stacks of the image.
 use Rattle.std.proofs.Common.{◌≡◌, ◌≢◌, ⊎_elim, ℕ, Bool, true, false, ◌&&◌, List, [], ◌∷◌, refl, sym, ap, ◌∙◌, subst}
 use Rattle.std.proofs.lemmas.Bool.{cases_eq}
-use Rattle.sd_chain.proofs.Txns.{cases_txn, ne-same}
 use Rattle.sd_logrec.specs.View.{Rec, Kind}
 use Rattle.sd_base.specs.declared.ids.TxnId.{TxnId}
 use Rattle.sd_base.specs.Ids.{same_txn}
@@ -11,20 +10,21 @@ use Rattle.sd_chain.specs.Image.{Image, opens, Open}
 use Rattle.sd_chain.specs.Changes.{Appended}
 use Rattle.sd_chain.proofs.Lists.{Each-append, Each-front}
 use Rattle.sd_chain.proofs.Stacks.{stack-push, step-other, step-own}
+use Rattle.sd_base.proofs.SameIds.{cases_txn, ne-same}
 
 -- the records of a stack are Updates of its transaction that stand in the log
-Each-rest : (P : Rec → Type 0) (xs : List Rec) → Each P xs → Each P (rest xs)
+pub Each-rest : (P : Rec → Type 0) (xs : List Rec) → Each P xs → Each P (rest xs)
 Each-rest P [] a = tt
 Each-rest P (x ∷ xs) a = a.1
 
-Each-moved : (P : Rec → Type 0) (k : Kind) (x : Rec) (stk : List Rec) → (k ≡ Update → P x) → Each P stk → Each P (moved k x stk)
+pub Each-moved : (P : Rec → Type 0) (k : Kind) (x : Rec) (stk : List Rec) → (k ≡ Update → P x) → Each P stk → Each P (moved k x stk)
 Each-moved P Update x stk h a = (h refl, a)
 Each-moved P Clr x stk h a = Each-rest P stk a
 Each-moved P Commit x stk h a = a
 Each-moved P End x stk h a = a
 Each-moved P Plain x stk h a = a
 
-Each-stack_from : (P : Rec → Type 0) (t : TxnId) (stk xs : List Rec) → Each P stk
+pub Each-stack_from : (P : Rec → Type 0) (t : TxnId) (stk xs : List Rec) → Each P stk
     → Each (λ x. x.txn ≡ t → x.kind ≡ Update → P x) xs → Each P (stack_from t stk xs)
 Each-stack_from P t stk [] a b = a
 Each-stack_from P t stk (x ∷ xs) a b =

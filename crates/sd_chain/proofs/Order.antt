@@ -1,7 +1,6 @@
 -- The order of a transaction's records, with one more or from a later place.
 use Rattle.std.proofs.Common.{◌≡◌, ◌⊎◌, inl, inr, ⊎_elim, ℕ, ◌<◌, Bool, true, false, cond, ◌&&◌, List, [], ◌∷◌, ◌++◌, refl, sym, ap, ◌∙◌, subst, arith}
 use Rattle.std.proofs.lemmas.Bool.{cases_Bool}
-use Rattle.sd_chain.proofs.Txns.{cases_txn, eq-same}
 use Rattle.sd_logrec.specs.View.{Rec, Kind}
 use Rattle.sd_base.specs.declared.ids.TxnId.{TxnId}
 use Rattle.sd_base.specs.Ids.{same_txn}
@@ -12,6 +11,7 @@ use Rattle.std.proofs.Common.{append-nil}
 use Rattle.sd_chain.specs.Order.{speaks, of_txn, Sofar, none_yet, advance, after_all, ComesNext, InOrder, Undoes, first_prev, Tidy, MayFollow}
 use Rattle.sd_chain.proofs.Stacks.{step-own, step-other}
 use Rattle.sd_chain.proofs.Whose.{after_all-none, ends-off, first_prev-behind, none_of, other_of, open_ones-is, InOrder-back, Undoes-back}
+use Rattle.sd_base.proofs.SameIds.{cases_txn, eq-same}
 
 InOrder-append : (t : TxnId) (sofar : Sofar) (xs ys : List Rec) → InOrder t sofar xs → InOrder t (after_all t sofar xs) ys
     → InOrder t sofar (xs ++ ys)

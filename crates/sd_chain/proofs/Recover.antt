@@ -13,10 +13,10 @@ use Rattle.std.proofs.Common.{append-nil}
 use Rattle.std.proofs.lemmas.List.Elements.{filter-append}
 use Rattle.sd_chain.proofs.Apart.{apart, nil_or}
 
-undo_one_at : (f : ℕ → ℕ → Val) (x : Rec) (p s : ℕ) → at p s x ≡ true → undo_one f x p s ≡ x.before
+pub undo_one_at : (f : ℕ → ℕ → Val) (x : Rec) (p s : ℕ) → at p s x ≡ true → undo_one f x p s ≡ x.before
 undo_one_at f x p s is = rw is refl
 
-undo_one_off : (f : ℕ → ℕ → Val) (x : Rec) (p s : ℕ) → at p s x ≡ false → undo_one f x p s ≡ f p s
+pub undo_one_off : (f : ℕ → ℕ → Val) (x : Rec) (p s : ℕ) → at p s x ≡ false → undo_one f x p s ≡ f p s
 undo_one_off f x p s is = rw is refl
 
 pub found_linked : (f : ℕ → ℕ → Val) (xs : List Rec) → EachFound f xs → (p s : ℕ) → Linked (f p s) (filter (at p s) xs)

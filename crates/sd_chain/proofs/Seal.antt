@@ -2,13 +2,13 @@
 use Rattle.std.proofs.Common.{◌≡◌, ◌≢◌, inl, inr, ⊎_elim, ℕ, ◌<◌, ◌≤◌, Bool, true, false, ◌&&◌, List, [], ◌∷◌, ◌++◌, refl, sym, ap, ◌∙◌, subst}
 use Rattle.std.specs.Prelude.{filter}
 use Rattle.std.proofs.lemmas.Bool.{cases_eq}
-use Rattle.sd_chain.proofs.Txns.{cases_txn, eq-same}
 use Rattle.sd_logrec.specs.View.{Rec, Kind}
 use Rattle.sd_base.specs.declared.ids.TxnId.{TxnId}
 use Rattle.sd_base.specs.Ids.{same_txn}
 use Rattle.sd_chain.specs.Records.{Val, of_rid, at, changes, ends, Each, home, stack, step, moved, IsOpen}
 use Rattle.sd_logrec.specs.View.Kind.{Update, Clr, Commit, End, Plain}
-use Rattle.sd_page.specs.Page.{Page, size}
+use Rattle.sd_base.specs.Values.{size}
+use Rattle.sd_page.specs.Page.{Page}
 use Rattle.sd_chain.specs.Pages.{value, capacity}
 use Rattle.sd_chain.specs.Image.{Image, newest, now, opens, Open, HasPlace, Linked, undone, Alone, StackFits, Sound, Recovered}
 use Rattle.sd_chain.specs.Changes.{Appended}
@@ -19,6 +19,7 @@ use Rattle.sd_chain.proofs.Opens
 use Rattle.sd_chain.proofs.Opens.{Each-stack}
 use Rattle.sd_chain.proofs.Stacks.{stack-push, step-other, step-own}
 use Rattle.sd_chain.proofs.Apart.{Recovered-same, apart}
+use Rattle.sd_base.proofs.SameIds.{cases_txn, eq-same}
 
 moved_none : (k : Kind) (x : Rec) (stk : List Rec) → changes k ≡ false → moved k x stk ≡ stk
 moved_none Update x stk e = absurd (cc)

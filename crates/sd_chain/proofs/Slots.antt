@@ -1,7 +1,7 @@
 -- What a write leaves of a page's slots.
-use Rattle.std.proofs.Common.{◌≡◌, ◌≢◌, ℕ, zero, suc, ◌<◌, ◌≤◌, List, [], ◌∷◌, length, refl, ap, arith}
+use Rattle.std.proofs.Common.{◌≡◌, ◌≢◌, ℕ, zero, suc, ◌<◌, ◌≤◌, List, [], ◌∷◌, length, refl, ap, arith, None, Some}
 use Rattle.sd_chain.specs.Records.{Val}
-use Rattle.sd_page.specs.Page.{Slot}
+use Rattle.sd_page.specs.Page.{Slot, capacity_at, value_at}
 use Rattle.sd_chain.specs.Pages.{value, capacity, write}
 
 pub value-write_same : (slots : List Slot) (s c : ℕ) (v : Val) → value (write slots s c v) s ≡ v
@@ -36,3 +36,33 @@ capacity-write (x ∷ xs) (suc s) zero c v lt = refl
 capacity-write (x ∷ xs) (suc s) (suc r) c v lt = capacity-write xs s r c v (omega arith)
 
 -- a new slot has the capacity that the record names
+
+pub value-at : (slots : List Slot) (s : ℕ) → value_at slots s ≡ value slots s
+value-at [] s = refl
+value-at (x ∷ xs) zero = refl
+value-at (x ∷ xs) (suc s) = value-at xs s
+
+pub capacity-at : (slots : List Slot) (s : ℕ) → s < length slots → capacity_at slots s ≡ Some (capacity slots s)
+capacity-at [] s lt = absurd (omega (arith, lt))
+capacity-at (x ∷ xs) zero lt = refl
+capacity-at (x ∷ xs) (suc s) lt = capacity-at xs s (omega (arith, lt))
+
+pub capacity-none : (slots : List Slot) (s : ℕ) → length slots ≤ s → capacity_at slots s ≡ None
+capacity-none [] s le = refl
+capacity-none (x ∷ xs) zero le = absurd (omega (arith, le))
+capacity-none (x ∷ xs) (suc s) le = capacity-none xs s (omega (arith, le))
+
+-- a slot with a capacity is one of the page's
+pub has-slot : (slots : List Slot) (s own : ℕ) → capacity_at slots s ≡ Some own → (s < length slots) × (own ≡ capacity slots s)
+has-slot [] s own is = absurd (cc)
+has-slot (x ∷ xs) zero own is = (omega arith, some-is is)
+  where
+    some-is : Some x.0 ≡ Some own → own ≡ x.0
+    some-is e = cc
+has-slot (x ∷ xs) (suc s) own is = let h = has-slot xs s own is in (omega (arith, h.0), h.1)
+
+-- and one without a capacity isn't
+pub lacks-slot : (slots : List Slot) (s : ℕ) → capacity_at slots s ≡ None → length slots ≤ s
+lacks-slot [] s is = omega arith
+lacks-slot (x ∷ xs) zero is = absurd (cc)
+lacks-slot (x ∷ xs) (suc s) is = omega (arith, lacks-slot xs s is)

@@ -15,7 +15,7 @@ use Rattle.sd_chain.specs.Checks.{DevicesAreSound, Follow, MayCome, Past, after_
 use Rattle.sd_chain.specs.Laws.{Opens}
 use Rattle.sd_chain.specs.Losers.{OwnLogs}
 
-flat_records : (rs : Records) → map flat (map (λ r. r.1) rs) ≡ map (λ r. flat r.1) rs
+pub flat_records : (rs : Records) → map flat (map (λ r. r.1) rs) ≡ map (λ r. flat r.1) rs
 flat_records [] = refl
 flat_records (r ∷ rs) = ap (λ (l : List Rec). flat r.1 ∷ l) (flat_records rs)
 

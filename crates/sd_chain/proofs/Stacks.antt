@@ -1,9 +1,9 @@
 -- What one more record does to a stack.
 use Rattle.std.proofs.Common.{◌≡◌, ◌≢◌, List, [], ◌∷◌, ◌++◌, refl}
-use Rattle.sd_chain.proofs.Txns.{eq-same, ne-same}
 use Rattle.sd_logrec.specs.View.{Rec}
 use Rattle.sd_base.specs.declared.ids.TxnId.{TxnId}
 use Rattle.sd_chain.specs.Records.{step, stack_from, stack, moved}
+use Rattle.sd_base.proofs.SameIds.{eq-same, ne-same}
 
 pub stack_from-append : (t : TxnId) (stk xs ys : List Rec) → stack_from t stk (xs ++ ys) ≡ stack_from t (stack_from t stk xs) ys
 stack_from-append t stk [] ys = refl

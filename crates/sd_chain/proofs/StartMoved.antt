@@ -6,7 +6,8 @@ use Rattle.sd_logrec.specs.View.{Rec}
 use Rattle.sd_base.specs.declared.ids.TxnId.{TxnId}
 use Rattle.sd_base.specs.Ids.{same_txn}
 use Rattle.sd_chain.specs.Records.{Val, of_page, of_rid, at, ends, Each, home, stack, step, stack_from, IsOpen}
-use Rattle.sd_page.specs.Page.{Page, size}
+use Rattle.sd_base.specs.Values.{size}
+use Rattle.sd_page.specs.Page.{Page}
 use Rattle.sd_chain.specs.Pages.{value, capacity, redo, replay, FitAll}
 use Rattle.sd_chain.specs.Order.{of_txn}
 use Rattle.sd_chain.specs.Image.{Image, chain, newest, now, opens, Open, HasPlace, Linked, undone, Alone, StackFits, Sound, Recovered}

@@ -2,11 +2,10 @@
 use Rattle.std.proofs.Common.{◌≡◌, ◌≢◌, inl, inr, ⊎_elim, ℕ, ◌<◌, ◌≤◌, true, false, List, [], ◌∷◌, length, refl, sym, ap, ◌∙◌, subst, arith}
 use Rattle.std.specs.Prelude.{filter}
 use Rattle.std.proofs.lemmas.Bool.{cases_Bool}
-use Rattle.sd_chain.proofs.Txns.{cases_txn}
 use Rattle.sd_logrec.specs.View.{Rec, Kind}
 use Rattle.sd_base.specs.declared.ids.TxnId.{TxnId}
 use Rattle.sd_chain.specs.Records.{Val, at, changes, ends, Each, home, moved, rest}
-use Rattle.sd_page.specs.Page.{size}
+use Rattle.sd_base.specs.Values.{size}
 use Rattle.sd_chain.specs.Pages.{capacity, FitsKind}
 use Rattle.sd_chain.specs.Image.{Image, newest, now, opens, Open, HasPlace, Linked, undone, Alone, StackFits, Sound, Recovered}
 use Rattle.sd_chain.specs.Changes.{Appended, CanUndo}
@@ -16,6 +15,7 @@ use Rattle.sd_chain.proofs.Opens
 use Rattle.sd_chain.proofs.Opens.{Each-stack}
 use Rattle.sd_chain.proofs.Apart.{Recovered-same, apart, nil_or}
 use Rattle.sd_chain.proofs.Change
+use Rattle.sd_base.proofs.SameIds.{cases_txn}
 
 module _ (i : ℕ) (y top : Rec) (below : List Rec) (old new : Image) (app : Appended i y old new) (own : home y.txn ≡ i)
     (can : CanUndo old y top below) (sound : Sound old) where

@@ -2,11 +2,11 @@
 use Rattle.std.proofs.Common.{◌≡◌, inl, inr, ⊎_elim, ℕ, zero, suc, ◌≤◌, true, false, List, [], ◌∷◌, length, None, refl, sym, ap, ◌∙◌, subst, arith}
 use Rattle.std.specs.Prelude.{filter}
 use Rattle.std.proofs.lemmas.Bool.{cases_Bool, cases_lt}
-use Rattle.sd_chain.proofs.Txns.{cases_txn}
 use Rattle.sd_logrec.specs.View.{Rec, Kind}
 use Rattle.sd_base.specs.declared.ids.TxnId.{TxnId}
 use Rattle.sd_chain.specs.Records.{Val, at, changes, ends, Each, home, moved}
-use Rattle.sd_page.specs.Page.{Page, Slot, size}
+use Rattle.sd_base.specs.Values.{size}
+use Rattle.sd_page.specs.Page.{Page, Slot}
 use Rattle.sd_chain.specs.Pages.{value, capacity, write, FitsKind}
 use Rattle.sd_chain.specs.Image.{Image, newest, now, opens, Open, HasPlace, Linked, undone, Alone, StackFits, Sound, Recovered}
 use Rattle.sd_chain.specs.Changes.{Appended, CanUpdate}
@@ -18,8 +18,9 @@ use Rattle.sd_chain.proofs.Opens.{Each-stack}
 use Rattle.sd_chain.proofs.Capacities.{newest-within}
 use Rattle.sd_chain.proofs.Apart.{Recovered-same}
 use Rattle.sd_chain.proofs.Change
+use Rattle.sd_base.proofs.SameIds.{cases_txn}
 
-value_past : (slots : List Slot) (s : ℕ) → length slots ≤ s → value slots s ≡ None
+pub value_past : (slots : List Slot) (s : ℕ) → length slots ≤ s → value slots s ≡ None
 value_past [] s le = refl
 value_past (x ∷ xs) zero le = absurd (omega arith)
 value_past (x ∷ xs) (suc s) le = value_past xs s (omega arith)

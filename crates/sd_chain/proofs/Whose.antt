@@ -7,10 +7,10 @@ use Rattle.sd_base.specs.declared.ids.TxnId.{TxnId}
 use Rattle.sd_base.specs.Ids.{same_txn}
 use Rattle.sd_logrec.specs.View.{Rec, Kind}
 use Rattle.sd_logrec.specs.View.Kind.{Update, Clr, Commit, End, Plain}
-use Rattle.sd_chain.specs.Records.{Each, ends, moved, step, stack_from, IsOpen}
-use Rattle.sd_chain.specs.Order.{speaks, of_txn, Sofar, advance, after_all, InOrder, Undoes, first_prev}
+use Rattle.sd_chain.specs.Records.{Each, ends, moved, step, stack_from, IsOpen, stack}
+use Rattle.sd_chain.specs.Order.{speaks, of_txn, none_yet, Sofar, advance, after_all, InOrder, Undoes, first_prev}
 use Rattle.sd_chain.proofs.Lists.{cond_both}
-use Rattle.sd_chain.proofs.Txns.{cases_txn, eq-same, ne-same}
+use Rattle.sd_base.proofs.SameIds.{cases_txn, eq-same, ne-same}
 
 pub both : (a b : Bool) → (a && b) ≡ true → (a ≡ true) × (b ≡ true)
 both true b e = (refl, e)
@@ -141,3 +141,8 @@ neither false b e = (refl, e)
 pub of_none : (p : Rec → Bool) (xs : List Rec) → list_any p xs ≡ false → Each (λ x. p x ≡ false) xs
 of_none p [] e = tt
 of_none p (x ∷ xs) e = let n = neither (p x) (list_any p xs) e in (n.0, of_none p xs n.1)
+
+-- a transaction without a record has an empty stack
+pub stack-none : (t : TxnId) (log : List Rec) → list_any (of_txn t) log ≡ false → stack t log ≡ []
+stack-none t log none = sym (open_ones-is t none_yet log)
+    ∙ ap (λ (q : Sofar). q.open_ones) (after_all-none t none_yet log none)

@@ -10,7 +10,7 @@ use Rattle.sd_logrec.specs.declared.record.Record.TheVariants as records
 use Rattle.sd_logrec.specs.Kept.{Reading, Records, Master, Whole, BadGroup, NoRecord, kept, master, master_of}
 use Rattle.sd_logrec.specs.View.{Rec, flat}
 use Rattle.sd_page.specs.Spelling.{WellFormed}
-use Rattle.sd_page.specs.Page.{size}
+use Rattle.sd_base.specs.Values.{size}
 use Rattle.sd_rig.specs.Devices as rig
 use Rattle.sd_chain.specs.Records.{ends, stack, Each}
 use Rattle.sd_chain.specs.Order.{Tidy, speaks}

@@ -3,7 +3,8 @@ use Rattle.std.specs.Prelude.{◌≡◌, ◌≢◌, ◌⊎◌, ℕ, zero, suc, �
 use Rattle.sd_logrec.specs.View.{Rec}
 use Rattle.sd_base.specs.declared.ids.TxnId.{TxnId}
 use Rattle.sd_chain.specs.Records.{Val, home, of_page, of_rid, at, Each, stack, IsOpen}
-use Rattle.sd_page.specs.Page.{Page, size}
+use Rattle.sd_base.specs.Values.{size}
+use Rattle.sd_page.specs.Page.{Page}
 use Rattle.sd_chain.specs.Pages.{value, capacity, replay, FitAll}
 
 -- the kept records of each log, and each page on disk

@@ -1,5 +1,6 @@
 -- The order of a transaction's records in its log (check 3).
-use Rattle.std.specs.Prelude.{◌≡◌, ◌≢◌, ℕ, Bool, true, false, List, [], ◌∷◌, ◌&&◌, cond}
+use Rattle.std.specs.Prelude.{◌≡◌, ◌≢◌, ℕ, Bool, true, false, List, [], ◌∷◌, ◌&&◌, cond, Option, None, Some}
+use Rattle.std.specs.Option.{option_map_or}
 use Rattle.sd_logrec.specs.View.{Rec, Kind}
 use Rattle.sd_base.specs.declared.ids.TxnId.{TxnId}
 use Rattle.sd_base.specs.Ids.{same_txn}
@@ -36,6 +37,18 @@ advance t sofar x = cond (of_txn t x) (record { open_ones = step t sofar.open_on
 abbrev pub after_all : TxnId → Sofar → List Rec → Sofar
 after_all t sofar [] = sofar
 after_all t sofar (x ∷ xs) = after_all t (advance t sofar x) xs
+
+-- the LSNs of the transaction's first and last record, with one record more
+abbrev pub spanned : TxnId → Option (ℕ × ℕ) → Rec → Option (ℕ × ℕ)
+spanned t span x = cond {A = Option (ℕ × ℕ)} (of_txn t x) (Some (option_map_or (λ s. s.0) span x.lsn, x.lsn)) span
+
+abbrev pub span_from : TxnId → Option (ℕ × ℕ) → List Rec → Option (ℕ × ℕ)
+span_from t span [] = span
+span_from t span (x ∷ xs) = span_from t (spanned t span x) xs
+
+-- the LSNs of its first and last record in a log; None where it has none
+abbrev pub span_of : TxnId → List Rec → Option (ℕ × ℕ)
+span_of t log = span_from t None log
 
 -- the record may come next
 pub record ComesNext (sofar : Sofar) (x : Rec) : Type 0 where

@@ -1,5 +1,6 @@
 -- Pages, and a record's change of one.
-use Rattle.sd_page.specs.Page.{Page, Slot, size, HasRoom}
+use Rattle.sd_base.specs.Values.{size}
+use Rattle.sd_page.specs.Page.{Page, Slot, HasRoom}
 use Rattle.std.specs.Prelude.{◌≡◌, ℕ, zero, suc, ◌<◌, ◌≤◌, List, [], ◌∷◌, None, length, ltb, cond}
 use Rattle.sd_logrec.specs.View.{Rec, Kind}
 use Rattle.sd_chain.specs.Records.{Val}

@@ -5,9 +5,8 @@
 //! (`specs/Images.antt`).
 //! Keeps: nothing.
 //! Promises: each event that its premises allow leaves all these images sound, and recovery gives what it should
-//! (`laws.rt`, `specs/Laws.antt`); `fits` tells whether a page is as a record found it, `redo` does what it says, and
-//! `replay` redoes a chain as far as it fits.
-//! Refuses: nothing but for want of memory.
+//! (`laws.rt`, `specs/Laws.antt`). It is definitions and laws alone.
+//! Refuses: nothing.
 //! Knows nothing of: pools, locks, who holds what; how groups and twins are written.
 //! Stands on: sd_base, sd_page, sd_logrec, sd_rig.
 //! Lends: in `proofs`, Images (the lemma of each event, over any `may`), Narrowed (over a smaller one), Left (what is left
@@ -22,9 +21,3 @@
 #![tactic(auto)]
 
 pub mod laws;
-mod redoing;
-
-pub use redoing::{fits, redo, replay};
-
-#[cfg(test)]
-mod tests;

@@ -58,7 +58,3 @@ fills_while_opened dev gate body seen seen' leaves leaves' img first whole same 
   outside = outside_slot gate (length body) (seen dev) (seen' dev) (img dev) first w.outside;
   whole = inr (same_body gate (length body) (seen' dev) (img dev) w.outside ∙ whole);
 }
-
-pub on_ok_from : {T E : Type 0} (r : Result T E) (P Q : Type 0) → (P → Q) → OnOk r P → OnOk r Q
-on_ok_from (Ok x) P Q f p = f p
-on_ok_from (Err e) P Q f p = tt

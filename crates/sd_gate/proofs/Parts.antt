@@ -5,20 +5,7 @@ use Rattle.std.proofs.lemmas.List.{drop-drop, drop-take, get_or-drop, get_or-tak
 use Rattle.sd_base.specs.Twin.{Slot, body_at, body_of, chosen_body, chosen_slot, is_open, number_of, slot_of}
 use Rattle.sd_gate.specs.declared.slots.Chosen.{Chosen}
 use Rattle.sd_gate.specs.Slots.{named_body, slot, slots_len}
-
--- a byte and a part of a part
-byte_within : (at len i : ℕ) (bytes : List ℕ) → i < len → get_or (take len (drop at bytes)) i 0 ≡ get_or bytes (at + i) 0
-byte_within at len i bytes h = get_or-take len (drop at bytes) i 0 h ∙ get_or-drop at bytes i 0
-
-part_within : (at len from n : ℕ) (bytes : List ℕ) → from + n ≤ len → take n (drop from (take len (drop at bytes))) ≡ take n (drop (at + from) bytes)
-part_within at len from n bytes h =
-    sym (drop-take from n (take len (drop at bytes))) ∙ ap (drop from) (take-take (from + n) len (drop at bytes) h) ∙ drop-take from n (drop at bytes) ∙ ap (take n) (drop-drop from at bytes)
-
-pub open_within : (at len gate : ℕ) (bytes : List ℕ) → gate < len → is_open gate (take len (drop at bytes)) ≡ is_open (at + gate) bytes
-open_within at len gate bytes h = ap (λ b. b == 165) (byte_within at len gate bytes h)
-
-pub body_within : (at len gate n : ℕ) (bytes : List ℕ) → gate + 1 + n ≤ len → body_at n gate (take len (drop at bytes)) ≡ body_at n (at + gate) bytes
-body_within at len gate n bytes h = let place : at + (gate + 1) ≡ at + gate + 1 = omega arith in part_within at len (gate + 1) n bytes h ∙ ap (λ p. take n (drop p bytes)) place
+use Rattle.sd_base.proofs.Twins.{byte_within, part_within, open_within, body_within}
 
 pub chosen_within : (at n : ℕ) (bytes : List ℕ) → chosen_slot 0 n (take (slots_len n) (drop at bytes)) ≡ chosen_slot at n bytes
 chosen_within at n bytes =

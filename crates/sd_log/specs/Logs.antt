@@ -97,6 +97,10 @@ forced log = forced_with log log.tail
 abbrev pub without_tail : LogState → LogState
 without_tail log = record { inst = log.inst; start = log.start; gate = log.gate; groups = log.groups; tail = []; spare = log.spare }
 
+-- the forced records of log j of these logs, of which the first is log 1
+abbrev pub forced_in : List LogState → ℕ → List Rec
+forced_in logs = log_in (map without_tail logs)
+
 -- the log with one more record
 abbrev pub with_record : Record → ℕ → LogState → LogState
 with_record r spare log = record { inst = log.inst; start = log.start; gate = log.gate; groups = log.groups; tail = log.tail ++ r ∷ []; spare = spare }

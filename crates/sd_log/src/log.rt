@@ -18,13 +18,10 @@ use crate::journal::Journal;
 use crate::placed::Placed;
 use crate::reading::read_groups;
 use sd_base::{Failed, InstNo, Lsn, Memory, Refusal};
-use sd_logrec::{AREA, AREA_LEN, GROUP_HEAD, MAX_LSN, Record};
+use sd_logrec::{AREA, AREA_LEN, END_LEN, GROUP_HEAD, MAX_LSN, Record};
 use sd_rig::Rig;
 use std::alloc::Global;
 use std::marker::Model;
-
-/// The length of the shortest record for which bytes are reserved.
-const SHORTEST: usize = 26;
 
 /// The log of an instance in memory: the groups that are forced, and the records of the tail, which aren't yet.
 #[derive(Debug, Drop)]
@@ -196,11 +193,11 @@ impl Log {
         requires kept { kept ≤ AREA_LEN }
         ensures ok { OnOk result (self.new ≡ with_record r kept self.old) }
         ensures stays { OnErr result (self.new ≡ self.old) }
-        ensures there { max len SHORTEST + kept ≤ self.old.spare → IsOk result }
+        ensures there { max len END_LEN + kept ≤ self.old.spare → IsOk result }
     {
-        let all = len.max(SHORTEST) + kept;
+        let all = len.max(END_LEN) + kept;
         self.tail.reserve(all)?;
-        self.journal.reserve(all / SHORTEST)?;
+        self.journal.reserve(all / END_LEN)?;
         let place = self.journal.gate() as usize + GROUP_HEAD + self.tail.len();
         self.tail.put(&r);
         self.journal.push(r, place as u32);

@@ -4,7 +4,8 @@ use Rattle.std.specs.List.{flat_map}
 use Rattle.sd_base.specs.declared.ids.TxnId.{TxnId}
 use Rattle.sd_logrec.specs.declared.record.Record.{Record}
 use Rattle.sd_logrec.specs.declared.record.Record.TheVariants as records
-use Rattle.sd_logrec.specs.Spelling.{Span, Changed, one, two, four, eight, transaction, value, span, changed, counted, row, spelling, size, spelled_length}
+use Rattle.sd_base.specs.Values.{size}
+use Rattle.sd_logrec.specs.Spelling.{Span, Changed, one, two, four, eight, transaction, value, span, changed, counted, row, spelling, spelled_length}
 
 pub length-two : (n : ℕ) → length (two n) ≡ 2
 unfolding two

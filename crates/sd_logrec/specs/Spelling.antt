@@ -15,6 +15,7 @@
 use Rattle.std.specs.Prelude.{◌<◌, ◌≤◌, ℕ, ◌+◌, ◌*◌, ◌^◌, Bool, true, IsTrue, nat_lt, ◌==◌, ◌&&◌, if◌then◌else◌, List, [], ◌∷◌, ◌++◌, length, Option, None, Some}
 use Rattle.std.specs.List.{flat_map, AllByRecursion}
 use Rattle.std.specs.Int.{w16, w32, w64, to_be_bytes}
+use Rattle.sd_base.specs.Values.{size}
 use Rattle.sd_base.specs.declared.ids.TxnId.{TxnId}
 use Rattle.sd_logrec.specs.declared.record.Record.{Record}
 use Rattle.sd_logrec.specs.declared.record.Record.TheVariants as records
@@ -125,11 +126,6 @@ HasSpelling (records.Commit lsn txn prev) = IsLsn lsn × IsTxn txn × (prev < 2 
 HasSpelling (records.End lsn txn prev) = IsLsn lsn × IsTxn txn × (prev < 2 ^ 64)
 HasSpelling (records.BeginCheck lsn) = IsLsn lsn
 HasSpelling (records.EndCheck lsn begin spans recs) = IsLsn lsn × (begin < 2 ^ 64) × AreSpans spans × AreRecs recs
-
--- the bytes that a value takes behind its length
-abbrev pub size : Option (List ℕ) → ℕ
-size None = 0
-size (Some bytes) = length bytes
 
 -- the length of a spelling
 abbrev pub spelled_length : Record → ℕ

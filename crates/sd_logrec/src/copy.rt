@@ -1,9 +1,7 @@
 //! Copies of records.
 
-ghost use Rattle.std.specs.Prelude.{◌≡◌, IfOk};
-
 use crate::Record;
-use sd_base::{Bytes, Duplicate, Memory};
+use sd_base::{Duplicate, Memory, copy_value};
 
 impl Duplicate for Record {
     fn copy(&self) -> Result<Self, Memory> {
@@ -71,14 +69,5 @@ impl Duplicate for Record {
                 recs: recs.copy()?,
             },
         })
-    }
-}
-
-fn copy_value(value: &Option<Bytes>) -> Result<Option<Bytes>, Memory>
-    ensures { IfOk result (λ copied. copied ≡ value.now) }
-{
-    match value {
-        None => Ok(None),
-        Some(bytes) => Ok(Some(bytes.copy()?)),
     }
 }

@@ -6,17 +6,10 @@ ghost use Rattle.sd_logrec.specs.Reading.{Finds, Gives, byte_at, number_at, lsn_
 
 use crate::layout::MAX_LSN;
 use crate::miss::Miss;
-use sd_base::{Bytes, InstNo, Lsn, PageNo, Sequence, TxnId};
+use sd_base::{
+    Bytes, InstNo, Lsn, MAX_CAPACITY, MAX_SLOTS, NO_VALUE, PAGES, PageNo, Sequence, TxnId,
+};
 use std::alloc::Global;
-
-/// The most slots of a page.
-const MAX_SLOTS: u16 = 168;
-
-/// The greatest capacity of a slot, and length of a value, in bytes.
-const MAX_CAPACITY: u16 = 256;
-
-/// The length that stands for no value.
-pub const NO_VALUE: u16 = 65535;
 
 #[tactic(auto, unfolding(crate::specs::Reading::byte_at))]
 pub fn byte_of(bytes: &[u8]) -> Option<(u8, &[u8])>
@@ -113,7 +106,7 @@ pub fn page_of(bytes: &[u8]) -> Option<(PageNo, &[u8])>
     ensures { Finds (λ x. (x.0, x.1.now)) result (page_at bytes.now) }
 {
     let (number, rest) = u32_of(bytes)?;
-    if number >= 1024 {
+    if number >= PAGES as u32 {
         return None;
     }
     let page = PageNo::new(number as u16)?;

@@ -7,6 +7,8 @@ ghost use Rattle.sd_logrec.specs.Kept.{Group, StandsAt, Whole, master, placed_fr
 ghost use Rattle.sd_logrec.specs.Reading.{record_at};
 ghost use Rattle.sd_logrec.specs.Spelling.{spelling, spelled_length, HasSpelling};
 
+use crate::layout::AREA;
+
 /// A record has one spelling, and records with one spelling are one record.
 pub fn one_spelling()
     ensures { (a b : Record) → HasSpelling a → HasSpelling b → spelling a ≡ spelling b → a ≡ b }
@@ -52,7 +54,7 @@ pub fn group_behind()
         → reading start new ≡ Whole (groups ++ record { at = gate; records = placed_from (gate + 5) rs } ∷ []) (gate + 5 + length (spelled rs)) }
 {}
 
-/// The master stands in the first 130 bytes.
+/// The master stands in front of the area.
 pub fn master_in_front()
-    ensures { (old new : List ℕ) → take 130 new ≡ take 130 old → master new ≡ master old }
+    ensures { (old new : List ℕ) → take AREA new ≡ take AREA old → master new ≡ master old }
 {}

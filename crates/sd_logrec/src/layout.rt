@@ -11,6 +11,12 @@ pub const AREA_LEN: u32 = 1_048_576;
 /// The bytes of a group in front of its body: the gate and the length.
 pub const GROUP_HEAD: usize = 5;
 
+/// A compensation record without a value, in bytes.
+pub const CLR_LEN: usize = 42;
+
+/// A Commit or an End, in bytes.
+pub const END_LEN: usize = 26;
+
 /// The body of a master's slot, in bytes.
 pub const MASTER_BODY: usize = 64;
 

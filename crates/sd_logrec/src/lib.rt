@@ -28,7 +28,7 @@ mod record;
 mod rows;
 mod take;
 
-pub use layout::{AREA, AREA_LEN, GROUP_HEAD, MASTER_BODY, MAX_LSN};
+pub use layout::{AREA, AREA_LEN, CLR_LEN, END_LEN, GROUP_HEAD, MASTER_BODY, MAX_LSN};
 pub use record::Record;
 pub use rows::{Recs, Rows, Spans};
 

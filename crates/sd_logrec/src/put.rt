@@ -5,9 +5,8 @@ ghost use Rattle.std.specs.List.{flat_map};
 ghost use Rattle.sd_logrec.specs.Writing.{HasRoom, Appends};
 ghost use Rattle.sd_logrec.specs.Spelling.{spelling, HasSpelling, IsTxn, IsValue, AreSpans, AreRecs, one, two, four, eight, transaction, value, span, changed, counted, row};
 
-use crate::fields::NO_VALUE;
 use crate::{Record, Recs, Spans};
-use sd_base::{Bytes, Lsn, Memory, PageNo, TxnId};
+use sd_base::{Bytes, Lsn, Memory, NO_VALUE, PageNo, TxnId};
 
 impl Record {
     /// Appends its spelling. It takes no memory where `out` has room for it; `Memory` leaves the bytes of `out` as

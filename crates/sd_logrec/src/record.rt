@@ -1,11 +1,12 @@
 //! A log record as a value.
 
 ghost use Rattle.std.specs.Prelude.{◌≡◌, length, IfOk};
-ghost use Rattle.sd_logrec.specs.Spelling.{spelling, spelled_length, size, HasSpelling};
+ghost use Rattle.sd_logrec.specs.Spelling.{spelling, spelled_length, HasSpelling};
 ghost use Rattle.sd_logrec.specs.View.{flat};
 
+use crate::layout::{CLR_LEN, END_LEN};
 use crate::{Recs, Spans};
-use sd_base::{Bytes, Lsn, PageNo, TxnId};
+use sd_base::{Bytes, Lsn, PageNo, TxnId, value_len};
 
 /// A record of an instance's log. `prev` is the LSN of the transaction's former record, or 0.
 #[derive(Debug, Drop)]
@@ -84,24 +85,14 @@ impl Record {
     {
         match self {
             Record::Start { .. } => 13,
-            Record::Update { before, after, .. } => 38 + size(before) + size(after),
-            Record::Clr { after, .. } => 42 + size(after),
-            Record::Commit { .. } => 26,
-            Record::End { .. } => 26,
+            Record::Update { before, after, .. } => 38 + value_len(before) + value_len(after),
+            Record::Clr { after, .. } => CLR_LEN + value_len(after),
+            Record::Commit { .. } => END_LEN,
+            Record::End { .. } => END_LEN,
             Record::BeginCheck { .. } => 9,
             Record::EndCheck { spans, recs, .. } => {
                 21 + 25 * spans.items().len() + 12 * recs.items().len()
             }
         }
-    }
-}
-
-// The bytes of a value, 0 of none.
-fn size(value: &Option<Bytes>) -> usize
-    ensures { result ≡ size value.now }
-{
-    match value {
-        None => 0,
-        Some(bytes) => bytes.items().len(),
     }
 }

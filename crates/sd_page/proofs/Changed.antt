@@ -7,7 +7,8 @@ use Rattle.std.proofs.lemmas.List.{append-nil, length-append}
 use Rattle.std.proofs.lemmas.Option.{slice_get_past}
 use Rattle.std.proofs.lemmas.Bool.{cases_lt}
 use Rattle.sd_page.specs.declared.op.Op.{Op}
-use Rattle.sd_page.specs.Page.{Slot, Page, applied, CanTake, size, empty_page, heap_end, capacity_for, HasRoom, SlotFits, Fits, written}
+use Rattle.sd_base.specs.Values.{size}
+use Rattle.sd_page.specs.Page.{Slot, Page, applied, CanTake, empty_page, heap_end, capacity_for, HasRoom, SlotFits, Fits, written}
 use Rattle.sd_page.specs.Spelling.{two, four, eight, zeros, value_bytes, length_word, cell, entry, entries, spelling}
 use Rattle.sd_page.specs.Reading.{entry_place, two_at}
 use Rattle.sd_page.specs.Writing.{pasted}

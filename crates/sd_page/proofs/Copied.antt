@@ -1,7 +1,8 @@
 -- A slot that is made as an image tells of it. It serves the goals of image.rt that check bytes.
 use Rattle.std.proofs.Common.{◌≡◌, ℕ, ◌+◌, ◌<◌, ◌≤◌, [], ◌∷◌, ◌++◌, length, get_or, take, drop, sym, ap, subst, ◌∙◌, arith}
 use Rattle.std.proofs.lemmas.List.{take_more, length-take-le}
-use Rattle.sd_page.specs.Page.{Slot, Page, CanTake, size, written, Fits, SlotFits}
+use Rattle.sd_base.specs.Values.{size}
+use Rattle.sd_page.specs.Page.{Slot, Page, CanTake, written, Fits, SlotFits}
 use Rattle.sd_page.proofs.Told.{Has, Has-at, Has-fits, Has-end, Has-count}
 use Rattle.sd_page.proofs.Opened.{no_slot}
 use Rattle.sd_page.proofs.Changed.{written-end, capacity_for-past}

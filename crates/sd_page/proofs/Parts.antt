@@ -5,7 +5,8 @@ use Rattle.std.specs.List.{flat_map, AllByRecursion}
 use Rattle.std.proofs.lemmas.List.{append-nil, length-append, length-replicate, take-append-drop, drop_more}
 use Rattle.std.proofs.lemmas.List.Sums.{sum_by-cons}
 use Rattle.std.proofs.lemmas.List.Concat.{flat_map-append}
-use Rattle.sd_page.specs.Page.{Slot, Page, heap_end, size, SlotFits, Fits}
+use Rattle.sd_base.specs.Values.{size}
+use Rattle.sd_page.specs.Page.{Slot, Page, heap_end, SlotFits, Fits}
 use Rattle.sd_page.specs.Spelling.{two, four, eight, zeros, value_bytes, length_word, cell, entry, entries, header, spelling}
 use Rattle.sd_page.proofs.Pieces.{length-two, length-four, length-eight}
 

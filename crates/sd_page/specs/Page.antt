@@ -1,6 +1,7 @@
 -- A slotted page as a value: its slots in order, which of them have a value, and what an operation makes of it.
 use Rattle.std.specs.Prelude.{◌≡◌, ◌⊎◌, unwrap_or, ◌<◌, ◌≤◌, ℕ, zero, suc, ◌+◌, ◌*◌, ◌^◌, List, [], ◌∷◌, length, All, Option, None, Some, IfSome, option_and_then, option_map, slice_get, sum_by}
 use Rattle.std.specs.List.{AllByRecursion}
+use Rattle.sd_base.specs.Values.{size}
 use Rattle.sd_page.specs.declared.op.Op.{Op}
 
 -- a slot: the capacity it was made with, and its value; a dead slot has none
@@ -43,11 +44,6 @@ written (slot ∷ slots) (suc s) capacity value = slot ∷ written slots s capac
 -- the page after an operation of this LSN
 abbrev pub applied : Op → ℕ → Page → Page
 applied op lsn page = record { lsn = lsn; number = page.number; slots = written page.slots op.slot op.capacity op.after }
-
--- the bytes that a value takes, none of a dead slot
-abbrev pub size : Option (List ℕ) → ℕ
-size None = 0
-size (Some bytes) = length bytes
 
 -- a new slot is asked for, and the page has no room for it
 abbrev pub LacksRoom : List Slot → ℕ → ℕ → Type 0

@@ -2,16 +2,17 @@
 
 ghost use Rattle.std.specs.Prelude.{◌≡◌, ◌+◌, ◌<◌, ◌≤◌, ◌↔◌, ◌⊎◌, ◌++◌, ◌∷◌, [], length, take, option_map, IsTrue, IsOk, IsSome, IsSomeAnd, IfSome, OnOk, IfErr, OnErr, Err, Some};
 ghost use Rattle.sd_base.specs.declared.refusal.Refusal.TheVariants as R;
-ghost use Rattle.sd_page.specs.Page.{Page, Fits, CanTake, HasRoom, IsTooLong, LacksRoom, LacksSlot, applied, capacity_at, capacity_for, empty_page, heap_end, size, value_at, written};
+ghost use Rattle.sd_base.specs.Values.{size};
+ghost use Rattle.sd_page.specs.Page.{Page, Fits, CanTake, HasRoom, IsTooLong, LacksRoom, LacksSlot, applied, capacity_at, capacity_for, empty_page, heap_end, value_at, written};
 ghost use Rattle.sd_page.specs.Spelling.{spelling, WellFormed};
 
 use crate::Op;
 use crate::bytes::{clear, put, put_u16, u16_at, u32_at, u64_at};
 use crate::layout::{
-    COUNT, ENTRY_BYTES, HEADER_BYTES, HEAP_END, LSN, MAX_CAPACITY, NUMBER, PAGE_BYTES, bytes_of,
-    entry_place, length_word, lent, slot_in,
+    COUNT, ENTRY_BYTES, HEADER_BYTES, HEAP_END, LSN, NUMBER, PAGE_BYTES, bytes_of, entry_place,
+    length_word, slot_in,
 };
-use sd_base::{Lsn, PageNo, Refusal};
+use sd_base::{Lsn, MAX_CAPACITY, PageNo, Refusal, lent_value};
 use std::marker::Model;
 
 /// The image of a page: its 1,024 bytes. Contracts see the page that they spell.
@@ -150,7 +151,7 @@ impl Image {
             ↔ IsTooLong self.old.slots op.now.slot op.now.capacity (size op.now.after) }
         ensures only { IfErr result (λ e. (e ≡ R.PageFull) ⊎ ((e ≡ R.NoRecord) ⊎ (e ≡ R.TooLong))) }
     {
-        let value = lent(&op.after);
+        let value = lent_value(&op.after);
         self.accepts(op.slot, op.capacity, bytes_of(value).len())?;
         self.set(op.slot, op.capacity, value);
         self.stamp(lsn);

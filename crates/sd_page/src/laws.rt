@@ -3,7 +3,8 @@
 ghost use Rattle.std.specs.Prelude.{◌≡◌, ◌≢◌, ◌<◌, ◌≤◌, ◌+◌, ◌^◌, ℕ, List, Option, Some, length, take, All, IfSome};
 ghost use Rattle.std.specs.Int.{w64, from_be_bytes};
 ghost use Rattle.sd_page.specs.declared.op.Op.{Op};
-ghost use Rattle.sd_page.specs.Page.{Slot, Page, Fits, CanTake, applied, capacity_at, size, value_at, written};
+ghost use Rattle.sd_base.specs.Values.{size};
+ghost use Rattle.sd_page.specs.Page.{Slot, Page, Fits, CanTake, applied, capacity_at, value_at, written};
 ghost use Rattle.sd_page.specs.Spelling.{spelling};
 
 /// An image is determined by its LSN, its page number and its slots.

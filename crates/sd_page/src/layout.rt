@@ -1,12 +1,12 @@
 //! Where the fields of an image lie, and what the entry of a slot tells.
 
 ghost use Rattle.std.specs.Prelude.{◌≡◌, ◌<◌, ◌≤◌, length, option_map, IsSome, IfSome};
-ghost use Rattle.sd_page.specs.Page.{size};
+ghost use Rattle.sd_base.specs.Values.{size};
 ghost use Rattle.sd_page.specs.Reading.{entry_place, slot_in, LiesInside};
 ghost use Rattle.sd_page.specs.Spelling.{length_word, value_bytes};
 
 use crate::bytes::u16_at;
-use sd_base::Bytes;
+use sd_base::{MAX_SLOTS, NO_VALUE};
 
 /// Bytes of an image.
 pub const PAGE_BYTES: usize = 1024;
@@ -16,15 +16,6 @@ pub const HEADER_BYTES: u16 = 16;
 
 /// Bytes of an entry.
 pub const ENTRY_BYTES: usize = 6;
-
-/// The most slots that a page has.
-pub const MAX_SLOTS: u16 = 168;
-
-/// The greatest capacity, in bytes.
-pub const MAX_CAPACITY: u16 = 256;
-
-/// The length that the entry of a dead slot gives.
-pub const DEAD: u16 = 65535;
 
 // Places of the fields of the header.
 pub const LSN: usize = 0;
@@ -55,7 +46,7 @@ pub fn slot_in(bytes: &[u8], slot: u16) -> Option<(u16, Option<&[u8]>)>
     let entry = entry_place(slot);
     let capacity = u16_at(bytes, entry + 2);
     let length = u16_at(bytes, entry + 4);
-    if length == DEAD {
+    if length == NO_VALUE {
         return Some((capacity, None));
     }
     let offset = u16_at(bytes, entry) as usize;
@@ -80,17 +71,7 @@ pub fn length_word(value: Option<&[u8]>) -> u16
     ensures { result ≡ length_word (option_map (λ v. v.now) value.entry) }
 {
     match value {
-        None => DEAD,
+        None => NO_VALUE,
         Some(bytes) => bytes.len() as u16,
-    }
-}
-
-/// A value as it lies in an operation.
-pub fn lent(value: &Option<Bytes>) -> Option<&[u8]>
-    ensures { option_map (λ v. v.now) result ≡ value.now }
-{
-    match value {
-        None => None,
-        Some(bytes) => Some(bytes.items()),
     }
 }

@@ -22,6 +22,7 @@ mod layout;
 mod op;
 
 pub use image::Image;
+pub use layout::PAGE_BYTES;
 pub use op::Op;
 
 #[cfg(test)]

@@ -3,14 +3,11 @@ use Rattle.std.proofs.Common.{◌≡◌, ◌↔◌, ⊎_elim, ℕ, zero, suc, �
 use Rattle.std.proofs.lemmas.Bool.{cases_eq}
 use Rattle.sd_base.specs.Sets.{has, without, members, chosen, in_byte}
 use Rattle.sd_pagelock.specs.Rows.{is_only}
+use Rattle.sd_base.proofs.Bytes.{each_below, and_true, of_each}
 
 abbrev none : List ℕ → Bool
 none [] = true
 none (x ∷ xs) = false
-
-abbrev each_below : ℕ → (ℕ → Bool) → Bool
-each_below zero test = true
-each_below (suc n) test = test n && each_below n test
 
 abbrev same : Bool → Bool → Bool
 same true b = b
@@ -20,15 +17,6 @@ same_is : (a b : Bool) → same a b ≡ true → a ≡ b
 same_is true b e = sym e
 same_is false true e = absurd (cc)
 same_is false false e = refl
-
-and_true : (a b : Bool) → (a && b) ≡ true → (a ≡ true) × (b ≡ true)
-and_true true b e = (refl, e)
-and_true false b e = absurd (cc)
-
-of_each : (n : ℕ) (test : ℕ → Bool) → each_below n test ≡ true → (k : ℕ) → k < n → test k ≡ true
-of_each zero test e k lt = absurd (omega arith)
-of_each (suc n) test e k lt = let both = and_true (test n) (each_below n test) e in
-    ⊎_elim (λ is. ap test is ∙ both.0) (λ ne. of_each n test both.1 k (omega arith)) (cases_eq k n)
 
 only_ok : ℕ → ℕ → Bool
 only_ok b n = same (has (suc n) (members b) && none (without (suc n) (members b))) (is_only (suc n) (members b))

@@ -11,3 +11,4 @@ pub mod Lookups
 pub mod Losses
 pub mod Queues
 pub mod Rowwise
+pub mod Uses

@@ -137,28 +137,28 @@ never_lost from to f (IsMove.change i m e) = ap is_lost e
 never_lost from to f (IsMove.rebuild m e) = ap is_lost e ∙ there-written (seen from)
 
 -- what the other rows leave of a change
-free_clean : (e : Entry) → is_free e ≡ true → changed e ≡ false
+pub free_clean : (e : Entry) → is_free e ≡ true → changed e ≡ false
 free_clean Entry.Free m = refl
 free_clean Entry.Lost m = absurd (cc)
 free_clean (Entry.Shared set writer) m = absurd (cc)
 free_clean (Entry.Excl holder dirty) m = absurd (cc)
 free_clean (Entry.Moving to mode rest dirty) m = absurd (cc)
 
-changed-raised : (i : ℕ) (e : Entry) → changed (raised i e) ≡ changed e
+pub changed-raised : (i : ℕ) (e : Entry) → changed (raised i e) ≡ changed e
 changed-raised i Entry.Free = refl
 changed-raised i Entry.Lost = refl
 changed-raised i (Entry.Shared set writer) = refl
 changed-raised i (Entry.Excl holder dirty) = refl
 changed-raised i (Entry.Moving to mode rest dirty) = refl
 
-changed-given : (i : ℕ) (e : Entry) → changed (given_shared i e) ≡ changed e
+pub changed-given : (i : ℕ) (e : Entry) → changed (given_shared i e) ≡ changed e
 changed-given i Entry.Free = refl
 changed-given i Entry.Lost = refl
 changed-given i (Entry.Shared set writer) = refl
 changed-given i (Entry.Excl holder dirty) = refl
 changed-given i (Entry.Moving to mode rest dirty) = refl
 
-changed-taken : (e : Entry) → changed (taken e) ≡ changed e
+pub changed-taken : (e : Entry) → changed (taken e) ≡ changed e
 changed-taken Entry.Free = refl
 changed-taken Entry.Lost = refl
 changed-taken (Entry.Shared set writer) = refl

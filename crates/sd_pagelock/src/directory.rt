@@ -7,12 +7,9 @@ use crate::asks::Asks;
 use crate::laws;
 use crate::queue::Queue;
 use crate::rows::{changed, fallen, holds, is_lost, receives, rests};
-use sd_base::{InstNo, Lsn, Memory, Mode, PageNo, Place};
+use sd_base::{InstNo, Lsn, Memory, Mode, PAGES, PageNo, Place};
 use std::alloc::Global;
 use std::marker::Model;
-
-/// The pages of the data device.
-const PAGES: usize = 1024;
 
 /// The page directory. `I` is what travels when a page moves from pool to pool.
 #[derive(Drop)]
@@ -126,7 +123,7 @@ impl<I: Drop> Directory<I> {
             ≡ cond {A = Option I} (receives (entry_at self.old p) i) None (image_at self.old p) }
     {
         self.keeps();
-        for n in 0..1024 {
+        for n in 0..PAGES {
             match PageNo::new(n) {
                 Some(p) => self.fall_at(p, i),
                 None => {}
@@ -349,8 +346,8 @@ fn recounted(lost: usize, was: &Place, to: &Place) -> usize
 fn repeated<X: Copy>(alloc: Global, value: X) -> Result<Vec<X>, Memory>
     ensures { IfOk result (λ values. values.items ≡ replicate 1024 value) }
 {
-    let mut values = Vec::with_capacity(alloc, PAGES)?;
-    while values.len() < PAGES {
+    let mut values = Vec::with_capacity(alloc, PAGES as usize)?;
+    while values.len() < PAGES as usize {
         values.push(value)?;
     }
     Ok(values)
@@ -360,8 +357,8 @@ fn repeated<X: Copy>(alloc: Global, value: X) -> Result<Vec<X>, Memory>
 fn nothing<I: Drop>(alloc: Global) -> Result<Vec<Option<I>>, Memory>
     ensures { IfOk result (λ values. values.items ≡ replicate 1024 None) }
 {
-    let mut values = Vec::with_capacity(alloc, PAGES)?;
-    while values.len() < PAGES {
+    let mut values = Vec::with_capacity(alloc, PAGES as usize)?;
+    while values.len() < PAGES as usize {
         values.push(None)?;
     }
     Ok(values)

@@ -13,8 +13,9 @@ use Rattle.sd_base.specs.Ids.{same_txn, same_rid}
 use Rattle.sd_base.specs.Waits.{Wait, Clash}
 use Rattle.sd_reclock.specs.Locks.{Held, held_in, raised, Agree, StandsIn, IsLowestHolder}
 use Rattle.sd_reclock.specs.Indexing.{Index, names, rids_of, IsIndexed}
-use Rattle.sd_reclock.proofs.Orders.{cases_rid, cases_txn, same-rid, same-txn, apart-rid, apart-txn, same_rid-sym}
 use Rattle.sd_reclock.proofs.Writes.{Changes, PutsTxn, and-false}
+use Rattle.sd_base.proofs.SameIds.{cases_rid, cases_txn, ne-same_rid, ne-same}
+use Rattle.sd_base.proofs.Orders.{same-rid, same-txn, same_rid-sym}
 
 pub clash-sym : (m n : Mode) → Clash m n → Clash n m
 clash-sym modes.Shared modes.Shared c = c
@@ -32,10 +33,10 @@ elsewhere : (old new : Held) (t : TxnId) (r : Rid) (x : Option Mode) → Changes
 elsewhere old new t r x changed u q apart = changed u q ∙ cond-false (same_txn t u && same_rid r q) x (held_in old u q) apart
 
 other_rid : (t u : TxnId) (r q : Rid) → r ≢ q → (same_txn t u && same_rid r q) ≡ false
-other_rid t u r q ne = ap (λ (b : Bool). same_txn t u && b) (apart-rid r q ne) ∙ and-false (same_txn t u)
+other_rid t u r q ne = ap (λ (b : Bool). same_txn t u && b) (ne-same_rid r q ne) ∙ and-false (same_txn t u)
 
 other_txn : (t u : TxnId) (r q : Rid) → t ≢ u → (same_txn t u && same_rid r q) ≡ false
-other_txn t u r q ne = ap (λ (b : Bool). b && same_rid r q) (apart-txn t u ne)
+other_txn t u r q ne = ap (λ (b : Bool). b && same_rid r q) (ne-same t u ne)
 
 pub here : (old new : Held) (t : TxnId) (r : Rid) (x : Option Mode) → Changes old new t r x → held_in new t r ≡ x
 here old new t r x changed = changed t r ∙ cond-true (same_txn t t && same_rid r r) x (held_in old t r) (ap (λ (b : Bool). b && same_rid r r) (same-txn t) ∙ same-rid r)
@@ -130,8 +131,8 @@ pub frees : (old new : Held) (index : Index) (t : TxnId) (rids : List Rid) → I
     → ((u : TxnId) (q : Rid) → held_in new u q ≡ cond {A = Option Mode} (same_txn t u && list_any (same_rid q) rids) None (held_in old u q)) → Frees old new t
 frees old new index t rids indexed named each u q = ⊎_elim
     (λ e. subst (λ (z : TxnId). held_in new z q ≡ cond {A = Option Mode} (same_txn t z) None (held_in old z q)) e (own ∙ sym (cond-true (same_txn t t) None (held_in old t q) (same-txn t))))
-    (λ ne. each u q ∙ ap (λ (b : Bool). cond {A = Option Mode} (b && list_any (same_rid q) rids) None (held_in old u q)) (apart-txn t u ne)
-    ∙ sym (ap (λ (b : Bool). cond {A = Option Mode} b None (held_in old u q)) (apart-txn t u ne)))
+    (λ ne. each u q ∙ ap (λ (b : Bool). cond {A = Option Mode} (b && list_any (same_rid q) rids) None (held_in old u q)) (ne-same t u ne)
+    ∙ sym (ap (λ (b : Bool). cond {A = Option Mode} b None (held_in old u q)) (ne-same t u ne)))
     (cases_txn t u)
   where
     own : held_in new t q ≡ None
@@ -145,14 +146,14 @@ frees old new index t rids indexed named each u q = ⊎_elim
 pub frees_nothing : (old : Held) (index : Index) (t : TxnId) → IsIndexed old index → ((q : Rid) → names index t q ≡ false) → Frees old old t
 frees_nothing old index t indexed named u q = ⊎_elim
     (λ e. subst (λ (z : TxnId). held_in old z q ≡ cond {A = Option Mode} (same_txn t z) None (held_in old z q)) e (indexed t q (named q) ∙ sym (cond-true (same_txn t t) None (held_in old t q) (same-txn t))))
-    (λ ne. sym (cond-false (same_txn t u) None (held_in old u q) (apart-txn t u ne)))
+    (λ ne. sym (cond-false (same_txn t u) None (held_in old u q) (ne-same t u ne)))
     (cases_txn t u)
 
 pub indexed_freed : (old new : Held) (index rest : Index) (t : TxnId) → IsIndexed old index → Frees old new t → PutsTxn index rest t None → IsIndexed new rest
 indexed_freed old new index rest t indexed freed out u q h = ⊎_elim
     (λ e. freed u q ∙ cond-true (same_txn t u) None (held_in old u q) (subst (λ (z : TxnId). same_txn t z ≡ true) e (same-txn t)))
-    (λ ne. freed u q ∙ cond-false (same_txn t u) None (held_in old u q) (apart-txn t u ne)
-    ∙ indexed u q (ap (λ (o : Option (Vec Rid)). list_any (same_rid q) (rids_of o)) (sym (out u ∙ cond-false (same_txn t u) None (lookup (same_txn u) index) (apart-txn t u ne))) ∙ h))
+    (λ ne. freed u q ∙ cond-false (same_txn t u) None (held_in old u q) (ne-same t u ne)
+    ∙ indexed u q (ap (λ (o : Option (Vec Rid)). list_any (same_rid q) (rids_of o)) (sym (out u ∙ cond-false (same_txn t u) None (lookup (same_txn u) index) (ne-same t u ne))) ∙ h))
     (cases_txn t u)
 
 fewer_by : (b : Bool) (x y : Option Mode) (m : Mode) → x ≡ cond {A = Option Mode} b None y → x ≡ Some m → y ≡ Some m

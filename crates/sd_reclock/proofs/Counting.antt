@@ -3,7 +3,7 @@ use Rattle.std.proofs.Common.{◌≡◌, ◌≢◌, ℕ, zero, suc, ◌<◌, ◌
 use Rattle.std.proofs.lemmas.List.Sums.{sum_by-cons}
 use Rattle.std.specs.List.{Contains}
 use Rattle.sd_base.specs.declared.ids.TxnId.{TxnId}
-use Rattle.sd_reclock.proofs.Orders.{cases_txn}
+use Rattle.sd_base.proofs.SameIds.{cases_txn}
 
 one_less : (a b : Bool) → a ≡ true → b ≡ false → suc (cond b 1 0) ≤ cond a 1 0
 one_less a b e f = rw (e, f) (omega arith)

@@ -1,4 +1,3 @@
-pub mod Orders
 pub mod Lowest
 pub mod Writes
 pub mod Agreeing

@@ -9,9 +9,9 @@ use Rattle.sd_base.specs.declared.place.Mode.TheVariants as modes
 use Rattle.sd_base.specs.Ids.{same_txn, same_rid}
 use Rattle.sd_base.specs.Waits.{Clash}
 use Rattle.sd_reclock.specs.Locks.{Held, Modes, held_in, mode_of, Agree, IsNoStronger}
-use Rattle.sd_reclock.proofs.Orders.{same-txn-is, same-rid-is}
 use Rattle.sd_reclock.proofs.Writes.{Changes}
 use Rattle.sd_reclock.proofs.Agreeing.{clash-sym}
+use Rattle.sd_base.proofs.Orders.{same-txn-is, same-rid-is}
 
 -- who has no lock gets none
 pub none_lowered : (to had : Option Mode) → IsNoStronger to had → had ≡ None → to ≡ None

@@ -10,7 +10,7 @@ use Rattle.sd_base.specs.declared.ids.TxnId.{TxnId}
 use Rattle.sd_base.specs.declared.place.Mode.{Mode}
 use Rattle.sd_base.specs.Ids.{IsBelow}
 use Rattle.sd_reclock.specs.Locks.{mode_of, IsLowestHolder}
-use Rattle.sd_reclock.proofs.Orders.{txn_cmp, look-txn, below_from_cmp, cmp_from_below, not_below, not_below_itself, below_trans, below_or_above}
+use Rattle.sd_base.proofs.Orders.{txn_cmp, look-txn, below_from_cmp, cmp_from_below, not_below, not_below_itself, below_trans, below_or_above}
 
 abbrev pub Map : Type 0
 Map = BTreeMap TxnId Mode

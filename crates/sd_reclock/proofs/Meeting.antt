@@ -18,9 +18,10 @@ use Rattle.sd_reclock.specs.declared.wait.Asked.{Asked}
 use Rattle.sd_reclock.specs.Locks.{wait_of}
 use Rattle.sd_reclock.specs.Reaching.{met_at, AreNext, IsMet, IsReached}
 use Rattle.sd_reclock.specs.Searching.{has_seen, steps_of, unseen, waits_of, IsWaiting}
-use Rattle.sd_reclock.proofs.Orders.{txn_cmp, txn_is_eq, same-txn-is, apart-txn}
 use Rattle.sd_reclock.proofs.Reached.{txn_at, more, reached_more, reached_past}
 use Rattle.sd_reclock.proofs.Counting.{fewer}
+use Rattle.sd_base.proofs.Orders.{txn_cmp, txn_is_eq, same-txn-is}
+use Rattle.sd_base.proofs.SameIds.{ne-same}
 
 mapped : (o : Option Asked) (w : Wait) → option_map wait_of o ≡ Some w → IsSome o
 mapped None w e = absurd (cc)
@@ -29,7 +30,7 @@ mapped (Some x) w e = refl
 -- whoever makes a step waits, or asks
 pub goes : {L : Type 0} (stands : L → Obstacles) (asked : Asking L) (t u : TxnId) → steps_of stands asked t u → t ≢ asked.asker → IsWaiting asked t
 goes stands asked t u step apart = mapped (lookup (same_txn t) asked.waits.now.entries) step.0
-    (sym (cond-false (same_txn asked.asker t) (Some (wait_of asked.wait)) (waits_of asked t) (apart-txn asked.asker t (λ e. apart (sym e)))) ∙ step.1)
+    (sym (cond-false (same_txn asked.asker t) (Some (wait_of asked.wait)) (waits_of asked t) (ne-same asked.asker t (λ e. apart (sym e)))) ∙ step.1)
 
 -- the set's own look-up
 pub look-seen : (u : TxnId) (seen : BTreeSet TxnId) → contains txn_cmp seen u ≡ has_seen seen u
@@ -50,7 +51,7 @@ pub added : (u : TxnId) (old new : BTreeSet TxnId) → not (contains txn_cmp old
 added u old new is now others = record {
   was = sym (look-seen u old) ∙ not_false (contains txn_cmp old u) is;
   sees = sym (look-seen u new) ∙ now;
-  others = λ x ne. sym (look-seen x new) ∙ others x (txn_is_eq u x ∙ apart-txn u x ne) ∙ look-seen x old;
+  others = λ x ne. sym (look-seen x new) ∙ others x (txn_is_eq u x ∙ ne-same u x ne) ∙ look-seen x old;
 }
 
 module _ {L : Type 0} (stands : L → Obstacles) (asked : Asking L) (found first : List Met) (seen : BTreeSet TxnId) (at i : ℕ) (next : List TxnId) (u : TxnId)

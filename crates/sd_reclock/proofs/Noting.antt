@@ -9,8 +9,8 @@ use Rattle.sd_base.specs.Ids.{same_txn}
 use Rattle.sd_base.specs.Waits.{Wait, with_wait}
 use Rattle.sd_reclock.specs.declared.wait.Asked.{Asked}
 use Rattle.sd_reclock.specs.Locks.{wait_of, waits_in}
-use Rattle.sd_reclock.proofs.Orders.{same-txn-is}
 use Rattle.sd_reclock.proofs.Writes.{PutsTxn}
+use Rattle.sd_base.proofs.Orders.{same-txn-is}
 
 pub map-cond : (b : Bool) (x y : Option Asked) → option_map wait_of (cond b x y) ≡ cond {A = Option Wait} b (option_map wait_of x) (option_map wait_of y)
 map-cond true x y = refl

@@ -8,7 +8,8 @@ use Rattle.sd_base.specs.declared.place.Mode.TheVariants as modes
 use Rattle.sd_base.specs.Ids.{same_txn, IsBelow}
 use Rattle.sd_reclock.specs.Locks.{Modes, mode_of, AgreeAmong, IsOwner}
 use Rattle.sd_reclock.specs.Owning.{IsLow, IsLowerOf}
-use Rattle.sd_reclock.proofs.Orders.{cases_txn, same-txn, below_or_above, below_trans}
+use Rattle.sd_base.proofs.SameIds.{cases_txn}
+use Rattle.sd_base.proofs.Orders.{same-txn, below_or_above, below_trans}
 
 abbrev pub Row : Type 0
 Row = TxnId × Mode

@@ -21,9 +21,9 @@ use Rattle.sd_base.specs.declared.place.Mode.TheVariants as modes
 use Rattle.sd_base.specs.Ids.{same_rid, IsBelow}
 use Rattle.sd_reclock.specs.Locks.{Held, Modes, mode_of, mode_among, held_in, Agree, AgreeAmong, OwnsIn, IsLowestOwner, IsOwner}
 use Rattle.sd_reclock.specs.Owning.{IsLow, IsLowerOf}
-use Rattle.sd_reclock.proofs.Orders.{rid_cmp, look-rid, same-rid-is, not_below_itself}
 use Rattle.sd_reclock.proofs.Walks.{at_some}
 use Rattle.sd_reclock.proofs.Owners.{low_both}
+use Rattle.sd_base.proofs.Orders.{rid_cmp, look-rid, same-rid-is, not_below_itself}
 
 abbrev pub Entry : Type 0
 Entry = Rid × Modes

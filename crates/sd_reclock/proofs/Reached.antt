@@ -8,8 +8,9 @@ use Rattle.sd_base.specs.declared.ids.TxnId.{TxnId}
 use Rattle.sd_base.specs.Ids.{IsBelow}
 use Rattle.sd_reclock.specs.declared.search.Met.{Met}
 use Rattle.sd_reclock.specs.Reaching.{Steps, AreThose, IsBack, IsMet, IsReached, IsWay, Precedes, met_at}
-use Rattle.sd_reclock.proofs.Orders.{cases_txn, below_or_above}
 use Rattle.sd_reclock.proofs.Walks.{precedes_trans, precedes_length, precedes_more, precedes_below, precedes_less}
+use Rattle.sd_base.proofs.SameIds.{cases_txn}
+use Rattle.sd_base.proofs.Orders.{below_or_above}
 
 -- the asker alone is met
 abbrev pub first_met : TxnId → List Met

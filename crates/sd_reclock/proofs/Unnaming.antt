@@ -11,10 +11,11 @@ use Rattle.sd_base.specs.declared.place.Mode.{Mode}
 use Rattle.sd_base.specs.Ids.{same_txn, same_rid}
 use Rattle.sd_reclock.specs.Locks.{Held, held_in, IsNoStronger}
 use Rattle.sd_reclock.specs.Indexing.{Index, names, rids_of, IsIndexed}
-use Rattle.sd_reclock.proofs.Orders.{cases_txn, same-txn, apart-txn, same-rid-is}
 use Rattle.sd_reclock.proofs.Writes.{PutsTxn, Changes}
 use Rattle.sd_reclock.proofs.Agreeing.{here}
 use Rattle.sd_reclock.proofs.Lowering.{none_after}
+use Rattle.sd_base.proofs.SameIds.{cases_txn, ne-same}
+use Rattle.sd_base.proofs.Orders.{same-txn, same-rid-is}
 
 or-false : (b : Bool) → (b || false) ≡ b
 or-false true = refl
@@ -32,7 +33,7 @@ unnamed_kept old new t r to w none puts is u q h = ⊎_elim
     (ap (λ (rids : List Rid). list_any (same_rid q) rids) is ∙ list_any-append (same_rid q) w.items (r ∷ [])
     ∙ ap (λ (b : Bool). list_any (same_rid q) w.items || (b || false)) other ∙ or-false (list_any (same_rid q) w.items) ∙ sym now ∙ subst (λ (z : TxnId). names new z q ≡ false) (sym e) h)))
     (cases_Bool (same_rid q r)))
-    (λ ne. inl (sym (ap (λ (o : Option (Vec Rid)). list_any (same_rid q) (rids_of o)) (puts u ∙ cond-false (same_txn t u) (Some w) (lookup (same_txn u) old) (apart-txn t u ne))) ∙ h))
+    (λ ne. inl (sym (ap (λ (o : Option (Vec Rid)). list_any (same_rid q) (rids_of o)) (puts u ∙ cond-false (same_txn t u) (Some w) (lookup (same_txn u) old) (ne-same t u ne))) ∙ h))
     (cases_txn t u)
 
 -- the index still names what is held

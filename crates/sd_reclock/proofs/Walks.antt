@@ -7,7 +7,7 @@ use Rattle.sd_base.specs.declared.ids.TxnId.{TxnId}
 use Rattle.sd_base.specs.Ids.{IsBelow}
 use Rattle.sd_base.specs.Waits.{Wait, Waits, WaitsFor, Obstacles, ComesBefore, EndsWith, IsChain, IsCycle, IsDeadlock, asking}
 use Rattle.sd_reclock.specs.Reaching.{Steps, IsBack, IsEarlier, Precedes}
-use Rattle.sd_reclock.proofs.Orders.{not_below_itself, below_trans}
+use Rattle.sd_base.proofs.Orders.{not_below_itself, below_trans}
 
 earlier_trans : (a b c : List TxnId) → IsEarlier a b → IsEarlier b c → IsEarlier a c
 earlier_trans [] b c h k = absurd h

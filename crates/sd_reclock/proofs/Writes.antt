@@ -12,7 +12,8 @@ use Rattle.sd_base.specs.declared.place.Mode.{Mode}
 use Rattle.sd_base.specs.Ids.{same_txn, same_rid}
 use Rattle.sd_reclock.specs.Locks.{Held, Modes, held_in, mode_among}
 use Rattle.sd_reclock.specs.Indexing.{Index, names, rids_of}
-use Rattle.sd_reclock.proofs.Orders.{cases_rid, cases_txn, same-rid, same-txn, apart-rid, apart-txn, same-txn-is, same-rid-is}
+use Rattle.sd_base.proofs.SameIds.{cases_rid, cases_txn, ne-same_rid, ne-same}
+use Rattle.sd_base.proofs.Orders.{same-rid, same-txn, same-txn-is, same-rid-is}
 
 pub and-true : (b : Bool) → (b && true) ≡ b
 and-true true = refl
@@ -46,8 +47,8 @@ changes old new t r w x puts modes u q = ⊎_elim
     (λ e. subst (λ (z : Rid). held_in new u z ≡ cond {A = Option Mode} (same_txn t u && same_rid r z) x (held_in old u z)) e
     (ap (λ (o : Option Modes). mode_among o u) (puts r ∙ cond-true (same_rid r r) w (lookup (same_rid r) old) (same-rid r)) ∙ modes u
     ∙ ap (λ (b : Bool). cond {A = Option Mode} b x (held_in old u r)) (sym (ap (λ (b : Bool). same_txn t u && b) (same-rid r) ∙ and-true (same_txn t u)))))
-    (λ ne. ap (λ (o : Option Modes). mode_among o u) (puts q ∙ cond-false (same_rid r q) w (lookup (same_rid q) old) (apart-rid r q ne))
-    ∙ sym (ap (λ (b : Bool). cond {A = Option Mode} b x (held_in old u q)) (ap (λ (b : Bool). same_txn t u && b) (apart-rid r q ne) ∙ and-false (same_txn t u))))
+    (λ ne. ap (λ (o : Option Modes). mode_among o u) (puts q ∙ cond-false (same_rid r q) w (lookup (same_rid q) old) (ne-same_rid r q ne))
+    ∙ sym (ap (λ (b : Bool). cond {A = Option Mode} b x (held_in old u q)) (ap (λ (b : Bool). same_txn t u && b) (ne-same_rid r q ne) ∙ and-false (same_txn t u))))
     (cases_rid r q)
 
 -- where nobody holds r, taking t's lock away changes nothing
@@ -60,7 +61,7 @@ changes_nothing old t r none u q = ⊎_elim
     gone : (same_txn t u && same_rid r q) ≡ true → held_in old u q ≡ None
     gone h = ⊎_elim
         (λ e. subst (λ (z : Rid). held_in old u z ≡ None) e (ap (λ (o : Option Modes). mode_among o u) none))
-        (λ ne. absurd (cc (apart-rid r q ne, and-false (same_txn t u))))
+        (λ ne. absurd (cc (ne-same_rid r q ne, and-false (same_txn t u))))
         (cases_rid r q)
 
 -- a record that is written and then taken out
@@ -79,8 +80,8 @@ gains old new t r w puts is u q = ⊎_elim
     (ap (λ (o : Option (Vec Rid)). list_any (same_rid q) (rids_of o)) (puts t ∙ cond-true (same_txn t t) (Some w) (lookup (same_txn t) old) (same-txn t))
     ∙ ap (λ (rids : List Rid). list_any (same_rid q) rids) is ∙ list_any-append (same_rid q) (rids_of (lookup (same_txn t) old)) (r ∷ [])
     ∙ ap (λ (b : Bool). names old t q || b) (or-false (same_rid q r) ∙ sym (ap (λ (b : Bool). b && same_rid q r) (same-txn t)))))
-    (λ ne. ap (λ (o : Option (Vec Rid)). list_any (same_rid q) (rids_of o)) (puts u ∙ cond-false (same_txn t u) (Some w) (lookup (same_txn u) old) (apart-txn t u ne))
-    ∙ sym (ap (λ (b : Bool). names old u q || (b && same_rid q r)) (apart-txn t u ne) ∙ or-false (names old u q)))
+    (λ ne. ap (λ (o : Option (Vec Rid)). list_any (same_rid q) (rids_of o)) (puts u ∙ cond-false (same_txn t u) (Some w) (lookup (same_txn u) old) (ne-same t u ne))
+    ∙ sym (ap (λ (b : Bool). names old u q || (b && same_rid q r)) (ne-same t u ne) ∙ or-false (names old u q)))
     (cases_txn t u)
 
 -- the records of one transaction stay
@@ -90,20 +91,12 @@ stay old new t w puts is u q = ⊎_elim
     (λ e. subst (λ (z : TxnId). names new z q ≡ names old z q) e
     (ap (λ (o : Option (Vec Rid)). list_any (same_rid q) (rids_of o)) (puts t ∙ cond-true (same_txn t t) (Some w) (lookup (same_txn t) old) (same-txn t))
     ∙ ap (λ (rids : List Rid). list_any (same_rid q) rids) is))
-    (λ ne. ap (λ (o : Option (Vec Rid)). list_any (same_rid q) (rids_of o)) (puts u ∙ cond-false (same_txn t u) (Some w) (lookup (same_txn u) old) (apart-txn t u ne)))
+    (λ ne. ap (λ (o : Option (Vec Rid)). list_any (same_rid q) (rids_of o)) (puts u ∙ cond-false (same_txn t u) (Some w) (lookup (same_txn u) old) (ne-same t u ne)))
     (cases_txn t u)
 
 pub on_err : {T E : Type 0} (r : Result T E) (P : Type 0) → P → OnErr r P
 on_err (Ok x) P p = tt
 on_err (Err e) P p = p
-
-pub on_ok : {T E : Type 0} (r : Result T E) (P Q : Type 0) → (P → Q) → OnOk r P → OnOk r Q
-on_ok (Ok x) P Q f p = f p
-on_ok (Err e) P Q f p = tt
-
-pub on_err_too : {T E : Type 0} (r : Result T E) (P Q : Type 0) → (P → Q) → OnErr r P → OnErr r Q
-on_err_too (Ok x) P Q f p = tt
-on_err_too (Err e) P Q f p = f p
 
 -- the two outcomes of a result
 pub by_outcome : {T E : Type 0} (r : Result T E) (P Q X : Type 0) → OnOk r P → OnErr r Q → (P → X) → (Q → X) → X

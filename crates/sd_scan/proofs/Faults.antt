@@ -107,7 +107,3 @@ broken_fails inst bytes chosen m ps fault e dev at h first b there x is =
 
 pub err_same : {T E : Type 0} (x y : E) → ◌≡◌ {A = Result T E} (Err x) (Err y) → x ≡ y
 err_same x y e = cc
-
--- the refusal that comes is that of the call
-pub came : {T : Type 0} (r : Result T Refusal) (y e : Refusal) (dev at : ℕ) → r ≡ Err y → y ≡ e → r ≡ Err (R.Damaged dev at) → e ≡ R.Damaged dev at
-came r y e dev at a b is = cc

@@ -17,6 +17,7 @@ use crate::master::{Master, read_master};
 use sd_base::{InstNo, Refusal};
 use sd_log::{Area, Log, Placed};
 use sd_logrec::{AREA, AREA_LEN, MASTER_BODY};
+use sd_rig::LOG_LEN;
 use std::alloc::Global;
 
 /// A log device as it was read: its groups, and the master that counts, if any does.
@@ -34,7 +35,7 @@ pub struct Scanned {
 /// format; else that of the first record that may not follow those before it, or, where all in front of it do, of the
 /// group's gate or the record that breaks the format.
 pub fn scan(alloc: Global, device: &[u8], inst: InstNo) -> Result<Scanned, Refusal>
-    requires { length device.now ≡ 2097282 }
+    requires { length device.now ≡ LOG_LEN }
     ensures master { OnOk result (MasterIsSound device.now) }
     ensures groups { OnOk result (GroupsAreSound inst device.now) }
     ensures kept { IfOk result (λ s. kept device.now ≡ Whole s.log.groups s.log.gate) }

@@ -11,13 +11,14 @@ use Rattle.sd_chain.specs.Bytes.{page_in, twin_at}
 use Rattle.sd_chain.specs.Checks.{TwinIsSound, is_end_check, owed}
 use Rattle.sd_chain.specs.Images.{Keeps}
 use Rattle.sd_chain.specs.Records.{Each}
-use Rattle.sd_chain.proofs.Devices.{open_within}
 use Rattle.sd_sound.specs.Logs.{IsBlank, Outcomes, kept_logs, new_log, owed_with, records_at, tails_of}
 use Rattle.sd_sound.specs.Soundly.{HasLsns, IsReady}
 use Rattle.sd_sound.specs.Laws.{BlankIsSound}
 use Rattle.sd_sound.proofs.Sums.{sum-eight}
 use Rattle.sd_sound.proofs.Follows.{not-both}
 use Rattle.sd_sound.proofs.Ready.{bare-ready}
+use Rattle.sd_base.proofs.Twins.{open_within}
+use Rattle.sd_logrec.proofs.Groups.{shut}
 
 -- zeros
 pub zeros-blank : (n : ℕ) → IsBlank (replicate n 0)
@@ -41,14 +42,9 @@ master_blank : (bytes : List ℕ) → IsBlank bytes → master bytes ≡ master_
 unfolding master
 master_blank bytes b = ap master_of (body_blank 0 64 bytes b)
 
-none_within : (n at : ℕ) (bytes : List ℕ) → is_open 0 bytes ≡ false → groups_within n at bytes ≡ Whole [] at
-unfolding groups_within
-none_within zero at bytes e = refl
-none_within (suc n) at bytes e = rw e refl
-
 reads_blank : (bytes : List ℕ) → IsBlank bytes → reading 0 (area bytes) ≡ Whole [] 0
 unfolding reading area
-reads_blank bytes b = none_within (length (take 1048576 (drop 130 bytes))) 0 (take 1048576 (drop 130 bytes))
+reads_blank bytes b = shut (length (take 1048576 (drop 130 bytes))) 0 (take 1048576 (drop 130 bytes))
     (open_within 130 1048576 0 bytes (omega arith) ∙ b 130)
 
 -- a new log is ready on a blank device

@@ -7,6 +7,7 @@ use Rattle.sd_logrec.specs.declared.record.Record.TheVariants as records
 use Rattle.sd_logrec.specs.Kept.{Master}
 use Rattle.sd_chain.specs.Checks.{Follow, IsKnownStart, MayCome, Past, StartFits, after_record, is_end_check, lsn_of, starts_by}
 use Rattle.sd_sound.specs.Logs.{after_records, is_start}
+use Rattle.sd_chain.proofs.Pasts.{lsn_after}
 
 -- no test is passed and failed
 pub not-both : (b : Bool) → b ≡ true → b ≡ false → ⊥
@@ -49,16 +50,6 @@ follow-push inst chosen m past (x ∷ xs) y f low come fits =
 
 -- ---- what the records say, from the last one on
 
--- the greatest LSN is that of the last record
-pub lsn-after : (past : Past) (r : Record) → (after_record past r).lsn ≡ lsn_of r
-lsn-after past (records.Start l epoch) = refl
-lsn-after past (records.Update l txn prev page slot capacity before after) = refl
-lsn-after past (records.Clr l txn prev undo_next page slot after) = refl
-lsn-after past (records.Commit l txn prev) = refl
-lsn-after past (records.End l txn prev) = refl
-lsn-after past (records.BeginCheck l) = refl
-lsn-after past (records.EndCheck l begin spans recs) = refl
-
 -- what more records say, behind others
 pub after-append : (past : Past) (xs ys : List Record)
     → after_records past (xs ++ ys) ≡ after_records (after_records past xs) ys
@@ -80,7 +71,7 @@ pub lsn-rises : (inst : ℕ) (chosen : Bool) (m : Master) (past : Past) (xs : Li
     → past.lsn ≤ (after_records past xs).lsn
 lsn-rises inst chosen m past [] f = omega arith
 lsn-rises inst chosen m past (x ∷ xs) f =
-    let ih = lsn-rises inst chosen m (after_record past x) xs f.3 in let lt = f.0 in omega (arith, ih, lt, lsn-after past x)
+    let ih = lsn-rises inst chosen m (after_record past x) xs f.3 in let lt = f.0 in omega (arith, ih, lt, lsn_after past x)
 
 check_lsn : (lsn : ℕ) (r : Record) → is_end_check lsn r ≡ true → lsn_of r ≡ lsn
 check_lsn lsn (records.Start l epoch) e = absurd (cc)
@@ -103,7 +94,7 @@ check-below inst chosen m past (x ∷ xs) lsn f e =
         → (list_any (is_end_check lsn) xs ≡ true → lsn ≤ (after_records past (x ∷ xs)).lsn)
         → (b || list_any (is_end_check lsn) xs) ≡ true → lsn ≤ (after_records past (x ∷ xs)).lsn
     by true is ih h = let here = check_lsn lsn x is in let up = lsn-rises inst chosen m (after_record past x) xs f.3 in
-        omega (arith, here, up, lsn-after past x)
+        omega (arith, here, up, lsn_after past x)
     by false is ih h = ih h
 
 -- A Start of the next epoch may be appended: the checkpoint stands before it.

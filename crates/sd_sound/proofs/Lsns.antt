@@ -31,7 +31,7 @@ use Rattle.sd_sound.specs.Soundly.{HasLsns, LsnsFit}
 use Rattle.sd_sound.specs.Laws.{NewestHasLsns, NextLsnIsThere}
 use Rattle.sd_sound.proofs.Sums.{sum-one}
 use Rattle.sd_sound.proofs.Kept.{flat-records, forced-records}
-use Rattle.sd_sound.proofs.Follows.{lsn-after}
+use Rattle.sd_chain.proofs.Pasts.{lsn_after}
 
 -- ---- the last LSN of a log, tail and all
 
@@ -64,7 +64,7 @@ scanned-records l =
 
 last_of : (past : Past) (p : Placed) (ps : List Placed)
     → (after_records past (map (λ q. q.rec) (p ∷ ps))).lsn ≡ option_map_or log_specs.lsn_of (slice_get (p ∷ ps) (length ps)) 0
-last_of past p [] = lsn-after past p.rec
+last_of past p [] = lsn_after past p.rec
 last_of past p (q ∷ ps) = last_of (after_record past p.rec) q ps
 
 last_placed : (past : Past) (ps : List Placed) → past.lsn ≡ 0 → (after_records past (map (λ q. q.rec) ps)).lsn ≡ last_lsn ps
@@ -85,7 +85,7 @@ scanned_flats (p ∷ ps) = ap (λ (l : List Rec). flat p.rec ∷ l) (scanned_fla
 after_each : (P : ℕ → Type 0) (past : Past) (rs : List Record) → P past.lsn → Each (λ x. P x.lsn) (map flat rs)
     → P (after_records past rs).lsn
 after_each P past [] p a = p
-after_each P past (r ∷ rs) p a = after_each P (after_record past r) rs (subst P (sym (lsn-after past r)) a.0) a.1
+after_each P past (r ∷ rs) p a = after_each P (after_record past r) rs (subst P (sym (lsn_after past r)) a.0) a.1
 
 -- and seen flat
 pub log-records : (l : LogState) → map flat (records_at (forced l)) ≡ all_at l

@@ -8,17 +8,17 @@ use Rattle.sd_base.specs.declared.ids.TxnId.{TxnId}
 use Rattle.sd_base.specs.Ids.{same_txn}
 use Rattle.sd_logrec.specs.View.{Rec, Kind}
 use Rattle.sd_logrec.specs.View.Kind.{Update, Clr, Commit, End, Plain}
-use Rattle.sd_page.specs.Page.{size}
+use Rattle.sd_base.specs.Values.{size}
 use Rattle.sd_chain.specs.Records.{Each, IsOpen, ends, moved, stack, rest}
 use Rattle.sd_chain.specs.Order.{Sofar, none_yet, of_txn, speaks}
 use Rattle.sd_chain.specs.Undoing.{Member, Apart}
 use Rattle.sd_chain.specs.Checks.{open_in}
 use Rattle.sd_chain.proofs.Lists.{Each-append, Each-front, Each-back}
-use Rattle.sd_chain.proofs.Txns.{cases_txn, eq-same, ne-same}
 use Rattle.sd_chain.proofs.Stacks.{stack-push, step-other, step-own}
-use Rattle.sd_chain.proofs.Whose.{after_all-none, open_ones-is, other_of, own_of, silent_of}
+use Rattle.sd_chain.proofs.Whose.{after_all-none, open_ones-is, other_of, own_of, silent_of, stack-none}
 use Rattle.sd_chain.proofs.Members.{member-kept, kept-member, apart-kept, sums-agree, apart-open_in, open_in-is, is-open_in}
 use Rattle.sd_sound.specs.Laws.{ChangeOwes, EndOwes, FirstChangeOwes, IdleEndOwes, PlainOwes, UndoOwes}
+use Rattle.sd_base.proofs.SameIds.{cases_txn, eq-same, ne-same}
 
 or_left : (a b : Bool) → a ≡ true → (a || b) ≡ true
 or_left true b e = refl
@@ -51,11 +51,6 @@ ends-speaks Clr e = refl
 ends-speaks Commit e = refl
 ends-speaks End e = refl
 ends-speaks Plain e = e
-
--- a transaction without a record has an empty stack
-pub stack-none : (t : TxnId) (log : List Rec) → list_any (of_txn t) log ≡ false → stack t log ≡ []
-stack-none t log none = sym (open_ones-is t none_yet log)
-    ∙ ap (λ (q : Sofar). q.open_ones) (after_all-none t none_yet log none)
 
 -- and one with something open has a record
 pub stack-there : (t : TxnId) (log below : List Rec) (top : Rec) → stack t log ≡ top ∷ below → list_any (of_txn t) log ≡ true

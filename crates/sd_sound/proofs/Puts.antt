@@ -11,11 +11,12 @@ use Rattle.sd_twin.specs.Puts.{IsFrom, Puts}
 use Rattle.sd_chain.specs.Bytes.{disk_page, page_in, twin_at}
 use Rattle.sd_chain.specs.Checks.{DevicesAreSound, IsPageSlot, TwinIsSound}
 use Rattle.sd_chain.specs.Images.{IsSafe, Keeps, or_written}
-use Rattle.sd_chain.proofs.Devices.{body_within, chosen_same, open_within, part_before, part_behind}
+use Rattle.sd_chain.proofs.Devices.{chosen_same, part_before, part_behind}
 use Rattle.sd_sound.specs.Logs.{LessElsewhere, Logs, Outcomes, base_at, may_of, owed_with, tails_of}
 use Rattle.sd_sound.specs.Soundly.{IsSoundly, LsnsFit}
 use Rattle.sd_sound.specs.Laws.{HasLsnsAbove, IsPut, PutKeeps}
 use Rattle.sd_sound.proofs.Soundly.{ready-sound}
+use Rattle.sd_base.proofs.Twins.{open_within, body_within}
 
 -- both slots hang on the bytes of the twin
 part_slot : (at gate : ℕ) (old new : List ℕ) → gate + 1025 ≤ 2050 → take 2050 (drop at new) ≡ take 2050 (drop at old)

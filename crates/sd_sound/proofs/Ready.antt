@@ -7,12 +7,13 @@ use Rattle.sd_logrec.specs.Kept.{Master, master, Group}
 use Rattle.sd_log.specs.Logs.{LogState, forced, StandsOn}
 use Rattle.sd_chain.specs.Checks.{Follow, IsMaster, is_end_check, past_of}
 use Rattle.sd_chain.specs.Images.{log}
-use Rattle.sd_chain.proofs.Devices.{body_within, open_within, chosen_same, part_before}
+use Rattle.sd_chain.proofs.Devices.{chosen_same, part_before}
 use Rattle.sd_log.specs.Forces.{StandsEither}
 use Rattle.sd_rig.specs.Devices.{AgreesOutside}
 use Rattle.sd_sound.specs.Logs.{records_at}
 use Rattle.sd_sound.specs.Soundly.{IsReady, LogIsSound, SlotsAreSound}
 use Rattle.sd_sound.proofs.Kept.{forced-idle, master-same}
+use Rattle.sd_base.proofs.Twins.{open_within, body_within}
 
 -- the slots of a master hang on the first 130 bytes
 front_slot : (gate : ℕ) (old new : List ℕ) → gate + 65 ≤ 130 → take 130 (drop 0 new) ≡ take 130 (drop 0 old)

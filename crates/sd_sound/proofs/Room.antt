@@ -4,11 +4,10 @@ use Rattle.std.proofs.Common.{◌≡◌, ℕ, ◌+◌, ◌≤◌, true, List, �
 use Rattle.sd_logrec.specs.declared.record.Record.{Record}
 use Rattle.sd_logrec.specs.declared.record.Record.TheVariants as records
 use Rattle.sd_logrec.specs.Spelling.{spelling}
-use Rattle.sd_logrec.specs.Spelling as spelling_specs
 use Rattle.sd_logrec.specs.View.{flat}
 use Rattle.sd_logrec.specs.View.Kind.{Clr}
 use Rattle.sd_logrec.proofs.Lengths.{length-spelling}
-use Rattle.sd_page.specs.Page.{size}
+use Rattle.sd_base.specs.Values.{size}
 use Rattle.sd_log.specs.Logs.{LogState, forced, needed}
 use Rattle.sd_chain.specs.Checks.{reserve, owed}
 use Rattle.sd_chain.specs.Order.{UndoesTop}
@@ -30,7 +29,7 @@ reserved-room j bytes l n less s fits =
     omega (arith, room, gate, same, fits)
 
 -- the bytes of an undo
-pub clr-len : (r : Record) → (flat r).kind ≡ Clr → length (spelling r) ≡ 42 + spelling_specs.size (flat r).after
+pub clr-len : (r : Record) → (flat r).kind ≡ Clr → length (spelling r) ≡ 42 + size (flat r).after
 clr-len (records.Start l epoch) k = absurd (cc)
 clr-len (records.Update l txn prev page slot capacity before after) k = absurd (cc)
 clr-len (records.Clr l txn prev undo_next page slot after) k =

@@ -11,7 +11,7 @@ use Rattle.sd_logrec.specs.declared.record.Record.{Record}
 use Rattle.sd_logrec.specs.Kept.{Group, Whole, master}
 use Rattle.sd_logrec.specs.View.{Rec, Kind, flat}
 use Rattle.sd_logrec.specs.View.Kind.{Update, Clr, Commit, End, Plain}
-use Rattle.sd_page.specs.Page.{size}
+use Rattle.sd_base.specs.Values.{size}
 use Rattle.sd_log.specs.Logs.{LogState}
 use Rattle.sd_rig.specs.Devices as rig
 use Rattle.sd_twin.specs.Puts.{IsFrom, Puts}
@@ -32,9 +32,10 @@ use Rattle.sd_sound.proofs.Sums.{sum-one}
 use Rattle.sd_sound.proofs.Kept.{base-append, grouped, grouped-append, no-tail}
 use Rattle.sd_sound.proofs.Follows.{not-both}
 use Rattle.sd_sound.proofs.Epochs.{epoch-later, follow-later}
-use Rattle.sd_sound.proofs.Owing.{each-of, stack-none, sum-same, total}
+use Rattle.sd_sound.proofs.Owing.{each-of, sum-same, total}
 use Rattle.sd_sound.proofs.Ready.{bare-ready}
 use Rattle.sd_sound.proofs.Changed.{changed-soundly, may-less}
+use Rattle.sd_chain.proofs.Whose.{stack-none}
 
 -- ---- the slots of a master that is put, as each image has them
 

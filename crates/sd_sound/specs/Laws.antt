@@ -11,7 +11,8 @@ use Rattle.sd_logrec.specs.Spelling.{spelling}
 use Rattle.sd_logrec.specs.View.{Rec, flat}
 use Rattle.sd_logrec.specs.View.Kind.{Clr, Plain, Update}
 use Rattle.sd_base.specs.declared.ids.TxnId.{TxnId}
-use Rattle.sd_page.specs.Page.{Fits, Page, size}
+use Rattle.sd_base.specs.Values.{size}
+use Rattle.sd_page.specs.Page.{Fits, Page}
 use Rattle.sd_page.specs.Spelling as page_spelling
 use Rattle.sd_rig.specs.Devices as rig
 use Rattle.sd_rig.specs.Devices.{AgreesOutside, LeavesOnly}

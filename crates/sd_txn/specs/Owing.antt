@@ -1,12 +1,8 @@
 -- What the ends of transactions take of a log: for each open record its undo, and for one with a record its End.
-use Rattle.std.specs.Prelude.{ℕ, ◌+◌, if◌then◌else◌, List, length, sum_by, is_some, Option, None, Some}
+use Rattle.std.specs.Prelude.{ℕ, ◌+◌, if◌then◌else◌, List, length, sum_by, is_some}
+use Rattle.sd_base.specs.Values.{size}
 use Rattle.sd_txn.specs.declared.state.OpenRec.{OpenRec}
 use Rattle.sd_txn.specs.Transactions.{Transaction, Transactions}
-
--- the bytes of a value
-abbrev pub size : Option (List ℕ) → ℕ
-size None = 0
-size (Some bytes) = length bytes
 
 -- the bytes of the undo of an open record: a group's head, a compensation record, and the value before
 abbrev pub undo_len : OpenRec → ℕ

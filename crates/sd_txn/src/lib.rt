@@ -10,7 +10,7 @@
 //! bytes and the records that the ends take, and laws how these move (`laws.rt`).
 //! Refuses: `TooManyTxns` and `LsnEnd` in `begin`, exactly.
 //! Knows nothing of: locks, pages, the log, what a state means.
-//! Stands on: sd_base.
+//! Stands on: sd_base, sd_logrec.
 //!
 //! To change:
 //! - free: bodies, the structures inside

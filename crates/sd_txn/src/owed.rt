@@ -6,25 +6,14 @@ ghost use Rattle.sd_txn.specs.Owing.{undo_len as len_of};
 
 use crate::OpenRec;
 use crate::txn::Txn;
-
-// In front of the body of a group: its gate and its length.
-const GROUP_HEAD: u64 = 5;
-
-// A compensation record without a value.
-const CLR: u64 = 42;
-
-// An End.
-const END: u64 = 26;
+use sd_base::value_len;
+use sd_logrec::{CLR_LEN, END_LEN, GROUP_HEAD};
 
 /// The bytes of the undo of an open record: a group with one compensation record, which has the value before.
 pub(crate) fn undo_len(rec: &OpenRec) -> u64
     ensures { result ≡ len_of rec.now }
 {
-    let value = match &rec.before {
-        Some(before) => before.items().len(),
-        None => 0,
-    };
-    GROUP_HEAD + CLR + value as u64
+    (GROUP_HEAD + CLR_LEN + value_len(&rec.before)) as u64
 }
 
 /// Sums over transactions: the bytes of the undo of their open records, how many records are open, and how many of the
@@ -42,7 +31,7 @@ impl Owed {
         ensures { result ≡ min (31 * self.now.spans + self.now.undo) (2 ^ 64 - 1) }
     {
         self.undo
-            .saturating_add(self.spans.saturating_mul(GROUP_HEAD + END))
+            .saturating_add(self.spans.saturating_mul((GROUP_HEAD + END_LEN) as u64))
     }
 
     /// The records that the ends take.

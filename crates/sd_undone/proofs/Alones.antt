@@ -11,11 +11,12 @@ use Rattle.sd_log.specs.Logs.{LogState, flats, log_in, scanned}
 use Rattle.sd_chain.specs.Records.{Each, at, changes, home, of_rid}
 use Rattle.sd_chain.specs.Image.{Alone, Image, opens}
 use Rattle.sd_undone.specs.Others.{all_in, last_of_others, other_lsn}
-use Rattle.sd_undone.proofs.Finds.{at_is, at_from, filter-cons, filter-skip}
-use Rattle.sd_undone.proofs.Keys.{same_txn-is, same_txn-other, same_txn-own}
 use Rattle.sd_undone.proofs.Lasts.{last-append}
-use Rattle.sd_undone.proofs.Stacks.{Each-stack}
-use Rattle.sd_undone.proofs.Steps.{Each-weaker}
+use Rattle.sd_chain.proofs.Lists.{filter-cons, filter-skip, Each-weaker}
+use Rattle.sd_chain.proofs.Newest.{at_is, at_from}
+use Rattle.sd_base.proofs.Orders.{same-txn-is}
+use Rattle.sd_base.proofs.SameIds.{ne-same, eq-same}
+use Rattle.sd_chain.proofs.Opens.{Each-stack}
 
 -- each of these that is a change of the record by another one is below n
 abbrev pub Below : TxnId → ℕ → ℕ → ℕ → List Rec → Type 0
@@ -24,7 +25,7 @@ Below t p s n zs = Each (λ z. z.txn ≢ t → of_rid p s z ≡ true → z.lsn <
 one-below : (t : TxnId) (p s n : ℕ) (z : Rec) → other_lsn t p s z < n → z.txn ≢ t → of_rid p s z ≡ true → z.lsn < n
 one-below t p s n z lt ne is =
     let e = ap (λ (b : Bool). cond (b && not (same_txn z.txn t)) z.lsn 0) is
-    ∙ ap (λ (b : Bool). cond (not b) z.lsn 0) (same_txn-other z.txn t ne) in
+    ∙ ap (λ (b : Bool). cond (not b) z.lsn 0) (ne-same z.txn t ne) in
     omega (arith, lt, e)
 
 below-one : (t : TxnId) (p s n : ℕ) (z : Rec) → 0 < n → (z.txn ≢ t → of_rid p s z ≡ true → z.lsn < n) → other_lsn t p s z < n
@@ -32,7 +33,7 @@ below-one t p s n z pos h = by (of_rid p s z) (same_txn z.txn t) refl refl
   where
     by : (a b : Bool) → of_rid p s z ≡ a → same_txn z.txn t ≡ b → cond (a && not b) z.lsn 0 < n
     by true true e f = pos
-    by true false e f = h (λ same. let own = same_txn-own z.txn t same in absurd (cc)) e
+    by true false e f = h (λ same. let own = eq-same z.txn t same in absurd (cc)) e
     by false b e f = pos
 
 last-below : (t : TxnId) (p s n : ℕ) (zs : List Rec) → last_of_others t p s zs < n → Below t p s n zs

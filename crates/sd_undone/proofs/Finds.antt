@@ -7,40 +7,12 @@ use Rattle.sd_base.specs.declared.ids.TxnId.{TxnId}
 use Rattle.sd_chain.specs.Records.{Val, at, Each}
 use Rattle.sd_chain.specs.Undoing.{undo_one, undo_all, EachFound, stacks_of, Member}
 use Rattle.sd_chain.specs.Image.{Image, Linked, opens}
-use Rattle.sd_undone.proofs.Keys.{both, cases_txn}
+use Rattle.sd_undone.proofs.Keys.{both}
 use Rattle.sd_undone.proofs.Steps.{found-front, found-back}
-
-pub at_is : (p s : ℕ) (x : Rec) → at p s x ≡ true → (x.page ≡ p) × (x.slot ≡ s)
-at_is p s x e = let h = both (eqb x.page p) (eqb x.slot s) e in (eqb-true x.page p h.0, eqb-true x.slot s h.1)
-
-pub at_from : (p s : ℕ) (x : Rec) → x.page ≡ p → x.slot ≡ s → at p s x ≡ true
-at_from p s x e f = ap (λ (b : Bool). b && eqb x.slot s) (eq-eqb x.page p e) ∙ eq-eqb x.slot s f
-
-pub filter-cons : {A : Type 0} (test : A → Bool) (x : A) (xs : List A) → test x ≡ true → filter test (x ∷ xs) ≡ x ∷ filter test xs
-filter-cons test x xs is = rw is refl
-
-pub filter-skip : {A : Type 0} (test : A → Bool) (x : A) (xs : List A) → test x ≡ false → filter test (x ∷ xs) ≡ filter test xs
-filter-skip test x xs is = rw is refl
-
-undo_one_at : (f : ℕ → ℕ → Val) (x : Rec) (p s : ℕ) → at p s x ≡ true → undo_one f x p s ≡ x.before
-undo_one_at f x p s is = ap (λ (b : Bool). cond b x.before (f p s)) is
-
-undo_one_off : (f : ℕ → ℕ → Val) (x : Rec) (p s : ℕ) → at p s x ≡ false → undo_one f x p s ≡ f p s
-undo_one_off f x p s is = ap (λ (b : Bool). cond b x.before (f p s)) is
-
--- each found, so at each place linked
-pub found-linked : (f : ℕ → ℕ → Val) (xs : List Rec) → EachFound f xs → (p s : ℕ) → Linked (f p s) (filter (at p s) xs)
-found-linked f [] a p s = tt
-found-linked f (x ∷ xs) a p s =
-    let ih = found-linked (undo_one f x) xs a.1 p s in
-    ⊎_elim
-    (λ is. let e = at_is p s x is in subst (Linked (f p s)) (sym (filter-cons (at p s) x xs is)) (
-      sym (ap (λ (k : ℕ). f k x.slot) e.0 ∙ ap (λ (k : ℕ). f p k) e.1) ∙ a.0,
-      subst (λ (v : Val). Linked v (filter (at p s) xs)) (undo_one_at f x p s is) ih,
-    ))
-    (λ is. subst (Linked (f p s)) (sym (filter-skip (at p s) x xs is))
-    (subst (λ (v : Val). Linked v (filter (at p s) xs)) (undo_one_off f x p s is) ih))
-    (cases_Bool (at p s x))
+use Rattle.sd_chain.proofs.Lists.{filter-cons, filter-skip}
+use Rattle.sd_chain.proofs.Newest.{at_is}
+use Rattle.sd_chain.proofs.Recover.{undo_one_at, undo_one_off, found_linked}
+use Rattle.sd_base.proofs.SameIds.{cases_txn}
 
 -- a value at whose place nothing is undone
 pub undo-off : (f : ℕ → ℕ → Val) (xs : List Rec) (p s : ℕ) → filter (at p s) xs ≡ [] → undo_all f xs p s ≡ f p s
@@ -56,7 +28,7 @@ pub member-linked : (img : Image) (t : TxnId) (p s : ℕ) (f : ℕ → ℕ → V
 member-linked img t p s f [] a m others = absurd m
 member-linked img t p s f (u ∷ us) a m others = ⊎_elim
     (λ e. subst (λ (k : TxnId). Linked (f p s) (filter (at p s) (opens img k))) (sym e)
-    (found-linked f (opens img u) (found-front f (opens img u) (stacks_of img us) a) p s))
+    (found_linked f (opens img u) (found-front f (opens img u) (stacks_of img us) a) p s))
     (λ ne. subst (λ (v : Val). Linked v (filter (at p s) (opens img t))) (undo-off f (opens img u) p s (others.0 ne))
     (member-linked img t p s (undo_all f (opens img u)) us (found-back f (opens img u) (stacks_of img us) a) (later ne m) others.1))
     (cases_txn t u)

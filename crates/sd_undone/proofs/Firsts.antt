@@ -20,13 +20,16 @@ use Rattle.sd_undone.specs.Stops.{FirstMisfit, StandsLowest, StopsAt, front_of}
 use Rattle.sd_undone.specs.Taking.{MayTake, open_in, picked, stacks_in}
 use Rattle.sd_undone.specs.Values.{slots_in, values_in}
 use Rattle.sd_undone.proofs.Alones.{first-at, nil_or, not-both}
-use Rattle.sd_undone.proofs.Finds.{at_is, filter-cons, filter-skip, undo-off}
+use Rattle.sd_undone.proofs.Finds.{undo-off}
 use Rattle.sd_undone.proofs.Fronts.{AtLog, AtLoser, at_log, at_loser, not-below, rises-back}
 use Rattle.sd_undone.proofs.Lowest.{Lowest, lowest}
 use Rattle.sd_undone.proofs.Opened.{Each-both, Right, Rises, are-open, below-ne, follows-all, ids, log-of, losers-rise, picked-is, rights, stacks-of}
-use Rattle.sd_undone.proofs.Stacks.{member-each, stacks-append}
-use Rattle.sd_undone.proofs.Steps.{Each-append, Each-back, Each-front, Each-weaker, found-append}
+use Rattle.sd_undone.proofs.Stacks.{stacks-append}
+use Rattle.sd_undone.proofs.Steps.{found-append}
 use Rattle.sd_undone.proofs.Whole.{agree, each-alone, fits-last, fits-places, member-fits, nil-fits}
+use Rattle.sd_chain.proofs.Lists.{filter-cons, filter-skip, Each-append, Each-front, Each-back, Each-weaker}
+use Rattle.sd_chain.proofs.Members.{member-each}
+use Rattle.sd_chain.proofs.Newest.{at_is}
 
 -- ---- a stack that fits, behind others that may be taken back
 

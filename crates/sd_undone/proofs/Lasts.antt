@@ -11,7 +11,9 @@ use Rattle.sd_log.specs.declared.placed.Placed.{Placed}
 use Rattle.sd_log.specs.Logs.{LogState, flats, scanned}
 use Rattle.sd_undone.specs.declared.last_changes.Last.{Last}
 use Rattle.sd_undone.specs.Others.{all_in, last_of_others, of_others, other_lsn, seen_in, told}
-use Rattle.sd_undone.proofs.Keys.{same-cmp, same_rid-by, same_rid-is, same_txn-is, same_txn-own}
+use Rattle.sd_undone.proofs.Keys.{same-cmp, same_rid-by, same_rid-is}
+use Rattle.sd_base.proofs.Orders.{same-txn-is}
+use Rattle.sd_base.proofs.SameIds.{eq-same}
 
 -- with one change more of the same transaction
 own-more : (b c : Bool) (o w l m : ℕ) → c ≡ b → m ≡ max w l
@@ -42,13 +44,13 @@ More old u l new = (t : TxnId) → of_others new t ≡ cond (same_txn u t) (of_o
 
 apart : (last : Last) (u t : TxnId) → same_txn u last.txn ≡ false → same_txn last.txn t ≡ true → same_txn u t ≡ true → ⊥
 apart last u t ne one two =
-    let own = same_txn-own u last.txn (same_txn-is u t two ∙ sym (same_txn-is last.txn t one)) in absurd (cc)
+    let own = eq-same u last.txn (same-txn-is u t two ∙ sym (same-txn-is last.txn t one)) in absurd (cc)
 
 pub more-own : (last : Last) (u : TxnId) (l m : ℕ) → same_txn u last.txn ≡ true → m ≡ max last.own l
     → More last u l (record { txn = last.txn; own = m; others = last.others })
 more-own last u l m e f t =
     own-more (same_txn last.txn t) (same_txn u t) last.others last.own l m
-    (ap (λ (k : TxnId). same_txn k t) (same_txn-is u last.txn e)) f
+    (ap (λ (k : TxnId). same_txn k t) (same-txn-is u last.txn e)) f
 
 pub more-other : (last : Last) (u : TxnId) (l m : ℕ) → same_txn u last.txn ≡ false → l ≤ last.own → m ≡ max last.others l
     → More last u l (record { txn = last.txn; own = last.own; others = m })

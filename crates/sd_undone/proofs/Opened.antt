@@ -25,8 +25,10 @@ use Rattle.sd_analysis.specs.Losers.{AreAt, AreLosers, IsLoser, Rise, record_at}
 use Rattle.sd_undone.specs.Reading.{AreLosersFrom, AreLosersOf, IsLosersOf, IsRead, txns_of}
 use Rattle.sd_undone.specs.Taking.{open_in, picked, stacks_in}
 use Rattle.sd_undone.proofs.Alones.{log_at}
-use Rattle.sd_undone.proofs.Stacks.{Each-stack, member-back, member-front, stack-none, stacks-append}
-use Rattle.sd_undone.proofs.Steps.{Each-append, Each-weaker}
+use Rattle.sd_undone.proofs.Stacks.{member-back, member-front, stacks-append}
+use Rattle.sd_chain.proofs.Lists.{Each-append, Each-weaker}
+use Rattle.sd_chain.proofs.Whose.{stack-none}
+use Rattle.sd_chain.proofs.Opens.{Each-stack}
 
 -- the records that indices name
 somes : {A B : Type 0} (h : A → Option B) (xs : List A) → filter_map (λ (o : Option B). o) (map h xs) ≡ filter_map h xs

@@ -11,6 +11,7 @@ use Rattle.sd_chain.specs.Records.{Val}
 use Rattle.sd_chain.specs.Pages.{value}
 use Rattle.sd_undone.specs.Values.{slots_in, values_in}
 use Rattle.sd_undone.proofs.Keys.{same_rid-by, same_rid-is}
+use Rattle.sd_chain.proofs.Update.{value_past}
 
 -- the first k slots of a page, over these contents
 abbrev pub upto : ℕ → ℕ → List Slot → (Rid → Content) → Rid → Content
@@ -103,11 +104,6 @@ upto-dead page slot slots base now empty inv val =
     by r true is = ap now (sym (same_rid-is (record { page = page; slot = slot }) r is)) ∙ here
     by r false is = refl
 
-value-past : (slots : List Slot) (s : ℕ) → length slots ≤ s → value slots s ≡ None
-value-past [] s le = refl
-value-past (x ∷ xs) zero le = absurd (omega (arith, le))
-value-past (x ∷ xs) (suc s) le = value-past xs s (omega (arith, le))
-
 -- all slots
 pub upto-all : (page k : ℕ) (slots : List Slot) (base now : Rid → Content) → k ≡ length slots
     → ((s : ℕ) → base (record { page = page; slot = s }) ≡ None)
@@ -117,7 +113,7 @@ upto-all page k slots base now all empty inv r = inv r ∙ ⊎_elim
     (λ e. sym (ap (λ (b : Bool). cond b (value slots r.slot) (base r)) (eq-eqb r.page page e)
     ∙ ⊎_elim
     (λ lt. sym (upto-in page k slots base r e lt))
-    (λ le. value-past slots r.slot (omega (arith, le, all)) ∙ sym (none r e) ∙ sym (upto-past page k slots base r le))
+    (λ le. value_past slots r.slot (omega (arith, le, all)) ∙ sym (none r e) ∙ sym (upto-past page k slots base r le))
     (cases_lt r.slot k)))
     (λ ne. upto-off page k slots base r ne ∙ sym (let e : eqb r.page page ≡ false = ne_eqb r.page page ne in
     ap (λ (b : Bool). cond b (value slots r.slot) (base r)) e))

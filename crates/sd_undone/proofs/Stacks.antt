@@ -10,38 +10,10 @@ use Rattle.sd_chain.specs.Records.{Each, moved, rest, stack, stack_from, step}
 use Rattle.sd_chain.specs.Order.{of_txn, speaks}
 use Rattle.sd_chain.specs.Image.{Image, opens}
 use Rattle.sd_chain.specs.Undoing.{Member, stacks_of}
-use Rattle.sd_undone.proofs.Keys.{cases_txn, same_txn-other, same_txn-own}
-use Rattle.sd_undone.proofs.Steps.{Each-append, Each-front, Each-back}
-
-step-own : (t : TxnId) (stk : List Rec) (y : Rec) → y.txn ≡ t → step t stk y ≡ moved y.kind y stk
-step-own t stk y e = ap (λ (b : Bool). cond b (moved y.kind y stk) stk) (same_txn-own y.txn t e)
-
-step-other : (t : TxnId) (stk : List Rec) (y : Rec) → y.txn ≢ t → step t stk y ≡ stk
-step-other t stk y ne = ap (λ (b : Bool). cond b (moved y.kind y stk) stk) (same_txn-other y.txn t ne)
-
-Each-rest : (P : Rec → Type 0) (xs : List Rec) → Each P xs → Each P (rest xs)
-Each-rest P [] a = tt
-Each-rest P (x ∷ xs) a = a.1
-
-Each-moved : (P : Rec → Type 0) (k : Kind) (x : Rec) (stk : List Rec) → (k ≡ Update → P x) → Each P stk → Each P (moved k x stk)
-Each-moved P Update x stk h a = (h refl, a)
-Each-moved P Clr x stk h a = Each-rest P stk a
-Each-moved P Commit x stk h a = a
-Each-moved P End x stk h a = a
-Each-moved P Plain x stk h a = a
-
-Each-stack_from : (P : Rec → Type 0) (t : TxnId) (stk xs : List Rec) → Each P stk
-    → Each (λ x. x.txn ≡ t → x.kind ≡ Update → P x) xs → Each P (stack_from t stk xs)
-Each-stack_from P t stk [] a b = a
-Each-stack_from P t stk (x ∷ xs) a b =
-    Each-stack_from P t (step t stk x) xs
-    (⊎_elim (λ e. subst (Each P) (sym (step-own t stk x e)) (Each-moved P x.kind x stk (b.0 e) a))
-    (λ ne. subst (Each P) (sym (step-other t stk x ne)) a) (cases_txn x.txn t)) b.1
-
--- the records of a stack are Updates of its transaction that stand in the log
-pub Each-stack : (P : Rec → Type 0) (t : TxnId) (log : List Rec) → Each (λ x. x.txn ≡ t → x.kind ≡ Update → P x) log
-    → Each P (stack t log)
-Each-stack P t log b = Each-stack_from P t [] log tt b
+use Rattle.sd_chain.proofs.Stacks.{step-other, step-own}
+use Rattle.sd_chain.proofs.Lists.{Each-append, Each-front, Each-back}
+use Rattle.sd_chain.proofs.Opens.{Each-rest, Each-moved, Each-stack_from}
+use Rattle.sd_base.proofs.SameIds.{cases_txn, ne-same, eq-same}
 
 -- a transaction without a record has nothing open
 plain-kept : (k : Kind) (x : Rec) (stk : List Rec) → speaks k ≡ false → moved k x stk ≡ stk
@@ -69,9 +41,6 @@ none-of t stk (x ∷ xs) e =
     parts true b e = absurd (cc)
     parts false b e = (refl, e)
 
-pub stack-none : (t : TxnId) (log : List Rec) → list_any (of_txn t) log ≡ false → stack t log ≡ []
-stack-none t log e = none-of t [] log e
-
 -- the stacks of several
 module _ (img : Image) where
   pub stacks-append : (ts us : List TxnId) → stacks_of img (ts ++ us) ≡ stacks_of img ts ++ stacks_of img us
@@ -90,11 +59,6 @@ module _ (img : Image) where
     Each-front P (opens img t) (stacks_of img ts) a,
     stacks-each P ts (Each-back P (opens img t) (stacks_of img ts) a),
   )
-
-pub member-each : (P : TxnId → Type 0) (t : TxnId) (ts : List TxnId) → Member t ts → Each P ts → P t
-member-each P t [] m a = absurd m
-member-each P t (u ∷ us) (inl e) a = subst P (sym e) a.0
-member-each P t (u ∷ us) (inr m) a = member-each P t us m a.1
 
 pub member-front : (t : TxnId) (ts us : List TxnId) → Member t ts → Member t (ts ++ us)
 member-front t [] us m = absurd m

@@ -2,7 +2,8 @@
 use Rattle.std.proofs.Common.{◌≡◌, ◌≢◌, ⊎_elim, ◌<◌, ◌≤◌, ℕ, zero, suc, Bool, true, false, cond, eqb, ◌&&◌, List, [], ◌∷◌, ◌++◌, Option, Some, length, slice_get, slice_set, refl, sym, ap, subst, ◌∙◌, arith, eq-eqb, ne_eqb}
 use Rattle.std.proofs.lemmas.Bool.{cases_eq}
 use Rattle.sd_base.specs.declared.ids.TxnId.{TxnId}
-use Rattle.sd_page.specs.Page.{Page, Slot, size}
+use Rattle.sd_base.specs.Values.{size}
+use Rattle.sd_page.specs.Page.{Page, Slot}
 use Rattle.sd_logrec.specs.View.{Rec}
 use Rattle.sd_logrec.specs.View.Kind.{Update}
 use Rattle.sd_chain.specs.Records.{Val, Each, at}
@@ -12,23 +13,9 @@ use Rattle.sd_chain.specs.Undoing.{EachFound, undo_all, undo_one}
 use Rattle.sd_undone.specs.Values.{SameShape, SameSlots, slots_in, values_in}
 use Rattle.sd_undone.specs.Taking.{Holds, MayTake, Taken}
 use Rattle.sd_undone.proofs.Rows.{slots-here}
-use Rattle.sd_undone.proofs.Slots.{same-written, value-write_other, value-write_same}
-
-pub Each-append : {A : Type 0} (P : A → Type 0) (xs ys : List A) → Each P xs → Each P ys → Each P (xs ++ ys)
-Each-append P [] ys a b = b
-Each-append P (x ∷ xs) ys a b = (a.0, Each-append P xs ys a.1 b)
-
-pub Each-front : {A : Type 0} (P : A → Type 0) (xs ys : List A) → Each P (xs ++ ys) → Each P xs
-Each-front P [] ys a = tt
-Each-front P (x ∷ xs) ys a = (a.0, Each-front P xs ys a.1)
-
-pub Each-back : {A : Type 0} (P : A → Type 0) (xs ys : List A) → Each P (xs ++ ys) → Each P ys
-Each-back P [] ys a = a
-Each-back P (x ∷ xs) ys a = Each-back P xs ys a.1
-
-pub Each-weaker : {A : Type 0} (P Q : A → Type 0) → ((x : A) → P x → Q x) → (xs : List A) → Each P xs → Each Q xs
-Each-weaker P Q f [] a = tt
-Each-weaker P Q f (x ∷ xs) a = (f x a.0, Each-weaker P Q f xs a.1)
+use Rattle.sd_undone.proofs.Slots.{same-written}
+use Rattle.sd_chain.proofs.Slots.{value-write_other, value-write_same}
+use Rattle.sd_chain.proofs.Lists.{Each-append, Each-front, Each-back, Each-weaker}
 
 pub undo_all-append : (f : ℕ → ℕ → Val) (xs ys : List Rec) → undo_all f (xs ++ ys) ≡ undo_all (undo_all f xs) ys
 undo_all-append f [] ys = refl

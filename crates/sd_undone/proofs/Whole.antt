@@ -20,8 +20,9 @@ use Rattle.sd_undone.proofs.Alones.{alone-from, alone-last, nil_or, not-both}
 use Rattle.sd_undone.proofs.Finds.{Agree, agree-all, agree-found, member-linked}
 use Rattle.sd_undone.proofs.Opened.{Each-both, Right, are-open, open-stacks, rights}
 use Rattle.sd_undone.proofs.Rows.{slots-here}
-use Rattle.sd_undone.proofs.Stacks.{each-stacks, member-each, stacks-each}
-use Rattle.sd_undone.proofs.Steps.{Each-weaker}
+use Rattle.sd_undone.proofs.Stacks.{each-stacks, stacks-each}
+use Rattle.sd_chain.proofs.Members.{member-each}
+use Rattle.sd_chain.proofs.Lists.{Each-weaker}
 
 -- the stacks of some transactions that may be taken back are as they were left
 module _ (img : Image) (pages : List Page) (logs : List LogState) (read : IsRead img pages logs) where

@@ -3,7 +3,8 @@ use Rattle.std.specs.Prelude.{◌≡◌, ℕ, ◌<◌, ◌≤◌, List, [], ◌�
 use Rattle.std.specs.List.{filter_map, flat_map}
 use Rattle.std.specs.Option.{option_map_or}
 use Rattle.sd_base.specs.declared.ids.TxnId.{TxnId}
-use Rattle.sd_page.specs.Page.{Page, Slot, size}
+use Rattle.sd_base.specs.Values.{size}
+use Rattle.sd_page.specs.Page.{Page, Slot}
 use Rattle.sd_logrec.specs.View.{Rec}
 use Rattle.sd_logrec.specs.View.Kind.{Update}
 use Rattle.sd_log.specs.declared.placed.Placed.{Placed}

@@ -6,13 +6,10 @@ ghost use Rattle.sd_model.specs.Tables.{contents};
 ghost use Rattle.sd_chain.specs.Pages.{value};
 ghost use Rattle.sd_undone.specs.Values.{values_in};
 
-use sd_base::{Bytes, Memory, PageNo, Rid};
+use sd_base::{Bytes, Memory, PAGES, PageNo, Rid};
 use sd_model::Table;
 use sd_page::Image;
 use std::alloc::Global;
-
-/// How many pages the data device has.
-const PAGES: u16 = 1024;
 
 /// The table of the pages' values.
 pub fn table_of(alloc: Global, pages: &[Image]) -> Result<Table, Memory>

@@ -2,7 +2,7 @@
 
 ghost use Rattle.std.specs.Prelude.{◌≡◌, ◌↔◌, ℕ, [], ◌∷◌, false, true, length, reverse, option_map, Err, IfOk, IsTrue, Ok, OnOk};
 ghost use Rattle.sd_logrec.specs.View.{flat};
-ghost use Rattle.sd_page.specs.Page.{size};
+ghost use Rattle.sd_base.specs.Values.{size};
 ghost use Rattle.sd_chain.specs.Pages.{write};
 ghost use Rattle.sd_undone.specs.Others.{seen_in};
 ghost use Rattle.sd_undone.specs.Stops.{StopsAt, StopsIn};
@@ -12,7 +12,7 @@ ghost use Rattle.sd_undone.specs.declared.undoing.Fault.TheVariants as F;
 use crate::last_changes::LastChanges;
 use crate::undoing::Fault;
 use sd_analysis::{Loser, Losers};
-use sd_base::{Bytes, Duplicate, Memory, Rid};
+use sd_base::{Bytes, Memory, Rid, copy_value, lent_value, same_value, value_len};
 use sd_log::{Log, Placed};
 use sd_logrec::Record;
 use sd_page::{Image, Op};
@@ -151,48 +151,18 @@ fn put_back(
     let Some(capacity) = image.capacity(slot) else {
         return Ok(false);
     };
-    if size(before) > capacity as usize {
+    if value_len(before) > capacity as usize {
         return Ok(false);
     }
-    if !is_value(image.value(slot), after) {
+    if !same_value(image.value(slot), lent_value(after)) {
         return Ok(false);
     }
     let op = Op {
         slot,
         capacity,
-        after: copied(before)?,
+        after: copy_value(before)?,
     };
     let lsn = image.lsn();
     image.apply(&op, lsn).unwrap();
     Ok(true)
-}
-
-// Whether the value that was found is this one.
-fn is_value(found: Option<&[u8]>, value: &Option<Bytes>) -> bool
-    ensures { IsTrue result ↔ (value.now ≡ option_map (λ v. v.now) found.entry) }
-{
-    match (found, value) {
-        (None, None) => true,
-        (Some(found), Some(value)) => found == value.items(),
-        _ => false,
-    }
-}
-
-// The bytes of a value, 0 of none.
-fn size(value: &Option<Bytes>) -> usize
-    ensures { result ≡ size value.now }
-{
-    match value {
-        None => 0,
-        Some(bytes) => bytes.items().len(),
-    }
-}
-
-fn copied(value: &Option<Bytes>) -> Result<Option<Bytes>, Memory>
-    ensures { IfOk result (λ copied. copied ≡ value.now) }
-{
-    match value {
-        None => Ok(None),
-        Some(bytes) => Ok(Some(bytes.copy()?)),
-    }
 }

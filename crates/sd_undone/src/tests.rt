@@ -96,7 +96,8 @@ fn pages(alloc: Global, texts: [&[u8]; 3]) -> Result<Vec<Image>, Fail>
     Ok(pages)
 }
 
-// The first transaction of the instance is a loser with so many records, which are the first ones of its log.
+// The first transaction of the instance is a loser with so many records, which are the first ones of its log. Their LSNs play
+// no part.
 fn loser(alloc: Global, inst: InstNo, count: usize) -> Result<Losers, AllocError> {
     let mut open = Vec::new(alloc);
     for at in 0..count {
@@ -106,6 +107,8 @@ fn loser(alloc: Global, inst: InstNo, count: usize) -> Result<Losers, AllocError
     losers.push(Loser {
         txn: txn(inst, 1),
         open: sd_base::Sequence::of(open),
+        first: 0,
+        last: 0,
     })?;
     Ok(Losers::of(losers))
 }

@@ -2,8 +2,9 @@ use Rattle.std.proofs.Common.{◌≡◌, ◌+◌, length, ◌∙◌, arith}
 use Rattle.sd_base.specs.Twin.{body_at}
 use Rattle.sd_rig.specs.Spans.{elapses-then, span-then, span-weaker}
 use Rattle.sd_gate.specs.Gates.{Fills, Writes}
-use Rattle.sd_gate.proofs.Gates.{fills_while_written, fills_while_opened, on_ok_from, outside_slot, same_body, written_body, written_gate}
+use Rattle.sd_gate.proofs.Gates.{fills_while_written, fills_while_opened, outside_slot, same_body, written_body, written_gate}
 use Rattle.sd_gate.proofs.gate.fill.Goals as goal
+use Rattle.sd_base.proofs.Results.{on_ok}
 
 pub returns-clause-filled : goal.returns-clause-filled
 returns-clause-filled g c =
@@ -16,7 +17,7 @@ returns-clause-filled g c =
     let len' = laws.whole one dev (r.seen one dev) c.requires.device (laws.leaves_seen one dev c.requires.device) in
     let range = c.requires.range in
     let whole : body_at (length c.args.body.now) c.args.gate (r.seen one dev) ≡ c.args.body.now = written_body c.args.gate c.args.body.now (r.seen c.args.rig.now dev) (r.seen one dev) (omega arith) c.in_ok-write_synced.ensures.written in
-    on_ok_from c.write_synced-2.result _ _
+    on_ok c.write_synced-2.result _ _
     (λ made. (written_gate c.args.gate 165 (r.seen one dev) (r.seen two dev) (omega arith) made, same_body c.args.gate (length c.args.body.now) (r.seen one dev) (r.seen two dev) c.write_synced-2.ensures.outside ∙ whole))
     c.write_synced-2.ensures.written
 

@@ -4,10 +4,10 @@ use Rattle.sd_base.specs.declared.ids.TxnId.{TxnId}
 use Rattle.sd_base.specs.declared.place.Mode.{Mode}
 use Rattle.sd_base.specs.Ids.{same_txn}
 use Rattle.sd_reclock.specs.Locks.{Modes, held_in, mode_of, mode_among, IsNoStronger}
-use Rattle.sd_reclock.proofs.Orders.{put-rid, look-rid}
 use Rattle.sd_reclock.proofs.Writes.{Changes, changes, changes_nothing, put_then_remove}
 use Rattle.sd_reclock.proofs.Lowering.{none_lowered}
 use Rattle.sd_reclock.proofs.locks.lower.Goals as goal
+use Rattle.sd_base.proofs.Orders.{put-rid, look-rid}
 
 pub returns-in_default : goal.returns-in_default
 returns-in_default c = λ u q.

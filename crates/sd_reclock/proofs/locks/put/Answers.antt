@@ -8,9 +8,10 @@ use Rattle.sd_base.specs.declared.ids.Rid.{Rid}
 use Rattle.sd_base.specs.declared.place.Mode.{Mode}
 use Rattle.sd_base.specs.Ids.{same_txn}
 use Rattle.sd_reclock.specs.Locks.{Modes, held_in, mode_of, mode_among, raised}
-use Rattle.sd_reclock.proofs.Orders.{rid_cmp, put-rid, look-rid}
-use Rattle.sd_reclock.proofs.Writes.{no_mode, changes, on_ok, on_err_too}
+use Rattle.sd_reclock.proofs.Writes.{no_mode, changes}
 use Rattle.sd_reclock.proofs.locks.put.Goals as goal
+use Rattle.sd_base.proofs.Orders.{rid_cmp, put-rid, look-rid}
+use Rattle.sd_base.proofs.Results.{on_ok, on_err}
 
 pub returns-in-Some-clause-put : goal.returns-in-Some-clause-put
 returns-in-Some-clause-put c =
@@ -27,7 +28,7 @@ returns-in-Some-clause-put c =
 pub returns-in-Some-clause-same : goal.returns-in-Some-clause-same
 returns-in-Some-clause-same c =
     let old = c.args.records.now.entries in
-    on_err_too c.put.result _ _ (λ same. (c.get_mut.follows.holds c.put.new.self).0
+    on_err c.put.result _ _ (λ same. (c.get_mut.follows.holds c.put.new.self).0
     ∙ ap (λ (h : Modes). set_value (λ (k : Rid). is_eq (rid_cmp c.args.wait.now.rid k)) old h) same
     ∙ set_value_same (λ (k : Rid). is_eq (rid_cmp c.args.wait.now.rid k)) old c.in-Some.holders.now (sym c.in-Some.ensures.value))
     c.put.ensures.same

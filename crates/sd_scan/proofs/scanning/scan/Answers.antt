@@ -9,9 +9,10 @@ use Rattle.sd_log.specs.Areas.{IfBroken, IfWhole, IsAt, read_of}
 use Rattle.sd_log.specs.Logs.{LogState, scanned}
 use Rattle.sd_log.specs.Marks.{entry}
 use Rattle.sd_chain.specs.Checks.{IsWhole}
-use Rattle.sd_scan.proofs.Faults.{Broke, broken_fails, came, err_same, fails_not, front_is, whole_fails}
+use Rattle.sd_scan.proofs.Faults.{Broke, broken_fails, err_same, fails_not, front_is, whole_fails}
 use Rattle.sd_scan.proofs.Scans.{all_records, groups_sound, kept_is, master_sound, says_of, start_within}
 use Rattle.sd_scan.proofs.scanning.scan.Goals as goal
+use Rattle.sd_base.proofs.Results.{came}
 
 pub of_area-requires-clause-start : goal.of_area-requires-clause-start
 of_area-requires-clause-start c =

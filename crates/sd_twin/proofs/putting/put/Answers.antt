@@ -4,11 +4,11 @@ use Rattle.sd_rig.specs.Devices.{AgreesOutside}
 use Rattle.sd_rig.specs.Spans.{elapses-then, span-then, span-weaker}
 use Rattle.sd_gate.specs.Gates.{Closes, Fills}
 use Rattle.sd_gate.specs.Slots.{slot}
-use Rattle.sd_gate.proofs.Gates.{on_ok_from}
 use Rattle.sd_twin.specs.Puts.{Puts, filled_gate}
 use Rattle.sd_twin.proofs.Choice.{closing_counts, filling_counts, kept_same, new_counts, new_slot}
 use Rattle.sd_twin.proofs.Images.{puts_close, puts_fill, slot_after, slot_differs, twin_outside}
 use Rattle.sd_twin.proofs.putting.put.Goals as goal
+use Rattle.sd_base.proofs.Results.{on_ok}
 
 pub returns-in_err-make_closed-clause-any_moment : goal.returns-in_err-make_closed-clause-any_moment
 returns-in_err-make_closed-clause-any_moment g c =
@@ -72,7 +72,7 @@ returns-clause-body g c =
     let all = slot_after (filled_gate s t.at t.body) t.body before one after first second in
     let ne = slot_differs c.args.old c.requires.differs in
     let kept = kept_same s t.at t.body before after all in
-    on_ok_from c.fill.result _ _
+    on_ok c.fill.result _ _
     (λ h. new_counts s t.at t.body body before after c.requires.chosen ne kept
     (subst (λ p. is_open p after ≡ true) gate h.0)
     (subst (λ m. body_at m (filled_gate s t.at t.body) after ≡ body) len (subst (λ p. body_at (length body) p after ≡ body) gate h.1))
@@ -95,7 +95,7 @@ returns-clause-slot g c =
     let all = slot_after (filled_gate s t.at t.body) t.body before one after first second in
     let ne = slot_differs c.args.old c.requires.differs in
     let kept = kept_same s t.at t.body before after all in
-    on_ok_from c.fill.result _ _
+    on_ok c.fill.result _ _
     (λ h. new_slot s t.at t.body body before after c.requires.chosen ne kept
     (subst (λ p. is_open p after ≡ true) gate h.0)
     (subst (λ m. body_at m (filled_gate s t.at t.body) after ≡ body) len (subst (λ p. body_at (length body) p after ≡ body) gate h.1))

@@ -2,9 +2,9 @@ use Rattle.std.proofs.Common.{◌≡◌, ◌+◌, ℕ, List, None, Some, Option,
 use Rattle.sd_base.specs.declared.ids.Rid.{Rid}
 use Rattle.sd_model.specs.Tables.{contents}
 use Rattle.sd_undone.proofs.Rows.{upto, upto-more, upto-dead, upto-all}
-use Rattle.sd_undone.proofs.Slots.{value-at}
 use Rattle.sd_undone.proofs.table.put_page.Goals as goal
 use Rattle.sd_undone.proofs.table.put_page.Goals.{in-Some+in_ok-copy+in_ok-put, in_default}
+use Rattle.sd_chain.proofs.Slots.{value-at}
 
 none : {X : Type 0} (o : Option X) → ((x : X) → o ≡ Some x → ⊥) → o ≡ None
 none None h = refl

@@ -7,10 +7,10 @@ pub returns-in-Start : goal.returns-in-Start
 returns-in-Start c = sym (length-spelling c.args.self.now ∙ ap spelled_length c.in-Start.is)
 
 pub returns-in-Update : goal.returns-in-Update
-returns-in-Update c = omega (arith, length-spelling c.args.self.now ∙ ap spelled_length c.in-Update.is, c.size.ensures, c.size-in-Update.ensures)
+returns-in-Update c = omega (arith, length-spelling c.args.self.now ∙ ap spelled_length c.in-Update.is, c.value_len.ensures.value, c.value_len-in-Update.ensures.value)
 
 pub returns-in-Clr : goal.returns-in-Clr
-returns-in-Clr c = omega (arith, length-spelling c.args.self.now ∙ ap spelled_length c.in-Clr.is, c.size-in-Clr.ensures)
+returns-in-Clr c = omega (arith, length-spelling c.args.self.now ∙ ap spelled_length c.in-Clr.is, c.value_len-in-Clr.ensures.value)
 
 pub returns-in-BeginCheck : goal.returns-in-BeginCheck
 returns-in-BeginCheck c = sym (length-spelling c.args.self.now ∙ ap spelled_length c.in-BeginCheck.is)

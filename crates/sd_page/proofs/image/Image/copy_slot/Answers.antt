@@ -1,7 +1,8 @@
 use Rattle.std.proofs.Common.{◌≡◌, ◌∙◌, get_or, ap, sym, subst}
 use Rattle.std.specs.Prelude.{option_map, IsOk}
 use Rattle.std.proofs.lemmas.Bool.{false≢true}
-use Rattle.sd_page.specs.Page.{Slot, Page, CanTake, size, written}
+use Rattle.sd_base.specs.Values.{size}
+use Rattle.sd_page.specs.Page.{Slot, Page, CanTake, written}
 use Rattle.sd_page.proofs.Opened.{Images, no_slot, few_slots, lies_inside, slot_in-image}
 use Rattle.sd_page.proofs.Written.{with_slots}
 use Rattle.sd_page.proofs.Copied.{can_take, written-next}

@@ -4,9 +4,9 @@ use Rattle.sd_base.specs.declared.ids.TxnId.{TxnId}
 use Rattle.sd_base.specs.declared.place.Mode.{Mode}
 use Rattle.sd_base.specs.Ids.{same_txn}
 use Rattle.sd_reclock.specs.Locks.{mode_of, IsNoStronger}
-use Rattle.sd_reclock.proofs.Orders.{put-txn, look-txn}
 use Rattle.sd_reclock.proofs.Lowering.{none_lowered, none_taken}
 use Rattle.sd_reclock.proofs.holders.Holders.lower.Goals as goal
+use Rattle.sd_base.proofs.Orders.{put-txn, look-txn}
 
 pub returns-in-Some-get_mut : goal.returns-in-Some-get_mut
 returns-in-Some-get_mut c = λ u.

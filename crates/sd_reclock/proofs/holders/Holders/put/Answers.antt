@@ -3,8 +3,8 @@ use Rattle.sd_base.specs.declared.ids.TxnId.{TxnId}
 use Rattle.sd_base.specs.declared.place.Mode.{Mode}
 use Rattle.sd_base.specs.Ids.{same_txn}
 use Rattle.sd_reclock.specs.Locks.{mode_of, raised}
-use Rattle.sd_reclock.proofs.Orders.{put-txn}
 use Rattle.sd_reclock.proofs.holders.Holders.put.Goals as goal
+use Rattle.sd_base.proofs.Orders.{put-txn}
 
 pub returns-clause-put : goal.returns-clause-put
 returns-clause-put c = λ u. subst (λ (old : List (TxnId × Mode)). mode_of c.insert.new.self.entries u ≡ cond {A = Option Mode} (same_txn c.args.t.now u) (Some c.raise-mode.result) (mode_of old u)) c.self.view_is

@@ -2,9 +2,9 @@ use Rattle.std.proofs.Common.{◌≡◌, Option, None, refl, ap, subst, ◌∙�
 use Rattle.sd_base.specs.declared.ids.TxnId.{TxnId}
 use Rattle.sd_base.specs.declared.place.Mode.{Mode}
 use Rattle.sd_reclock.specs.Locks.{Held, Modes, held_in, mode_among, mode_of, IsLowestHolder}
-use Rattle.sd_reclock.proofs.Orders.{look-rid}
 use Rattle.sd_reclock.proofs.Writes.{no_mode}
 use Rattle.sd_reclock.proofs.locks.Locks.holder.Goals as goal
+use Rattle.sd_base.proofs.Orders.{look-rid}
 
 pub returns-in-Some-clause-lowest : goal.returns-in-Some-clause-lowest
 returns-in-Some-clause-lowest c =

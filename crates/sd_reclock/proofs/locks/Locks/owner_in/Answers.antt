@@ -3,9 +3,9 @@ use Rattle.std.specs.List.{All}
 use Rattle.std.specs.BTreeMap.Range.{IsEntryInRange}
 use Rattle.std.specs.declared.ops.Bound.TheVariants.{Included}
 use Rattle.sd_reclock.specs.Locks.{Held, IsLowestOwner}
-use Rattle.sd_reclock.proofs.Orders.{rid_cmp}
 use Rattle.sd_reclock.proofs.Ranging.{Entry, rid_at, seen_more, seen_past, seen_next, seen_all, found_row, row_agrees, same_page, other_page}
 use Rattle.sd_reclock.proofs.locks.Locks.owner_in.Goals as goal
+use Rattle.sd_base.proofs.Orders.{rid_cmp}
 
 pub owner-requires : goal.owner-requires
 owner-requires c =

@@ -6,9 +6,9 @@ use Rattle.sd_base.specs.declared.place.Mode.{Mode}
 use Rattle.sd_base.specs.Ids.{same_txn, same_rid}
 use Rattle.sd_reclock.specs.Locks.{Held, held_in}
 use Rattle.sd_reclock.specs.Indexing.{rids_of}
-use Rattle.sd_reclock.proofs.Orders.{look-txn, put-txn}
 use Rattle.sd_reclock.proofs.Agreeing.{Frees, frees, frees_nothing, indexed_freed, agree_freed}
 use Rattle.sd_reclock.proofs.locks.Locks.release_all.Goals as goal
+use Rattle.sd_base.proofs.Orders.{look-txn, put-txn}
 
 freed : (c : goal.After-drop-rids) → Frees c.self.inside.records.entries c.release_each.new.records.entries c.args.t.now
 freed c = frees c.self.inside.records.entries c.release_each.new.records.entries c.self.inside.index.entries c.args.t.now c.in-Some.rids.items c.self.invariant.0

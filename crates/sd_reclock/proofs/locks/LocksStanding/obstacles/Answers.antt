@@ -5,9 +5,9 @@ use Rattle.std.specs.Option.{is_some, MatchOption}
 use Rattle.sd_base.specs.declared.ids.TxnId.{TxnId}
 use Rattle.sd_reclock.specs.Locks.{Held, wait_of, ClashesIn, StandsIn}
 use Rattle.sd_reclock.specs.Reaching.{AreThose}
-use Rattle.sd_reclock.proofs.Orders.{look-rid}
 use Rattle.sd_reclock.proofs.Clashing.{stand_all, stand_none, those_none}
 use Rattle.sd_reclock.proofs.locks.LocksStanding.obstacles.Goals as goal
+use Rattle.sd_base.proofs.Orders.{look-rid}
 
 -- where the lowest obstacle is missing, there is none
 none_stands : (o : Option TxnId) (P : TxnId → Type 0) → is_some o ≡ false → MatchOption o ((u : TxnId) → P u → ⊥) P → (u : TxnId) → P u → ⊥

@@ -10,11 +10,11 @@ use Rattle.sd_reclock.specs.declared.search.Met.{Met}
 use Rattle.sd_reclock.specs.Locks.{wait_of}
 use Rattle.sd_reclock.specs.Reaching.{met_at, IsWay}
 use Rattle.sd_reclock.specs.Searching.{has_seen, steps_of, stands_of, waits_of, IsWaiting}
-use Rattle.sd_reclock.proofs.Orders.{same-txn, same-txn-is}
 use Rattle.sd_reclock.proofs.Walks.{told_cycle, no_cycle}
 use Rattle.sd_reclock.proofs.Reached.{txn_at, reached_start, none_back, first_back, is_way}
 use Rattle.sd_reclock.proofs.Meeting.{goes}
 use Rattle.sd_reclock.proofs.search.Asking.cycle.Goals as goal
+use Rattle.sd_base.proofs.Orders.{same-txn, same-txn-is}
 
 -- what the test found is in the list
 found : (xs ys : List TxnId) (t : TxnId) → xs ≡ ys → (k : ℕ) × (k < length xs) × ((d : TxnId) → same_txn (get_or xs k d) t ≡ true) → Contains ys t

@@ -7,11 +7,11 @@ use Rattle.sd_base.specs.declared.ids.TxnId.{TxnId}
 use Rattle.sd_reclock.specs.declared.search.Met.{Met}
 use Rattle.sd_reclock.specs.Reaching.{met_at, AreThose}
 use Rattle.sd_reclock.specs.Searching.{has_seen, steps_of, IsWaiting}
-use Rattle.sd_reclock.proofs.Orders.{look-txn}
 use Rattle.sd_reclock.proofs.Reached.{reached_next}
 use Rattle.sd_reclock.proofs.Meeting.{added, inside_next, look-seen, past, met, fewer_left}
 use Rattle.sd_reclock.proofs.search.Asking.meet.Goals as goal
 use Rattle.sd_reclock.proofs.search.Asking.meet.Goals.{then-contains_key+in_ok-insert+then-branch+in_ok-push, else-contains_key, else-contains_key-via-then-contains_key+in_ok-insert+else-branch, else-contains_key-via-else-contains_key}
+use Rattle.sd_base.proofs.Orders.{look-txn}
 
 on_false : (b : Bool) (P : Type 0) → b ≡ false → OnFalse b P → P
 on_false b P e h = let Q : Bool → Type 0 = λ x. OnFalse x P in subst Q e h

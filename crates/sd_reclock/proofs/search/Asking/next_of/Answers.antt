@@ -6,8 +6,9 @@ use Rattle.sd_base.specs.declared.ids.TxnId.{TxnId}
 use Rattle.sd_base.specs.Ids.{IsBelow}
 use Rattle.sd_base.specs.Waits.{Wait}
 use Rattle.sd_reclock.specs.Locks.{wait_of}
-use Rattle.sd_reclock.proofs.Orders.{txn_cmp, cases_txn, below_or_above, below_trans, cmp_from_below}
 use Rattle.sd_reclock.proofs.search.Asking.next_of.Goals as goal
+use Rattle.sd_base.proofs.Orders.{txn_cmp, below_or_above, below_trans, cmp_from_below}
+use Rattle.sd_base.proofs.SameIds.{cases_txn}
 
 not_below_trans : (a b c : TxnId) → (IsBelow a b → ⊥) → (IsBelow b c → ⊥) → IsBelow a c → ⊥
 not_below_trans a b c f g h = ⊎_elim

@@ -5,8 +5,8 @@ use Rattle.sd_base.specs.Ids.{same_txn}
 use Rattle.sd_reclock.specs.declared.wait.Asked.{Asked}
 use Rattle.sd_reclock.specs.Locks.{wait_of}
 use Rattle.sd_reclock.specs.Searching.{waits_of}
-use Rattle.sd_reclock.proofs.Orders.{look-txn}
 use Rattle.sd_reclock.proofs.search.Asking.wait_of.Goals as goal
+use Rattle.sd_base.proofs.Orders.{look-txn}
 
 pub returns-then-eq : goal.returns-then-eq
 unfolding same_txn

@@ -1,9 +1,9 @@
 use Rattle.std.proofs.Common.{◌≡◌, None, subst}
 use Rattle.sd_base.specs.Waits.{with_wait}
 use Rattle.sd_reclock.specs.Locks.{LockTable, waits, waits_in}
-use Rattle.sd_reclock.proofs.Orders.{put-txn}
 use Rattle.sd_reclock.proofs.Noting.{waits_change}
 use Rattle.sd_reclock.proofs.table.RecordLocks.calm.Goals as goal
+use Rattle.sd_base.proofs.Orders.{put-txn}
 
 pub returns-clause-waits : goal.returns-clause-waits
 returns-clause-waits c = λ u. subst (λ (table : LockTable). waits_in c.remove.new.self.entries u ≡ with_wait c.args.t.now None (waits table) u) c.self.view_is

@@ -1,9 +1,9 @@
 use Rattle.std.proofs.Common.{◌≡◌, Some, subst}
 use Rattle.sd_base.specs.Waits.{with_wait}
 use Rattle.sd_reclock.specs.Locks.{LockTable, waits, waits_in, wait_for}
-use Rattle.sd_reclock.proofs.Orders.{put-txn}
 use Rattle.sd_reclock.proofs.Noting.{waits_change}
 use Rattle.sd_reclock.proofs.table.RecordLocks.wait.Goals as goal
+use Rattle.sd_base.proofs.Orders.{put-txn}
 
 pub returns-clause-waits : goal.returns-clause-waits
 returns-clause-waits c = λ u. subst (λ (table : LockTable). waits_in c.insert.new.self.entries u ≡ with_wait c.args.t.now (Some (wait_for c.args.r.now c.args.mode)) (waits table) u) c.self.view_is

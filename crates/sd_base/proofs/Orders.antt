@@ -11,6 +11,7 @@ use Rattle.sd_base.specs.declared.ids.TxnId.{TxnId}
 use Rattle.sd_base.specs.contracts.ids.RidOrd.TheImpl.{cmp-value as rid_order}
 use Rattle.sd_base.specs.contracts.ids.TxnIdOrd.TheImpl.{cmp-value as txn_order}
 use Rattle.sd_base.specs.Ids.{same_rid, same_txn, IsBelow}
+use Rattle.sd_base.proofs.SameIds.{cases_rid, cases_txn, ne-same, ne-same_rid}
 
 abbrev pub rid_cmp : Rid → Rid → Ordering
 rid_cmp = rid_order.it
@@ -91,22 +92,6 @@ cmp_from_below a b h = ⊎_elim
     j.1))
     h
 
--- the same one or another one
-pub cases_txn : (a b : TxnId) → (a ≡ b) ⊎ (a ≢ b)
-cases_txn a b = ⊎_elim
-    (λ i. ⊎_elim
-    (λ j. ⊎_elim (λ k. inl (λ n. record { inst = i n; epoch = j n; seq = k n })) (λ ne. inr (λ e. ne (ap (λ (t : TxnId). t.seq) e))) (cases_eq a.seq b.seq))
-    (λ ne. inr (λ e. ne (ap (λ (t : TxnId). t.epoch) e)))
-    (cases_eq a.epoch b.epoch))
-    (λ ne. inr (λ e. ne (ap (λ (t : TxnId). t.inst) e)))
-    (cases_eq a.inst b.inst)
-
-pub cases_rid : (a b : Rid) → (a ≡ b) ⊎ (a ≢ b)
-cases_rid a b = ⊎_elim
-    (λ i. ⊎_elim (λ j. inl (λ n. record { page = i n; slot = j n })) (λ ne. inr (λ e. ne (ap (λ (t : Rid). t.slot) e))) (cases_eq a.slot b.slot))
-    (λ ne. inr (λ e. ne (ap (λ (t : Rid). t.page) e)))
-    (cases_eq a.page b.page)
-
 pub same-txn : (a : TxnId) → same_txn a a ≡ true
 unfolding same_txn
 same-txn a = rw (eq-eqb a.inst a.inst refl, eq-eqb a.epoch a.epoch refl, eq-eqb a.seq a.seq refl) refl
@@ -114,29 +99,6 @@ same-txn a = rw (eq-eqb a.inst a.inst refl, eq-eqb a.epoch a.epoch refl, eq-eqb 
 pub same-rid : (a : Rid) → same_rid a a ≡ true
 unfolding same_rid
 same-rid a = rw (eq-eqb a.page a.page refl, eq-eqb a.slot a.slot refl) refl
-
-pub apart-txn : (a b : TxnId) → a ≢ b → same_txn a b ≡ false
-unfolding same_txn
-apart-txn a b ne = ⊎_elim
-    (λ i. ⊎_elim
-    (λ j. ⊎_elim
-    (λ k. absurd (ne (λ n. record { inst = i n; epoch = j n; seq = k n })))
-    (λ k. let e : eqb a.seq b.seq ≡ false = ne_eqb a.seq b.seq k in rw (eq-eqb a.inst b.inst i, eq-eqb a.epoch b.epoch j, e) refl)
-    (cases_eq a.seq b.seq))
-    (λ j. let e : eqb a.epoch b.epoch ≡ false = ne_eqb a.epoch b.epoch j in rw (eq-eqb a.inst b.inst i, e) refl)
-    (cases_eq a.epoch b.epoch))
-    (λ i. let e : eqb a.inst b.inst ≡ false = ne_eqb a.inst b.inst i in rw e refl)
-    (cases_eq a.inst b.inst)
-
-pub apart-rid : (a b : Rid) → a ≢ b → same_rid a b ≡ false
-unfolding same_rid
-apart-rid a b ne = ⊎_elim
-    (λ i. ⊎_elim
-    (λ j. absurd (ne (λ n. record { page = i n; slot = j n })))
-    (λ j. let e : eqb a.slot b.slot ≡ false = ne_eqb a.slot b.slot j in rw (eq-eqb a.page b.page i, e) refl)
-    (cases_eq a.slot b.slot))
-    (λ i. let e : eqb a.page b.page ≡ false = ne_eqb a.page b.page i in rw e refl)
-    (cases_eq a.page b.page)
 
 order : (a b : ℕ) → (a < b) ⊎ ((a ≡ b) ⊎ (b < a))
 order a b = ⊎_elim (λ h. inl h) (λ h. ⊎_elim (λ e. inr (inl e)) (λ ne. inr (inr (omega arith))) (cases_eq a b)) (cases_lt a b)
@@ -179,10 +141,10 @@ below_trans a b c h k = ⊎_elim
     h
 
 pub same-txn-is : (a b : TxnId) → same_txn a b ≡ true → a ≡ b
-same-txn-is a b e = ⊎_elim (λ h. h) (λ ne. absurd (true≢false (sym e ∙ apart-txn a b ne))) (cases_txn a b)
+same-txn-is a b e = ⊎_elim (λ h. h) (λ ne. absurd (true≢false (sym e ∙ ne-same a b ne))) (cases_txn a b)
 
 pub same-rid-is : (a b : Rid) → same_rid a b ≡ true → a ≡ b
-same-rid-is a b e = ⊎_elim (λ h. h) (λ ne. absurd (true≢false (sym e ∙ apart-rid a b ne))) (cases_rid a b)
+same-rid-is a b e = ⊎_elim (λ h. h) (λ ne. absurd (true≢false (sym e ∙ ne-same_rid a b ne))) (cases_rid a b)
 
 not_below_by : (a b : TxnId) (o : Ordering) → txn_cmp a b ≡ o → is_gt o ≡ false → IsBelow b a → ⊥
 not_below_by a b Less e f h = not_below_itself a (below_trans a b a (below_from_cmp a b e) h)
@@ -196,5 +158,5 @@ not_below a b f h = not_below_by a b (txn_cmp a b) refl f h
 pub same_rid-sym : (a b : Rid) → same_rid a b ≡ same_rid b a
 same_rid-sym a b = ⊎_elim
     (λ e. subst (λ (x : Rid). same_rid a x ≡ same_rid x a) e refl)
-    (λ ne. apart-rid a b ne ∙ sym (apart-rid b a (λ e. ne (sym e))))
+    (λ ne. ne-same_rid a b ne ∙ sym (ne-same_rid b a (λ e. ne (sym e))))
     (cases_rid a b)
