@@ -1,5 +1,5 @@
 -- The first change that doesn't fit is that of the first page whose chain doesn't. It serves the goals of merging.rt.
-use Rattle.std.proofs.Common.{◌≡◌, ⊎_elim, ℕ, ◌+◌, ◌<◌, ◌≤◌, List, ◌++◌, ◌∷◌, length, take, get_or, sym, ap, ◌∙◌, subst, arith}
+use Rattle.std.proofs.Common.{◌≡◌, ⊎_elim, ℕ, ◌+◌, ◌<◌, ◌≤◌, List, length, take, get_or, sym, ap, ◌∙◌, subst, arith}
 use Rattle.std.specs.Prelude.{slice_get}
 use Rattle.std.specs.List.Sorted.{IsNonDecreasingBy}
 use Rattle.std.proofs.lemmas.Bool.{cases_lt}
@@ -13,8 +13,8 @@ use Rattle.sd_chain.specs.Pages.{FitAll, FitsPage, replay}
 use Rattle.sd_chain.specs.Records.{of_page}
 use Rattle.std.specs.Prelude.{filter, Some}
 use Rattle.std.proofs.lemmas.Option.{same_Some}
-use Rattle.sd_newest.specs.declared.change.Change.{Change}
-use Rattle.sd_newest.specs.Changes.{AllStand, AreChanges, LsnsRise, StandsIn, chain_of, redone_of}
+use Rattle.sd_merge.specs.declared.change.Change.{Change}
+use Rattle.sd_merge.specs.Changes.{AllStand, AreChanges, LsnsRise, StandsIn, chain_of, redone_of}
 use Rattle.sd_newest.specs.Misfits.{ChainMisfit, FirstMisfit}
 use Rattle.sd_newest.specs.Reading.{ChainFits, image_of}
 use Rattle.sd_newest.specs.Redone.{FitOn, MisfitsAt}

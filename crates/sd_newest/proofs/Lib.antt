@@ -1,10 +1,6 @@
-pub mod Appended
-pub mod Filters
 pub mod Firsts
-pub mod Gathered
 pub mod Lists
-pub mod Merges
 pub mod Newest
-pub mod Ordered
+pub mod Noted
 pub mod Slots
 pub mod Steps

@@ -1,5 +1,5 @@
 -- The changes of a page redone on its disk image give its newest version. It serves the goals of merging.rt.
-use Rattle.std.proofs.Common.{◌≡◌, ℕ, ◌+◌, List, ◌++◌, Some, length, take, drop, refl, sym, ap, ◌∙◌, subst, arith}
+use Rattle.std.proofs.Common.{◌≡◌, ℕ, ◌+◌, List, ◌++◌, Option, Some, length, take, drop, refl, sym, ap, ◌∙◌, subst, arith}
 use Rattle.std.specs.Prelude.{filter, slice_get}
 use Rattle.std.proofs.lemmas.List.{take-append-le, take_all}
 use Rattle.std.proofs.lemmas.Option.{same_Some}
@@ -11,17 +11,20 @@ use Rattle.sd_chain.specs.Image.{all_of, chain, newest, sorted}
 use Rattle.sd_chain.specs.Laws.{MergedFit, MergedReplay}
 use Rattle.sd_chain.specs.Pages.{FitAll, replay}
 use Rattle.sd_chain.specs.Records.{of_page}
-use Rattle.sd_newest.specs.declared.change.Change.{Change}
-use Rattle.sd_newest.specs.Changes.{IsMerged, chain_of}
+use Rattle.sd_chain.proofs.Ties.{slow_of}
+use Rattle.sd_merge.specs.declared.change.Change.{Change}
+use Rattle.sd_merge.specs.Changes.{IsMerged, chain_of}
+use Rattle.sd_newest.specs.FirstAbove.{IsFirstAbove}
 use Rattle.sd_newest.specs.Reading.{ChainFits, image_of}
-use Rattle.sd_newest.specs.Redone.{IsMisfit, IsRedone}
+use Rattle.sd_newest.specs.Redone.{IsMisfit, IsNoted, IsRedone, first_above}
+use Rattle.sd_newest.proofs.Noted.{first_sorted}
 
 -- what is known of the disk image and the changes of a page
 pub record Known (bytes : List ℕ) (logs : List LogState) (p : ℕ) (cs : List Change) (disk : List Page) : Type 0 where
   pub fit : MergedFit
   pub replay : MergedReplay
   pub image : slice_get disk p ≡ Some (disk_page bytes p)
-  pub merged : IsMerged p (log_in logs) 9 cs
+  pub merged : IsMerged p (log_in logs) 9 (chain_of p cs)
 
 page_is : (bytes : List ℕ) (logs : List LogState) (p : ℕ) (cs : List Change) (disk : List Page) (page : Page)
     → Known bytes logs p cs disk → slice_get disk p ≡ Some page
@@ -51,6 +54,20 @@ redone_newest bytes logs p cs disk new known r =
     (chain_of p cs) known.merged.same known.merged.rises fit)
     ∙ ap (λ q. Some q) (sym (newest_is bytes logs p))
 
+-- and the LSN noted of it is that of the first record above its disk image
+pub noted_first : (bytes : List ℕ) (logs : List LogState) (p : ℕ) (cs : List Change) (disk : List Page) (firsts : List (Option ℕ))
+    → Known bytes logs p cs disk → IsNoted p cs disk firsts
+    → (rec : Option ℕ) × (slice_get firsts p ≡ Some rec) × IsFirstAbove (chain (image_of bytes logs) p) (disk_page bytes p).lsn rec
+noted_first bytes logs p cs disk firsts known n =
+    let floor : ℕ = (disk_page bytes p).lsn in
+    let same : n.page ≡ disk_page bytes p = page_is bytes logs p cs disk n.page known n.before in (
+      first_above floor (chain_of p cs),
+      n.first ∙ ap (λ (q : Page). Some (first_above q.lsn (chain_of p cs))) same,
+      subst (λ (l : List Rec). IsFirstAbove l floor (first_above floor (chain_of p cs))) (sym (chain_is bytes logs p))
+          (first_sorted (filter (of_page p) (all_of (log_in logs) 9)) (chain_of p cs) known.merged.same floor
+          (slow_of (chain_of p cs) known.merged.rises)),
+    )
+
 pub redone_fits : (bytes : List ℕ) (logs : List LogState) (p : ℕ) (cs : List Change) (disk new : List Page)
     → Known bytes logs p cs disk → IsRedone p cs disk new
     → ChainFits (image_of bytes logs) p
@@ -76,14 +93,15 @@ misfit_is bytes logs p cs disk known m fits =
 -- the same of what calls answer
 pub known_of : (bytes : List ℕ) (logs : List LogState) (p : ℕ) (cs all : List Change) (disk items : List Page) → MergedFit → MergedReplay
     → disk ≡ items → slice_get items p ≡ Some (disk_page bytes p) → cs ≡ all → length logs ≡ 8
-    → IsMerged p (log_in logs) (length logs + 1) all
+    → IsMerged p (log_in logs) (length logs + 1) (chain_of p all)
     → Known bytes logs p cs disk
 known_of bytes logs p cs all disk items fit replays e image f eight merged =
     let nine : length logs + 1 ≡ 9 = omega arith in record {
       fit = fit;
       replay = replays;
       image = ap (λ l. slice_get l p) e ∙ image;
-      merged = subst (IsMerged p (log_in logs) 9) (sym f) (subst (λ n. IsMerged p (log_in logs) n all) nine merged);
+      merged = subst (λ l. IsMerged p (log_in logs) 9 (chain_of p l)) (sym f)
+          (subst (λ n. IsMerged p (log_in logs) n (chain_of p all)) nine merged);
     }
 
 -- pages written back into their Vec

@@ -14,8 +14,8 @@ use Rattle.sd_page.specs.Page.{Page, empty_page}
 use Rattle.sd_chain.specs.Records.{of_page}
 use Rattle.sd_chain.specs.Pages.{FitAll, FitsPage, redo, replay}
 use Rattle.sd_chain.proofs.Chains.{FitAll-append, FitAll-back, replay-append}
-use Rattle.sd_newest.specs.declared.change.Change.{Change}
-use Rattle.sd_newest.specs.Changes.{AreChanges, ChangesPage, IsChange, chain_of, redone_of}
+use Rattle.sd_merge.specs.declared.change.Change.{Change}
+use Rattle.sd_merge.specs.Changes.{AreChanges, ChangesPage, IsChange, chain_of, redone_of}
 use Rattle.sd_newest.specs.Redone.{IsMisfit, IsRedone, MisfitsAt}
 
 pub none_redone : (p : ℕ) (old : List Page) → p < length old → IsRedone p [] old old
@@ -26,7 +26,7 @@ none_redone p old lt = record {
   fit = tt;
 }
 
-chain_of-append : (p : ℕ) (xs ys : List Change) → chain_of p (xs ++ ys) ≡ chain_of p xs ++ chain_of p ys
+pub chain_of-append : (p : ℕ) (xs ys : List Change) → chain_of p (xs ++ ys) ≡ chain_of p xs ++ chain_of p ys
 chain_of-append p xs ys = ap (filter (of_page p)) (map-append redone_of xs ys)
     ∙ filter-append (of_page p) (map redone_of xs) (map redone_of ys)
 
@@ -36,10 +36,10 @@ is_of_page c is = ap₂ (λ k n. k && eqb n c.page) is.page.kind is.page.here �
 no_other_page : (c : Change) (p : ℕ) → IsChange c → c.page ≢ p → of_page p (redone_of c) ≡ false
 no_other_page c p is ne = ap₂ (λ k n. k && eqb n p) is.page.kind is.page.here ∙ ne_eqb c.page p ne
 
-chain_here : (c : Change) → IsChange c → chain_of c.page (c ∷ []) ≡ redone_of c ∷ []
+pub chain_here : (c : Change) → IsChange c → chain_of c.page (c ∷ []) ≡ redone_of c ∷ []
 chain_here c is = ap (λ b. cond b (redone_of c ∷ []) []) (is_of_page c is)
 
-chain_there : (c : Change) (p : ℕ) → IsChange c → c.page ≢ p → chain_of p (c ∷ []) ≡ []
+pub chain_there : (c : Change) (p : ℕ) → IsChange c → c.page ≢ p → chain_of p (c ∷ []) ≡ []
 chain_there c p is ne = ap (λ b. cond b (redone_of c ∷ []) []) (no_other_page c p is ne)
 
 -- a change that fits the image that it finds, where it is above the LSN on disk, and is redone there
@@ -54,7 +54,7 @@ pub record Finds (c : Change) (old now : List Page) (lsns : List ℕ) (image : P
   pub lsns_are : lsns ≡ map (λ page. page.lsn) old
   pub image_is : image ≡ get_or now c.page image
 
-disk_lsn_is : (old : List Page) (lsns : List ℕ) (p : ℕ) (page : Page) → lsns ≡ map (λ page. page.lsn) old
+pub disk_lsn_is : (old : List Page) (lsns : List ℕ) (p : ℕ) (page : Page) → lsns ≡ map (λ page. page.lsn) old
     → slice_get old p ≡ Some page → get_or lsns p 0 ≡ page.lsn
 disk_lsn_is old lsns p page e is =
     get_or_from_slice_get lsns p page.lsn 0 (ap (λ l. slice_get l p) e ∙ slice_get-map (λ (q : Page). q.lsn) old p ∙ ap

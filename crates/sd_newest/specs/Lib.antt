@@ -1,4 +1,4 @@
-pub mod Changes
+pub mod FirstAbove
 pub mod Misfits
 pub mod Reading
 pub mod Redone

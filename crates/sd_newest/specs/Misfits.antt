@@ -7,7 +7,7 @@ use Rattle.sd_chain.specs.Checks.{TwinIsSound}
 use Rattle.sd_chain.specs.Faults.{FailsInTwin}
 use Rattle.sd_chain.specs.Image.{Image, chain}
 use Rattle.sd_chain.specs.Pages.{FitAll, FitsPage, replay}
-use Rattle.sd_newest.specs.Changes.{LsnsRise, StandsIn}
+use Rattle.sd_merge.specs.Changes.{LsnsRise, StandsIn}
 use Rattle.sd_newest.specs.Reading.{ChainFits, image_of}
 
 -- The first record of the page's chain that doesn't fit the page that it finds stands in this device's log at this place.

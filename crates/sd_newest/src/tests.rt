@@ -56,7 +56,9 @@ fn with_change(mut logs: Vec<Log>, index: usize, change: Record) -> Result<Vec<L
     ensures eight { IfOk result (λ logs. vec_len logs ≡ 8) }
     ensures spelled { IfOk result (λ logs. All (λ log. AreSpelled (scanned log)) logs.items) }
 {
-    logs[index].append(change, 0)?;
+    let log = &mut logs[index];
+    log.append(change, 0)?;
+    log.keeps();
     Ok(logs)
 }
 
@@ -149,9 +151,12 @@ fn changes_above_the_disk_image_are_merged(rt: HostRuntime) -> Result<(), Fail> 
         update(3, 0, value(alloc, b"red")?, value(alloc, b"sky")?),
     )?;
     let pages = newest_pages(alloc, &bytes, &logs)?;
-    let page = pages.first().ok_or("page 0")?;
+    let page = pages.images.first().ok_or("page 0")?;
     assert_eq!(rt; page.lsn(), 4);
     assert_eq!(rt; page.value(0), Some(b"jet".as_slice()));
+    assert_eq!(rt; pages.disk_lsns[0], 2);
+    assert_eq!(rt; pages.rec_lsns[0], Some(3));
+    assert_eq!(rt; pages.rec_lsns[1], None);
     Ok(())
 }
 
@@ -159,13 +164,14 @@ fn changes_above_the_disk_image_are_merged(rt: HostRuntime) -> Result<(), Fail> 
 fn without_images_and_records_pages_are_empty(rt: HostRuntime) -> Result<(), Fail> {
     let alloc = rt.alloc();
     let pages = newest_pages(alloc, &blank_data(alloc)?, &blank_logs(alloc)?)?;
-    assert_eq!(rt; pages.len(), 1024);
+    assert_eq!(rt; pages.images.len(), 1024);
     assert!(rt;
         pages
+            .images
             .iter()
             .all(|page| page.lsn() == 0 && page.count() == 0)
     );
-    assert_eq!(rt; pages[7].page().get(), 7);
+    assert_eq!(rt; pages.images[7].page().get(), 7);
     Ok(())
 }
 
@@ -175,7 +181,8 @@ fn of_two_slots_the_greater_lsn_counts(rt: HostRuntime) -> Result<(), Fail> {
     let older = with_slot(blank_data(alloc)?, 0, &red_page(alloc, 5)?);
     let both = with_slot(older, SECOND, &red_page(alloc, 3)?);
     let pages = newest_pages(alloc, &both, &blank_logs(alloc)?)?;
-    assert_eq!(rt; pages[0].lsn(), 5);
+    assert_eq!(rt; pages.images[0].lsn(), 5);
+    assert_eq!(rt; pages.disk_lsns[0], 5);
     Ok(())
 }
 

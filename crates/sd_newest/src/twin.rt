@@ -10,23 +10,18 @@ ghost use Rattle.sd_chain.specs.Checks.{IsPageSlot, TwinIsSound};
 ghost use Rattle.sd_chain.specs.Faults.{FailsInTwin, TwinFailsAt};
 ghost use Rattle.sd_newest.specs.Twins.{IsSlot, chosen_image};
 
-use sd_base::{PageNo, Refusal};
+use sd_base::{PAGES, PageNo, Refusal};
 use sd_gate::{Chosen, chosen_of, is_open};
-use sd_page::Image;
+use sd_page::{Image, PAGE_BYTES};
+use sd_rig::DATA_LEN;
 use std::alloc::Global;
 
-/// How many pages the data device has.
-const PAGES: u16 = 1024;
-
-/// The length of an image, in bytes.
-const BODY: usize = 1024;
-
 /// The length of a slot, a gate byte and an image.
-const SLOT: usize = BODY + 1;
+const SLOT: usize = PAGE_BYTES + 1;
 
 /// The disk image of each page by its number. `Damaged` names the least slot that fails of the first twin that isn't sound.
 pub(crate) fn disk_images(alloc: Global, bytes: &[u8]) -> Result<Vec<Image>, Refusal>
-    requires { length bytes.now ≡ 2099200 }
+    requires { length bytes.now ≡ DATA_LEN }
     ensures count { IfOk result (λ pages. length pages.items ≡ 1024) }
     ensures images { IfOk result (λ pages. (p : ℕ) → p < 1024 → slice_get pages.items p ≡ Some (disk_page bytes.now p)) }
     ensures sound { OnOk result ((p : ℕ) → p < 1024 → TwinIsSound p bytes.now) }
@@ -43,19 +38,22 @@ pub(crate) fn disk_images(alloc: Global, bytes: &[u8]) -> Result<Vec<Image>, Ref
 
 // The disk image of a page: that of the slot that counts, or the empty page.
 fn disk_image(bytes: &[u8], p: PageNo) -> Result<Image, Refusal>
-    requires { length bytes.now ≡ 2099200 }
+    requires { length bytes.now ≡ DATA_LEN }
     ensures image { IfOk result (λ image. image ≡ disk_page bytes.now p) }
     ensures sound { OnOk result (TwinIsSound p bytes.now) }
     ensures refusals { IfErr result (λ e. (at : ℕ) × (e ≡ R.Damaged 0 at) × TwinFailsAt p bytes.now at) }
 {
     let at = 2 * SLOT * p.get() as usize;
     let first = slot_image(bytes, at, p)?;
-    let chosen = chosen_of(&bytes[at..at + 2 * SLOT], BODY);
+    let chosen = chosen_of(&bytes[at..at + 2 * SLOT], PAGE_BYTES);
     if let Chosen::Same = chosen {
         return Err(damaged(at));
     }
     let second = slot_image(bytes, at + SLOT, p)?;
-    Ok(chosen_image(chosen, first, second).unwrap_or(Image::empty(p)))
+    match chosen_image(chosen, first, second) {
+        Some(image) => Ok(image),
+        None => Ok(Image::empty(p)),
+    }
 }
 
 // The image in the slot with this gate; none where the slot is closed.

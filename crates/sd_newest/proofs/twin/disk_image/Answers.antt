@@ -1,6 +1,8 @@
 use Rattle.std.proofs.Common.{◌*◌, ◌∙◌, ap, refl, sym}
 use Rattle.std.proofs.lemmas.Result.{err_from_is_err_and}
+use Rattle.std.specs.Prelude.{unwrap_or}
 use Rattle.sd_gate.specs.Slots.{slot}
+use Rattle.sd_page.specs.Page.{empty_page}
 use Rattle.sd_gate.proofs.Parts.{chosen_read}
 use Rattle.sd_newest.proofs.Slots.{first_fails, image_at, names_same, same_fails, second_fails, sound_at}
 use Rattle.sd_newest.proofs.twin.disk_image.Goals as goal
@@ -31,16 +33,28 @@ returns-in_err-second-clause-refusals c =
           (λ same. c.in_default.not-Same (names_same c.chosen_of-chosen.result (is ∙ same))) bad.1,
     )
 
-pub returns-clause-image : goal.returns-clause-image
-returns-clause-image c =
-    let is = c.chosen_of-chosen.ensures ∙ chosen_read (2050 * c.get.result) 1024 2050 c.args.bytes.now _ refl refl in
-    rw (c.unwrap_or.ensures, c.chosen_image.ensures, c.empty.ensures) (image_at c.args.p c.get.result c.args.bytes.now
-    c.get.ensures.value (slot c.chosen_of-chosen.result) c.in_ok-first.first c.in_ok-second.second c.in_ok-first.ensures.image
-    c.in_ok-second.ensures.image is (λ same. c.in_default.not-Same (names_same c.chosen_of-chosen.result same)))
+pub returns-in-Some : goal.returns-in-Some
+returns-in-Some c =
+    let is = c.chosen_of-chosen.ensures ∙ chosen_read (2050 * c.get.result) 1024 2050 c.args.bytes.now _ refl refl in record {
+      image = sym (ap (λ o. unwrap_or o (empty_page c.args.p)) (sym c.chosen_image.ensures ∙ c.in-Some.is))
+          ∙ image_at c.args.p c.get.result c.args.bytes.now c.get.ensures.value (slot c.chosen_of-chosen.result) c.in_ok-first.first
+          c.in_ok-second.second c.in_ok-first.ensures.image c.in_ok-second.ensures.image is
+          (λ same. c.in_default.not-Same (names_same c.chosen_of-chosen.result same));
+      sound = sound_at c.args.p c.get.result c.args.bytes.now c.get.ensures.value c.in_ok-first.first c.in_ok-second.second
+          c.in_ok-first.ensures.image c.in_ok-second.ensures.image
+          (λ same. c.in_default.not-Same (names_same c.chosen_of-chosen.result (is ∙ same)));
+      refusals = tt;
+    }
 
-pub returns-clause-sound : goal.returns-clause-sound
-returns-clause-sound c =
-    let is = c.chosen_of-chosen.ensures ∙ chosen_read (2050 * c.get.result) 1024 2050 c.args.bytes.now _ refl refl in
-    sound_at c.args.p c.get.result c.args.bytes.now c.get.ensures.value c.in_ok-first.first c.in_ok-second.second
-    c.in_ok-first.ensures.image c.in_ok-second.ensures.image
-    (λ same. c.in_default.not-Same (names_same c.chosen_of-chosen.result (is ∙ same)))
+pub returns-in-None : goal.returns-in-None
+returns-in-None c =
+    let is = c.chosen_of-chosen.ensures ∙ chosen_read (2050 * c.get.result) 1024 2050 c.args.bytes.now _ refl refl in record {
+      image = c.empty.ensures ∙ sym (ap (λ o. unwrap_or o (empty_page c.args.p)) (sym c.chosen_image.ensures ∙ c.in-None.is))
+          ∙ image_at c.args.p c.get.result c.args.bytes.now c.get.ensures.value (slot c.chosen_of-chosen.result) c.in_ok-first.first
+          c.in_ok-second.second c.in_ok-first.ensures.image c.in_ok-second.ensures.image is
+          (λ same. c.in_default.not-Same (names_same c.chosen_of-chosen.result same));
+      sound = sound_at c.args.p c.get.result c.args.bytes.now c.get.ensures.value c.in_ok-first.first c.in_ok-second.second
+          c.in_ok-first.ensures.image c.in_ok-second.ensures.image
+          (λ same. c.in_default.not-Same (names_same c.chosen_of-chosen.result (is ∙ same)));
+      refusals = tt;
+    }

@@ -1,0 +1,5 @@
+pub mod Filters
+pub mod Turns
+pub mod Ordered
+pub mod Gathered
+pub mod Merges

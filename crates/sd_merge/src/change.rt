@@ -1,0 +1,216 @@
+//! The records of all logs that change a page, in the order in which they are redone.
+
+ghost use Rattle.std.specs.Prelude.{◌≡◌, ℕ, ◌+◌, ◌<◌, ◌++◌, filter, length, map, false, true, All, IfOk, IfSome, IsPermutation, OnOk};
+ghost use Rattle.std.specs.List.Sorted.{IsNonDecreasingBy};
+ghost use Rattle.sd_base.specs.declared.refusal.Refusal.TheVariants as R;
+ghost use Rattle.sd_logrec.specs.View.{flat};
+ghost use Rattle.sd_log.specs.Logs.{AreSpelled, flats, forced_in, log_in, scanned, without_tail};
+ghost use Rattle.sd_chain.specs.Image.{all_of, sorted};
+ghost use Rattle.sd_chain.specs.Records.{of_page};
+ghost use Rattle.sd_merge.specs.Changes.{AllStand, AreChanges, ChangesPage, IsMerged, LsnsRise, chain_of, in_turn, is_change, is_forced_of, is_wanted, of_lsn, placed_in, found_of, redone_of};
+
+use sd_base::{Duplicate, Lsn, Memory, PageNo, Refusal};
+use sd_log::{Log, Placed};
+use sd_logrec::{AREA, Record};
+use std::alloc::Global;
+
+/// A record that changes the page of this number, and the device of its log.
+#[derive(Drop)]
+pub struct Change<'a> {
+    pub dev: u8,
+    pub page: u16,
+    pub found: &'a Placed,
+}
+
+impl<'a> Change<'a> {
+    // The record as a change; `None` where it changes no page.
+    fn of(dev: u8, found: &'a Placed) -> Option<Change<'a>>
+        ensures none { result ≡ None → is_change (flat found.now.rec) ≡ false }
+        ensures found { IfSome result (λ change. change.found.now ≡ found.now) }
+        ensures page { IfSome result (λ change. ChangesPage change.found.now.rec change.page) }
+        ensures dev { IfSome result (λ change. change.dev ≡ dev) }
+    {
+        match found.rec {
+            Record::Update { page, .. } | Record::Clr { page, .. } => Some(Change {
+                dev,
+                page: page.get(),
+                found,
+            }),
+            _ => None,
+        }
+    }
+
+    /// The LSN of the record.
+    pub fn lsn(&self) -> Lsn
+        ensures { result ≡ (redone_of self.now).lsn }
+    {
+        self.found.rec.lsn()
+    }
+
+    /// The refusal of devices on which this record doesn't fit: its device, and its place there, in bytes.
+    pub fn damaged(&self) -> Refusal
+        ensures { result ≡ R.Damaged self.now.dev (AREA + self.now.found.now.place) }
+    {
+        damaged(self.dev, self.found.place)
+    }
+}
+
+/// The refusal of devices of which this log isn't sound at this place of its area.
+pub fn damaged(dev: u8, place: u32) -> Refusal
+    ensures { result ≡ R.Damaged dev (AREA + place) }
+{
+    Refusal::Damaged {
+        dev,
+        at: u64::from(AREA) + u64::from(place),
+    }
+}
+
+/// Which changes are gathered.
+#[derive(Drop)]
+pub(crate) enum Wanted {
+    /// Each of every page.
+    Every,
+    /// The forced ones of the page of this number.
+    Forced { page: u16 },
+}
+
+impl Wanted {
+    fn takes(&self, change: &Change) -> bool
+        requires { ChangesPage change.now.found.now.rec change.now.page }
+        ensures { result ≡ is_wanted self.now change.now.found.now }
+    {
+        match self {
+            Wanted::Every => true,
+            Wanted::Forced { page } => change.found.forced && change.page == *page,
+        }
+    }
+}
+
+/// The changes of all logs by page, of each page by LSN, and of each LSN in the order of the logs. Only `Memory` is
+/// refused.
+pub fn merged_changes(alloc: Global, logs: &[Log]) -> Result<Vec<Change>, Memory>
+    requires few { length logs.now < 256 }
+    requires spelled { All (λ log. AreSpelled (scanned log)) logs.now }
+    ensures changes { IfOk result (λ changes. AreChanges changes.items) }
+    ensures stand { IfOk result (λ changes. AllStand logs.now changes.items) }
+    ensures rises { IfOk result (λ changes. IsNonDecreasingBy (λ c. c.page) changes.items) }
+    ensures merged { IfOk result (λ changes. (p : ℕ) → IsMerged p (log_in logs.now) (length logs.now + 1) (chain_of p changes.items)) }
+    ensures chains { IfOk result (λ changes. LsnsRise logs.now → (p : ℕ) → chain_of p changes.items
+        ≡ sorted (filter (of_page p) (all_of (log_in logs.now) (length logs.now + 1)))) }
+{
+    let mut changes = changes_by_lsn(alloc, logs, &Wanted::Every)?;
+    changes.sort_by_key(|change| change.page)?;
+    Ok(changes)
+}
+
+/// The forced records of all logs that change a page, as they are redone: by LSN, and those of one LSN in the order of the
+/// logs. Records of tails aren't among them. Only `Memory` is refused.
+pub fn merge_page(alloc: Global, logs: &[Log], p: PageNo) -> Result<Vec<Placed>, Memory>
+    requires few { length logs.now < 256 }
+    requires spelled { All (λ log. AreSpelled (scanned log)) logs.now }
+    ensures spelled { IfOk result (λ found. AreSpelled found.items) }
+    ensures pages { IfOk result (λ found. All (λ x. ChangesPage x.rec p) found.items) }
+    ensures forced { IfOk result (λ found. All (λ x. x.forced ≡ true) found.items) }
+    ensures merged { IfOk result (λ found. IsMerged p (forced_in logs.now) (length logs.now + 1) (flats found.items)) }
+    // Those of each LSN are the very records of the logs, log 1 first.
+    ensures turns { IfOk result (λ found. (n : ℕ) → of_lsn n found.items
+        ≡ of_lsn n (filter (is_forced_of p) (in_turn (placed_in logs.now) (length logs.now + 1)))) }
+    ensures chain { IfOk result (λ found. LsnsRise (map without_tail logs.now) → flats found.items
+        ≡ sorted (filter (of_page p) (all_of (forced_in logs.now) (length logs.now + 1)))) }
+{
+    let page = p.get();
+    let changes = changes_by_lsn(alloc, logs, &Wanted::Forced { page })?;
+    copies(alloc, &changes)
+}
+
+// Copies of the records.
+fn copies(alloc: Global, changes: &[Change]) -> Result<Vec<Placed>, Memory>
+    ensures { IfOk result (λ copies. copies.items ≡ map found_of changes.now) }
+{
+    let mut copies = Vec::new(alloc);
+    for change in changes {
+        copies.push(change.found.copy()?)?;
+    }
+    Ok(copies)
+}
+
+// The wanted changes of all logs by LSN, and those of each LSN in the order of the logs.
+fn changes_by_lsn<'a>(
+    alloc: Global,
+    logs: &'a [Log],
+    wanted: &Wanted,
+) -> Result<Vec<Change<'a>>, Memory>
+    requires few { length logs.now < 256 }
+    requires spelled { All (λ log. AreSpelled (scanned log)) logs.now }
+    ensures changes { IfOk result (λ changes. AreChanges changes.items) }
+    ensures stand { IfOk result (λ changes. AllStand logs.now changes.items) }
+    ensures rises { IfOk result (λ changes. IsNonDecreasingBy (λ c. (redone_of c).lsn) changes.items) }
+    ensures same { IfOk result (λ changes. IsPermutation (filter (is_wanted wanted.now) (in_turn (placed_in logs.now) (length logs.now + 1)))
+        (map found_of changes.items)) }
+    ensures turns { IfOk result (λ changes. (n : ℕ) → of_lsn n (map found_of changes.items)
+        ≡ of_lsn n (filter (is_wanted wanted.now) (in_turn (placed_in logs.now) (length logs.now + 1)))) }
+{
+    let mut changes = gathered_changes(alloc, logs, wanted)?;
+    changes.sort_by_key(|change| change.lsn())?;
+    Ok(changes)
+}
+
+// The wanted changes of all logs, log by log.
+fn gathered_changes<'a>(
+    alloc: Global,
+    logs: &'a [Log],
+    wanted: &Wanted,
+) -> Result<Vec<Change<'a>>, Memory>
+    requires few { length logs.now < 256 }
+    requires spelled { All (λ log. AreSpelled (scanned log)) logs.now }
+    ensures changes { IfOk result (λ changes. AreChanges changes.items) }
+    ensures stand { IfOk result (λ changes. AllStand logs.now changes.items) }
+    ensures gathered { IfOk result (λ changes. map found_of changes.items
+        ≡ filter (is_wanted wanted.now) (in_turn (placed_in logs.now) (length logs.now + 1))) }
+{
+    let mut changes = Vec::new(alloc);
+    for index in 0..logs.len() {
+        gather(&mut changes, logs, index, wanted)?;
+    }
+    Ok(changes)
+}
+
+// Puts the wanted changes of the log of this index behind the others.
+fn gather<'a>(
+    changes: &mut Vec<Change<'a>>,
+    logs: &'a [Log],
+    index: usize,
+    wanted: &Wanted,
+) -> Result<(), Memory>
+    requires few { length logs.now < 256 }
+    requires there { index < length logs.now }
+    requires spelled { All (λ log. AreSpelled (scanned log)) logs.now }
+    requires changes { AreChanges changes.old.items }
+    requires stand { AllStand logs.now changes.old.items }
+    ensures changes { OnOk result (AreChanges changes.new.items) }
+    ensures stand { OnOk result (AllStand logs.now changes.new.items) }
+    ensures gathered { OnOk result (map found_of changes.new.items
+        ≡ map found_of changes.old.items ++ filter (is_wanted wanted.now) (placed_in logs.now (index + 1))) }
+{
+    for found in logs[index].scan() {
+        if let Some(change) = wanted_change(index as u8 + 1, found, wanted) {
+            changes.push(change)?;
+        }
+    }
+    Ok(())
+}
+
+// The record as a change; `None` where it isn't wanted.
+fn wanted_change<'a>(dev: u8, found: &'a Placed, wanted: &Wanted) -> Option<Change<'a>>
+    ensures none { result ≡ None → is_wanted wanted.now found.now ≡ false }
+    ensures wanted { IfSome result (λ change. is_wanted wanted.now found.now ≡ true) }
+    ensures found { IfSome result (λ change. change.found.now ≡ found.now) }
+    ensures page { IfSome result (λ change. ChangesPage change.found.now.rec change.page) }
+    ensures dev { IfSome result (λ change. change.dev ≡ dev) }
+{
+    let change = Change::of(dev, found)?;
+    if !wanted.takes(&change) {
+        return None;
+    }
+    Some(change)
+}

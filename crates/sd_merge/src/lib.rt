@@ -1,0 +1,25 @@
+//! The records of all logs that change a page, merged in the order of their redo (ARIES, section 6.2).
+//!
+//! Meaning: a change is a record of a log that changes a page (`IsChange`, `StandsIn`); a page's changes are merged where
+//! they are those of the logs by LSN (`IsMerged`, `specs/Changes.antt`).
+//! Keeps: nothing.
+//! Promises: `merged_changes` has each change of all logs, tails too, by page and then by LSN; `merge_page` has the forced
+//! ones of one page by LSN; those of one LSN come in the order of the logs (`turns`). Where LSNs rise in each log a page's
+//! are its chain (`chains`, `chain`). Both gather the wanted ones log by log and sort once by LSN.
+//! Refuses: nothing but for want of memory.
+//! Knows nothing of: images of pages, which record fits.
+//! Stands on: sd_base, sd_logrec, sd_log, sd_rig, sd_chain.
+//! Held by the caller: each record is one of the grammar (`spelled`).
+//!
+//! To change:
+//! - free: bodies, private helpers, `Wanted`
+//! - dear: `Change`, `IsMerged`, the clauses of both calls
+//! - frozen: nothing
+#![tactic(auto)]
+
+mod change;
+
+pub use change::{Change, damaged, merge_page, merged_changes};
+
+#[cfg(test)]
+mod tests;
