@@ -11,13 +11,13 @@ use Rattle.sd_chain.specs.Records.{ends, IsOpen}
 use Rattle.sd_chain.specs.Order.{speaks, of_txn, none_yet, after_all, first_prev, UndoesTop}
 use Rattle.sd_chain.specs.Faults.{LeavesOpen, Skips, UndoesOther}
 use Rattle.sd_chain.proofs.Lists.{Each-append}
-use Rattle.sd_chain.proofs.Txns.{eq-same}
 use Rattle.sd_analysis.specs.Faults.{MayCome}
 use Rattle.sd_analysis.specs.Misplaced.{Finds, IsOff}
 use Rattle.sd_analysis.specs.Seen.{EndsAt, IsFirstEnd, Judged, closed_by}
 use Rattle.sd_analysis.proofs.Misplaced.{any_behind, dec_empty, dec_top, front_get, mid_get}
 use Rattle.sd_chain.proofs.Whose.{both, ends-off, own_is}
 use Rattle.sd_analysis.proofs.Steps.{IsWrongHere, Shuts, shown}
+use Rattle.sd_base.proofs.SameIds.{eq-same}
 
 -- ---- records that close nothing
 

@@ -3,6 +3,7 @@ use Rattle.std.proofs.Common.{◌≡◌, ◌≢◌, ◌⊎◌, inl, inr, ⊎_eli
 use Rattle.std.specs.List.{list_any, AllByRecursion}
 use Rattle.std.specs.List.Sorted.{IsStrictlySortedBy}
 use Rattle.std.specs.Map.{keys_of, lookup}
+use Rattle.std.specs.Option.{option_map_or}
 use Rattle.std.specs.Ordering.{is_eq}
 use Rattle.std.specs.declared.cmp.Ordering.TheVariants.{Less}
 use Rattle.std.specs.Prelude.{is_some, IfSome, MatchOption}
@@ -20,29 +21,37 @@ use Rattle.sd_chain.specs.Order.{after_all, first_prev, none_yet, of_txn, speaks
 use Rattle.sd_chain.specs.Faults.{BeginsLate, IsFirstMisplaced, IsMisplaced, IsWrong}
 use Rattle.sd_chain.proofs.Lists.{Each-append, Each-weaker}
 use Rattle.sd_chain.specs.Undoing.{Member}
-use Rattle.sd_chain.proofs.Txns.{cases_txn, eq-same, ne-same}
 use Rattle.sd_analysis.specs.declared.losers.Loser.{Loser}
 use Rattle.sd_analysis.specs.declared.seen.Seen.{Seen}
 use Rattle.sd_analysis.specs.Misplaced.{Covers, IsLeast, IsOff, IsWrongYet}
 use Rattle.sd_analysis.specs.Losers.{record_at, AreAt, AreLosers, AreTidy, IsLoser, Rise}
+use Rattle.sd_analysis.specs.Faults.{IsFirst}
 use Rattle.sd_analysis.specs.Seen.{EndsAt, Tells, TellsOf, TellsAll}
-use Rattle.sd_analysis.proofs.Keyed.{txn_cmp, txn_is_eq, below_from_cmp}
 use Rattle.sd_analysis.proofs.Closers.{open_shuts}
+use Rattle.sd_analysis.proofs.Indices.{at_within}
+use Rattle.sd_analysis.proofs.Known.{found_at, rec_at}
 use Rattle.sd_analysis.proofs.Misplaced.{any_at, any_before, parts_at, tidy_not}
 use Rattle.sd_analysis.proofs.Orders.{none_tidy}
+use Rattle.sd_analysis.proofs.Spans.{span-is}
 use Rattle.sd_chain.proofs.Whose.{both, first_prev-behind, open_ones-is, own_is, own_of}
 use Rattle.sd_analysis.proofs.Steps.{if_some}
+use Rattle.sd_base.proofs.SameIds.{cases_txn, eq-same, ne-same}
+use Rattle.sd_base.proofs.Orders.{txn_cmp, txn_is_eq, below_from_cmp}
 
 abbrev pub Row : Type 0
 Row = TxnId × Seen
 
-abbrev pub loser_of : Row → Loser
-loser_of row = record { txn = row.0; «open» = row.1.open.items }
+-- the LSN of the record of this index
+abbrev pub lsn_at : List Placed → ℕ → ℕ
+lsn_at log at = option_map_or (λ (x : Rec). x.lsn) (record_at log at) 0
+
+abbrev pub loser_of : List Placed → Row → Loser
+loser_of log row = record { txn = row.0; «open» = row.1.open.items; first = lsn_at log row.1.first; last = row.1.last }
 
 -- the rows that aren't closed
-abbrev pub losers_in : List Row → List Loser
-losers_in [] = []
-losers_in (row ∷ rows) = cond {A = List Loser} (is_some row.1.closed) (losers_in rows) (loser_of row ∷ losers_in rows)
+abbrev pub losers_in : List Placed → List Row → List Loser
+losers_in log [] = []
+losers_in log (row ∷ rows) = cond {A = List Loser} (is_some row.1.closed) (losers_in log rows) (loser_of log row ∷ losers_in log rows)
 
 -- where the transaction runs and its first record isn't the first that it wrote, that record or a lower one is told
 abbrev pub IsCovered : Option ℕ → Row → Type 0
@@ -53,7 +62,7 @@ IsTold log row = Tells log (flats log) row.0 row.1
 
 -- the rows that are left, and the losers and the least index so far
 pub record Ending (log : List Placed) (rows left : List Row) (losers : List Loser) (worst : Option ℕ) : Type 0 where
-  pub parts : losers ++ losers_in left ≡ losers_in rows
+  pub parts : losers ++ losers_in log left ≡ losers_in log rows
   pub told : Each (IsTold log) left
   pub hit : IfSome worst (IsMisplaced (flats log))
   pub off : (j : ℕ) → IsOff (flats log) j → Covers worst j
@@ -193,61 +202,78 @@ first_within log at first =
 
 -- ---- the losers
 
-loser_told : (log : List Placed) (row : Row) → IsTold log row → row.1.closed ≡ None → IsLoser log (loser_of row)
+loser_told : (log : List Placed) (row : Row) → IsTold log row → row.1.closed ≡ None → IsLoser log (loser_of log row)
 loser_told log row tells runs = record {
   runs = subst (EndsAt (flats log) row.0) runs tells.closed;
   there = tells.there;
   stack_is = subst (AreAt log row.1.open.items) (open_ones-is row.0 none_yet (flats log)) tells.fits.open_is;
+  span_is = span-is row.0 (flats log) row.1.first f.here (sym (get-flats log row.1.first) ∙ f.there) f.own
+      (ap (list_any (of_txn row.0)) (sym (take-flats log row.1.first)) ∙ f.none)
+      ∙ ap (λ (n : ℕ). Some (f.here.lsn, n)) (sym tells.fits.last_is)
+      ∙ ap (λ (n : ℕ). Some (n, row.1.last)) (sym (ap (λ (o : Option Rec). option_map_or (λ (x : Rec). x.lsn) o 0) f.there));
 }
+  where
+    f : IsFirst log row.0 row.1.first row.1.first_prev
+    f = tells.first
 
-each_loser : (log : List Placed) (rows : List Row) → Each (IsTold log) rows → Each (IsLoser log) (losers_in rows)
+each_loser : (log : List Placed) (rows : List Row) → Each (IsTold log) rows → Each (IsLoser log) (losers_in log rows)
 each_loser log [] told = tt
 each_loser log (row ∷ rows) told = ⊎_elim (λ shut. rw shut (each_loser log rows told.1))
     (λ runs. rw runs (loser_told log row told.0 (runs_if row.1.closed runs), each_loser log rows told.1)) (cases_Bool (is_some row.1.closed))
 
-below_each : (t : TxnId) (rows : List Row) → AllByRecursion (λ y. txn_cmp t y ≡ Less) (keys_of rows)
-    → Each (λ (other : Loser). IsBelow t other.txn) (losers_in rows)
-below_each t [] a = tt
-below_each t (row ∷ rows) a = ⊎_elim (λ shut. rw shut (below_each t rows a.1))
-    (λ runs. rw runs (below_from_cmp t row.0 a.0, below_each t rows a.1)) (cases_Bool (is_some row.1.closed))
+below_each : (log : List Placed) (t : TxnId) (rows : List Row) → AllByRecursion (λ y. txn_cmp t y ≡ Less) (keys_of rows)
+    → Each (λ (other : Loser). IsBelow t other.txn) (losers_in log rows)
+below_each log t [] a = tt
+below_each log t (row ∷ rows) a = ⊎_elim (λ shut. rw shut (below_each log t rows a.1))
+    (λ runs. rw runs (below_from_cmp t row.0 a.0, below_each log t rows a.1)) (cases_Bool (is_some row.1.closed))
 
-rise_in : (rows : List Row) → IsOrdered rows → Rise (losers_in rows)
-rise_in [] ordered = tt
-rise_in (row ∷ rows) ordered =
-    let rest = rise_in rows (sorted_tail txn_cmp row.0 (keys_of rows) ordered) in
+rise_in : (log : List Placed) (rows : List Row) → IsOrdered rows → Rise (losers_in log rows)
+rise_in log [] ordered = tt
+rise_in log (row ∷ rows) ordered =
+    let rest = rise_in log rows (sorted_tail txn_cmp row.0 (keys_of rows) ordered) in
     ⊎_elim (λ shut. rw shut rest)
-    (λ runs. rw runs (below_each row.0 rows (sorted_head txn_cmp row.0 (keys_of rows) ordered), rest)) (cases_Bool (is_some row.1.closed))
+    (λ runs. rw runs (below_each log row.0 rows (sorted_head txn_cmp row.0 (keys_of rows) ordered), rest)) (cases_Bool (is_some row.1.closed))
 
 is_same : (t u : TxnId) → same_txn t u ≡ true → t ≡ u
 is_same t u e = ⊎_elim (λ is. is) (λ ne. let f = ne-same t u ne in absurd (cc)) (cases_txn t u)
 
-member_in : (t : TxnId) (seen : Seen) (rows : List Row) → lookup (same_txn t) rows ≡ Some seen → is_some seen.closed ≡ false
-    → Member t (map (λ l. l.txn) (losers_in rows))
-member_in t seen [] found runs = absurd (cc)
-member_in t seen (row ∷ rows) found runs = ⊎_elim
+member_in : (log : List Placed) (t : TxnId) (seen : Seen) (rows : List Row) → lookup (same_txn t) rows ≡ Some seen → is_some seen.closed ≡ false
+    → Member t (map (λ l. l.txn) (losers_in log rows))
+member_in log t seen [] found runs = absurd (cc)
+member_in log t seen (row ∷ rows) found runs = ⊎_elim
     (λ is. let e : row.1 ≡ seen = (let f = rw is at found in cc) in
     let unshut : is_some row.1.closed ≡ false = ap (λ (s : Seen). is_some s.closed) e ∙ runs in rw unshut (inl (is_same t row.0 is)))
-    (λ off. let rest = member_in t seen rows (rw off at found) runs in
+    (λ off. let rest = member_in log t seen rows (rw off at found) runs in
     ⊎_elim (λ shut. rw shut rest) (λ unshut. rw unshut (inr rest)) (cases_Bool (is_some row.1.closed)))
     (cases_Bool (same_txn t row.0))
 
-pub all_losers : (log : List Placed) (rows : List Row) → IsOrdered rows → TellsAll log (flats log) rows → AreLosers log (losers_in rows)
+pub all_losers : (log : List Placed) (rows : List Row) → IsOrdered rows → TellsAll log (flats log) rows → AreLosers log (losers_in log rows)
 all_losers log rows ordered known = record {
   each = each_loser log rows (all_told log rows ordered known);
-  rise = rise_in rows ordered;
+  rise = rise_in log rows ordered;
   all = λ t o there. go t o there (lookup (same_txn t) rows) refl (known t);
 }
   where
     go : (t : TxnId) → IsOpen t (flats log) → list_any (of_txn t) (flats log) ≡ true → (row : Option Seen) → lookup (same_txn t) rows ≡ row
-        → TellsOf log (flats log) t row → Member t (map (λ l. l.txn) (losers_in rows))
+        → TellsOf log (flats log) t row → Member t (map (λ l. l.txn) (losers_in log rows))
     go t o there None is none = let c = sym there ∙ none in absurd (cc)
-    go t o there (Some seen) is tells = member_in t seen rows is (runs seen.closed tells.closed)
+    go t o there (Some seen) is tells = member_in log t seen rows is (runs seen.closed tells.closed)
       where
         runs : (c : Option ℕ) → EndsAt (flats log) t c → is_some c ≡ false
         runs None e = refl
         runs (Some k) e = absurd (open_shuts t (flats log) k e.here o e.there e.closes (own_is t e.here e.own))
 
 -- ---- one row after another
+
+-- a row's first record lies in the log
+pub row_within : (log : List Placed) (rows left : List Row) (row : Row) (losers : List Loser) (worst : Option ℕ)
+    → Ending log rows (row ∷ left) losers worst → row.1.first < length log
+row_within log rows left row losers worst ending =
+    let first = ending.told.0.first in at_within log row.1.first first.here first.there
+
+-- the LSN that is read there
+pub lsn-at : (log : List Placed) (at : ℕ) (p : Placed) (lsn : ℕ) → at < length log → lsn ≡ (rec_at log at p).lsn → lsn ≡ lsn_at log at
+lsn-at log at p lsn lt is = is ∙ sym (ap (λ (o : Option Rec). option_map_or (λ (x : Rec). x.lsn) o 0) (found_at log at p lt))
 
 pub ending_start : (log : List Placed) (rows : List Row) (worst : Option ℕ) → IsOrdered rows → TellsAll log (flats log) rows → IsLeast (flats log) worst → Ending log rows rows [] worst
 ending_start log rows worst ordered known least = record {
@@ -266,7 +292,7 @@ rows_more rows past left row e = e ∙ sym (append_assoc past (row ∷ []) left)
 pub ending_shut : (log : List Placed) (rows left : List Row) (row : Row) (losers : List Loser) (worst : Option ℕ) → Ending log rows (row ∷ left) losers worst
     → is_some row.1.closed ≡ true → Ending log rows left losers worst
 ending_shut log rows left row losers worst ending shut = record {
-  parts = ap (λ (b : Bool). losers ++ cond {A = List Loser} b (losers_in left) (loser_of row ∷ losers_in left)) (sym shut) ∙ ending.parts;
+  parts = ap (λ (b : Bool). losers ++ cond {A = List Loser} b (losers_in log left) (loser_of log row ∷ losers_in log left)) (sym shut) ∙ ending.parts;
   told = ending.told.1;
   hit = ending.hit;
   off = ending.off;
@@ -288,10 +314,10 @@ late_hits log t seen None tells runs l = tt
 late_hits log t seen (Some k) tells runs l = subst (IsMisplaced (flats log)) (sym l.0) (late_misplaced log t seen tells runs l.1)
 
 pub ending_open : (log : List Placed) (rows left : List Row) (row : Row) (losers : List Loser) (worst late least : Option ℕ) → Ending log rows (row ∷ left) losers worst
-    → is_some row.1.closed ≡ false → IsLate row.1 late → ((least ≡ worst) ⊎ (least ≡ late)) → ((j : ℕ) → Covers worst j ⊎ Covers late j → Covers least j) → Ending log rows left (losers ++ loser_of row ∷ []) least
+    → is_some row.1.closed ≡ false → IsLate row.1 late → ((least ≡ worst) ⊎ (least ≡ late)) → ((j : ℕ) → Covers worst j ⊎ Covers late j → Covers least j) → Ending log rows left (losers ++ loser_of log row ∷ []) least
 ending_open log rows left row losers worst late least ending runs is_late either covers = record {
-  parts = append_assoc losers (loser_of row ∷ []) (losers_in left)
-      ∙ ap (λ (b : Bool). losers ++ cond {A = List Loser} b (losers_in left) (loser_of row ∷ losers_in left)) (sym runs) ∙ ending.parts;
+  parts = append_assoc losers (loser_of log row ∷ []) (losers_in log left)
+      ∙ ap (λ (b : Bool). losers ++ cond {A = List Loser} b (losers_in log left) (loser_of log row ∷ losers_in log left)) (sym runs) ∙ ending.parts;
   told = ending.told.1;
   hit = ⊎_elim (λ e. subst (λ (o : Option ℕ). IfSome o (IsMisplaced (flats log))) (sym e) ending.hit)
       (λ e. subst (λ (o : Option ℕ). IfSome o (IsMisplaced (flats log))) (sym e) (late_hits log row.0 row.1 late ending.told.0 (runs_if row.1.closed runs) is_late)) either;
@@ -304,7 +330,7 @@ ending_open log rows left row losers worst late least ending runs is_late either
 }
 
 pub ending_all : (log : List Placed) (rows : List Row) (losers : List Loser) (worst : Option ℕ) → Ending log rows [] losers worst
-    → (losers ≡ losers_in rows) × Each (IsCovered worst) rows
+    → (losers ≡ losers_in log rows) × Each (IsCovered worst) rows
 ending_all log rows losers worst ending = (
   sym (append-nil losers) ∙ ending.parts,
   subst (Each (IsCovered worst)) (sym (ending.rows_are ∙ append-nil ending.past)) ending.covered,

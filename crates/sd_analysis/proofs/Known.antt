@@ -12,7 +12,6 @@ use Rattle.sd_logrec.specs.View.{Rec, flat}
 use Rattle.sd_log.specs.declared.placed.Placed.{Placed}
 use Rattle.sd_log.specs.Logs.{flats}
 use Rattle.sd_chain.specs.Order.{speaks, of_txn, Sofar, none_yet, after_all, first_prev}
-use Rattle.sd_chain.proofs.Txns.{cases_txn, eq-same, ne-same}
 use Rattle.sd_analysis.specs.declared.seen.Seen.{Seen}
 use Rattle.sd_analysis.specs.Losers.{record_at}
 use Rattle.sd_analysis.specs.Faults.{IsFirst, MayCome}
@@ -22,6 +21,7 @@ use Rattle.sd_analysis.proofs.Closers.{ends_off, ends_own, finds_next, finds_sil
 use Rattle.sd_analysis.proofs.Steps.{least_more}
 use Rattle.sd_analysis.proofs.Prefixes.{advance-own}
 use Rattle.sd_chain.proofs.Whose.{none_open, own_of, other_of, silent_of, advance-off, after_all-append, after_all-none, first_prev-there, first_prev-behind, first_prev-off}
+use Rattle.sd_base.proofs.SameIds.{cases_txn, eq-same, ne-same}
 
 -- what is seen of the transaction of x before x, which comes next
 pub record Ready (log : List Placed) (xs : List Rec) (x : Rec) (seen : Seen) : Type 0 where

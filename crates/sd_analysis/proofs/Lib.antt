@@ -1,7 +1,7 @@
 pub mod Indices
-pub mod Keyed
 pub mod Prefixes
 pub mod Known
+pub mod Spans
 pub mod Ending
 pub mod Sums
 pub mod Closers

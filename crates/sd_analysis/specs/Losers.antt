@@ -7,7 +7,7 @@ use Rattle.sd_logrec.specs.View.{Rec, flat}
 use Rattle.sd_log.specs.declared.placed.Placed.{Placed}
 use Rattle.sd_log.specs.Logs.{flats}
 use Rattle.sd_chain.specs.Records.{Each, IsOpen, stack}
-use Rattle.sd_chain.specs.Order.{Tidy, of_txn}
+use Rattle.sd_chain.specs.Order.{Tidy, of_txn, span_of}
 use Rattle.sd_chain.specs.Undoing.{Member}
 use Rattle.sd_analysis.specs.declared.losers.Loser.{Loser}
 
@@ -23,11 +23,12 @@ record_at log at = option_map (λ p. flat p.rec) (slice_get log at)
 abbrev pub AreAt : List Placed → List ℕ → List Rec → Type 0
 AreAt log open_ones records = map (record_at log) (reverse open_ones) ≡ map (λ x. Some x) records
 
--- A transaction without a Commit or End that has a record, with its stack.
+-- A transaction without a Commit or End that has a record, with its stack and the LSNs of its first and last record.
 pub record IsLoser (log : List Placed) (loser : Loser) : Type 0 where
   pub runs : IsOpen loser.txn (flats log)
   pub there : list_any (of_txn loser.txn) (flats log) ≡ true
   pub stack_is : AreAt log loser.open (stack loser.txn (flats log))
+  pub span_is : span_of loser.txn (flats log) ≡ Some (loser.first, loser.last)
 
 -- each is below the next one
 abbrev pub Rise : List Loser → Type 0

@@ -1,7 +1,7 @@
 -- The bytes that the end of a loser takes, by the indices of what it has open.
 use Rattle.std.specs.Prelude.{ℕ, ◌+◌, List, sum_by}
 use Rattle.std.specs.Option.{option_map_or}
-use Rattle.sd_page.specs.Page.{size}
+use Rattle.sd_base.specs.Values.{size}
 use Rattle.sd_log.specs.declared.placed.Placed.{Placed}
 use Rattle.sd_analysis.specs.declared.losers.Loser.{Loser}
 use Rattle.sd_analysis.specs.Losers.{record_at}

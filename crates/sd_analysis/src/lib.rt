@@ -1,7 +1,8 @@
 //! Analysis: which transactions a log leaves unfinished, and what each of them has open (ARIES, section 6.1).
 //!
-//! Meaning: `Losers` are the transactions without a Commit or End, each with the places of its stack's records in the log
-//! (`AreLosers`, `specs/Losers.antt`); which record isn't in order says `IsMisplaced` (`specs/Faults.antt` of sd_chain).
+//! Meaning: `Losers` are the transactions without a Commit or End, each with the indices of its stack's records in the log
+//! and the LSNs of its first and last one (`AreLosers`, `specs/Losers.antt`); which record isn't in order says `IsMisplaced`
+//! (`specs/Faults.antt` of sd_chain).
 //! Keeps: nothing.
 //! Promises: `analyse` answers the losers, in rising order, where each transaction's records are in order (`in_order`,
 //! `losers`), and else the index of the first record that isn't (`disorder`, `place`, `first`); `reserve` and `owed` are the

@@ -10,16 +10,19 @@ ghost use Rattle.sd_analysis.specs.declared.losers.Fault.TheVariants as F;
 
 use crate::seen::Seen;
 use crate::table::note;
-use sd_base::{Memory, Sequence, TxnId};
+use sd_base::{Lsn, Memory, Sequence, TxnId};
 use sd_log::Placed;
 use std::alloc::{AllocFailed, Global};
 use std::collections::BTreeMap;
 
-/// A transaction without a Commit or End: what it has open, by the indices of the records in their log, the top last.
+/// A transaction without a Commit or End: what it has open, by the indices of the records in their log, the top last; and the
+/// LSNs of its first and last record.
 #[derive(Debug, Drop)]
 pub struct Loser {
     pub txn: TxnId,
     pub open: Sequence<usize>,
+    pub first: Lsn,
+    pub last: Lsn,
 }
 
 /// The losers of a log, in rising order.
@@ -50,7 +53,7 @@ impl<T: Drop> From<AllocFailed<T>> for Fault {
     }
 }
 
-/// The losers of a log. `Disorder` comes exactly where some transaction's records aren't in order, with the index of the
+/// The losers of a log, each with what it has open and the LSNs of its first and last record. `Disorder` comes exactly where some transaction's records aren't in order, with the index of the
 /// first one that isn't: it closes its transaction and a record of that stands behind it, it doesn't name the record of its
 /// transaction before it, it ends what is open, it undoes something else than the top, or it begins a transaction that stays
 /// open and names a record before it.
@@ -92,8 +95,12 @@ fn losers_of(
             continue;
         }
         worst = least(worst, seen.late());
-        let open = Sequence::of(seen.open);
-        losers.push(Loser { txn, open })?;
+        losers.push(Loser {
+            txn,
+            open: Sequence::of(seen.open),
+            first: log[seen.first].rec.lsn(),
+            last: seen.last,
+        })?;
     }
     match worst {
         Some(at) => Err(Fault::Disorder { at }),

@@ -4,14 +4,15 @@ ghost use Rattle.std.specs.Prelude.{◌≡◌, ◌-◌, ◌^◌, ◌<◌, List, 
 ghost use Rattle.sd_log.specs.Logs.{flats};
 ghost use Rattle.sd_log.specs.declared.placed.Placed.{Placed};
 ghost use Rattle.sd_logrec.specs.View.{flat};
-ghost use Rattle.sd_page.specs.Page.{size};
+ghost use Rattle.sd_base.specs.Values.{size};
 ghost use Rattle.sd_chain.specs.Checks as checks;
 ghost use Rattle.sd_analysis.specs.Losers.{AreLosers};
 ghost use Rattle.sd_analysis.specs.Owing.{bytes_for, bytes_at};
 
 use crate::losers::{Loser, Losers};
+use sd_base::value_len;
 use sd_log::Placed;
-use sd_logrec::Record;
+use sd_logrec::{CLR_LEN, END_LEN, GROUP_HEAD, Record};
 
 /// The bytes that the ends of the losers and the undos of what they have open take, at most 2^64 - 1.
 pub fn reserve(log: &[Placed], losers: &Losers) -> u64
@@ -29,7 +30,7 @@ pub fn reserve(log: &[Placed], losers: &Losers) -> u64
 fn reserve_for(log: &[Placed], loser: &Loser) -> u64
     ensures { result ≡ min (bytes_for log.now loser.now) (2 ^ 64 - 1) }
 {
-    let mut bytes: u64 = 31;
+    let mut bytes = (GROUP_HEAD + END_LEN) as u64;
     for at in loser.open.items() {
         bytes = bytes.saturating_add(undo_len(log, *at));
     }
@@ -41,7 +42,7 @@ fn undo_len(log: &[Placed], at: usize) -> u64
     ensures { result ≡ bytes_at log.now at }
 {
     match log.get(at) {
-        Some(placed) => 47 + before_len(&placed.rec) as u64,
+        Some(placed) => (GROUP_HEAD + CLR_LEN + before_len(&placed.rec)) as u64,
         None => 0,
     }
 }
@@ -52,10 +53,7 @@ fn before_len(rec: &Record) -> usize
     ensures small { result < 2 ^ 63 }
 {
     match rec {
-        Record::Update {
-            before: Some(bytes),
-            ..
-        } => bytes.items().len(),
+        Record::Update { before, .. } => value_len(before),
         _ => 0,
     }
 }

@@ -10,7 +10,7 @@ ghost use Rattle.sd_analysis.specs.Losers.{record_at};
 ghost use Rattle.sd_analysis.specs.Faults.{Joins, MayCome};
 ghost use Rattle.sd_analysis.specs.Seen.{closed_by, with_record, Fits, Judged};
 
-use sd_base::{Bytes, Lsn, Memory};
+use sd_base::{Lsn, Memory, lent_value, same_value};
 use sd_log::Placed;
 use sd_logrec::Record;
 use std::alloc::Global;
@@ -153,17 +153,10 @@ fn undoes(clr: &Record, update: &Record) -> bool
                 prev,
                 ..
             },
-        ) => page == own_page && slot == own_slot && same_value(after, before) && undo_next == prev,
-        _ => false,
-    }
-}
-
-fn same_value(one: &Option<Bytes>, other: &Option<Bytes>) -> bool
-    ensures { IsTrue result ↔ (one.now ≡ other.now) }
-{
-    match (one, other) {
-        (None, None) => true,
-        (Some(one), Some(other)) => one.items() == other.items(),
+        ) => page == own_page
+            && slot == own_slot
+            && same_value(lent_value(after), lent_value(before))
+            && undo_next == prev,
         _ => false,
     }
 }

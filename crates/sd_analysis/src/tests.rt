@@ -150,6 +150,7 @@ fn a_transaction_without_an_end_is_a_loser(rt: HostRuntime) -> Result<(), Fail> 
     };
     assert_eq!(rt; loser.txn, txn_of(2)?);
     assert_eq!(rt; loser.open.items(), [1].as_slice());
+    assert!(rt; loser.first == 2 && loser.last == 5);
     Ok(())
 }
 

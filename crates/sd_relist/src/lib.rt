@@ -1,0 +1,23 @@
+//! A transaction table made from a log, as a restart makes it.
+//!
+//! Meaning: `as_kept` (`specs/Kept.antt`), what a table keeps of a transaction of a log; `Transactions` of sd_txn, what a
+//! table is.
+//! Keeps: nothing.
+//! Promises: `relist` answers a table of the given transactions in their order (`order`), each in its state and as the log
+//! has it (`rows`), and of no begin (`fresh`).
+//! Refuses: want of memory.
+//! Knows nothing of: devices, pages, what a state means, where the log stands.
+//! Stands on: sd_base, sd_page, sd_logrec, sd_rig, sd_log, sd_chain, sd_analysis, sd_txn.
+//!
+//! To change:
+//! - free: bodies, private helpers, `Walks`
+//! - dear: `as_kept`, the clauses of `relist`
+//! - frozen: nothing
+#![tactic(auto)]
+
+mod relisting;
+
+pub use relisting::relist;
+
+#[cfg(test)]
+mod tests;
