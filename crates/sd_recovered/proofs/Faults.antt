@@ -16,7 +16,7 @@ use Rattle.sd_chain.specs.Faults as faults
 use Rattle.sd_chain.specs.Faults.{ChainsAreSound, FailsInChain, FailsInRoom, FailsInStack, FailsInTwin, LogsAreSound}
 use Rattle.sd_chain.specs.Image.{Image, Open, StackFits, chain, newest}
 use Rattle.sd_chain.specs.Pages.{FitAll}
-use Rattle.sd_newest.specs.Changes.{LsnsRise, Rises, StandsIn}
+use Rattle.sd_merge.specs.Changes.{LsnsRise, Rises, StandsIn}
 use Rattle.sd_newest.specs.Misfits as newest
 use Rattle.sd_newest.specs.Reading.{ChainFits, image_of}
 use Rattle.sd_undone.specs.Stops as undone

@@ -13,6 +13,7 @@ use Rattle.sd_chain.specs.Checks.{placed_of, records_in}
 use Rattle.sd_chain.specs.Order.{Tidy}
 use Rattle.sd_analysis.specs.Losers.{AreTidy}
 use Rattle.sd_recovered.specs.Reading.{IsUnread}
+use Rattle.sd_chain.proofs.Soundly.{flat_records}
 
 flats_of : (rs : Records) → flats (map (placed true) rs) ≡ map (λ r. flat r.1) rs
 flats_of [] = refl
@@ -36,10 +37,6 @@ flats_of_log log none =
 pub kept_flats : (bytes : List ℕ) (log : LogState) → kept bytes ≡ Whole log.groups log.gate → log.tail ≡ []
     → flats (scanned log) ≡ records_of (kept bytes)
 kept_flats bytes log whole none = flats_of_log log none ∙ ap records_of (sym whole)
-
-flat_records : (rs : Records) → map flat (map (λ r. r.1) rs) ≡ map (λ r. flat r.1) rs
-flat_records [] = refl
-flat_records (r ∷ rs) = ap (λ (l : List Rec). flat r.1 ∷ l) (flat_records rs)
 
 -- and as the checks do
 pub kept_records : (bytes : List ℕ) (log : LogState) → kept bytes ≡ Whole log.groups log.gate → log.tail ≡ []

@@ -13,7 +13,8 @@ use Rattle.sd_log.specs.Logs.{LogState, placed, placed_groups, placed_tail, scan
 use Rattle.sd_chain.specs.Checks.{Follow, Past, after_record, lsn_of, placed_of}
 use Rattle.sd_chain.specs.Records.{Each}
 use Rattle.sd_chain.proofs.Lists.{Each-weaker}
-use Rattle.sd_newest.specs.Changes.{Rises}
+use Rattle.sd_merge.specs.Changes.{Rises}
+use Rattle.sd_chain.proofs.Pasts.{lsn_after}
 
 placed_in_groups : (gs : List Group) → placed_groups gs ≡ map (placed true) (flat_map (λ g. g.records) gs)
 placed_in_groups [] = refl
@@ -42,22 +43,12 @@ stands_there bytes log index found whole none at =
     (sym (slice_get-map (placed true) (placed_of (kept bytes)) index)
     ∙ ap (λ (l : List Placed). slice_get l index) (sym (placed_in bytes log whole none)) ∙ at)
 
--- the LSN so far is that of the last record
-after_lsn : (past : Past) (r : Record) → (after_record past r).lsn ≡ lsn_of r
-after_lsn past (records.Start l epoch) = refl
-after_lsn past (records.Update l txn prev page slot capacity before after) = refl
-after_lsn past (records.Clr l txn prev undo_next page slot after) = refl
-after_lsn past (records.Commit l txn prev) = refl
-after_lsn past (records.End l txn prev) = refl
-after_lsn past (records.BeginCheck l) = refl
-after_lsn past (records.EndCheck l begin spans recs) = refl
-
 above_and_rise : (inst : ℕ) (chosen : Bool) (m : Master) (past : Past) (rs : List Record) → Follow inst chosen m past rs
     → Each (λ z. past.lsn < z.lsn) (map flat rs) × Rises (map flat rs)
 above_and_rise inst chosen m past [] f = (tt, tt)
 above_and_rise inst chosen m past (r ∷ rs) f =
     let ih = above_and_rise inst chosen m (after_record past r) rs f.3 in
-    let here : Each (λ z. (flat r).lsn < z.lsn) (map flat rs) = subst (λ (n : ℕ). Each (λ z. n < z.lsn) (map flat rs)) (after_lsn past r) ih.0 in
+    let here : Each (λ z. (flat r).lsn < z.lsn) (map flat rs) = subst (λ (n : ℕ). Each (λ z. n < z.lsn) (map flat rs)) (lsn_after past r) ih.0 in
     ((f.0, Each-weaker (λ z. (flat r).lsn < z.lsn) (λ z. past.lsn < z.lsn) (λ z lt. omega (arith, lt, f.0)) (map flat rs) here), (here, ih.1))
 
 -- records that follow one another

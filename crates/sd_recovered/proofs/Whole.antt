@@ -58,7 +58,7 @@ module _ (x : List ℕ) (ds : List (List ℕ)) (logs : List LogState) (losers : 
   alike : (j : ℕ) → log_of (devices_of (x ∷ ds)) j ≡ log_in logs j
   alike = parts.alike x ds logs losers eight are
 
-  same_chain : (p : ℕ) → chain (image_of x logs) p ≡ chain img p
+  pub same_chain : (p : ℕ) → chain (image_of x logs) p ≡ chain img p
   same_chain = chain_alike x ds logs losers (parts.devices x ds logs losers eight are) are
 
   fits : ((p : ℕ) → p < 1024 → ChainFits (image_of x logs) p) → All (λ log. AreSpelled (scanned log)) logs

@@ -1,6 +1,8 @@
 -- What is read of the log devices, one by one.
-use Rattle.std.specs.Prelude.{◌≡◌, ◌⊎◌, ℕ, suc, ◌+◌, ◌<◌, List, [], ◌∷◌, Some, slice_get}
-use Rattle.sd_logrec.specs.Kept.{Whole, kept}
+use Rattle.std.specs.Prelude.{◌≡◌, ◌⊎◌, ℕ, suc, ◌+◌, ◌<◌, List, [], ◌∷◌, Option, Some, option_map, slice_get}
+use Rattle.sd_base.specs.Twin.{chosen_body}
+use Rattle.sd_scan.specs.Masters.{master_in}
+use Rattle.sd_logrec.specs.Kept.{Master, Whole, kept, master as master_on}
 use Rattle.sd_log.specs.Logs.{AreSpelled, LogState, flats, scanned}
 use Rattle.sd_chain.specs.Checks.{GroupsAreSound, MasterIsSound, TxnsAreSound}
 use Rattle.sd_log.specs.declared.placed.Placed.{Placed}
@@ -12,11 +14,17 @@ use Rattle.sd_analysis.specs.Losers.{AreLosers, AreTidy}
 pub record IsRead (j : ℕ) (device : List ℕ) (log : LogState) (losers : List Loser) : Type 0 where
   pub master : MasterIsSound device
   pub groups : GroupsAreSound j device
+  pub inst_is : log.inst ≡ j
+  pub start_is : log.start ≡ (master_on device).start
   pub kept_is : kept device ≡ Whole log.groups log.gate
   pub spelled : AreSpelled (scanned log)
   pub no_tail : log.tail ≡ []
   pub tidy : AreTidy (scanned log)
   pub losers_are : AreLosers (scanned log) losers
+
+-- the master that counts on a log device, or none
+abbrev pub counting : List ℕ → Option Master
+counting device = option_map master_in (chosen_body 0 64 device)
 
 -- The same of these devices, from instance j on.
 abbrev pub AreRead : ℕ → List (List ℕ) → List LogState → List (List Loser) → Type 0

@@ -8,11 +8,11 @@ ghost use Rattle.sd_analysis.specs.Losers.{AreLosers};
 ghost use Rattle.sd_undone.specs.Reading.{AreLosersFrom, AreLosersOf};
 ghost use Rattle.sd_recovered.specs.Ends.{EndsFailAt, EndsFit, HasRoom, IsLogLow, IsLow, IsPageLow, LacksRoom, owed_in};
 
-use crate::logs::damaged;
 use sd_analysis::{Losers, owed, reserve};
 use sd_base::{Lsn, Refusal};
 use sd_log::{Log, Placed};
 use sd_logrec::{AREA_LEN, MAX_LSN};
+use sd_merge::damaged;
 use sd_page::Image;
 
 /// How many records end these losers, at most 2^64 - 1.

@@ -7,7 +7,8 @@
 //! (`unsound`) at the first place that fails (`place`); it changes nothing on them.
 //! Refuses: `Damaged` in `recovered`, and want of memory.
 //! Knows nothing of: rigs, pools, locks, running transactions.
-//! Stands on: sd_base, sd_model, sd_page, sd_logrec, sd_rig, sd_log, sd_chain, sd_scan, sd_analysis, sd_newest, sd_undone.
+//! Stands on: sd_base, sd_model, sd_page, sd_logrec, sd_rig, sd_log, sd_chain, sd_scan, sd_analysis, sd_merge, sd_newest,
+//! sd_undone.
 //!
 //! To change:
 //! - free: bodies, private helpers
@@ -20,7 +21,7 @@ mod logs;
 mod reading;
 mod table;
 
-pub use reading::recovered;
+pub use reading::{Opened, open, recovered};
 
 #[cfg(test)]
 mod tests;

@@ -10,10 +10,11 @@ ghost use Rattle.sd_chain.specs.Undoing.{stacks_of, undo_all};
 ghost use Rattle.sd_undone.specs.Reading.{AreLosersOf, IsRead, txns_of};
 ghost use Rattle.sd_undone.specs.Stops.{FirstMisfit};
 
-use crate::logs::damaged;
 use sd_analysis::Losers;
 use sd_base::Refusal;
 use sd_log::Log;
+use sd_logrec::AREA;
+use sd_merge::damaged;
 use sd_model::Table;
 use sd_page::Image;
 use sd_undone::{Fault, undone};
@@ -37,7 +38,7 @@ pub fn take_back(
     ensures misfit { IfErr result (λ e. (e ≡ R.Memory) ⊎ ((dev : ℕ) × (at : ℕ) × (e ≡ R.Damaged dev at)
         × ((img : Disks) → IsRead img pages.items logs.now → Sound img → ⊥))) }
     ensures first { (dev at : ℕ) → result ≡ Err (R.Damaged dev at) → (img : Disks) → IsRead img pages.items logs.now
-        → (place : ℕ) × (at ≡ 130 + place) × FirstMisfit img logs.now dev place }
+        → (place : ℕ) × (at ≡ AREA + place) × FirstMisfit img logs.now dev place }
 {
     match undone(alloc, pages, logs, losers) {
         Ok(table) => Ok(table),

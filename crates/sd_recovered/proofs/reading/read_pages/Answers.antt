@@ -1,16 +1,19 @@
 use Rattle.std.proofs.Common.{ℕ, inl, inr, ⊎_elim, List, sym, subst}
 use Rattle.std.specs.Prelude.{All}
 use Rattle.std.proofs.lemmas.Result.{err_from_is_err_and}
+use Rattle.sd_logrec.specs.View.{Rec}
 use Rattle.sd_page.specs.Page.{Page}
 use Rattle.sd_log.specs.Logs.{LogState}
+use Rattle.sd_chain.specs.Bytes.{disk_page}
 use Rattle.sd_chain.specs.Image.{Recovered}
+use Rattle.sd_newest.specs.FirstAbove.{IsFirstAbove}
 use Rattle.sd_undone.specs.Reading.{txns_of}
 use Rattle.sd_undone.proofs.Opened.{are-open}
 use Rattle.sd_recovered.specs.Ends.{IsPageLow, owed_in}
 use Rattle.sd_recovered.proofs.Refusals.{came, told_on}
 use Rattle.sd_recovered.proofs.Faults as faults
 use Rattle.sd_recovered.proofs.Whole as whole
-use Rattle.sd_recovered.proofs.reading.table_of.Goals as goal
+use Rattle.sd_recovered.proofs.reading.read_pages.Goals as goal
 
 pub returns-in_err-pages-clause-unsound : goal.returns-in_err-pages-clause-unsound
 returns-in_err-pages-clause-unsound c =
@@ -28,8 +31,8 @@ returns-in_err-table-clause-unsound c =
       d.1,
       d.2,
       λ ds are sound.
-          let read = whole.is_read c.args.bytes.now ds c.args.logs.now c.args.losers.now c.requires.eight are c.in_ok-pages.pages.items c.in_ok-pages.ensures.newest in
-          d.3 (whole.img c.args.bytes.now ds c.args.logs.now c.args.losers.now c.requires.eight are c.in_ok-pages.pages.items c.in_ok-pages.ensures.newest) read sound.kept,
+          let read = whole.is_read c.args.bytes.now ds c.args.logs.now c.args.losers.now c.requires.eight are c.in_ok-pages.pages.images.items c.in_ok-pages.ensures.newest in
+          d.3 (whole.img c.args.bytes.now ds c.args.logs.now c.args.losers.now c.requires.eight are c.in_ok-pages.pages.images.items c.in_ok-pages.ensures.newest) read sound.kept,
     ))
     c.in_err-table.ensures.misfit in
     let p = err_from_is_err_and c.from_residual-in_err-table.result c.from_residual-in_err-table.ensures.1 in
@@ -37,7 +40,7 @@ returns-in_err-table-clause-unsound c =
 
 pub returns-in_err-check_ends-clause-unsound : goal.returns-in_err-check_ends-clause-unsound
 returns-in_err-check_ends-clause-unsound c =
-    let pages : List Page = c.in_ok-pages.pages.items in
+    let pages : List Page = c.in_ok-pages.pages.images.items in
     let logs : List LogState = c.args.logs.now in
     let owed = c.owed_by.ensures 1 logs c.requires.losers in
     let low = c.are_low-low.ensures (owed_in logs) owed in
@@ -47,7 +50,7 @@ returns-in_err-check_ends-clause-unsound c =
       c.in_err-check_ends.ensures.unfit.2,
       λ ds are sound.
           let each = whole.low_pages c.args.bytes.now ds logs c.args.losers.now c.requires.eight are pages c.in_ok-pages.ensures.newest
-          c.in_ok-pages.ensures.count sound.lsns in
+          c.in_ok-pages.ensures.images_count sound.lsns in
           c.in_err-check_ends.ensures.unfit.3
           (low.1 (subst (All (IsPageLow (owed_in logs))) (sym c.deref.ensures.value) each))
           (whole.ends c.args.bytes.now ds logs c.args.losers.now c.requires.eight are pages c.in_ok-pages.ensures.newest sound),
@@ -76,7 +79,7 @@ returns-in_err-table-clause-place c = λ dev at is ds are.
     let x : List ℕ = c.args.bytes.now in
     let logs : List LogState = c.args.logs.now in
     let losers = c.args.losers.now in
-    let pages : List Page = c.in_ok-pages.pages.items in
+    let pages : List Page = c.in_ok-pages.pages.images.items in
     let p = err_from_is_err_and c.from_residual-in_err-table.result c.from_residual-in_err-table.ensures.1 in
     let sound = faults.logs_sound x ds logs losers c.requires.eight are in
     let img = whole.img x ds logs losers c.requires.eight are pages c.in_ok-pages.ensures.newest in
@@ -94,7 +97,7 @@ returns-in_err-check_ends-clause-place c = λ dev at is ds are.
     let x : List ℕ = c.args.bytes.now in
     let logs : List LogState = c.args.logs.now in
     let losers = c.args.losers.now in
-    let pages : List Page = c.in_ok-pages.pages.items in
+    let pages : List Page = c.in_ok-pages.pages.images.items in
     let p = err_from_is_err_and c.from_residual-in_err-check_ends.result c.from_residual-in_err-check_ends.ensures.1 in
     let sound = faults.logs_sound x ds logs losers c.requires.eight are in
     let img = whole.img x ds logs losers c.requires.eight are pages c.in_ok-pages.ensures.newest in
@@ -108,7 +111,7 @@ returns-in_err-check_ends-clause-place c = λ dev at is ds are.
       c.in_ok-pages.ensures.twins,
       faults.chains_fit x ds logs losers c.requires.eight are c.in_ok-pages.ensures.fit,
       c.in_ok-table.ensures.stacks img read,
-      faults.in_room x ds logs losers c.requires.eight are pages c.in_ok-pages.ensures.newest c.in_ok-pages.ensures.count
+      faults.in_room x ds logs losers c.requires.eight are pages c.in_ok-pages.ensures.newest c.in_ok-pages.ensures.images_count
           c.in_ok-pages.ensures.fit c.are_low-low.result (
             (λ t. subst (All (IsPageLow (owed_in logs))) c.deref.ensures.value (low.0 t)),
             (λ all. low.1 (subst (All (IsPageLow (owed_in logs))) (sym c.deref.ensures.value) all)),
@@ -117,7 +120,7 @@ returns-in_err-check_ends-clause-place c = λ dev at is ds are.
 
 pub returns-clause-sound : goal.returns-clause-sound
 returns-clause-sound c =
-    let pages : List Page = c.in_ok-pages.pages.items in
+    let pages : List Page = c.in_ok-pages.pages.images.items in
     let logs : List LogState = c.args.logs.now in
     let owed = c.owed_by.ensures 1 logs c.requires.losers in
     let low = (c.are_low-low.ensures (owed_in logs) owed).0 c.in_ok-check_ends.ensures.low in
@@ -131,7 +134,7 @@ returns-clause-sound c =
 
 pub returns-clause-recovered : goal.returns-clause-recovered
 returns-clause-recovered c = λ ds are p s lt.
-    let pages : List Page = c.in_ok-pages.pages.items in
+    let pages : List Page = c.in_ok-pages.pages.images.items in
     let logs : List LogState = c.args.logs.now in
     let img = whole.img c.args.bytes.now ds logs c.args.losers.now c.requires.eight are pages c.in_ok-pages.ensures.newest in
     let read = whole.is_read c.args.bytes.now ds logs c.args.losers.now c.requires.eight are pages c.in_ok-pages.ensures.newest in
@@ -139,3 +142,12 @@ returns-clause-recovered c = λ ds are p s lt.
     let running = are-open img logs c.args.losers.now read.logs_are c.requires.losers in
     subst (Recovered img p s) (sym (c.in_ok-table.ensures.values img read p s lt))
     (c.recovery.ensures.undone img sound.kept (txns_of c.args.losers.now) running p s)
+
+pub returns-clause-first : goal.returns-clause-first
+returns-clause-first c = λ ds are p lt.
+    let same = whole.same_chain c.args.bytes.now ds c.args.logs.now c.args.losers.now c.requires.eight are c.in_ok-pages.pages.images.items c.in_ok-pages.ensures.newest p in
+    let rec = c.in_ok-pages.ensures.first p lt in record {
+      lsn = rec.0;
+      there = rec.1;
+      first = subst (λ (xs : List Rec). IsFirstAbove xs (disk_page c.args.bytes.now p).lsn rec.0) same rec.2;
+    }
