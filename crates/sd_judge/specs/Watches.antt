@@ -3,7 +3,8 @@ use Rattle.sd_model.specs.declared.event.Reply.{Reply}
 use Rattle.sd_model.specs.declared.event.Reply.TheVariants.{Refused}
 use Rattle.sd_base.specs.declared.refusal.Refusal.TheVariants as R
 use Rattle.sd_judge.specs.declared.watch.Watch.{Watch}
-use Rattle.sd_judge.specs.Scenes.{Scene, Watching, scene_of}
+use Rattle.sd_model.specs.Scenes.{Scene}
+use Rattle.sd_judge.specs.Scenes.{Watching, scene_of}
 
 abbrev pub watching : Watch → Watching
 watching w = record { table = w.table.serial; waiting = w.waits.entries }

@@ -3,7 +3,7 @@
 ghost use Rattle.std.specs.Prelude.{◌≡◌, option_map};
 ghost use Rattle.sd_reclock.specs.Locks.{wait_of};
 ghost use Rattle.sd_model.specs.Waits.{claim_of as claim_of_mode};
-ghost use Rattle.sd_judge.specs.Scenes.{asked_of as wait_asked, of_page as wait_of_page, wait_after as wait_left};
+ghost use Rattle.sd_model.specs.Scenes.{asked_of as wait_asked, of_page as wait_of_page, wait_after as wait_left};
 
 use sd_base::{Mode, PageNo, Refusal, Rid};
 use sd_model::{Claim, Event, Reply};

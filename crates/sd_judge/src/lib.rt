@@ -1,6 +1,6 @@
 //! The serial table's plain program with exact waits: a refused lock names exactly who stands in its way.
 //!
-//! Meaning: a `Judge` stands for a scene: a state of sd_model, and what each transaction waits for (`specs/Scenes.antt`).
+//! Meaning: a `Judge` stands for a scene of sd_model: a state, and what each transaction waits for (`specs/Scenes.antt`).
 //! Keeps: nothing; any waits may stand beside any state.
 //! Promises: a verdict is the step of sd_model, both ways, and `Blocked` and `Deadlock` follow exactly where sd_base's
 //! `IsBlocked` and `IsDeadlock` hold (`Judge::step`, `specs/Exactly.antt`).
@@ -10,7 +10,7 @@
 //!
 //! To change:
 //! - free: bodies, proofs
-//! - dear: `JudgesExactly`; what ends a wait (`waits_after`)
+//! - dear: `JudgesExactly`
 //! - frozen: nothing
 #![tactic(auto)]
 

@@ -1,342 +1,199 @@
-//! The lines of worked scripts: each is an event with the right reply, which follows, and a wrong one, which doesn't.
+//! Worked scripts as tables: each line is an event with the right reply, which follows, and a wrong one, which doesn't.
+
+mod calls;
+mod instances;
 
 use crate::Judge;
-use sd_base::{Bytes, Cycle, InstNo, Memory, PageNo, Refusal, Rid, Sequence, Status, TxnId, Word};
+use sd_base::{Memory, Pick};
 use sd_model::{Event, Reply, Rows};
 use sd_oracle::{Outcome, Verdict};
-use std::alloc::Global;
 use std::process::Abort;
 
-pub fn inst(rt: &(impl Abort + AllocGlobal), number: u8) -> InstNo {
-    InstNo::new(number).expect(rt, "an instance")
+/// A transaction by numbers: its instance, the epoch of that, and which of the epoch it is.
+#[derive(Clone, Copy)]
+pub struct Who(pub u8, pub u32, pub u32);
+
+/// The first transaction of instance 1.
+pub const MAKER: Who = Who(1, 1, 1);
+
+/// The second transaction of instance 1.
+pub const NEAR: Who = Who(1, 1, 2);
+
+/// The third transaction of instance 1.
+pub const NEXT: Who = Who(1, 1, 3);
+
+/// The first transaction of instance 2.
+pub const FAR: Who = Who(2, 1, 1);
+
+/// A line of a script. Records are of page 0 and named by their slots, instances by their numbers.
+#[derive(Clone, Copy)]
+pub enum Line<'a> {
+    /// The instance joins in this epoch, and in no other.
+    Join(u8, u32),
+    /// The transaction begins; a later one doesn't.
+    Begin(Who),
+    /// The transactions of instance 1 begin one after another, so many of them.
+    BeginMany(u32),
+    /// The transaction would be one too many, and doesn't begin.
+    TooMany(Who),
+    /// The transaction makes the record in this slot.
+    Insert(Who, u16, &'a [u8]),
+    /// The transaction makes the first record of page 1.
+    InsertApart(Who, &'a [u8]),
+    /// The insert is refused for the second one's claim, told is the slot that it asked for, and this is the verdict.
+    InsertWaits(Who, Who, Option<u16>, Verdict),
+    /// The write is done; the record isn't absent.
+    Write(Who, u16, &'a [u8]),
+    /// The write of the first record of page 1 is done.
+    WriteApart(Who, &'a [u8]),
+    /// The write waits for the other transaction, and isn't done.
+    WriteWaits(Who, u16, Who),
+    /// The write would close a cycle with the other transaction, and isn't merely blocked.
+    Deadlock(Who, u16, Who),
+    /// The delete is done; the instance isn't down.
+    Delete(Who, u16),
+    /// The transaction reads the value, and not that the record is absent.
+    Read(Who, u16, &'a [u8]),
+    /// The read waits for the other transaction, and doesn't find the record absent.
+    ReadWaits(Who, u16, Who),
+    /// The commit is done; the transaction isn't gone.
+    Commit(Who),
+    /// The commit is cut.
+    CommitCut(Who),
+    /// The transaction that would commit is gone.
+    CommitGone(Who),
+    /// The transaction sets this mark.
+    Save(Who, &'a [u8]),
+    /// The transaction rolls back to the mark, or wholly, in so many steps and no fewer.
+    Back(Who, Option<&'a [u8]>, u8),
+    /// The transaction has no such mark to roll back to.
+    BackNowhere(Who, &'a [u8]),
+    /// The first transaction of instance 1 makes these records, one after another, and commits.
+    Made(&'a [&'a [u8]]),
+    /// The page has these records; where it has some, it isn't empty.
+    List(u8, &'a [(u16, &'a [u8])]),
+    /// The instance fails, and isn't down before.
+    Fall(u8),
+    /// The recovery of the first instance by the second one begins; the first one isn't up.
+    RecoverBegin(u8, u8),
+    /// The first instance is recovered by the second one, which finds nothing that is in doubt.
+    Recover(u8, u8),
+    /// The first instance is clean, so that the second one doesn't recover it.
+    Recovered(u8, u8),
+    /// The whole complex fails, and opens where the first one, or nobody, is found committed, not where the second one is.
+    Reopen(Option<Who>, Who),
+    /// Page 0 passes from instance 1 to instance 2, which is to change it.
+    Pass,
+    /// The instance does this; it isn't answered as a step.
+    Done(Deed, u8),
+    /// A device fails as the first instance does this, and the second one falls; the third one doesn't.
+    Break(Deed, u8, u8, u8),
+    /// The complex fails and opens with a page that only logs have, where no stranger is found; instance 1 is recovered.
+    Restart(Pick),
 }
 
-pub fn page(rt: &(impl Abort + AllocGlobal)) -> PageNo {
-    PageNo::new(0).expect(rt, "a page")
+/// What an instance does by itself, to page 0 where it is of a page.
+#[derive(Clone, Copy)]
+pub enum Deed {
+    Take,
+    Evict,
+    Flush,
+    Force,
+    CheckBegin,
+    CheckEnd,
+    Fail,
+    RecoverStep,
 }
 
-/// A transaction of the instance in its first epoch.
-pub fn txn(rt: &(impl Abort + AllocGlobal), number: u8, seq: u32) -> TxnId {
-    TxnId {
-        inst: inst(rt, number),
-        epoch: 1,
-        seq,
+/// What plays a script: the judge, and the number of the line that it is at, from 0 on.
+#[derive(Drop)]
+pub struct Stage {
+    judge: Judge,
+    line: usize,
+}
+
+/// Plays the lines in a fresh complex in which instances 1 and 2 have joined. It ends at the first line that isn't judged so.
+pub fn play(rt: &(impl Abort + AllocGlobal), lines: &[Line]) -> Result<(), Memory> {
+    let mut stage = Stage {
+        judge: Judge::new(rt.alloc(), Rows::of(Vec::new(rt.alloc()))),
+        line: 0,
+    };
+    calls::join(rt, &mut stage, 1, 1)?;
+    calls::join(rt, &mut stage, 2, 1)?;
+    for (number, line) in lines.iter().enumerate() {
+        stage.line = number;
+        play_line(rt, &mut stage, line)?;
     }
+    Ok(())
 }
 
-pub fn rid(rt: &(impl Abort + AllocGlobal), slot: u16) -> Rid {
-    Rid {
-        page: page(rt),
-        slot,
-    }
-}
-
-pub fn text(alloc: Global, bytes: &[u8]) -> Result<Bytes, Memory> {
-    Ok(Bytes::of(bytes.to_vec(alloc)?))
-}
-
-/// The table of these records of page 0.
-pub fn rows(
+fn play_line(
     rt: &(impl Abort + AllocGlobal),
-    values: &[(u16, &'static [u8])],
-) -> Result<Rows, Memory> {
-    let mut rows = Vec::new(rt.alloc());
-    for (slot, value) in values {
-        rows.push((rid(rt, *slot), text(rt.alloc(), value)?))?;
+    stage: &mut Stage,
+    line: &Line,
+) -> Result<(), Memory> {
+    match *line {
+        Line::Join(number, epoch) => calls::join(rt, stage, number, epoch),
+        Line::Begin(who) => calls::begin(rt, stage, who),
+        Line::BeginMany(count) => calls::begin_many(rt, stage, count),
+        Line::TooMany(who) => calls::too_many(rt, stage, who),
+        Line::Insert(who, slot, bytes) => calls::insert(rt, stage, who, slot, bytes),
+        Line::InsertApart(who, bytes) => calls::insert_apart(rt, stage, who, bytes),
+        Line::InsertWaits(who, by, slot, verdict) => {
+            calls::insert_waits(rt, stage, who, by, slot, verdict)
+        }
+        Line::Write(who, slot, bytes) => calls::write(rt, stage, who, slot, bytes),
+        Line::WriteApart(who, bytes) => calls::write_apart(rt, stage, who, bytes),
+        Line::WriteWaits(who, slot, by) => calls::write_waits(rt, stage, who, slot, by),
+        Line::Deadlock(who, slot, other) => calls::deadlock(rt, stage, who, slot, other),
+        Line::Delete(who, slot) => calls::delete(rt, stage, who, slot),
+        Line::Read(who, slot, bytes) => calls::read(rt, stage, who, slot, bytes),
+        Line::ReadWaits(who, slot, by) => calls::read_waits(rt, stage, who, slot, by),
+        Line::Commit(who) => calls::commit(rt, stage, who),
+        Line::CommitCut(who) => calls::commit_cut(rt, stage, who),
+        Line::CommitGone(who) => calls::commit_gone(rt, stage, who),
+        Line::Save(who, mark) => calls::save(rt, stage, who, mark),
+        Line::Back(who, mark, steps) => calls::back(rt, stage, who, mark, steps),
+        Line::BackNowhere(who, mark) => calls::back_nowhere(rt, stage, who, mark),
+        Line::Made(values) => calls::made(rt, stage, values),
+        Line::List(number, values) => calls::list(rt, stage, number, values),
+        Line::Fall(number) => instances::fall(rt, stage, number),
+        Line::RecoverBegin(number, by) => instances::recover_begin(rt, stage, number, by),
+        Line::Recover(number, by) => instances::recover(rt, stage, number, by),
+        Line::Recovered(number, by) => instances::recovered(rt, stage, number, by),
+        Line::Reopen(right, wrong) => instances::reopen(rt, stage, right, wrong),
+        Line::Pass => instances::pass(rt, stage),
+        Line::Done(deed, number) => instances::done(rt, stage, deed, number),
+        Line::Break(deed, number, fallen, other) => {
+            instances::break_down(rt, stage, deed, number, fallen, other)
+        }
+        Line::Restart(pick) => instances::restart(rt, stage, pick),
     }
-    Ok(Rows::of(rows))
 }
 
-/// One event whose reply is judged so.
-pub fn judged(
+// One event whose reply is judged so.
+fn judged(
     rt: &(impl Abort + AllocGlobal),
-    judge: &mut Judge,
+    stage: &mut Stage,
     event: &Event,
     reply: &Reply,
     outcome: &Outcome,
     verdict: Verdict,
 ) -> Result<(), Memory> {
-    let said = judge.step(event, reply, outcome, &None)?;
-    assert!(rt; said == verdict);
+    let said = stage.judge.step(event, reply, outcome, &None)?;
+    assert_eq!(rt; said, verdict, "line {}", stage.line);
     Ok(())
 }
 
-/// One event whose right reply follows, and whose wrong one doesn't.
-pub fn replies(
+// One event whose right reply follows, and whose wrong one doesn't.
+fn replies(
     rt: &(impl Abort + AllocGlobal),
-    judge: &mut Judge,
+    stage: &mut Stage,
     event: Event,
     right: Reply,
     wrong: Reply,
 ) -> Result<(), Memory> {
     let outcome = Outcome::plain(rt.alloc());
-    judged(rt, judge, &event, &wrong, &outcome, Verdict::Differs)?;
-    judged(rt, judge, &event, &right, &outcome, Verdict::Follows)
-}
-
-/// A fresh complex in which instances 1 and 2 have joined.
-pub fn opened(rt: &(impl Abort + AllocGlobal)) -> Result<Judge, Memory> {
-    let mut judge = Judge::new(rt.alloc(), Rows::of(Vec::new(rt.alloc())));
-    join(rt, &mut judge, 1, 1)?;
-    join(rt, &mut judge, 2, 1)?;
-    Ok(judge)
-}
-
-pub fn join(
-    rt: &(impl Abort + AllocGlobal),
-    judge: &mut Judge,
-    number: u8,
-    epoch: u32,
-) -> Result<(), Memory> {
-    let event = Event::Join {
-        inst: inst(rt, number),
-    };
-    replies(
-        rt,
-        judge,
-        event,
-        Reply::Joined { epoch },
-        Reply::Joined { epoch: 9 },
-    )
-}
-
-/// The transaction begins; no other one would.
-pub fn begin(
-    rt: &(impl Abort + AllocGlobal),
-    judge: &mut Judge,
-    txn: &TxnId,
-) -> Result<(), Memory> {
-    let event = Event::Begin { inst: txn.inst };
-    let late = TxnId {
-        inst: txn.inst,
-        epoch: txn.epoch,
-        seq: txn.seq.wrapping_add(1),
-    };
-    replies(rt, judge, event, Reply::Began(*txn), Reply::Began(late))
-}
-
-pub fn insert(
-    rt: &(impl Abort + AllocGlobal),
-    judge: &mut Judge,
-    txn: &TxnId,
-    slot: u16,
-    bytes: &[u8],
-) -> Result<(), Memory> {
-    let event = Event::Insert {
-        txn: *txn,
-        page: page(rt),
-        value: text(rt.alloc(), bytes)?,
-        capacity: 8,
-    };
-    replies(rt, judge, event, Reply::At(rid(rt, slot)), Reply::Did)
-}
-
-pub fn writing(
-    rt: &(impl Abort + AllocGlobal),
-    txn: &TxnId,
-    slot: u16,
-    bytes: &[u8],
-) -> Result<Event, Memory> {
-    Ok(Event::Write {
-        txn: *txn,
-        rid: rid(rt, slot),
-        value: text(rt.alloc(), bytes)?,
-    })
-}
-
-pub fn write(
-    rt: &(impl Abort + AllocGlobal),
-    judge: &mut Judge,
-    txn: &TxnId,
-    slot: u16,
-    bytes: &[u8],
-) -> Result<(), Memory> {
-    let event = writing(rt, txn, slot, bytes)?;
-    let absent = Reply::Refused(Refusal::NoRecord);
-    replies(rt, judge, event, Reply::Did, absent)
-}
-
-/// The write waits for the other transaction, and isn't done.
-pub fn write_waits(
-    rt: &(impl Abort + AllocGlobal),
-    judge: &mut Judge,
-    txn: &TxnId,
-    slot: u16,
-    by: &TxnId,
-) -> Result<(), Memory> {
-    let event = writing(rt, txn, slot, b"no")?;
-    let blocked = Reply::Refused(Refusal::Blocked { by: *by });
-    replies(rt, judge, event, blocked, Reply::Did)
-}
-
-pub fn delete(
-    rt: &(impl Abort + AllocGlobal),
-    judge: &mut Judge,
-    txn: &TxnId,
-    slot: u16,
-) -> Result<(), Memory> {
-    let event = Event::Delete {
-        txn: *txn,
-        rid: rid(rt, slot),
-    };
-    replies(rt, judge, event, Reply::Did, Reply::Refused(Refusal::Down))
-}
-
-/// The transaction reads the value, and not that the record is absent.
-pub fn read(
-    rt: &(impl Abort + AllocGlobal),
-    judge: &mut Judge,
-    txn: &TxnId,
-    slot: u16,
-    bytes: &[u8],
-) -> Result<(), Memory> {
-    let event = Event::Read {
-        txn: *txn,
-        rid: rid(rt, slot),
-    };
-    let value = Reply::Value(Some(text(rt.alloc(), bytes)?));
-    replies(rt, judge, event, value, Reply::Value(None))
-}
-
-pub fn read_waits(
-    rt: &(impl Abort + AllocGlobal),
-    judge: &mut Judge,
-    txn: &TxnId,
-    slot: u16,
-    by: &TxnId,
-) -> Result<(), Memory> {
-    let event = Event::Read {
-        txn: *txn,
-        rid: rid(rt, slot),
-    };
-    let blocked = Reply::Refused(Refusal::Blocked { by: *by });
-    replies(rt, judge, event, blocked, Reply::Value(None))
-}
-
-pub fn commit(
-    rt: &(impl Abort + AllocGlobal),
-    judge: &mut Judge,
-    txn: &TxnId,
-) -> Result<(), Memory> {
-    let gone = Reply::Refused(Refusal::NoTxn);
-    replies(rt, judge, Event::Commit { txn: *txn }, Reply::Did, gone)
-}
-
-/// The transaction rolls back to the mark, or wholly, in so many steps and no fewer.
-pub fn roll_back(
-    rt: &(impl Abort + AllocGlobal),
-    judge: &mut Judge,
-    txn: &TxnId,
-    mark: Option<Word>,
-    steps: u8,
-) -> Result<(), Memory> {
-    let event = Event::Back { txn: *txn, mark };
-    replies(rt, judge, event, Reply::Did, Reply::Finished)?;
-    for _ in 0..steps {
-        undo(rt, judge, txn, Reply::Step, Reply::Finished)?;
-    }
-    undo(rt, judge, txn, Reply::Finished, Reply::Step)
-}
-
-fn undo(
-    rt: &(impl Abort + AllocGlobal),
-    judge: &mut Judge,
-    txn: &TxnId,
-    right: Reply,
-    wrong: Reply,
-) -> Result<(), Memory> {
-    replies(rt, judge, Event::Undo { txn: *txn }, right, wrong)
-}
-
-pub fn fail(rt: &(impl Abort + AllocGlobal), judge: &mut Judge, number: u8) -> Result<(), Memory> {
-    let event = Event::Fail {
-        inst: inst(rt, number),
-    };
-    replies(rt, judge, event, Reply::Did, Reply::Refused(Refusal::Down))
-}
-
-pub fn recover_begin(
-    rt: &(impl Abort + AllocGlobal),
-    judge: &mut Judge,
-    number: u8,
-    by: u8,
-) -> Result<(), Memory> {
-    let event = Event::RecoverBegin {
-        inst: inst(rt, number),
-        by: inst(rt, by),
-    };
-    let up = Reply::Refused(Refusal::NotDown { status: Status::Up });
-    replies(rt, judge, event, Reply::Did, up)
-}
-
-/// The instance is recovered by the other one, which finds nothing that is in doubt.
-pub fn recover(
-    rt: &(impl Abort + AllocGlobal),
-    judge: &mut Judge,
-    number: u8,
-    by: u8,
-) -> Result<(), Memory> {
-    recover_begin(rt, judge, number, by)?;
-    let event = Event::RecoverStep {
-        inst: inst(rt, number),
-    };
-    replies(rt, judge, event, Reply::Finished, Reply::Did)
-}
-
-/// The page has these records; where it has some, it isn't empty.
-pub fn list(
-    rt: &(impl Abort + AllocGlobal),
-    judge: &mut Judge,
-    number: u8,
-    values: &[(u16, &'static [u8])],
-) -> Result<(), Memory> {
-    let event = Event::List {
-        inst: inst(rt, number),
-        page: page(rt),
-    };
-    let right = Reply::Rows(rows(rt, values)?);
-    let wrong = if values.is_empty() {
-        rows(rt, &[(0, b"no")])?
-    } else {
-        rows(rt, &[])?
-    };
-    replies(rt, judge, event, right, Reply::Rows(wrong))
-}
-
-/// A transaction of instance 1 has made these records, one after another, and has committed.
-pub fn made(
-    rt: &(impl Abort + AllocGlobal),
-    judge: &mut Judge,
-    values: &[&'static [u8]],
-) -> Result<(), Memory> {
-    let maker = txn(rt, 1, 1);
-    begin(rt, judge, &maker)?;
-    let mut slot: u16 = 0;
-    for value in values {
-        insert(rt, judge, &maker, slot, value)?;
-        slot = slot.wrapping_add(1);
-    }
-    commit(rt, judge, &maker)
-}
-
-/// This one, in doubt, is found committed.
-pub fn found(rt: &(impl Abort + AllocGlobal), txn: &TxnId) -> Result<Outcome, Memory> {
-    let mut txns = Vec::new(rt.alloc());
-    txns.push(*txn)?;
-    let mut outcome = Outcome::plain(rt.alloc());
-    outcome.found = Sequence::of(txns);
-    Ok(outcome)
-}
-
-/// A cycle of two: the first waits for the second, and the second for the first.
-pub fn cycle_of(
-    rt: &(impl Abort + AllocGlobal),
-    first: &TxnId,
-    second: &TxnId,
-) -> Result<Cycle, Memory> {
-    let mut txns = Vec::new(rt.alloc());
-    txns.push(*first)?;
-    txns.push(*second)?;
-    txns.push(*first)?;
-    Ok(Cycle::of(txns))
+    judged(rt, stage, &event, &wrong, &outcome, Verdict::Differs)?;
+    judged(rt, stage, &event, &right, &outcome, Verdict::Follows)
 }

@@ -4,10 +4,11 @@ ghost use Rattle.std.specs.Prelude.{◌≡◌, ◌↔◌, List, None, option_map
 ghost use Rattle.sd_base.specs.declared.ids.TxnId.{TxnId};
 ghost use Rattle.sd_base.specs.Waits.{IsCycle, IsBlocked, IsDeadlock, asking};
 ghost use Rattle.sd_model.specs.Waits.{stands as stands_in};
+ghost use Rattle.sd_model.specs.Scenes.{waits_after, of_running, is_running};
+ghost use Rattle.sd_model.specs.Exact.{Blocks, Closes, NamesWhom, IsExact, IsOfLock, IsOfFreeSlot};
 ghost use Rattle.sd_oracle.specs.Lists.{state_of};
 ghost use Rattle.sd_reclock.specs.Locks.{wait_of, waits_in};
-ghost use Rattle.sd_judge.specs.Scenes.{waits_after, of_running, is_running};
-ghost use Rattle.sd_judge.specs.Exactly.{Blocks, Closes, NamesWhom, IsExact, IsOfLock, IsOfFreeSlot, JudgesExactly};
+ghost use Rattle.sd_judge.specs.Exactly.{JudgesExactly};
 ghost use Rattle.sd_judge.specs.Watches.{scene, IsBlocking};
 
 use crate::asked::{asked_of, claim_of, wait_after};

@@ -9,8 +9,8 @@ use Rattle.sd_model.specs.Tables.{Contents}
 use Rattle.sd_model.specs.Acts.{Puts, undone, seen, ReadsFrom}
 use Rattle.sd_model.specs.Claims.{Claims, raised, with_claim, Holds, Owns, Clash}
 use Rattle.sd_model.specs.Kept.{Held, Owned}
-use Rattle.sd_model.proofs.Keys.{cases_rid, eq-same_rid, ne-same_rid}
 use Rattle.sd_model.proofs.Acts.{seen-agree}
+use Rattle.sd_base.proofs.SameIds.{cases_rid, eq-same_rid, ne-same_rid}
 
 pub clash-sym : (c d : Claim) → Clash c d → Clash d c
 clash-sym Free d k = absurd k

@@ -37,7 +37,7 @@ within-length (x ∷ xs) ys n h =
     let one = removed-length x ys a in
     omega (arith, rest, one)
 
-filter-among : (p : TxnId → Bool) (xs : List TxnId) (t : TxnId) → IsAmong t (filter p xs) → IsAmong t xs × (p t ≡ true)
+pub filter-among : (p : TxnId → Bool) (xs : List TxnId) (t : TxnId) → IsAmong t (filter p xs) → IsAmong t xs × (p t ≡ true)
 filter-among p [] t a = absurd a
 filter-among p (x ∷ xs) t a = go (p x) refl (λ k. filter-among p xs t k) a
   where
@@ -55,7 +55,7 @@ among-filter p (x ∷ xs) t (inr a) is = go (p x) (among-filter p xs t a is)
     go true k = inr k
     go false k = k
 
-filter-once : (p : TxnId → Bool) (xs : List TxnId) → NoneTwice xs → NoneTwice (filter p xs)
+pub filter-once : (p : TxnId → Bool) (xs : List TxnId) → NoneTwice xs → NoneTwice (filter p xs)
 filter-once p [] n = tt
 filter-once p (x ∷ xs) n = go (p x) (filter-once p xs n.1)
   where

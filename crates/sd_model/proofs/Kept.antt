@@ -11,9 +11,9 @@ use Rattle.sd_model.specs.Acts.{live, Reads, after, Serial}
 use Rattle.sd_model.specs.Claims.{Clash}
 use Rattle.sd_model.specs.State.{State, Part, now, gone, put_part, fall, closed, committed, lost, lost_part}
 use Rattle.sd_model.specs.Kept.{MayCommit, Covered, Kept, Fits, Lessens}
-use Rattle.sd_model.proofs.Keys.{each_txn, ne-same}
 use Rattle.sd_model.proofs.Acts.{after-snoc, Serial-snoc}
 use Rattle.sd_model.proofs.Claims.{clash-sym, reads-apart}
+use Rattle.sd_base.proofs.SameIds.{each_txn, ne-same}
 
 abbrev Apart : Part → Part → Type 0
 Apart p q = MayCommit p.life → MayCommit q.life → (r : Rid) → Clash (p.claims r) (q.claims r) → ⊥

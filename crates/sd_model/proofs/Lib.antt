@@ -1,5 +1,4 @@
 pub mod Tables
-pub mod Keys
 pub mod Acts
 pub mod Views
 pub mod Runs
@@ -24,5 +23,9 @@ pub mod Stays
 pub mod Opened
 pub mod Marks
 pub mod MarksRun
+pub mod Recoverers
+pub mod Finished
+pub mod Reopens
 pub mod WaitAnswers
+pub mod Scenes
 pub mod NumberTexts

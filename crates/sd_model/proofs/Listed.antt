@@ -18,10 +18,10 @@ use Rattle.sd_model.specs.Placed.{IsDoubt}
 use Rattle.sd_model.specs.Step.{Step}
 use Rattle.sd_model.specs.Run.{Run}
 use Rattle.sd_model.specs.Listed.{IsAmong, NoneTwice, IsAtWork, Below, EachBelow, Listed}
-use Rattle.sd_model.proofs.Keys.{each_txn, eq-same, ne-same}
 use Rattle.sd_model.proofs.Moves.{Calm, Keeps, in_doubt, doubted, is_up, works-there, runs-works, gone-calm}
 use Rattle.sd_model.proofs.MovesRun.{step-keeps, run-keeps}
 use Rattle.sd_model.proofs.Among.{among-more, among-last, among-split, once-more, each-rises, each-more, begin-rises, next-below, next-other, next-new}
+use Rattle.sd_base.proofs.SameIds.{each_txn, eq-same, ne-same}
 
 abbrev IsThere : Life → Type 0
 IsThere Gone = ⊥

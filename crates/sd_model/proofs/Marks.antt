@@ -9,8 +9,8 @@ use Rattle.sd_model.specs.Acts.{Puts, undone, live}
 use Rattle.sd_model.specs.State.{State, Part, put_part, lost, lost_part}
 use Rattle.sd_model.specs.Changes.{mark_of, with_mark, goal, undid_part}
 use Rattle.sd_model.specs.Marks.{AtMost, Goes, Sized, Marked}
-use Rattle.sd_model.proofs.Keys.{each_txn}
 use Rattle.sd_model.proofs.Acts.{live_from-append}
+use Rattle.sd_base.proofs.SameIds.{each_txn}
 
 at_most-more : (n k : ℕ) (marks : List (List ℕ × ℕ)) → n ≤ k → AtMost n marks → AtMost k marks
 at_most-more n k [] le a = tt

@@ -13,8 +13,8 @@ use Rattle.sd_model.specs.StepLaws.{next_txn}
 use Rattle.sd_model.specs.Placed.{MayRun, IsDoubt}
 use Rattle.sd_model.specs.Listed.{IsAtWork}
 use Rattle.sd_model.specs.Kept.{MayCommit}
-use Rattle.sd_model.proofs.Keys.{each_txn}
 use Rattle.sd_model.proofs.Placed.{each_inst, lost-doubt}
+use Rattle.sd_base.proofs.SameIds.{each_txn}
 
 -- who is there, works or is in doubt afterwards was and did so before
 pub record Calms (old new : Life) : Type 0 where
@@ -80,7 +80,7 @@ works-may Retained w = absurd w
 works-may (Rolling to) w = tt
 works-may (Doubt cut) w = absurd w
 
-doubt-may : (l : Life) → IsDoubt l → MayCommit l
+pub doubt-may : (l : Life) → IsDoubt l → MayCommit l
 doubt-may Gone d = absurd d
 doubt-may Running d = absurd d
 doubt-may Retained d = absurd d

@@ -33,8 +33,8 @@ fresh-opened = record {
 abbrev IsEither : Status → Type 0
 IsEither s = (s ≡ Clean) ⊎ (s ≡ Down)
 
--- Each instance is clean or down: what no such status has, none has.
-rests : (m : State) (P : Status → Type 0) → (P Clean → ⊥) → (P Down → ⊥) → IsOpened m → (i : ℕ) → P (m.inst i).status → ⊥
+-- each instance is clean or down: what no such status has, none has
+pub rests : (m : State) (P : Status → Type 0) → (P Clean → ⊥) → (P Down → ⊥) → IsOpened m → (i : ℕ) → P (m.inst i).status → ⊥
 rests m P not_clean not_down o i p =
     let other = o.others.2 i (λ has_one. not_down (subst P (o.down i has_one) p)) in
     ⊎_elim (λ e. not_clean (subst P (other ∙ e) p)) (λ e. not_down (subst P (other ∙ e) p)) o.others.1

@@ -9,7 +9,7 @@ use Rattle.sd_base.specs.declared.place.Status.{Status}
 use Rattle.sd_base.specs.declared.place.Status.TheVariants.{Up, Down, Recovering, Clean, Restarting, Closed}
 use Rattle.sd_model.specs.State.{State, Part, put_part, put_inst, freed, fall, lost, lost_part}
 use Rattle.sd_model.specs.Placed.{MayRun, IsFallen, Stands, IsDoubt, Placed}
-use Rattle.sd_model.proofs.Keys.{each_txn}
+use Rattle.sd_base.proofs.SameIds.{each_txn}
 
 abbrev pub NotShut : State → Type 0
 NotShut m = (m.inst 1).status ≡ Closed → ⊥

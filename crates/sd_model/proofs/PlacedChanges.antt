@@ -12,8 +12,8 @@ use Rattle.sd_model.specs.State.{State, Part, gone, started, put_part, put_inst,
 use Rattle.sd_model.specs.Changes.{commit_all}
 use Rattle.sd_model.specs.Applies.{IsRecovering}
 use Rattle.sd_model.specs.Placed.{MayRun, IsFallen, Stands, IsDoubt, Placed}
-use Rattle.sd_model.proofs.Keys.{each_txn, ne-same}
 use Rattle.sd_model.proofs.Placed.{NotShut, each_inst, Becomes, parts-placed, put-placed, inst-placed, lost-closed, lost-doubt, IsClosed, fall-placed}
+use Rattle.sd_base.proofs.SameIds.{each_txn, ne-same}
 
 pub up-from : (s : Status) → ((s ≡ Up → ⊥) → ⊥) → MayRun s
 up-from Up n = tt

@@ -17,12 +17,12 @@ use Rattle.sd_model.specs.Step.{Step}
 use Rattle.sd_model.specs.Run.{Run, IsOpening}
 use Rattle.sd_model.specs.Listed.{IsAmong, NoneTwice, Below, EachBelow}
 use Rattle.sd_model.specs.StayLaws.{txns, SameStart, MoreDone}
-use Rattle.sd_model.proofs.Keys.{each_txn}
 use Rattle.sd_model.proofs.Moves.{Calm, Keeps, calms-may, in_doubt, doubted}
 use Rattle.sd_model.proofs.MovesRun.{step-keeps, run-keeps}
 use Rattle.sd_model.proofs.Runs.{run-splits}
 use Rattle.sd_model.proofs.Serial.{never-commits}
 use Rattle.sd_model.proofs.Among.{among-more, among-last, among-split, once-more, below-rises, each-rises, each-more, begin-rises, next-below, next-new}
+use Rattle.sd_base.proofs.SameIds.{each_txn}
 
 start-keeps : (m0 : State) → Keeps (SameStart m0)
 start-keeps m0 = record { begins = λ m i up e. e; commits = λ m t may e. e; cuts = λ m t runs e. e; calm = λ m m' c e. c.start ∙ e }

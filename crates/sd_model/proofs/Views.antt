@@ -11,8 +11,8 @@ use Rattle.sd_model.specs.Tables.{Content}
 use Rattle.sd_model.specs.Acts.{Puts, live, seen}
 use Rattle.sd_model.specs.State.{State, Part, now, view, started, put_part, took_part, began, wrote, committed}
 use Rattle.sd_model.specs.Applies.{count_of, is_unresolved}
-use Rattle.sd_model.proofs.Keys.{eq-same, ne-same}
 use Rattle.sd_model.proofs.Acts.{live_from-append, after-snoc}
+use Rattle.sd_base.proofs.SameIds.{eq-same, ne-same}
 
 pub put-here : (t : TxnId) (p : Part) (f : TxnId → Part) → cond (same_txn t t) p (f t) ≡ p
 put-here t p f = ap (λ (b : Bool). cond b p (f t)) (eq-same t t refl)

@@ -26,3 +26,9 @@ pub mod Apart
 pub mod SerialLaws
 pub mod Waits
 pub mod WaitLaws
+pub mod Scenes
+pub mod Exact
+pub mod SceneLaws
+pub mod Recoverers
+pub mod Finishing
+pub mod Reopening

@@ -4,7 +4,7 @@ ghost use Rattle.std.specs.Prelude.{◌≡◌, IfOk};
 
 use crate::act::{Act, Done};
 use crate::event::{Entry, Event, Reply};
-use sd_base::{Bytes, Duplicate, Memory, Refusal};
+use sd_base::{Duplicate, Memory, Refusal, copy_value};
 
 impl Duplicate for Event {
     fn copy(&self) -> Result<Self, Memory> {
@@ -45,7 +45,7 @@ impl Duplicate for Event {
             },
             Event::Back { txn, mark } => Event::Back {
                 txn: *txn,
-                mark: copy_bytes(mark)?,
+                mark: copy_value(mark)?,
             },
             Event::Undo { txn } => Event::Undo { txn: *txn },
             Event::Commit { txn } => Event::Commit { txn: *txn },
@@ -96,7 +96,7 @@ impl Duplicate for Reply {
     fn copy(&self) -> Result<Self, Memory> {
         Ok(match self {
             Reply::Began(txn) => Reply::Began(*txn),
-            Reply::Value(value) => Reply::Value(copy_bytes(value)?),
+            Reply::Value(value) => Reply::Value(copy_value(value)?),
             Reply::Did => Reply::Did,
             Reply::At(rid) => Reply::At(*rid),
             Reply::Rows(rows) => Reply::Rows(rows.copy()?),
@@ -120,11 +120,11 @@ impl Duplicate for Act {
         Ok(match self {
             Act::Read { rid, value } => Act::Read {
                 rid: *rid,
-                value: copy_bytes(value)?,
+                value: copy_value(value)?,
             },
             Act::Put { rid, value } => Act::Put {
                 rid: *rid,
-                value: copy_bytes(value)?,
+                value: copy_value(value)?,
             },
             Act::Undo => Act::Undo,
         })
@@ -148,16 +148,6 @@ impl Duplicate for Entry {
             event: self.event.copy()?,
             reply: self.reply.copy()?,
         })
-    }
-}
-
-/// A copy of a record's content, or `Memory`.
-pub fn copy_bytes(bytes: &Option<Bytes>) -> Result<Option<Bytes>, Memory>
-    ensures { IfOk result (λ copied. copied ≡ bytes.now) }
-{
-    match bytes {
-        None => Ok(None),
-        Some(bytes) => Ok(Some(bytes.copy()?)),
     }
 }
 

@@ -5,12 +5,16 @@ ghost use Rattle.sd_model.specs.ViewLaws.{PartHere, PartElsewhere, ViewAfterWrit
 ghost use Rattle.sd_model.specs.RunLaws.{RunGrows, RunSplits, RunsJoin};
 ghost use Rattle.sd_model.specs.SerialLaws.{RunIsSerial, RunIsKept, FreshIsOpening, StepKeeps, RunKeeps, PutsCommute, LateIsEarly, MayCommitApart, CommitBeforeDoubt, BeginCounts, CountIsTrue, RollbackGoesOn};
 ghost use Rattle.sd_model.specs.WaitLaws.{BlockedIsLocked, DeadlockIsLocked, BlockedOrDeadlock};
+ghost use Rattle.sd_model.specs.SceneLaws.{OnlyRunningWait, CallerWaits, OthersWaitOn, SceneRunKeeps, StepPlays, SceneRunGrows, ScenesGiveRun, RunHasScenes};
 ghost use Rattle.sd_model.specs.Kept.{Kept};
 ghost use Rattle.sd_model.specs.Placed.{Placed};
 ghost use Rattle.sd_model.specs.Listed.{Listed};
 ghost use Rattle.sd_model.specs.Marks.{Marked};
+ghost use Rattle.sd_model.specs.Recoverers.{Recoverers, RecovererIsActive};
 ghost use Rattle.sd_model.specs.StayLaws.{SameStart, MoreDone, StepMakes, RunMakes, CommitLasts, NoneCommitsTwice, IdIsNew};
 ghost use Rattle.sd_model.specs.Opened.{FreshIsOpened, OpenedIs};
+ghost use Rattle.sd_model.specs.Reopening.{ReopenedReopens, ClosedMayReopen, ReopenedStands};
+ghost use Rattle.sd_model.specs.Finishing.{FinishedCommitted, FinishedEmpty};
 
 /// Joins and lists of instances are steps.
 pub fn instance_steps()
@@ -64,7 +68,8 @@ pub fn commuting()
     ensures doubt { CommitBeforeDoubt }
 {}
 
-/// Transactions stand where their instances let them, each that is there is listed once, marks are at most the live puts.
+/// Transactions stand where their instances let them, each that is there is listed once, marks are at most the live puts,
+/// and whoever recovers an instance is active.
 pub fn whereabouts()
     ensures placed { StepKeeps Placed }
     ensures placed_all { RunKeeps Placed }
@@ -72,6 +77,9 @@ pub fn whereabouts()
     ensures listed_all { RunKeeps Listed }
     ensures marked { StepKeeps Marked }
     ensures marked_all { RunKeeps Marked }
+    ensures recoverers { StepKeeps Recoverers }
+    ensures recoverers_all { RunKeeps Recoverers }
+    ensures active { RecovererIsActive }
     ensures new_id { IdIsNew }
     ensures counts { BeginCounts }
     ensures true_count { CountIsTrue }
@@ -94,6 +102,22 @@ pub fn openings()
     ensures placed { OpenedIs Placed }
     ensures listed { OpenedIs Listed }
     ensures marked { OpenedIs Marked }
+    ensures recoverers { OpenedIs Recoverers }
+{}
+
+/// A closed complex opens again from what it finds: those in doubt whose commit is kept are committed, the losers hold
+/// what they hold, and its table is the one that stood.
+pub fn reopenings()
+    ensures reopened { ReopenedReopens }
+    ensures may { ClosedMayReopen }
+    ensures stands { ReopenedStands }
+{}
+
+/// The end of a recovery leaves the table that stands once those in doubt are decided, whether it finds its one in doubt
+/// committed or not.
+pub fn finishings()
+    ensures committed { FinishedCommitted }
+    ensures empty { FinishedEmpty }
 {}
 
 /// An asked claim that is answered as blocked or as a deadlock conflicts with another's, and isn't both.
@@ -101,4 +125,17 @@ pub fn waits()
     ensures blocked { BlockedIsLocked }
     ensures deadlock { DeadlockIsLocked }
     ensures either { BlockedOrDeadlock }
+{}
+
+/// After an event only those that run wait: the caller where it is blocked, the others as before. A run of states is one of
+/// scenes, and a run of scenes one of states.
+pub fn scenes()
+    ensures running { OnlyRunningWait }
+    ensures caller { CallerWaits }
+    ensures others { OthersWaitOn }
+    ensures running_all { SceneRunKeeps }
+    ensures plays { StepPlays }
+    ensures grows { SceneRunGrows }
+    ensures states { ScenesGiveRun }
+    ensures exist { RunHasScenes }
 {}

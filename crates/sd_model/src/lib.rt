@@ -1,17 +1,19 @@
 //! The serial table: what each event and its reply mean, one after another.
 //!
 //! Meaning: a `Table` is a finite map (`specs/Tables.antt`); a `Book` is the opening table with the entries since
-//! (`specs/History.antt`); `Step` says which reply may follow in a state, and what it leaves (`specs/Step.antt`).
-//! Keeps: `Kept`, `Placed`, `Listed` and `Marked`, which each step keeps (`specs/Kept.antt` and the files of those names).
+//! (`specs/History.antt`); `Step` says which reply may follow in a state, and what it leaves (`specs/Step.antt`); a `Scene`
+//! is a state with who waits for what (`specs/Scenes.antt`).
+//! Keeps: `Kept`, `Placed`, `Listed`, `Marked` and `Recoverers`, which each step keeps (`specs/Kept.antt` and the files of
+//! those names).
 //! Promises: a run from an opening leaves transactions that read as if they ran one after another, what was committed
-//! stays committed, and no id is given twice (`laws.rt`).
+//! stays committed, no id is given twice, and the end of a recovery leaves the table that stood (`laws.rt`).
 //! Refuses: nothing but for want of memory; which refusal an event gets is `specs/Applies.antt`.
 //! Knows nothing of: pages' bytes, pools, logs, devices, scripts; of a program that judges replies.
 //! Stands on: sd_base.
 //!
 //! To change:
 //! - free: bodies, proofs
-//! - dear: `Step` and the parts of `State`; an event more is a clause more
+//! - dear: `Step`, the parts of `State`, what ends a wait (`waits_after`); an event more is a clause more
 //! - frozen: the variants of `Event` and `Reply`
 #![tactic(auto)]
 
@@ -28,7 +30,7 @@ mod table;
 pub use act::{Act, Claim, Cut, Done, Inst, Life};
 pub use book::Book;
 pub use cause::{Cause, causes_of, order};
-pub use copies::{copy_bytes, copy_refusal};
+pub use copies::copy_refusal;
 pub use event::{Entry, Event, Reply};
 pub use numbers::{NoSum, number, number_text, sum, text_length};
 pub use rows::Rows;

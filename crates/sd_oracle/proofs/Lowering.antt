@@ -14,7 +14,6 @@ use Rattle.sd_model.specs.declared.act.Life.TheVariants.{Retained, Doubt}
 use Rattle.sd_model.specs.Claims.{raised}
 use Rattle.sd_model.specs.State.{Part, gone, with_status}
 use Rattle.sd_model.specs.Changes.{IsLoser}
-use Rattle.sd_model.proofs.Keys.{cases_rid, eq-same_rid, ne-same_rid}
 use Rattle.sd_oracle.specs.declared.standing.Standing.{Standing}
 use Rattle.sd_oracle.specs.declared.outcome.Outcome.{Outcome}
 use Rattle.sd_oracle.specs.Lists.{part_in, claims_in, inst_in, unjoined}
@@ -22,6 +21,7 @@ use Rattle.sd_oracle.specs.Outcomes.{among, among_claims, left_claim, is_lost, l
 use Rattle.sd_oracle.proofs.Parts.{claim_from-snoc, inst_from-snoc}
 use Rattle.sd_oracle.proofs.Search.{AnyOf, part-any}
 use Rattle.sd_oracle.proofs.Wholes.{take-more}
+use Rattle.sd_base.proofs.SameIds.{cases_rid, eq-same_rid, ne-same_rid}
 
 -- a transaction of the instance that is a loser among all
 abbrev pub Loses : List (TxnId × Standing) → ℕ → TxnId × Standing → Type 0

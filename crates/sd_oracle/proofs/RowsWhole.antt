@@ -8,7 +8,7 @@ use Rattle.sd_model.specs.Tables.{Content, Contents, contents}
 use Rattle.sd_model.specs.Acts.{Puts, undone, live_from, live, seen, after}
 use Rattle.sd_model.specs.Listing.{AreIn, AreRising, AreRows}
 use Rattle.sd_oracle.specs.Lists.{AgreeAtRows, AgreeAtActs, AgreeAtDone}
-use Rattle.sd_model.proofs.Keys.{cases_rid, ne-same_rid}
+use Rattle.sd_base.proofs.SameIds.{cases_rid, ne-same_rid}
 
 -- it is the record of a row, or no row has it
 row-known : (rows : List (Rid × List ℕ)) (p : ℕ) (table : Contents) (some : List (Rid × List ℕ)) (r : Rid) → r.page ≡ p → AgreeAtRows p table rows some → (contents rows r ≡ table r) ⊎ (contents some r ≡ None)

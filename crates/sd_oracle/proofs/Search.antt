@@ -9,8 +9,8 @@ use Rattle.sd_model.specs.Claims.{raised, Clash}
 use Rattle.sd_model.specs.Applies.{Changes}
 use Rattle.sd_model.specs.State.{State, Part, gone}
 use Rattle.sd_oracle.specs.Lists.{claim_from, claims_in, part_of, part_from, part_in, HasExcl}
-use Rattle.sd_model.proofs.Keys.{cases_txn, ne-same, cases_rid, ne-same_rid}
 use Rattle.sd_oracle.proofs.Loops.{drop-next, drop-all}
+use Rattle.sd_base.proofs.SameIds.{cases_txn, ne-same, cases_rid, ne-same_rid}
 
 pub not_true : IsTrue false → ⊥
 not_true e = absurd (cc)

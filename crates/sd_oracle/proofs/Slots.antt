@@ -7,10 +7,10 @@ use Rattle.sd_model.specs.declared.act.Claim.{Claim}
 use Rattle.sd_model.specs.declared.act.Claim.TheVariants.{Free, Shared, Excl}
 use Rattle.sd_model.specs.Claims.{raised, Holds}
 use Rattle.sd_model.specs.State.{State, view}
-use Rattle.sd_model.proofs.Keys.{cases_rid, eq-same_rid, ne-same_rid}
 use Rattle.sd_oracle.specs.Lists.{claim_from, claims_in}
 use Rattle.sd_oracle.specs.Claimers.{AnySlot}
 use Rattle.sd_oracle.proofs.Search.{AnyOf}
+use Rattle.sd_base.proofs.SameIds.{cases_rid, eq-same_rid, ne-same_rid}
 
 raised-split : (a b : Claim) → Holds (raised a b) → Holds a ⊎ Holds b
 raised-split Free b h = inr h

@@ -6,10 +6,10 @@ use Rattle.sd_base.specs.declared.place.Status.{Status}
 use Rattle.sd_base.specs.declared.place.Status.TheVariants.{Down}
 use Rattle.sd_model.specs.declared.act.Inst.{Inst}
 use Rattle.sd_model.specs.State.{State, Part, gone, freed, with_status}
-use Rattle.sd_model.proofs.Keys.{cases_txn, eq-same, ne-same}
 use Rattle.sd_oracle.specs.declared.standing.Standing.{Standing}
 use Rattle.sd_oracle.specs.Lists.{part_of, part_in, inst_from, inst_in, unjoined}
 use Rattle.sd_oracle.proofs.Parts.{part_from-snoc, inst_from-snoc}
+use Rattle.sd_base.proofs.SameIds.{cases_txn, eq-same, ne-same}
 
 pub take-more : {A : Type 0} (xs : List A) (k : ℕ) (x : A) → k < length xs → x ≡ get_or xs k x → take (k + 1) xs ≡ take k xs ++ x ∷ []
 take-more xs k x lt is = ap (λ n. take n xs) (add-one k) ∙ (take-suc xs k x lt ∙ ap (λ y. take k xs ++ y ∷ []) (sym is))

@@ -13,8 +13,11 @@ ghost use Rattle.sd_oracle.specs.Judging.{Answers, IsSumAt, Replaces};
 
 use crate::lists::Lists;
 use crate::sums::sum_text;
-use sd_base::{Bytes, Duplicate, InstNo, Memory, PageNo, Rid, Status, TxnId};
-use sd_model::{Act, Claim, Inst, Life, copy_bytes};
+use sd_base::{
+    Bytes, Duplicate, InstNo, Memory, PageNo, Rid, Status, TxnId, copy_value, lent_value,
+    same_value,
+};
+use sd_model::{Act, Claim, Inst, Life};
 use std::alloc::Global;
 
 impl Lists {
@@ -63,7 +66,7 @@ impl Lists {
         if !self.runs(txn) {
             return Ok(false);
         }
-        if !is_same(self.view(txn, rid), value) {
+        if !same_value(self.view(txn, rid), lent_value(value)) {
             return Ok(false);
         }
         let acts = read_alone(self.alloc(), rid, value)?;
@@ -176,16 +179,6 @@ fn up(epoch: u32) -> Inst
     }
 }
 
-fn is_same(found: Option<&[u8]>, value: &Option<Bytes>) -> bool
-    ensures { IsTrue result ↔ (option_copied found.entry ≡ value.now) }
-{
-    match (found, value) {
-        (Some(found), Some(value)) => found == value.items(),
-        (None, None) => true,
-        _ => false,
-    }
-}
-
 /// A copy of what was found.
 pub fn owned(alloc: Global, found: Option<&[u8]>) -> Result<Option<Bytes>, Memory>
     ensures { IfOk result (λ value. value ≡ option_copied found.entry) }
@@ -203,7 +196,7 @@ pub fn read_alone(alloc: Global, rid: &Rid, value: &Option<Bytes>) -> Result<Vec
     let mut acts = Vec::with_capacity(alloc, 1)?;
     acts.push(Act::Read {
         rid: *rid,
-        value: copy_bytes(value)?,
+        value: copy_value(value)?,
     })?;
     Ok(acts)
 }
@@ -219,7 +212,7 @@ fn read_and_put(
     let mut acts = read_alone(alloc, rid, old)?;
     acts.push(Act::Put {
         rid: *rid,
-        value: copy_bytes(new)?,
+        value: copy_value(new)?,
     })?;
     Ok(acts)
 }

@@ -7,7 +7,7 @@ ghost use Rattle.sd_oracle.specs.Lists.{meaning, Agree, AgreeAtRows, AgreeAtActs
 
 use crate::lists::Lists;
 use crate::sight::{committed, find_row};
-use sd_base::{Bytes, PageNo, Rid};
+use sd_base::{Bytes, PageNo, Rid, same_value};
 use sd_model::{Act, Done};
 
 impl Lists {
@@ -70,7 +70,7 @@ impl Lists {
         ensures { IsTrue result ↔ Agree page (now (meaning self.now)) rows.now rid.now }
     {
         rid.page != page
-            || are_same(
+            || same_value(
                 find_row(rows, rid),
                 committed(self.start.items(), &self.done, rid),
             )
@@ -101,15 +101,5 @@ fn starts_above(slot: u16, rows: &[(Rid, Bytes)]) -> bool
     match rows {
         [] => true,
         [first, ..] => slot < first.0.slot,
-    }
-}
-
-fn are_same(one: Option<&[u8]>, other: Option<&[u8]>) -> bool
-    ensures { IsTrue result ↔ (option_copied one.entry ≡ option_copied other.entry) }
-{
-    match (one, other) {
-        (Some(one), Some(other)) => one == other,
-        (None, None) => true,
-        _ => false,
     }
 }

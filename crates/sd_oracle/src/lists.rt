@@ -5,9 +5,9 @@ ghost use Rattle.sd_model.specs.State.{view, put_part, put_inst, took, began, co
 ghost use Rattle.sd_model.specs.Acts.{live};
 ghost use Rattle.sd_model.specs.Changes.{mark_of};
 
-use crate::sight::{committed, content, count_live, last_put};
+use crate::sight::{committed, count_live, last_put};
 use crate::standing::{Standing, claim, find_mark, instance, last_standing};
-use sd_base::{Duplicate, InstNo, Memory, Rid, Sequence, Status, TxnId};
+use sd_base::{Duplicate, InstNo, Memory, Rid, Sequence, Status, TxnId, lent_value};
 use sd_model::{Act, Claim, Done, Inst, Life, Rows};
 use std::alloc::Global;
 
@@ -67,7 +67,7 @@ impl Lists {
             None => None,
         };
         match put {
-            Some(value) => content(value),
+            Some(value) => lent_value(value),
             None => committed(self.start.items(), &self.done, rid),
         }
     }

@@ -80,14 +80,8 @@ impl SerialTable {
         self.lists.view(txn, rid).is_none()
     }
 
-    /// Whether the last one is another transaction than `txn`, and its claim on the record conflicts with one in the mode.
-    pub fn obstructs(&self, txn: &TxnId, rid: &Rid, mode: Claim, other: &TxnId) -> bool
-        ensures { IsTrue result ↔ Obstructs (state_of self.now) txn.now rid.now mode other.now }
-    {
-        self.lists.conflicts(other, txn, rid, mode)
-    }
-
-    /// All that obstruct `txn` so, in any order; one may be named more than once.
+    /// All other transactions than `txn` whose claim on the record conflicts with one in the mode, in any order; one may be
+    /// named more than once.
     pub fn obstacles(
         &self,
         alloc: Global,
@@ -100,7 +94,7 @@ impl SerialTable {
         self.lists.obstacles(alloc, txn, rid, mode)
     }
 
-    /// Whether the last one is the lowest that obstructs `txn` so.
+    /// Whether the last one is the lowest of these.
     pub fn is_lowest_obstacle(&self, txn: &TxnId, rid: &Rid, mode: Claim, by: &TxnId) -> bool
         ensures { IsTrue result ↔ IsLowestObstacle (state_of self.now) txn.now rid.now mode by.now }
     {

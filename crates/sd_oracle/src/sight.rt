@@ -5,7 +5,7 @@ ghost use Rattle.std.specs.Option.{unwrap_or};
 ghost use Rattle.sd_model.specs.Tables.{Contents, contents};
 ghost use Rattle.sd_model.specs.Acts.{seen, live, after};
 
-use sd_base::{Bytes, Rid};
+use sd_base::{Bytes, Rid, lent_value};
 use sd_model::{Act, Done};
 
 /// The last live put of the record; `None` where there is none.
@@ -47,16 +47,6 @@ pub fn count_live(acts: &[Act]) -> usize
     count
 }
 
-/// What the record has; `None` where it is absent.
-pub fn content(value: &Option<Bytes>) -> Option<&[u8]>
-    ensures { option_copied result ≡ value.now }
-{
-    match value {
-        Some(bytes) => Some(bytes.items()),
-        None => None,
-    }
-}
-
 /// What the committed transactions left at the record, over the opening table.
 pub fn committed<'a>(start: &'a [(Rid, Bytes)], done: &'a [Done], rid: &Rid) -> Option<&'a [u8]>
     ensures { option_copied result ≡ after (contents start.now) done.now rid.now }
@@ -73,7 +63,7 @@ fn overlaid<'a>(old: Option<&'a [u8]>, transaction: &'a Done, rid: &Rid) -> Opti
     ensures { (base : Contents) → base rid.now ≡ option_copied old.entry → option_copied result ≡ seen base (live transaction.now.acts) rid.now }
 {
     match last_put(transaction.acts.items(), rid) {
-        Some(put) => content(put),
+        Some(put) => lent_value(put),
         None => old,
     }
 }

@@ -1,5 +1,5 @@
 use Rattle.sd_oracle.specs.Lists.{state_of}
-use Rattle.sd_judge.proofs.Noting.{running-test}
+use Rattle.sd_model.proofs.Scenes.{running-test}
 use Rattle.sd_judge.proofs.watch.runs.Goals as goal
 
 pub returns : goal.returns

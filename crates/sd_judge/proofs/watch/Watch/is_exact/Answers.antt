@@ -3,7 +3,7 @@ use Rattle.std.specs.Option.{option_map}
 use Rattle.std.specs.Prelude.{IfOk}
 use Rattle.sd_model.specs.declared.event.Reply.{Reply}
 use Rattle.sd_reclock.specs.Locks.{wait_of}
-use Rattle.sd_judge.specs.Exactly.{IsExact}
+use Rattle.sd_model.specs.Exact.{IsExact}
 use Rattle.sd_judge.specs.Watches.{scene}
 use Rattle.sd_judge.proofs.watch.Watch.is_exact.Goals as goal
 

@@ -5,13 +5,13 @@ use Rattle.sd_model.specs.State.{State}
 use Rattle.sd_oracle.specs.Lists.{state_of}
 use Rattle.sd_reclock.specs.declared.wait.Asked.{Asked}
 use Rattle.sd_reclock.specs.Locks.{wait_of, waits_in}
-use Rattle.sd_reclock.proofs.Orders.{put-txn}
 use Rattle.sd_reclock.proofs.Noting.{waits_change}
 use Rattle.sd_judge.specs.declared.watch.Watch.{Watch}
-use Rattle.sd_judge.specs.Scenes.{of_running}
-use Rattle.sd_judge.proofs.Noting.{noted}
+use Rattle.sd_model.specs.Scenes.{of_running}
+use Rattle.sd_model.proofs.Scenes.{noted}
 use Rattle.sd_judge.proofs.watch.Watch.note.Goals as goal
 use Rattle.sd_judge.proofs.watch.Watch.note.Goals.{in-Some+in_ok-insert-in-Some, in-None}
+use Rattle.sd_base.proofs.Orders.{put-txn}
 
 pub returns-clause-waits : goal.returns-clause-waits
 returns-clause-waits c =

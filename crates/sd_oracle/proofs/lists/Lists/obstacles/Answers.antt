@@ -2,13 +2,13 @@ use Rattle.std.proofs.Common.{◌≡◌, List, [], ◌∷◌, ◌++◌, arith, i
 use Rattle.std.proofs.lemmas.List.Elements.{Contains-append_left, Contains-push, Contains-push_cases}
 use Rattle.std.specs.List.{Contains}
 use Rattle.sd_base.specs.declared.ids.TxnId.{TxnId}
-use Rattle.sd_model.proofs.Keys.{cases_txn}
 use Rattle.sd_oracle.specs.declared.standing.Standing.{Standing}
 use Rattle.sd_oracle.specs.Lists.{meaning}
 use Rattle.sd_oracle.specs.Claimers.{Obstructs}
 use Rattle.sd_oracle.proofs.Search.{any-step, any-stop, part-any, not_true, clash-there}
 use Rattle.sd_oracle.proofs.lists.Lists.obstacles.Goals as goal
 use Rattle.sd_oracle.proofs.lists.Lists.obstacles.Goals.{then-conflicts+in_ok-push, else-conflicts}
+use Rattle.sd_base.proofs.SameIds.{cases_txn}
 
 nowhere : (u : TxnId) → Contains [] u → ⊥
 nowhere u h = let l = h.1 in omega arith
