@@ -1,8 +1,8 @@
 pub mod Numbers
 pub mod Lines
-pub mod Lists
-pub mod NameSets
 pub mod OneForm
+pub mod Packing
+pub mod Ordinals
 pub mod Readings
 pub mod Remembering
 pub mod Steps

@@ -5,30 +5,38 @@ use Rattle.std.proofs.lemmas.List.{take_all}
 use Rattle.std.proofs.lemmas.Option.{slice_get_within}
 use Rattle.std.specs.Prelude.{slice_get}
 use Rattle.sd_script.specs.declared.line.Form.{Form}
+use Rattle.sd_script.specs.declared.line.Form.TheVariants.{Complex, Begin, Insert, Commit, Table}
 use Rattle.sd_script.specs.declared.line.Line.{Line}
-use Rattle.sd_script.specs.Forms.{form_words, IsForm}
-use Rattle.sd_script.specs.Order.{Follows}
+use Rattle.sd_script.specs.Forms.{form_words, IsForm, IsKnownBy}
+use Rattle.sd_script.specs.Order.{Follows, begun, ordinal_of}
 use Rattle.sd_script.specs.Text.{lines_of, words_of, end_of}
 use Rattle.sd_script.specs.Reading.{ReadsAs, Reads, IsRead, IsScript, IsBadAt}
-use Rattle.sd_script.proofs.Lists.{stands_at, slice_get-append_left, slice_get-push, take-push, take-append_left, take_next}
 use Rattle.sd_script.proofs.OneForm.{one_form}
+use Rattle.sd_base.proofs.Lists.{stands_at, slice_get-append_left, slice_get-push, take-push, take-append_left, take_next}
+
+-- a form that may follow has the ordinal of its name
+pub ordinal_known : (before : List Line) (form : Form) → Follows before form → IsKnownBy (ordinal_of (begun before)) form
+ordinal_known before (Insert name ordinal page value) follows = follows.0
+ordinal_known before (Commit name ordinal) follows = follows
+ordinal_known before (Complex insts pages frames) follows = tt
+ordinal_known before (Begin inst name) follows = tt
+ordinal_known before Table follows = tt
 
 abbrev made : ℕ → ℕ → Form → Line
 made number session form = record { number = number; session = session; form = form }
 
 pub one_line_as : (before : List Line) (bytes : List ℕ) (end : ℕ) (line other : Line) → ReadsAs before bytes end line → ReadsAs before bytes end other → line ≡ other
 one_line_as before bytes end line other a b =
-    let form : line.form ≡ other.form = one_form line.form other.form a.form b.form (sym a.words ∙ b.words) in
+    let form : line.form ≡ other.form = one_form (ordinal_of (begun before)) line.form other.form a.form b.form (ordinal_known before line.form a.follows) (ordinal_known before other.form b.follows) (sym a.words ∙ b.words) in
     let number : line.number ≡ other.number = a.number ∙ sym b.number in
     let session : line.session ≡ other.session = a.session ∙ sym b.session in
     ap (λ (n : ℕ). made n line.session line.form) number ∙ ap (λ (n : ℕ). made other.number n line.form) session
     ∙ ap (λ (f : Form). made other.number other.session f) form
 
--- where the form of the words may not follow, no line reads
-pub refused_by_order : (before : List Line) (bytes : List ℕ) (end : ℕ) (form : Form) → IsForm form → form_words form ≡ words_of bytes → (Follows before form → ⊥) → (line : Line) → ReadsAs before bytes end line → ⊥
-refused_by_order before bytes end form is words refused line reads =
-    let same : line.form ≡ form = one_form line.form form reads.form is (sym reads.words ∙ sym words) in
-    refused (subst (Follows before) same reads.follows)
+-- a line that reads has the form of the words
+pub form_is : (before : List Line) (bytes : List ℕ) (end : ℕ) (form : Form) → IsForm form → IsKnownBy (ordinal_of (begun before)) form → form_words form ≡ words_of bytes → (line : Line) → ReadsAs before bytes end line → line.form ≡ form
+form_is before bytes end form is known words line reads =
+    one_form (ordinal_of (begun before)) line.form form reads.form is (ordinal_known before line.form reads.follows) known (sym reads.words ∙ sym words)
 
 pub one_line : (text : List ℕ) (before : List Line) (line other : Line) → Reads text before line → Reads text before other → line ≡ other
 one_line text before line other a b =

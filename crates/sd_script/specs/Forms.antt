@@ -8,8 +8,8 @@ use Rattle.sd_script.specs.declared.line.Form.TheVariants.{Complex, Begin, Inser
 abbrev pub form_words : Form → List (List ℕ)
 form_words (Complex insts pages frames) = codes "complex" ∷ decimal insts ∷ decimal pages ∷ decimal frames ∷ []
 form_words (Begin inst name) = decimal inst ∷ codes "begin" ∷ name ∷ []
-form_words (Insert name page value) = codes "insert" ∷ name ∷ decimal page ∷ value ∷ []
-form_words (Commit name) = codes "commit" ∷ name ∷ []
+form_words (Insert name ordinal page value) = codes "insert" ∷ name ∷ decimal page ∷ value ∷ []
+form_words (Commit name ordinal) = codes "commit" ∷ name ∷ []
 form_words Table = codes "table" ∷ []
 
 -- a to z
@@ -39,11 +39,17 @@ IsCount n = (1 ≤ n) × (n ≤ 1024)
 abbrev pub IsForm : Form → Type 0
 IsForm (Complex insts pages frames) = (insts ≡ 1) × IsCount pages × IsCount frames
 IsForm (Begin inst name) = (1 ≤ inst) × (inst ≤ 8) × IsName name
-IsForm (Insert name page value) = IsName name × (page < 1024) × IsValue value
-IsForm (Commit name) = IsName name
+IsForm (Insert name ordinal page value) = IsName name × (page < 1024) × IsValue value
+IsForm (Commit name ordinal) = IsName name
 IsForm Table = Unit {0}
 
--- the form that the words are, if there is one
-abbrev pub IsFormOf : List (List ℕ) → Option Form → Type 0
-IsFormOf words None = (form : Form) → IsForm form → form_words form ≢ words
-IsFormOf words (Some form) = IsForm form × (form_words form ≡ words)
+-- the ordinal of a form that has one is known under its name
+abbrev pub IsKnownBy : (List ℕ → Option ℕ) → Form → Type 0
+IsKnownBy known (Insert name ordinal page value) = known name ≡ Some ordinal
+IsKnownBy known (Commit name ordinal) = known name ≡ Some ordinal
+IsKnownBy known _ = Unit {0}
+
+-- the form that the words are, if there is one, by the ordinals that are known
+abbrev pub IsFormOf : (List ℕ → Option ℕ) → List (List ℕ) → Option Form → Type 0
+IsFormOf known words None = (form : Form) → IsForm form → IsKnownBy known form → form_words form ≢ words
+IsFormOf known words (Some form) = IsForm form × IsKnownBy known form × (form_words form ≡ words)

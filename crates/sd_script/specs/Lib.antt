@@ -1,5 +1,7 @@
 pub mod Text
 pub mod Forms
+pub mod Packed
+pub mod Known
 pub mod Order
 pub mod Reading
 pub mod Remembered

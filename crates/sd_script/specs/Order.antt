@@ -1,5 +1,5 @@
 -- Which form may stand behind which lines.
-use Rattle.std.specs.Prelude.{◌≡◌, ◌≢◌, ℕ, ◌<◌, ◌≤◌, Bool, true, false, not, IsTrue, List, [], ◌∷◌, filter, count_by}
+use Rattle.std.specs.Prelude.{◌≡◌, ◌≢◌, ℕ, ◌<◌, ◌≤◌, Bool, true, false, not, IsTrue, List, [], ◌∷◌, filter, position, count_by, Option, Some}
 use Rattle.std.specs.List.{list_any, flat_map}
 use Rattle.std.specs.Str.{bytes_eq}
 use Rattle.sd_script.specs.declared.line.Form.{Form}
@@ -12,7 +12,7 @@ begun_by (Begin inst name) = name ∷ []
 begun_by _ = []
 
 abbrev pub ended_by : Form → List (List ℕ)
-ended_by (Commit name) = name ∷ []
+ended_by (Commit name ordinal) = name ∷ []
 ended_by _ = []
 
 -- the names of the begin lines, and of the commit lines
@@ -21,6 +21,10 @@ begun lines = flat_map (λ line. begun_by line.form) lines
 
 abbrev pub ended : List Line → List (List ℕ)
 ended lines = flat_map (λ line. ended_by line.form) lines
+
+-- the place of the name among these, counted from 0
+abbrev pub ordinal_of : List (List ℕ) → List ℕ → Option ℕ
+ordinal_of names name = position (bytes_eq name) names
 
 -- whether the name is one of these
 abbrev pub has : List (List ℕ) → List ℕ → Bool
@@ -60,11 +64,11 @@ abbrev pub table_count : List Line → ℕ
 table_count lines = count_by (λ line. is_table line.form) lines
 
 -- A line of this form may stand behind these lines. The first line alone is a complex line. An instance and a page
--- are of those that it gives. A name is begun once, and used behind its begin line. No name is open at a begin or
--- a table line, and 64 table lines are the most.
+-- are of those that it gives. A name is begun once, and used behind its begin line, which the line tells by its
+-- ordinal among the begin lines. No name is open at a begin or a table line, and 64 table lines are the most.
 abbrev pub Follows : List Line → Form → Type 0
 Follows before (Complex insts pages frames) = before ≡ []
 Follows before (Begin inst name) = (inst ≤ insts_of before) × ¬ IsBegun name before × (open_names before ≡ [])
-Follows before (Insert name page value) = IsBegun name before × (page < pages_of before)
-Follows before (Commit name) = IsBegun name before
+Follows before (Insert name ordinal page value) = (ordinal_of (begun before) name ≡ Some ordinal) × (page < pages_of before)
+Follows before (Commit name ordinal) = ordinal_of (begun before) name ≡ Some ordinal
 Follows before Table = (before ≢ []) × (open_names before ≡ []) × (table_count before < 64)

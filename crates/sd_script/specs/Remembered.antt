@@ -1,21 +1,37 @@
 -- What the reader remembers of the lines so far, and what it answers at the next.
-use Rattle.std.specs.Prelude.{◌≡◌, ℕ, ◌+◌, true, not, List, [], ◌∷◌, ◌++◌, length, filter, Option, None, Some}
-use Rattle.std.specs.Option.{option_to_list}
+use Rattle.std.specs.Prelude.{◌≡◌, ◌≢◌, ℕ, ◌+◌, ◌≤◌, ◌<◌, true, eqb, cond, List, [], ◌∷◌, ◌++◌, length, Option, None, Some}
+use Rattle.std.specs.Map.{update}
 use Rattle.std.specs.Str.{bytes_eq}
 use Rattle.sd_base.specs.declared.refusal.Refusal.{Refusal}
 use Rattle.sd_base.specs.declared.refusal.Refusal.TheVariants as refusal
 use Rattle.sd_base.specs.declared.refusal.Cause.TheVariants.{Word}
 use Rattle.sd_script.specs.declared.line.Form.{Form}
-use Rattle.sd_script.specs.declared.line.Form.TheVariants.{Complex, Begin, Commit, Table}
+use Rattle.sd_script.specs.declared.line.Form.TheVariants.{Complex, Begin, Insert, Commit, Table}
 use Rattle.sd_script.specs.declared.line.Line.{Line}
-use Rattle.sd_script.specs.Order.{begun, ended, has, open_names, insts_of, pages_of, table_count}
+use Rattle.sd_script.specs.Forms.{IsForm, IsName}
+use Rattle.sd_script.specs.Order.{begun, ended, has, ordinal_of, IsBegun, open_names, insts_of, pages_of, table_count}
 use Rattle.sd_script.specs.Reading.{ReadsAs}
 
--- the open names behind a line of this form, where these were open before it
-abbrev pub open_after : List (List ℕ) → Form → List (List ℕ)
-open_after names (Begin inst name) = name ∷ []
-open_after names (Commit name) = filter (λ other. not (bytes_eq other name)) names
-open_after names _ = names
+-- the ordinals that are known behind a line of this form, where so many names were begun before it
+abbrev pub known_after : (List ℕ → Option ℕ) → ℕ → Form → List ℕ → Option ℕ
+known_after known begins (Begin inst name) = update bytes_eq known name (Some begins)
+known_after known begins _ = known
+
+-- how many names are begun behind it
+abbrev pub begins_after : ℕ → Form → ℕ
+begins_after before (Begin inst name) = before + 1
+begins_after before _ = before
+
+-- an ordinal, unless it is this one
+abbrev pub less : ℕ → Option ℕ → Option ℕ
+less ordinal None = None
+less ordinal (Some opened) = cond {A = Option ℕ} (eqb opened ordinal) None (Some opened)
+
+-- the ordinal of the open name behind it
+abbrev pub open_after : Option ℕ → ℕ → Form → Option ℕ
+open_after before begins (Begin inst name) = Some begins
+open_after before begins (Commit name ordinal) = less ordinal before
+open_after before begins _ = before
 
 -- the instances, the pages and the number of tables behind it
 abbrev pub insts_after : ℕ → Form → ℕ
@@ -30,19 +46,63 @@ abbrev pub tables_after : ℕ → Form → ℕ
 tables_after before Table = before + 1
 tables_after before _ = before
 
--- these are the names begun, the open name, the instances, the pages and the number of tables of the lines
-pub record Remembers (lines : List Line) (known : List (List ℕ)) (open_name : Option (List ℕ)) (insts pages tables : ℕ) : Type 0 where
-  pub names : (name : List ℕ) → has known name ≡ has (begun lines) name
+-- the open name has this ordinal among the names, or none is open
+abbrev pub IsOpened : List (List ℕ) → List (List ℕ) → Option ℕ → Type 0
+IsOpened opens names None = opens ≡ []
+IsOpened opens names (Some ordinal) = (name : List ℕ) × (opens ≡ name ∷ []) × (ordinal_of names name ≡ Some ordinal)
+
+-- what is known is the ordinal of each name among those begun
+abbrev pub AreOrdinals : List Line → (List ℕ → Option ℕ) → Type 0
+AreOrdinals lines known = (name : List ℕ) → IsName name → known name ≡ ordinal_of (begun lines) name
+
+-- these are the ordinals of the names begun, their number, the ordinal of the open name, the instances, the pages and the
+-- number of tables of the lines
+pub record Remembers (lines : List Line) (known : List ℕ → Option ℕ) (begins : ℕ) (opened : Option ℕ) (insts pages tables : ℕ) : Type 0 where
+  pub names : AreOrdinals lines known
+  pub begins_are : begins ≡ length (begun lines)
   pub ended_names : (name : List ℕ) → has (ended lines) name ≡ true → has (begun lines) name ≡ true
-  pub open_is : option_to_list open_name ≡ open_names lines
+  pub opened_is : IsOpened (open_names lines) (begun lines) opened
   pub insts_are : insts ≡ insts_of lines
   pub pages_are : pages ≡ pages_of lines
   pub tables_are : tables ≡ table_count lines
+
+-- the form begins no name again
+abbrev pub IsFresh : List Line → Form → Type 0
+IsFresh before (Begin inst name) = ¬ IsBegun name before
+IsFresh before _ = Unit {0}
+
+-- as IsFresh, by the ordinals that are known
+abbrev pub IsUnknown : (List ℕ → Option ℕ) → Form → Type 0
+IsUnknown known (Begin inst name) = known name ≡ None
+IsUnknown known _ = Unit {0}
+
+-- a line of this form may stand behind these lines, if it begins no name again and has its ordinal
+abbrev pub Fits : List Line → Form → Type 0
+Fits before (Complex insts pages frames) = before ≡ []
+Fits before (Begin inst name) = (inst ≤ insts_of before) × (open_names before ≡ [])
+Fits before (Insert name ordinal page value) = page < pages_of before
+Fits before (Commit name ordinal) = Unit {0}
+Fits before Table = (before ≢ []) × (open_names before ≡ []) × (table_count before < 64)
 
 -- the line as which these bytes read, if there is one
 abbrev pub IsNextLine : List Line → List ℕ → ℕ → Option Line → Type 0
 IsNextLine before bytes end None = (line : Line) → ¬ ReadsAs before bytes end line
 IsNextLine before bytes end (Some line) = ReadsAs before bytes end line
+
+-- the line as which these bytes read, if it begins no name again
+pub record IsLineIfFresh (before : List Line) (bytes : List ℕ) (end : ℕ) (line : Line) : Type 0 where
+  pub reads : IsFresh before line.form → ReadsAs before bytes end line
+  pub only : (other : Line) → ReadsAs before bytes end other → other.form ≡ line.form
+  pub form : IsForm line.form
+
+abbrev pub IsLikelyLine : List Line → List ℕ → ℕ → Option Line → Type 0
+IsLikelyLine before bytes end None = (line : Line) → ¬ ReadsAs before bytes end line
+IsLikelyLine before bytes end (Some line) = IsLineIfFresh before bytes end line
+
+-- the lines with this one, unless it begins a name again
+abbrev pub IsWith : List Line → Line → Option (List Line) → Type 0
+IsWith before line None = ¬ IsFresh before line.form
+IsWith before line (Some lines) = IsFresh before line.form × (lines ≡ before ++ line ∷ [])
 
 -- the lines with the one as which these bytes read
 pub record GoesOn (before : List Line) (bytes : List ℕ) (end : ℕ) (lines : List Line) : Type 0 where

@@ -1,23 +1,25 @@
-//! From the words of a line to its form. It sees no other line.
+//! From the words of a line to its form. Of other lines it sees the names that they began.
 
-ghost use Rattle.std.specs.Prelude.{◌≡◌, ◌≢◌, ℕ, ◌≤◌, ◌<◌, [], ◌∷◌, map, codes, IfSome, IfNone, IfOk};
+ghost use Rattle.std.specs.Prelude.{◌≡◌, ◌≢◌, ℕ, ◌≤◌, ◌<◌, [], ◌∷◌, List, Option, map, codes, IfSome, IfNone, IfOk};
 ghost use Rattle.std.specs.Fmt.{decimal};
 ghost use Rattle.sd_script.specs.Forms.{IsFormOf};
+ghost use Rattle.sd_script.specs.Known.{known};
 
 use crate::Form;
+use crate::names::Names;
 use crate::word::{is_name, is_value, number_within};
-use sd_base::{InstNo, Memory, PageNo, Sequence};
+use sd_base::{InstNo, Memory, PAGES, PageNo, Sequence};
 use std::alloc::Global;
 
-/// The form of a line of these words; `None` exactly where it has none.
-pub(crate) fn form_of(alloc: Global, words: &[&[u8]]) -> Result<Option<Form>, Memory>
-    ensures { IfOk result (IsFormOf (map (λ word. word.now) words.now)) }
+/// The form of a line of these words, where these names were begun; `None` exactly where it has none.
+pub(crate) fn form_of(alloc: Global, words: &[&[u8]], begun: &Names) -> Result<Option<Form>, Memory>
+    ensures { IfOk result (IsFormOf (known begun.now) (map (λ word. word.now) words.now)) }
 {
     match words {
         [verb] => Ok(table_of(verb)),
-        [verb, name] => commit_of(alloc, verb, name),
+        [verb, name] => commit_of(alloc, verb, name, begun),
         [inst, verb, name] => begin_of(alloc, inst, verb, name),
-        [verb, first, second, third] => long_form_of(alloc, verb, first, second, third),
+        [verb, first, second, third] => long_form_of(alloc, verb, first, second, third, begun),
         _ => Ok(None),
     }
 }
@@ -28,30 +30,31 @@ fn long_form_of(
     first: &[u8],
     second: &[u8],
     third: &[u8],
+    begun: &Names,
 ) -> Result<Option<Form>, Memory>
-    ensures { IfOk result (IsFormOf (verb.now ∷ first.now ∷ second.now ∷ third.now ∷ [])) }
+    ensures { IfOk result (IsFormOf (known begun.now) (verb.now ∷ first.now ∷ second.now ∷ third.now ∷ [])) }
 {
     if verb == b"complex".as_slice() {
         Ok(complex_of(first, second, third))
     } else if verb == b"insert".as_slice() {
-        insert_of(alloc, first, second, third)
+        insert_of(alloc, first, second, third, begun)
     } else {
         Ok(None)
     }
 }
 
 fn complex_of(insts: &[u8], pages: &[u8], frames: &[u8]) -> Option<Form>
-    ensures { IsFormOf (codes "complex" ∷ insts.now ∷ pages.now ∷ frames.now ∷ []) result }
+    ensures { (known : List ℕ → Option ℕ) → IsFormOf known (codes "complex" ∷ insts.now ∷ pages.now ∷ frames.now ∷ []) result }
 {
     Some(Form::Complex {
         insts: inst_of(insts, 1)?,
-        pages: number_within(pages, 1, 1024)? as u16,
-        frames: number_within(frames, 1, 1024)? as u16,
+        pages: number_within(pages, 1, PAGES as u64)? as u16,
+        frames: number_within(frames, 1, PAGES as u64)? as u16,
     })
 }
 
 fn begin_of(alloc: Global, inst: &[u8], verb: &[u8], name: &[u8]) -> Result<Option<Form>, Memory>
-    ensures { IfOk result (IsFormOf (inst.now ∷ verb.now ∷ name.now ∷ [])) }
+    ensures { (known : List ℕ → Option ℕ) → IfOk result (IsFormOf known (inst.now ∷ verb.now ∷ name.now ∷ [])) }
 {
     if verb != b"begin".as_slice() || !is_name(name) {
         return Ok(None);
@@ -63,8 +66,14 @@ fn begin_of(alloc: Global, inst: &[u8], verb: &[u8], name: &[u8]) -> Result<Opti
     Ok(Some(Form::Begin { inst, name }))
 }
 
-fn insert_of(alloc: Global, name: &[u8], page: &[u8], value: &[u8]) -> Result<Option<Form>, Memory>
-    ensures { IfOk result (IsFormOf (codes "insert" ∷ name.now ∷ page.now ∷ value.now ∷ [])) }
+fn insert_of(
+    alloc: Global,
+    name: &[u8],
+    page: &[u8],
+    value: &[u8],
+    begun: &Names,
+) -> Result<Option<Form>, Memory>
+    ensures { IfOk result (IsFormOf (known begun.now) (codes "insert" ∷ name.now ∷ page.now ∷ value.now ∷ [])) }
 {
     if !is_name(name) || !is_value(value) {
         return Ok(None);
@@ -72,23 +81,34 @@ fn insert_of(alloc: Global, name: &[u8], page: &[u8], value: &[u8]) -> Result<Op
     let Some(page) = page_of(page) else {
         return Ok(None);
     };
+    let Some(ordinal) = begun.get(name) else {
+        return Ok(None);
+    };
     let name = Sequence::of(name.to_vec(alloc)?);
     let value = Sequence::of(value.to_vec(alloc)?);
-    Ok(Some(Form::Insert { name, page, value }))
+    Ok(Some(Form::Insert {
+        name,
+        ordinal,
+        page,
+        value,
+    }))
 }
 
-fn commit_of(alloc: Global, verb: &[u8], name: &[u8]) -> Result<Option<Form>, Memory>
-    ensures { IfOk result (IsFormOf (verb.now ∷ name.now ∷ [])) }
+fn commit_of(alloc: Global, verb: &[u8], name: &[u8], begun: &Names) -> Result<Option<Form>, Memory>
+    ensures { IfOk result (IsFormOf (known begun.now) (verb.now ∷ name.now ∷ [])) }
 {
     if verb != b"commit".as_slice() || !is_name(name) {
         return Ok(None);
     }
+    let Some(ordinal) = begun.get(name) else {
+        return Ok(None);
+    };
     let name = Sequence::of(name.to_vec(alloc)?);
-    Ok(Some(Form::Commit { name }))
+    Ok(Some(Form::Commit { name, ordinal }))
 }
 
 fn table_of(verb: &[u8]) -> Option<Form>
-    ensures { IsFormOf (verb.now ∷ []) result }
+    ensures { (known : List ℕ → Option ℕ) → IsFormOf known (verb.now ∷ []) result }
 {
     if verb == b"table".as_slice() {
         Some(Form::Table)

@@ -16,15 +16,18 @@ pub enum Form {
         inst: InstNo,
         name: Word,
     },
-    /// `insert T P V`: the transaction inserts the value into the page.
+    /// `insert T P V`: the transaction inserts the value into the page. The ordinal is that of its begin line among the
+    /// begin lines, counted from 0.
     Insert {
         name: Word,
+        ordinal: u32,
         page: PageNo,
         value: Bytes,
     },
-    /// `commit T`: the transaction commits.
+    /// `commit T`: the transaction commits. The ordinal is that of its begin line among the begin lines, counted from 0.
     Commit {
         name: Word,
+        ordinal: u32,
     },
     /// `table`: the records are shown.
     Table,

@@ -1,15 +1,17 @@
 //! The reader: the lines so far, and what is needed of them to judge the next.
 
-ghost use Rattle.std.specs.Prelude.{◌≡◌, ℕ, ◌<◌, ◌≤◌, ◌||◌, ◌++◌, ◌∷◌, ◌↔◌, List, [], length, IsTrue, IfOk, IfErr};
-ghost use Rattle.std.specs.Option.{option_to_list};
-ghost use Rattle.sd_script.specs.Order.{has, begun_by, is_table, Follows};
-ghost use Rattle.sd_script.specs.Remembered.{open_after, insts_after, pages_after, tables_after, IsNextLine, GoesOn, IsLineRefusedWith};
+ghost use Rattle.std.specs.Prelude.{◌≡◌, ℕ, ◌<◌, ◌≤◌, ◌∷◌, ◌++◌, ◌↔◌, List, [], length, IsTrue, IfOk, IfErr, IfSome, IfNone};
+ghost use Rattle.sd_script.specs.Forms.{IsForm, IsName};
+ghost use Rattle.sd_script.specs.Known.{known};
+ghost use Rattle.sd_script.specs.Order.{is_table, Follows};
+ghost use Rattle.sd_script.specs.Remembered.{known_after, begins_after, open_after, insts_after, pages_after, tables_after};
+ghost use Rattle.sd_script.specs.Remembered.{Fits, IsUnknown, IsFresh, IsWith, IsLikelyLine, GoesOn, IsLineRefusedWith};
 
 use crate::form::form_of;
 use crate::names::Names;
 use crate::word::split_words;
 use crate::{Form, Line};
-use sd_base::{Cause, Duplicate, Memory, Refusal, Word};
+use sd_base::{Cause, Memory, Refusal};
 use std::alloc::Global;
 use std::marker::Model;
 
@@ -21,12 +23,14 @@ const TEXT_BYTES: usize = 4_194_304;
 
 const TABLES: u8 = 64;
 
-/// The lines so far. At most one name is open, so its word is enough.
+/// The lines so far, the ordinals of the names that they began, and how many. At most one name is open, so its ordinal
+/// is enough.
 #[derive(Drop)]
 pub(crate) struct Reader {
     lines: Vec<Line>,
     begun: Names,
-    open_name: Option<Word>,
+    begins: u32,
+    opened: Option<u32>,
     insts: u8,
     pages: u16,
     tables: u8,
@@ -35,13 +39,14 @@ pub(crate) struct Reader {
 impl Model for Reader {
     ghost use Rattle.std.specs.Prelude.{List};
     ghost use Rattle.sd_script.specs.declared.line.Line.{Line};
+    ghost use Rattle.sd_script.specs.Known.{known};
     ghost use Rattle.sd_script.specs.Remembered.{Remembers};
 
     ghost Value = { List Line };
 
     ghost view = { λ r. r.lines.items };
 
-    ghost invariant = { λ r. Remembers r.lines.items r.begun r.open_name r.insts r.pages r.tables };
+    ghost invariant = { λ r. Remembers r.lines.items (known r.begun) r.begins r.opened r.insts r.pages r.tables };
 }
 
 impl Reader {
@@ -51,7 +56,8 @@ impl Reader {
         Reader {
             lines: Vec::new(alloc),
             begun: Names::new(alloc),
-            open_name: None,
+            begins: 0,
+            opened: None,
             insts: 0,
             pages: 0,
             tables: 0,
@@ -75,24 +81,27 @@ impl Reader {
         ensures read { IfOk result (GoesOn self bytes.now end) }
         ensures refused { IfErr result (IsLineRefusedWith self bytes.now end) }
     {
-        match self.line_of(alloc, bytes, end)? {
-            Some(line) => Ok(self.with(alloc, line)?),
-            None => Err(Refusal::BadLine {
-                line: self.lines.len() as u32 + 1,
-                cause: Cause::Word,
-            }),
-        }
+        let number = self.lines.len() as u32 + 1;
+        let read = match self.line_of(alloc, bytes, end)? {
+            Some(line) => self.with(line)?,
+            None => None,
+        };
+        read.ok_or(Refusal::BadLine {
+            line: number,
+            cause: Cause::Word,
+        })
     }
 
+    // The line of these bytes, if it may come next or begins a name again.
     fn line_of(&self, alloc: Global, bytes: &[u8], end: usize) -> Result<Option<Line>, Memory>
-        ensures { IfOk result (IsNextLine self.now bytes.now end) }
+        ensures { IfOk result (IsLikelyLine self.now bytes.now end) }
     {
         let number = self.lines.len() + 1;
         if bytes.len() > LINE_BYTES || number > LINES || end > TEXT_BYTES {
             return Ok(None);
         }
         let words = split_words(alloc, bytes)?;
-        let Some(form) = form_of(alloc, &words)? else {
+        let Some(form) = form_of(alloc, &words, &self.begun)? else {
             return Ok(None);
         };
         if !self.admits(&form) {
@@ -105,66 +114,92 @@ impl Reader {
         }))
     }
 
-    // Whether a line of this form may come next.
+    // Whether a line of this form may come next, if it begins no name again.
     fn admits(&self, form: &Form) -> bool
-        ensures { IsTrue result ↔ Follows self.now form.now }
+        ensures { IsTrue result ↔ Fits self.now form.now }
     {
         match form {
             Form::Complex { .. } => self.lines.is_empty(),
-            Form::Begin { inst, name } => {
-                inst.get() <= self.insts
-                    && !self.begun.has(name.items())
-                    && self.open_name.is_none()
-            }
-            Form::Insert { name, page, .. } => {
-                self.begun.has(name.items()) && page.get() < self.pages
-            }
-            Form::Commit { name } => self.begun.has(name.items()),
+            Form::Begin { inst, .. } => inst.get() <= self.insts && self.opened.is_none(),
+            Form::Insert { page, .. } => page.get() < self.pages,
+            Form::Commit { .. } => true,
             Form::Table => {
-                !self.lines.is_empty() && self.open_name.is_none() && self.tables < TABLES
+                !self.lines.is_empty() && self.opened.is_none() && self.tables < TABLES
             }
         }
     }
 
-    // The reader behind the line.
-    fn with(self, alloc: Global, line: Line) -> Result<Reader, Memory>
-        requires { Follows self line.form }
-        ensures { IfOk result (λ r. r ≡ self ++ line ∷ []) }
+    // The reader behind the line; none where it begins a name again.
+    fn with(self, line: Line) -> Result<Option<Reader>, Memory>
+        requires form { IsForm line.form }
+        requires follows { IsFresh self line.form → Follows self line.form }
+        requires few { length self ≤ 100000 }
+        ensures { IfOk result (IsWith self line) }
     {
         let Reader {
             mut lines,
             begun,
-            open_name,
+            begins,
+            opened,
             insts,
             pages,
             tables,
         } = self;
-        let begun = begun_behind(alloc, begun, &line.form)?;
-        let open_name = open_behind(open_name, &line.form)?;
+        let Some(begun) = begun_behind(begun, begins, &line.form)? else {
+            return Ok(None);
+        };
+        let opened = opened_behind(opened, begins, &line.form);
+        let begins = begins_behind(begins, &line.form);
         let insts = insts_behind(insts, &line.form);
         let pages = pages_behind(pages, &line.form);
         let tables = tables_behind(tables, &line.form);
         lines.push(line)?;
-        Ok(Reader {
+        Ok(Some(Reader {
             lines,
             begun,
-            open_name,
+            begins,
+            opened,
             insts,
             pages,
             tables,
-        })
+        }))
     }
 }
 
-// What is remembered behind a line of this form.
-fn begun_behind(alloc: Global, mut before: Names, form: &Form) -> Result<Names, Memory>
-    ensures { IfOk result (λ behind. (name : List ℕ) →
-        has behind name ≡ (has (begun_by form.now) name || has before name)) }
+// What is remembered behind a line of this form: of the names, none where it begins one again.
+fn begun_behind(mut before: Names, begins: u32, form: &Form) -> Result<Option<Names>, Memory>
+    requires { IsForm form.now }
+    ensures again { IfOk result (λ behind. IfNone behind (¬ IsUnknown (known before) form.now)) }
+    ensures new { IfOk result (λ behind. IfSome behind (λ _. IsUnknown (known before) form.now)) }
+    ensures names { IfOk result (λ behind. IfSome behind (λ names. (name : List ℕ) → IsName name →
+        known names name ≡ known_after (known before) begins form.now name)) }
 {
     if let Form::Begin { name, .. } = form {
-        before.add(alloc, name.items())?;
+        if !before.add(name.items(), begins)? {
+            return Ok(None);
+        }
     }
-    Ok(before)
+    Ok(Some(before))
+}
+
+fn begins_behind(before: u32, form: &Form) -> u32
+    requires { before ≤ 100000 }
+    ensures { result ≡ begins_after before form.now }
+{
+    match form {
+        Form::Begin { .. } => before + 1,
+        _ => before,
+    }
+}
+
+fn opened_behind(before: Option<u32>, begins: u32, form: &Form) -> Option<u32>
+    ensures { result ≡ open_after before begins form.now }
+{
+    match (before, form) {
+        (_, Form::Begin { .. }) => Some(begins),
+        (Some(opened), Form::Commit { ordinal, .. }) if opened == *ordinal => None,
+        (before, _) => before,
+    }
 }
 
 fn insts_behind(before: u8, form: &Form) -> u8
@@ -192,15 +227,5 @@ fn tables_behind(before: u8, form: &Form) -> u8
     match form {
         Form::Table => before + 1,
         _ => before,
-    }
-}
-
-fn open_behind(before: Option<Word>, form: &Form) -> Result<Option<Word>, Memory>
-    ensures { IfOk result (λ behind. option_to_list behind ≡ open_after (option_to_list before) form.now) }
-{
-    match (before, form) {
-        (_, Form::Begin { name, .. }) => Ok(Some(name.copy()?)),
-        (Some(name), Form::Commit { name: ended }) if name.items() == ended.items() => Ok(None),
-        (before, _) => Ok(before),
     }
 }

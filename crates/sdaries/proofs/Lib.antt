@@ -1,5 +1,4 @@
-pub mod ByteKeys
-pub mod TxnKeys
+pub mod Naming
 pub mod LineOrder
 pub mod Puts
 pub mod Takes

@@ -1,5 +1,5 @@
 -- A replay reaches one line after another. It serves the goals of replay.rt.
-use Rattle.std.proofs.Common.{◌≡◌, ◌⊎◌, ⊎_elim, ℕ, ◌+◌, ◌≤◌, Bool, true, false, List, [], ◌∷◌, ◌++◌, map, take, drop, cond, inl, inr, refl, sym, ap, subst, ◌∙◌, arith, vec_len, lit<, lit≤}
+use Rattle.std.proofs.Common.{◌≡◌, ◌⊎◌, ⊎_elim, ℕ, ◌+◌, ◌≤◌, Bool, true, false, List, [], ◌∷◌, ◌++◌, length, map, take, drop, cond, inl, inr, refl, sym, ap, subst, ◌∙◌, arith, vec_len, lit<, lit≤}
 use Rattle.std.specs.Prelude.{Option, None, Some, IsTrue, MatchBool, is_some}
 use Rattle.std.specs.Str.{bytes_eq}
 use Rattle.std.specs.Prelude.{◌||◌}
@@ -74,7 +74,7 @@ none_some x e = absurd (cc)
 
 pub reached-start : (replay : Replay) (lines : List Line) → pages_of lines ≡ vec_len replay.engine.pages
     → replay.book.opening ≡ [] → replay.book.entries ≡ entry_of 0 (event.Join 1) (reply.Joined 1) ∷ []
-    → ((p : ℕ) → slots_of replay.engine p ≡ []) → replay.engine.begins ≡ 0 → replay.engine.running ≡ None → ((q : List ℕ) → named replay.names q ≡ None)
+    → ((p : ℕ) → slots_of replay.engine p ≡ []) → replay.engine.begins ≡ 0 → replay.engine.running ≡ None → replay.names.items ≡ []
     → Reached lines 0 0 replay (started lines)
 reached-start replay lines pages blank entries empty begins running names = record {
   blank = blank;
@@ -83,7 +83,8 @@ reached-start replay lines pages blank entries empty begins running names = reco
   left = refl;
   page_is = refl;
   pages = pages;
-  names = names;
+  names = λ q. refl;
+  count = ap length names;
   stands = record {
     up = ap (λ (n : ℕ). record { status = Up; epoch = 1; begins = n; failed = 0 }) (sym begins);
     alone = λ t other. refl;
@@ -129,7 +130,7 @@ module _ (lines : List Line) (n page : ℕ) (line : Line) (f : Form) (is : line.
   under_way : ahead w.told w.told.left ≡ ahead w.told (line ∷ drop (n + 1) lines)
   under_way = at.left ∙ ap (ahead w.told) next.at
 
-  begun_more : begun (take (n + 1) lines) ≡ begun (take n lines) ++ begun_by f
+  pub begun_more : begun (take (n + 1) lines) ≡ begun (take n lines) ++ begun_by f
   begun_more = ap begun next.front ∙ flat_map-append (λ (l : Line). begun_by l.form) (take n lines) (line ∷ []) ∙ ap (λ l. begun (take n lines) ++ l) (flat_map-cons (λ (l : Line). begun_by l.form) line [] ∙ append-nil (begun_by line.form) ∙ ap begun_by is)
 
   ended_more : ended (take (n + 1) lines) ≡ ended (take n lines) ++ ended_by f
@@ -146,6 +147,16 @@ module _ (lines : List Line) (n page : ℕ) (line : Line) (f : Form) (is : line.
 
   commits_stay : ((k : List ℕ) → IsTrue (has (ended_by f) k) → IsTrue (has (begun (take n lines)) k)) → (k : List ℕ) → IsTrue (has (ended (take (n + 1) lines)) k) → IsTrue (has (begun (take (n + 1) lines)) k)
   commits_stay own k ended_now = has_begun k ∙ or_left _ _ (⊎_elim (λ before. at.commits k before) (λ here. own k here) (or_cases _ _ (sym (has_ended k) ∙ ended_now)))
+
+  -- a line that begins nothing
+  begun_same : begun_by f ≡ [] → begun (take (n + 1) lines) ≡ begun (take n lines)
+  begun_same quiet = begun_more ∙ ap (λ l. begun (take n lines) ++ l) quiet ∙ append-nil (begun (take n lines))
+
+  pub names_stay : begun_by f ≡ [] → (new : Replay) → KeepsNames old new → (q : List ℕ) → named (begun (take (n + 1) lines)) new.names.items q ≡ named (begun (take n lines)) old.names.items q
+  names_stay quiet new keeps q = ap (λ l. named l new.names.items q) (begun_same quiet) ∙ ap (λ txns. named (begun (take n lines)) txns q) keeps.names
+
+  pub count_stays : begun_by f ≡ [] → (new : Replay) → KeepsNames old new → length new.names.items ≡ length (begun (take (n + 1) lines))
+  count_stays quiet new keeps = ap (λ l. length l) keeps.names ∙ at.count ∙ ap (λ l. length l) (sym (begun_same quiet))
 
   -- an event of the line, served and noted
   turned : (ev : Event) (r : Reply) (new : Replay) → event_of w.told f ≡ Some ev → Notes old line.number ev r new
@@ -180,7 +191,7 @@ module _ (lines : List Line) (n page : ℕ) (line : Line) (f : Form) (is : line.
 
   -- a line without an event is passed over
   pub reached-past : event_of w.told f ≡ None → begun_by f ≡ [] → page ≡ 0
-      → ((txn : TxnId) (k : List ℕ) → IsOpen (take n lines) k → named old.names k ≡ Some txn → has (ended_by f) k ≡ false)
+      → ((txn : TxnId) (k : List ℕ) → IsOpen (take n lines) k → named (begun (take n lines)) old.names.items k ≡ Some txn → has (ended_by f) k ≡ false)
       → ((k : List ℕ) → IsTrue (has (ended_by f) k) → IsTrue (has (begun (take n lines)) k)) → Reached lines (n + 1) 0 old w
   reached-past none quiet first apart own = record {
     blank = at.blank;
@@ -189,10 +200,11 @@ module _ (lines : List Line) (n page : ℕ) (line : Line) (f : Form) (is : line.
     left = under_way ∙ ahead_past w.told line (drop (n + 1) lines) (ap (event_of w.told) is ∙ none);
     page_is = at.page_is ∙ first;
     pages = at.pages;
-    names = at.names;
+    names = λ q. ap (λ l. named l old.names.items q) (begun_same quiet) ∙ at.names q;
+    count = at.count ∙ ap (λ l. length l) (sym (begun_same quiet));
     stands = at.stands;
     bounds = at.bounds;
-    open_ = λ t runs. let o = at.open_ t runs in (o.0, open_stays o.0 o.1 (apart t o.0 o.1 o.2), o.2);
+    open_ = λ t runs. let o = at.open_ t runs in (o.0, open_stays o.0 o.1 (apart t o.0 o.1 o.2), ap (λ l. named l old.names.items o.0) (begun_same quiet) ∙ o.2);
     commits = commits_stay own;
     begins = omega (arith, at.begins);
     rising = at.rising;
@@ -201,10 +213,10 @@ module _ (lines : List Line) (n page : ℕ) (line : Line) (f : Form) (is : line.
 
   -- the line is done with the reply to its event
   pub reached-done : (ev : Event) (r : Reply) (new : Replay) (told : Progress) → event_of w.told f ≡ Some ev → after_reply w.told f (line ∷ drop (n + 1) lines) (drop (n + 1) lines) r ≡ told
-      → told.joined ≡ true → told.left ≡ drop (n + 1) lines → told.page ≡ 0 → told.pages ≡ w.told.pages → Notes old line.number ev r new → ((q : List ℕ) → named new.names q ≡ told.names q)
-      → ((txn : TxnId) → new.engine.running ≡ Some txn → (k : List ℕ) × IsOpen (take (n + 1) lines) k × (named new.names k ≡ Some txn))
+      → told.joined ≡ true → told.left ≡ drop (n + 1) lines → told.page ≡ 0 → told.pages ≡ w.told.pages → Notes old line.number ev r new → ((q : List ℕ) → named (begun (take (n + 1) lines)) new.names.items q ≡ told.names q) → length new.names.items ≡ length (begun (take (n + 1) lines))
+      → ((txn : TxnId) → new.engine.running ≡ Some txn → (k : List ℕ) × IsOpen (take (n + 1) lines) k × (named (begun (take (n + 1) lines)) new.names.items k ≡ Some txn))
       → ((k : List ℕ) → IsTrue (has (ended_by f) k) → IsTrue (has (begun (take n lines)) k)) → new.engine.begins ≤ n + 1 → (w' : World) × Reached lines (n + 1) 0 new w'
-  reached-done ev r new told has_one is_told joined left first pages notes names open_ own begins =
+  reached-done ev r new told has_one is_told joined left first pages notes names count open_ own begins =
       let t = turned ev r new has_one notes in
       let w' : World = record { serial = t.0; told = told; bounds = t.1 } in
       let turn : Turns w (entry_of line.number ev r) w' = subst (λ (x : Progress). Turns w (entry_of line.number ev r) (record { serial = t.0; told = x; bounds = t.1 })) is_told t.2 in (
@@ -217,6 +229,7 @@ module _ (lines : List Line) (n page : ℕ) (line : Line) (f : Form) (is : line.
           page_is = first;
           pages = pages ∙ at.pages ∙ sym notes.pages;
           names = names;
+          count = count;
           stands = t.3;
           bounds = t.4;
           open_ = open_;
@@ -243,10 +256,11 @@ module _ (lines : List Line) (n page : ℕ) (line : Line) (f : Form) (is : line.
           left = ap (ahead told) (left ∙ sym next.at);
           page_is = next_page;
           pages = pages ∙ at.pages ∙ sym notes.pages;
-          names = λ q. keeps.names q ∙ at.names q ∙ same_names q;
+          names = λ q. ap (λ txns. named (begun (take n lines)) txns q) keeps.names ∙ at.names q ∙ same_names q;
+          count = ap (λ l. length l) keeps.names ∙ at.count;
           stands = t.3;
           bounds = t.4;
-          open_ = λ u runs. let o = at.open_ u (sym running ∙ runs) in (o.0, o.1, keeps.names o.0 ∙ o.2);
+          open_ = λ u runs. let o = at.open_ u (sym running ∙ runs) in (o.0, o.1, ap (λ txns. named (begun (take n lines)) txns o.0) keeps.names ∙ o.2);
           commits = at.commits;
           begins = subst (λ (b : ℕ). b ≤ n) (sym keeps.begins) at.begins;
           rising = rising_on ev r new notes;

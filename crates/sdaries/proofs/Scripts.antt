@@ -31,8 +31,8 @@ within name value page =
 shorter : (f : Form) → value_length f ≤ length (join_with_byte 32 (form_words f))
 shorter (form.Complex insts pages frames) = omega arith
 shorter (form.Begin inst name) = omega arith
-shorter (form.Insert name page value) = within name value page
-shorter (form.Commit name) = omega arith
+shorter (form.Insert name ordinal page value) = within name value page
+shorter (form.Commit name ordinal) = omega arith
 shorter form.Table = omega arith
 
 line_length : (bytes : List ℕ) (f : Form) → words_of bytes ≡ form_words f → length (join_with_byte 32 (form_words f)) ≡ length bytes
@@ -82,8 +82,8 @@ script_above text lines script = above_from lines 0 (script_numbers text lines s
 behind_none : (f : Form) → Follows [] f → IsForm f → (insts_in f ≡ 1) × (0 < pages_in f) × (pages_in f ≤ 1024)
 behind_none (form.Complex insts pages frames) follows is = (is.0, omega (arith, is.1), is.1.1)
 behind_none (form.Begin inst name) follows is = absurd (omega (arith, follows.0, is.0))
-behind_none (form.Insert name page value) follows is = absurd (omega (arith, follows.1))
-behind_none (form.Commit name) follows is = absurd (cc)
+behind_none (form.Insert name ordinal page value) follows is = absurd (omega (arith, follows.1))
+behind_none (form.Commit name ordinal) follows is = absurd (cc)
 behind_none form.Table follows is = absurd (follows.0 refl)
 
 pub script_complex : (text : List ℕ) (lines : List Line) → IsScript text lines → (insts_of lines ≡ 1) × (0 < pages_of lines) × (pages_of lines ≤ 1024)

@@ -22,7 +22,6 @@ use Rattle.sd_model.specs.State.{State, Part, view, gone, committed, began, wrot
 use Rattle.sd_model.specs.Step.{Step}
 use Rattle.sd_model.specs.StepLaws.{IsOpen, IsUp, IsReady, next_txn}
 use Rattle.sd_base.specs.Ids.{same_rid}
-use Rattle.sd_model.proofs.Keys.{each_txn, cases_rid, eq-same_rid, ne-same_rid}
 use Rattle.sd_model.proofs.Steps.{begin-step, insert-step, full-step, too_long-step, no_txn-step, commit-step, list-step}
 use Rattle.sd_model.proofs.Views.{view_after-write, now_after-commit, view_after-begin, none-counted}
 use Rattle.sd_page.specs.Page.{Slot, Page, value_at, heap_end, HasRoom}
@@ -31,6 +30,7 @@ use Rattle.sdaries.specs.Bounds.{Bounds, with_slot}
 use Rattle.sdaries.proofs.Refuses.{commit-ended, insert-ended, insert-over, insert-overfull, insert-free, commit-free, list-free, begin-free}
 use Rattle.sdaries.specs.Serving.{slots_of, at_hand, StandsFor, HasBounds, ServesAll}
 use Rattle.sdaries.proofs.Slots.{value_at-push, value_at-end, rows-inside, rows-rising, contents-rows}
+use Rattle.sd_base.proofs.SameIds.{each_txn, cases_rid, eq-same_rid, ne-same_rid}
 
 -- the complex is open, and instance 1 is up
 opened : (e : Engine) (m : State) → StandsFor e m → IsOpen m

@@ -1,14 +1,14 @@
 -- A new slot at the end of a page, and the rows of a page. It serves the goals of engine.rt.
-use Rattle.std.proofs.Common.{◌≡◌, ◌≢◌, ⊎_elim, ℕ, zero, suc, ◌+◌, ◌<◌, Bool, true, false, List, [], ◌∷◌, ◌++◌, length, drop, get_or, set, append_assoc, eqb, cond, refl, sym, ap, subst, ◌∙◌, arith}
-use Rattle.std.specs.Prelude.{Option, None, Some, Result, Ok, OnOk}
+use Rattle.std.proofs.Common.{◌≡◌, ◌≢◌, ⊎_elim, ℕ, zero, suc, ◌+◌, ◌<◌, Bool, true, false, List, [], ◌∷◌, ◌++◌, length, drop, get_or, set, append_assoc, eqb, cond, refl, sym, ap, ◌∙◌, arith}
+use Rattle.std.specs.Prelude.{Option, None, Some}
 use Rattle.std.proofs.lemmas.Bool.{cases_Bool, eqb-true, eqb-false, eq-eqb}
 use Rattle.sd_base.specs.declared.ids.Rid.{Rid}
 use Rattle.sd_model.specs.Tables.{contents}
 use Rattle.sd_model.specs.Listing.{AreIn, AreRising, StartsAbove}
-use Rattle.sd_model.proofs.Keys.{eq-same_rid, ne-same_rid}
 use Rattle.std.proofs.lemmas.List.{drop_more, get_or_default, get_or-set_same, get_or-set_other}
 use Rattle.sd_page.specs.Page.{Page, Slot, value_at, written, empty_page}
 use Rattle.sdaries.specs.Pages.{rows_from, slot_row}
+use Rattle.sd_base.proofs.SameIds.{eq-same_rid, ne-same_rid}
 
 apart_zero : (s : ℕ) → eqb 0 (suc s) ≡ false
 apart_zero s = ⊎_elim (λ (is : eqb 0 (suc s) ≡ true). absurd (let e : 0 ≡ suc s = eqb-true 0 (suc s) is in omega arith)) (λ is. is) (cases_Bool (eqb 0 (suc s)))
@@ -95,10 +95,6 @@ rows_more slots p s rows value lt is =
     let at = value_at-drop slots s lt in
     let rest = rows_from p (s + 1) (drop (s + 1) slots) in
     append_assoc rows (slot_row p s value) rest ∙ ap (λ (v : Option (List ℕ)). rows ++ (slot_row p s v ++ rest)) (is ∙ at.1) ∙ ap (λ (l : List Slot). rows ++ rows_from p s l) (sym at.2)
-
--- what is said of an Ok holds, where the answer was Ok
-pub from_ok : {T E : Type 0} (r : Result T E) (x : T) (P : Type 0) → r ≡ Ok x → OnOk r P → P
-from_ok r x P is holds = subst (λ (q : Result _ _). OnOk q P) is holds
 
 -- a page that the code read is the page of that number
 pub page_at : (pages : List Page) (i p : ℕ) (page : Page) → i ≡ p → p < length pages → page ≡ get_or pages i page → (get_or pages p (empty_page p)).slots ≡ page.slots

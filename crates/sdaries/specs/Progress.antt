@@ -32,8 +32,8 @@ untold lines = record { joined = false; left = lines; names = λ _. None; page =
 abbrev pub event_of : Progress → Form → Option Event
 event_of at (form.Complex insts pages frames) = None
 event_of at (form.Begin inst name) = Some (event.Begin inst)
-event_of at (form.Insert name page value) = option_map (λ txn. event.Insert txn page value (length value)) (at.names name)
-event_of at (form.Commit name) = option_map (λ txn. event.Commit txn) (at.names name)
+event_of at (form.Insert name ordinal page value) = option_map (λ txn. event.Insert txn page value (length value)) (at.names name)
+event_of at (form.Commit name ordinal) = option_map (λ txn. event.Commit txn) (at.names name)
 event_of at form.Table = Some (event.List 1 at.page)
 
 -- the lines from the first one on that has an event

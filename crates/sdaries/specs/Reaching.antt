@@ -20,8 +20,8 @@ use Rattle.sdaries.specs.Serving.{StandsFor, HasBounds, ServesAll}
 abbrev pub value_length : Form → ℕ
 value_length (form.Complex insts pages frames) = 0
 value_length (form.Begin inst name) = 0
-value_length (form.Insert name page value) = length value
-value_length (form.Commit name) = 0
+value_length (form.Insert name ordinal page value) = length value
+value_length (form.Commit name ordinal) = 0
 value_length form.Table = 0
 
 -- the n-th line, counted from 0, as the grammar of scripts has it
@@ -53,11 +53,13 @@ pub record Reached (lines : List Line) (n page : ℕ) (replay : Replay) (world :
   pub left : ahead world.told world.told.left ≡ ahead world.told (drop n lines)
   pub page_is : world.told.page ≡ page
   pub pages : world.told.pages ≡ vec_len replay.engine.pages
-  pub names : (q : List ℕ) → named replay.names q ≡ world.told.names q
+  pub names : (q : List ℕ) → named (begun (take n lines)) replay.names.items q ≡ world.told.names q
+  -- each begin line has begun a transaction
+  pub count : length replay.names.items ≡ length (begun (take n lines))
   pub stands : StandsFor replay.engine world.serial
   pub bounds : HasBounds replay.engine world.bounds
   -- the transaction that runs is that of a name that is open
-  pub open_ : (txn : TxnId) → replay.engine.running ≡ Some txn → (name : List ℕ) × IsOpen (take n lines) name × (named replay.names name ≡ Some txn)
+  pub open_ : (txn : TxnId) → replay.engine.running ≡ Some txn → (name : List ℕ) × IsOpen (take n lines) name × (named (begun (take n lines)) replay.names.items name ≡ Some txn)
   pub commits : (name : List ℕ) → IsTrue (has (ended (take n lines)) name) → IsTrue (has (begun (take n lines)) name)
   pub begins : replay.engine.begins ≤ n
   pub rising : AreFrom 0 replay.book.entries
@@ -76,5 +78,5 @@ pub record Notes (old : Replay) (line : ℕ) (event : Event) (reply : Reply) (ne
 
 -- the names stay, and so does the number of begins
 pub record KeepsNames (old new : Replay) : Type 0 where
-  pub names : (q : List ℕ) → named new.names q ≡ named old.names q
+  pub names : new.names.items ≡ old.names.items
   pub begins : new.engine.begins ≡ old.engine.begins

@@ -69,9 +69,9 @@ abbrev pub reported : NamesOf → Form → List Entry → List ℕ
 reported names (form.Complex insts pages frames) entries = line_of (form_words (form.Complex insts pages frames))
 reported names (form.Begin inst name) entries =
     line_of (name ∷ replied (begin_words names) (codes "no reply") (last_entry entries) ∷ [])
-reported names (form.Insert name page value) entries =
+reported names (form.Insert name ordinal page value) entries =
     line_of (name ∷ replied (insert_words names) (codes "ended") (last_entry entries) ∷ [])
-reported names (form.Commit name) entries =
+reported names (form.Commit name ordinal) entries =
     line_of (name ∷ replied (commit_words names) (codes "ended") (last_entry entries) ∷ [])
 reported names form.Table entries =
     replied (table_lines names entries) (line_of (codes "no reply" ∷ [])) (last_entry entries)

@@ -6,13 +6,10 @@ ghost use Rattle.sd_model.specs.declared.event.Reply.TheVariants as reply;
 ghost use Rattle.sd_page.specs.Page.{empty_page};
 ghost use Rattle.sdaries.specs.Pages.{AddsSlot, rows_from, slot_row};
 
-use sd_base::{Bytes, Duplicate, InstNo, Memory, PageNo, Refusal, Rid, TxnId};
+use sd_base::{Bytes, Duplicate, InstNo, MAX_CAPACITY, Memory, PageNo, Refusal, Rid, TxnId};
 use sd_model::{Reply, Rows};
 use sd_page::{Image, Op};
 use std::alloc::Global;
-
-/// The greatest length of a value, in bytes.
-pub const MOST_VALUE: usize = 256;
 
 /// Pages in memory, the transaction that runs, and how many began. At most one runs at a time.
 #[derive(Drop)]
@@ -84,7 +81,7 @@ impl Engine {
         if !self.is_running(txn) {
             return Ok(Reply::Refused(Refusal::NoTxn));
         }
-        if value.items().len() > MOST_VALUE {
+        if value.items().len() > MAX_CAPACITY as usize {
             return Ok(Reply::Refused(Refusal::TooLong));
         }
         add_slot(&mut self.pages[page.get() as usize], page, value)

@@ -19,7 +19,6 @@
 mod engine;
 mod input;
 mod laws;
-mod names;
 mod output;
 mod parting;
 #[cfg(test)]

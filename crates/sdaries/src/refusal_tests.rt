@@ -189,6 +189,7 @@ fn a_refused_line_tells_names_and_a_refused_table_no_rows(rt: HostRuntime) -> Re
         line(
             2,
             Form::Commit {
+                ordinal: 0,
                 name: word(alloc, b"a")?,
             },
         ),

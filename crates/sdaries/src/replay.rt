@@ -1,8 +1,6 @@
 //! Drives the lines of a script through the engine, and notes each event with its reply.
 
-ghost use Rattle.std.specs.Prelude.{◌≡◌, ◌≢◌, ◌<◌, ◌≤◌, ◌+◌, ℕ, List, [], ◌∷◌, ◌++◌, None, Some, IfOk, OnOk, OnErr, length, slice_index_or, vec_len};
-ghost use Rattle.std.specs.Map.{update};
-ghost use Rattle.std.specs.Str.{bytes_eq};
+ghost use Rattle.std.specs.Prelude.{◌≡◌, ◌≢◌, ◌<◌, ◌≤◌, ◌+◌, ℕ, List, [], ◌∷◌, ◌++◌, None, Some, IfOk, OnOk, OnErr, length, slice_get, slice_index_or, vec_len};
 ghost use Rattle.sd_base.specs.declared.ids.TxnId.{TxnId};
 ghost use Rattle.sd_base.specs.declared.ids.Rid.{Rid};
 ghost use Rattle.sd_model.specs.declared.event.Event.TheVariants as event;
@@ -13,17 +11,16 @@ ghost use Rattle.sd_script.specs.declared.line.Form.TheVariants as form;
 ghost use Rattle.sd_script.specs.Order.{insts_of, pages_of};
 
 use crate::engine::Engine;
-use crate::names::Names;
-use sd_base::{Bytes, Duplicate, InstNo, Memory, PageNo, TxnId, Word};
+use sd_base::{Bytes, Duplicate, InstNo, Memory, PageNo, TxnId};
 use sd_model::{Book, Entry, Event, Reply, Table};
 use sd_script::{Form, Line};
 use std::alloc::Global;
 
-/// A script under way: the engine, the names that were begun, and the book.
+/// A script under way: the engine, the transaction of each begin line, and the book.
 #[derive(Drop)]
 pub struct Replay {
     pub engine: Engine,
-    pub names: Names,
+    pub names: Vec<TxnId>,
     pub book: Book,
 }
 
@@ -61,7 +58,6 @@ fn entry(line: u32, event: Event, reply: Reply) -> Entry
 
 impl Replay {
     ghost use Rattle.sdaries.specs.World.{World, opening, Leads};
-    ghost use Rattle.sdaries.specs.Names.{named};
     ghost use Rattle.sdaries.specs.Reaching.{Reached, IsNext, Notes, KeepsNames};
 
     /// A complex on blank devices with so many pages, whose instance 1 has joined.
@@ -77,28 +73,36 @@ impl Replay {
         book.note(entry(0, Event::Join { inst }, Reply::Joined { epoch: 1 }));
         Ok(Replay {
             engine,
-            names: Names::new(alloc),
+            names: Vec::new(alloc),
             book,
         })
     }
 
-    // Begins a transaction and names it.
-    fn begin(&mut self, alloc: Global, line: u32, inst: InstNo, name: &Word) -> Result<(), Memory>
+    // Begins a transaction.
+    fn begin(&mut self, line: u32, inst: InstNo) -> Result<(), Memory>
         requires inst { inst ≡ 1 }
         requires idle { self.old.engine.running ≡ None }
         requires room { self.old.engine.begins < 4294967295 }
         ensures noted { OnOk result ((txn : TxnId) × Notes self.old line (event.Begin 1) (reply.Began txn) self.new
             × (self.new.engine.running ≡ Some txn) × (self.new.engine.begins ≡ self.old.engine.begins + 1)
-            × ((q : List ℕ) → named self.new.names q ≡ update bytes_eq (named self.old.names) name.now (Some txn) q)) }
+            × (self.new.names.items ≡ self.old.names.items ++ txn ∷ [])) }
         ensures err { OnErr result (self.new.book.entries ≡ self.old.book.entries) }
         ensures opening { self.new.book.opening ≡ self.old.book.opening }
     {
         self.book.reserve(1)?;
         let txn = self.engine.begin(inst);
-        self.names.insert(name.items().to_vec(alloc)?, txn)?;
+        self.names.push(same(&txn))?;
         self.book
             .note(entry(line, Event::Begin { inst }, Reply::Began(txn)));
         Ok(())
+    }
+
+    // The transaction of the begin line of this ordinal.
+    fn txn_of(&self, ordinal: u32) -> TxnId
+        requires { ordinal < length self.now.names.items }
+        ensures { slice_get self.now.names.items ordinal ≡ Some result }
+    {
+        self.names[ordinal as usize]
     }
 
     // Inserts the value by the transaction.
@@ -195,15 +199,20 @@ impl Replay {
                 pages: _,
                 frames: _,
             } => Ok(()),
-            Form::Begin { inst, name } => self.begin(alloc, line.number, *inst, name),
-            Form::Insert { name, page, value } => match self.names.get(name.items()) {
-                None => Ok(()),
-                Some(txn) => self.insert(line.number, txn, *page, value),
-            },
-            Form::Commit { name } => match self.names.get(name.items()) {
-                None => Ok(()),
-                Some(txn) => self.commit(line.number, txn),
-            },
+            Form::Begin { inst, name: _ } => self.begin(line.number, *inst),
+            Form::Insert {
+                name: _,
+                ordinal,
+                page,
+                value,
+            } => {
+                let txn = self.txn_of(*ordinal);
+                self.insert(line.number, txn, *page, value)
+            }
+            Form::Commit { name: _, ordinal } => {
+                let txn = self.txn_of(*ordinal);
+                self.commit(line.number, txn)
+            }
             Form::Table => self.table(alloc, lines, n),
         }
     }

@@ -192,6 +192,7 @@ fn push_reply(
         }
         Form::Insert {
             name,
+            ordinal: _,
             page: _,
             value: _,
         } => {
@@ -199,7 +200,7 @@ fn push_reply(
             push_insert(alloc, out, names, entries.last())?;
             push_end(out)
         }
-        Form::Commit { name } => {
+        Form::Commit { name, ordinal: _ } => {
             push_name(out, name)?;
             push_commit(alloc, out, names, entries.last())?;
             push_end(out)

@@ -7,8 +7,8 @@ use Rattle.sdaries.proofs.engine.Engine.insert.Goals as goal
 pub returns-then-not-is_running-clause-serves : goal.returns-then-not-is_running-clause-serves
 returns-then-not-is_running-clause-serves c = insert-refused c.args.self.now c.args.txn c.args.page c.args.value.now (λ same. let yes : c.is_running.result ≡ true = c.is_running.ensures.1 same in let clash : true ≡ false = sym yes ∙ c.if-not-is_running.true in absurd (cc))
 
-pub returns-then-items-gt-MOST_VALUE-clause-serves : goal.returns-then-items-gt-MOST_VALUE-clause-serves
-returns-then-items-gt-MOST_VALUE-clause-serves c =
+pub returns-then-items-clause-serves : goal.returns-then-items-clause-serves
+returns-then-items-clause-serves c =
     let same : length c.items.result.now ≡ length c.args.value.now = ap (length {A = ℕ}) c.items.ensures in
     insert-long c.args.self.now c.args.txn c.args.page c.args.value.now (c.is_running.ensures.0 c.if-not-is_running.false) (omega arith)
 
