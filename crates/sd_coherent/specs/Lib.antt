@@ -1,0 +1,13 @@
+pub mod World
+pub mod Coherent
+pub mod Newest
+pub mod Moves
+pub mod Changes
+pub mod Forces
+pub mod Falls
+pub mod Puts
+pub mod Statuses
+pub mod Calls
+pub mod Named
+pub mod Crashes
+pub mod Checkpoints
