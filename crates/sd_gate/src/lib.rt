@@ -23,6 +23,3 @@ mod slots;
 
 pub use gate::{OPEN, close, fill, is_open};
 pub use slots::{Chosen, chosen_of, number_of};
-
-#[cfg(test)]
-mod tests;

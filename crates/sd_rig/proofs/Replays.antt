@@ -100,7 +100,7 @@ synced-devices pick disks dev are le =
     let k = disk_at disks dev in
     devices-set disks dev (settled pick k) are le (length-settled pick k (are.sound dev le) ∙ are.lens dev le) (settled-sound pick k (are.sound dev le))
 
-poked-sound : (at byte : ℕ) (k : DiskState) → at < length k.seen → byte < 256 → IsSound k → IsSound (poked at byte k)
+pub poked-sound : (at byte : ℕ) (k : DiskState) → at < length k.seen → byte < 256 → IsSound k → IsSound (poked at byte k)
 poked-sound at byte k h small sound = record {
   synced_len = length-set k.synced at byte ∙ sound.synced_len ∙ sym (length-set k.seen at byte);
   pending_len = length-set k.pending at false ∙ sound.pending_len ∙ sym (length-set k.seen at byte);

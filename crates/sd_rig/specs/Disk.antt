@@ -1,5 +1,5 @@
 -- One device in memory, and what the calls make of it.
-use Rattle.std.specs.Prelude.{◌≡◌, ℕ, ◌+◌, ◌<◌, ◌≤◌, ◌%◌, ◌==◌, Bool, true, false, List, ◌++◌, length, take, drop, set, get_or, map, replicate, if◌then◌else◌, refl}
+use Rattle.std.specs.Prelude.{◌≡◌, ℕ, ◌+◌, ◌-◌, ◌<◌, ◌≤◌, ◌%◌, ◌==◌, Bool, true, false, List, ◌++◌, length, take, drop, set, get_or, map, replicate, if◌then◌else◌, refl}
 use Rattle.std.specs.Coded.{Coded, code_by, coded×, coded_ℕ, coded_bool, coded_list}
 use Rattle.std.specs.List.{range_with_len}
 use Rattle.std.proofs.lemmas.List.{length-replicate}
@@ -90,6 +90,24 @@ pub record Lies (pending : List Bool) (low high : ℕ) : Type 0 where
   pub within : high ≤ length pending
   pub below : (i : ℕ) → i < low → get_or pending i false ≡ false
   pub above : (i : ℕ) → high ≤ i → get_or pending i false ≡ false
+
+-- the whole device, of which behind the front part that is kept nothing is pending
+abbrev pub whole : List ℕ → List ℕ → List Bool → DiskState
+whole seen synced pending = record {
+  seen = seen;
+  synced = synced ++ drop (length synced) seen;
+  pending = pending ++ copies (length seen - length pending) false;
+}
+
+-- A device as it is kept: pending bytes lie in its front part, from low up to high, and there is room for the whole.
+pub record IsHeld (seen synced : List ℕ) (pending : List Bool) (low high memory marks_memory : ℕ) : Type 0 where
+  pub sound : IsSound (whole seen synced pending)
+  pub lies : Lies (whole seen synced pending).pending low high
+  pub even : length pending ≡ length synced
+  pub within : length synced ≤ length seen
+  pub reach : high ≤ length synced
+  pub room : length seen ≤ memory
+  pub marks_room : length seen ≤ marks_memory
 
 -- At this place nothing changed.
 pub record SameAt (i : ℕ) (old new : DiskState) : Type 0 where

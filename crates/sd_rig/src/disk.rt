@@ -1,13 +1,15 @@
 //! One device in memory: what it reads, what it was at the last sync, which bytes are pending, and where these lie.
 
-ghost use Rattle.std.specs.Prelude.{◌≡◌, ◌+◌, ◌≤◌, ◌<◌, ◌↔◌, max, length, slice_range, IfOk, IsTrue, if◌then◌else◌};
+ghost use Rattle.std.specs.Prelude.{◌≡◌, ◌+◌, ◌≤◌, ◌<◌, ◌↔◌, max, length, slice_range, vec_capacity, IfOk, IsTrue, if◌then◌else◌};
 ghost use Rattle.sd_rig.specs.Devices.{overwritten};
-ghost use Rattle.sd_rig.specs.Disk.{IsSettled, Settles, blank, copies, marked, picked, poked, settled, written};
+ghost use Rattle.sd_rig.specs.Disk.{IsSettled, Settles, blank, copies, marked, picked, poked, settled, whole, written};
 
 use sd_base::{Memory, Pick};
 use std::alloc::{AllocError, Global};
 use std::marker::Model;
 
+/// One device. What it was at the last sync and which bytes are pending is kept of a front part alone, which grows with the
+/// writes: behind it nothing is pending. There is memory for the whole from the beginning, so no later call takes any.
 #[derive(Drop)]
 pub struct Disk {
     seen: Vec<u8>,
@@ -18,15 +20,16 @@ pub struct Disk {
 }
 
 impl Model for Disk {
-    ghost use Rattle.sd_rig.specs.Disk.{DiskState, IsSound, Lies, disk_code};
+    ghost use Rattle.std.specs.Prelude.{vec_capacity};
+    ghost use Rattle.sd_rig.specs.Disk.{DiskState, IsHeld, disk_code, whole};
 
     ghost Value = { DiskState };
 
     ghost coded = { disk_code };
 
-    ghost view = { λ k. record { seen = k.seen.items; synced = k.synced.items; pending = k.pending.items } };
+    ghost view = { λ k. whole k.seen.items k.synced.items k.pending.items };
 
-    ghost invariant = { λ k. IsSound (record { seen = k.seen.items; synced = k.synced.items; pending = k.pending.items }) × Lies k.pending.items k.low k.high };
+    ghost invariant = { λ k. IsHeld k.seen.items k.synced.items k.pending.items k.low k.high (vec_capacity k.synced) (vec_capacity k.pending) };
 }
 
 impl Disk {
@@ -35,9 +38,9 @@ impl Disk {
         ensures { IfOk result (λ k. k ≡ blank len) }
     {
         Ok(Disk {
-            seen: filled(alloc, 0, len)?,
-            synced: filled(alloc, 0, len)?,
-            pending: filled(alloc, false, len)?,
+            seen: zeros(alloc, len)?,
+            synced: Vec::with_capacity(alloc, len)?,
+            pending: Vec::with_capacity(alloc, len)?,
             low: 0,
             high: 0,
         })
@@ -63,6 +66,12 @@ impl Disk {
         requires { at + length bytes.now ≤ length self.old.seen }
         ensures { self.new ≡ written at bytes.now self.old }
     {
+        cover(
+            &self.seen,
+            &mut self.synced,
+            &mut self.pending,
+            at + bytes.len(),
+        );
         put_range(&mut self.seen, at, bytes);
         mark_range(&mut self.pending, at, bytes.len());
         let end = at + bytes.len();
@@ -104,6 +113,7 @@ impl Disk {
         requires { at < length self.old.seen }
         ensures { self.new ≡ poked at byte self.old }
     {
+        cover(&self.seen, &mut self.synced, &mut self.pending, at + 1);
         self.seen[at] = byte;
         self.synced[at] = byte;
         self.pending[at] = false;
@@ -113,27 +123,46 @@ impl Disk {
 // How much of a new device is filled at once.
 const BLOCK: usize = 4096;
 
-// So many copies.
+// So many zeros.
 #[tactic(auto, unfolding(crate::specs::Disk::copies))]
-fn repeated<T: Copy>(alloc: Global, x: T, len: usize) -> Result<Vec<T>, AllocError>
-    ensures { IfOk result (λ v. v.items ≡ copies len x) }
+fn repeated(alloc: Global, len: usize) -> Result<Vec<u8>, AllocError>
+    ensures { IfOk result (λ v. v.items ≡ copies len 0) }
 {
     let mut v = Vec::new(alloc);
-    v.resize(len, x)?;
+    v.resize(len, 0)?;
     Ok(v)
 }
 
 // The same, block by block.
-fn filled<T: Copy>(alloc: Global, x: T, len: usize) -> Result<Vec<T>, AllocError>
-    ensures { IfOk result (λ v. v.items ≡ copies len x) }
+fn zeros(alloc: Global, len: usize) -> Result<Vec<u8>, AllocError>
+    ensures { IfOk result (λ v. v.items ≡ copies len 0) }
 {
-    let block = repeated(alloc, x, BLOCK)?;
+    let block = repeated(alloc, BLOCK)?;
     let mut v = Vec::with_capacity(alloc, len)?;
     for _turn in 0..len / BLOCK {
         v.extend_from_slice(&block)?;
     }
     v.extend_from_slice(&block[..len % BLOCK])?;
     Ok(v)
+}
+
+// Lets the front part reach so far.
+fn cover(seen: &[u8], synced: &mut Vec<u8>, pending: &mut Vec<bool>, end: usize)
+    requires even { length pending.old.items ≡ length synced.old.items }
+    requires within { end ≤ length seen.now }
+    requires room { length seen.now ≤ vec_capacity synced.old }
+    requires marks_room { length seen.now ≤ vec_capacity pending.old }
+    ensures same { whole seen.now synced.new.items pending.new.items ≡ whole seen.now synced.old.items pending.old.items }
+    ensures even { length pending.new.items ≡ length synced.new.items }
+    ensures reaches { length synced.new.items ≡ max (length synced.old.items) end }
+    ensures room { vec_capacity synced.old ≤ vec_capacity synced.new }
+    ensures marks_room { vec_capacity pending.old ≤ vec_capacity pending.new }
+{
+    let from = synced.len();
+    if from < end {
+        synced.extend_from_slice(&seen[from..end]).unwrap();
+        pending.resize(end, false).unwrap();
+    }
 }
 
 // Puts the bytes at `at`.
@@ -195,10 +224,10 @@ fn settle_range(
     high: usize,
     pick: Pick,
 )
-    requires synced_len { length synced.old ≡ length seen.old }
-    requires pending_len { length pending.old ≡ length seen.old }
+    requires even { length pending.old ≡ length synced.old }
+    requires within { length synced.old ≤ length seen.old }
     requires ordered { low ≤ high }
-    requires within { high ≤ length seen.old }
+    requires reach { high ≤ length synced.old }
     ensures { Settles pick low high (record { seen = seen.old; synced = synced.old; pending = pending.old })
         (record { seen = seen.new; synced = synced.new; pending = pending.new }) }
 {

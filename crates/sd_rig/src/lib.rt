@@ -26,6 +26,3 @@ mod troubles;
 
 pub use memory_rig::MemRig;
 pub use rig::{DATA_LEN, LOG_LEN, Rig, device_len};
-
-#[cfg(test)]
-mod tests;

@@ -22,6 +22,3 @@ mod twin;
 pub use putting::put;
 pub use sd_gate::Chosen;
 pub use twin::{Twin, choose};
-
-#[cfg(test)]
-mod tests;

@@ -1,9 +1,12 @@
-use Rattle.std.proofs.Common.{◌≡◌, List, Bool, subst, sym}
-use Rattle.sd_rig.specs.Disk.{IsSound, Lies, blank}
-use Rattle.sd_rig.proofs.Places.{blank-lies, blank-sound}
+use Rattle.std.proofs.Common.{vec_capacity, ◌∙◌}
+use Rattle.sd_rig.proofs.Fronts.{blank-held, blank-whole, whole-same}
 use Rattle.sd_rig.proofs.disk.Disk.blank.Goals as goal
 
 pub invariant_of-result : goal.invariant_of-result
 invariant_of-result c =
-    let made : record { seen = c.in_ok-filled.field-0.items; synced = c.in_ok-filled-2.field-0.items; pending = c.in_ok-filled-3.field-0.items } ≡ blank c.args.len = cc (c.in_ok-filled.ensures, c.in_ok-filled-2.ensures, c.in_ok-filled-3.ensures) in
-    (subst IsSound (sym made) (blank-sound c.args.len), subst (λ (p : List Bool). Lies p 0 0) (sym c.in_ok-filled-3.ensures) (blank-lies c.args.len))
+    let synced = c.in_ok-with_capacity.field-0 in
+    let pending = c.in_ok-with_capacity-2.field-0 in
+    blank-held c.args.len (vec_capacity synced) (vec_capacity pending) c.in_ok-zeros.field-0.items synced.items pending.items c.in_ok-zeros.ensures c.in_ok-with_capacity.ensures.items c.in_ok-with_capacity-2.ensures.items c.in_ok-with_capacity.ensures.capacity c.in_ok-with_capacity-2.ensures.capacity
+
+pub returns : goal.returns
+returns c = whole-same c.in_ok-zeros.ensures c.in_ok-with_capacity.ensures.items c.in_ok-with_capacity-2.ensures.items ∙ blank-whole c.args.len
