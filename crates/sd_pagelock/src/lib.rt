@@ -27,6 +27,3 @@ pub mod rows;
 pub use directory::Directory;
 pub use lawful::is_lawful;
 pub use queue::Ask;
-
-#[cfg(test)]
-mod tests;

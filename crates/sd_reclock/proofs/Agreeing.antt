@@ -118,10 +118,6 @@ indexed_after old new index named t r x indexed changed gains u q h =
     let parts = or_parts (names index u q) (same_txn t u && same_rid q r) (sym (gains u q) ∙ h) in
     elsewhere old new t r x changed u q (ap (λ (b : Bool). same_txn t u && b) (same_rid-sym r q) ∙ parts.1) ∙ indexed u q parts.0
 
-pub indexed_more : (old : Held) (index named : Index) (t : TxnId) (r : Rid) → IsIndexed old index
-    → ((u : TxnId) (q : Rid) → names named u q ≡ (names index u q || (same_txn t u && same_rid q r))) → IsIndexed old named
-indexed_more old index named t r indexed gains u q h = indexed u q (or_parts (names index u q) (same_txn t u && same_rid q r) (sym (gains u q) ∙ h)).0
-
 -- all of t's locks are gone, and the others are what they were
 abbrev pub Frees : Held → Held → TxnId → Type 0
 Frees old new t = (u : TxnId) (q : Rid) → held_in new u q ≡ cond {A = Option Mode} (same_txn t u) None (held_in old u q)

@@ -1,4 +1,4 @@
--- Those of a record's holders whose lock conflicts, gathered one after another. It serves the goals of holders.rt and locks.rt.
+-- Those of a record's holders whose lock conflicts, gathered one after another. It serves the goals of holders.rt, others.rt and locks.rt.
 use Rattle.std.proofs.Common.{◌≡◌, ◌≢◌, Bool, true, false, not, List, [], ◌∷◌, ◌++◌, Option, Some, None, refl, sym, ap, subst, ◌∙◌, ⊎_elim, arith}
 use Rattle.std.proofs.lemmas.Bool.{true≢false}
 use Rattle.std.proofs.lemmas.List.{append-nil, append_assoc}

@@ -11,3 +11,4 @@ pub mod Lowering
 pub mod Owners
 pub mod Ranging
 pub mod Unnaming
+pub mod Firsts

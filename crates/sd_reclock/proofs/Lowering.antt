@@ -1,4 +1,4 @@
--- A lock that is lowered or taken away leaves the others in agreement. It serves the goals of holders.rt and locks.rt.
+-- A lock that is lowered or taken away leaves the others in agreement. It serves the goals of others.rt and locks.rt.
 use Rattle.std.proofs.Common.{◌≡◌, Bool, true, false, ◌&&◌, cond, Option, Some, None, refl, sym, subst, ◌∙◌, ⊎_elim}
 use Rattle.std.proofs.lemmas.Bool.{cond-true, cond-false, cases_Bool, true≢false}
 use Rattle.std.specs.Option.{IsSome}

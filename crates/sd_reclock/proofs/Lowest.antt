@@ -1,4 +1,4 @@
--- The lowest other holder, from the part of a map below a transaction and the part above it. It serves the goals of holders.rt.
+-- The lowest other holder, from the part of a map below a transaction and the part above it. It serves the goals of others.rt.
 use Rattle.std.proofs.Common.{◌≡◌, List, [], ◌∷◌, Option, Some, None, refl, sym, subst, ◌∙◌, ⊎_elim}
 use Rattle.std.proofs.lemmas.Bool.{true≢false}
 use Rattle.std.specs.Option.{IsSome, IfSome}

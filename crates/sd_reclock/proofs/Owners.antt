@@ -1,4 +1,4 @@
--- Who owns a record: the one holder with an Excl lock; and the lowest owner of many records. It serves holders.rt and locks.rt.
+-- Who owns a record: the one holder with an Excl lock; and the lowest owner of many records. It serves holders.rt, others.rt and locks.rt.
 use Rattle.std.proofs.Common.{◌≡◌, ◌⊎◌, inl, inr, [], ◌∷◌, Option, Some, None, sym, ap, subst, ◌∙◌, ⊎_elim}
 use Rattle.std.proofs.lemmas.Bool.{cond-true}
 use Rattle.std.specs.Map.{lookup}
@@ -14,7 +14,7 @@ use Rattle.sd_base.proofs.Orders.{same-txn, below_or_above, below_trans}
 abbrev pub Row : Type 0
 Row = TxnId × Mode
 
-first_mode : (holders rest : Modes) (e : Row) → holders ≡ e ∷ rest → mode_of holders e.0 ≡ Some e.1
+pub first_mode : (holders rest : Modes) (e : Row) → holders ≡ e ∷ rest → mode_of holders e.0 ≡ Some e.1
 first_mode holders rest e is = ap (λ (h : Modes). mode_of h e.0) is ∙ cond-true (same_txn e.0 e.0) (Some e.1) (lookup (same_txn e.0) rest) (same-txn e.0)
 
 pub owner_first : (holders rest : Modes) (e : Row) → AgreeAmong (mode_of holders) → holders ≡ e ∷ rest → e.1 ≡ modes.Excl → IsOwner (mode_of holders) (Some e.0)

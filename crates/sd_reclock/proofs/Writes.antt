@@ -1,7 +1,8 @@
 -- What a write to one record's holders, or to one transaction's records, leaves elsewhere. It serves the goals of locks.rt.
 use Rattle.std.proofs.Common.{◌≡◌, Bool, true, false, ◌&&◌, ◌||◌, cond, List, [], ◌∷◌, ◌++◌, Option, Some, None, Result, Ok, Err, refl, sym, ap, subst, ◌∙◌, ⊎_elim}
 use Rattle.std.specs.Result.{OnOk, OnErr}
-use Rattle.std.proofs.lemmas.Bool.{cond-true, cond-false, cases_Bool}
+use Rattle.std.specs.Option.{IsSome}
+use Rattle.std.proofs.lemmas.Bool.{cond-true, cond-false, cases_Bool, true≢false}
 use Rattle.std.proofs.lemmas.List.Folds.{list_any-append}
 use Rattle.std.specs.List.{list_any}
 use Rattle.std.specs.Map.{lookup}
@@ -11,7 +12,7 @@ use Rattle.sd_base.specs.declared.ids.Rid.{Rid}
 use Rattle.sd_base.specs.declared.place.Mode.{Mode}
 use Rattle.sd_base.specs.Ids.{same_txn, same_rid}
 use Rattle.sd_reclock.specs.Locks.{Held, Modes, held_in, mode_among}
-use Rattle.sd_reclock.specs.Indexing.{Index, names, rids_of}
+use Rattle.sd_reclock.specs.Indexing.{Index, IsIndexed, names, rids_of}
 use Rattle.sd_base.proofs.SameIds.{cases_rid, cases_txn, ne-same_rid, ne-same}
 use Rattle.sd_base.proofs.Orders.{same-rid, same-txn, same-txn-is, same-rid-is}
 
@@ -97,6 +98,18 @@ stay old new t w puts is u q = ⊎_elim
 pub on_err : {T E : Type 0} (r : Result T E) (P : Type 0) → P → OnErr r P
 on_err (Ok x) P p = tt
 on_err (Err e) P p = p
+
+pub ok_by : {T E : Type 0} (r : Result T E) (P : Type 0) → P → OnOk r P
+ok_by (Ok x) P p = p
+ok_by (Err e) P p = tt
+
+-- a record that is held is named
+pub named_held : (locks : Held) (index : Index) (t : TxnId) (r : Rid) (mode : Option Mode) → IsIndexed locks index → mode ≡ held_in locks t r → IsSome mode → names index t r ≡ true
+named_held locks index t r None indexed is some = absurd (true≢false (sym some))
+named_held locks index t r (Some m) indexed is some = ⊎_elim
+    (λ h. h)
+    (λ h. let none = is ∙ indexed t r h in absurd (cc (none)))
+    (cases_Bool (names index t r))
 
 -- the two outcomes of a result
 pub by_outcome : {T E : Type 0} (r : Result T E) (P Q X : Type 0) → OnOk r P → OnErr r Q → (P → X) → (Q → X) → X

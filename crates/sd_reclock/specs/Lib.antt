@@ -4,3 +4,4 @@ pub mod Indexing
 pub mod Reaching
 pub mod Searching
 pub mod Owning
+pub mod Holding

@@ -1,41 +1,49 @@
-//! The locks on one record, in the order of their transactions. They see no other record and no wait.
+//! The locks on one record: one of them in place, the others in the order of their transactions. They see no other
+//! record and no wait.
 
-ghost use Rattle.std.specs.Prelude.{◌≡◌, [], None, Some, cond, IsTrue, IfOk, OnOk, OnErr, ◌↔◌};
+ghost use Rattle.std.specs.Prelude.{◌≡◌, [], ◌∷◌, None, Some, cond, IsTrue, IfOk, OnOk, OnErr, ◌↔◌};
 ghost use Rattle.sd_base.specs.declared.ids.TxnId.{TxnId};
 ghost use Rattle.sd_base.specs.Ids.{same_txn};
 ghost use Rattle.sd_reclock.specs.Locks.{mode_of, raised, AgreeAmong, ClashesIn, IsLowestHolder, IsNoStronger, IsOwner};
+ghost use Rattle.sd_reclock.specs.Holding.{with_first, first_of};
+ghost use Rattle.sd_reclock.specs.Owning.{IsLowerOf};
 ghost use Rattle.sd_reclock.specs.Reaching.{AreThose};
 
+use crate::others::Others;
 use crate::wait::{clashes, raise};
 use sd_base::{Memory, Mode, TxnId};
 use std::alloc::Global;
-use std::collections::BTreeMap;
 use std::marker::Model;
-use std::ops::Bound;
 
-/// The locks on one record. Contracts see the list of holders, each with its mode.
+/// The locks on one record. Contracts see the list of holders, each with its mode. A lock that is the only one takes
+/// no memory.
 #[derive(Debug, Drop)]
 pub struct Holders {
-    modes: BTreeMap<TxnId, Mode>,
+    first: Option<(TxnId, Mode)>,
+    others: Others,
 }
 
 impl Model for Holders {
     ghost use Rattle.std.specs.Prelude.{List};
     ghost use Rattle.sd_base.specs.declared.ids.TxnId.{TxnId};
     ghost use Rattle.sd_base.specs.declared.place.Mode.{Mode};
+    ghost use Rattle.sd_reclock.specs.Holding.{with_first, IsApart};
 
     ghost Value = { List (TxnId × Mode) };
 
-    ghost view = { λ h. h.modes.entries };
+    ghost view = { λ h. with_first h.first h.others };
+
+    ghost invariant = { λ h. IsApart h.first h.others };
 }
 
 impl Holders {
-    /// No locks. It takes no memory.
-    pub fn new(alloc: Global) -> Holders
-        ensures { result ≡ [] }
+    /// The lock of one transaction. It takes no memory.
+    pub fn of(alloc: Global, t: &TxnId, mode: Mode) -> Holders
+        ensures { result ≡ (t.now, mode) ∷ [] }
     {
         Holders {
-            modes: BTreeMap::new(alloc),
+            first: Some((*t, mode)),
+            others: Others::new(alloc),
         }
     }
 
@@ -43,38 +51,39 @@ impl Holders {
     pub fn is_empty(&self) -> bool
         ensures { IsTrue result ↔ (self.now ≡ []) }
     {
-        self.modes.is_empty()
+        self.first.is_none() && self.others.is_empty()
     }
 
     /// The mode of a transaction's lock; `None` where it has none.
     pub fn mode_of(&self, t: &TxnId) -> Option<Mode>
         ensures { result ≡ mode_of self.now t.now }
     {
-        self.modes.get(t).copied()
+        match self.first {
+            None => self.others.mode_of(t),
+            Some((u, mode)) => {
+                if u == *t {
+                    return Some(mode);
+                }
+                self.others.mode_of(t)
+            }
+        }
     }
 
     /// The lowest transaction with a lock, other than this one.
     pub fn lowest_but(&self, not: &TxnId) -> Option<TxnId>
         ensures { IsLowestHolder (mode_of self.now) not.now result }
     {
-        let above = (Bound::Excluded(*not), Bound::Unbounded);
-        match self.modes.range(..*not).next() {
-            Some((t, _mode)) => Some(*t),
-            None => match self.modes.range(above).next() {
-                Some((t, _mode)) => Some(*t),
-                None => None,
-            },
-        }
+        lower_of(first_but(&self.first, not), self.others.lowest_but(not))
     }
 
     /// All other transactions whose lock conflicts with one in the mode.
     pub fn clashing(&self, alloc: Global, not: &TxnId, mode: Mode) -> Result<Vec<TxnId>, Memory>
         ensures { IfOk result (λ all. AreThose (ClashesIn self.now not.now mode) all.items) }
     {
-        let mut all = Vec::new(alloc);
-        for (t, held) in &self.modes {
-            if t != not && clashes(mode, *held) {
-                all.push(*t)?;
+        let mut all = self.others.clashing(alloc, not, mode)?;
+        if let Some((t, held)) = self.first {
+            if t != *not && clashes(mode, held) {
+                all.push(t)?;
             }
         }
         Ok(all)
@@ -86,9 +95,16 @@ impl Holders {
             ≡ cond (same_txn t.now u) (Some (raised (mode_of self.old t.now) mode)) (mode_of self.old u)) }
         ensures same { OnErr result (self.new ≡ self.old) }
     {
-        let mode = raise(self.mode_of(t), mode);
-        self.modes.insert(*t, mode)?;
-        Ok(())
+        if let Some((u, had)) = self.first {
+            if u == *t {
+                self.first = Some((u, raise(Some(had), mode)));
+                return Ok(());
+            }
+        } else if self.others.is_empty() {
+            self.first = Some((*t, mode));
+            return Ok(());
+        }
+        self.others.put(t, mode)
     }
 
     /// Lowers a transaction's lock, or takes it away. It takes no memory.
@@ -96,16 +112,13 @@ impl Holders {
         requires weaker { IsNoStronger to (mode_of self.old t.now) }
         ensures { (u : TxnId) → mode_of self.new u ≡ cond (same_txn t.now u) to (mode_of self.old u) }
     {
-        match to {
-            Some(mode) => {
-                if let Some(held) = self.modes.get_mut(t) {
-                    *held = mode;
-                }
-            }
-            None => {
-                self.modes.remove(t);
+        if let Some((u, _had)) = self.first {
+            if u == *t {
+                self.first = row_of(u, to);
+                return;
             }
         }
+        self.others.lower(t, to);
     }
 
     /// The transaction with an `Excl` lock: it has the only one.
@@ -113,10 +126,43 @@ impl Holders {
         requires agree { AgreeAmong (mode_of self.now) }
         ensures { IsOwner (mode_of self.now) result }
     {
-        let (t, mode) = self.modes.iter().next()?;
-        match mode {
-            Mode::Excl => Some(*t),
-            Mode::Shared => None,
+        match self.first {
+            None => self.others.owner(),
+            Some((t, mode)) => match mode {
+                Mode::Excl => Some(t),
+                Mode::Shared => None,
+            },
         }
+    }
+}
+
+// A transaction with its lock, where it has one.
+fn row_of(t: TxnId, mode: Option<Mode>) -> Option<(TxnId, Mode)>
+    ensures { result ≡ first_of t mode }
+{
+    match mode {
+        Some(mode) => Some((t, mode)),
+        None => None,
+    }
+}
+
+// The transaction of the lock, unless it is this one.
+fn first_but(first: &Option<(TxnId, Mode)>, not: &TxnId) -> Option<TxnId>
+    ensures { IsLowestHolder (mode_of (with_first first.now [])) not.now result }
+{
+    match first {
+        Some((t, _mode)) if t != not => Some(*t),
+        _ => None,
+    }
+}
+
+/// The lower of two, either of which may be missing.
+pub fn lower_of(first: Option<TxnId>, second: Option<TxnId>) -> Option<TxnId>
+    ensures { IsLowerOf first second result }
+{
+    match (first, second) {
+        (Some(a), Some(b)) => Some(if b < a { b } else { a }),
+        (Some(a), None) => Some(a),
+        (None, b) => b,
     }
 }

@@ -19,6 +19,7 @@
 
 mod holders;
 mod locks;
+mod others;
 mod search;
 mod table;
 mod wait;
@@ -26,6 +27,3 @@ mod wait;
 pub use search::{Asking, Standing};
 pub use table::RecordLocks;
 pub use wait::Asked;
-
-#[cfg(test)]
-mod tests;

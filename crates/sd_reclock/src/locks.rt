@@ -1,6 +1,6 @@
 //! The locks on all records, and an index from a transaction to its records. They see no wait.
 
-ghost use Rattle.std.specs.Prelude.{◌≡◌, ◌⊎◌, ◌+◌, ◌||◌, ◌&&◌, ◌↔◌, [], None, Some, cond, true, false, IsTrue, OnOk, OnErr, MatchOption, IfSome};
+ghost use Rattle.std.specs.Prelude.{◌≡◌, ◌⊎◌, ◌+◌, ◌||◌, ◌&&◌, ◌↔◌, [], None, Some, cond, true, false, IsTrue, IfOk, OnOk, OnErr, MatchOption, IfSome};
 ghost use Rattle.std.specs.List.{list_any};
 ghost use Rattle.std.specs.declared.ops.Bound.TheVariants.{Excluded, Unbounded};
 ghost use Rattle.sd_base.specs.declared.ids.TxnId.{TxnId};
@@ -8,10 +8,9 @@ ghost use Rattle.sd_base.specs.declared.ids.Rid.{Rid};
 ghost use Rattle.sd_base.specs.Ids.{same_txn, same_rid, IsBelow};
 ghost use Rattle.sd_reclock.specs.Locks.{held_in, raised, wait_of, Agree, IsLowestHolder, IsLowestOwner, IsNoStronger, StandsIn};
 ghost use Rattle.sd_reclock.specs.Answers.{IsFree};
-ghost use Rattle.sd_reclock.specs.Indexing.{names};
-ghost use Rattle.sd_reclock.specs.Owning.{IsLowerOf};
+ghost use Rattle.sd_reclock.specs.Indexing.{names, IsIndexed};
 
-use crate::holders::Holders;
+use crate::holders::{Holders, lower_of};
 use crate::search::Standing;
 use crate::wait::{Asked, clashes};
 use sd_base::{Memory, Mode, PageNo, Rid, TxnId};
@@ -26,6 +25,8 @@ pub struct Locks {
     records: BTreeMap<Rid, Holders>,
     // It may name a record too many, after a want of memory, and never one too few.
     index: BTreeMap<TxnId, Vec<Rid>>,
+    // Lists of transactions that ended, whose room others use again. There is room for all that are in use.
+    spare: Vec<Vec<Rid>>,
     alloc: Global,
 }
 
@@ -53,6 +54,7 @@ impl Locks {
         Locks {
             records: BTreeMap::new(alloc),
             index: BTreeMap::new(alloc),
+            spare: Vec::new(alloc),
             alloc,
         }
     }
@@ -113,9 +115,14 @@ impl Locks {
         ensures agree { Agree self.new }
         ensures same { OnErr result (self.new ≡ self.old) }
     {
-        let had = self.mode_of(t, &wait.rid).is_some();
-        name(self.alloc, &mut self.index, t, &wait.rid, had)?;
-        put(self.alloc, &mut self.records, t, wait)
+        put(
+            self.alloc,
+            &mut self.records,
+            &mut self.index,
+            &mut self.spare,
+            t,
+            wait,
+        )
     }
 
     /// Lowers a lock, or takes it away. It takes no memory.
@@ -150,6 +157,7 @@ impl Locks {
     {
         if let Some(rids) = self.index.remove(t) {
             release_each(&mut self.records, t, &rids);
+            keep(&mut self.spare, rids);
         }
     }
 }
@@ -178,21 +186,11 @@ fn end_of(p: PageNo) -> Bound<Rid>
     }
 }
 
-// The lower of two, either of which may be missing.
-fn lower_of(first: Option<TxnId>, second: Option<TxnId>) -> Option<TxnId>
-    ensures { IsLowerOf first second result }
-{
-    match (first, second) {
-        (Some(a), Some(b)) => Some(if b < a { b } else { a }),
-        (Some(a), None) => Some(a),
-        (None, b) => b,
-    }
-}
-
 // Names the record at the transaction, unless it had it. After `Memory` the index is as before.
 fn name(
     alloc: Global,
     index: &mut BTreeMap<TxnId, Vec<Rid>>,
+    spare: &mut Vec<Vec<Rid>>,
     t: &TxnId,
     r: &Rid,
     had: bool,
@@ -209,10 +207,33 @@ fn name(
         rids.push(*r)?;
         return Ok(());
     }
-    let mut rids = Vec::new(alloc);
+    let mut rids = emptied(alloc, spare, index.len())?;
     rids.push(*r)?;
     index.insert(*t, rids)?;
     Ok(())
+}
+
+// A list without records, for one more transaction beside so many.
+fn emptied(alloc: Global, spare: &mut Vec<Vec<Rid>>, beside: usize) -> Result<Vec<Rid>, Memory>
+    ensures { IfOk result (λ rids. rids.items ≡ []) }
+{
+    match spare.pop() {
+        Some(mut rids) => {
+            rids.clear();
+            Ok(rids)
+        }
+        None => {
+            spare.reserve(beside.saturating_add(1))?;
+            Ok(Vec::new(alloc))
+        }
+    }
+}
+
+// Keeps the list's room for another transaction. It takes no memory.
+fn keep(spare: &mut Vec<Vec<Rid>>, rids: Vec<Rid>) {
+    if spare.len() < spare.capacity() {
+        let _kept = spare.push(rids);
+    }
 }
 
 // Takes the record's name from the transaction's, where the lock is taken away and it was the last that was named:
@@ -235,23 +256,31 @@ fn unname(index: &mut BTreeMap<TxnId, Vec<Rid>>, t: &TxnId, r: &Rid, to: Option<
     }
 }
 
-// Gives the lock, or raises one that is there. After `Memory` the records are as before.
+// Names the record at the transaction, and gives the lock, or raises one that is there. After `Memory` the records are as
+// before.
 fn put(
     alloc: Global,
     records: &mut BTreeMap<Rid, Holders>,
+    index: &mut BTreeMap<TxnId, Vec<Rid>>,
+    spare: &mut Vec<Vec<Rid>>,
     t: &TxnId,
     wait: &Asked,
 ) -> Result<(), Memory>
+    requires { IsIndexed records.old.entries index.old.entries }
     ensures put { OnOk result ((u : TxnId) (q : Rid) → held_in records.new.entries u q ≡ cond (same_txn t.now u && same_rid wait.now.rid q)
         (Some (raised (held_in records.old.entries t.now wait.now.rid) wait.now.mode)) (held_in records.old.entries u q)) }
     ensures same { OnErr result (records.new.entries ≡ records.old.entries) }
+    ensures more { (u : TxnId) (q : Rid) → names index.new.entries u q ≡ false → names index.old.entries u q ≡ false }
+    ensures named { OnOk result ((u : TxnId) (q : Rid) → names index.new.entries u q
+        ≡ (names index.old.entries u q || (same_txn t.now u && same_rid q wait.now.rid))) }
 {
     if let Some(holders) = records.get_mut(&wait.rid) {
+        let had = holders.mode_of(t).is_some();
+        name(alloc, index, spare, t, &wait.rid, had)?;
         return holders.put(t, wait.mode);
     }
-    let mut holders = Holders::new(alloc);
-    holders.put(t, wait.mode)?;
-    records.insert(wait.rid, holders)?;
+    name(alloc, index, spare, t, &wait.rid, false)?;
+    records.insert(wait.rid, Holders::of(alloc, t, wait.mode))?;
     Ok(())
 }
 

@@ -1,7 +1,7 @@
 mod Alike
 mod Keyed
 mod Marks
-mod Owing
-mod Stacks
+pub mod Owing
+pub mod Stacks
 mod Steps
 mod Sums

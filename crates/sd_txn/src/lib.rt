@@ -27,6 +27,3 @@ mod txn;
 
 pub use state::{OpenRec, TxnState};
 pub use table::TxnTable;
-
-#[cfg(test)]
-mod tests;

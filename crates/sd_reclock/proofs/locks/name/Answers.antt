@@ -27,7 +27,7 @@ pub returns-clause-named : goal.returns-clause-named
 returns-clause-named c =
     gains c.args.index.now.entries c.insert.new.self.entries c.args.t.now c.args.r.now c.push-2.new.self
     (λ u. put-txn c.args.t.now u (Some c.push-2.new.self) c.args.index.now.entries c.insert.new.self.entries (rw c.get_mut.follows.holds-at-none at (c.in_ok-insert.ensures.updates.0 u)))
-    (c.in_ok-push-2.ensures.items ∙ ap (λ (rids : List Rid). rids ++ c.args.r.now ∷ []) (c.new-rids.ensures.items ∙ ap rids_of (c.in_default.ensures.value ∙ look-txn c.args.t.now c.args.index.now.entries)))
+    (c.in_ok-push-2.ensures.items ∙ ap (λ (rids : List Rid). rids ++ c.args.r.now ∷ []) (c.in_ok-rids.ensures ∙ ap rids_of (c.in_default.ensures.value ∙ look-txn c.args.t.now c.args.index.now.entries)))
 
 pub returns-then-had-clause-named : goal.returns-then-had-clause-named
 returns-then-had-clause-named c = named_already c.args.index.now.entries c.args.t.now c.args.r.now (c.requires.had c.if-had.true)

@@ -8,7 +8,8 @@ use Rattle.sd_base.specs.declared.ids.Rid.{Rid}
 use Rattle.sd_base.specs.declared.place.Mode.{Mode}
 use Rattle.sd_base.specs.Ids.{same_txn}
 use Rattle.sd_reclock.specs.Locks.{Modes, held_in, mode_of, mode_among, raised}
-use Rattle.sd_reclock.proofs.Writes.{no_mode, changes}
+use Rattle.sd_reclock.proofs.Writes.{no_mode, changes, on_err as err_by, ok_by, named_held}
+use Rattle.sd_reclock.proofs.Firsts.{alone}
 use Rattle.sd_reclock.proofs.locks.put.Goals as goal
 use Rattle.sd_base.proofs.Orders.{rid_cmp, put-rid, look-rid}
 use Rattle.sd_base.proofs.Results.{on_ok, on_err}
@@ -35,11 +36,28 @@ returns-in-Some-clause-same c =
 
 pub returns-clause-put : goal.returns-clause-put
 returns-clause-put c =
-    let w = c.put-2.new.self in
+    let w = c.of.result in
     let old = c.args.records.now.entries in
     let none : (u : TxnId) → no_mode ≡ held_in old u c.args.wait.now.rid = λ u. ap (λ (o : Option Modes). mode_among o u) (c.in_default.ensures.value ∙ look-rid c.args.wait.now.rid old) in
     changes old c.insert.new.self.entries c.args.t.now c.args.wait.now.rid (Some w) (Some (raised (held_in old c.args.t.now c.args.wait.now.rid) c.args.wait.now.mode))
     (λ q. put-rid c.args.wait.now.rid q (Some w) old c.insert.new.self.entries (rw c.get_mut.follows.holds-at-none at (c.in_ok-insert.ensures.updates.0 q)))
-    (λ u. c.in_ok-put.ensures.put u ∙ ap (λ (h : Modes). cond {A = Option Mode} (same_txn c.args.t.now u) (Some (raised (mode_of h c.args.t.now) c.args.wait.now.mode)) (mode_of h u)) c.new-holders.ensures
+    (λ u. ap (λ (h : Modes). mode_of h u) c.of.ensures ∙ alone c.args.t.now c.args.wait.now.mode u
     ∙ ap (λ (m : Option Mode). cond {A = Option Mode} (same_txn c.args.t.now u) (Some (raised m c.args.wait.now.mode)) no_mode) (none c.args.t.now)
     ∙ ap (λ (m : Option Mode). cond {A = Option Mode} (same_txn c.args.t.now u) (Some (raised (held_in old c.args.t.now c.args.wait.now.rid) c.args.wait.now.mode)) m) (none u))
+
+pub name-requires : goal.name-requires
+name-requires c = record {
+  had = λ h. named_held c.args.records.now.entries c.args.index.now.entries c.args.t.now c.args.wait.now.rid c.mode_of.result c.requires
+      (c.mode_of.ensures ∙ ap (λ (o : Option Modes). mode_among o c.args.t.now) (c.in-Some.ensures.value ∙ look-rid c.args.wait.now.rid c.args.records.now.entries)) (sym c.is_some-had.ensures ∙ h);
+}
+
+pub returns-in_err-name-clause-same : goal.returns-in_err-name-clause-same
+returns-in_err-name-clause-same c =
+    let old = c.args.records.now.entries in
+    err_by _ _ ((c.get_mut.follows.holds c.in-Some.holders.now).0 ∙ set_value_same (λ (k : Rid). is_eq (rid_cmp c.args.wait.now.rid k)) old c.in-Some.holders.now (sym c.in-Some.ensures.value))
+
+pub returns-in-Some-clause-named : goal.returns-in-Some-clause-named
+returns-in-Some-clause-named c = ok_by _ _ c.in_ok-name.ensures.named
+
+pub returns-clause-named : goal.returns-clause-named
+returns-clause-named c = c.in_ok-name-2.ensures.named

@@ -1,45 +1,37 @@
-use Rattle.std.proofs.Common.{refl, sym, subst}
+use Rattle.std.proofs.Common.{◌≡◌, sym, subst, ap, ◌∙◌, refl, List, ◌++◌, ◌∷◌, []}
 use Rattle.std.proofs.lemmas.Bool.{true≢false}
+use Rattle.std.specs.Global.{Vec}
+use Rattle.sd_base.specs.declared.ids.TxnId.{TxnId}
 use Rattle.sd_base.specs.Ids.{same_txn}
 use Rattle.sd_reclock.specs.Locks.{Modes, ClashesIn}
+use Rattle.sd_reclock.specs.Holding.{with_first}
 use Rattle.sd_reclock.specs.Reaching.{AreThose}
-use Rattle.sd_reclock.proofs.Clashing.{IsGathered, gathered_none, gathered_more, gathered_past, gathered_all, apart_by, same_by}
+use Rattle.sd_reclock.proofs.Clashing.{apart_by, same_by}
+use Rattle.sd_reclock.proofs.Firsts.{First, was_row, clash_past, clash_more}
 use Rattle.sd_reclock.proofs.holders.Holders.clashing.Goals as goal
-use Rattle.sd_reclock.proofs.holders.Holders.clashing.Goals.{else-ne-via-then-ne+else-clashes, else-ne-via-else-ne}
+use Rattle.sd_reclock.proofs.holders.Holders.clashing.Goals.{in-Some+then-ne+then-clashes+in_ok-push, in-Some+else-ne, else-ne-via-then-ne+else-clashes, else-ne-via-else-ne, in_default}
 
-pub loop-t-init : goal.loop-t-init
-loop-t-init c = (tt, tt, rw c.new-all.ensures.items (gathered_none c.args.not.now c.args.mode c.into_iter-t-iterator.result))
-
-pub loop-t-preserved-then-clashes : goal.loop-t-preserved-then-clashes
-unfolding same_txn
-loop-t-preserved-then-clashes c = (
-  tt,
-  tt,
-  rw c.in_ok-push.ensures.items
-      (gathered_more c.args.not.now c.args.mode c.into_iter-t-iterator.result c.loop-t.t-iterator c.next.new.self (c.in-Some.t.now, c.in-Some.held.now) c.loop-t.all.items c.in-Some.ensures.steps
-      (apart_by c.args.not.now c.in-Some.t.now (sym c.if-ne.ensures), c.if-clashes.ensures.0 refl) c.loop-t.invariant.2),
-)
-
-pub loop-t-preserved : goal.loop-t-preserved
-unfolding same_txn
-loop-t-preserved c = elim c.else-ne.branch [
-  | else-ne-via-then-ne+else-clashes w ↦ (
-    tt,
-    tt,
-    gathered_past c.args.not.now c.args.mode c.into_iter-t-iterator.result c.loop-t.t-iterator c.next.new.self (c.in-Some.t.now, c.in-Some.held.now) c.loop-t.all.items c.in-Some.ensures.steps
-        (λ h. true≢false (sym (w.if-clashes.ensures.1 h.1))) c.loop-t.invariant.2,
-  )
-  | else-ne-via-else-ne w ↦ (
-    tt,
-    tt,
-    gathered_past c.args.not.now c.args.mode c.into_iter-t-iterator.result c.loop-t.t-iterator c.next.new.self (c.in-Some.t.now, c.in-Some.held.now) c.loop-t.all.items c.in-Some.ensures.steps
-        (λ h. h.0 (same_by c.args.not.now c.in-Some.t.now (sym w.if-ne.ensures))) c.loop-t.invariant.2,
-  )
-]
+those : (c : goal.Joined-self) (holders : Modes) (all : List TxnId) → holders ≡ c.args.self.now → all ≡ c.match-self.all.items → AreThose (ClashesIn holders c.args.not.now c.args.mode) all
+    → AreThose (ClashesIn c.args.self.now c.args.not.now c.args.mode) c.match-self.all.items
+those c holders all is same h = subst (λ (h : Modes). AreThose (ClashesIn h c.args.not.now c.args.mode) c.match-self.all.items) is
+    (subst (λ (xs : List TxnId). AreThose (ClashesIn holders c.args.not.now c.args.mode) xs) same h)
 
 pub returns : goal.returns
-returns c =
-    let given = c.into_iter-t-iterator.ensures.into_iter_gives in
-    let so_far = subst (λ (rows : Modes). IsGathered c.args.not.now c.args.mode rows c.loop-t.t-iterator c.loop-t.all.items) given.0 c.loop-t.invariant.2 in
-    subst (λ (rows : Modes). AreThose (ClashesIn rows c.args.not.now c.args.mode) c.loop-t.all.items) c.self.view_is
-    (gathered_all c.args.not.now c.args.mode c.self.inside.modes.entries c.loop-t.t-iterator c.loop-t.all.items c.in-None.ensures.steps.0 given.6 so_far)
+unfolding same_txn
+returns c = elim c.match-self.branch [
+  | in-Some+then-ne+then-clashes+in_ok-push w ↦ those c ((w.in-Some.t, w.in-Some.held) ∷ c.self.inside.others) (c.in_ok-all.all.items ++ w.in-Some.t ∷ [])
+      (sym (was_row c.self.inside.first c.self.inside.others c.args.self.now w.in-Some.t w.in-Some.held c.self.view_is w.in-Some.is))
+      (sym w.in_ok-push.ensures.items ∙ ap (λ (v : Vec TxnId). v.items) (sym w.all-is))
+      (clash_more c.self.inside.others w.in-Some.t c.args.not.now w.in-Some.held c.args.mode c.in_ok-all.all.items (c.self.invariant w.in-Some.t w.in-Some.held w.in-Some.is)
+      (apart_by c.args.not.now w.in-Some.t (sym w.if-ne.ensures)) (w.if-clashes.ensures.0 refl) c.in_ok-all.ensures)
+  | in-Some+else-ne w ↦ those c ((w.in-Some.t, w.in-Some.held) ∷ c.self.inside.others) c.in_ok-all.all.items
+      (sym (was_row c.self.inside.first c.self.inside.others c.args.self.now w.in-Some.t w.in-Some.held c.self.view_is w.in-Some.is))
+      (ap (λ (v : Vec TxnId). v.items) (sym w.all-is))
+      (clash_past c.self.inside.others w.in-Some.t c.args.not.now w.in-Some.held c.args.mode c.in_ok-all.all.items (c.self.invariant w.in-Some.t w.in-Some.held w.in-Some.is)
+      (elim w.else-ne.branch [
+        | else-ne-via-then-ne+else-clashes v ↦ λ ne clash. true≢false (sym (v.if-clashes.ensures.1 clash))
+        | else-ne-via-else-ne v ↦ λ ne clash. ne (same_by c.args.not.now w.in-Some.t (sym v.if-ne.ensures))
+      ]) c.in_ok-all.ensures)
+  | in_default w ↦ those c c.self.inside.others c.in_ok-all.all.items
+      (ap (λ (f : First). with_first f c.self.inside.others) (sym w.in_default.is) ∙ c.self.view_is) (ap (λ (v : Vec TxnId). v.items) (sym w.all-is)) c.in_ok-all.ensures
+]

@@ -1,29 +1,40 @@
-use Rattle.std.proofs.Common.{◌≡◌, List, Option, Some, None, subst, sym, refl, cond, ap, ◌∙◌}
-use Rattle.std.specs.Option.{IsSome}
-use Rattle.sd_base.specs.declared.ids.TxnId.{TxnId}
+use Rattle.std.proofs.Common.{Option, sym, subst, ap, ◌∙◌}
 use Rattle.sd_base.specs.declared.place.Mode.{Mode}
 use Rattle.sd_base.specs.Ids.{same_txn}
-use Rattle.sd_reclock.specs.Locks.{mode_of, IsNoStronger}
-use Rattle.sd_reclock.proofs.Lowering.{none_lowered, none_taken}
+use Rattle.sd_base.proofs.Orders.{same-txn-is}
+use Rattle.sd_reclock.specs.Locks.{Modes, mode_of, IsNoStronger}
+use Rattle.sd_reclock.specs.Holding.{with_first}
+use Rattle.sd_reclock.proofs.Firsts.{Puts, IsOther, other_none, other_row, past, behind, apart_behind, lower_in_place}
 use Rattle.sd_reclock.proofs.holders.Holders.lower.Goals as goal
-use Rattle.sd_base.proofs.Orders.{put-txn, look-txn}
+use Rattle.sd_reclock.proofs.holders.Holders.lower.Goals.{in-Some+else-eq, in_default}
 
-pub returns-in-Some-get_mut : goal.returns-in-Some-get_mut
-returns-in-Some-get_mut c = λ u.
-    let w = c.in-Some.mode in
-    let P : Option Mode → Type 0 = λ o. IsSome o in
-    rw c.in-Some.is (subst (λ (old : List (TxnId × Mode)). mode_of (c.get_mut.follows.lender w).entries u ≡ cond {A = Option Mode} (same_txn c.args.t.now u) (Some w) (mode_of old u)) c.self.view_is
-    (put-txn c.args.t.now u (Some w) c.self.inside.modes.entries (c.get_mut.follows.lender w).entries (((c.get_mut.follows.holds w).3 (subst P c.in-Some-get_mut.ensures.value refl)).0 u)))
+pub returns-then-eq : goal.returns-then-eq
+unfolding same_txn
+returns-then-eq c = lower_in_place c.self.inside.first c.row_of-self-inside.result c.self.inside.others c.args.self.now c.in-Some.u c.args.t.now c.in-Some._had c.args.to c.self.view_is c.in-Some.is
+    (same-txn-is c.in-Some.u c.args.t.now (sym c.if-eq.ensures)) c.row_of-self-inside.ensures c.self.invariant
 
-pub returns-in_default : goal.returns-in_default
-returns-in_default c = λ u.
-    let none : mode_of c.self.inside.modes.entries c.args.t.now ≡ None = sym (c.in_default.ensures.value ∙ look-txn c.args.t.now c.self.inside.modes.entries) in
-    let gone : c.args.to ≡ None = none_lowered c.args.to (mode_of c.self.inside.modes.entries c.args.t.now)
-    (subst (λ (old : List (TxnId × Mode)). IsNoStronger c.args.to (mode_of old c.args.t.now)) (sym c.self.view_is) c.requires.weaker) none in
-    rw c.get_mut.follows.holds-at-none
-    (subst (λ (old : List (TxnId × Mode)). mode_of c.self.inside.modes.entries u ≡ cond {A = Option Mode} (same_txn c.args.t.now u) c.args.to (mode_of old u)) c.self.view_is
-    (none_taken c.self.inside.modes.entries c.args.t.now u none ∙ ap (λ (o : Option Mode). cond {A = Option Mode} (same_txn c.args.t.now u) o (mode_of c.self.inside.modes.entries u)) (sym gone)))
+pub lower-requires : goal.lower-requires
+unfolding same_txn
+lower-requires c = record {
+  weaker =
+      let other : IsOther c.self.inside.first c.args.t.now = elim c.match-self.branch [
+        | in-Some+else-eq w ↦ other_row c.self.inside.first w.in-Some.u c.args.t.now w.in-Some._had w.in-Some.is (sym w.if-eq.ensures)
+        | in_default w ↦ other_none c.self.inside.first c.args.t.now w.in_default.is
+      ] in
+      subst (λ (had : Option Mode). IsNoStronger c.args.to had)
+      (sym (ap (λ (holders : Modes). mode_of holders c.args.t.now) c.self.view_is) ∙ past c.self.inside.first c.self.inside.others c.args.t.now other) c.requires.weaker;
+}
 
-pub returns-in-None : goal.returns-in-None
-returns-in-None c = λ u. rw c.in-None.is (subst (λ (old : List (TxnId × Mode)). mode_of c.remove.new.self.entries u ≡ cond {A = Option Mode} (same_txn c.args.t.now u) None (mode_of old u)) c.self.view_is
-    (put-txn c.args.t.now u None c.self.inside.modes.entries c.remove.new.self.entries (c.remove.ensures.updates.0 u)))
+other : (c : goal.After-lower) → IsOther c.self.inside.first c.args.t.now
+unfolding same_txn
+other c = elim c.match-self.branch [
+  | in-Some+else-eq w ↦ other_row c.self.inside.first w.in-Some.u c.args.t.now w.in-Some._had w.in-Some.is (sym w.if-eq.ensures)
+  | in_default w ↦ other_none c.self.inside.first c.args.t.now w.in_default.is
+]
+
+pub invariant_of-self-2 : goal.invariant_of-self-2
+invariant_of-self-2 c = apart_behind c.self.inside.first c.self.inside.others c.lower.new.self c.args.t.now c.args.to (other c) c.self.invariant c.lower.ensures
+
+pub returns : goal.returns
+returns c = subst (λ (old : Modes). Puts old (with_first c.self.inside.first c.lower.new.self) c.args.t.now c.args.to) c.self.view_is
+    (behind c.self.inside.first c.self.inside.others c.lower.new.self c.args.t.now c.args.to (other c) c.lower.ensures)

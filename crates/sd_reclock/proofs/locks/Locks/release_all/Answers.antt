@@ -10,7 +10,7 @@ use Rattle.sd_reclock.proofs.Agreeing.{Frees, frees, frees_nothing, indexed_free
 use Rattle.sd_reclock.proofs.locks.Locks.release_all.Goals as goal
 use Rattle.sd_base.proofs.Orders.{look-txn, put-txn}
 
-freed : (c : goal.After-drop-rids) → Frees c.self.inside.records.entries c.release_each.new.records.entries c.args.t.now
+freed : (c : goal.After-keep) → Frees c.self.inside.records.entries c.release_each.new.records.entries c.args.t.now
 freed c = frees c.self.inside.records.entries c.release_each.new.records.entries c.self.inside.index.entries c.args.t.now c.in-Some.rids.items c.self.invariant.0
     (λ q. sym (ap (λ (o : Option (Vec Rid)). list_any (same_rid q) (rids_of o)) (c.in-Some.ensures.value ∙ look-txn c.args.t.now c.self.inside.index.entries)))
     (λ u q. c.release_each.ensures u q ∙ ap (λ (rids : List Rid). cond {A = Option Mode} (same_txn c.args.t.now u && list_any (same_rid q) rids) None (held_in c.self.inside.records.entries u q)) c.deref.ensures.value)
