@@ -16,6 +16,8 @@ use Rattle.sd_log.specs.Buffers.{BufferState}
 use Rattle.sd_log.specs.JournalStates.{JournalState, settled}
 use Rattle.sd_log.specs.LogInside.{AreForced, IsLog, log_view}
 use Rattle.sd_log.specs.Logs.{AreSpelled, placed, placed_groups, placed_tail, scanned}
+use Rattle.sd_log.specs.ByPage.{changed_pages}
+use Rattle.sd_log.proofs.Changes.{pages-settled}
 use Rattle.sd_log.proofs.Parted.{placed_groups-more}
 use Rattle.sd_log.proofs.Spelled.{within_bytes}
 use Rattle.sd_log.proofs.Tails.{least_spelling, no_text}
@@ -62,7 +64,7 @@ pub record Settles (l : Inside) (len : ℕ) (journal : JournalState) (tail : Buf
   pub text_is : tail.text ≡ []
   pub room : l.tail.room ≤ tail.room
 
-pub settled_log : (l : Inside) (len : ℕ) (journal : JournalState) (tail : BufferState) → IsLog l → Settles l len journal tail → IsLog (record { inst = l.inst; journal = journal; tail = tail; spare = l.spare })
+pub settled_log : (l : Inside) (len : ℕ) (journal : JournalState) (tail : BufferState) → IsLog l → Settles l len journal tail → IsLog (record { inst = l.inst; journal = journal; pages = l.pages; tail = tail; spare = l.spare })
 settled_log l len journal tail h p =
     let some = p.some in
     let size = p.len_is in
@@ -83,6 +85,8 @@ settled_log l len journal tail h p =
       spare_small = h.spare_small;
       spare_text = omega arith;
       spare_records = omega arith;
+      spare_pages = h.spare_pages;
+      chains_are = h.chains_are ∙ pages-settled len l.journal ∙ ap (λ (j : JournalState). changed_pages (placed_groups j.groups ++ placed_tail j.gate j.tail)) (sym p.journal_is);
     }
 
 -- ---- groups that are read
@@ -137,3 +141,7 @@ few_of start gate groups (r ∷ rs) h within fits =
 
 pub few_records : (l : Inside) → IsLog l → length (scanned (log_view l)) ≤ 116508
 few_records l h = few_of l.journal.start l.journal.gate l.journal.groups l.journal.tail h.forced_are h.gate_within (tail_fits l h)
+
+pub few_read : (start gate : ℕ) (bytes : List ℕ) (groups : List Group) (tail : List Record) → IsBytes bytes → groups_within (length bytes) start bytes ≡ Whole groups gate → tail ≡ [] → gate < 1048576
+    → AreSpelled (placed_groups groups ++ placed_tail gate tail) → length (placed_groups groups ++ placed_tail gate tail) ≤ 116508
+few_read start gate bytes groups tail are e none within fits = few_of start gate groups tail (read_forced start gate bytes groups tail are e none fits) within (λ some. absurd (some none))

@@ -1,7 +1,10 @@
+pub mod Changes
 pub mod Counted
 pub mod Forcing
 pub mod Fronts
 pub mod Journaling
+pub mod Linked
+pub mod Paging
 pub mod Parted
 pub mod Bodies
 pub mod Spelled

@@ -10,7 +10,10 @@ use Rattle.sd_log.specs.declared.log.Log.TheInside.{Inside}
 use Rattle.sd_log.specs.Buffers.{BufferState}
 use Rattle.sd_log.specs.JournalStates.{JournalState}
 use Rattle.sd_log.specs.LogInside.{IsLog}
-use Rattle.sd_log.specs.Logs.{is_reserved}
+use Rattle.sd_log.specs.Logs.{is_reserved, placed_groups, placed_tail}
+use Rattle.sd_log.specs.ByPage.{changed_page, changed_pages}
+use Rattle.sd_log.specs.PagesInside.{PagesState}
+use Rattle.sd_log.proofs.Changes.{pages-more}
 use Rattle.sd_log.proofs.Parted.{spelled-more}
 
 all-more : {X : Type 0} (P : X → Type 0) (xs : List X) (x : X) → AllByRecursion P xs → P x → AllByRecursion P (xs ++ x ∷ [])
@@ -42,7 +45,7 @@ pub reserved_spelling : (r : Record) → is_reserved r ≡ true → 26 ≤ lengt
 reserved_spelling r e = omega (arith, length-spelling r, reserved_length r e)
 
 -- what putting a record makes of the parts
-pub record Puts (l : Inside) (r : Record) (kept : ℕ) (journal : JournalState) (tail : BufferState) : Type 0 where
+pub record Puts (l : Inside) (r : Record) (kept : ℕ) (journal : JournalState) (pages : PagesState) (tail : BufferState) : Type 0 where
   pub start_is : journal.start ≡ l.journal.start
   pub gate_is : journal.gate ≡ l.journal.gate
   pub groups_is : journal.groups ≡ l.journal.groups
@@ -53,9 +56,11 @@ pub record Puts (l : Inside) (r : Record) (kept : ℕ) (journal : JournalState) 
   pub kept_small : kept ≤ 1048576
   pub kept_text : kept ≤ tail.room
   pub kept_records : kept < 26 * (journal.room + 1)
+  pub kept_pages : kept < 26 * (pages.room + 1)
+  pub chains_is : pages.chains ≡ l.pages.chains ++ changed_page r ∷ []
 
-pub put_is : (l : Inside) (r : Record) (kept : ℕ) (journal : JournalState) (tail : BufferState) → IsLog l → Puts l r kept journal tail → IsLog (record { inst = l.inst; journal = journal; tail = tail; spare = kept })
-put_is l r kept journal tail h p =
+pub put_is : (l : Inside) (r : Record) (kept : ℕ) (journal : JournalState) (pages : PagesState) (tail : BufferState) → IsLog l → Puts l r kept journal pages tail → IsLog (record { inst = l.inst; journal = journal; pages = pages; tail = tail; spare = kept })
+put_is l r kept journal pages tail h p =
     let size : length tail.text ≡ length l.tail.text + length (spelling r) = ap length p.text_is ∙ length-append l.tail.text (spelling r) in
     let least = least_spelling r in
     let within = p.within in
@@ -70,6 +75,10 @@ put_is l r kept journal tail h p =
       spare_small = p.kept_small;
       spare_text = p.kept_text;
       spare_records = p.kept_records;
+      spare_pages = p.kept_pages;
+      chains_are = p.chains_is ∙ ap (λ (x : List ℕ). x ++ changed_page r ∷ []) h.chains_are ∙ sym (pages-more l.journal.gate l.journal.groups l.journal.tail r)
+          ∙ ap (λ (rs : List Record). changed_pages (placed_groups l.journal.groups ++ placed_tail l.journal.gate rs)) (sym p.tail_is)
+          ∙ sym (rw (p.gate_is, p.groups_is) refl);
     }
 
 -- a tail whose spelling has no bytes

@@ -1,9 +1,11 @@
 pub mod Areas
 pub mod Buffers
+pub mod ByPage
 pub mod Forces
 pub mod JournalStates
 pub mod Journals
 pub mod LogInside
 pub mod Logs
 pub mod Marks
+pub mod PagesInside
 pub mod Readings

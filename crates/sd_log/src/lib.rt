@@ -6,15 +6,16 @@
 //! least 9 bytes each are few (`keeps`).
 //! Promises: a crash at any moment of `force` leaves the log with its tail or without it (`any_moment`), and with it
 //! after `Ok` (`stands`, `durable`); `read_in` answers what the device stands for, and `of_area` what an area in memory
-//! does (`whole`, `bad_log`, `bad_record`), with the records in front of what breaks the format (`front`).
+//! does (`whole`, `bad_log`, `bad_record`), with the records in front of what breaks the format (`front`); `of_page`
+//! answers which records change a page, and looks at no others.
 //! Refuses: `LogFull` in `append`, as `lacks_room` tells before; `BadLog` and `BadRecord` in `read_in`, and as what
 //! `of_area` found; `Failed` only where the rig's count of faults rose.
-//! Knows nothing of: pages, transactions, other logs, which record may follow which.
+//! Knows nothing of: what pages hold, transactions, other logs, which record may follow which.
 //! Stands on: sd_base, sd_rig, sd_logrec, sd_gate.
 //! Held by the caller: a crash leaves of the device what it reads, and the log's groups stand there (`force`).
 //!
 //! To change:
-//! - free: bodies and private helpers, `Journal` and `Buffer` inside
+//! - free: bodies and private helpers, `Journal`, `Buffer` and `Pages` inside
 //! - dear: `LogState`, the clauses of `append` and `force`, `Forces` (`specs/Forces.antt`)
 //! - frozen: the bytes of a group, and the calls of a force in their order (docs/FORMATS.md)
 #![tactic(auto)]
@@ -23,12 +24,10 @@ mod area;
 mod buffer;
 mod journal;
 mod log;
+mod pages;
 mod placed;
 mod reading;
 
 pub use area::Area;
 pub use log::Log;
 pub use placed::Placed;
-
-#[cfg(test)]
-mod tests;

@@ -8,6 +8,7 @@ ghost use Rattle.sd_logrec.specs.Kept.{BadGroup, NoRecord, Whole, area, groups_w
 ghost use Rattle.sd_logrec.specs.Spelling.{HasSpelling, spelling};
 ghost use Rattle.sd_rig.specs.Devices.{AgreesOutside, Elapses, IsUnchanged, LeavesOnly, LeavesSame, Span};
 ghost use Rattle.sd_log.specs.Areas.{Breaks, IfBroken, IfWhole, IsAt, read_of};
+ghost use Rattle.sd_log.specs.ByPage.{changed_pages, places_of};
 ghost use Rattle.sd_log.specs.Forces.{Forces, StandsEither, forced_at, forced_len};
 ghost use Rattle.sd_log.specs.Logs.{AreSpelled, IsStartFor, StandsOn, forced, is_reserved, last_lsn, needed, scanned, tail_len, with_record, without_tail};
 ghost use Rattle.sd_log.specs.Marks.{entry};
@@ -15,9 +16,10 @@ ghost use Rattle.sd_log.specs.Marks.{entry};
 use crate::area::Area;
 use crate::buffer::Buffer;
 use crate::journal::Journal;
+use crate::pages::Pages;
 use crate::placed::Placed;
 use crate::reading::read_groups;
-use sd_base::{Failed, InstNo, Lsn, Memory, Refusal};
+use sd_base::{Failed, InstNo, Lsn, Memory, PageNo, Refusal};
 use sd_logrec::{AREA, AREA_LEN, END_LEN, GROUP_HEAD, MAX_LSN, Record};
 use sd_rig::Rig;
 use std::alloc::Global;
@@ -28,6 +30,7 @@ use std::marker::Model;
 pub struct Log {
     inst: InstNo,
     journal: Journal,
+    pages: Pages,
     tail: Buffer,
     spare: usize,
 }
@@ -49,10 +52,12 @@ impl Log {
     pub fn new(alloc: Global, inst: InstNo) -> Result<Log, Memory>
         ensures { IfOk result (λ log. log ≡ record { inst = inst; start = 0; gate = 0; groups = []; tail = []; spare = 0 }) }
     {
+        let pages = Pages::new(alloc)?;
         let tail = Buffer::new(alloc)?;
         Ok(Log {
             inst,
             journal: Journal::new(alloc, 0),
+            pages,
             tail,
             spare: 0,
         })
@@ -198,8 +203,10 @@ impl Log {
         let all = len.max(END_LEN) + kept;
         self.tail.reserve(all)?;
         self.journal.reserve(all / END_LEN)?;
+        self.pages.reserve(all / END_LEN)?;
         let place = self.journal.gate() as usize + GROUP_HEAD + self.tail.len();
         self.tail.put(&r);
+        self.pages.push(&r);
         self.journal.push(r, place as u32);
         self.spare = kept;
         Ok(())
@@ -268,11 +275,20 @@ impl Log {
         self.journal.placed()
     }
 
+    /// The indexes in `scan` of the records that change this page, an Update or a CLR of it, in their order. Only these
+    /// records are looked at.
+    pub fn of_page(&self, alloc: Global, page: PageNo) -> Result<Vec<u32>, Memory>
+        ensures { IfOk result (λ found. found.items ≡ places_of page 0 (changed_pages (scanned self.now))) }
+    {
+        self.pages.of_page(alloc, page)
+    }
+
     /// Forgets the tail.
     pub fn drop_tail(&mut self)
         ensures { self.new ≡ without_tail self.old }
     {
         self.journal.drop_tail();
+        self.pages.truncate(self.journal.placed().len());
         self.tail.clear();
     }
 }
@@ -298,10 +314,12 @@ fn read_from(alloc: Global, inst: InstNo, start: u32, bytes: &[u8]) -> Result<Ar
         }
         Err(_) => return Err(Memory),
     }
+    let pages = Pages::of(alloc, journal.placed())?;
     let tail = Buffer::new(alloc)?;
     Ok(Area::Whole(Log {
         inst,
         journal,
+        pages,
         tail,
         spare: 0,
     }))

@@ -31,6 +31,3 @@ mod take;
 pub use layout::{AREA, AREA_LEN, CLR_LEN, END_LEN, GROUP_HEAD, MASTER_BODY, MAX_LSN};
 pub use record::Record;
 pub use rows::{Recs, Rows, Spans};
-
-#[cfg(test)]
-mod tests;

@@ -19,6 +19,11 @@ returns-then-len-eq0-clause-tick g c some =
     let text : c.self.inside.tail.text ≡ spelled c.args.self.now.tail = c.self.invariant.text_is ∙ ap (λ (s : LogState). spelled s.tail) c.self.view_is in
     absurd (some (no_text c.args.self.now.tail (sym (ap length text) ∙ sym c.len-len.ensures ∙ c.if-len-eq0.true)))
 
+pub returns-then-len-eq0-clause-any_moment : goal.returns-then-len-eq0-clause-any_moment
+returns-then-len-eq0-clause-any_moment g c some =
+    let text : c.self.inside.tail.text ≡ spelled c.args.self.now.tail = c.self.invariant.text_is ∙ ap (λ (s : LogState). spelled s.tail) c.self.view_is in
+    absurd (some (no_text c.args.self.now.tail (sym (ap length text) ∙ sym c.len-len.ensures ∙ c.if-len-eq0.true)))
+
 pub write-requires-clause-closed : goal.write-requires-clause-closed
 write-requires-clause-closed g c =
     let log = c.args.self.now in

@@ -1,0 +1,44 @@
+-- The pages that the records of a log change, as its tail grows, is forced or dropped. It serves the goals of log.rt.
+use Rattle.std.proofs.Common.{◌≡◌, ℕ, ◌+◌, Bool, true, false, List, [], ◌∷◌, ◌++◌, length, take, refl, sym, ap, ◌∙◌, append_assoc}
+use Rattle.std.specs.Prelude.{map}
+use Rattle.std.proofs.lemmas.List.{append-nil, length-map, map-append}
+use Rattle.std.proofs.Math.Seq.{take-append_seam}
+use Rattle.sd_logrec.specs.declared.record.Record.{Record}
+use Rattle.sd_logrec.specs.Kept.{Group, Records, placed_from, spelled}
+use Rattle.sd_log.specs.declared.placed.Placed.{Placed}
+use Rattle.sd_log.specs.ByPage.{changed_page, changed_pages}
+use Rattle.sd_log.specs.JournalStates.{JournalState, settled}
+use Rattle.sd_log.specs.Logs.{placed, placed_groups, placed_tail}
+use Rattle.sd_log.proofs.Parted.{placed_groups-more, placed_tail-more}
+
+pub pages-append : (xs ys : List Placed) → changed_pages (xs ++ ys) ≡ changed_pages xs ++ changed_pages ys
+pages-append xs ys = map-append (λ (p : Placed). changed_page p.rec) xs ys
+
+-- one more record behind a tail
+pub pages-more : (gate : ℕ) (groups : List Group) (tail : List Record) (r : Record)
+    → changed_pages (placed_groups groups ++ placed_tail gate (tail ++ r ∷ [])) ≡ changed_pages (placed_groups groups ++ placed_tail gate tail) ++ changed_page r ∷ []
+pages-more gate groups tail r =
+    let all : List Placed = placed_groups groups in
+    ap (λ (l : List Placed). changed_pages (all ++ l)) (placed_tail-more gate tail r)
+    ∙ ap changed_pages (sym (append_assoc all (placed_tail gate tail) (placed false (gate + 5 + length (spelled tail), r) ∷ [])))
+    ∙ pages-append (all ++ placed_tail gate tail) (placed false (gate + 5 + length (spelled tail), r) ∷ [])
+
+-- forced or not, a record changes the same page
+same_pages : (b c : Bool) (rs : Records) → changed_pages (map (placed b) rs) ≡ changed_pages (map (placed c) rs)
+same_pages b c [] = refl
+same_pages b c (r ∷ rs) = ap (λ (l : List ℕ). changed_page r.1 ∷ l) (same_pages b c rs)
+
+pub pages-settled : (len : ℕ) (j : JournalState) → changed_pages (placed_groups j.groups ++ placed_tail j.gate j.tail) ≡ changed_pages (placed_groups (settled len j).groups ++ placed_tail (settled len j).gate [])
+pages-settled len j =
+    let all : List Placed = placed_groups j.groups in
+    let rs : Records = placed_from (j.gate + 5) j.tail in
+    pages-append all (map (placed false) rs) ∙ ap (λ (l : List ℕ). changed_pages all ++ l) (same_pages false true rs) ∙ sym (pages-append all (map (placed true) rs))
+    ∙ ap changed_pages (sym (placed_groups-more j.groups (record { at = j.gate; records = rs }))) ∙ ap changed_pages (sym (append-nil (placed_groups (settled len j).groups)))
+
+-- those of the groups stand in front
+pub pages-dropped : (gate : ℕ) (groups : List Group) (tail : List Record) → take (length (placed_groups groups)) (changed_pages (placed_groups groups ++ placed_tail gate tail)) ≡ changed_pages (placed_groups groups ++ placed_tail gate [])
+pages-dropped gate groups tail =
+    let all : List Placed = placed_groups groups in
+    let size : length all ≡ length (changed_pages all) = sym (length-map all (λ (p : Placed). changed_page p.rec)) in
+    ap (take (length all)) (pages-append all (placed_tail gate tail)) ∙ ap (λ n. take n (changed_pages all ++ changed_pages (placed_tail gate tail))) size
+    ∙ take-append_seam (changed_pages all) (changed_pages (placed_tail gate tail)) ∙ ap changed_pages (sym (append-nil all))
