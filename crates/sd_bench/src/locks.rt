@@ -37,6 +37,35 @@ pub fn requests_beside(alloc: Global, waiters: u32, times: u32) -> bool
     is_chained(&mut locks, waiters) && are_done(&mut locks, 0, waiters + 1, times)
 }
 
+/// So many times, a transaction asks for two exclusive locks and lets go of both, beside 64 others that hold a lock each.
+/// `false` where there was no memory.
+pub fn pairs(alloc: Global, times: u32) -> bool {
+    let mut locks = RecordLocks::new(alloc);
+    for n in 0..TXNS {
+        if !are_done(&mut locks, n, n, 1) {
+            return false;
+        }
+    }
+    for n in 0..times {
+        if !is_paired(&mut locks, n) {
+            return false;
+        }
+    }
+    true
+}
+
+// Takes two locks of records that nobody holds, and releases them.
+fn is_paired(locks: &mut RecordLocks, n: u32) -> bool {
+    let seq = TXNS + 1 + n % TXNS;
+    let (Some(txn), Some(low), Some(high)) = (txn_of(seq), rid_of(TXNS + n % 512), rid_of(999))
+    else {
+        return false;
+    };
+    let done = request(locks, &txn, &low).is_ok() && request(locks, &txn, &high).is_ok();
+    locks.release_all(&txn);
+    done
+}
+
 // Gives each of the transactions, and the one behind the last waiter, its own record; then each of the waiters, from
 // the last on, waits for the record of the one before.
 fn is_chained(locks: &mut RecordLocks, waiters: u32) -> bool

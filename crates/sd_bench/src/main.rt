@@ -5,7 +5,8 @@
 //! Promises: nothing but that it does nothing undefined.
 //! Refuses: words that name no loop, by exit status 2; a loop that a layer stops, by exit status 1.
 //! Knows nothing of: time, which `benches/` takes from outside.
-//! Stands on: sd_base, sd_rig, sd_gate, sd_filerig, sd_logrec, sd_log, sd_reclock, sd_recovered.
+//! Stands on: sd_base, sd_rig, sd_gate, sd_filerig, sd_page, sd_logrec, sd_log, sd_pool, sd_reclock, sd_pagelock,
+//! sd_recovered.
 //!
 //! To change:
 //! - free: all
@@ -16,6 +17,7 @@
 mod devices;
 mod locks;
 mod logs;
+mod moves;
 mod recovery;
 
 use std::alloc::{AllocError, Global};
@@ -49,6 +51,10 @@ fn run(rt: &HostRuntime, alloc: Global, words: &[String]) -> Option<bool> {
             let times = times.parse::<u32>().ok()?;
             Some(locks::requests(alloc, times))
         }
+        [name, times] if name.as_str() == "locks2" => {
+            let times = times.parse::<u32>().ok()?;
+            Some(locks::pairs(alloc, times))
+        }
         [name, waiters, times] if name.as_str() == "locks" => {
             let waiters = waiters.parse::<u32>().ok().filter(|n| *n < 512)?;
             let times = times.parse::<u32>().ok()?;
@@ -63,6 +69,10 @@ fn run(rt: &HostRuntime, alloc: Global, words: &[String]) -> Option<bool> {
             let tens = tens.parse::<u32>().ok()?;
             let reads = reads.parse::<u32>().ok()?;
             Some(logs::appends(alloc, tens, reads))
+        }
+        [name, times] if name.as_str() == "moves" => {
+            let times = times.parse::<u32>().ok()?;
+            Some(moves::moves(alloc, times))
         }
         _ => None,
     }

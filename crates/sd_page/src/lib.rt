@@ -24,6 +24,3 @@ mod op;
 pub use image::Image;
 pub use layout::PAGE_BYTES;
 pub use op::Op;
-
-#[cfg(test)]
-mod tests;

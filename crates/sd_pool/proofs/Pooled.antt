@@ -1,16 +1,20 @@
 -- What each call makes of a pool: for the goals of the calls of `Pool`, and for the law.
-use Rattle.std.proofs.Common.{◌≡◌, ◌≢◌, ℕ, suc, ◌-◌, ◌≤◌, Bool, true, false, cond, List, [], ◌∷◌, length, take, Option, Some, None, IfSome, IsSome, is_some, slice_get, option_map, eqb, refl, sym, ap, subst, ◌∙◌, arith}
+use Rattle.std.proofs.Common.{◌≡◌, ◌≢◌, ℕ, suc, ◌-◌, ◌≤◌, Bool, true, false, cond, List, [], ◌∷◌, length, take, Option, Some, None, Result, Ok, Err, OnOk, OnErr, IfSome, IsSome, is_some, slice_get, option_map, eqb, refl, sym, ap, subst, ◌∙◌, arith}
 use Rattle.std.specs.Cmp.{nat_eq_equiv}
+use Rattle.std.specs.Box.{box_value}
+use Rattle.std.specs.Global.{Box}
 use Rattle.std.specs.List.{IsDistinct}
 use Rattle.std.specs.Map.{keys_of, lookup, remove_entry, set_value}
 use Rattle.std.specs.Option.{option_map_or}
 use Rattle.std.proofs.lemmas.Bool.{eqb-true}
-use Rattle.std.proofs.lemmas.List.{take_all}
+use Rattle.std.proofs.lemmas.List.{length-map, take_all}
 use Rattle.std.proofs.lemmas.Map.Keys.{IsDistinct-cons}
+use Rattle.std.proofs.lemmas.Map.Made.{keys_of-map_values, lookup-map_values}
 use Rattle.std.proofs.lemmas.Option.{slice_get-get_or}
 use Rattle.lru.specs.LruCache.{LruCache, last_entry, promoted, put_entries, lru_cache}
 use Rattle.sd_page.specs.Page.{Page}
-use Rattle.sd_pool.specs.Buffers.{Buffers, image_at, least_recent, pages, rewritten, used, with_page, without, IsPool, LacksFrame}
+use Rattle.sd_pool.specs.Buffers.{Buffers, image_at, least_recent, pages, rewritten, unboxed, used, with_page, without, IsPool, LacksFrame}
+use Rattle.sd_pool.proofs.Boxed.{opened, unboxed-promoted, unboxed-put_entries, unboxed-remove_entry, unboxed-set_value}
 use Rattle.sd_pool.proofs.Held.{lookup_entry-lookup, remove_entry-absent, set_value-absent, lookup-remove_entry_other, IsDistinct-remove_entry, differs-remove_entry, lookup-remove_entry_same, length-remove_entry_le, length-remove_entry_held, IsSome-lookup_at, length-keys, slice_get-keys}
 
 pub IsPool-cleared : (pool : Buffers) → IsPool pool → IsPool (record { held = []; frames = pool.frames })
@@ -102,21 +106,32 @@ module _ (pool : Buffers) (p : ℕ) where
       by (Some v) h = here v h (eqb q p) refl
 
 -- what contracts see of a pool over this cache
-abbrev pub seen : LruCache ℕ Page → Buffers
-seen cache = record { held = cache.entries; frames = cache.cap }
+abbrev pub seen : LruCache ℕ (Box Page) → Buffers
+seen cache = record { held = unboxed cache.entries; frames = cache.cap }
 
-module _ (cache new : LruCache ℕ Page) (p : ℕ) where
+-- the image of a page is what the box that the cache finds holds
+pub image_at-seen : (cache : LruCache ℕ (Box Page)) (p : ℕ) → option_map box_value (lookup (eqb p) cache.entries) ≡ image_at (seen cache) p
+image_at-seen cache p = sym (lookup-map_values box_value (eqb p) cache.entries)
+
+pub is_held-seen : (cache : LruCache ℕ (Box Page)) (p : ℕ) → is_some (lookup (eqb p) cache.entries) ≡ is_some (image_at (seen cache) p)
+is_held-seen cache p = by (lookup (eqb p) cache.entries) ∙ ap is_some (image_at-seen cache p)
+  where
+    by : (o : Option (Box Page)) → is_some o ≡ is_some (option_map box_value o)
+    by None = refl
+    by (Some b) = refl
+
+module _ (cache new : LruCache ℕ (Box Page)) (p : ℕ) where
   -- the cache after `promote`
   pub seen-promoted : new ≡ lru_cache (promoted (eqb p) cache.entries) cache.cap → seen new ≡ used (seen cache) p
-  seen-promoted e = ap seen e ∙ (λ i. record { held = promoted_held (seen cache) p i; frames = sym (frames-used (seen cache) p) i })
+  seen-promoted e = ap seen e ∙ (λ i. record { held = (unboxed-promoted (eqb p) cache.entries ∙ promoted_held (seen cache) p) i; frames = sym (frames-used (seen cache) p) i })
 
   -- after `pop`
   pub seen-popped : new ≡ lru_cache (remove_entry (eqb p) cache.entries) cache.cap → seen new ≡ without (seen cache) p
-  seen-popped e = ap seen e
+  seen-popped e = ap seen e ∙ (λ i. record { held = unboxed-remove_entry (eqb p) cache.entries i; frames = cache.cap })
 
   -- after `put`, where there is a frame
-  pub seen-put : (image : Page) → IsPool (seen cache) → (LacksFrame (seen cache) p → ⊥) → new ≡ lru_cache (put_entries eqb cache p image) cache.cap → seen new ≡ with_page (seen cache) p image
-  seen-put image ok room e = ap seen e ∙ (λ i. record { held = put_entries-with_page (seen cache) p image ok room i; frames = cache.cap })
+  pub seen-put : (image : Box Page) → IsPool (seen cache) → (LacksFrame (seen cache) p → ⊥) → new ≡ lru_cache (put_entries eqb cache p image) cache.cap → seen new ≡ with_page (seen cache) p image.value
+  seen-put image ok room e = ap seen e ∙ (λ i. record { held = (unboxed-put_entries cache p image ∙ put_entries-with_page (seen cache) p image.value ok room) i; frames = cache.cap })
 
 module _ (pool : Buffers) where
   -- no page is a victim exactly where none is held
@@ -131,39 +146,6 @@ module _ (pool : Buffers) where
   pub least_recent-held : (r : Option ℕ) → r ≡ least_recent pool → IfSome r (λ p. is_some (image_at pool p) ≡ true)
   least_recent-held None e = tt
   least_recent-held (Some p) e = IsSome-lookup_at p pool.held (length pool.held - 1) (sym e)
-
--- the number of the cache's last entry
-pub number_of_last : (cache : LruCache ℕ Page) (o : Option (ℕ × Page)) → o ≡ last_entry cache.entries → option_map (λ e. e.0) o ≡ least_recent (seen cache)
-number_of_last cache o e = ap (option_map (λ (e : ℕ × Page). e.0)) e ∙ slice_get-keys cache.entries (length cache.entries - 1)
-
-module _ (cache : LruCache ℕ Page) (p : ℕ) (image : Page) where
-  -- the pool once this image was written through a loan of the page
-  abbrev pub written : Buffers
-  written = record { held = set_value (eqb p) (promoted (eqb p) cache.entries) image; frames = cache.cap }
-
-  -- the image is set at the front, where the page is held
-  pub written-rewritten : written ≡ rewritten (seen cache) p image
-  written-rewritten = by (image_at (seen cache) p) refl
-    where
-      ordered : (o : Option Page) → image_at (seen cache) p ≡ o → promoted (eqb p) cache.entries ≡ (option_map_or (with_page (seen cache) p) o (seen cache)).held
-      ordered o h = promoted_held (seen cache) p ∙ ap (λ o. (option_map_or (with_page (seen cache) p) o (seen cache)).held) h
-
-      set : List (ℕ × Page) → List (ℕ × Page)
-      set es = set_value (eqb p) es image
-
-      front : (v : Page) → set ((p, v) ∷ remove_entry (eqb p) cache.entries) ≡ (p, image) ∷ remove_entry (eqb p) cache.entries
-      front v = ap (λ b. cond b ((p, image) ∷ remove_entry (eqb p) cache.entries) ((p, v) ∷ set (remove_entry (eqb p) cache.entries))) (nat_eq_equiv.refl p)
-
-      by : (o : Option Page) → image_at (seen cache) p ≡ o → written ≡ option_map_or (λ _. with_page (seen cache) p image) o (seen cache)
-      by None h = λ i. record { held = (ap set (ordered None h) ∙ set_value-absent p cache.entries image h) i; frames = cache.cap }
-      by (Some v) h = λ i. record { held = (ap set (ordered (Some v) h) ∙ front v) i; frames = cache.cap }
-
-  pub IsPool-written : IsPool (seen cache) → IsPool written
-  IsPool-written ok = subst IsPool (sym written-rewritten) (by (image_at (seen cache) p) refl)
-    where
-      by : (o : Option Page) → image_at (seen cache) p ≡ o → IsPool (option_map_or (λ _. with_page (seen cache) p image) o (seen cache))
-      by None h = ok
-      by (Some v) h = IsPool-with_page (seen cache) p image ok (λ lacks. let not : Some v ≡ None = sym h ∙ lacks.0 in cc)
 
 -- ---- a pool with an image written back
 
@@ -185,6 +167,9 @@ module _ (pool : Buffers) (p : ℕ) (image : Page) where
       by None = refl
       by (Some v) = image_at-with_page_other pool p image q apart
 
+  pub rewritten-absent : image_at pool p ≡ None → rewritten pool p image ≡ pool
+  rewritten-absent none = ap put_back none
+
   pub pages-rewritten : pages (rewritten pool p image) ≡ pages (used pool p)
   pages-rewritten = by (image_at pool p)
     where
@@ -198,3 +183,49 @@ module _ (pool : Buffers) (p : ℕ) (image : Page) where
       by : (o : Option Page) → (put_back o).frames ≡ pool.frames
       by None = refl
       by (Some v) = refl
+
+-- whatever `put` answers, a pool is left
+pub IsPool-put : {A B : Type 0} (cache new : LruCache ℕ (Box Page)) (p : ℕ) (image : Box Page) → IsPool (seen cache) → (LacksFrame (seen cache) p → ⊥)
+    → (r : Result A B) → OnOk r (new ≡ lru_cache (put_entries eqb cache p image) cache.cap) → OnErr r (new ≡ cache) → IsPool (seen new)
+IsPool-put cache new p image ok room (Ok old) done stays = subst IsPool (sym (seen-put cache new p image ok room done)) (IsPool-with_page (seen cache) p image.value ok room)
+IsPool-put cache new p image ok room (Err e) done stays = subst IsPool (sym (ap seen stays)) ok
+
+-- the number of the cache's last entry
+pub number_of_last : (cache : LruCache ℕ (Box Page)) (o : Option (ℕ × Box Page)) → o ≡ last_entry cache.entries → option_map (λ e. e.0) o ≡ least_recent (seen cache)
+number_of_last cache o e = ap (option_map (λ (e : ℕ × Box Page). e.0)) e ∙ slice_get-keys cache.entries (length cache.entries - 1)
+    ∙ (λ i. slice_get (sym (keys_of-map_values box_value cache.entries) i) (sym (length-map cache.entries opened) i - 1))
+
+-- the image is set at the front, where the page is held
+set-promoted : (pool : Buffers) (p : ℕ) (image : Page) → set_value (eqb p) (promoted (eqb p) pool.held) image ≡ (rewritten pool p image).held
+set-promoted pool p image = by (image_at pool p) refl
+  where
+    ordered : (o : Option Page) → image_at pool p ≡ o → promoted (eqb p) pool.held ≡ (option_map_or (with_page pool p) o pool).held
+    ordered o h = promoted_held pool p ∙ ap (λ o. (option_map_or (with_page pool p) o pool).held) h
+
+    put_in : List (ℕ × Page) → List (ℕ × Page)
+    put_in es = set_value (eqb p) es image
+
+    front : (v : Page) → put_in ((p, v) ∷ remove_entry (eqb p) pool.held) ≡ (p, image) ∷ remove_entry (eqb p) pool.held
+    front v = ap (λ b. cond b ((p, image) ∷ remove_entry (eqb p) pool.held) ((p, v) ∷ put_in (remove_entry (eqb p) pool.held))) (nat_eq_equiv.refl p)
+
+    by : (o : Option Page) → image_at pool p ≡ o → put_in (promoted (eqb p) pool.held) ≡ (option_map_or (λ _. with_page pool p image) o pool).held
+    by None h = ap put_in (ordered None h) ∙ set_value-absent p pool.held image h
+    by (Some v) h = ap put_in (ordered (Some v) h) ∙ front v
+
+module _ (cache : LruCache ℕ (Box Page)) (p : ℕ) (image : Box Page) where
+  -- the cache once this image was written through a loan of the page's box
+  abbrev pub rewritten_cache : LruCache ℕ (Box Page)
+  rewritten_cache = lru_cache (set_value (eqb p) (promoted (eqb p) cache.entries) image) cache.cap
+
+  pub written-rewritten : seen rewritten_cache ≡ rewritten (seen cache) p image.value
+  written-rewritten = λ i. record {
+    held = (unboxed-set_value (eqb p) (promoted (eqb p) cache.entries) image ∙ ap (λ es. set_value (eqb p) es image.value) (unboxed-promoted (eqb p) cache.entries) ∙ set-promoted (seen cache) p image.value) i;
+    frames = sym (frames-rewritten (seen cache) p image.value) i;
+  }
+
+  pub IsPool-written : IsPool (seen cache) → IsPool (seen rewritten_cache)
+  IsPool-written ok = subst IsPool (sym written-rewritten) (by (image_at (seen cache) p) refl)
+    where
+      by : (o : Option Page) → image_at (seen cache) p ≡ o → IsPool (option_map_or (λ _. with_page (seen cache) p image.value) o (seen cache))
+      by None h = ok
+      by (Some v) h = IsPool-with_page (seen cache) p image.value ok (λ lacks. let not : Some v ≡ None = sym h ∙ lacks.0 in cc)

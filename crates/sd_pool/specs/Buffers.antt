@@ -1,5 +1,6 @@
 -- A buffer pool as a value: the pages that it holds, each with its image, the last used first.
-use Rattle.std.specs.Prelude.{◌≡◌, ℕ, ◌-◌, ◌≤◌, List, ◌∷◌, length, nat_eq, Option, None, slice_get}
+use Rattle.std.specs.Prelude.{◌≡◌, ℕ, ◌-◌, ◌≤◌, List, ◌∷◌, length, nat_eq, Option, None, map, slice_get}
+use Rattle.std.specs.Global.{Box}
 use Rattle.std.specs.List.{IsDistinct}
 use Rattle.std.specs.Map.{keys_of, lookup, remove_entry}
 use Rattle.std.specs.Option.{option_map_or}
@@ -9,6 +10,10 @@ use Rattle.sd_page.specs.Page.{Page}
 pub record Buffers : Type 0 where
   pub held : List (ℕ × Page)
   pub frames : ℕ
+
+-- each page with the image that its box holds
+abbrev pub unboxed : List (ℕ × Box Page) → List (ℕ × Page)
+unboxed = map (λ e. (e.0, e.1.value))
 
 -- the image of a page that is held
 abbrev pub image_at : Buffers → ℕ → Option Page

@@ -19,6 +19,3 @@ pub mod laws;
 mod pool;
 
 pub use pool::Pool;
-
-#[cfg(test)]
-mod tests;

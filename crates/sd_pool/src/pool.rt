@@ -1,6 +1,8 @@
 //! Frames by page, over the kit's `lru`.
 
 ghost use Rattle.std.specs.Prelude.{◌≡◌, ◌≢◌, ℕ, ◌≤◌, ◌⊎◌, ◌↔◌, [], length, option_copied, slice_get, IsOk, IsTrue, IsSome, IsNone, IfOk, IfSome, IfErr, IsErrAnd, OnOk, OnErr, None, Some};
+ghost use Rattle.std.specs.Box.{box_value};
+ghost use Rattle.std.specs.Option.{option_map};
 ghost use Rattle.sd_base.specs.declared.refusal.Refusal.TheVariants as R;
 ghost use Rattle.sd_pool.specs.Buffers.{image_at, least_recent, pages, used, with_page, without, IsPool, LacksFrame};
 
@@ -11,21 +13,21 @@ use std::alloc::Global;
 use std::marker::Model;
 use std::num::NonZeroUsize;
 
-/// A buffer pool. Contracts see the list of its pages with their images, the last used first, and the number of its
-/// frames.
+/// A buffer pool. Each image is in a box of its own, so a page that goes to another pool moves by a pointer. Contracts
+/// see the list of the pages with their images, the last used first, and the number of the frames.
 #[derive(Debug, Drop)]
 pub struct Pool {
-    cache: LruCache<PageNo, Image>,
+    cache: LruCache<PageNo, Box<Image>>,
 }
 
 impl Model for Pool {
-    ghost use Rattle.sd_pool.specs.Buffers.{Buffers, IsPool};
+    ghost use Rattle.sd_pool.specs.Buffers.{unboxed, Buffers, IsPool};
 
     ghost Value = { Buffers };
 
-    ghost view = { λ p. record { held = p.cache.entries; frames = p.cache.cap } };
+    ghost view = { λ p. record { held = unboxed p.cache.entries; frames = p.cache.cap } };
 
-    ghost invariant = { λ p. IsPool (record { held = p.cache.entries; frames = p.cache.cap }) };
+    ghost invariant = { λ p. IsPool (record { held = unboxed p.cache.entries; frames = p.cache.cap }) };
 }
 
 impl Pool {
@@ -48,7 +50,8 @@ impl Pool {
     pub fn look(&self, p: PageNo) -> Option<&Image>
         ensures { option_copied result ≡ image_at self.now p }
     {
-        self.cache.peek(&p)
+        let image = self.cache.peek(&p)?;
+        Some(&**image)
     }
 
     /// The image of a page, to be changed; the page is then the last used. `None` exactly where it isn't held.
@@ -56,7 +59,8 @@ impl Pool {
         ensures* writes_back { sem 𝓛 (LendsImage self.entry p result) }
         ensures value { option_copied_mut result ≡ image_at self.old p }
     {
-        self.cache.get_mut(&p)
+        let image = self.cache.get_mut(&p)?;
+        Some(&mut **image)
     }
 
     /// Whether a page is held. It isn't used by this.
@@ -105,10 +109,10 @@ impl Pool {
     /// that is held needs no further frame and no memory.
     ///
     /// `PoolFull` comes exactly where the page isn't held and each frame holds another. `PoolFull` and `Memory` hand
-    /// the image back and leave the pool as it was.
-    pub fn put(&mut self, p: PageNo, image: Image) -> Result<(), (Refusal, Image)>
-        ensures ok { OnOk result (self.new ≡ with_page self.old p image) }
-        ensures there { OnOk result (image_at self.new p ≡ Some image) }
+    /// the same box back and leave the pool as it was.
+    pub fn put(&mut self, p: PageNo, image: Box<Image>) -> Result<(), (Refusal, Box<Image>)>
+        ensures ok { OnOk result (self.new ≡ with_page self.old p image.value) }
+        ensures there { OnOk result (image_at self.new p ≡ Some image.value) }
         ensures others { (q : ℕ) → q ≢ p → image_at self.new q ≡ image_at self.old q }
         ensures stays { OnErr result (self.new ≡ self.old) }
         ensures back { IfErr result (λ e. e.1 ≡ image) }
@@ -126,9 +130,10 @@ impl Pool {
         }
     }
 
-    /// Takes a page out; `None` exactly where it isn't held. The others keep their order. It takes no memory.
-    pub fn take(&mut self, p: PageNo) -> Option<Image>
-        ensures value { result ≡ image_at self.old p }
+    /// Takes a page out, in the box that it was put in; `None` exactly where it isn't held. The others keep their order.
+    /// It takes no memory.
+    pub fn take(&mut self, p: PageNo) -> Option<Box<Image>>
+        ensures value { option_map box_value result ≡ image_at self.old p }
         ensures rest { self.new ≡ without self.old p }
         ensures gone { image_at self.new p ≡ None }
         ensures others { (q : ℕ) → q ≢ p → image_at self.new q ≡ image_at self.old q }

@@ -12,3 +12,6 @@ returns-in-None-clause-value c = number_of_last c.self.inside.cache None c.in-No
 
 pub returns-in-None-clause-empty : goal.returns-in-None-clause-empty
 returns-in-None-clause-empty c = least_recent-empty c.args.self.now None (number_of_last c.self.inside.cache None c.in-None.ensures ∙ ap least_recent c.self.view_is)
+
+pub returns-in-Some-clause-value : goal.returns-in-Some-clause-value
+returns-in-Some-clause-value c = number_of_last c.self.inside.cache (Some (c.in-Some.page.now, c.in-Some._image.now)) c.in-Some.ensures ∙ ap least_recent c.self.view_is
