@@ -1,0 +1,118 @@
+//! Record locks, asked for, waited for, raised, lowered and released in turn: each call succeeds with ample memory.
+
+use sd_base::{InstNo, Mode, PageNo, Refusal, Rid, TxnId};
+use sd_reclock::RecordLocks;
+use std::test::Fail;
+
+const S: Mode = Mode::Shared;
+
+const X: Mode = Mode::Excl;
+
+#[derive(Clone, Copy)]
+enum Act {
+    /// A transaction asks for a record, and is given it, or waits.
+    Ask(Mode),
+    /// A transaction takes a record in the mode, and gives it back.
+    Try(Mode),
+    /// A transaction ends.
+    End,
+    /// The waits of the transaction's instance are dropped.
+    Drop,
+    /// The lowest other holder of the record is told.
+    Holder,
+    /// The lowest owner in the record's page is told.
+    Owner,
+}
+
+use Act::{Ask, Drop, End, Holder, Owner, Try};
+
+#[derive(Clone, Copy, Debug, PartialEq)]
+enum Told {
+    Nothing,
+    /// This one stands in the way, or is the answer.
+    One(u32),
+    /// A wait would close a cycle of so many names.
+    Cycle(usize),
+}
+
+use Told::{Cycle, Nothing, One};
+
+// Looks, and then takes the lock and maybe gives it back, or notes the wait.
+fn asks(table: &mut RecordLocks, t: &TxnId, r: &Rid, mode: Mode, back: bool) -> Result<Told, Fail> {
+    let was = table.mode(t, r);
+    match table.look(t, r, mode) {
+        Ok(()) => {
+            table.grant(t, r, mode)?;
+            if back {
+                table.lower(t, r, was);
+            }
+            table.calm(t);
+            Ok(Nothing)
+        }
+        Err(Refusal::Blocked { by }) => {
+            table.wait(t, r, mode)?;
+            Ok(One(by.seq))
+        }
+        Err(Refusal::Deadlock { cycle }) => Ok(Cycle(cycle.items().len())),
+        Err(_) => Err("another refusal")?,
+    }
+}
+
+fn does(table: &mut RecordLocks, act: Act, t: &TxnId, r: &Rid) -> Result<Told, Fail> {
+    match act {
+        Ask(mode) => return asks(table, t, r, mode, false),
+        Try(mode) => return asks(table, t, r, mode, true),
+        End => table.release_all(t),
+        Drop => table.retain(t.inst),
+        Holder => return Ok(table.holder(r, t).map_or(Nothing, |by| One(by.seq))),
+        Owner => return Ok(table.owner_in(r.page).map_or(Nothing, |by| One(by.seq))),
+    }
+    Ok(Nothing)
+}
+
+#[test]
+fn locks_are_asked_for_and_released(rt: HostRuntime) -> Result<(), Fail> {
+    let mut table = RecordLocks::new(rt.alloc());
+    let page = PageNo::new(3).ok_or("a page")?;
+    // What the transaction of the number does to the record, and what it is told. Those from 100 on are of instance 2.
+    let acts = [
+        (3, 1, Ask(S), Nothing),
+        (1, 1, Ask(S), Nothing),
+        (2, 1, Ask(S), Nothing),
+        (9, 1, Holder, One(1)),
+        (1, 1, Ask(X), One(2)),
+        (1, 1, Owner, Nothing),
+        // the one that came first goes, the others stay
+        (3, 1, End, Nothing),
+        (2, 1, Ask(X), Cycle(3)),
+        (2, 1, End, Nothing),
+        (1, 1, Try(X), Nothing),
+        (4, 1, Try(S), Nothing),
+        (4, 1, Try(X), One(1)),
+        (1, 900, Ask(X), Nothing),
+        (100, 2, Ask(X), Nothing),
+        (9, 1, Owner, One(1)),
+        (100, 900, Ask(S), One(1)),
+        (1, 2, Try(S), Cycle(3)),
+        (100, 2, Drop, Nothing),
+        (1, 2, Try(S), One(100)),
+        (1, 2, End, Nothing),
+        (9, 1, Holder, Nothing),
+        (9, 2, Owner, One(100)),
+        (100, 900, Ask(S), Nothing),
+    ];
+    for (number, slot, act, told) in acts {
+        let inst = InstNo::new(if number < 100 { 1 } else { 2 }).ok_or("an instance")?;
+        let t = TxnId {
+            inst,
+            epoch: 1,
+            seq: number,
+        };
+        assert_eq!(rt;
+            does(&mut table, act, &t, &Rid { page, slot })?,
+            told,
+            "{number} {slot}"
+        );
+    }
+    Ok(())
+}
