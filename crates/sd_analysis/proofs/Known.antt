@@ -1,4 +1,4 @@
--- What the table has of a transaction, with one record more: for the goals of `note`.
+-- What the table has of a transaction, with one record more: for the goals of `note_run`.
 use Rattle.std.proofs.Common.{◌≡◌, ◌⊎◌, ⊎_elim, ℕ, ◌+◌, ◌<◌, Bool, true, false, cond, List, [], ◌∷◌, ◌++◌, length, take, get_or, Option, None, Some, refl, sym, ap, ◌∙◌, subst, arith}
 use Rattle.std.specs.List.{list_any}
 use Rattle.std.specs.Map.{lookup}
@@ -20,8 +20,7 @@ use Rattle.sd_analysis.specs.Seen.{closed_by, with_record, EndsAt, Fits, Judged,
 use Rattle.sd_analysis.proofs.Closers.{ends_off, ends_own, finds_next, finds_silent}
 use Rattle.sd_analysis.proofs.Steps.{least_more}
 use Rattle.sd_analysis.proofs.Prefixes.{advance-own}
-use Rattle.sd_chain.proofs.Whose.{none_open, own_of, other_of, silent_of, advance-off, after_all-append, after_all-none, first_prev-there, first_prev-behind, first_prev-off}
-use Rattle.sd_base.proofs.SameIds.{cases_txn, eq-same, ne-same}
+use Rattle.sd_chain.proofs.Whose.{none_open, own_of, silent_of, advance-off, after_all-append, after_all-none, first_prev-there, first_prev-behind, first_prev-off}
 
 -- what is seen of the transaction of x before x, which comes next
 pub record Ready (log : List Placed) (xs : List Rec) (x : Rec) (seen : Seen) : Type 0 where
@@ -88,17 +87,6 @@ tells_other log xs x t (Some seen) off tells = record {
   closed = ends_off t xs x seen.closed off tells.closed;
 }
 
--- the table with the new row
-pub all_more : (log : List Placed) (xs : List Rec) (x : Rec) (rows rows' : List (TxnId × Seen)) (new : Seen) → TellsAll log xs rows
-    → ((q : TxnId) → lookup (same_txn q) rows' ≡ cond (same_txn x.txn q) (Some new) (lookup (same_txn q) rows))
-    → Tells log (xs ++ x ∷ []) x.txn new → TellsAll log (xs ++ x ∷ []) rows'
-all_more log xs x rows rows' new known written tells t = subst (TellsOf log (xs ++ x ∷ []) t) (sym (written t)) (⊎_elim
-    (λ e. subst (λ (b : Bool). TellsOf log (xs ++ x ∷ []) t (cond b (Some new) (lookup (same_txn t) rows))) (sym (eq-same x.txn t e))
-    (subst (λ (u : TxnId). Tells log (xs ++ x ∷ []) u new) e tells))
-    (λ ne. subst (λ (b : Bool). TellsOf log (xs ++ x ∷ []) t (cond b (Some new) (lookup (same_txn t) rows))) (sym (ne-same x.txn t ne))
-    (tells_other log xs x t (lookup (same_txn t) rows) (other_of t x ne) (known t)))
-    (cases_txn x.txn t))
-
 -- a record of no transaction leaves the table
 pub all_same : (log : List Placed) (xs : List Rec) (x : Rec) (rows : List (TxnId × Seen)) → speaks x.kind ≡ false → TellsAll log xs rows
     → TellsAll log (xs ++ x ∷ []) rows
@@ -157,7 +145,7 @@ noting log at d t rows row fresh seen lt known says row_is fits first prev close
           (seen_is ∙ ap (λ (r : Option Seen). unwrap_or r fresh) held);
     }
 
-length_front : (log : List Placed) (at : ℕ) → at < length log → length (flats (take at log)) ≡ at
+pub length_front : (log : List Placed) (at : ℕ) → at < length log → length (flats (take at log)) ≡ at
 length_front log at lt = length-map (take at log) (λ (p : Placed). flat p.rec) ∙ length-take-le at log (omega arith)
 
 -- what it shows
@@ -192,21 +180,6 @@ least_at log at before found least lt h f either covers =
     let more = flats-more log at d lt in
     subst (λ (ys : List Rec). IsLeast ys least) (sym more)
     (least_more (flats (take at log)) (rec_at log at d) before found least h (subst (λ (ys : List Rec). Finds (flats (take at log)) ys found) more f) either covers)
-
--- the table with the record noted
-pub noted_all : (log : List Placed) (at : ℕ) (x : Rec) (t : TxnId) (rows rows' : List (TxnId × Seen)) (seen new : Seen)
-    → at < length log → Noting log at x t seen → TellsAll log (flats (take at log)) rows
-    → Fits log (with_record (after_all x.txn none_yet (flats (take at log))) x) new → new.first ≡ seen.first
-    → new.first_prev ≡ seen.first_prev → new.closed ≡ closed_by at x seen.closed
-    → ((q : TxnId) → lookup (same_txn q) rows' ≡ cond (same_txn t q) (Some new) (lookup (same_txn q) rows))
-    → TellsAll log (flats (take (at + 1) log)) rows'
-noted_all log at x t rows rows' seen new lt noting known fits first prev closed written =
-    let xs = flats (take at log) in
-    subst (λ (ys : List Rec). TellsAll log ys rows') (sym noting.more)
-    (all_more log xs x rows rows' new known
-    (λ q. written q ∙ ap (λ (u : TxnId). cond (same_txn u q) (Some new) (lookup (same_txn q) rows)) noting.named)
-    (tells_more log xs x seen new noting.own noting.ready fits first prev
-    (closed ∙ ap (λ k. closed_by k x seen.closed) (sym (length_front log at lt)))))
 
 -- a record of no transaction
 pub silent_all : (log : List Placed) (at : ℕ) (d : Placed) (rows : List (TxnId × Seen)) → at < length log

@@ -8,3 +8,4 @@ pub mod Closers
 pub mod Misplaced
 pub mod Orders
 pub mod Steps
+pub mod Runs

@@ -1,4 +1,4 @@
--- What one record of a transaction changes of what its records leave: for the goals of `note`.
+-- What one record of a transaction changes of what its records leave: for the goals of `note_run`.
 use Rattle.std.proofs.Common.{◌≡◌, Bool, true, cond, List, ap, ◌∙◌}
 use Rattle.sd_base.specs.declared.ids.TxnId.{TxnId}
 use Rattle.sd_logrec.specs.View.{Rec}

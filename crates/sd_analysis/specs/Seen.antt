@@ -62,3 +62,7 @@ TellsOf log xs t (Some seen) = Tells log xs t seen
 -- what a table has of each transaction
 abbrev pub TellsAll : List Placed → List Rec → List (TxnId × Seen) → Type 0
 TellsAll log xs rows = (t : TxnId) → TellsOf log xs t (lookup (same_txn t) rows)
+
+-- what is told of other transactions than t is told with more records
+abbrev pub OthersStay : List Placed → TxnId → List Rec → List Rec → Type 0
+OthersStay log t xs ys = (u : TxnId) (row : Option Seen) → same_txn t u ≡ false → TellsOf log xs u row → TellsOf log ys u row

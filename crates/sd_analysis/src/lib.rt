@@ -24,6 +24,3 @@ mod table;
 
 pub use losers::{Fault, Loser, Losers, analyse};
 pub use owing::{owed, reserve};
-
-#[cfg(test)]
-mod tests;

@@ -1,15 +1,15 @@
 //! The losers of a log. It sees no page.
 
-ghost use Rattle.std.specs.Prelude.{◌≡◌, ◌⊎◌, ℕ, ◌<◌, length, Err, IfOk, OnOk};
+ghost use Rattle.std.specs.Prelude.{◌≡◌, ℕ, ◌<◌, length, Err, IfOk, OnOk};
 ghost use Rattle.sd_log.specs.Logs.{AreSpelled, flats};
 ghost use Rattle.sd_chain.specs.Faults.{IsFirstMisplaced};
 ghost use Rattle.sd_analysis.specs.Losers.{AreLosers, AreTidy};
-ghost use Rattle.sd_analysis.specs.Misplaced.{Covers, IsLeast};
+ghost use Rattle.sd_analysis.specs.Misplaced.{IsLeast};
 ghost use Rattle.sd_analysis.specs.Seen.{TellsAll};
 ghost use Rattle.sd_analysis.specs.declared.losers.Fault.TheVariants as F;
 
 use crate::seen::Seen;
-use crate::table::note;
+use crate::table::{least, note_run};
 use sd_base::{Lsn, Memory, Sequence, TxnId};
 use sd_log::Placed;
 use std::alloc::{AllocFailed, Global};
@@ -53,10 +53,12 @@ impl<T: Drop> From<AllocFailed<T>> for Fault {
     }
 }
 
-/// The losers of a log, each with what it has open and the LSNs of its first and last record. `Disorder` comes exactly where some transaction's records aren't in order, with the index of the
-/// first one that isn't: it closes its transaction and a record of that stands behind it, it doesn't name the record of its
-/// transaction before it, it ends what is open, it undoes something else than the top, or it begins a transaction that stays
-/// open and names a record before it.
+/// The losers of a log, each with what it has open and the LSNs of its first and last record.
+///
+/// `Disorder` comes exactly where some transaction's records aren't in order, with the index of the first one that isn't:
+/// it closes its transaction and a record of that stands behind it, it doesn't name the record of its transaction before
+/// it, it ends what is open, it undoes something else than the top, or it begins a transaction that stays open and names a
+/// record before it.
 pub fn analyse(alloc: Global, log: &[Placed]) -> Result<Losers, Fault>
     requires spelled { AreSpelled log.now }
     ensures in_order { OnOk result (AreTidy log.now) }
@@ -67,9 +69,9 @@ pub fn analyse(alloc: Global, log: &[Placed]) -> Result<Losers, Fault>
 {
     let mut table = BTreeMap::new(alloc);
     let mut worst = None;
-    for at in 0..log.len() {
-        let found = note(alloc, &mut table, log, at)?;
-        worst = least(worst, found);
+    let mut at = 0;
+    while at < log.len() {
+        (at, worst) = note_run(alloc, &mut table, log, at, worst)?;
     }
     losers_of(alloc, log, table, worst)
 }
@@ -105,17 +107,5 @@ fn losers_of(
     match worst {
         Some(at) => Err(Fault::Disorder { at }),
         None => Ok(Sequence::of(losers)),
-    }
-}
-
-// The lower one of two indices, where there are two.
-fn least(one: Option<usize>, other: Option<usize>) -> Option<usize>
-    ensures either { (result ≡ one) ⊎ (result ≡ other) }
-    ensures covers { (j : ℕ) → Covers one j ⊎ Covers other j → Covers result j }
-{
-    match (one, other) {
-        (Some(i), Some(j)) => Some(i.min(j)),
-        (Some(i), None) => Some(i),
-        (None, other) => other,
     }
 }

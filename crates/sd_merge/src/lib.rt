@@ -20,6 +20,3 @@
 mod change;
 
 pub use change::{Change, damaged, merge_page, merged_changes};
-
-#[cfg(test)]
-mod tests;

@@ -21,6 +21,3 @@ mod redoing;
 mod twin;
 
 pub use merging::{Pages, newest_pages};
-
-#[cfg(test)]
-mod tests;

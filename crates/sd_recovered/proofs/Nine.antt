@@ -1,5 +1,5 @@
--- Nine devices of the right lengths. It serves the goals of tests.rt.
-use Rattle.std.proofs.Common.{◌≡◌, ℕ, zero, suc, ◌≤◌, List, [], ◌∷◌, length, set, refl, arith}
+-- Nine devices of the right lengths. It serves the goals of sd_bench and sd_tests_disk.
+use Rattle.std.proofs.Common.{◌≡◌, ℕ, zero, suc, ◌≤◌, List, [], ◌∷◌, length, refl, arith}
 use Rattle.sd_rig.specs.Devices.{device_len}
 use Rattle.sd_recovered.specs.Devices.{AreDevices, devices_of}
 
@@ -19,15 +19,3 @@ are_devices a b c d e f g h i n0 n1 n2 n3 n4 n5 n6 n7 n8 = record { nine = refl;
     sizes (suc (suc (suc (suc (suc (suc (suc zero))))))) le = n7
     sizes (suc (suc (suc (suc (suc (suc (suc (suc zero)))))))) le = n8
     sizes (suc (suc (suc (suc (suc (suc (suc (suc (suc n))))))))) le = absurd (omega (arith, le))
-
--- with another device 1
-pub with_first_log : (devices : List (List ℕ)) (log : List ℕ) → AreDevices devices → length log ≡ device_len 1
-    → AreDevices (set devices 1 log)
-with_first_log [] log are len = absurd (let n = are.nine in omega (arith, n))
-with_first_log (a ∷ []) log are len = absurd (let n = are.nine in omega (arith, n))
-with_first_log (a ∷ b ∷ rest) log are len = record { nine = are.nine; sizes = sizes }
-  where
-    sizes : (dev : ℕ) → dev ≤ 8 → length (devices_of (a ∷ log ∷ rest) dev) ≡ device_len dev
-    sizes zero le = are.sizes 0 le
-    sizes (suc zero) le = len
-    sizes (suc (suc n)) le = are.sizes (suc (suc n)) le

@@ -22,6 +22,3 @@ mod reading;
 mod table;
 
 pub use reading::{Opened, open, recovered};
-
-#[cfg(test)]
-mod tests;

@@ -23,6 +23,3 @@ mod replaying;
 
 pub use redoing::{fits, redo};
 pub use replaying::{replay, try_replay};
-
-#[cfg(test)]
-mod tests;

@@ -18,6 +18,3 @@
 mod relisting;
 
 pub use relisting::relist;
-
-#[cfg(test)]
-mod tests;

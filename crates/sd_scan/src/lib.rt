@@ -22,6 +22,3 @@ mod scanning;
 
 pub use master::{Master, Unsound, read_master};
 pub use scanning::{Scanned, scan};
-
-#[cfg(test)]
-mod tests;

@@ -22,6 +22,3 @@ mod taking_back;
 mod undoing;
 
 pub use undoing::{Fault, undone};
-
-#[cfg(test)]
-mod tests;

@@ -1,8 +1,15 @@
-use Rattle.std.proofs.Common.{take}
+use Rattle.std.proofs.Common.{◌-◌, ◌≤◌, length, take}
 use Rattle.sd_log.specs.Logs.{flats}
 use Rattle.sd_analysis.specs.Misplaced.{IsLeast}
 use Rattle.sd_analysis.specs.Seen.{TellsAll}
 use Rattle.sd_analysis.proofs.losers.analyse.Given as goal
 
 abbrev pub invariant-loop-at : goal.invariant-loop-at
-invariant-loop-at l = record { known : TellsAll l.log (flats (take l.at l.log)) l.table.entries; least : IsLeast (flats (take l.at l.log)) l.worst }
+invariant-loop-at l = record {
+  inside : l.at ≤ length l.log;
+  known : TellsAll l.log (flats (take l.at l.log)) l.table.entries;
+  least : IsLeast (flats (take l.at l.log)) l.worst;
+}
+
+abbrev pub decreases-loop-at : goal.decreases-loop-at
+decreases-loop-at l = length l.log - l.at

@@ -1,0 +1,66 @@
+//! Nine devices, blank but for bytes that are put at places of them.
+
+ghost use Rattle.std.specs.Prelude.{◌≡◌, IfOk, length};
+ghost use Rattle.sd_rig.specs.Devices.{device_len};
+ghost use Rattle.sd_recovered.specs.Devices.{AreDevices};
+
+use sd_base::{Bytes, Memory};
+use sd_logrec::AREA;
+use sd_rig::device_len;
+use std::alloc::Global;
+
+/// Bytes at a place of a device.
+#[derive(Clone, Copy)]
+pub(crate) struct Patch<'a> {
+    pub(crate) dev: u8,
+    pub(crate) at: usize,
+    pub(crate) bytes: &'a [u8],
+}
+
+/// These bytes at this place of a device.
+pub(crate) fn bytes_at<'a>(dev: u8, at: usize, bytes: &'a [u8]) -> Patch<'a> {
+    Patch { dev, at, bytes }
+}
+
+/// These bytes at the start of an instance's log area.
+pub(crate) fn log<'a>(dev: u8, bytes: &'a [u8]) -> Patch<'a> {
+    bytes_at(dev, AREA as usize, bytes)
+}
+
+/// A device with these bytes; those of a later patch count.
+pub(crate) fn device(alloc: Global, dev: u8, patches: &[Patch<'_>]) -> Result<Bytes, Memory>
+    ensures { IfOk result (λ device. length device ≡ device_len dev) }
+{
+    let mut bytes = Vec::from_elem(alloc, 0u8, device_len(dev) as usize)?;
+    for patch in patches {
+        if patch.dev == dev {
+            put(&mut bytes, patch.at, patch.bytes);
+        }
+    }
+    Ok(Bytes::of(bytes))
+}
+
+fn put(device: &mut [u8], at: usize, bytes: &[u8]) {
+    for (old, new) in device.iter_mut().skip(at).zip(bytes) {
+        *old = *new;
+    }
+}
+
+/// Nine devices with these bytes, device 0 first.
+#[tactic(auto, using(sd_recovered::proofs::Nine::are_devices))]
+pub(crate) fn devices(alloc: Global, patches: &[Patch<'_>]) -> Result<Vec<Bytes>, Memory>
+    ensures { IfOk result (λ devices. AreDevices devices.items) }
+{
+    let devices = [
+        device(alloc, 0, patches)?,
+        device(alloc, 1, patches)?,
+        device(alloc, 2, patches)?,
+        device(alloc, 3, patches)?,
+        device(alloc, 4, patches)?,
+        device(alloc, 5, patches)?,
+        device(alloc, 6, patches)?,
+        device(alloc, 7, patches)?,
+        device(alloc, 8, patches)?,
+    ];
+    Ok(Vec::from_array(alloc, devices)?)
+}
