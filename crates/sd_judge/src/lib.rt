@@ -7,6 +7,7 @@
 //! Refuses: nothing but for want of memory; what it doesn't judge it says (`Verdict::Unjudged`).
 //! Knows nothing of: pages' bytes, pools, logs, devices, scripts; how a complex comes to its replies.
 //! Stands on: sd_base, sd_model, sd_reclock for the search of cycles, sd_oracle.
+//! Beside the house: tests hold it, and no part of the program is to stand on it.
 //!
 //! To change:
 //! - free: bodies, proofs
@@ -20,10 +21,3 @@ mod standing;
 mod watch;
 
 pub use judge::Judge;
-
-#[cfg(test)]
-mod page_tests;
-#[cfg(test)]
-mod script;
-#[cfg(test)]
-mod tests;

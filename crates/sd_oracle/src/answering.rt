@@ -1,7 +1,6 @@
 //! Which answers may follow where nothing refuses the event, and what they leave.
 
 ghost use Rattle.std.specs.Prelude.{◌≡◌, ◌↔◌, ◌<◌, IsTrue, IfOk, OnErr, option_copied, [], ◌∷◌};
-ghost use Rattle.sd_base.specs.declared.place.Status.TheVariants.{Up};
 ghost use Rattle.sd_model.specs.declared.act.Act.TheVariants as Act;
 ghost use Rattle.sd_model.specs.declared.event.Event.TheVariants as E;
 ghost use Rattle.sd_model.specs.declared.event.Reply.TheVariants as R;
@@ -14,10 +13,9 @@ ghost use Rattle.sd_oracle.specs.Judging.{Answers, IsSumAt, Replaces};
 use crate::lists::Lists;
 use crate::sums::sum_text;
 use sd_base::{
-    Bytes, Duplicate, InstNo, Memory, PageNo, Rid, Status, TxnId, copy_value, lent_value,
-    same_value,
+    Bytes, Duplicate, InstNo, Memory, PageNo, Rid, TxnId, copy_value, lent_value, same_value,
 };
-use sd_model::{Act, Claim, Inst, Life};
+use sd_model::{Act, Claim, Life};
 use std::alloc::Global;
 
 impl Lists {
@@ -152,30 +150,6 @@ impl Lists {
         }
         self.commit(txn)?;
         Ok(true)
-    }
-
-    /// A join that was answered with the epoch.
-    pub fn answer_join(&mut self, inst: InstNo, epoch: u32) -> Result<bool, Memory>
-        ensures answered { IfOk result (λ b. Answers b (meaning self.old) (E.Join inst) (R.Joined epoch) (meaning self.new)) }
-        ensures same { OnErr result (meaning self.new ≡ meaning self.old) }
-    {
-        let old = self.inst(inst);
-        if epoch <= old.epoch || (epoch - old.epoch - 1) as u64 > old.failed {
-            return Ok(false);
-        }
-        self.set_inst(inst, up(epoch))?;
-        Ok(true)
-    }
-}
-
-fn up(epoch: u32) -> Inst
-    ensures { result ≡ record { status = Up; epoch = epoch; begins = 0; failed = 0 } }
-{
-    Inst {
-        status: Status::Up,
-        epoch,
-        begins: 0,
-        failed: 0,
     }
 }
 

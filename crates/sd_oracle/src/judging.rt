@@ -1,14 +1,14 @@
 //! Which refusals and answers may follow in a state.
 
-ghost use Rattle.std.specs.Prelude.{◌≡◌, ◌↔◌, IsTrue, OnOk, OnErr};
+ghost use Rattle.std.specs.Prelude.{◌≡◌, ◌↔◌, IsTrue};
 ghost use Rattle.sd_model.specs.Applies.{Passes, PassesAll, exact};
-ghost use Rattle.sd_model.specs.Refusing.{NamesBusy, told_status, Tells, MayFall, counted};
+ghost use Rattle.sd_model.specs.Refusing.{NamesBusy, told_status, Tells, MayFall};
 ghost use Rattle.sd_oracle.specs.Lists.{meaning};
-ghost use Rattle.sd_oracle.specs.Judging.{IsCountable, FirstOf};
+ghost use Rattle.sd_oracle.specs.Judging.{FirstOf};
 
 use crate::fields::{first_instance, inst_of, txn_of};
 use crate::lists::Lists;
-use sd_base::{InstNo, Memory, Refusal, Status, TxnId};
+use sd_base::{InstNo, Refusal, Status, TxnId};
 use sd_model::{Cause, Event};
 
 impl Lists {
@@ -66,32 +66,6 @@ impl Lists {
             }
             Event::Ask { .. } | Event::Reopen => false,
             other => inst == inst_of(other),
-        }
-    }
-
-    /// Whether the count of a join that failed has room for one more.
-    pub fn is_countable(&self, event: &Event) -> bool
-        ensures { IsTrue result ↔ IsCountable (meaning self.now) event.now }
-    {
-        match event {
-            Event::Join { inst } => self.inst(*inst).failed < u64::MAX,
-            _ => true,
-        }
-    }
-
-    /// Counts a join that failed. After `Memory` nothing is changed.
-    pub fn count_join(&mut self, event: &Event) -> Result<(), Memory>
-        requires { IsCountable (meaning self.old) event.now }
-        ensures counted { OnOk result (meaning self.new ≡ counted event.now (meaning self.old)) }
-        ensures same { OnErr result (meaning self.new ≡ meaning self.old) }
-    {
-        match event {
-            Event::Join { inst } => {
-                let mut state = self.inst(*inst);
-                state.failed += 1;
-                self.set_inst(*inst, state)
-            }
-            _ => Ok(()),
         }
     }
 

@@ -6,6 +6,7 @@
 //! Refuses: nothing but for want of memory; what it doesn't judge it says (`Verdict::Unjudged`).
 //! Knows nothing of: pages' bytes, pools, logs, devices, scripts; how a complex comes to its replies.
 //! Stands on: sd_base, sd_model.
+//! Beside the house: tests hold it, and no part of the program is to stand on it.
 //!
 //! To change:
 //! - free: bodies, proofs, the lists
@@ -19,6 +20,7 @@ mod change;
 mod changing;
 mod claiming;
 mod fields;
+mod joining;
 mod judging;
 mod listing;
 mod lists;
@@ -38,8 +40,3 @@ pub use fields::txn_of;
 pub use outcome::Outcome;
 pub use serial_table::SerialTable;
 pub use verdict::Verdict;
-
-#[cfg(test)]
-mod refusal_tests;
-#[cfg(test)]
-mod tests;
