@@ -39,6 +39,3 @@ pub use standard_streams::{StdSink, StdSource};
 pub use streams::{Sink, Source};
 pub use trouble::{Pick, Trouble};
 pub use value::{copy_value, lent_value, same_value, value_len};
-
-#[cfg(test)]
-mod tests;

@@ -35,6 +35,3 @@ pub use event::{Entry, Event, Reply};
 pub use numbers::{NoSum, number, number_text, sum, text_length};
 pub use rows::Rows;
 pub use table::Table;
-
-#[cfg(test)]
-mod tests;

@@ -1,5 +1,6 @@
 pub mod Numbers
 pub mod Lines
+mod Words
 pub mod OneForm
 pub mod Packing
 pub mod Ordinals

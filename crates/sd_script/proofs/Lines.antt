@@ -16,7 +16,7 @@ some_part_if true b all first parts e = ([], all, refl)
 some_part_if false b all first parts e = (b ∷ first, parts, ap (onto_first b) e)
 
 -- a text has a part, also where it is empty
-some_part : (p : ℕ → Bool) (text : List ℕ) → (first : List ℕ) × (parts : List (List ℕ)) × (slice_split p text ≡ first ∷ parts)
+pub some_part : (p : ℕ → Bool) (text : List ℕ) → (first : List ℕ) × (parts : List (List ℕ)) × (slice_split p text ≡ first ∷ parts)
 some_part p [] = ([], [], refl)
 some_part p (b ∷ text) = let rest = some_part p text in some_part_if (p b) b (slice_split p text) rest.0 rest.1 rest.2
 
@@ -24,26 +24,26 @@ with_line : (line text : List ℕ) (first : List ℕ) (parts : List (List ℕ)) 
 with_line line text first parts e =
     ap (λ (l : List (List ℕ)). less_empty_last (line ∷ l)) e ∙ ap (λ (l : List (List ℕ)). line ∷ less_empty_last l) (sym e)
 
-found_at : (text : List ℕ) (i : ℕ) → position is_feed text ≡ Some i → (position_or_len is_feed text < length text) × (position_or_len is_feed text ≡ i)
-found_at text i e =
+pub found_at : (p : ℕ → Bool) (text : List ℕ) (i : ℕ) → position p text ≡ Some i → (position_or_len p text < length text) × (position_or_len p text ≡ i)
+found_at p text i e =
     ⊎_elim
-    (λ lt. let is : Some (position_or_len is_feed text) ≡ Some i = sym (cond-true (nat_lt (position_or_len is_feed text) (length text)) (Some (position_or_len is_feed text)) None (lt-ltb (position_or_len is_feed text) (length text) lt)) ∙ e in (lt, cc))
-    (λ ge. let is : None ≡ Some i = sym (cond-false (nat_lt (position_or_len is_feed text) (length text)) (Some (position_or_len is_feed text)) None (le-ltb (position_or_len is_feed text) (length text) ge)) ∙ e in absurd (cc))
-    (cases_lt (position_or_len is_feed text) (length text))
+    (λ lt. let is : Some (position_or_len p text) ≡ Some i = sym (cond-true (nat_lt (position_or_len p text) (length text)) (Some (position_or_len p text)) None (lt-ltb (position_or_len p text) (length text) lt)) ∙ e in (lt, cc))
+    (λ ge. let is : None ≡ Some i = sym (cond-false (nat_lt (position_or_len p text) (length text)) (Some (position_or_len p text)) None (le-ltb (position_or_len p text) (length text) ge)) ∙ e in absurd (cc))
+    (cases_lt (position_or_len p text) (length text))
 
-not_found : (text : List ℕ) → position is_feed text ≡ None → length text ≤ position_or_len is_feed text
-not_found text e =
+pub not_found : (p : ℕ → Bool) (text : List ℕ) → position p text ≡ None → length text ≤ position_or_len p text
+not_found p text e =
     ⊎_elim
-    (λ lt. let is : Some (position_or_len is_feed text) ≡ None = sym (cond-true (nat_lt (position_or_len is_feed text) (length text)) (Some (position_or_len is_feed text)) None (lt-ltb (position_or_len is_feed text) (length text) lt)) ∙ e in absurd (cc))
+    (λ lt. let is : Some (position_or_len p text) ≡ None = sym (cond-true (nat_lt (position_or_len p text) (length text)) (Some (position_or_len p text)) None (lt-ltb (position_or_len p text) (length text) lt)) ∙ e in absurd (cc))
     (λ ge. ge)
-    (cases_lt (position_or_len is_feed text) (length text))
+    (cases_lt (position_or_len p text) (length text))
 
-rest_of : (text : List ℕ) (i : ℕ) → take (length text - i) (drop i text) ≡ drop i text
+pub rest_of : (text : List ℕ) (i : ℕ) → take (length text - i) (drop i text) ≡ drop i text
 rest_of text i = take_all (length text - i) (drop i text) (omega (arith, length-drop i text))
 
 pub line_to_feed : (text : List ℕ) (i : ℕ) → position is_feed text ≡ Some i → lines_of text ≡ take i text ∷ lines_of (take (length text - (i + 1)) (drop (i + 1) text))
 line_to_feed text i e =
-    let at = found_at text i e in
+    let at = found_at is_feed text i e in
     let part = some_part is_feed (drop (position_or_len is_feed text + 1) text) in
     ap less_empty_last (slice_split_first is_feed text 0 at.0)
     ∙ with_line (take (position_or_len is_feed text) text) (drop (position_or_len is_feed text + 1) text) part.0 part.1 part.2
@@ -58,7 +58,7 @@ nothing_left text = ap (λ n. take n (drop (length text) text)) (let e : length 
 
 pub line_to_end : (text : List ℕ) → 0 < length text → position is_feed text ≡ None → lines_of text ≡ text ∷ lines_of (take (length text - length text) (drop (length text) text))
 line_to_end text some e =
-    let far = not_found text e in
+    let far = not_found is_feed text e in
     ap less_empty_last (slice_split_none is_feed text (λ k d lt. fails_before_first is_feed text k d (omega arith)))
     ∙ cond-false (length text == 0) [] (text ∷ []) (nonzero (length text) some)
     ∙ ap (λ (l : List ℕ). text ∷ lines_of l) (sym (nothing_left text))

@@ -1,26 +1,36 @@
 //! From the words of a line to its form. Of other lines it sees the names that they began.
 
-ghost use Rattle.std.specs.Prelude.{◌≡◌, ◌≢◌, ℕ, ◌≤◌, ◌<◌, [], ◌∷◌, List, Option, map, codes, IfSome, IfNone, IfOk};
+ghost use Rattle.std.specs.Prelude.{◌≡◌, ◌≢◌, ℕ, ◌≤◌, ◌<◌, [], ◌∷◌, List, Option, codes, IfSome, IfNone, IfOk};
 ghost use Rattle.std.specs.Fmt.{decimal};
 ghost use Rattle.sd_script.specs.Forms.{IsFormOf};
 ghost use Rattle.sd_script.specs.Known.{known};
+ghost use Rattle.sd_script.specs.Text.{words_of};
 
 use crate::Form;
 use crate::names::Names;
-use crate::word::{is_name, is_value, number_within};
+use crate::word::{first_word, is_name, is_value, number_within};
 use sd_base::{InstNo, Memory, PAGES, PageNo, Sequence};
 use std::alloc::Global;
 
-/// The form of a line of these words, where these names were begun; `None` exactly where it has none.
-pub(crate) fn form_of(alloc: Global, words: &[&[u8]], begun: &Names) -> Result<Option<Form>, Memory>
-    ensures { IfOk result (IsFormOf (known begun.now) (map (λ word. word.now) words.now)) }
+/// The form of a line, where these names were begun; `None` exactly where it has none.
+pub(crate) fn form_of(alloc: Global, line: &[u8], begun: &Names) -> Result<Option<Form>, Memory>
+    ensures { IfOk result (IsFormOf (known begun.now) (words_of line.now)) }
 {
-    match words {
-        [verb] => Ok(table_of(verb)),
-        [verb, name] => commit_of(alloc, verb, name, begun),
-        [inst, verb, name] => begin_of(alloc, inst, verb, name),
-        [verb, first, second, third] => long_form_of(alloc, verb, first, second, third, begun),
-        _ => Ok(None),
+    let (first, rest) = first_word(line);
+    let Some(rest) = rest else {
+        return Ok(table_of(first));
+    };
+    let (second, rest) = first_word(rest);
+    let Some(rest) = rest else {
+        return commit_of(alloc, first, second, begun);
+    };
+    let (third, rest) = first_word(rest);
+    let Some(rest) = rest else {
+        return begin_of(alloc, first, second, third);
+    };
+    match first_word(rest) {
+        (fourth, None) => long_form_of(alloc, first, second, third, fourth, begun),
+        (_, Some(_)) => Ok(None),
     }
 }
 

@@ -27,6 +27,3 @@ mod word;
 
 pub use line::{Form, Line};
 pub use script::{Kind, Script};
-
-#[cfg(test)]
-mod tests;

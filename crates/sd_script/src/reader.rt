@@ -9,7 +9,6 @@ ghost use Rattle.sd_script.specs.Remembered.{Fits, IsUnknown, IsFresh, IsWith, I
 
 use crate::form::form_of;
 use crate::names::Names;
-use crate::word::split_words;
 use crate::{Form, Line};
 use sd_base::{Cause, Memory, Refusal};
 use std::alloc::Global;
@@ -100,8 +99,7 @@ impl Reader {
         if bytes.len() > LINE_BYTES || number > LINES || end > TEXT_BYTES {
             return Ok(None);
         }
-        let words = split_words(alloc, bytes)?;
-        let Some(form) = form_of(alloc, &words, &self.begun)? else {
+        let Some(form) = form_of(alloc, bytes, &self.begun)? else {
             return Ok(None);
         };
         if !self.admits(&form) {

@@ -1,18 +1,26 @@
 //! The words of a line: numbers, names and values.
 
-ghost use Rattle.std.specs.Prelude.{◌≡◌, ◌≢◌, ℕ, ◌<◌, ◌≤◌, ◌^◌, ◌↔◌, ◌⊎◌, length, map, slice_index, All, IsTrue, IfSome, IfNone, IfOk};
+ghost use Rattle.std.specs.Prelude.{◌≡◌, ◌≢◌, ◌==◌, ℕ, ◌<◌, ◌≤◌, ◌^◌, ◌↔◌, ◌⊎◌, ◌∷◌, length, position, slice_index, All, IsTrue, IfSome, IfNone};
+ghost use Rattle.std.specs.Option.{option_copied};
 ghost use Rattle.std.specs.Fmt.{decimal};
 ghost use Rattle.std.specs.Str.Parse.{AllDigits, digits_value};
-ghost use Rattle.sd_script.specs.Text.{words_of};
+ghost use Rattle.sd_script.specs.Text.{words_of, words_behind};
 ghost use Rattle.sd_script.specs.Forms.{IsLetter, IsDigit, IsName, IsValue};
 
-use std::alloc::{AllocError, Global};
-
-/// The words of a line.
-pub(crate) fn split_words(alloc: Global, line: &[u8]) -> Result<Vec<&[u8]>, AllocError>
-    ensures { IfOk result (λ words. map (λ word. word.now) words.items ≡ words_of line.now) }
+/// The first word of a line, and what follows its space; `None` where the word is the last.
+pub(crate) fn first_word(line: &[u8]) -> (&[u8], Option<&[u8]>)
+    ensures { words_of line.now ≡ result.0.now ∷ words_behind (option_copied result.1) }
 {
-    line.split(|b| *b == b' ').collect(alloc)
+    match space_in(line) {
+        Some(end) => (&line[..end], Some(&line[end + 1..])),
+        None => (line, None),
+    }
+}
+
+fn space_in(line: &[u8]) -> Option<usize>
+    ensures { result ≡ position (λ b. b == 32) line.now }
+{
+    line.iter().position(|b| *b == b' ')
 }
 
 /// The number that a word of 1 to 10 digits writes without leading zeros.

@@ -9,3 +9,4 @@ pub mod Reaches
 pub mod Arms
 mod Scripts
 mod Answered
+mod Unnamed

@@ -1,5 +1,5 @@
 -- The text of each refusal: its words, and the arguments behind them.
-use Rattle.std.specs.Prelude.{ℕ, ◌-◌, List, [], ◌∷◌, ◌++◌, Option, None, Some, length, take, codes}
+use Rattle.std.specs.Prelude.{ℕ, ◌-◌, Bool, true, false, List, [], ◌∷◌, ◌++◌, Option, None, Some, length, take, codes}
 use Rattle.std.specs.List.{flat_map}
 use Rattle.std.specs.Fmt.{decimal}
 use Rattle.sd_base.specs.declared.refusal.Cause.{Cause}
@@ -93,3 +93,10 @@ arguments names e n = []
 -- the text of a refusal of the event
 abbrev pub refusal_text : NamesOf → Event → Refusal → List ℕ
 refusal_text names e n = refusal_words n ++ arguments names e n
+
+-- whether a refusal tells a transaction
+abbrev pub tells_txn : Refusal → Bool
+tells_txn (refusal.Blocked by) = true
+tells_txn (refusal.Busy by) = true
+tells_txn (refusal.Deadlock cycle) = true
+tells_txn n = false

@@ -1,6 +1,6 @@
 -- The text of the report: line after line of the script, what was replied to it.
-use Rattle.std.specs.Prelude.{ℕ, ◌-◌, ◌<◌, ◌≤◌, List, [], ◌∷◌, ◌++◌, Option, None, Some, length, codes, filter, eqb, ltb, cond, slice_get}
-use Rattle.std.specs.List.{flat_map}
+use Rattle.std.specs.Prelude.{ℕ, ◌-◌, ◌<◌, ◌≤◌, Bool, false, List, [], ◌∷◌, ◌++◌, Option, None, Some, length, codes, filter, eqb, ltb, cond, slice_get}
+use Rattle.std.specs.List.{flat_map, list_any}
 use Rattle.std.specs.Fmt.{decimal}
 use Rattle.std.specs.Map.{update_all}
 use Rattle.sd_base.specs.Ids.{same_txn}
@@ -15,7 +15,7 @@ use Rattle.sd_script.specs.declared.line.Form.TheVariants as form
 use Rattle.sd_script.specs.declared.line.Line.{Line}
 use Rattle.sd_script.specs.Forms.{form_words}
 use Rattle.sdaries.specs.Words.{line_of, rid_text, txn_text, NamesOf, no_names}
-use Rattle.sdaries.specs.Refusals.{refusal_text}
+use Rattle.sdaries.specs.Refusals.{refusal_text, tells_txn}
 
 -- the last of these entries
 abbrev pub last_entry : List Entry → Option Entry
@@ -75,6 +75,15 @@ reported names (form.Commit name ordinal) entries =
     line_of (name ∷ replied (commit_words names) (codes "ended") (last_entry entries) ∷ [])
 reported names form.Table entries =
     replied (table_lines names entries) (line_of (codes "no reply" ∷ [])) (last_entry entries)
+
+-- whether a reply is a refusal that tells a transaction
+abbrev pub reply_tells_txn : Reply → Bool
+reply_tells_txn (reply.Refused n) = tells_txn n
+reply_tells_txn r = false
+
+-- whether an entry's reply is
+abbrev pub tell_txns : List Entry → Bool
+tell_txns entries = list_any (λ entry. reply_tells_txn entry.reply) entries
 
 -- the entries of a line are those that carry its number
 abbrev pub entries_of : ℕ → List Entry → List Entry

@@ -21,8 +21,6 @@ mod input;
 mod laws;
 mod output;
 mod parting;
-#[cfg(test)]
-mod refusal_tests;
 mod refusals;
 mod replay;
 mod report;

@@ -7,10 +7,9 @@ ghost use Rattle.sdaries.specs.Words.{spelled};
 ghost use Rattle.sdaries.specs.Refusals.{cause_word, refusal_words, page_of, page_text, arguments, refusal_text};
 
 use crate::txn_names::TxnNames;
-use crate::words::{push_next, push_number, push_word, txn_words};
+use crate::words::{push_next, push_number, push_txn_numbers, push_word};
 use sd_base::{Cause, Cycle, Memory, PageNo, Refusal, TxnId};
 use sd_model::Event;
-use std::alloc::Global;
 
 /// The word of what is wrong with a line.
 pub fn cause_name(cause: Cause) -> &'static [u8]
@@ -88,48 +87,42 @@ fn named_page(event: &Event) -> Option<PageNo>
 }
 
 // Appends the page that the event names, behind a space.
-fn push_page(alloc: Global, out: &mut Vec<u8>, event: &Event) -> Result<(), Memory>
+fn push_page(out: &mut Vec<u8>, event: &Event) -> Result<(), Memory>
     ensures { OnOk result (out.new.items ≡ out.old.items ++ page_text (page_of event.now)) }
 {
     match named_page(event) {
-        Some(page) => push_number(alloc, out, u64::from(page.get())),
+        Some(page) => push_number(out, u64::from(page.get())),
         None => Ok(()),
     }
 }
 
 // Appends a transaction by its name, else by its numbers, behind a space.
-fn push_txn(alloc: Global, out: &mut Vec<u8>, names: &TxnNames, txn: &TxnId) -> Result<(), Memory>
+fn push_txn(out: &mut Vec<u8>, names: &TxnNames, txn: &TxnId) -> Result<(), Memory>
     ensures { OnOk result (out.new.items ≡ out.old.items ++ 32 ∷ spelled (name_in names.now) txn.now) }
 {
     match names.get(txn) {
         Some(name) => push_next(out, name),
         None => {
-            let text = txn_words(alloc, *txn)?;
-            push_next(out, text.as_bytes())
+            push_word(out, b" ")?;
+            push_txn_numbers(out, *txn)
         }
     }
 }
 
 // Appends the members of a cycle but its last, which is its first again.
-fn push_cycle(
-    alloc: Global,
-    out: &mut Vec<u8>,
-    names: &TxnNames,
-    cycle: &Cycle,
-) -> Result<(), Memory>
+fn push_cycle(out: &mut Vec<u8>, names: &TxnNames, cycle: &Cycle) -> Result<(), Memory>
     ensures { OnOk result (out.new.items ≡ out.old.items
         ++ flat_map (λ t. 32 ∷ spelled (name_in names.now) t) (take (length cycle.now - 1) cycle.now)) }
 {
     let members = cycle.items();
     for txn in &members[..members.len().saturating_sub(1)] {
-        push_txn(alloc, out, names, txn)?;
+        push_txn(out, names, txn)?;
     }
     Ok(())
 }
 
 // Appends what stands behind the words of a refusal of the event.
 fn push_arguments(
-    alloc: Global,
     out: &mut Vec<u8>,
     names: &TxnNames,
     event: &Event,
@@ -138,23 +131,23 @@ fn push_arguments(
     ensures { OnOk result (out.new.items ≡ out.old.items ++ arguments (name_in names.now) event.now refusal.now) }
 {
     match refusal {
-        Refusal::BadRecord { at } | Refusal::BadLog { at } => push_number(alloc, out, *at),
-        Refusal::Blocked { by } | Refusal::Busy { by } => push_txn(alloc, out, names, by),
-        Refusal::Deadlock { cycle } => push_cycle(alloc, out, names, cycle),
+        Refusal::BadRecord { at } | Refusal::BadLog { at } => push_number(out, *at),
+        Refusal::Blocked { by } | Refusal::Busy { by } => push_txn(out, names, by),
+        Refusal::Deadlock { cycle } => push_cycle(out, names, cycle),
         Refusal::NeedPage { .. } | Refusal::Lost | Refusal::NotAsked | Refusal::Dirty => {
-            push_page(alloc, out, event)
+            push_page(out, event)
         }
         Refusal::MovingTo { to } => {
-            push_page(alloc, out, event)?;
+            push_page(out, event)?;
             push_next(out, b"to")?;
-            push_number(alloc, out, u64::from(to.get()))
+            push_number(out, u64::from(to.get()))
         }
         Refusal::Damaged { dev, at } => {
-            push_number(alloc, out, u64::from(*dev))?;
-            push_number(alloc, out, *at)
+            push_number(out, u64::from(*dev))?;
+            push_number(out, *at)
         }
         Refusal::BadLine { line, cause } => {
-            push_number(alloc, out, u64::from(*line))?;
+            push_number(out, u64::from(*line))?;
             push_next(out, cause_name(*cause))
         }
         _ => Ok(()),
@@ -163,7 +156,6 @@ fn push_arguments(
 
 /// Appends the text of a refusal of the event.
 pub fn push_refusal(
-    alloc: Global,
     out: &mut Vec<u8>,
     names: &TxnNames,
     event: &Event,
@@ -172,5 +164,5 @@ pub fn push_refusal(
     ensures { OnOk result (out.new.items ≡ out.old.items ++ refusal_text (name_in names.now) event.now refusal.now) }
 {
     push_word(out, words_of(refusal))?;
-    push_arguments(alloc, out, names, event, refusal)
+    push_arguments(out, names, event, refusal)
 }

@@ -1,9 +1,14 @@
-//! Scripts with their reports, and streams that fail.
+//! Commands with what they write, streams that fail, and the text of refusals.
 
+use crate::refusals::push_refusal;
+use crate::report::render;
 use crate::status::Status;
-use crate::top::{Done, top};
-use sd_base::{MemSink, MemSource, OpenGate};
+use crate::top::top;
+use crate::txn_names::TxnNames;
+use sd_base::{Cause, Cycle, InstNo, MemSink, MemSource, OpenGate, PageNo, Refusal, TxnId, Word};
+use sd_model::{Entry, Event, Reply};
 use sd_rig::MemRig;
+use sd_script::{Form, Line};
 use std::alloc::Global;
 use std::test::Fail;
 
@@ -12,190 +17,175 @@ const FIVE_LINES: &[u8] = b"complex 1 1 2\n1 begin a\ninsert a 0 red\ncommit a\n
 const FIVE_REPLIES: &[u8] =
     b"complex 1 1 2\na begin 1.1.1\na insert 0.0\na commit\n0.0 red\ntable 1\n";
 
-// One command after another over the same rig.
-#[derive(Drop)]
-struct Runs {
+// The status of a command whose reads and writes of these numbers fail, and what it wrote.
+fn ran(
     alloc: Global,
-    rig: Option<MemRig>,
-}
-
-impl Runs {
-    fn new(alloc: Global) -> Result<Self, Fail> {
-        Ok(Runs {
-            alloc,
-            rig: Some(MemRig::blank(alloc)?),
-        })
-    }
-
-    // The status of a command whose calls of these numbers fail, and what it wrote.
-    fn ran(
-        &mut self,
-        word: &[u8],
-        text: &[u8],
-        reads: &[u64],
-        writes: &[u64],
-    ) -> Result<(Status, Vec<u8>), Fail> {
-        let alloc = self.alloc;
-        let mut words = Vec::new(alloc);
-        words.push(String::from_utf8(word.to_vec(alloc)?)?)?;
-        let mut source = MemSource::new(text.to_vec(alloc)?, reads.to_vec(alloc)?);
-        let mut sink = MemSink::new(alloc, 4_096, writes.to_vec(alloc)?)?;
-        let rig = match self.rig.take() {
-            Some(rig) => rig,
-            None => MemRig::blank(alloc)?,
-        };
-        let Done { status, rig, book } = top(alloc, &words, &mut source, &mut sink, rig, &OpenGate);
-        let _ = book;
-        self.rig = Some(rig);
-        Ok((status, sink.text().to_vec(alloc)?))
-    }
-
-    // The status of a replay whose streams don't fail, and its report.
-    fn replayed(&mut self, text: &[u8]) -> Result<(Status, Vec<u8>), Fail> {
-        self.ran(b"replay", text, &[], &[])
-    }
+    word: &[u8],
+    text: &[u8],
+    reads: &[u64],
+    writes: &[u64],
+) -> Result<(Status, Vec<u8>), Fail> {
+    let words = [String::from_utf8(word.to_vec(alloc)?)?];
+    let mut source = MemSource::new(text.to_vec(alloc)?, reads.to_vec(alloc)?);
+    let mut sink = MemSink::new(alloc, 4_096, writes.to_vec(alloc)?)?;
+    let done = top(
+        alloc,
+        &words,
+        &mut source,
+        &mut sink,
+        MemRig::blank(alloc)?,
+        &OpenGate,
+    );
+    Ok((done.status, sink.text().to_vec(alloc)?))
 }
 
 #[test]
-fn scripts_have_their_reports(rt: HostRuntime) -> Result<(), Fail> {
-    let mut runs = Runs::new(rt.alloc())?;
-    let scripts: [(&[u8], &[u8]); 5] = [
-        (b"complex 1 1 2\n", b"complex 1 1 2\n"),
-        (FIVE_LINES, FIVE_REPLIES),
+fn texts_have_their_reports(rt: HostRuntime) -> Result<(), Fail> {
+    let texts: [(&[u8], Status, &[u8]); 6] = [
+        (FIVE_LINES, Status::Done, FIVE_REPLIES),
         (
-            b"complex 1 2 2\n1 begin a\ninsert a 1 blue\ninsert a 0 red\ninsert a 1 green\ncommit a\ntable\n1 begin b\ninsert b 0 x\ncommit b\ntable",
-            b"complex 1 2 2\na begin 1.1.1\na insert 1.0\na insert 0.0\na insert 1.1\na commit\n0.0 red\n1.0 blue\n1.1 green\ntable 3\nb begin 1.1.2\nb insert 0.1\nb commit\n0.0 red\n0.1 x\n1.0 blue\n1.1 green\ntable 4\n",
+            b"complex 1 2 2\n1 begin a\ninsert a 1 blue\ninsert a 0 red\ncommit a\ntable\n1 begin b\ninsert b 0 x\ncommit b\ntable",
+            Status::Done,
+            b"complex 1 2 2\na begin 1.1.1\na insert 1.0\na insert 0.0\na commit\n0.0 red\n1.0 blue\ntable 2\nb begin 1.1.2\nb insert 0.1\nb commit\n0.0 red\n0.1 x\n1.0 blue\ntable 3\n",
         ),
         (
             b"complex 1 1 2\n1 begin a\ncommit a\ninsert a 0 red\ncommit a\ntable\n",
+            Status::Done,
             b"complex 1 1 2\na begin 1.1.1\na commit\na ended\na ended\ntable 0\n",
         ),
-        (b"complex 1 1024 2\ntable\n", b"complex 1 1024 2\ntable 0\n"),
+        (
+            b"complex 1 1024 2\ntable\n",
+            Status::Done,
+            b"complex 1 1024 2\ntable 0\n",
+        ),
+        (b"", Status::BadLine, b"bad line 1 word\n"),
+        (
+            b"complex 1 1 2\n1 begin a\ntable\n",
+            Status::BadLine,
+            b"bad line 3 word\n",
+        ),
     ];
-    for (script, report) in scripts {
-        let (status, written) = runs.replayed(script)?;
-        assert_eq!(rt; status, Status::Done);
+    for (text, status, report) in texts {
+        let (ended, written) = ran(rt.alloc(), b"replay", text, &[], &[])?;
+        assert_eq!(rt; ended, status);
         assert_eq!(rt; &written[..], report);
     }
     Ok(())
 }
 
-// Appends a line of these words and a value of so many bytes.
-fn push_value(text: &mut Vec<u8>, words: &[u8], length: usize) -> Result<(), Fail> {
-    text.extend_from_slice(words)?;
-    for _ in 0..length {
-        text.push(b'v')?;
-    }
-    text.push(b'\n')?;
-    Ok(())
-}
-
-// A script that inserts values of so many bytes into page 0.
-fn inserts(alloc: Global, lengths: &[usize]) -> Result<Vec<u8>, Fail> {
-    let mut text = b"complex 1 1 2\n1 begin a\n".to_vec(alloc)?;
-    for length in lengths {
-        push_value(&mut text, b"insert a 0 ", *length)?;
-    }
-    text.extend_from_slice(b"commit a\ntable\n")?;
-    Ok(text)
-}
-
 #[test]
-fn a_page_is_full_for_a_fifth_value(rt: HostRuntime) -> Result<(), Fail> {
-    let alloc = rt.alloc();
-    let mut runs = Runs::new(alloc)?;
-    let (status, written) = runs.replayed(&inserts(alloc, &[256, 256, 256, 216, 1])?)?;
-    let mut report =
-        b"complex 1 1 2\na begin 1.1.1\na insert 0.0\na insert 0.1\na insert 0.2\na insert 0.3\na full\na commit\n".to_vec(
-            alloc,
-        )?;
-    push_value(&mut report, b"0.0 ", 256)?;
-    push_value(&mut report, b"0.1 ", 256)?;
-    push_value(&mut report, b"0.2 ", 256)?;
-    push_value(&mut report, b"0.3 ", 216)?;
-    report.extend_from_slice(b"table 4\n")?;
-    assert_eq!(rt; status, Status::Done);
-    assert!(rt; written == report);
-    Ok(())
-}
-
-#[test]
-fn a_value_of_257_bytes_is_too_long(rt: HostRuntime) -> Result<(), Fail> {
-    let alloc = rt.alloc();
-    let mut runs = Runs::new(alloc)?;
-    let (status, written) = runs.replayed(&inserts(alloc, &[257])?)?;
-    assert_eq!(rt; status, Status::Done);
-    assert_eq!(rt;
-        &written[..],
-        b"complex 1 1 2\na begin 1.1.1\na too long\na commit\ntable 0\n".as_slice()
-    );
-    Ok(())
-}
-
-#[test]
-fn bad_texts_are_told_by_their_first_bad_line(rt: HostRuntime) -> Result<(), Fail> {
-    let alloc = rt.alloc();
-    let mut runs = Runs::new(alloc)?;
-    let texts: [(&[u8], &[u8]); 6] = [
-        (b"", b"bad line 1 word\n"),
-        (b"\x00\xff\x80\n", b"bad line 1 word\n"),
-        (
-            b"complex 1 1 2\n1 begin a\npaint a 0 red\n",
-            b"bad line 3 word\n",
-        ),
-        (b"complex 1 1 2\n1 begin a\r\n", b"bad line 2 word\n"),
-        (
-            b"complex 1 1 2\n1 begin a\ncommit a\n1 begin b\ninsert b 1 x\n",
-            b"bad line 5 word\n",
-        ),
-        (b"complex 1 1 2\n1 begin a\ntable\n", b"bad line 3 word\n"),
-    ];
-    for (text, told) in texts {
-        let (status, written) = runs.replayed(text)?;
-        assert_eq!(rt; status, Status::BadLine);
-        assert_eq!(rt; &written[..], told);
-    }
-    let (status, written) = runs.replayed(&inserts(alloc, &[10_000])?)?;
-    assert_eq!(rt; status, Status::BadLine);
-    assert_eq!(rt; &written[..], b"bad line 3 word\n".as_slice());
-    Ok(())
-}
-
-#[test]
-fn each_front_of_a_script_is_a_script_or_has_a_bad_line(rt: HostRuntime) -> Result<(), Fail> {
-    let mut runs = Runs::new(rt.alloc())?;
-    for end in 0..FIVE_LINES.len() {
-        let (status, _) = runs.replayed(&FIVE_LINES[..end])?;
-        assert!(rt; matches!(status, Status::Done | Status::BadLine));
-    }
-    Ok(())
-}
-
-#[test]
-fn other_words_touch_nothing(rt: HostRuntime) -> Result<(), Fail> {
-    let mut runs = Runs::new(rt.alloc())?;
-    let words: [&[u8]; 3] = [b"", b"Replay", b"replay "];
-    for word in words {
-        let (status, written) = runs.ran(word, FIVE_LINES, &[], &[])?;
-        assert_eq!(rt; status, Status::Usage);
-        assert!(rt; written.is_empty());
-    }
-    Ok(())
-}
-
-#[test]
-fn a_stream_that_fails_is_told(rt: HostRuntime) -> Result<(), Fail> {
-    let mut runs = Runs::new(rt.alloc())?;
+fn a_stream_that_fails_and_other_words_write_nothing(rt: HostRuntime) -> Result<(), Fail> {
     // The source is asked twice: for the text, and for its end.
-    for number in 1..3 {
-        let (status, written) = runs.ran(b"replay", FIVE_LINES, &[number], &[])?;
-        assert_eq!(rt; status, Status::ReadFault);
+    let commands: [(&[u8], &[u64], &[u64], Status); 5] = [
+        (b"replay", &[1], &[], Status::ReadFault),
+        (b"replay", &[2], &[], Status::ReadFault),
+        (b"replay", &[], &[1], Status::WriteFault),
+        (b"Replay", &[], &[], Status::Usage),
+        (b"", &[], &[], Status::Usage),
+    ];
+    for (word, reads, writes, status) in commands {
+        let (ended, written) = ran(rt.alloc(), word, FIVE_LINES, reads, writes)?;
+        assert_eq!(rt; ended, status);
         assert!(rt; written.is_empty());
     }
-    let (status, written) = runs.ran(b"replay", FIVE_LINES, &[], &[1])?;
-    assert_eq!(rt; status, Status::WriteFault);
-    assert!(rt; written.is_empty());
-    let (status, _) = runs.ran(b"replay", b"", &[], &[1])?;
-    assert_eq!(rt; status, Status::BadLine);
+    Ok(())
+}
+
+// A transaction of instance 2.
+fn txn(seq: u32) -> TxnId {
+    TxnId {
+        inst: InstNo::new(2).unwrap(),
+        epoch: 3,
+        seq,
+    }
+}
+
+// A deadlock of two transactions.
+fn deadlock(alloc: Global) -> Result<Refusal, Fail> {
+    let mut members = Vec::new(alloc);
+    for seq in [1, 2, 1] {
+        members.push(txn(seq))?;
+    }
+    Ok(Refusal::Deadlock {
+        cycle: Cycle::of(members),
+    })
+}
+
+#[test]
+fn refusals_have_their_words(rt: HostRuntime) -> Result<(), Fail> {
+    let alloc = rt.alloc();
+    let list = Event::List {
+        inst: InstNo::new(2).unwrap(),
+        page: PageNo::new(7).unwrap(),
+    };
+    let to = InstNo::new(8).unwrap();
+    let undo = Event::Undo { txn: txn(1) };
+    let cause = Cause::Unknown;
+    let cases: [(&Event, Refusal, &[u8]); 12] = [
+        (&list, Refusal::PageFull, b"full"),
+        (&list, Refusal::TooLong, b"too long"),
+        (
+            &list,
+            Refusal::BadRecord { at: u64::MAX },
+            b"bad record 18446744073709551615",
+        ),
+        (&list, Refusal::Blocked { by: txn(4) }, b"wait for 2.3.4"),
+        (&list, deadlock(alloc)?, b"deadlock 2.3.1 2.3.2"),
+        (&list, Refusal::Lost, b"lost 7"),
+        (&list, Refusal::MovingTo { to }, b"moving 7 to 8"),
+        (&undo, Refusal::MovingTo { to }, b"moving to 8"),
+        (&undo, Refusal::Lost, b"lost"),
+        (&list, Refusal::Damaged { dev: 9, at: 12 }, b"damaged 9 12"),
+        (
+            &list,
+            Refusal::BadLine { line: 6, cause },
+            b"bad line 6 unknown",
+        ),
+        (&list, Refusal::NoTxn, b"ended"),
+    ];
+    for (event, refusal, text) in cases {
+        let mut told = Vec::new(alloc);
+        push_refusal(&mut told, &TxnNames::new(alloc), event, &refusal)?;
+        assert_eq!(rt; &told[..], text);
+    }
+    Ok(())
+}
+
+#[test]
+fn a_refused_line_tells_names(rt: HostRuntime) -> Result<(), Fail> {
+    let alloc = rt.alloc();
+    let inst = InstNo::new(2).unwrap();
+    let name = Word::of(b"a".to_vec(alloc)?);
+    let lines = [
+        Line {
+            number: 1,
+            session: 0,
+            form: Form::Begin { inst, name },
+        },
+        Line {
+            number: 2,
+            session: 0,
+            form: Form::Table,
+        },
+    ];
+    let entries = [
+        Entry {
+            session: 0,
+            line: 1,
+            event: Event::Begin { inst },
+            reply: Reply::Began(txn(1)),
+        },
+        Entry {
+            session: 0,
+            line: 2,
+            event: Event::Undo { txn: txn(1) },
+            reply: Reply::Refused(deadlock(alloc)?),
+        },
+    ];
+    let report = render(alloc, &lines, &entries)?;
+    assert_eq!(rt;
+        &report[..],
+        b"a begin 2.3.1\ndeadlock a 2.3.2\n".as_slice()
+    );
     Ok(())
 }

@@ -1,11 +1,11 @@
 //! Words of the report, put behind a text.
 
-ghost use Rattle.std.specs.Prelude.{◌≡◌, ◌<◌, [], ◌∷◌, ◌++◌, vec_len, string_bytes, IfOk, OnOk};
+ghost use Rattle.std.specs.Prelude.{◌≡◌, [], ◌∷◌, ◌++◌, OnOk};
 ghost use Rattle.std.specs.Fmt.{decimal};
-ghost use Rattle.sdaries.specs.Words.{line_of, rid_text, txn_text};
+ghost use Rattle.sdaries.specs.Words.{rid_text, txn_text};
 
+use itoa::Buffer;
 use sd_base::{Memory, Rid, TxnId};
-use std::alloc::Global;
 
 /// Appends the first word of a line.
 pub fn push_word(out: &mut Vec<u8>, word: &[u8]) -> Result<(), Memory>
@@ -24,12 +24,20 @@ pub fn push_next(out: &mut Vec<u8>, word: &[u8]) -> Result<(), Memory>
     Ok(())
 }
 
+/// Appends a number.
+pub fn push_digits(out: &mut Vec<u8>, n: u64) -> Result<(), Memory>
+    ensures { OnOk result (out.new.items ≡ out.old.items ++ decimal n) }
+{
+    let mut digits = Buffer::new();
+    push_word(out, digits.format(n).as_bytes())
+}
+
 /// Appends a number, behind a space.
-pub fn push_number(alloc: Global, out: &mut Vec<u8>, n: u64) -> Result<(), Memory>
+pub fn push_number(out: &mut Vec<u8>, n: u64) -> Result<(), Memory>
     ensures { OnOk result (out.new.items ≡ out.old.items ++ 32 ∷ decimal n) }
 {
-    let text = n.to_string(alloc)?;
-    push_next(out, text.as_bytes())
+    push_word(out, b" ")?;
+    push_digits(out, n)
 }
 
 /// Ends a line.
@@ -40,31 +48,22 @@ pub fn push_end(out: &mut Vec<u8>) -> Result<(), Memory>
     Ok(())
 }
 
-/// A line of two words.
-pub fn push_two(out: &mut Vec<u8>, first: &[u8], second: &[u8]) -> Result<(), Memory>
-    ensures text { OnOk result (out.new.items ≡ out.old.items ++ line_of (first.now ∷ second.now ∷ [])) }
-    ensures bytes { OnOk result (vec_len out.old < vec_len out.new) }
+/// Appends a record: page, dot, slot.
+pub fn push_rid(out: &mut Vec<u8>, rid: Rid) -> Result<(), Memory>
+    ensures { OnOk result (out.new.items ≡ out.old.items ++ rid_text rid) }
 {
-    push_word(out, first)?;
-    push_next(out, second)?;
-    push_end(out)
+    push_digits(out, u64::from(rid.page.get()))?;
+    push_word(out, b".")?;
+    push_digits(out, u64::from(rid.slot))
 }
 
-/// A record: page, dot, slot.
-pub fn rid_words(alloc: Global, rid: Rid) -> Result<String, Memory>
-    ensures { IfOk result (λ text. string_bytes text ≡ rid_text rid) }
+/// Appends a transaction by its numbers: instance, epoch and number.
+pub fn push_txn_numbers(out: &mut Vec<u8>, txn: TxnId) -> Result<(), Memory>
+    ensures { OnOk result (out.new.items ≡ out.old.items ++ txn_text txn) }
 {
-    let page = rid.page.get();
-    let slot = rid.slot;
-    Ok(format!(in alloc; "{page}.{slot}")?)
-}
-
-/// A transaction by its numbers: instance, epoch and number.
-pub fn txn_words(alloc: Global, txn: TxnId) -> Result<String, Memory>
-    ensures { IfOk result (λ text. string_bytes text ≡ txn_text txn) }
-{
-    let inst = txn.inst.get();
-    let epoch = txn.epoch;
-    let seq = txn.seq;
-    Ok(format!(in alloc; "{inst}.{epoch}.{seq}")?)
+    push_digits(out, u64::from(txn.inst.get()))?;
+    push_word(out, b".")?;
+    push_digits(out, u64::from(txn.epoch))?;
+    push_word(out, b".")?;
+    push_digits(out, u64::from(txn.seq))
 }

@@ -1,7 +1,8 @@
 use Rattle.std.proofs.Common.{◌≡◌, ◌++◌, ℕ, List, take, sym, ap, ◌∙◌}
 use Rattle.std.proofs.lemmas.List.{take_all}
+use Rattle.sd_script.specs.declared.line.Line.{Line}
 use Rattle.sdaries.specs.Names.{name_in}
-use Rattle.sdaries.specs.Report.{gathered, reported, names_of}
+use Rattle.sdaries.specs.Report.{gathered, reported}
 use Rattle.sdaries.proofs.LineOrder.{parted_none, parted_more, gathered_more}
 use Rattle.sdaries.proofs.report.render.Goals as goal
 
@@ -28,6 +29,5 @@ pub returns : goal.returns
 returns c =
     let lines = c.args.lines.now in
     let entries = c.args.entries.now in
-    let names : name_in c.in_ok-names.names ≡ names_of lines entries = λ i t. c.in_ok-names.ensures t i in
     let whole : take c.loop-line.line-index lines ≡ lines = take_all c.loop-line.line-index lines c.loop-line-test.false in
-    c.loop-line.invariant.text ∙ (λ i. gathered (reported (names i)) (whole i) entries)
+    c.loop-line.invariant.text ∙ ap (λ (l : List Line). gathered (reported (name_in c.in_ok-names.names)) l entries) whole ∙ c.in_ok-names.ensures

@@ -1,4 +1,4 @@
-use Rattle.std.proofs.Common.{◌≡◌, true, false, List, ℕ, Option, Some, None, refl, length, map, Bor, sym, ap, ◌∙◌, subst, arith}
+use Rattle.std.proofs.Common.{◌≡◌, true, false, List, ℕ, Option, Some, None, refl, length, sym, ap, ◌∙◌, subst, arith}
 use Rattle.sd_script.specs.declared.line.Form.{Form}
 use Rattle.sd_script.specs.declared.line.Line.{Line}
 use Rattle.sd_script.specs.Forms.{IsFormOf}
@@ -10,25 +10,20 @@ use Rattle.sd_script.proofs.Readings.{form_is, ordinal_known}
 use Rattle.sd_script.proofs.Remembering.{follows_from, fits_from, known_from, ordinals_from}
 use Rattle.sd_script.proofs.reader.Reader.line_of.Goals as goal
 
-abbrev now : Bor (List ℕ) → List ℕ
-now word = word.now
-
 pub returns-in_default : goal.returns-in_default
 returns-in_default c = λ line reads.
     let before = known c.self.inside.begun in
-    let words : map now c.deref.result.now ≡ words_of c.args.bytes.now = ap (map now) c.deref.ensures.value ∙ c.in_ok-words.ensures in
     let names : AreOrdinals c.args.self.now before = subst (λ (l : List Line). AreOrdinals l before) c.self.view_is c.self.invariant.names in
-    let none : IsFormOf before (map now c.deref.result.now) None = subst (λ (o : Option Form). IsFormOf before (map now c.deref.result.now) o) c.in_default.is c.in_ok-form.ensures in
-    none line.form reads.form (known_from c.args.self.now before names line.form reads.form (ordinal_known c.args.self.now line.form reads.follows)) (sym reads.words ∙ sym words)
+    let none : IsFormOf before (words_of c.args.bytes.now) None = subst (λ (o : Option Form). IsFormOf before (words_of c.args.bytes.now) o) c.in_default.is c.in_ok-form.ensures in
+    none line.form reads.form (known_from c.args.self.now before names line.form reads.form (ordinal_known c.args.self.now line.form reads.follows)) (sym reads.words)
 
 pub returns-then-not-admits : goal.returns-then-not-admits
 returns-then-not-admits c = λ line reads.
     let before = known c.self.inside.begun in
     let form = c.in-Some.form in
-    let words : map now c.deref.result.now ≡ words_of c.args.bytes.now = ap (map now) c.deref.ensures.value ∙ c.in_ok-words.ensures in
     let names : AreOrdinals c.args.self.now before = subst (λ (l : List Line). AreOrdinals l before) c.self.view_is c.self.invariant.names in
-    let read : IsFormOf before (map now c.deref.result.now) (Some form) = subst (λ (o : Option Form). IsFormOf before (map now c.deref.result.now) o) c.in-Some.is c.in_ok-form.ensures in
-    let same : line.form ≡ form = form_is c.args.self.now c.args.bytes.now c.args.end form read.0 (ordinals_from c.args.self.now before names form read.0 read.1) (read.2 ∙ words) line reads in
+    let read : IsFormOf before (words_of c.args.bytes.now) (Some form) = subst (λ (o : Option Form). IsFormOf before (words_of c.args.bytes.now) o) c.in-Some.is c.in_ok-form.ensures in
+    let same : line.form ≡ form = form_is c.args.self.now c.args.bytes.now c.args.end form read.0 (ordinals_from c.args.self.now before names form read.0 read.1) read.2 line reads in
     let admitted : false ≡ true = c.if-not-admits.ensures.1 (fits_from c.args.self.now form (subst (Follows c.args.self.now) same reads.follows)) in
     absurd (cc)
 
@@ -36,14 +31,13 @@ pub returns : goal.returns
 returns c =
     let before = known c.self.inside.begun in
     let form = c.in-Some.form in
-    let words : map now c.deref.result.now ≡ words_of c.args.bytes.now = ap (map now) c.deref.ensures.value ∙ c.in_ok-words.ensures in
     let names : AreOrdinals c.args.self.now before = subst (λ (l : List Line). AreOrdinals l before) c.self.view_is c.self.invariant.names in
-    let read : IsFormOf before (map now c.deref.result.now) (Some form) = subst (λ (o : Option Form). IsFormOf before (map now c.deref.result.now) o) c.in-Some.is c.in_ok-form.ensures in
+    let read : IsFormOf before (words_of c.args.bytes.now) (Some form) = subst (λ (o : Option Form). IsFormOf before (words_of c.args.bytes.now) o) c.in-Some.is c.in_ok-form.ensures in
     let fits : Fits c.args.self.now form = c.if-not-admits.ensures.0 refl in
     let count : length c.self.inside.lines.items ≡ length c.args.self.now = ap (λ (l : List Line). length l) c.self.view_is in
     record {
       reads = λ fresh. record {
-        words = sym (read.2 ∙ words);
+        words = sym read.2;
         form = read.0;
         follows = follows_from c.args.self.now before names form read.0 read.1 fits fresh;
         number = omega (arith, count);
@@ -52,6 +46,6 @@ returns c =
         lines_most = omega arith;
         text_most = omega arith;
       };
-      only = λ other reads. form_is c.args.self.now c.args.bytes.now c.args.end form read.0 (ordinals_from c.args.self.now before names form read.0 read.1) (read.2 ∙ words) other reads;
+      only = λ other reads. form_is c.args.self.now c.args.bytes.now c.args.end form read.0 (ordinals_from c.args.self.now before names form read.0 read.1) read.2 other reads;
       form = read.0;
     }
