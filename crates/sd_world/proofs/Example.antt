@@ -1,0 +1,234 @@
+-- An example: instance 1 reads page 5 alone and changes it, instance 2 asks for it, it is given, taken, written and evicted, or instance 1
+-- falls and the page is lost; and a refusal of each kind that the pages decide, or that the sums allow.
+use Rattle.std.proofs.Common.{◌≡◌, inl, true, false, [], ◌∷◌, None, Some, refl, ap, arith}
+use Rattle.sd_base.specs.declared.ids.TxnId.{TxnId}
+use Rattle.sd_base.specs.declared.ids.Rid.{Rid}
+use Rattle.sd_base.specs.declared.place.Mode.TheVariants as modes
+use Rattle.sd_base.specs.declared.place.Place.TheVariants as coded
+use Rattle.sd_base.specs.declared.place.Status.TheVariants as Status
+use Rattle.sd_base.specs.declared.refusal.Refusal.TheVariants as R
+use Rattle.sd_model.specs.declared.cause.Cause.{Cause}
+use Rattle.sd_model.specs.declared.event.Event.TheVariants.{Write, Read, Ask, Give, Take, Evict, Flush, Fail, CheckEnd, Insert}
+use Rattle.sd_model.specs.declared.event.Reply.TheVariants as reply
+use Rattle.sd_model.specs.State.{State, fall, fresh, started}
+use Rattle.sd_pagelock.specs.Places.{Entry}
+use Rattle.sd_world.specs.Pages.{Pages, asked, fell, held, numbered, placed}
+use Rattle.sd_world.specs.Answers.{Moves}
+use Rattle.sd_world.specs.Bounds.{Bounds, Within, bounds_after}
+use Rattle.sd_world.proofs.Causes.{answer-clear, cause-said}
+
+-- all instances are up, and transactions run
+abbrev up : State
+up = record fresh { part = λ t. started; inst = λ i. record { status = Status.Up; epoch = 1; begins = 0; failed = 0 } }
+
+abbrev one : TxnId
+one = record { inst = 1; epoch = 1; seq = 1 }
+
+abbrev two : TxnId
+two = record { inst = 2; epoch = 1; seq = 1 }
+
+abbrev r : Rid
+r = record { page = 5; slot = 0 }
+
+-- each pool has one frame
+abbrev idle : Pages
+idle = record { frames = 1; entry = λ p. Entry.Free; asks = λ p. []; number = λ p. 0; begun = λ i. false }
+
+abbrev read : Pages
+read = placed 5 (Entry.Excl 1 false) idle
+
+abbrev written_once : Pages
+written_once = numbered 5 7 (placed 5 (Entry.Excl 1 true) read)
+
+abbrev wanted : Pages
+wanted = asked 5 2 modes.Shared written_once
+
+abbrev sent : Pages
+sent = placed 5 (Entry.Moving 2 modes.Shared (1 ∷ []) true) wanted
+
+abbrev shared : Pages
+shared = placed 5 (Entry.Shared (1 ∷ 2 ∷ []) (Some 1)) sent
+
+abbrev clean : Pages
+clean = placed 5 (Entry.Shared (1 ∷ 2 ∷ []) None) shared
+
+abbrev alone : Pages
+alone = placed 5 (Entry.Shared (1 ∷ []) None) clean
+
+abbrev lost : Pages
+lost = fell 1 (λ p. 0) written_once
+
+-- ---- what is answered
+
+none_held : held idle.entry 1 1024 ≡ 0
+none_held = refl
+
+asks : Moves up idle (Ask 1 5 modes.Excl) reply.Have up read
+asks = ((tt, (tt, (λ e. absurd (cc), (λ e. absurd (cc), (λ e. absurd (omega (arith, e.1, none_held)), (tt, tt)))))), (refl, refl))
+
+changes : Moves up read (Write one r []) reply.Did up written_once
+changes = ((tt, (tt, (tt, (tt, (tt, (tt, (λ e. absurd (cc), (λ e. absurd (cc), (tt, (tt, (tt, (tt, tt)))))))))))), (7, omega arith, refl))
+
+is_asked : Moves up written_once (Ask 2 5 modes.Shared) (reply.Asked 1) up wanted
+is_asked = ((tt, (tt, (λ e. absurd (cc), (λ e. absurd (cc), (λ e. absurd (cc), (tt, tt)))))), (refl, refl, refl))
+
+gives : Moves up wanted (Give 1 5) (reply.Gave 2) up sent
+gives = ((tt, (tt, (λ e. absurd (cc), (λ e. absurd (cc), (λ e. absurd (cc), (λ e. absurd (cc), (tt, tt))))))), (modes.Shared, refl, refl))
+
+none_held_by_two : held sent.entry 2 1024 ≡ 0
+none_held_by_two = refl
+
+takes : Moves up sent (Take 2 5) reply.Did up shared
+takes = ((tt, (tt, (λ e. absurd (cc), (λ e. absurd (cc), (λ e. absurd (omega (arith, e, none_held_by_two)), tt))))), refl)
+
+-- the ask is served
+served : shared.asks 5 ≡ []
+served = refl
+
+writes : Moves up shared (Flush 1 5) reply.Did up clean
+writes = ((tt, (tt, (λ e. absurd (cc), (λ e. absurd (cc), (tt, tt))))), refl)
+
+evicts : Moves up clean (Evict 2 5) reply.Did up alone
+evicts = ((tt, (tt, (λ e. absurd (cc), (λ e. absurd (cc), (λ e. absurd (cc), tt))))), refl)
+
+falls : Moves up written_once (Fail 1) reply.Did (fall 1 up) lost
+falls = ((tt, (tt, tt)), (λ p. 0, refl))
+
+is_lost_now : lost.entry 5 ≡ Entry.Lost
+is_lost_now = refl
+
+-- ---- what is refused
+
+open_now : Status.Up ≡ Status.Closed → ⊥
+open_now e = absurd (cc)
+
+refused_lost : Moves up lost (Ask 2 5 modes.Excl) (reply.Refused R.Lost) up lost
+refused_lost = record {
+  cause = Cause.Lost;
+  names = refl;
+  first = (refl, (open_now, (λ n. n (inl refl), tt)), tt);
+  passes = (tt, (tt, tt));
+  says = λ d. refl;
+  place = tt;
+  leaves = refl;
+}
+
+-- instance 2 needs page 5, which instance 1 has alone
+refused_away : Moves up written_once (Read two r) (reply.Refused (R.NeedPage (coded.Excl 1 true))) up written_once
+refused_away = record {
+  cause = Cause.Away;
+  names = refl;
+  first = (refl, (open_now, (λ e. absurd (cc), (λ n. n refl, (λ e. absurd (cc), (λ e. e.2, (tt, tt)))))), tt);
+  passes = (tt, (tt, (tt, (tt, (tt, (λ e. absurd (cc), tt))))));
+  says = λ d. refl;
+  place = refl;
+  leaves = refl;
+}
+
+refused_moving : Moves up sent (Ask 1 5 modes.Excl) (reply.Refused (R.MovingTo 2)) up sent
+refused_moving = record {
+  cause = Cause.Moving;
+  names = refl;
+  first = (refl, (open_now, (λ n. n (inl refl), (tt, tt))), tt);
+  passes = (tt, (tt, (λ e. absurd (cc), tt)));
+  says = λ d. refl;
+  place = refl;
+  leaves = refl;
+}
+
+one_held : held read.entry 1 1024 ≡ 1
+one_held = refl
+
+refused_frame : Moves up read (Ask 1 6 modes.Excl) (reply.Refused R.PoolFull) up read
+refused_frame = record {
+  cause = Cause.Frame;
+  names = refl;
+  first = (refl, (open_now, (λ n. n (inl refl), (tt, (tt, tt)))), tt);
+  passes = (tt, (tt, (λ e. absurd (cc), (λ e. absurd (cc), tt))));
+  says = λ d. (refl, omega (arith, one_held));
+  place = tt;
+  leaves = refl;
+}
+
+refused_unasked : Moves up written_once (Give 1 5) (reply.Refused R.NotAsked) up written_once
+refused_unasked = record {
+  cause = Cause.Asks;
+  names = refl;
+  first = (refl, (open_now, (λ n. n (inl refl), (tt, (tt, (tt, tt))))), tt);
+  passes = (tt, (tt, (λ e. absurd (cc), (λ e. absurd (cc), (λ e. absurd (cc), tt)))));
+  says = λ d. refl;
+  place = tt;
+  leaves = refl;
+}
+
+refused_dirty : Moves up written_once (Evict 1 5) (reply.Refused R.Dirty) up written_once
+refused_dirty = record {
+  cause = Cause.Dirty;
+  names = refl;
+  first = (refl, (open_now, (λ n. n (inl refl), (tt, (tt, tt)))), tt);
+  passes = (tt, (tt, (λ e. absurd (cc), (λ e. absurd (cc), tt))));
+  says = λ d. refl;
+  place = tt;
+  leaves = refl;
+}
+
+refused_no_check : Moves up idle (CheckEnd 1) (reply.Refused R.NoCheck) up idle
+refused_no_check = record {
+  cause = Cause.Check;
+  names = refl;
+  first = (refl, (open_now, (λ n. n (inl refl), tt)), tt);
+  passes = (tt, (tt, tt));
+  says = λ d. refl;
+  place = tt;
+  leaves = refl;
+}
+
+-- ---- sums
+
+abbrev near_end : Bounds
+near_end = record { slots = λ p. 900 ∷ 100 ∷ []; reach = λ i. 1048000; lsns = 4611686018427387900; masters = λ i. 0 }
+
+abbrev far_from_end : Bounds
+far_from_end = record { slots = λ p. []; reach = λ i. 0; lsns = 0; masters = λ i. 0 }
+
+full_page : Within up near_end (Insert one 5 [] 100) (reply.Refused R.PageFull)
+full_page = omega arith
+
+full_log : Within up near_end (Write one r []) (reply.Refused R.LogFull)
+full_log = omega arith
+
+no_lsns : Within up near_end (Write one r []) (reply.Refused R.LsnEnd)
+no_lsns = omega arith
+
+has_room : Within up far_from_end (Write one r []) (reply.Refused R.LogFull) → ⊥
+has_room h = absurd (omega arith)
+
+-- a slot is known from its insert on
+one_slot : (bounds_after far_from_end (Insert one 5 [] 20) (reply.At r)).slots 5 ≡ 20 ∷ []
+one_slot = refl
+
+-- ---- what no call may answer
+
+never_lost : Moves up idle (Ask 2 5 modes.Excl) (reply.Refused R.Lost) up idle → ⊥
+never_lost h = absurd (let e : false ≡ true = cause-said up idle (Ask 2 5 modes.Excl) R.Lost up idle Cause.Lost h refl refl in cc)
+
+none_held_idle : held idle.entry 2 1024 ≡ 0
+none_held_idle = refl
+
+never_full : Moves up idle (Ask 2 5 modes.Excl) (reply.Refused R.PoolFull) up idle → ⊥
+never_full h = let e = cause-said up idle (Ask 2 5 modes.Excl) R.PoolFull up idle Cause.Frame h refl refl in absurd (omega (arith, e.1, none_held_idle))
+
+-- a free page is had at once
+never_asked : Moves up idle (Ask 2 5 modes.Excl) (reply.Asked 1) up (asked 5 2 modes.Excl idle) → ⊥
+never_asked h = absurd (let e : true ≡ false = h.1.0 in cc)
+
+never_elsewhere : Moves up written_once (Read two r) (reply.Refused (R.NeedPage coded.Free)) up written_once → ⊥
+never_elsewhere h = absurd (let e : Entry.Free ≡ Entry.Excl 1 true = h.place in cc)
+
+-- one that fails keeps no copy
+never_kept : Moves up written_once (Fail 1) reply.Did (fall 1 up) written_once → ⊥
+never_kept h = absurd (let e : Entry.Excl 1 true ≡ Entry.Lost = ap (λ (w : Pages). w.entry 5) h.1.1 in cc)
+
+-- a read of a page that another has alone isn't answered
+never_read : Moves up written_once (Read two r) (reply.Value None) up written_once → ⊥
+never_read h = answer-clear up written_once (Read two r) (reply.Value None) up written_once Cause.Away h tt refl refl refl

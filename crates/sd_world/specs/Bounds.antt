@@ -1,0 +1,110 @@
+-- The sums by which a full page, a full log and the end of LSNs are judged: no real number is above them.
+use Rattle.std.specs.Prelude.{◌⊎◌, ◌<◌, ◌≤◌, ℕ, zero, suc, ◌+◌, ◌*◌, ◌^◌, Bool, true, false, List, [], ◌∷◌, eqb, cond, max, sum, length}
+use Rattle.sd_base.specs.declared.ids.Rid.{Rid}
+use Rattle.sd_base.specs.declared.refusal.Refusal.{Refusal}
+use Rattle.sd_base.specs.declared.refusal.Refusal.TheVariants as R
+use Rattle.sd_model.specs.declared.event.Event.{Event}
+use Rattle.sd_model.specs.declared.event.Event.TheVariants.{Begin, Write, Add, Insert, Delete, CheckBegin, CheckEnd, Join}
+use Rattle.sd_model.specs.declared.event.Reply.{Reply}
+use Rattle.sd_model.specs.declared.event.Reply.TheVariants as reply
+use Rattle.sd_model.specs.State.{State}
+use Rattle.sd_model.specs.Fields.{inst_of}
+
+-- slots: of each page, the capacities of its slots; reach: how far each log and what it reserves go, in bytes; lsns: the greatest
+-- LSN with those of the reserved records; masters: the count of each log's master
+pub record Bounds : Type 0 where
+  pub slots : ℕ → List ℕ
+  pub reach : ℕ → ℕ
+  pub lsns : ℕ
+  pub masters : ℕ → ℕ
+
+-- a slot of this capacity: at the end, or the greater of both in the place of an old one
+abbrev pub with_slot : List ℕ → ℕ → ℕ → List ℕ
+with_slot [] slot capacity = capacity ∷ []
+with_slot (old ∷ capacities) zero capacity = max old capacity ∷ capacities
+with_slot (old ∷ capacities) (suc slot) capacity = old ∷ with_slot capacities slot capacity
+
+-- the slots of page q after an event and its reply
+abbrev pub slots_after : (ℕ → List ℕ) → Event → Reply → ℕ → List ℕ
+slots_after old (Insert t p v capacity) (reply.At r) q = cond {A = List ℕ} (eqb p q) (with_slot (old q) r.slot capacity) (old q)
+slots_after old e r q = old q
+
+-- what an event may add to its log and to what that reserves, in bytes
+abbrev pub cost : Event → ℕ
+cost (CheckEnd i) = 14000
+cost (CheckBegin i) = 900
+cost (Join i) = 900
+cost (Write t r v) = 900
+cost (Add t r by) = 900
+cost (Insert t p v n) = 900
+cost (Delete t r) = 900
+cost e = 0
+
+-- the cost of a check and of a join counts whatever the reply, that of a change where it is made
+abbrev pub counts : Event → Reply → Bool
+counts (CheckEnd i) r = true
+counts (CheckBegin i) r = true
+counts (Join i) r = true
+counts e reply.Did = true
+counts e (reply.At r) = true
+counts e r = false
+
+-- i's number is n greater
+abbrev pub increased : ℕ → ℕ → (ℕ → ℕ) → ℕ → ℕ
+increased i n old j = cond (eqb i j) n 0 + old j
+
+-- the counts of masters after an event
+abbrev pub masters_after : (ℕ → ℕ) → Event → ℕ → ℕ
+masters_after old (CheckEnd i) = increased i 1 old
+masters_after old e = old
+
+-- the bounds after an event and its reply; an event takes four LSNs at most
+abbrev pub bounds_after : Bounds → Event → Reply → Bounds
+bounds_after b e r = record {
+  slots = slots_after b.slots e r;
+  reach = increased (inst_of e) (cond (counts e r) (cost e) 0) b.reach;
+  lsns = b.lsns + 4;
+  masters = masters_after b.masters e;
+}
+
+-- a slot of this capacity, with its six bytes, doesn't fit behind the others in an image
+abbrev pub IsFull : List ℕ → ℕ → Type 0
+IsFull capacities capacity = 1024 < 16 + sum capacities + capacity + 6 * (length capacities + 1)
+
+-- the log of the event's instance may be full, with what this event adds
+abbrev pub IsLogFull : Bounds → Event → Type 0
+IsLogFull b e = 1048576 < b.reach (inst_of e) + cost e
+
+-- LSNs may be at their end, with those of this event
+abbrev pub AreLsnsOut : Bounds → Type 0
+AreLsnsOut b = 2 ^ 62 ≤ b.lsns + 4
+
+-- begins, epochs, the counts of masters or LSNs may be at their end, with those of this event
+abbrev pub IsEnd : State → Bounds → Event → Type 0
+IsEnd m b (Begin i) = 4294967295 ≤ (m.inst i).begins
+IsEnd m b (Join i) = AreLsnsOut b ⊎ (4294967295 ≤ (m.inst i).epoch + (m.inst i).failed)
+IsEnd m b (CheckEnd i) = AreLsnsOut b ⊎ (2 ^ 64 ≤ b.masters i + 2)
+IsEnd m b e = AreLsnsOut b
+
+-- where the page of an insert may be full
+abbrev pub IsPageFull : Bounds → Event → Type 0
+IsPageFull b (Insert t p v capacity) = IsFull (b.slots p) capacity
+IsPageFull b e = ⊥
+
+-- a refusal for want of room or numbers comes only where the sums allow it
+abbrev pub Allows : State → Bounds → Event → Refusal → Type 0
+Allows m b e R.PageFull = IsPageFull b e
+Allows m b e R.LogFull = IsLogFull b e
+Allows m b e R.LsnEnd = IsEnd m b e
+Allows m b e n = Unit {0}
+
+-- an insert is of a slot that its page is told of, or of the next one
+abbrev pub IsNear : Bounds → Event → Rid → Type 0
+IsNear b (Insert t p v capacity) r = r.slot ≤ length (b.slots p)
+IsNear b e r = Unit {0}
+
+-- the bounds allow the reply
+abbrev pub Within : State → Bounds → Event → Reply → Type 0
+Within m b e (reply.At r) = IsNear b e r
+Within m b e (reply.Refused n) = Allows m b e n
+Within m b e r = Unit {0}
