@@ -31,14 +31,14 @@ slot_blank at n bytes b =
     ap₂ (λ (x y : Bool). slot_of x y (number_of (body_at n at bytes)) (number_of (body_at n (at + n + 1) bytes))) (b at)
     (b (at + n + 1))
 
-body_blank : (at n : ℕ) (bytes : List ℕ) → IsBlank bytes → chosen_body at n bytes ≡ None
+pub body_blank : (at n : ℕ) (bytes : List ℕ) → IsBlank bytes → chosen_body at n bytes ≡ None
 body_blank at n bytes b =
     ap (λ (s : Slot). body_of s (body_at n at bytes) (body_at n (at + n + 1) bytes)) (slot_blank at n bytes b)
 
 not_same : (s : Slot) → s ≡ Neither → s ≢ Same
 not_same s e f = absurd (cc)
 
-master_blank : (bytes : List ℕ) → IsBlank bytes → master bytes ≡ master_of None
+pub master_blank : (bytes : List ℕ) → IsBlank bytes → master bytes ≡ master_of None
 unfolding master
 master_blank bytes b = ap master_of (body_blank 0 64 bytes b)
 

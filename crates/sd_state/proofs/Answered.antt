@@ -1,0 +1,87 @@
+-- What answers of calls give, and what is read of a complex at a place: for the calls that change a complex.
+use Rattle.std.proofs.Common.{◌≡◌, ◌≢◌, ◌⊎◌, inl, inr, ⊎_elim, ℕ, ◌-◌, ◌≤◌, Bool, true, List, [], ◌∷◌, length, get_or, set, slice_set, refl, sym, ap, ◌∙◌, arith, subst}
+use Rattle.std.specs.Prelude.{Result, Ok, Err, IfOk, OnOk}
+use Rattle.std.proofs.lemmas.Bool.{cases_eq}
+use Rattle.std.proofs.Math.ListN.{get_or-map}
+use Rattle.std.proofs.lemmas.List.{get_or_read, length-set, set-get_or}
+use Rattle.std.specs.Box.{box_value}
+use Rattle.std.specs.Global.{Box}
+use Rattle.std.specs.Prelude.{None, option_map}
+use Rattle.sd_page.specs.Page.{Page}
+use Rattle.sd_pagelock.specs.Directory.{DirectoryState, image_at}
+use Rattle.sd_log.specs.Logs.{LogState}
+use Rattle.sd_state.specs.Complexes.{unboxed}
+use Rattle.sd_state.specs.Forcing.{with_forced}
+use Rattle.sd_state.specs.Parts.{IsShape, Parts, among, is_loose, log_at, no_log, owed_at}
+use Rattle.sd_state.proofs.Items.{item-is, item-kept, item-set}
+
+pub nil-or : {A : Type 0} (xs : List A) → (xs ≡ []) ⊎ (xs ≢ [])
+nil-or [] = inl refl
+nil-or (x ∷ xs) = inr (λ e. let c = e in absurd (cc))
+
+-- an item that is written as it was
+pub same-set : {A : Type 0} (items : List A) (k : ℕ) (x y : A) → x ≡ get_or items k x → y ≡ x → slice_set items k y ≡ items
+same-set items k x y is e = ap (slice_set items k) (e ∙ is) ∙ set-get_or items k x
+
+-- the log that is lent at its place
+pub log-lent : (c : Parts) (i at : ℕ) (log : LogState) → 1 ≤ i → i ≤ 8 → length c.logs ≡ 8 → at ≡ i - 1 → log ≡ get_or c.logs at log
+    → log_at c i ≡ log
+log-lent c i at log low high eight place is = item-is no_log c.logs i log low high eight (is ∙ ap (λ (n : ℕ). get_or c.logs n log) place)
+
+-- the mark that is read of a device
+pub mark-read : (c : Parts) (d at : ℕ) (b value : Bool) → d ≤ 8 → length c.loose ≡ 9 → at ≡ d → b ≡ get_or c.loose at b → value ≡ b
+    → is_loose c d ≡ value
+mark-read c d at b value high nine place is e =
+    sym (get_or_read c.loose d b (omega (arith, high, nine)) (is ∙ ap (λ (n : ℕ). get_or c.loose n b) place) true) ∙ sym e
+
+-- the shape stays where a log of the same instance is written
+pub shape-log : (c : Parts) (i : ℕ) (x : LogState) → 1 ≤ i → i ≤ 8 → x.inst ≡ i → IsShape c
+    → IsShape (record c { logs = slice_set c.logs (i - 1) x })
+shape-log c i x low high inst s = record {
+  logs = length-set c.logs (i - 1) x ∙ s.logs;
+  pools = s.pools;
+  txns = s.txns;
+  statuses = s.statuses;
+  epochs = s.epochs;
+  masters = s.masters;
+  checks = s.checks;
+  others = s.others;
+  owed = s.owed;
+  loose = s.loose;
+  own_log = λ j lo hi. ⊎_elim
+      (λ e. subst (λ (k : ℕ). (log_at (record c { logs = slice_set c.logs (i - 1) x }) k).inst ≡ k) (sym e)
+      (ap (λ (l : LogState). l.inst) (item-set no_log c.logs i x low high s.logs) ∙ inst))
+      (λ ne. ap (λ (l : LogState). l.inst) (item-kept no_log c.logs i x low j ne) ∙ s.own_log j lo hi)
+      (cases_eq j i);
+  own_txns = s.own_txns;
+}
+
+-- the parts once log i and what it owes are written at a place
+pub forced-parts : (c : Parts) (i at : ℕ) (x y : LogState) (owes : ℕ) → 1 ≤ i → i ≤ 8 → length c.owed ≡ 8 → at ≡ i - 1 → x ≡ y
+    → record c { logs = slice_set c.logs at x; owed = slice_set c.owed at owes }
+    ≡ with_forced i y (owed_at (record c { logs = slice_set c.logs at x; owed = slice_set c.owed at owes }) i) c
+forced-parts c i at x y owes low high eight place same =
+    ap (λ (n : ℕ). record c { logs = slice_set c.logs n x; owed = slice_set c.owed n owes }) place
+    ∙ ap (λ (l : LogState). with_forced i l owes c) same
+    ∙ ap (λ (w : ℕ). with_forced i y w c)
+    (sym (ap (λ (n : ℕ). among 0 (slice_set c.owed n owes) i) place ∙ item-set 0 c.owed i owes low high eight))
+
+-- an answer that is Ok has what comes with Ok
+pub on-ok : {A B : Type 0} (r : Result A B) (x : A) (P : Type 0) → r ≡ Ok x → P → OnOk r P
+on-ok {A = A} {B = B} r x P is h = subst (λ (s : Result A B). OnOk s P) (sym is) h
+
+abbrev bad : {A B : Type 0} → B → Result A B
+bad y = Err y
+
+-- an error isn't Ok
+pub not-ok : {A B : Type 0} (x : A) (y : B) → bad y ≡ Ok x → ⊥
+not-ok x y e = absurd (cc)
+
+-- no image on its way, none in a box
+pub none-unboxed : (d : DirectoryState (Box Page)) (p : ℕ) → image_at d p ≡ None → image_at (unboxed d) p ≡ None
+none-unboxed d p none = get_or-map (option_map box_value) d.images p None ∙ ap (option_map box_value) none
+
+pub still-unboxed : {E : Type 0} (r : Result (DirectoryState (Box Page)) E) → IfOk r (λ d. (p : ℕ) → image_at d p ≡ None)
+    → IfOk r (λ d. (p : ℕ) → image_at (unboxed d) p ≡ None)
+still-unboxed (Ok d) still = λ p. none-unboxed d p (still p)
+still-unboxed (Err e) still = tt

@@ -1,0 +1,332 @@
+-- A complex to one of whose logs a record without a page came, as a whole: for the laws of `sealing`.
+use Rattle.std.proofs.Common.{◌≡◌, ◌≢◌, ◌⊎◌, inl, inr, ℕ, ◌-◌, ◌≤◌, true, false, cond, List, [], ◌∷◌, ◌++◌, refl, sym, ap, ap₂}
+use Rattle.std.proofs.Common.{◌∙◌, subst, arith, ⊎_elim}
+use Rattle.std.specs.Prelude.{Option, None, Some, IfSome, map, if◌then◌else◌, ◌==◌}
+use Rattle.std.specs.Option.{option_map_or}
+use Rattle.std.specs.List.{list_any}
+use Rattle.std.specs.Map.{lookup}
+use Rattle.std.specs.Str.{bytes_eq}
+use Rattle.std.proofs.lemmas.Bool.{cases_eq}
+use Rattle.std.proofs.lemmas.List.{length-set}
+use mathlib.Core.Path.{fun_ext}
+use Rattle.sd_base.specs.declared.ids.TxnId.{TxnId}
+use Rattle.sd_logrec.specs.Kept.{Whole, area, master, reading}
+use Rattle.sd_logrec.specs.View.{Rec, flat}
+use Rattle.sd_logrec.specs.declared.record.Record.{Record}
+use Rattle.sd_log.specs.Logs.{LogState, StandsOn, forced, with_record}
+use Rattle.sd_model.specs.State.{Part, State}
+use Rattle.sd_model.specs.declared.act.Life.{Life}
+use Rattle.sd_rig.specs.Devices as rig
+use Rattle.sd_txn.specs.declared.state.TxnState.{TxnState}
+use Rattle.sd_txn.specs.Owing.{owed_of, reserve_of}
+use Rattle.sd_txn.specs.Transactions.{Transaction, Transactions, begins_in, txn_at}
+use Rattle.sd_chain.specs.Checks.{owed, reserve}
+use Rattle.sd_chain.specs.Fates.{Fate, commits, fate, is_commit}
+use Rattle.sd_chain.specs.Images.{Gives, Keeps}
+use Rattle.sd_chain.specs.Order.{MayFollow, speaks}
+use Rattle.sd_chain.specs.Records.{changes, home, stack}
+use Rattle.sd_chain.proofs.Fates.{committed-fate, fate-committed}
+use Rattle.sd_sound.specs.Appends.{Appends}
+use Rattle.sd_sound.specs.Logs.{Outcomes, all_at, base_at, kept_logs, may_of, past_at, tails_of}
+use Rattle.sd_sound.specs.Soundly.{IsSoundly}
+use Rattle.sd_sound.proofs.Appends.{appended-log}
+use Rattle.sd_state.specs.Good.{Good, Half, IsInstance, IsKnownLsn, IsSettledAt, IsTold, IsUnderWay, reaches}
+use Rattle.sd_state.specs.Images.{IsEpochOf, begun_at, leaves_by, log_by}
+use Rattle.sd_state.specs.Parts.{Parts, is_loose, log_at, no_log, no_txns, other_at, status_at, txns_at}
+use Rattle.sd_state.specs.Sealing.{AreAlike, MaySeal, RowsAlike, with_last}
+use Rattle.sd_state.specs.Tables.{IsInDoubt, NamesLife, RowIsLive, RowIsLogged, StandsAs, tells_log}
+use Rattle.sd_state.specs.Values.{Pending, put_of, values}
+use Rattle.sd_state.proofs.Items.{item-kept, item-set}
+use Rattle.sd_state.proofs.Sealed.{commits-same, half-sealed, stack-same}
+use Rattle.sd_state.proofs.Standing.{no-place, one-place}
+
+-- who stands so in a table stands so by other records, if they don't commit one in doubt
+stands-sealed : (s : TxnState) (life : Life) (f w w' : Fate) → (IsInDoubt life → w ≢ Fate.Committed → w' ≢ Fate.Committed)
+    → StandsAs s life f w → StandsAs s life f w'
+stands-sealed TxnState.Running life f w w' keep h = h
+stands-sealed (TxnState.Rolling to) life f w w' keep h = h
+stands-sealed TxnState.Retained life f w w' keep h = ⊎_elim (λ r. inl r) (λ d. inr (d.0, d.1, keep d.0 d.2)) h
+stands-sealed TxnState.Doubt life f w w' keep h = h
+stands-sealed TxnState.Committed life f w w' keep h = h
+
+names-sealed : (x : Option Transaction) (life : Life) (f w w' : Fate)
+    → (IsInDoubt life → w ≢ Fate.Committed → w' ≢ Fate.Committed)
+    → NamesLife x life f w → NamesLife x life f w'
+names-sealed None life f w w' keep h = h
+names-sealed (Some x) life f w w' keep h = stands-sealed x.state life f w w' keep h
+
+-- what is alike is named alike, and has the same marks
+names-alike : (x y : Option Transaction) (life : Life) (f w : Fate) → RowsAlike x y → NamesLife x life f w → NamesLife y life f w
+names-alike None y life f w alike h = subst (λ (z : Option Transaction). NamesLife z life f w) (sym alike) h
+names-alike (Some x) None life f w alike h = absurd alike
+names-alike (Some x) (Some y) life f w alike h = subst (λ (s : TxnState). StandsAs s life f w) (sym alike.0) h
+
+live-alike : (x y : Option Transaction) (t : TxnId) (p : Part) (log : List Rec) → RowsAlike x y → RowIsLive x t p log
+    → RowIsLive y t p log
+live-alike None y t p log alike h = subst (λ (z : Option Transaction). RowIsLive z t p log) (sym alike) h
+live-alike (Some x) None t p log alike h = absurd alike
+live-alike (Some x) (Some y) t p log alike h = record {
+  puts = h.puts;
+  marks = λ name. ap (λ (marks : List (List ℕ × ℕ)). lookup (bytes_eq name) marks) alike.1 ∙ h.marks name;
+}
+
+pub rows-same : (x : Option Transaction) → RowsAlike x x
+rows-same None = refl
+rows-same (Some x) = (refl, refl)
+
+pub alike-same : (table : Transactions) → AreAlike table table
+alike-same table = record { inst = refl; epoch = refl; begins = refl; rows = λ t. rows-same (txn_at table t) }
+
+-- who is at work has what its log has open, and no more
+live-sealed : (x : Option Transaction) (t : TxnId) (p : Part) (was is : List Rec) → stack t is ≡ stack t was → RowIsLive x t p was
+    → RowIsLive x t p is
+live-sealed None t p was is same h = h
+live-sealed (Some x) t p was is same h = record {
+  puts = h.puts ∙ ap (λ (l : List Rec). map put_of l) (sym same);
+  marks = h.marks;
+}
+
+module _ (i spare : ℕ) (y : Record) (table : Transactions) (seen : rig.Image) (leaves : Outcomes) (pend pend' : Pending)
+    (c : Parts)
+    (m : State) (g : Good seen leaves pend c m) (reads : leaves 0 (seen 0)) (may : MaySeal i y c)
+    (no_page : changes (flat y).kind ≡ false)
+    (alike : AreAlike (txns_at c i) table) where
+  abbrev new : Parts
+  new = with_last i y spare table c
+
+  at-i : IsSettledAt seen leaves c i
+  at-i = g.settled i may.low may.high may.settled
+
+  pub log-here : log_at new i ≡ with_record y spare (log_at c i)
+  log-here = item-set no_log c.logs i (with_record y spare (log_at c i)) may.low may.high g.shape.logs
+
+  pub log-else : (j : ℕ) → j ≢ i → log_at new j ≡ log_at c j
+  log-else = item-kept no_log c.logs i (with_record y spare (log_at c i)) may.low
+
+  txns-here : txns_at new i ≡ table
+  txns-here = item-set no_txns c.txns i table may.low may.high g.shape.txns
+
+  txns-else : (j : ℕ) → j ≢ i → txns_at new j ≡ txns_at c j
+  txns-else = item-kept no_txns c.txns i table may.low
+
+  alike-there : (j : ℕ) → AreAlike (txns_at c j) (txns_at new j)
+  alike-there j = ⊎_elim
+      (λ is. subst (λ (k : ℕ). AreAlike (txns_at c k) (txns_at new k)) (sym is)
+      (subst (AreAlike (txns_at c i)) (sym txns-here) alike))
+      (λ ne. subst (AreAlike (txns_at c j)) (sym (txns-else j ne)) (alike-same (txns_at c j)))
+      (cases_eq j i)
+
+  -- what the record leaves of each log
+  same-there : {A : Type 0} (part : LogState → A) → part (with_record y spare (log_at c i)) ≡ part (log_at c i) → (j : ℕ)
+      → part (log_at new j) ≡ part (log_at c j)
+  same-there part e j = ⊎_elim
+      (λ is. subst (λ (k : ℕ). part (log_at new k) ≡ part (log_at c k)) (sym is) (ap part log-here ∙ e))
+      (λ ne. ap part (log-else j ne))
+      (cases_eq j i)
+
+  base-same : (j : ℕ) → base_at (log_at new j) ≡ base_at (log_at c j)
+  base-same = same-there base_at refl
+
+  start-same : (j : ℕ) → (log_at new j).start ≡ (log_at c j).start
+  start-same = same-there (λ (l : LogState). l.start) refl
+
+  pub all-here : all_at (log_at new i) ≡ all_at (log_at c i) ++ flat y ∷ []
+  all-here = ap all_at log-here ∙ appended-log (log_at c i) y spare
+
+  -- ---- wherever logs begin
+
+  module _ (moved : Keeps) where
+    pub one : log_by c moved i ≡ log_at c i
+    one = one-place c moved i at-i.one_place
+
+    by-else : (j : ℕ) → j ≢ i → log_by new moved j ≡ log_by c moved j
+    by-else j ne = ap (λ (l : LogState). cond (moved j) (option_map_or (λ place. begun_at place l) (other_at c j) l) l)
+        (log-else j ne)
+
+    pub appends : Appends i y (leaves_by c moved leaves) (log_by c moved) (log_by new moved)
+    appends = record {
+      spare = spare;
+      log = record {
+        low = may.low;
+        high = may.high;
+        here = one-place new moved i at-i.one_place ∙ log-here ∙ ap (with_record y spare) (sym one);
+        others = by-else;
+      };
+      settled = λ bytes l. subst (λ (log : LogState). StandsOn log bytes) (sym one)
+          (subst (StandsOn (log_at c i)) (sym ((at-i.only bytes).0 l.0)) at-i.stands);
+      could = (seen i, ((at-i.only (seen i)).1 refl, no-place (other_at c i) _ at-i.one_place));
+    }
+
+    pub reads-by : leaves_by c moved leaves 0 (seen 0)
+    reads-by = (reads, tt)
+
+    pub follows-by : speaks (flat y).kind ≡ true → MayFollow (all_at (log_by c moved i)) (flat y)
+    follows-by s = subst (λ (l : LogState). MayFollow (all_at l) (flat y)) (sym one) (may.follows s)
+
+    -- the epoch that log i is in with its tail
+    pub epoch-was : (bytes : List ℕ) → leaves i bytes → IsEpochOf m pend i (past_at (master bytes) (forced (log_at c i))).epoch
+    epoch-was bytes left = subst (λ (l : LogState). IsEpochOf m pend i (past_at (master bytes) (forced l)).epoch) one
+        ((g.half moved).epochs i may.low may.high bytes (left, no-place (other_at c i) _ at-i.one_place)).1
+
+    pub half-more : IsSoundly (leaves_by c moved leaves) (log_by new moved)
+        → Gives (tails_of (log_by new moved)) (may_of (leaves_by c moved leaves))
+        (λ keeps. values m pend' (kept_logs (tails_of (log_by new moved)) keeps))
+        → ((j epoch : ℕ) → IsEpochOf m pend j epoch → IsEpochOf m pend' j epoch)
+        → ((bytes : List ℕ) → leaves i bytes
+        → IsEpochOf m pend' i (past_at (master bytes) (forced (with_record y spare (log_at c i)))).epoch)
+        → Half seen (leaves_by new moved leaves) (log_by new moved) pend' new m
+    unfolding appends
+    half-more soundly gives later started =
+        subst (λ (starts : ℕ → ℕ). Half seen
+        (λ d bytes. leaves d bytes × IfSome (other_at c d) (λ place. (master bytes).start ≡ cond (moved d) place (starts d)))
+        (log_by new moved) pend' new m)
+        (sym (fun_ext start-same))
+        (half-sealed i y seen (leaves_by c moved leaves) (log_by c moved) (log_by new moved) pend pend' c
+        (with_record y spare (log_at c i)) table m
+        (g.half moved) appends reads-by no_page may.own follows-by
+        (let lsn = may.lsn in omega (arith, lsn)) may.above soundly gives later
+        (λ bytes left. subst (λ (l : LogState). IsEpochOf m pend' i
+        (past_at (master bytes) (forced (with_record y spare l))).epoch) (sym one)
+        (started bytes left.0)))
+
+  -- ---- devices
+
+  settled-there : (j : ℕ) → 1 ≤ j → j ≤ 8 → is_loose c j ≡ false → IsSettledAt seen leaves new j
+  settled-there j lo hi e = let s = g.settled j lo hi e in record {
+    only = s.only;
+    stands = ap (λ (start : ℕ). reading start (area (seen j))) (start-same j) ∙ s.stands
+        ∙ sym (ap₂ Whole (same-there (λ (l : LogState). l.groups) refl j) (same-there (λ (l : LogState). l.gate) refl j));
+    one_place = s.one_place;
+    counted = s.counted;
+  }
+
+  known-there : (lsn : ℕ) → IsKnownLsn c lsn → IsKnownLsn new lsn
+  known-there lsn = ⊎_elim (λ low. inl low)
+      (λ r. inr (r.0, r.1, r.2, ap (list_any (reaches lsn)) (base-same r.0) ∙ r.3))
+
+  -- ---- instances
+
+  instance-there : ((t : TxnId) → home t ≡ i → IsInDoubt (m.part t).life → fate t (all_at (log_at c i)) ≢ Fate.Committed
+      → fate t (all_at (log_at new i)) ≢ Fate.Committed)
+      → (k : ℕ) → 1 ≤ k → k ≤ 8 → IsInstance new m k
+  instance-there doubts k lo hi = let old = g.instances k lo hi in record {
+    status = old.status;
+    epoch = old.epoch;
+    begins = λ up. begins-same (alike-there k) ∙ old.begins up;
+    names = λ t own. names-alike (txn_at (txns_at c k) t) (txn_at (txns_at new k) t) (m.part t).life
+        (fate t (base_at (log_at new k)))
+        (fate t (all_at (log_at new k))) ((alike-there k).rows t)
+        (subst (λ (base : List Rec). NamesLife (txn_at (txns_at c k) t) (m.part t).life (fate t base)
+        (fate t (all_at (log_at new k)))) (sym (base-same k))
+        (⊎_elim
+        (λ same. names-sealed (txn_at (txns_at c k) t) (m.part t).life (fate t (base_at (log_at c k)))
+        (fate t (all_at (log_at c k))) (fate t (all_at (log_at new k)))
+        (subst (λ (j : ℕ). IsInDoubt (m.part t).life → fate t (all_at (log_at c j)) ≢ Fate.Committed
+        → fate t (all_at (log_at new j)) ≢ Fate.Committed) (sym same)
+        (doubts t (own ∙ same)))
+        (old.names t own))
+        (λ ne. subst (λ (l : LogState). NamesLife (txn_at (txns_at c k) t) (m.part t).life (fate t (base_at (log_at c k)))
+        (fate t (all_at l))) (sym (log-else k ne)) (old.names t own))
+        (cases_eq k i)));
+  }
+    where
+      begins-same : AreAlike (txns_at c k) (txns_at new k)
+          → begins_in (txns_at new k) (m.inst k).epoch ≡ begins_in (txns_at c k) (m.inst k).epoch
+      begins-same a = ap₂ (λ (epoch begins : ℕ). if epoch == (m.inst k).epoch then begins else 0) a.epoch a.begins
+
+  told-there : IsTold new m i → (k : ℕ) → 1 ≤ k → k ≤ 8 → tells_log (status_at c k) ≡ true → is_loose c k ≡ false → IsTold new m k
+  told-there here k lo hi tells e = ⊎_elim
+      (λ same. subst (IsTold new m) (sym same) here)
+      (λ ne.
+      let old = g.told k lo hi tells e in
+      let l : log_at c k ≡ log_at new k = sym (log-else k ne) in
+      let r : txns_at c k ≡ txns_at new k = sym (txns-else k ne) in
+      record {
+        rows = λ t own. subst (λ (rows : Transactions). RowIsLogged (txn_at rows t) t (all_at (log_at new k))) r
+            (subst (λ (log : LogState). RowIsLogged (txn_at (txns_at c k) t) t (all_at log)) l (old.rows t own));
+        owes = ap owed_of (sym r) ∙ old.owes ∙ ap (λ (log : LogState). owed (all_at log)) l;
+        reserves = ap reserve_of (sym r) ∙ old.reserves ∙ ap (λ (log : LogState). reserve (all_at log)) l;
+        spare = subst (λ (log : LogState). reserve (all_at log) ≤ log.spare) l old.spare;
+      })
+      (cases_eq k i)
+
+  rests-there : (k : ℕ) → tells_log (status_at c k) ≡ false → (log_at c k).tail ≡ [] → (log_at new k).tail ≡ []
+  rests-there k rests none = ⊎_elim
+      (λ same. let tells = may.tells in
+      let clash : true ≡ false = sym tells ∙ ap (λ (j : ℕ). tells_log (status_at c j)) (sym same) ∙ rests in absurd (cc))
+      (λ ne. ap (λ (l : LogState). l.tail) (log-else k ne) ∙ none)
+      (cases_eq k i)
+
+  stack-there : (t : TxnId) (k : ℕ) → stack t (all_at (log_at new k)) ≡ stack t (all_at (log_at c k))
+  stack-there t k = ⊎_elim
+      (λ same. subst (λ (j : ℕ). stack t (all_at (log_at new j)) ≡ stack t (all_at (log_at c j))) (sym same)
+      (ap (stack t) all-here ∙ stack-same t (all_at (log_at c i)) (flat y) no_page))
+      (λ ne. ap (λ (l : LogState). stack t (all_at l)) (log-else k ne))
+      (cases_eq k i)
+
+  -- what is under way still is, where the record commits nobody
+  pub pending-there : is_commit (flat y).kind ≡ false → (q : Pending) → IsUnderWay c m q → IsUnderWay new m q
+  pending-there none Pending.Idle u = u
+  pending-there none (Pending.Commits t) u = record {
+    runs = u.runs;
+    up = u.up;
+    committed = ⊎_elim
+        (λ e. subst (λ (j : ℕ). list_any (commits t) (all_at (log_at new j)) ≡ true) (sym e)
+        (ap (list_any (commits t)) all-here ∙ commits-same t (all_at (log_at c i)) (flat y) none
+        ∙ subst (λ (j : ℕ). list_any (commits t) (all_at (log_at c j)) ≡ true) e u.committed))
+        (λ ne. ap (λ (l : LogState). list_any (commits t) (all_at l)) (log-else (home t) ne) ∙ u.committed)
+        (cases_eq (home t) i);
+  }
+  pending-there none (Pending.Starts k) u = u
+
+  -- nor does it commit one in doubt
+  pub doubts-stay : is_commit (flat y).kind ≡ false → (t : TxnId) → fate t (all_at (log_at c i)) ≢ Fate.Committed
+      → fate t (all_at (log_at new i)) ≢ Fate.Committed
+  doubts-stay none t off is = off (committed-fate t (all_at (log_at c i))
+      (sym (commits-same t (all_at (log_at c i)) (flat y) none) ∙ ap (list_any (commits t)) (sym all-here)
+      ∙ fate-committed t (all_at (log_at new i)) is))
+
+  pub sealed-good : ((moved : Keeps) → Half seen (leaves_by new moved leaves) (log_by new moved) pend' new m)
+      → ((t : TxnId) → home t ≡ i → IsInDoubt (m.part t).life → fate t (all_at (log_at c i)) ≢ Fate.Committed
+      → fate t (all_at (log_at new i)) ≢ Fate.Committed)
+      → IsTold new m i → IsUnderWay new m pend' → Good seen leaves pend' new m
+  sealed-good half doubts told pending = record {
+    shape = record {
+      logs = length-set c.logs (i - 1) (with_record y spare (log_at c i)) ∙ g.shape.logs;
+      pools = g.shape.pools;
+      txns = length-set c.txns (i - 1) table ∙ g.shape.txns;
+      statuses = g.shape.statuses;
+      epochs = g.shape.epochs;
+      masters = g.shape.masters;
+      checks = g.shape.checks;
+      others = g.shape.others;
+      owed = g.shape.owed;
+      loose = g.shape.loose;
+      own_log = λ j lo hi. same-there (λ (l : LogState). l.inst) refl j ∙ g.shape.own_log j lo hi;
+      own_txns = λ j lo hi. (alike-there j).inst ∙ g.shape.own_txns j lo hi;
+    };
+    half = half;
+    places = λ j place other bytes left. subst (λ (start : ℕ). ((master bytes).start ≡ place) ⊎ ((master bytes).start ≡ start))
+        (sym (start-same j)) (g.places j place other bytes left);
+    settled = settled-there;
+    disk_settled = g.disk_settled;
+    disk_lsns = λ p x left. known-there x.lsn (g.disk_lsns p x left);
+    owed = λ j lo hi. g.owed j lo hi ∙ ap owed (sym (base-same j));
+    kept = g.kept;
+    placed = g.placed;
+    listed = g.listed;
+    marked = g.marked;
+    recoverers = g.recoverers;
+    not_closed = g.not_closed;
+    instances = instance-there doubts;
+    told = told-there told;
+    at_rest = λ k lo hi rests e. rests-there k rests (g.at_rest k lo hi rests e);
+    at_work = λ k lo hi up t own. live-alike (txn_at (txns_at c k) t) (txn_at (txns_at new k) t) t (m.part t)
+        (all_at (log_at new k)) ((alike-there k).rows t)
+        (live-sealed (txn_at (txns_at c k) t) t (m.part t) (all_at (log_at c k)) (all_at (log_at new k)) (stack-there t k)
+        (g.at_work k lo hi up t own));
+    pending = pending;
+    locks = g.locks;
+    asks = g.asks;
+    checking = g.checking;
+  }

@@ -1,0 +1,46 @@
+-- A log that is forced, and one whose force failed.
+use Rattle.std.specs.Prelude.{◌≡◌, ◌≢◌, ℕ, ◌-◌, ◌^◌, ◌≤◌, min, Bool, true, false, List, Option, Some, None, slice_set}
+use Rattle.sd_log.specs.Logs.{LogState, StandsOn, forced}
+use Rattle.sd_log.specs.Forces.{StandsEither, forced_at, forced_len}
+use Rattle.sd_rig.specs.Devices as rig
+use Rattle.sd_rig.specs.Devices.{AgreesOutside, LeavesOnly, LeavesSame}
+use Rattle.sd_sound.specs.Logs.{Outcomes}
+use Rattle.sd_base.specs.declared.place.Status.{Status}
+use Rattle.sd_base.specs.declared.place.Status.TheVariants as S
+use Rattle.sd_txn.specs.Owing.{owed_of}
+use Rattle.sd_state.specs.Parts.{Parts, owed_at, status_at, txns_at}
+
+-- log i is this one, and owes so many records as it is forced
+abbrev pub with_forced : ℕ → LogState → ℕ → Parts → Parts
+with_forced i log owes c = record c { logs = slice_set c.logs (i - 1) log; owed = slice_set c.owed (i - 1) owes }
+
+-- what log i owes once all of it is forced: what its table says, where that tells of the log, or what it owed
+abbrev pub owed_as : Status → ℕ → ℕ → ℕ
+owed_as S.Up told was = told
+owed_as S.Down told was = was
+owed_as (S.Recovering by) told was = told
+owed_as S.Clean told was = told
+owed_as S.Restarting told was = told
+owed_as S.Closed told was = was
+
+abbrev pub owed_by : Parts → ℕ → ℕ
+owed_by c i = owed_as (status_at c i) (min (owed_of (txns_at c i)) (2 ^ 64 - 1)) (owed_at c i)
+
+-- log i isn't settled, and instance a is to fall by it
+abbrev pub with_failed : ℕ → ℕ → Parts → Parts
+with_failed a i c = record c { loose = slice_set c.loose i true; due = Some (a, i) }
+
+-- The log's tail stands on device i with its groups, and a crash leaves it there; all else of the devices is as before.
+pub record IsForced (i : ℕ) (log : LogState) (seen seen' : rig.Image) (leaves leaves' : Outcomes) : Type 0 where
+  pub outside : AgreesOutside (forced_at log) (forced_len log) (seen i) (seen' i)
+  pub stands : StandsOn (forced log) (seen' i)
+  pub durable : LeavesOnly (seen' i) (leaves' i)
+  pub others : (d : ℕ) → d ≢ i → seen' d ≡ seen d
+  pub others_leave : (d : ℕ) → d ≢ i → LeavesSame (leaves d) (leaves' d)
+
+-- The log stands on device i with its tail or without it, however it is left; all else of the devices is as before.
+pub record IsHalfForced (i : ℕ) (log : LogState) (seen seen' : rig.Image) (leaves leaves' : Outcomes) : Type 0 where
+  pub outside : (bytes : List ℕ) → leaves' i bytes → AgreesOutside (forced_at log) (forced_len log) (seen i) bytes
+  pub either : (bytes : List ℕ) → leaves' i bytes → StandsEither log bytes
+  pub others : (d : ℕ) → d ≢ i → seen' d ≡ seen d
+  pub others_leave : (d : ℕ) → d ≢ i → LeavesSame (leaves d) (leaves' d)

@@ -1,0 +1,165 @@
+-- What holds of a complex between any two calls, with the state of the serial table: the invariant.
+use Rattle.std.specs.Prelude.{◌≡◌, ◌≢◌, ◌⊎◌, ℕ, ◌≤◌, ◌<◌, Bool, true, false, List, [], ◌∷◌, Option, None, Some, IfSome, IsTrue, cond, leb}
+use Rattle.std.specs.List.{list_any}
+use Rattle.sd_base.specs.Twin.{chosen_body, number_of}
+use Rattle.sd_base.specs.declared.ids.TxnId.{TxnId}
+use Rattle.sd_base.specs.declared.ids.Rid.{Rid}
+use Rattle.sd_base.specs.declared.place.Status.{Status}
+use Rattle.sd_base.specs.declared.place.Status.TheVariants as S
+use Rattle.sd_page.specs.Page.{Page}
+use Rattle.sd_logrec.specs.Kept.{master}
+use Rattle.sd_logrec.specs.View.{Rec}
+use Rattle.sd_log.specs.Logs.{StandsOn, forced}
+use Rattle.sd_model.specs.Kept.{Kept}
+use Rattle.sd_model.specs.Listed.{Listed}
+use Rattle.sd_model.specs.Marks.{Marked}
+use Rattle.sd_model.specs.Placed.{Placed}
+use Rattle.sd_model.specs.Recoverers.{Recoverers}
+use Rattle.sd_model.specs.State.{State}
+use Rattle.sd_model.specs.declared.act.Life.{Life}
+use Rattle.sd_pagelock.specs.Asks.{is_open}
+use Rattle.sd_pagelock.specs.Directory as directory
+use Rattle.sd_pagelock.specs.Directory.{asks_at, entry_at, rec_lsn_at}
+use Rattle.sd_pool.specs.Buffers as buffers
+use Rattle.sd_reclock.specs.Locks.{held}
+use Rattle.sd_rig.specs.Devices as rig
+use Rattle.sd_rig.specs.Devices.{LeavesOnly}
+use Rattle.sd_txn.specs.Owing.{owed_of, reserve_of}
+use Rattle.sd_txn.specs.Transactions.{begins_in, txn_at}
+use Rattle.sd_chain.specs.Bytes.{disk_page}
+use Rattle.sd_chain.specs.Checks.{owed, reserve}
+use Rattle.sd_chain.specs.Fates.{fate}
+use Rattle.sd_chain.specs.Images.{Gives, Keeps, Tails}
+use Rattle.sd_chain.specs.Records.{Each, IsOpen, home}
+use Rattle.sd_coherent.specs.Checkpoints.{Closed, Covered}
+use Rattle.sd_coherent.specs.Coherent.{Coherent}
+use Rattle.sd_coherent.specs.Named.{version_of}
+use Rattle.sd_coherent.specs.World.{Base, Dir}
+use Rattle.sd_sound.specs.Logs.{HasRecord, Logs, Outcomes, all_at, base_at, kept_logs, may_of, past_at, tail_at, tails_of}
+use Rattle.sd_sound.specs.Soundly.{IsSoundly}
+use Rattle.sd_state.specs.Images.{IsClaimed, IsEpochOf, IsOpenIn, Stands, leaves_by, log_by}
+use Rattle.sd_state.specs.Parts.{Begun, IsShape, Parts, check_at, count_at, epoch_at, is_active, is_loose, is_up, log_at, other_at, owed_at, pool_at, status_at, txns_at}
+use Rattle.sd_state.specs.Tables.{NamesLife, RowIsLive, RowIsLogged, lock_of, tells_log}
+use Rattle.sd_state.specs.Values.{Pending, is_committed, values}
+
+-- ---- the complex as coherence sees it
+
+abbrev pub base_of : rig.Image → (leaves : Outcomes) → Logs → Parts → Base (may_of leaves)
+base_of seen leaves logs c = record {
+  tails = tails_of logs;
+  version = version_of (tails_of logs) (disk_page (seen 0));
+  disk = disk_page (seen 0);
+  rec_lsn = rec_lsn_at c.directory;
+  loose = is_loose c;
+  loose_disk = is_loose c 0;
+  active = is_active c;
+  up = is_up c;
+  due = c.due;
+}
+
+abbrev pub dir_of : Parts → Dir
+dir_of c = record {
+  entry = entry_at c.directory;
+  pool = λ i p. buffers.image_at (pool_at c i) p;
+  moving = directory.image_at c.directory;
+}
+
+-- ---- what a crash may leave
+
+-- What may be left, with the logs beginning so: it is coherent and sound, recovery gives the table, what it leaves open is
+-- claimed, each log is in an epoch of its instance, and begun checkpoints have what they need.
+pub record Half (seen : rig.Image) (leaves : Outcomes) (logs : Logs) (pend : Pending) (c : Parts) (m : State) : Type 0 where
+  pub coherent : Coherent (base_of seen leaves logs c) (dir_of c)
+  pub soundly : IsSoundly leaves logs
+  pub gives : Gives (tails_of logs) (may_of leaves) (λ keeps. values m pend (kept_logs (tails_of logs) keeps))
+  pub claimed : (keeps : Keeps) (t : TxnId) → IsOpenIn t (kept_logs (tails_of logs) keeps (home t))
+      → IsClaimed m t (kept_logs (tails_of logs) keeps (home t))
+  pub epochs : (j : ℕ) → 1 ≤ j → j ≤ 8 → (bytes : List ℕ) → leaves j bytes
+      → IsEpochOf m pend j (past_at (master bytes) (logs j)).epoch × IsEpochOf m pend j (past_at (master bytes) (forced (logs j))).epoch
+  pub checks : (i : ℕ) (k : Begun) → check_at c i ≡ Some k
+      → Covered k.low i (base_of seen leaves logs c) × Closed k.low i (tails_of logs)
+
+-- ---- devices in memory
+
+-- A settled device: a crash leaves what it reads, and on it stands its log without the tail, which begins at one place, and the
+-- master's count is known.
+pub record IsSettledAt (seen : rig.Image) (leaves : Outcomes) (c : Parts) (j : ℕ) : Type 0 where
+  pub only : LeavesOnly (seen j) (leaves j)
+  pub stands : StandsOn (log_at c j) (seen j)
+  pub one_place : other_at c j ≡ None
+  pub counted : IfSome (chosen_body 0 64 (seen j)) (λ body. number_of body ≡ count_at c j)
+
+-- the record has this LSN or a greater one
+abbrev pub reaches : ℕ → Rec → Bool
+reaches lsn x = leb lsn x.lsn
+
+-- No page had a greater LSN when the complex was opened, or a forced record has this one or a greater.
+abbrev pub IsKnownLsn : Parts → ℕ → Type 0
+IsKnownLsn c lsn = (lsn ≤ c.disk_lsn) ⊎ ((j : ℕ) × (1 ≤ j) × (j ≤ 8) × (list_any (reaches lsn) (base_at (log_at c j)) ≡ true))
+
+-- ---- instances
+
+-- An instance's status and epoch are those of the serial table, and while it is up, so is the number of its begins. Its table
+-- names whom the serial table has.
+pub record IsInstance (c : Parts) (m : State) (i : ℕ) : Type 0 where
+  pub status : status_at c i ≡ (m.inst i).status
+  pub epoch : epoch_at c i ≡ (m.inst i).epoch
+  pub begins : status_at c i ≡ S.Up → begins_in (txns_at c i) (m.inst i).epoch ≡ (m.inst i).begins
+  pub names : (t : TxnId) → home t ≡ i
+      → NamesLife (txn_at (txns_at c i) t) (m.part t).life (fate t (base_at (log_at c i))) (fate t (all_at (log_at c i)))
+
+-- What the table of an instance with a settled log tells of the log: what each transaction has open, and what is owed. There is
+-- memory for what is owed.
+pub record IsTold (c : Parts) (m : State) (i : ℕ) : Type 0 where
+  pub rows : (t : TxnId) → home t ≡ i → RowIsLogged (txn_at (txns_at c i) t) t (all_at (log_at c i))
+  pub owes : owed_of (txns_at c i) ≡ owed (all_at (log_at c i))
+  pub reserves : reserve_of (txns_at c i) ≡ reserve (all_at (log_at c i))
+  pub spare : reserve (all_at (log_at c i)) ≤ (log_at c i).spare
+
+-- Whom an instance that is up has at work.
+abbrev pub IsAtWork : Parts → State → ℕ → Type 0
+IsAtWork c m i = (t : TxnId) → home t ≡ i → RowIsLive (txn_at (txns_at c i) t) t (m.part t) (all_at (log_at c i))
+
+-- A transaction whose commit is under way: it runs, and its log has its Commit.
+pub record IsPending (c : Parts) (m : State) (t : TxnId) : Type 0 where
+  pub runs : (m.part t).life ≡ Life.Running
+  pub up : status_at c (home t) ≡ S.Up
+  pub committed : is_committed (λ j. all_at (log_at c j)) t ≡ true
+
+-- what is under way has come so far
+abbrev pub IsUnderWay : Parts → State → Pending → Type 0
+IsUnderWay c m Pending.Idle = Unit {0}
+IsUnderWay c m (Pending.Commits t) = IsPending c m t
+IsUnderWay c m (Pending.Starts i) = (status_at c i ≡ S.Clean) ⊎ (status_at c i ≡ S.Restarting)
+
+-- ---- the whole
+
+-- The complex is as m says, with what is under way, and each image that a crash may leave stands for that.
+pub record Good (seen : rig.Image) (leaves : Outcomes) (pend : Pending) (c : Parts) (m : State) : Type 0 where
+  -- memory
+  pub shape : IsShape c
+  -- devices
+  pub half : (moved : Keeps) → Half seen (leaves_by c moved leaves) (log_by c moved) pend c m
+  pub places : (j place : ℕ) → other_at c j ≡ Some place → (bytes : List ℕ) → leaves j bytes
+      → ((master bytes).start ≡ place) ⊎ ((master bytes).start ≡ (log_at c j).start)
+  pub settled : (j : ℕ) → 1 ≤ j → j ≤ 8 → is_loose c j ≡ false → IsSettledAt seen leaves c j
+  pub disk_settled : is_loose c 0 ≡ false → LeavesOnly (seen 0) (leaves 0)
+  pub disk_lsns : (p : ℕ) (x : Page) → may_of leaves p x → IsKnownLsn c x.lsn
+  pub owed : (j : ℕ) → 1 ≤ j → j ≤ 8 → owed_at c j ≡ owed (base_at (log_at c j))
+  -- instances and transactions
+  pub kept : Kept m
+  pub placed : Placed m
+  pub listed : Listed m
+  pub marked : Marked m
+  pub recoverers : Recoverers m
+  pub not_closed : (m.inst 1).status ≢ S.Closed
+  pub instances : (i : ℕ) → 1 ≤ i → i ≤ 8 → IsInstance c m i
+  pub told : (i : ℕ) → 1 ≤ i → i ≤ 8 → tells_log (status_at c i) ≡ true → is_loose c i ≡ false → IsTold c m i
+  pub at_rest : (i : ℕ) → 1 ≤ i → i ≤ 8 → tells_log (status_at c i) ≡ false → is_loose c i ≡ false → (log_at c i).tail ≡ []
+  pub at_work : (i : ℕ) → 1 ≤ i → i ≤ 8 → status_at c i ≡ S.Up → IsAtWork c m i
+  pub pending : IsUnderWay c m pend
+  -- locks and asks
+  pub locks : (t : TxnId) (r : Rid) → held c.locks t r ≡ lock_of ((m.part t).claims r)
+  pub asks : (p : ℕ) → Each (λ ask. (is_active c ask.by ≡ true) × (is_open (entry_at c.directory p) ask ≡ true)) (asks_at c.directory p)
+  -- checkpoints
+  pub checking : (i : ℕ) (k : Begun) → check_at c i ≡ Some k → is_active c i ≡ true

@@ -1,0 +1,13 @@
+pub mod Parts
+pub mod Complexes
+pub mod Values
+pub mod Images
+pub mod Tables
+pub mod Good
+pub mod Laws
+pub mod Fresh
+pub mod Forcing
+pub mod Recovering
+pub mod Changing
+pub mod Sealing
+pub mod Undoing
