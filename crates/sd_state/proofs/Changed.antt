@@ -83,7 +83,7 @@ use Rattle.sd_state.specs.Parts.{Begun, IsShape, Parts, check_at, is_active, is_
 use Rattle.sd_state.specs.Tables.{IsLive, IsLogged, NamesLife, RowIsLive, RowIsLogged, StandsAs, lock_of, tells_log}
 use Rattle.sd_state.specs.Values.{Pending, as_done, is_doubt, put_of, rid_of, values}
 use Rattle.sd_state.proofs.ChangedLists.{decided-same, each-by, ended-none, lock-excl, lock-none, each-first, each-front, each-left, no-commit, open-or, reached, span-last}
-use Rattle.sd_state.proofs.ChangedRows.{live-other, logged-then, owes-then, reserves-then, row-other, stands-running}
+use Rattle.sd_state.proofs.ChangedRows.{live-other, logged-open, logged-then, owes-then, reserves-then, row-other, stands-running}
 use Rattle.sd_state.proofs.Items.{item-kept, item-set}
 use Rattle.sd_state.proofs.Standing.{no-place, one-place}
 
@@ -211,7 +211,8 @@ module _ (i : ℕ) (k : Change) (x : Transaction) (image : Page) (spare great : 
       (below-epoch m m.begun k.txn g.listed.bounds (g.listed.there k.txn (λ e. let f = sym runs ∙ e in absurd (cc))))
 
   logged : IsLogged x k.txn (all_at (log_at c i))
-  logged = subst (λ (o : Option Transaction). RowIsLogged o k.txn (all_at (log_at c i))) ch.row.was (told-i.rows k.txn w.home)
+  logged = logged-open x k.txn (all_at (log_at c i)) a.alive
+      (subst (λ (o : Option Transaction). RowIsLogged o k.txn (all_at (log_at c i))) ch.row.was (told-i.rows k.txn w.home))
 
   follows : MayFollow (all_at (log_at c i)) y
   follows = record {
@@ -655,7 +656,8 @@ module _ (i : ℕ) (k : Change) (x : Transaction) (image : Page) (spare great : 
   rows-i u own = ⊎_elim
       (λ same. subst (λ (v : TxnId). RowIsLogged (txn_at table v) v (all_at (log_at c i) ++ y ∷ [])) (sym same)
       (subst (λ (o : Option Transaction). RowIsLogged o k.txn (all_at (log_at c i) ++ y ∷ [])) (sym ch.row.now)
-      (logged-then k x (txns_at c i) table (all_at (log_at c i)) ch.bytes ch.records a.alive logged told-i.owes told-i.reserves)))
+      (inl (logged-then k x (txns_at c i) table (all_at (log_at c i)) ch.bytes ch.records a.alive logged told-i.owes
+      told-i.reserves))))
       (λ ne. subst (λ (o : Option Transaction). RowIsLogged o u (all_at (log_at c i) ++ y ∷ [])) (sym (ch.row.others u ne))
       (row-other (txn_at (txns_at c i) u) u (all_at (log_at c i)) y (other u ne) (stack-else u ne) (told-i.rows u own)))
       (cases_txn u k.txn)

@@ -1,5 +1,5 @@
 -- What a table owes with a further open record of a transaction, and what its row has. For a change.
-use Rattle.std.proofs.Common.{◌≡◌, inl, ⊎_elim, ℕ, ◌+◌, Bool, true, false, List, [], ◌∷◌, ◌++◌, map, length, refl, sym, ap, ◌∙◌, subst, arith}
+use Rattle.std.proofs.Common.{◌≡◌, inl, inr, ⊎_elim, ℕ, ◌+◌, Bool, true, false, List, [], ◌∷◌, ◌++◌, map, length, reverse, refl, sym, ap, ◌∙◌, subst, arith}
 use Rattle.std.specs.Prelude.{Option, None, Some, is_some, if◌then◌else◌, sum_by}
 use Rattle.std.specs.Option.{option_map_or}
 use Rattle.std.specs.List.{list_any}
@@ -16,11 +16,11 @@ use Rattle.sd_txn.specs.declared.state.OpenRec.{OpenRec}
 use Rattle.sd_chain.specs.Checks.{owed, reserve}
 use Rattle.sd_txn.specs.declared.state.TxnState.{TxnState}
 use Rattle.sd_chain.specs.Fates.{Fate}
-use Rattle.sd_chain.specs.Order.{of_txn}
+use Rattle.sd_chain.specs.Order.{of_txn, span_of}
 use Rattle.sd_chain.specs.Records.{IsOpen, stack}
-use Rattle.sd_chain.proofs.Fates.{fate-others}
+use Rattle.sd_chain.proofs.Fates.{fate-others, open-fate}
 use Rattle.sd_chain.proofs.Stacks.{stack-push, step-own}
-use Rattle.sd_chain.proofs.Whose.{own_of}
+use Rattle.sd_chain.proofs.Whose.{own_of, stack-none}
 use Rattle.sd_sound.proofs.Owing.{change-owes, first-change-owes}
 use Rattle.sd_state.specs.Changing.{Change, changed_row, flat_of, opened}
 use Rattle.sd_state.specs.Tables.{IsInDoubt, IsLogged, RowIsLive, RowIsLogged, StandsAs}
@@ -73,14 +73,36 @@ module _ (k : Change) (x : Transaction) (old new : Transactions) (log : List Rec
 
 -- ---- rows of others, and of one that runs
 
+-- one whose end the log doesn't have isn't shut, unless it has no record there: then it is both
+pub logged-open : (x : Transaction) (t : TxnId) (log : List Rec) → IsOpen t log → RowIsLogged (Some x) t log → IsLogged x t log
+logged-open x t log alive row = ⊎_elim (λ l. l) (λ s. ⊎_elim
+    (λ there. absurd (s.ended (open-fate t log alive there)))
+    (λ none. record {
+      open_ones = ap reverse s.emptied ∙ ap (map open_of) (sym (stack-none t log none));
+      span = s.span ∙ sym (no-span (span_of t log) (span-there t log ∙ none));
+    })
+    (cases_Bool (list_any (of_txn t) log))) row
+  where
+    no-span : (s : Option (ℕ × ℕ)) → is_some s ≡ false → s ≡ None
+    no-span None h = refl
+    no-span (Some s) h = absurd (cc)
+
 pub row-other : (o : Option Transaction) (u : TxnId) (log : List Rec) (y : Rec) → of_txn u y ≡ false
     → stack u (log ++ y ∷ []) ≡ stack u log
     → RowIsLogged o u log → RowIsLogged o u (log ++ y ∷ [])
 row-other None u log y off same old = λ is. old (sym (fate-others u log (y ∷ []) (off, tt)) ∙ is)
-row-other (Some x) u log y off same old = record {
-  open_ones = old.open_ones ∙ ap (map open_of) (sym same);
-  span = old.span ∙ sym (span-other u log y off);
-}
+row-other (Some x) u log y off same old = ⊎_elim
+    (λ l. inl (record {
+      open_ones = l.open_ones ∙ ap (map open_of) (sym same);
+      span = l.span ∙ sym (span-other u log y off);
+    }))
+    (λ s. inr (record {
+      ended = λ is. s.ended (sym (fate-others u log (y ∷ []) (off, tt)) ∙ is);
+      emptied = s.emptied;
+      span = s.span;
+      left = ⊎_elim (λ e. inl (same ∙ e)) (λ e. inr e) s.left;
+    }))
+    old
 
 pub live-other : (o : Option Transaction) (u : TxnId) (p : Part) (log log' : List Rec) → stack u log' ≡ stack u log
     → RowIsLive o u p log → RowIsLive o u p log'

@@ -1,6 +1,6 @@
 -- Records without a page that come to a log, by what they are: for the laws of `sealing`.
 use Rattle.std.proofs.Common.{◌≡◌, ℕ, zero, suc, ◌+◌, ◌-◌, ◌≤◌, Bool, true, false, cond, eqb, List, [], ◌∷◌, ◌++◌, ◌||◌, ◌&&◌}
-use Rattle.std.proofs.Common.{get_or, slice_set, refl, sym, ap, ap₂, ◌∙◌, subst, arith, ⊎_elim, eq-eqb}
+use Rattle.std.proofs.Common.{inl, inr, get_or, slice_set, refl, sym, ap, ap₂, ◌∙◌, subst, arith, ⊎_elim, eq-eqb}
 use Rattle.std.specs.Prelude.{Option, None, Some, map}
 use Rattle.std.specs.List.{list_any}
 use Rattle.std.specs.Option.{option_map_or}
@@ -213,10 +213,18 @@ span-off t span (x ∷ xs) y off = span-off t (spanned t span x) xs y off
 rows-plain : (x : Option Transaction) (t : TxnId) (xs : List Rec) (y : Rec) → of_txn t y ≡ false → changes y.kind ≡ false
     → RowIsLogged x t xs → RowIsLogged x t (xs ++ y ∷ [])
 rows-plain None t xs y off none h = λ is. h (sym (fate-others t xs (y ∷ []) (off, tt)) ∙ is)
-rows-plain (Some x) t xs y off none h = record {
-  open_ones = h.open_ones ∙ ap (λ (l : List Rec). map open_of l) (sym (stack-same t xs y none));
-  span = h.span ∙ sym (span-off t None xs y off);
-}
+rows-plain (Some x) t xs y off none h = ⊎_elim
+    (λ l. inl (record {
+      open_ones = l.open_ones ∙ ap (λ (l : List Rec). map open_of l) (sym (stack-same t xs y none));
+      span = l.span ∙ sym (span-off t None xs y off);
+    }))
+    (λ s. inr (record {
+      ended = λ is. s.ended (sym (fate-others t xs (y ∷ []) (off, tt)) ∙ is);
+      emptied = s.emptied;
+      span = s.span;
+      left = ⊎_elim (λ e. inl (stack-same t xs y none ∙ e)) (λ e. inr e) s.left;
+    }))
+    h
 
 item-stays : {A : Type 0} (none : A) (items : List A) (i : ℕ) → 1 ≤ i → slice_set items (i - 1) (among none items i) ≡ items
 item-stays none items zero low = absurd (omega (arith, low))

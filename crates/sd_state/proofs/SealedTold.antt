@@ -1,5 +1,5 @@
 -- A table whose row is shut as the end of its transaction comes to the log: for the law `shut_rows`.
-use Rattle.std.proofs.Common.{◌≡◌, ◌≢◌, inl, inr, ℕ, ◌+◌, ◌≤◌, Bool, true, false, cond, List, [], ◌∷◌, ◌++◌, ◌||◌, length, refl}
+use Rattle.std.proofs.Common.{◌≡◌, ◌≢◌, ◌⊎◌, inl, inr, ℕ, ◌+◌, ◌≤◌, Bool, true, false, cond, List, [], ◌∷◌, ◌++◌, ◌||◌, length, refl}
 use Rattle.std.proofs.Common.{sym, ap, ap₂, ◌∙◌, subst, arith, ⊎_elim}
 use Rattle.std.specs.Prelude.{Option, None, Some, is_some, map, reverse, sum_by, if◌then◌else◌}
 use Rattle.std.specs.List.{IsDistinct, list_any}
@@ -20,6 +20,7 @@ use Rattle.sd_txn.specs.declared.state.OpenRec.{OpenRec}
 use Rattle.sd_txn.specs.Owing.{bytes_owed, owed_of, records_owed, reserve_of, undo_len}
 use Rattle.sd_txn.specs.Transactions as txns
 use Rattle.sd_txn.specs.Transactions.{Transaction, Transactions, ids, txn_at}
+use Rattle.sd_txn.specs.declared.state.TxnState.{TxnState}
 use Rattle.sd_chain.specs.Checks.{owed, reserve}
 use Rattle.sd_chain.specs.Fates.{fate}
 use Rattle.sd_chain.specs.Order.{of_txn, span_from, spanned, speaks}
@@ -31,8 +32,10 @@ use Rattle.sd_sound.proofs.Appends.{appended-log}
 use Rattle.sd_sound.proofs.Owing.{before-there, ends-speaks, now-ended}
 use Rattle.sd_sound.proofs.Room.{end-len}
 use Rattle.sd_state.specs.Parts.{IsShape, Parts, log_at, no_log, no_txns, txns_at}
-use Rattle.sd_state.specs.Sealing.{AreAlike, EndTells, MaySeal, RowTells, RowsAlike, TableTells, shut, with_last}
-use Rattle.sd_state.specs.Tables.{IsLogged}
+use Rattle.sd_state.specs.Sealing.{AreAlike, EndTells, MaySeal, RowsAlike, shut, with_last}
+use Rattle.sd_state.specs.Tables.{IsLogged, IsShut, RowIsLogged}
+use Rattle.sd_state.specs.Good.{IsTold}
+use Rattle.sd_model.specs.State.{State}
 use Rattle.sd_state.specs.Values.{open_of}
 use Rattle.sd_state.proofs.Items.{item-set}
 use Rattle.sd_state.proofs.Sealed.{ended-after, stack-same}
@@ -106,7 +109,8 @@ module _ (i spare : ℕ) (y : Record) (x : Transaction) (table : Transactions) (
     (bytes : reserve_of table + bytes_owed x ≡ reserve_of (txns_at c i) + bytes_owed (shut x))
     (records : owed_of table + records_owed x ≡ owed_of (txns_at c i) + records_owed (shut x))
     (change : txns.Replaces (txns_at c i) table (flat y).txn x (shut x))
-    (spends : (log_at c i).spare ≤ spare + length (spelling y)) (told : TableTells c i) where
+    (runs : (flat y).kind ≡ Commit → x.state ≡ TxnState.Running)
+    (spends : (log_at c i).spare ≤ spare + length (spelling y)) (m : State) (told : IsTold c m i) where
   abbrev t : TxnId
   t = (flat y).txn
 
@@ -131,10 +135,10 @@ module _ (i spare : ℕ) (y : Record) (x : Transaction) (table : Transactions) (
   -- the row, before
   was : IsLogged x t old
   was = ⊎_elim (λ h. h) (λ s. absurd (s.ended (open-fate t old (may.follows spoken).alive there)))
-      (subst (λ (o : Option Transaction). RowTells o t old) change.was (told.rows t (may.own spoken)))
+      (subst (λ (o : Option Transaction). RowIsLogged o t old) change.was (told.rows t (may.own spoken)))
 
   -- another row
-  other-tells : (o : Option Transaction) (u : TxnId) → u ≢ t → RowTells o u old → RowTells o u (old ++ flat y ∷ [])
+  other-tells : (o : Option Transaction) (u : TxnId) → u ≢ t → RowIsLogged o u old → RowIsLogged o u (old ++ flat y ∷ [])
   other-tells None u ne h = λ is. h (sym (fate-others u old (flat y ∷ []) (other_of u (flat y) (λ e. ne (sym e)), tt)) ∙ is)
   other-tells (Some z) u ne h = ⊎_elim
       (λ l. inl (record {
@@ -144,21 +148,31 @@ module _ (i spare : ℕ) (y : Record) (x : Transaction) (table : Transactions) (
       }))
       (λ s. inr (record {
         ended = λ is. s.ended (sym (fate-others u old (flat y ∷ []) (other_of u (flat y) (λ e. ne (sym e)), tt)) ∙ is);
-        stack = s.stack;
+        emptied = s.emptied;
         span = s.span;
+        left = ⊎_elim (λ e. inl (stack-same u old (flat y) (no-page (flat y).kind it_ends) ∙ e)) (λ e. inr e) s.left;
       }))
       h
 
-  rows : (u : TxnId) → home u ≡ i → RowTells (txn_at table u) u (old ++ flat y ∷ [])
+  left-then : (k : Kind) → (flat y).kind ≡ k → ends k ≡ true
+      → (stack t (old ++ flat y ∷ []) ≡ []) ⊎ (x.state ≡ TxnState.Running)
+  left-then Update is e = absurd (cc)
+  left-then Clr is e = absurd (cc)
+  left-then Plain is e = absurd (cc)
+  left-then Commit is e = inr (runs is)
+  left-then End is e = inl (stack-same t old (flat y) (no-page (flat y).kind it_ends) ∙ (may.follows spoken).done is)
+
+  rows : (u : TxnId) → home u ≡ i → RowIsLogged (txn_at table u) u (old ++ flat y ∷ [])
   rows u own = ⊎_elim
-      (λ e. subst (λ (v : TxnId). RowTells (txn_at table v) v (old ++ flat y ∷ [])) (sym e)
-      (subst (λ (o : Option Transaction). RowTells o t (old ++ flat y ∷ [])) (sym change.now) (inr (record {
+      (λ e. subst (λ (v : TxnId). RowIsLogged (txn_at table v) v (old ++ flat y ∷ [])) (sym e)
+      (subst (λ (o : Option Transaction). RowIsLogged o t (old ++ flat y ∷ [])) (sym change.now) (inr (record {
         ended = λ is. ended-after (flat y).kind (fate t old) (no-page (flat y).kind it_ends) spoken
             (sym (fate-own old (flat y) (may.follows spoken)) ∙ is);
-        stack = refl;
+        emptied = refl;
         span = refl;
+        left = left-then (flat y).kind refl it_ends;
       }))))
-      (λ ne. subst (λ (o : Option Transaction). RowTells o u (old ++ flat y ∷ [])) (sym (change.others u ne))
+      (λ ne. subst (λ (o : Option Transaction). RowIsLogged o u (old ++ flat y ∷ [])) (sym (change.others u ne))
       (other-tells (txn_at (txns_at c i) u) u ne (told.rows u own)))
       (cases_txn u t)
 
@@ -203,12 +217,12 @@ module _ (i spare : ℕ) (y : Record) (x : Transaction) (table : Transactions) (
         (cases_txn u t);
   }
 
-  pub tells : AreAlike (txns_at c i) table × TableTells new i
+  pub tells : AreAlike (txns_at c i) table × IsTold new m i
   tells = (
     alike,
     record {
-      rows = λ u own. subst (λ (log : List Rec). RowTells (txn_at (txns_at new i) u) u log) (sym all-here)
-          (subst (λ (rows : Transactions). RowTells (txn_at rows u) u (old ++ flat y ∷ [])) (sym txns-here) (rows u own));
+      rows = λ u own. subst (λ (log : List Rec). RowIsLogged (txn_at (txns_at new i) u) u log) (sym all-here)
+          (subst (λ (rows : Transactions). RowIsLogged (txn_at rows u) u (old ++ flat y ∷ [])) (sym txns-here) (rows u own));
       owes = ap owed_of txns-here ∙ owes ∙ ap owed (sym all-here);
       reserves = ap reserve_of txns-here ∙ reserves ∙ ap reserve (sym all-here);
       spare = subst (λ (log : LogState). reserve (all_at (log_at new i)) ≤ log.spare) (sym log-here)
@@ -223,6 +237,6 @@ Differs row all = (old new : Transactions) (t : TxnId) (x y : Transaction) → I
     → all new + row x ≡ all old + row y
 
 pub end-tells : Differs bytes_owed reserve_of → Differs records_owed owed_of → EndTells
-end-tells bytes records i spare y x table c shape may it_ends there once change spends told =
+end-tells bytes records i spare y x table c shape may it_ends there once change runs spends m told =
     tells i spare y x table c shape may it_ends there (bytes (txns_at c i) table (flat y).txn x (shut x) once change)
-    (records (txns_at c i) table (flat y).txn x (shut x) once change) change spends told
+    (records (txns_at c i) table (flat y).txn x (shut x) once change) change runs spends m told

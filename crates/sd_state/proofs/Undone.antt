@@ -80,10 +80,10 @@ stands-rolling TxnState.Committed to forced one other h = h
 row-same : (row : Option Transaction) (u : TxnId) (one other : List Rec) → fate u other ≡ fate u one → stack u other ≡ stack u one
     → span_of u other ≡ span_of u one → RowIsLogged row u one → RowIsLogged row u other
 row-same None u one other fates stacks spans h = λ e. h (sym fates ∙ e)
-row-same (Some x) u one other fates stacks spans h = record {
-  open_ones = h.open_ones ∙ ap (map open_of) (sym stacks);
-  span = h.span ∙ sym spans;
-}
+row-same (Some x) u one other fates stacks spans h = ⊎_elim
+    (λ l. inl (record { open_ones = l.open_ones ∙ ap (map open_of) (sym stacks); span = l.span ∙ sym spans }))
+    (λ s. inr (record { ended = λ e. s.ended (sym fates ∙ e); emptied = s.emptied; span = s.span; left = ⊎_elim (λ e. inl (stacks ∙ e)) (λ e. inr e) s.left }))
+    h
 
 live-same : (row : Option Transaction) (u : TxnId) (p : Part) (one other : List Rec) → stack u other ≡ stack u one
     → RowIsLive row u p one → RowIsLive row u p other
@@ -238,10 +238,10 @@ module _ (t : TxnId) (x : Transaction) (o : OpenRec) (image : Page) (log : LogSt
   rows-here : (u : TxnId) → RowIsLogged (txn_at (txns_at c i) u) u all → RowIsLogged (txn_at table u) u whole
   rows-here u old = ⊎_elim
       (λ e. subst (λ (v : TxnId). RowIsLogged (txn_at table v) v whole) (sym e)
-      (subst (λ (row : Option Transaction). RowIsLogged row t whole) (sym d.row.now) (record {
+      (subst (λ (row : Option Transaction). RowIsLogged row t whole) (sym d.row.now) (inl (record {
         open_ones = ap reverse front-is ∙ sym tops.others ∙ ap (map open_of) (sym own-stack);
         span = own-span;
-      })))
+      }))))
       (λ ne. subst (λ (row : Option Transaction). RowIsLogged row u whole) (sym (d.row.others u ne))
       (row-same (txn_at (txns_at c i) u) u all whole (other-fate u ne) (other-stack u ne) (other-span u ne) old))
       (cases_txn u t)

@@ -1,5 +1,5 @@
 -- The open record that is undone next, and the copy of its page: for the law `undo`.
-use Rattle.std.proofs.Common.{◌≡◌, ⊎_elim, ℕ, ◌<◌, Bool, true, false, cond, List, length, map, refl, sym, ap, ◌∙◌, arith}
+use Rattle.std.proofs.Common.{◌≡◌, ⊎_elim, ℕ, ◌<◌, Bool, true, false, cond, List, length, map, refl, sym, ap, ◌∙◌, subst, arith}
 use Rattle.std.specs.Prelude.{Option, None, Some, reverse}
 use Rattle.std.proofs.lemmas.List.{length-map, length-reverse}
 use Rattle.sd_base.specs.declared.ids.TxnId.{TxnId}
@@ -10,6 +10,7 @@ use Rattle.sd_model.specs.declared.act.Life.{Life}
 use Rattle.sd_page.specs.Page.{Page}
 use Rattle.sd_pagelock.specs.Directory.{entry_at}
 use Rattle.sd_pagelock.specs.Places.{Entry, holds, owns}
+use Rattle.sd_txn.specs.declared.state.TxnState.{TxnState}
 use Rattle.sd_txn.specs.Transactions.{Transaction, top, txn_at}
 use Rattle.sd_txn.specs.declared.state.OpenRec.{OpenRec}
 use Rattle.sd_txn.proofs.Stacks.{none-empty}
@@ -20,7 +21,7 @@ use Rattle.sd_sound.specs.Logs.{Outcomes, all_at, base_at}
 use Rattle.sd_state.specs.Good.{base_of}
 use Rattle.sd_state.specs.Images.{leaves_by, log_by}
 use Rattle.sd_state.specs.Parts.{Parts, is_loose, log_at, txns_at, up_as}
-use Rattle.sd_state.specs.Tables.{NamesLife, RowIsLive, RowIsLogged, tells_log}
+use Rattle.sd_state.specs.Tables.{NamesLife, RowIsLive, RowIsLogged, StandsAs, tells_log}
 use Rattle.sd_state.specs.Undoing.{FindsTop, UndoFindsCopy, UndoFindsTop}
 use Rattle.sd_state.specs.Values.{open_of, put_of}
 
@@ -55,8 +56,14 @@ row-there None t c m to forced whole log is rolls some names logged live_row = l
 row-there (Some x) t c m to forced whole log is rolls some names logged live_row =
     let count : length (live (m.part t).acts) ≡ length (stack t log) = ap length live_row.puts
     ∙ length-map (stack t log) put_of in
-    let last = top-there x t log (length (live (m.part t).acts)) logged.open_ones count some (top x) refl in
-    record { x = x; o = last.0; row = is; last = last.1 }
+    ⊎_elim
+    (λ l. let last = top-there x t log (length (live (m.part t).acts)) l.open_ones count some (top x) refl in
+    record { x = x; o = last.0; row = is; last = last.1 })
+    (λ s. ⊎_elim
+    (λ none. let a = ap length none in absurd (omega (arith, a, count, some)))
+    (λ runs. let clash = sym (subst (λ (s : TxnState). StandsAs s (m.part t).life forced whole) runs names) ∙ rolls in absurd (cc))
+    s.left)
+    logged
 
 pub undo-finds_top : (leaves : Outcomes) → UndoFindsTop leaves
 undo-finds_top leaves seen c m t to g low high idle up rolls above =

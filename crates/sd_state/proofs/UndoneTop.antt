@@ -37,6 +37,7 @@ use Rattle.sd_state.specs.Parts.{Parts, is_loose, log_at, other_at, up_as}
 use Rattle.sd_state.specs.Tables.{IsLogged, RowIsLogged, tells_log}
 use Rattle.sd_state.specs.Undoing.{FindsRoom, MayUndo, UndoFindsRoom, clr_at, lsn_for}
 use Rattle.sd_state.specs.Values.{Pending}
+use Rattle.sd_state.proofs.ChangedRows.{logged-open}
 use Rattle.sd_state.proofs.Standing.{no-place, one-place}
 use Rattle.sd_state.proofs.UndoneRows.{IsTop, last-is, top-of}
 
@@ -62,7 +63,7 @@ module _ (t : TxnId) (x : Transaction) (o : OpenRec) (image : Page) (seen : rig.
   told = g.told i w.low w.high (ap tells_log w.up) settled
 
   pub logged : IsLogged x t all
-  logged = subst (λ (row : Option Transaction). RowIsLogged row t all) w.row (told.rows t refl)
+  logged = logged-open x t all w.goes_on.alive (subst (λ (row : Option Transaction). RowIsLogged row t all) w.row (told.rows t refl))
 
   pub tops : (front : List OpenRec) → x.stack ≡ front ++ o ∷ [] → IsTop o (reverse front) (stack t all)
   tops front is = top-of o (reverse front) (stack t all) (sym logged.open_ones ∙ ap reverse is ∙ reverse-append front (o ∷ []))

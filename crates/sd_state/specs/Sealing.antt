@@ -16,6 +16,7 @@ use Rattle.sd_rig.specs.Devices as rig
 use Rattle.sd_txn.specs.Owing.{owed_of, reserve_of}
 use Rattle.sd_txn.specs.Transactions as txns
 use Rattle.sd_txn.specs.Transactions.{Transaction, Transactions, ids, txn_at}
+use Rattle.sd_txn.specs.declared.state.TxnState.{TxnState}
 use Rattle.sd_chain.specs.Checks.{lsn_of, owed, reserve}
 use Rattle.sd_chain.specs.Fates.{Fate, fate}
 use Rattle.sd_chain.specs.Images.{Keeps}
@@ -26,7 +27,7 @@ use Rattle.sd_sound.specs.Appends.{IsTested}
 use Rattle.sd_state.specs.Good.{Good, IsTold}
 use Rattle.sd_state.specs.Images.{leaves_by, log_by}
 use Rattle.sd_state.specs.Parts.{Begun, IsShape, Parts, check_at, is_loose, log_at, status_at, txns_at}
-use Rattle.sd_state.specs.Tables.{IsLogged, tells_log}
+use Rattle.sd_state.specs.Tables.{tells_log}
 use Rattle.sd_state.specs.Values.{Pending}
 
 -- log i is this one
@@ -115,26 +116,11 @@ StartSeals leaves = (i spare lsn epoch : ℕ) (seen : rig.Image) (c : Parts) (m 
 abbrev pub shut : Transaction → Transaction
 shut x = record x { stack = []; span = None }
 
-pub record IsShut (x : Transaction) (t : TxnId) (log : List Rec) : Type 0 where
-  pub ended : (fate t log ≡ Fate.Open) → ⊥
-  pub stack : x.stack ≡ []
-  pub span : x.span ≡ None
-
--- A row has what the log has of its transaction, or is shut, where the log has its end.
-abbrev pub RowTells : Option Transaction → TxnId → List Rec → Type 0
-RowTells None t log = (fate t log ≡ Fate.Open) → ⊥
-RowTells (Some x) t log = IsLogged x t log ⊎ IsShut x t log
-
--- What the table of an instance tells of its log, a row whose end is there already among it.
-pub record TableTells (c : Parts) (i : ℕ) : Type 0 where
-  pub rows : (t : TxnId) → home t ≡ i → RowTells (txn_at (txns_at c i) t) t (all_at (log_at c i))
-  pub owes : owed_of (txns_at c i) ≡ owed (all_at (log_at c i))
-  pub reserves : reserve_of (txns_at c i) ≡ reserve (all_at (log_at c i))
-  pub spare : reserve (all_at (log_at c i)) ≤ (log_at c i).spare
-
--- The end comes, and its row is shut: the table tells of the log as before, and all rows stand as before.
+-- The end comes, a Commit only of one that runs, and its row is shut: the table tells of the log as before, and all rows stand
+-- as before.
 abbrev pub EndTells : Type 0
 EndTells = (i spare : ℕ) (y : Record) (x : Transaction) (table : Transactions) (c : Parts) → IsShape c → MaySeal i y c
     → ends (flat y).kind ≡ true → HasRecord (flat y).txn (all_at (log_at c i)) → IsDistinct same_txn (ids (txns_at c i))
-    → txns.Replaces (txns_at c i) table (flat y).txn x (shut x) → (log_at c i).spare ≤ spare + length (spelling y)
-    → TableTells c i → AreAlike (txns_at c i) table × TableTells (with_last i y spare table c) i
+    → txns.Replaces (txns_at c i) table (flat y).txn x (shut x) → ((flat y).kind ≡ Commit → x.state ≡ TxnState.Running)
+    → (log_at c i).spare ≤ spare + length (spelling y)
+    → (m : State) → IsTold c m i → AreAlike (txns_at c i) table × IsTold (with_last i y spare table c) m i

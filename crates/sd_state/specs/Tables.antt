@@ -49,10 +49,18 @@ pub record IsLogged (x : Transaction) (t : TxnId) (log : List Rec) : Type 0 wher
   pub open_ones : reverse x.stack ≡ map open_of (stack t log)
   pub span : x.span ≡ span_of t log
 
+-- The row of a transaction whose end the log has already: it has no open record and no span. Nor has the log an open record
+-- of it, unless it runs: then the end is its Commit.
+pub record IsShut (x : Transaction) (t : TxnId) (log : List Rec) : Type 0 where
+  pub ended : (fate t log ≡ Fate.Open) → ⊥
+  pub emptied : x.stack ≡ []
+  pub span : x.span ≡ None
+  pub left : (stack t log ≡ []) ⊎ (x.state ≡ TxnState.Running)
+
 -- One that is none has none there.
 abbrev pub RowIsLogged : Option Transaction → TxnId → List Rec → Type 0
 RowIsLogged None t log = (fate t log ≡ Fate.Open) → ⊥
-RowIsLogged (Some x) t log = IsLogged x t log
+RowIsLogged (Some x) t log = IsLogged x t log ⊎ IsShut x t log
 
 -- The transaction runs or rolls back: its live puts are its open records, and its marks are those of its row.
 pub record IsLive (x : Transaction) (t : TxnId) (p : Part) (log : List Rec) : Type 0 where
