@@ -1,9 +1,9 @@
 -- A complex on blank devices is as the fresh state of the serial table says: for `Complex::fresh`.
-use Rattle.std.proofs.Common.{◌≡◌, ◌≢◌, ◌⊎◌, inl, inr, ℕ, zero, suc, ◌≤◌, Bool, true, false, cond, List, [], ◌∷◌, ◌++◌, length, get_or, refl, sym, ap, ap₂, ◌∙◌, subst, arith, ⊎_elim}
+use Rattle.std.proofs.Common.{◌≡◌, inl, inr, ℕ, zero, suc, ◌≤◌, Bool, true, false, cond, List, [], ◌++◌, length, get_or, refl, sym, ap, ap₂, ◌∙◌, subst, arith, ⊎_elim}
 use Rattle.std.specs.Prelude.{Option, None, Some, IfSome, is_some}
 use Rattle.std.specs.Option.{option_map_or}
 use mathlib.Core.Path.{fun_ext}
-use Rattle.sd_base.specs.Twin.{chosen_body, number_of}
+use Rattle.sd_base.specs.Twin.{number_of}
 use Rattle.sd_base.specs.declared.ids.TxnId.{TxnId}
 use Rattle.sd_base.specs.declared.place.Status.{Status}
 use Rattle.sd_base.specs.declared.place.Status.TheVariants as S
@@ -11,13 +11,12 @@ use Rattle.sd_logrec.specs.Kept.{Master, master}
 use Rattle.sd_logrec.specs.View.{Rec}
 use Rattle.sd_log.specs.Logs.{LogState, StandsOn, forced}
 use Rattle.sd_page.specs.Page.{Page, empty_page}
-use Rattle.sd_model.specs.State.{State, fresh}
+use Rattle.sd_model.specs.State.{fresh}
 use Rattle.sd_model.proofs.Opened.{fresh-opened, opened-placed, opened-listed, opened-marked}
 use Rattle.sd_model.proofs.Recoverers.{opened-recoverers}
 use Rattle.sd_model.proofs.Serial.{fresh-opening, opening_run-kept}
 use Rattle.sd_pagelock.specs.Asks.{is_open}
-use Rattle.sd_pagelock.specs.Directory.{asks_at, entry_at, rec_lsn_at}
-use Rattle.sd_pagelock.specs.Directory as directory
+use Rattle.sd_pagelock.specs.Directory.{entry_at, rec_lsn_at}
 use Rattle.sd_pagelock.specs.Places.{Entry, changed, holds, passes, uses}
 use Rattle.sd_pool.specs.Buffers.{Buffers}
 use Rattle.sd_pool.specs.Buffers as buffers
@@ -26,11 +25,11 @@ use Rattle.sd_rig.specs.Devices as rig
 use Rattle.sd_txn.specs.Owing.{owed_of, reserve_of}
 use Rattle.sd_txn.specs.Transactions.{Transactions, txn_at}
 use Rattle.sd_chain.specs.Bytes.{disk_page, page_in, twin_at}
-use Rattle.sd_chain.specs.Checks.{owed, past_of, reserve}
+use Rattle.sd_chain.specs.Checks.{owed, reserve}
 use Rattle.sd_chain.specs.Cuts.{cut}
 use Rattle.sd_chain.specs.Fates.{Fate, fate}
 use Rattle.sd_chain.specs.Image.{Image, Recovered, Sound, all_of, chain, newest}
-use Rattle.sd_chain.specs.Images.{Allowed, Gives, IsSafe, Keeps, Tails, all_kept, with_disk}
+use Rattle.sd_chain.specs.Images.{Gives, IsSafe, Keeps, Tails, all_kept, with_disk}
 use Rattle.sd_chain.specs.Order.{Tidy}
 use Rattle.sd_chain.specs.Pages.{value}
 use Rattle.sd_chain.specs.Records.{Each, home}

@@ -1,5 +1,5 @@
 -- The last LSN of a log is its greatest: for the law.
-use Rattle.std.proofs.Common.{◌≡◌, ℕ, ◌≤◌, Bool, false, List, [], ◌∷◌, map, subst, arith}
+use Rattle.std.proofs.Common.{ℕ, ◌≤◌, Bool, false, List, [], ◌∷◌, map, subst, arith}
 use Rattle.std.specs.Prelude.{is_some}
 use Rattle.sd_base.specs.Twin.{chosen_body}
 use Rattle.sd_logrec.specs.Kept.{Master, master}

@@ -1,40 +1,38 @@
 -- A force that failed: what held of the complex holds of it then, and the instance that acted is to fall.
-use Rattle.std.proofs.Common.{◌≡◌, ◌≢◌, ◌⊎◌, ◌↔◌, inl, inr, ℕ, ◌≤◌, ◌<◌, Bool, true, false, cond, eqb, List, [], ◌∷◌, length, get_or, slice_set, refl, sym, ap, ap₂, ◌∙◌, subst, arith, ⊎_elim, eq-eqb, ne_eqb}
-use Rattle.std.specs.Prelude.{Option, None, Some, IfSome}
-use Rattle.std.specs.Option.{option_map_or}
+use Rattle.std.proofs.Common.{◌≡◌, ◌≢◌, ◌⊎◌, inl, inr, ℕ, ◌≤◌, Bool, true, false, cond, List, length, refl, sym, ap, ◌∙◌, subst, arith, ⊎_elim, eq-eqb, ne_eqb}
+use Rattle.std.specs.Prelude.{None, Some, IfSome}
 use Rattle.std.proofs.lemmas.Bool.{cases_eq}
 use Rattle.std.proofs.lemmas.List.{get_or-set_other, get_or-set_same, length-set}
 use Rattle.sd_base.specs.Twin.{chosen_body, number_of}
-use Rattle.sd_base.specs.declared.ids.TxnId.{TxnId}
 use Rattle.sd_base.specs.declared.place.Status.{Status}
 use Rattle.sd_base.specs.declared.place.Status.TheVariants as S
-use Rattle.sd_logrec.specs.Kept.{Master, Whole, area, master, reading}
+use Rattle.sd_logrec.specs.Kept.{Master, master}
 use Rattle.sd_log.specs.Logs.{LogState, StandsOn, forced}
 use Rattle.sd_log.specs.Forces.{forced_at, forced_len}
 use Rattle.sd_page.specs.Page.{Page}
 use Rattle.sd_model.specs.State.{State}
 use Rattle.sd_rig.specs.Devices as rig
 use Rattle.sd_chain.specs.Bytes.{disk_page}
-use Rattle.sd_chain.specs.Images.{Allowed, Gives, Keeps}
+use Rattle.sd_chain.specs.Images.{Keeps}
 use Rattle.sd_coherent.specs.Changes as changes_law
 use Rattle.sd_coherent.specs.Coherent.{Coherent}
 use Rattle.sd_coherent.specs.Forces.{failing}
-use Rattle.sd_coherent.specs.Named.{IsNamed, version_of}
-use Rattle.sd_coherent.specs.World.{Base, Dir, put_at}
+use Rattle.sd_coherent.specs.Named.{IsNamed}
+use Rattle.sd_coherent.specs.World.{Base, put_at}
 use Rattle.sd_coherent.proofs.Changes.{rest-keeps}
 use Rattle.sd_coherent.proofs.Checkpoints.{cover-stays}
 use Rattle.sd_coherent.proofs.Forces as forces
 use Rattle.sd_coherent.proofs.Named.{may_be-named}
-use Rattle.sd_sound.specs.Logs.{LessElsewhere, Logs, Outcomes, base_at, may_of, past_at, tails_of}
+use Rattle.sd_sound.specs.Logs.{LessElsewhere, Logs, Outcomes, may_of, past_at, tails_of}
 use Rattle.sd_sound.proofs.Changed.{may-less}
 use Rattle.sd_sound.proofs.Forces.{failed-keeps}
 use Rattle.sd_sound.proofs.Kept.{master-same}
 use Rattle.sd_sound.proofs.Outcomes.{less-same}
 use Rattle.sd_state.specs.Values.{Pending}
 use Rattle.sd_state.specs.Forcing.{IsHalfForced, with_failed}
-use Rattle.sd_state.specs.Good.{IsUnderWay, Good, Half, IsInstance, IsSettledAt, base_of, dir_of}
-use Rattle.sd_state.specs.Images.{IsEpochOf, begun_at, leaves_by, log_by}
-use Rattle.sd_state.specs.Parts.{Begun, Parts, acting, active_as, actor, count_at, is_active, is_loose, is_up, log_at, other_at, status_at, up_as}
+use Rattle.sd_state.specs.Good.{IsUnderWay, Good, Half, IsSettledAt, base_of, dir_of}
+use Rattle.sd_state.specs.Images.{IsEpochOf, leaves_by, log_by}
+use Rattle.sd_state.specs.Parts.{Parts, acting, active_as, actor, count_at, is_loose, log_at, other_at, status_at, up_as}
 use Rattle.sd_state.proofs.Standing.{no-place, one-place}
 
 -- who acts for an instance is itself, or the instance is neither active nor up

@@ -1,6 +1,6 @@
 -- A log that is forced: what held of the complex holds of it then.
-use Rattle.std.proofs.Common.{◌≡◌, ◌≢◌, ◌⊎◌, ◌↔◌, inl, inr, ℕ, zero, suc, ◌-◌, ◌≤◌, Bool, true, false, cond, eqb, List, [], ◌∷◌, ◌++◌, ◌||◌, length, get_or, slice_set, map, refl, sym, ap, ap₂, ◌∙◌, subst, arith, ⊎_elim, append-nil, eq-eqb, ne_eqb}
-use Rattle.std.specs.Prelude.{Option, None, Some, IfSome, is_some}
+use Rattle.std.proofs.Common.{◌≡◌, ◌≢◌, ◌⊎◌, ◌↔◌, inl, inr, ℕ, ◌-◌, ◌≤◌, Bool, true, false, cond, List, [], ◌∷◌, ◌++◌, ◌||◌, get_or, map, refl, sym, ap, ap₂, ◌∙◌, subst, arith, ⊎_elim, append-nil, eq-eqb, ne_eqb}
+use Rattle.std.specs.Prelude.{Option, None, Some, IfSome}
 use Rattle.std.specs.Option.{option_map_or}
 use Rattle.std.specs.List.{list_any}
 use Rattle.std.proofs.lemmas.Bool.{cases_eq}
@@ -27,8 +27,8 @@ use Rattle.sd_pool.specs.Buffers as buffers
 use Rattle.sd_chain.specs.Cuts.{cut}
 use Rattle.sd_chain.specs.Image.{Recovered}
 use Rattle.sd_chain.specs.Checks.{owed, reserve}
-use Rattle.sd_chain.specs.Fates.{Fate, commits, fate}
-use Rattle.sd_chain.specs.Images.{Gives, Keeps, Settled, Tails, kept_at, with_disk}
+use Rattle.sd_chain.specs.Fates.{commits, fate}
+use Rattle.sd_chain.specs.Images.{Gives, Keeps, Settled, kept_at, with_disk}
 use Rattle.sd_chain.specs.Records.{home}
 use Rattle.sd_chain.proofs.Devices.{chosen_same, part_before}
 use Rattle.sd_chain.proofs.Fates.{committed-stays}
@@ -36,25 +36,24 @@ use Rattle.sd_chain.proofs.Images as images
 use Rattle.sd_coherent.specs.Coherent.{Coherent}
 use Rattle.sd_coherent.specs.Forces as forced_law
 use Rattle.sd_coherent.specs.World.{Base, Dir}
-use Rattle.sd_coherent.specs.Named.{IsNamed, version_of}
+use Rattle.sd_coherent.specs.Named.{IsNamed}
 use Rattle.sd_coherent.proofs.Named.{settle-named}
 use Rattle.sd_coherent.proofs.Forces as forces
 use Rattle.sd_coherent.proofs.Checkpoints.{cover-settles}
 use Rattle.sd_coherent.proofs.Closed.{close-settles}
-use Rattle.sd_sound.specs.Logs.{LessElsewhere, Logs, Outcomes, Replaces, all_at, base_at, kept_logs, may_of, past_at, tail_at, tails_of}
-use Rattle.sd_sound.proofs.Kept.{forced-base, forced-idle, forced-start, forced-tail, master-same}
+use Rattle.sd_sound.specs.Logs.{LessElsewhere, Logs, Outcomes, all_at, base_at, kept_logs, may_of, past_at, tail_at, tails_of}
+use Rattle.sd_sound.proofs.Kept.{forced-base, forced-idle, forced-tail, master-same}
 use Rattle.sd_sound.proofs.Forces.{forced-keeps}
 use Rattle.sd_sound.proofs.Outcomes.{less-same}
 use Rattle.sd_sound.proofs.Changed.{may-less}
 use Rattle.sd_state.specs.Forcing.{IsForced, with_forced}
 use Rattle.sd_state.specs.Good.{Good, Half, IsInstance, IsKnownLsn, IsUnderWay, IsSettledAt, IsTold, base_of, dir_of, reaches}
 use Rattle.sd_state.specs.Images.{IsClaimed, IsEpochOf, IsOpenIn, begun_at, leaves_by, log_by}
-use Rattle.sd_state.specs.Tables.{NamesLife, RowIsLive, RowIsLogged, StandsAs, tells_log}
+use Rattle.sd_state.specs.Tables.{NamesLife, RowIsLive, RowIsLogged, StandsAs}
 use Rattle.sd_txn.specs.declared.state.TxnState.{TxnState}
 use Rattle.sd_txn.specs.Transactions.{Transaction, txn_at}
-use Rattle.sd_txn.specs.Owing.{owed_of, reserve_of}
 use Rattle.sd_model.specs.declared.act.Life.{Life}
-use Rattle.sd_state.specs.Parts.{Begun, Parts, active_as, among, count_at, is_loose, log_at, no_log, no_pool, other_at, owed_at, status_at, txns_at, up_as}
+use Rattle.sd_state.specs.Parts.{Begun, Parts, active_as, among, count_at, is_loose, log_at, no_log, no_pool, other_at, owed_at, txns_at, up_as}
 use Rattle.sd_state.proofs.Items.{item-kept, item-set}
 use Rattle.sd_state.proofs.Standing.{no-place, one-place}
 use Rattle.sd_state.specs.Values.{Pending, values}

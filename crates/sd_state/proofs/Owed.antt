@@ -1,10 +1,8 @@
 -- What a log owes once it is forced: for `force_log`.
-use Rattle.std.proofs.Common.{◌≡◌, ℕ, ◌+◌, ◌-◌, ◌^◌, ◌<◌, ◌≤◌, Bool, true, false, List, [], map, ◌++◌, min, refl, sym, ap, ◌∙◌, subst, arith, append-nil}
-use Rattle.std.specs.Prelude.{Option, IfSome}
-use Rattle.sd_base.specs.declared.ids.TxnId.{TxnId}
+use Rattle.std.proofs.Common.{◌≡◌, ℕ, ◌-◌, ◌^◌, ◌<◌, ◌≤◌, true, false, List, map, ◌++◌, min, refl, sym, ap, ◌∙◌, arith, append-nil}
 use Rattle.sd_base.specs.declared.place.Status.{Status}
 use Rattle.sd_base.specs.declared.place.Status.TheVariants as S
-use Rattle.sd_logrec.specs.View.{Rec, flat}
+use Rattle.sd_logrec.specs.View.{flat}
 use Rattle.sd_logrec.specs.declared.record.Record.{Record}
 use Rattle.sd_model.specs.State.{State}
 use Rattle.sd_rig.specs.Devices as rig
@@ -12,7 +10,7 @@ use Rattle.sd_txn.specs.Owing.{owed_of}
 use Rattle.sd_chain.specs.Bytes.{disk_page}
 use Rattle.sd_chain.specs.Checks.{owed}
 use Rattle.sd_chain.specs.Images.{Keeps, all_kept}
-use Rattle.sd_sound.specs.Logs.{Outcomes, all_at, base_at, owed_with, tails_of}
+use Rattle.sd_sound.specs.Logs.{Outcomes, all_at, base_at}
 use Rattle.sd_sound.proofs.Lsns.{owed-one_within}
 use Rattle.sd_state.specs.Values.{Pending}
 use Rattle.sd_state.specs.Forcing.{owed_as, owed_by}

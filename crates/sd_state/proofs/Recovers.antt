@@ -1,10 +1,8 @@
 -- A recovery that begins: what held of the complex holds of it then.
-use Rattle.std.proofs.Common.{◌≡◌, ◌≢◌, ◌⊎◌, inl, inr, ℕ, zero, suc, ◌-◌, ◌≤◌, Bool, true, false, cond, eqb, List, [], length, get_or, slice_set, refl, sym, ap, ◌∙◌, subst, arith, ⊎_elim, eq-eqb, ne_eqb}
-use Rattle.std.specs.Prelude.{Option, None, Some}
+use Rattle.std.proofs.Common.{◌≡◌, ◌≢◌, ◌⊎◌, inl, inr, ℕ, zero, suc, ◌-◌, ◌≤◌, Bool, true, false, cond, eqb, length, slice_set, refl, sym, ap, ◌∙◌, subst, arith, ⊎_elim, eq-eqb, ne_eqb}
+use Rattle.std.specs.Prelude.{None}
 use Rattle.std.proofs.lemmas.Bool.{cases_eq, cases_lt}
 use Rattle.std.proofs.lemmas.List.{get_or_past, get_or-set_other, get_or-set_same, length-set}
-use Rattle.sd_base.specs.declared.ids.TxnId.{TxnId}
-use Rattle.sd_base.specs.declared.place.Status.{Status}
 use Rattle.sd_base.specs.declared.place.Status.TheVariants as S
 use Rattle.sd_model.specs.declared.act.Inst.{Inst}
 use Rattle.sd_model.specs.declared.event.Event.TheVariants.{RecoverBegin}
@@ -15,11 +13,9 @@ use Rattle.sd_model.proofs.PlacedRun.{step-placed}
 use Rattle.sd_model.proofs.Listed.{step-listed}
 use Rattle.sd_model.proofs.MarksRun.{step-marked}
 use Rattle.sd_model.proofs.Recoverers.{step-recoverers}
-use Rattle.sd_pagelock.specs.Asks.{is_open}
-use Rattle.sd_pagelock.specs.Directory.{asks_at, entry_at}
+use Rattle.sd_pagelock.specs.Directory.{asks_at}
 use Rattle.sd_rig.specs.Devices as rig
 use Rattle.sd_chain.specs.Images.{Keeps}
-use Rattle.sd_chain.specs.Records.{Each}
 use Rattle.sd_chain.proofs.Lists.{Each-weaker}
 use Rattle.sd_coherent.specs.Changes as changes_law
 use Rattle.sd_coherent.specs.Coherent.{Coherent}
@@ -32,7 +28,7 @@ use Rattle.sd_state.specs.Good.{Good, Half, IsInstance, base_of, dir_of}
 use Rattle.sd_state.specs.Images.{IsEpochOf, leaves_by, log_by}
 use Rattle.sd_state.specs.Tables.{tells_log}
 use Rattle.sd_txn.specs.Transactions.{begins_in}
-use Rattle.sd_state.specs.Parts.{Begun, Parts, active_as, among, is_active, is_loose, is_up, status_at, txns_at, up_as}
+use Rattle.sd_state.specs.Parts.{Parts, active_as, is_active, is_loose, is_up, status_at, txns_at, up_as}
 use Rattle.sd_state.specs.Recovering.{recovers, with_recovering}
 use Rattle.sd_state.specs.Values.{Pending}
 use Rattle.sd_state.proofs.Items.{item-kept, item-set}

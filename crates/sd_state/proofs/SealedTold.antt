@@ -33,7 +33,7 @@ use Rattle.sd_sound.proofs.Owing.{before-there, ends-speaks, now-ended}
 use Rattle.sd_sound.proofs.Room.{end-len}
 use Rattle.sd_state.specs.Parts.{IsShape, Parts, log_at, no_log, no_txns, txns_at}
 use Rattle.sd_state.specs.Sealing.{AreAlike, EndTells, MaySeal, RowsAlike, shut, with_last}
-use Rattle.sd_state.specs.Tables.{IsLogged, IsShut, RowIsLogged}
+use Rattle.sd_state.specs.Tables.{IsLogged, RowIsLogged}
 use Rattle.sd_state.specs.Good.{IsTold}
 use Rattle.sd_model.specs.State.{State}
 use Rattle.sd_state.specs.Values.{open_of}

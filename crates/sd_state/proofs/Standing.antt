@@ -1,10 +1,9 @@
 -- Whatever a crash leaves stands for the serial table's state, and who may update a page is alone with it: for the laws.
-use Rattle.std.proofs.Common.{◌≡◌, ◌≢◌, ◌⊎◌, inl, inr, ℕ, zero, suc, ◌≤◌, Bool, true, false, cond, eqb, List, [], ◌++◌, map, refl, sym, ap, ◌∙◌, subst, arith, eq-eqb, ne_eqb, ⊎_elim}
+use Rattle.std.proofs.Common.{◌≡◌, ◌≢◌, ◌⊎◌, ℕ, ◌≤◌, Bool, true, false, cond, eqb, List, map, refl, sym, ap, ◌∙◌, subst, arith, eq-eqb, ne_eqb, ⊎_elim}
 use Rattle.std.specs.Prelude.{Option, Some, None, IfSome}
 use Rattle.std.specs.Option.{option_map_or}
 use Rattle.std.proofs.lemmas.Bool.{cases_eq}
 use mathlib.Core.Path.{fun_ext}
-use Rattle.sd_base.specs.declared.ids.TxnId.{TxnId}
 use Rattle.sd_logrec.specs.Kept.{Master, Whole, kept, master}
 use Rattle.sd_logrec.specs.View.{Rec}
 use Rattle.sd_log.specs.Forces.{Forces, StandsEither, forced_at, forced_len}
@@ -12,7 +11,7 @@ use Rattle.sd_log.specs.Logs.{LogState, forced}
 use Rattle.sd_rig.specs.Devices.{AgreesOutside}
 use Rattle.sd_model.specs.State.{State}
 use Rattle.sd_rig.specs.Devices as rig
-use Rattle.sd_chain.specs.Bytes.{disk_page, log_of, stable}
+use Rattle.sd_chain.specs.Bytes.{stable}
 use Rattle.sd_chain.specs.Checks.{DevicesAreSound, past_of, placed_of}
 use Rattle.sd_chain.specs.Crashes.{Leaves, StandsFor}
 use Rattle.sd_chain.specs.Fates.{Fate, fate}
@@ -21,7 +20,7 @@ use Rattle.sd_chain.specs.Images.{Keeps}
 use Rattle.sd_chain.specs.Records.{Val, home}
 use Rattle.sd_coherent.proofs.Crashes as crashes
 use Rattle.sd_coherent.proofs.Newest as newest
-use Rattle.sd_sound.specs.Logs.{Logs, Outcomes, after_records, base_at, kept_logs, may_of, past_at, tails_of}
+use Rattle.sd_sound.specs.Logs.{Logs, Outcomes, after_records, kept_logs, may_of, past_at, tails_of}
 use Rattle.sd_sound.specs.Soundly.{IsReady}
 use Rattle.sd_sound.proofs.Forces.{force-left}
 use Rattle.sd_sound.proofs.Kept.{forced-start, kept-is, master-same}

@@ -1,5 +1,5 @@
 -- The parts of a complex, as its code keeps them.
-use Rattle.std.specs.Prelude.{ℕ, Option, None, Some, map, option_map}
+use Rattle.std.specs.Prelude.{ℕ, map, option_map}
 use Rattle.std.specs.Box.{box_value}
 use Rattle.std.specs.Global.{Box}
 use Rattle.sd_page.specs.Page.{Page}

@@ -1,5 +1,5 @@
 -- A log that is forced, and one whose force failed.
-use Rattle.std.specs.Prelude.{◌≡◌, ◌≢◌, ℕ, ◌-◌, ◌^◌, ◌≤◌, min, Bool, true, false, List, Option, Some, None, slice_set}
+use Rattle.std.specs.Prelude.{◌≡◌, ◌≢◌, ℕ, ◌-◌, ◌^◌, min, true, List, Some, slice_set}
 use Rattle.sd_log.specs.Logs.{LogState, StandsOn, forced}
 use Rattle.sd_log.specs.Forces.{StandsEither, forced_at, forced_len}
 use Rattle.sd_rig.specs.Devices as rig

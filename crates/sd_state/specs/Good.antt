@@ -1,10 +1,9 @@
 -- What holds of a complex between any two calls, with the state of the serial table: the invariant.
-use Rattle.std.specs.Prelude.{◌≡◌, ◌≢◌, ◌⊎◌, ℕ, ◌≤◌, ◌<◌, Bool, true, false, List, [], ◌∷◌, Option, None, Some, IfSome, IsTrue, cond, leb}
+use Rattle.std.specs.Prelude.{◌≡◌, ◌≢◌, ◌⊎◌, ℕ, ◌≤◌, Bool, true, false, List, [], None, Some, IfSome, leb}
 use Rattle.std.specs.List.{list_any}
 use Rattle.sd_base.specs.Twin.{chosen_body, number_of}
 use Rattle.sd_base.specs.declared.ids.TxnId.{TxnId}
 use Rattle.sd_base.specs.declared.ids.Rid.{Rid}
-use Rattle.sd_base.specs.declared.place.Status.{Status}
 use Rattle.sd_base.specs.declared.place.Status.TheVariants as S
 use Rattle.sd_page.specs.Page.{Page}
 use Rattle.sd_logrec.specs.Kept.{master}
@@ -29,15 +28,15 @@ use Rattle.sd_txn.specs.Transactions.{begins_in, txn_at}
 use Rattle.sd_chain.specs.Bytes.{disk_page}
 use Rattle.sd_chain.specs.Checks.{owed, reserve}
 use Rattle.sd_chain.specs.Fates.{fate}
-use Rattle.sd_chain.specs.Images.{Gives, Keeps, Tails}
-use Rattle.sd_chain.specs.Records.{Each, IsOpen, home}
+use Rattle.sd_chain.specs.Images.{Gives, Keeps}
+use Rattle.sd_chain.specs.Records.{Each, home}
 use Rattle.sd_coherent.specs.Checkpoints.{Closed, Covered}
 use Rattle.sd_coherent.specs.Coherent.{Coherent}
 use Rattle.sd_coherent.specs.Named.{version_of}
 use Rattle.sd_coherent.specs.World.{Base, Dir}
-use Rattle.sd_sound.specs.Logs.{HasRecord, Logs, Outcomes, all_at, base_at, kept_logs, may_of, past_at, tail_at, tails_of}
+use Rattle.sd_sound.specs.Logs.{Logs, Outcomes, all_at, base_at, kept_logs, may_of, past_at, tails_of}
 use Rattle.sd_sound.specs.Soundly.{IsSoundly}
-use Rattle.sd_state.specs.Images.{IsClaimed, IsEpochOf, IsOpenIn, Stands, leaves_by, log_by}
+use Rattle.sd_state.specs.Images.{IsClaimed, IsEpochOf, IsOpenIn, leaves_by, log_by}
 use Rattle.sd_state.specs.Parts.{Begun, IsShape, Parts, check_at, count_at, epoch_at, is_active, is_loose, is_up, log_at, other_at, owed_at, pool_at, status_at, txns_at}
 use Rattle.sd_state.specs.Tables.{NamesLife, RowIsLive, RowIsLogged, lock_of, tells_log}
 use Rattle.sd_state.specs.Values.{Pending, is_committed, values}

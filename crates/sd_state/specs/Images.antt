@@ -1,8 +1,8 @@
 -- What an image of the nine devices stands for, and the ways in which a crash may leave the logs' start places.
-use Rattle.std.specs.Prelude.{◌≡◌, ◌≢◌, ℕ, ◌+◌, ◌≤◌, Bool, true, false, List, Option, None, Some, IfSome, cond, filter, leb}
+use Rattle.std.specs.Prelude.{◌≡◌, ◌≢◌, ℕ, ◌+◌, ◌≤◌, List, IfSome, cond, filter, leb}
 use Rattle.std.specs.Option.{option_map_or}
 use Rattle.sd_base.specs.declared.ids.TxnId.{TxnId}
-use Rattle.sd_logrec.specs.Kept.{kept, master}
+use Rattle.sd_logrec.specs.Kept.{master}
 use Rattle.sd_logrec.specs.View.{Rec}
 use Rattle.sd_log.specs.Logs.{LogState}
 use Rattle.sd_model.specs.declared.act.Claim.{Claim}

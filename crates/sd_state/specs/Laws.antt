@@ -1,5 +1,5 @@
 -- What the invariant says at any moment.
-use Rattle.std.specs.Prelude.{◌≡◌, ℕ, ◌≤◌, true, List, [], None, Some}
+use Rattle.std.specs.Prelude.{◌≡◌, ℕ, ◌≤◌, true, None, Some}
 use Rattle.sd_page.specs.Page.{Page}
 use Rattle.sd_log.specs.Forces.{Forces}
 use Rattle.sd_model.specs.State.{State}

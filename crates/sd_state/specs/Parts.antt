@@ -1,5 +1,5 @@
 -- What clauses read of a complex: its parts, those of the instances by their numbers.
-use Rattle.std.specs.Prelude.{ℕ, zero, suc, ◌≤◌, Bool, true, false, List, [], Option, None, Some, get_or, eqb, length, max}
+use Rattle.std.specs.Prelude.{ℕ, zero, suc, ◌≤◌, Bool, true, false, List, [], Option, None, get_or, eqb, length}
 use Rattle.std.specs.Prelude.{◌≡◌}
 use Rattle.sd_base.specs.declared.place.Status.{Status}
 use Rattle.sd_base.specs.declared.place.Status.TheVariants as S

@@ -1,5 +1,5 @@
 -- A record without a page that comes to a log: the start of an epoch, one of a checkpoint, or the end of a transaction.
-use Rattle.std.specs.Prelude.{◌≡◌, ◌⊎◌, ℕ, ◌+◌, ◌-◌, ◌≤◌, true, false, List, [], Option, None, Some, length, slice_set}
+use Rattle.std.specs.Prelude.{◌≡◌, ◌⊎◌, ℕ, ◌+◌, ◌-◌, ◌≤◌, true, false, [], Option, None, Some, length, slice_set}
 use Rattle.std.specs.List.{IsDistinct}
 use Rattle.sd_base.specs.declared.ids.TxnId.{TxnId}
 use Rattle.sd_base.specs.Ids.{same_txn}
@@ -7,18 +7,16 @@ use Rattle.sd_base.specs.declared.place.Status.TheVariants as S
 use Rattle.sd_logrec.specs.declared.record.Record.{Record}
 use Rattle.sd_logrec.specs.declared.record.Record.TheVariants as records
 use Rattle.sd_logrec.specs.Spelling.{spelling}
-use Rattle.sd_logrec.specs.View.{Rec, flat}
+use Rattle.sd_logrec.specs.View.{flat}
 use Rattle.sd_logrec.specs.View.Kind.{Commit, End, Plain}
 use Rattle.sd_log.specs.Logs.{LogState, with_record}
 use Rattle.sd_model.specs.State.{State}
 use Rattle.sd_model.specs.declared.act.Life.{Life}
 use Rattle.sd_rig.specs.Devices as rig
-use Rattle.sd_txn.specs.Owing.{owed_of, reserve_of}
 use Rattle.sd_txn.specs.Transactions as txns
 use Rattle.sd_txn.specs.Transactions.{Transaction, Transactions, ids, txn_at}
 use Rattle.sd_txn.specs.declared.state.TxnState.{TxnState}
-use Rattle.sd_chain.specs.Checks.{lsn_of, owed, reserve}
-use Rattle.sd_chain.specs.Fates.{Fate, fate}
+use Rattle.sd_chain.specs.Checks.{lsn_of, reserve}
 use Rattle.sd_chain.specs.Images.{Keeps}
 use Rattle.sd_chain.specs.Order.{MayFollow, speaks}
 use Rattle.sd_chain.specs.Records.{ends, home}

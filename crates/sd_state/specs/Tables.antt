@@ -1,5 +1,5 @@
 -- How a transaction table, its log and the serial table agree.
-use Rattle.std.specs.Prelude.{◌≡◌, ◌≢◌, ◌⊎◌, ◌↔◌, ℕ, Bool, true, false, List, [], ◌∷◌, ◌++◌, map, reverse, Option, None, Some, is_some, IsSome}
+use Rattle.std.specs.Prelude.{◌≡◌, ◌≢◌, ◌⊎◌, ℕ, Bool, true, false, List, [], map, reverse, Option, None, Some}
 use Rattle.sd_base.specs.declared.ids.TxnId.{TxnId}
 use Rattle.sd_base.specs.declared.place.Status.{Status}
 use Rattle.sd_base.specs.declared.place.Status.TheVariants as S
@@ -8,14 +8,12 @@ use Rattle.sd_base.specs.declared.place.Mode.TheVariants as modes
 use Rattle.sd_logrec.specs.View.{Rec}
 use Rattle.sd_model.specs.Acts.{live}
 use Rattle.sd_model.specs.Changes.{mark_of}
-use Rattle.sd_model.specs.State.{Part, State}
+use Rattle.sd_model.specs.State.{Part}
 use Rattle.sd_model.specs.declared.act.Claim.{Claim}
 use Rattle.sd_model.specs.declared.act.Life.{Life}
 use Rattle.sd_chain.specs.Fates.{Fate, fate}
 use Rattle.sd_chain.specs.Order.{span_of}
 use Rattle.sd_chain.specs.Records.{stack}
-use Rattle.sd_sound.specs.Logs.{all_at, base_at}
-use Rattle.sd_log.specs.Logs.{LogState}
 use Rattle.sd_txn.specs.declared.state.TxnState.{TxnState}
 use Rattle.sd_txn.specs.Transactions as txns
 use Rattle.sd_txn.specs.Transactions.{Transaction, Transactions, begins_in, txn_at}

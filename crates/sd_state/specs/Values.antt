@@ -1,10 +1,10 @@
 -- What records have: of a transaction's open records, and of the table that recovery gives.
-use Rattle.std.specs.Prelude.{◌≡◌, ◌≢◌, ℕ, Bool, true, false, List, [], ◌∷◌, ◌++◌, cond, eqb, map, filter}
+use Rattle.std.specs.Prelude.{ℕ, Bool, true, false, List, [], ◌∷◌, ◌++◌, cond, eqb, map, filter}
 use Rattle.std.specs.List.{list_any}
 use Rattle.sd_base.specs.declared.ids.TxnId.{TxnId}
 use Rattle.sd_base.specs.declared.ids.Rid.{Rid}
 use Rattle.sd_logrec.specs.View.{Rec}
-use Rattle.sd_model.specs.Acts.{Puts, after}
+use Rattle.sd_model.specs.Acts.{after}
 use Rattle.sd_model.specs.Tables.{Content}
 use Rattle.sd_model.specs.State.{State}
 use Rattle.sd_model.specs.declared.act.Done.{Done}

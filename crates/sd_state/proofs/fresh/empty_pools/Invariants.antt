@@ -1,4 +1,4 @@
-use Rattle.std.proofs.Common.{◌≡◌, None}
+use Rattle.std.proofs.Common.{◌≡◌}
 use Rattle.sd_state.specs.Fresh.{for_each, empty_pool}
 use Rattle.sd_state.proofs.fresh.empty_pools.Given as goal
 

@@ -1,4 +1,4 @@
-use Rattle.std.proofs.Common.{◌≡◌, None}
+use Rattle.std.proofs.Common.{◌≡◌}
 use Rattle.sd_state.specs.Fresh.{for_each, empty_table}
 use Rattle.sd_state.proofs.fresh.empty_tables.Given as goal
 

@@ -1,4 +1,4 @@
-use Rattle.std.proofs.Common.{◌≡◌, None}
+use Rattle.std.proofs.Common.{◌≡◌}
 use Rattle.sd_sound.specs.Logs.{new_log}
 use Rattle.sd_state.specs.Fresh.{for_each}
 use Rattle.sd_state.proofs.fresh.new_logs.Given as goal

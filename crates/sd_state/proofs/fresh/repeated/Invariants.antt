@@ -1,4 +1,4 @@
-use Rattle.std.proofs.Common.{◌≡◌, None}
+use Rattle.std.proofs.Common.{◌≡◌}
 use Rattle.sd_state.specs.Fresh.{for_each}
 use Rattle.sd_state.proofs.fresh.repeated.Given as goal
 

@@ -1,13 +1,13 @@
-use Rattle.std.proofs.Common.{◌≡◌, ◌≢◌, ◌⊎◌, inl, inr, ⊎_elim, ℕ, ◌-◌, ◌≤◌, Bool, true, false, List, [], refl, sym, ap, ◌∙◌, subst, arith, get_or, slice_set}
+use Rattle.std.proofs.Common.{◌≡◌, ◌≢◌, ⊎_elim, ℕ, ◌-◌, ◌≤◌, false, List, [], sym, ap, ◌∙◌, subst, arith, slice_set}
 use Rattle.sd_log.specs.Logs.{LogState, StandsOn, forced}
-use Rattle.sd_log.specs.Forces.{Forces, StandsEither, forced_at, forced_len}
+use Rattle.sd_log.specs.Forces.{Forces, forced_at, forced_len}
 use Rattle.sd_rig.specs.Devices.{AgreesOutside, LeavesOnly, Span}
 use Rattle.sd_rig.specs.Spans.{span-weaker}
 use Rattle.sd_sound.specs.Laws.{MayForce}
 use Rattle.sd_sound.proofs.Kept.{forced-idle}
 use Rattle.sd_sound.proofs.Outcomes.{failed-outcomes}
 use Rattle.sd_state.specs.Complexes.{parts}
-use Rattle.sd_state.specs.Forcing.{IsForced, IsHalfForced, with_failed, with_forced}
+use Rattle.sd_state.specs.Forcing.{IsForced, IsHalfForced, with_failed}
 use Rattle.sd_state.specs.Good.{Good, IsSettledAt}
 use Rattle.sd_state.specs.Images.{Stands}
 use Rattle.sd_state.specs.Parts.{IsShape, Parts, actor, is_loose, log_at}

@@ -1,4 +1,4 @@
-use Rattle.std.proofs.Common.{ap, subst, sym}
+use Rattle.std.proofs.Common.{subst, sym}
 use Rattle.sd_model.specs.State.{fresh}
 use Rattle.sd_state.specs.Complexes.{parts}
 use Rattle.sd_state.specs.Fresh.{IsFresh}

@@ -1,10 +1,9 @@
-use Rattle.std.proofs.Common.{◌≡◌, ℕ, ◌-◌, ◌≤◌, true, List, ap, sym, subst, arith, slice_set, ◌∙◌}
-use Rattle.sd_base.specs.declared.place.Status.{Status}
+use Rattle.std.proofs.Common.{◌≡◌, ℕ, ◌-◌, ◌≤◌, true, ap, sym, subst, arith, slice_set}
 use Rattle.sd_base.specs.declared.place.Status.TheVariants as S
 use Rattle.sd_state.specs.Complexes.{parts}
 use Rattle.sd_state.specs.Good.{Good}
 use Rattle.sd_state.specs.Parts.{Parts}
-use Rattle.sd_state.specs.Recovering.{recovers, with_recovering}
+use Rattle.sd_state.specs.Recovering.{recovers}
 use Rattle.sd_state.specs.Values.{Pending}
 use Rattle.sd_state.proofs.Recovers.{may-recover, recovering-good}
 use Rattle.sd_state.proofs.complex.Complex.recovering.Goals as goal
