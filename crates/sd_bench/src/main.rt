@@ -6,7 +6,7 @@
 //! Refuses: words that name no loop, by exit status 2; a loop that a layer stops, by exit status 1.
 //! Knows nothing of: time, which `benches/` takes from outside.
 //! Stands on: sd_base, sd_rig, sd_gate, sd_filerig, sd_page, sd_logrec, sd_log, sd_pool, sd_reclock, sd_pagelock,
-//! sd_recovered.
+//! sd_state, sd_recovered, sd_one.
 //!
 //! To change:
 //! - free: all
@@ -14,6 +14,7 @@
 //! - frozen: nothing
 #![tactic(auto)]
 
+mod complexes;
 mod devices;
 mod locks;
 mod logs;
@@ -41,6 +42,12 @@ fn run(rt: &HostRuntime, alloc: Global, words: &[String]) -> Option<bool> {
             let times = times.parse::<u32>().ok()?;
             let dev = dev.parse::<u8>().ok().filter(|dev| *dev <= 8)?;
             Some(devices::cycles_in(rt, alloc, dir, dev, times))
+        }
+        [name, complexes, times, each] if name.as_str() == "complex" => {
+            let complexes = complexes.parse::<u32>().ok()?;
+            let times = times.parse::<u32>().ok()?;
+            let each = each.parse::<u32>().ok().filter(|each| *each >= 1)?;
+            Some(complexes::changes(alloc, complexes, times, each))
         }
         [name, times, dev] if name.as_str() == "devices" => {
             let times = times.parse::<u32>().ok()?;

@@ -1,6 +1,6 @@
 -- What answers of calls give, and what is read of a complex at a place: for the calls that change a complex.
 use Rattle.std.proofs.Common.{◌≡◌, ◌≢◌, ◌⊎◌, inl, inr, ⊎_elim, ℕ, ◌-◌, ◌≤◌, Bool, true, List, [], ◌∷◌, length, get_or, slice_set, refl, sym, ap, ◌∙◌, arith, subst}
-use Rattle.std.specs.Prelude.{Result, Ok, Err, IfOk, OnOk}
+use Rattle.std.specs.Prelude.{Result, Ok, Err, IfOk, OnErr, OnOk}
 use Rattle.std.proofs.lemmas.Bool.{cases_eq}
 use Rattle.std.proofs.Math.ListN.{get_or-map}
 use Rattle.std.proofs.lemmas.List.{get_or_read, length-set, set-get_or}
@@ -10,9 +10,10 @@ use Rattle.std.specs.Prelude.{None, option_map}
 use Rattle.sd_page.specs.Page.{Page}
 use Rattle.sd_pagelock.specs.Directory.{DirectoryState, image_at}
 use Rattle.sd_log.specs.Logs.{LogState}
+use Rattle.sd_txn.specs.Transactions.{Transactions}
 use Rattle.sd_state.specs.Complexes.{unboxed}
 use Rattle.sd_state.specs.Forcing.{with_forced}
-use Rattle.sd_state.specs.Parts.{IsShape, Parts, among, is_loose, log_at, no_log, owed_at}
+use Rattle.sd_state.specs.Parts.{IsShape, Parts, among, is_loose, log_at, no_log, no_txns, owed_at, txns_at}
 use Rattle.sd_state.proofs.Items.{item-is, item-kept, item-set}
 
 pub nil-or : {A : Type 0} (xs : List A) → (xs ≡ []) ⊎ (xs ≢ [])
@@ -27,6 +28,18 @@ same-set items k x y is e = ap (slice_set items k) (e ∙ is) ∙ set-get_or ite
 pub log-lent : (c : Parts) (i at : ℕ) (log : LogState) → 1 ≤ i → i ≤ 8 → length c.logs ≡ 8 → at ≡ i - 1 → log ≡ get_or c.logs at log
     → log_at c i ≡ log
 log-lent c i at log low high eight place is = item-is no_log c.logs i log low high eight (is ∙ ap (λ (n : ℕ). get_or c.logs n log) place)
+
+-- the table that is lent at its place
+pub table-lent : (c : Parts) (i at : ℕ) (table : Transactions) → 1 ≤ i → i ≤ 8 → length c.txns ≡ 8 → at ≡ i - 1
+    → table ≡ get_or c.txns at table → txns_at c i ≡ table
+table-lent c i at table low high eight place is =
+    item-is no_txns c.txns i table low high eight (is ∙ ap (λ (n : ℕ). get_or c.txns n table) place)
+
+-- and the one that is written there
+pub table-set : (c : Parts) (i at : ℕ) (table : Transactions) → 1 ≤ i → i ≤ 8 → length c.txns ≡ 8 → at ≡ i - 1
+    → among no_txns (slice_set c.txns at table) i ≡ table
+table-set c i at table low high eight place =
+    ap (λ (n : ℕ). among no_txns (slice_set c.txns n table) i) place ∙ item-set no_txns c.txns i table low high eight
 
 -- the mark that is read of a device
 pub mark-read : (c : Parts) (d at : ℕ) (b value : Bool) → d ≤ 8 → length c.loose ≡ 9 → at ≡ d → b ≡ get_or c.loose at b → value ≡ b
@@ -69,6 +82,11 @@ forced-parts c i at x y owes low high eight place same =
 -- an answer that is Ok has what comes with Ok
 pub on-ok : {A B : Type 0} (r : Result A B) (x : A) (P : Type 0) → r ≡ Ok x → P → OnOk r P
 on-ok {A = A} {B = B} r x P is h = subst (λ (s : Result A B). OnOk s P) (sym is) h
+
+-- and so has an error what comes with an error
+pub on-err : {A B : Type 0} (r : Result A B) (P : Type 0) → P → OnErr r P
+on-err (Ok x) P h = tt
+on-err (Err e) P h = h
 
 abbrev bad : {A B : Type 0} → B → Result A B
 bad y = Err y

@@ -9,9 +9,10 @@ use Rattle.sd_base.specs.declared.place.Status.{Status}
 use Rattle.sd_base.specs.declared.place.Status.TheVariants as S
 use Rattle.sd_logrec.specs.Kept.{Master, master}
 use Rattle.sd_logrec.specs.View.{Rec}
-use Rattle.sd_log.specs.Logs.{LogState, StandsOn, forced}
+use Rattle.sd_log.specs.Logs.{LogState, StandsOn, forced, last_lsn, scanned}
 use Rattle.sd_page.specs.Page.{Page, empty_page}
 use Rattle.sd_model.specs.State.{fresh}
+use Rattle.sd_model.specs.declared.act.Claim.{Claim}
 use Rattle.sd_model.proofs.Opened.{fresh-opened, opened-placed, opened-listed, opened-marked}
 use Rattle.sd_model.proofs.Recoverers.{opened-recoverers}
 use Rattle.sd_model.proofs.Serial.{fresh-opening, opening_run-kept}
@@ -32,16 +33,16 @@ use Rattle.sd_chain.specs.Image.{Image, Recovered, Sound, all_of, chain, newest}
 use Rattle.sd_chain.specs.Images.{Gives, IsSafe, Keeps, Tails, all_kept, with_disk}
 use Rattle.sd_chain.specs.Order.{Tidy}
 use Rattle.sd_chain.specs.Pages.{value}
-use Rattle.sd_chain.specs.Records.{Each, home}
+use Rattle.sd_chain.specs.Records.{Each, IsOpen, home, stack}
 use Rattle.sd_chain.proofs.Images.{opening-safe, opening-gives}
 use Rattle.sd_coherent.specs.Coherent.{Coherent, Quiet}
 use Rattle.sd_coherent.specs.Named.{IsNamed, version_of}
 use Rattle.sd_coherent.proofs.Named.{may_be-named}
 use Rattle.sd_sound.specs.Logs.{IsBlank, Logs, Outcomes, all_at, base_at, kept_logs, may_of, new_log, past_at, tail_at, tails_of}
 use Rattle.sd_sound.proofs.Blank.{blank-ready, blank-sound, body_blank, master_blank}
-use Rattle.sd_state.specs.Values.{Pending}
+use Rattle.sd_state.specs.Values.{Pending, rid_of}
 use Rattle.sd_state.specs.Fresh.{AreBlank, IsFresh, empty_pool, empty_table, for_each}
-use Rattle.sd_state.specs.Good.{Good, Half, IsInstance, IsKnownLsn, IsSettledAt, IsTold, base_of, dir_of}
+use Rattle.sd_state.specs.Good.{Good, Half, IsInstance, IsKnownLsn, IsSettledAt, IsTold, OwesAtMost, base_of, dir_of}
 use Rattle.sd_state.specs.Tables.{NamesLife, RowIsLogged, tells_log}
 use Rattle.sd_state.specs.Images.{IsEpochOf, begun_at, leaves_by, log_by}
 use Rattle.sd_state.specs.Parts.{Begun, Parts, check_at, count_at, is_active, is_loose, is_up, log_at, no_log, no_pool, no_txns, other_at, owed_at, pool_at, status_at, txns_at, among, up_as, epoch_at}
@@ -79,7 +80,7 @@ not-open t log none is = let e = ap (fate t) (sym none) ∙ is in absurd (cc)
 module _ (seen : rig.Image) (leaves : Outcomes) (frames : ℕ) (c : Parts) (devices : AreBlank seen leaves) (f : IsFresh frames c) where
   -- ---- parts
 
-  log-is : (j : ℕ) → 1 ≤ j → j ≤ 8 → log_at c j ≡ new_log j 0
+  pub log-is : (j : ℕ) → 1 ≤ j → j ≤ 8 → log_at c j ≡ new_log j 0
   log-is j low high = ap (λ (logs : List LogState). among no_log logs j) f.logs ∙ at-each no_log (λ i. new_log i 0) j low high
 
   base-none : (j : ℕ) → base_at (log_at c j) ≡ []
@@ -94,7 +95,7 @@ module _ (seen : rig.Image) (leaves : Outcomes) (frames : ℕ) (c : Parts) (devi
   no-other j = subst (λ (others : List (Option ℕ)). among {A = Option ℕ} None others j ≡ None) (sym f.others)
       (at-any (λ (o : Option ℕ). o ≡ None) None (λ i. None) refl (λ i. refl) j)
 
-  no-check : (j : ℕ) → check_at c j ≡ None
+  pub no-check : (j : ℕ) → check_at c j ≡ None
   no-check j = subst (λ (checks : List (Option Begun)). among {A = Option Begun} None checks j ≡ None) (sym f.checks)
       (at-any (λ (o : Option Begun). o ≡ None) None (λ i. None) refl (λ i. refl) j)
 
@@ -102,7 +103,7 @@ module _ (seen : rig.Image) (leaves : Outcomes) (frames : ℕ) (c : Parts) (devi
   no-copy i p = subst (λ (pools : List Buffers). buffers.image_at (among no_pool pools i) p ≡ None) (sym f.pools)
       (at-any (λ (pool : Buffers). buffers.image_at pool p ≡ None) no_pool (λ k. empty_pool frames) refl (λ k. refl) i)
 
-  table-is : (i : ℕ) → 1 ≤ i → i ≤ 8 → txns_at c i ≡ empty_table i
+  pub table-is : (i : ℕ) → 1 ≤ i → i ≤ 8 → txns_at c i ≡ empty_table i
   table-is i low high = ap (λ (txns : List Transactions). among no_txns txns i) f.txns ∙ at-each no_txns empty_table i low high
 
   is-clean : (i : ℕ) → 1 ≤ i → i ≤ 8 → status_at c i ≡ S.Clean
@@ -112,7 +113,7 @@ module _ (seen : rig.Image) (leaves : Outcomes) (frames : ℕ) (c : Parts) (devi
   epoch-is : (i : ℕ) → 1 ≤ i → i ≤ 8 → epoch_at c i ≡ 0
   epoch-is i low high = ap (λ (epochs : List ℕ). among 0 epochs i) f.epochs ∙ at-each 0 (λ k. 0) i low high
 
-  owes-none : (i : ℕ) → 1 ≤ i → i ≤ 8 → owed_at c i ≡ 0
+  pub owes-none : (i : ℕ) → 1 ≤ i → i ≤ 8 → owed_at c i ≡ 0
   owes-none i low high = ap (λ (owed : List ℕ). among 0 owed i) f.owed ∙ at-each 0 (λ k. 0) i low high
 
   -- an instance that is up has a settled log; above 8 none is up
@@ -152,7 +153,7 @@ module _ (seen : rig.Image) (leaves : Outcomes) (frames : ℕ) (c : Parts) (devi
     abbrev logs : Logs
     logs = log_by c moved
 
-    same-log : (j : ℕ) → logs j ≡ log_at c j
+    pub same-log : (j : ℕ) → logs j ≡ log_at c j
     same-log j = ap (λ (o : Option ℕ). cond (moved j) (option_map_or (λ place. begun_at place (log_at c j)) o (log_at c j)) (log_at c j)) (no-other j)
         ∙ both (moved j)
       where
@@ -196,7 +197,7 @@ module _ (seen : rig.Image) (leaves : Outcomes) (frames : ℕ) (c : Parts) (devi
     named = may_be-named (λ p x. x ≡ empty_page p) (may_of leaves') (tails_of logs) (λ keeps p. newest nothing p) (disk_page (seen 0))
         safe0 only-empty allowed
 
-    now-empty : (keeps : Keeps) (p : ℕ) → version_of (tails_of logs) (disk_page (seen 0)) keeps p ≡ empty_page p
+    pub now-empty : (keeps : Keeps) (p : ℕ) → version_of (tails_of logs) (disk_page (seen 0)) keeps p ≡ empty_page p
     now-empty keeps p = named.same keeps p ∙ newest-none p
 
     unheld : (i p : ℕ) (x : Page) → None ≡ cond (holds (entry_at c.directory p) i) (Some x) None
@@ -233,6 +234,11 @@ module _ (seen : rig.Image) (leaves : Outcomes) (frames : ℕ) (c : Parts) (devi
     epoch-none : (j : ℕ) → 1 ≤ j → j ≤ 8 → (bytes : List ℕ) → leaves j bytes → (past_at (master bytes) (new_log j 0)).epoch ≡ 0
     epoch-none j low high bytes left = ap (λ (m : Master). (past_at m (new_log j 0)).epoch) (master_blank bytes (left-blank j high bytes left))
 
+    -- nobody has a record open with the tail
+    held : (t : TxnId) → Each (λ x. (fresh.part t).claims (rid_of x) ≡ Claim.Excl) (stack t (all_at (logs (home t))))
+    held t = subst (λ (log : List Rec). Each (λ x. (fresh.part t).claims (rid_of x) ≡ Claim.Excl) (stack t log))
+        (sym (ap₂ (λ (b tail : List Rec). b ++ tail) (bases (home t)) (tails (home t)))) tt
+
     epochs : (j : ℕ) → 1 ≤ j → j ≤ 8 → (bytes : List ℕ) → leaves j bytes → (l : LogState) → l ≡ new_log j 0
         → IsEpochOf fresh Pending.Idle j (past_at (master bytes) l).epoch
     epochs j low high bytes left l is =
@@ -246,6 +252,7 @@ module _ (seen : rig.Image) (leaves : Outcomes) (frames : ℕ) (c : Parts) (devi
           (λ j low high. same-log j ∙ log-is j low high ∙ ap (new_log j) (sym (ap (λ (l : LogState). l.spare) (same-log j ∙ log-is j low high))));
       gives = gives;
       claimed = λ keeps t is. absurd (not-open t (kept_logs (tails_of logs) keeps (home t)) (kept-none keeps (home t)) is);
+      held = λ t opens. held t;
       epochs = λ j low high bytes l. (
         epochs j low high bytes l.0 (logs j) (same-log j ∙ log-is j low high),
         epochs j low high bytes l.0 (forced (logs j)) (ap forced (same-log j ∙ log-is j low high)),
@@ -263,13 +270,18 @@ module _ (seen : rig.Image) (leaves : Outcomes) (frames : ℕ) (c : Parts) (devi
     one_place = no-other j;
     counted = subst (λ (o : Option (List ℕ)). IfSome o (λ body. number_of body ≡ count_at c j))
         (sym (body_blank 0 64 (seen j) (devices.blank j high))) tt;
+    epoch = ap (λ (l : LogState). (past_at (master (seen j)) (forced l)).epoch) (log-is j low high)
+        ∙ ap (λ (k : Master). (past_at k (new_log j 0)).epoch) (master_blank (seen j) (devices.blank j high)) ∙ sym (epoch-is j low high);
   }
 
   instance-is : (i : ℕ) → 1 ≤ i → i ≤ 8 → IsInstance c fresh i
   instance-is i low high = record {
     status = is-clean i low high;
-    epoch = epoch-is i low high;
+    epoch = λ up. epoch-is i low high;
     begins = λ up. let e = sym (is-clean i low high) ∙ up in absurd (cc);
+    first = λ up. let e = sym (is-clean i low high) ∙ up in absurd (cc);
+    own = λ t ne. ap (λ (z : Transactions). txn_at z t) (table-is i low high);
+    table = let e = ap (λ (z : Transactions). z.epoch) (table-is i low high) in omega (arith, e);
     names = λ t own. subst (λ (table : Transactions). NamesLife (txn_at table t) (fresh.part t).life (fate t (base_at (log_at c i))) (fate t (all_at (log_at c i))))
         (sym (table-is i low high)) refl;
   }
@@ -283,12 +295,18 @@ module _ (seen : rig.Image) (leaves : Outcomes) (frames : ℕ) (c : Parts) (devi
         (not-open t (all_at (log_at c i)) (all-none i));
     owes = ap owed_of (table-is i low high) ∙ sym (ap owed (all-none i));
     reserves = ap reserve_of (table-is i low high) ∙ sym (ap reserve (all-none i));
-    spare = let e = ap reserve (all-none i) in omega (arith, e);
+    spare = λ up. let e = ap reserve (all-none i) in omega (arith, e);
   }
 
   known-lsn : (p : ℕ) (x : Page) → may_of leaves p x → IsKnownLsn c x.lsn
   known-lsn p x m =
       let e = ap (λ (y : Page). y.lsn) (sym m.2 ∙ page-none m.0 (left-blank 0 (omega arith) m.0 m.1) p) in inl (omega (arith, e))
+
+  owes-little : (moved : Keeps) (j : ℕ) → OwesAtMost (owed_at c j) (log_by c moved j)
+  owes-little moved j =
+      let base = ap owed (bases moved j) in
+      let all = ap owed (ap₂ (λ (b tail : List Rec). b ++ tail) (bases moved j) (tails moved j)) in
+      (omega (arith, base), omega (arith, all))
 
   pub fresh-good : Good seen leaves Pending.Idle c fresh
   fresh-good = record {
@@ -311,18 +329,25 @@ module _ (seen : rig.Image) (leaves : Outcomes) (frames : ℕ) (c : Parts) (devi
     settled = λ j low high e. settled j low high;
     disk_settled = λ e. devices.only 0 (omega arith);
     disk_lsns = known-lsn;
-    owed = λ j low high. owes-none j low high ∙ sym (ap owed (base-none j));
+    last = λ j low high. subst (Each (λ x. x.lsn ≤ last_lsn (scanned (log_at c j)))) (sym (all-none j)) tt;
+    owed = λ j low high e. owes-none j low high ∙ sym (ap owed (base-none j));
+    owed_loose = λ moved j low high e. owes-little moved j;
     kept = opening_run-kept [] fresh fresh fresh-opening refl;
     placed = opened-placed fresh fresh-opened;
     listed = opened-listed fresh fresh-opened;
     marked = opened-marked fresh fresh-opened;
+    named = λ t. tt;
+    numbered = λ t there. absurd (there refl);
     recoverers = opened-recoverers fresh fresh-opened;
     not_closed = λ e. absurd (cc);
     instances = instance-is;
     told = λ i low high tells e. told i low high;
     at_rest = λ i low high tells e. let told = sym (ap tells_log (is-clean i low high)) ∙ tells in absurd (cc);
+    begun = λ i low high up. let e = sym (is-clean i low high) ∙ up in absurd (cc);
     at_work = λ i low high up. let e = sym (is-clean i low high) ∙ up in absurd (cc);
+    going = λ t low high goes. subst (IsOpen t) (sym (all-none (home t))) tt;
     pending = tt;
+    gone = λ t e r. refl;
     locks = λ t r. subst (λ (held : Held). held_in held t r ≡ None) (sym f.unlocked) refl;
     asks = λ p. subst (Each (λ ask. (is_active c ask.by ≡ true) × (is_open (entry_at c.directory p) ask ≡ true))) (sym (f.unasked p)) tt;
     checking = λ i k is. let e = sym (no-check i) ∙ is in absurd (cc);

@@ -1,24 +1,22 @@
 -- A change of a record: what held of the complex holds of it then, with the put in the serial table.
-use Rattle.std.proofs.Common.{◌≡◌, ◌≢◌, ◌⊎◌, inl, inr, ℕ, ◌+◌, ◌-◌, ◌≤◌, ◌<◌, Bool, true, false, cond, List, [], ◌∷◌, ◌++◌, ◌&&◌, length, map, refl, sym, ap, ap₂, ◌∙◌, subst, arith, ⊎_elim, append_assoc, zero, suc}
-use Rattle.std.specs.Prelude.{Option, Some, IfSome, filter, if◌then◌else◌, ◌==◌}
+use Rattle.std.proofs.Common.{◌≡◌, ◌≢◌, ◌⊎◌, inl, inr, ℕ, ◌+◌, ◌≤◌, ◌<◌, Bool, true, false, cond, List, [], ◌∷◌, ◌++◌, ◌&&◌, length, max, refl, sym, ap, ap₂, ◌∙◌, subst, arith, ⊎_elim}
+use Rattle.std.specs.Prelude.{Option, Some, IfSome, filter, if◌then◌else◌, ◌==◌, None}
 use Rattle.std.specs.Option.{option_map_or}
 use Rattle.std.specs.List.{list_any}
-use Rattle.std.proofs.lemmas.Bool.{cases_Bool, cases_eq, cases_lt}
-use Rattle.std.proofs.lemmas.List.{length-set, map-append}
+use Rattle.std.proofs.lemmas.Bool.{cases_Bool, cases_eq}
+use Rattle.std.proofs.lemmas.List.{map-append}
 use mathlib.Core.Path.{fun_ext}
 use Rattle.sd_base.specs.Ids.{same_txn}
 use Rattle.sd_base.proofs.SameIds.{cases_txn, each_txn, eq-same}
 use Rattle.sd_base.specs.declared.ids.TxnId.{TxnId}
-use Rattle.sd_base.specs.declared.ids.Rid.{Rid}
 use Rattle.sd_base.specs.declared.place.Status.TheVariants as S
 use Rattle.sd_logrec.specs.Kept.{master}
 use Rattle.sd_logrec.specs.View.{Rec, flat}
-use Rattle.sd_log.specs.Logs.{LogState, StandsOn, forced, needed, with_record}
+use Rattle.sd_log.specs.Logs.{LogState, StandsOn, forced, last_lsn, needed, scanned, with_record}
 use Rattle.sd_logrec.specs.Spelling.{spelling}
 use Rattle.sd_page.specs.Page.{Page}
-use Rattle.sd_model.specs.Acts.{after}
+use Rattle.sd_model.specs.Acts.{after, live}
 use Rattle.sd_model.specs.Claims.{Claims}
-use Rattle.sd_model.specs.Listed.{Below, EachBelow, IsAmong}
 use Rattle.sd_model.specs.State.{Part, State, took_part}
 use Rattle.sd_model.specs.declared.act.Act.{Act}
 use Rattle.sd_model.specs.declared.act.Claim.{Claim}
@@ -29,18 +27,13 @@ use Rattle.sd_model.specs.Listed.{Listed}
 use Rattle.sd_model.specs.Marks.{Marked}
 use Rattle.sd_model.specs.Placed.{IsDoubt}
 use Rattle.sd_model.specs.Claims.{Holds, Owns}
-use Rattle.sd_model.specs.Tables.{Content}
 use Rattle.sd_model.specs.Listed as listed
 use Rattle.sd_model.proofs.Acts.{live_from-append}
 use Rattle.sd_model.proofs.Changes.{took-kept}
 use Rattle.sd_model.proofs.Claims.{claim-here, each_claim}
 use Rattle.sd_model.proofs.Marks.{put-marked, sized-more}
 use Rattle.sd_model.proofs.Placed.{put-placed}
-use Rattle.sd_pagelock.specs.Asks.{is_open}
-use Rattle.sd_pagelock.specs.declared.queue.Ask.{Ask}
-use Rattle.sd_pagelock.specs.Places.{Entry}
-use Rattle.sd_pagelock.specs.Rows.{dirtied}
-use Rattle.sd_pagelock.specs.Directory.{DirectoryState, asks_at, entry_at}
+use Rattle.sd_pagelock.specs.Directory.{DirectoryState}
 use Rattle.sd_pool.specs.Buffers as buffers
 use Rattle.sd_pool.specs.Buffers.{Buffers}
 use Rattle.sd_rig.specs.Devices as rig
@@ -52,13 +45,12 @@ use Rattle.sd_chain.specs.Checks.{owed, reserve}
 use Rattle.sd_chain.specs.Cuts.{cut}
 use Rattle.sd_chain.specs.Fates.{commits, fate}
 use Rattle.sd_chain.specs.Image.{Recovered}
-use Rattle.sd_chain.specs.Images.{Gives, Grows, Keeps, MayChange, all_kept, with_disk}
+use Rattle.sd_chain.specs.Images.{Gives, Grows, Keeps, MayChange, with_disk}
 use Rattle.sd_chain.specs.Laws as chain_laws
 use Rattle.sd_chain.specs.Order.{MayFollow, of_txn}
 use Rattle.sd_chain.specs.Records.{Each, IsOpen, at, ends, home, stack}
-use Rattle.sd_chain.proofs.Fates.{closed-fate, fate-open, fate-others, open-fate}
+use Rattle.sd_chain.proofs.Fates.{fate-open, fate-others, open-fate}
 use Rattle.sd_chain.proofs.Images as images
-use Rattle.sd_chain.proofs.Newest.{at_is}
 use Rattle.sd_chain.proofs.Stacks.{stack-push, step-other, step-own}
 use Rattle.sd_chain.proofs.Whose.{other_of, stack-none}
 use Rattle.sd_coherent.specs.Changes.{Changes}
@@ -70,44 +62,26 @@ use Rattle.sd_coherent.proofs.Checkpoints.{cover-grows, cover-stays}
 use Rattle.sd_coherent.proofs.Closed.{close-grows, close-stays}
 use Rattle.sd_coherent.proofs.Named.{change-named}
 use Rattle.sd_sound.specs.Appends.{IsTested}
-use Rattle.sd_sound.specs.Logs.{Logs, Outcomes, all_at, base_at, kept_logs, may_of, next_lsn, past_at, tail_at, tails_of}
+use Rattle.sd_sound.specs.Logs.{Logs, Outcomes, all_at, base_at, kept_logs, may_of, most_owed, next_lsn, past_at, tail_at, tails_of}
 use Rattle.sd_sound.specs.Soundly.{IsSoundly}
 use Rattle.sd_sound.proofs.Appends.{appended-log}
-use Rattle.sd_sound.proofs.Lsns.{newest-low}
 use Rattle.sd_sound.proofs.Next.{epoch-others}
 use Rattle.sd_sound.proofs.Reserved.{tested-keeps}
 use Rattle.sd_state.specs.Changing.{Change, ChangeKeepsGood, HasRoom, IsChanged, MayAppend, MayWrite, changed_log, changed_row, flat_of, putting, update, with_changed}
-use Rattle.sd_state.specs.Good.{Good, Half, IsAtWork, IsInstance, IsSettledAt, IsTold, base_of, dir_of, reaches}
+use Rattle.sd_state.specs.Good.{Good, Half, IsAtWork, IsChecking, IsInstance, IsOfBegun, IsSettledAt, IsTold, OwesAtMost, base_of, dir_of, reaches}
 use Rattle.sd_state.specs.Images.{IsClaimed, IsEpochOf, IsOpenIn, begun_at, leaves_by, log_by}
-use Rattle.sd_state.specs.Parts.{Begun, IsShape, Parts, check_at, is_active, is_loose, log_at, no_log, no_pool, no_txns, other_at, pool_at, status_at, txns_at, up_as}
-use Rattle.sd_state.specs.Tables.{IsLive, IsLogged, NamesLife, RowIsLive, RowIsLogged, StandsAs, lock_of, tells_log}
-use Rattle.sd_state.specs.Values.{Pending, as_done, is_doubt, put_of, rid_of, values}
-use Rattle.sd_state.proofs.ChangedLists.{decided-same, each-by, ended-none, lock-excl, lock-none, each-first, each-front, each-left, no-commit, open-or, reached, span-last}
-use Rattle.sd_state.proofs.ChangedRows.{live-other, logged-open, logged-then, owes-then, reserves-then, row-other, stands-running}
+use Rattle.sd_state.specs.Parts.{Begun, Parts, check_at, is_active, is_loose, log_at, no_log, no_pool, no_txns, other_at, owed_at, pool_at, status_at, txns_at, up_as}
+use Rattle.sd_state.specs.Sums.{owed_in_all, owes_most}
+use Rattle.sd_state.specs.Tables.{GoesOn, IsLive, IsLogged, NamedOnce, NamesLife, RowIsLive, RowIsLogged, StandsAs, goes_on_as, lock_of, tells_log}
+use Rattle.sd_state.specs.Values.{Pending, as_done, is_doubt, rid_of, values}
+use Rattle.sd_state.proofs.ChangedLists.{asks-left, kept-either, none-there, decided-same, each-by, lock-excl, lock-none, each-front, no-commit, span-last}
+use Rattle.sd_state.proofs.ChangedRows.{live-other, live-then, logged-open, logged-then, open-more, shape-changed, owes-then, reserves-then, row-other, stands-running}
+use Rattle.sd_state.proofs.ChangeLsns.{image-low, known-low}
 use Rattle.sd_state.proofs.Items.{item-kept, item-set}
+use Rattle.sd_state.proofs.Lasts.{last-grows, last-more}
+use Rattle.sd_state.proofs.Owing.{most-in-all, owes-at-most, settled-owes}
+use Rattle.sd_state.proofs.Begun.{began-there, begun-more}
 use Rattle.sd_state.proofs.Standing.{no-place, one-place}
-
--- where one is open that was, it is below its instance's epoch
-below-epoch : (m : State) (us : List TxnId) (t : TxnId) → EachBelow m.inst us → IsAmong t us → t.epoch ≤ (m.inst t.inst).epoch
-below-epoch m [] t b is = absurd is
-below-epoch m (u ∷ us) t b (inl e) =
-    let h : Below m.inst t = subst (Below m.inst) (sym e) b.0 in
-    ⊎_elim (λ lt. omega (arith, lt)) (λ same. let s = same.0 in omega (arith, s)) h
-below-epoch m (u ∷ us) t b (inr is) = below-epoch m us t b.1 is
-
--- no open change of this record, where the claims of whoever has one open are exclusive and there is none
-none-there : (claims : Claims) (r : Rid) (xs : List Rec) → claims r ≡ Claim.Free → Each (λ x. claims (rid_of x) ≡ Claim.Excl) xs
-    → filter (at r.page r.slot) xs ≡ []
-none-there claims r [] free a = refl
-none-there claims r (x ∷ xs) free a = ⊎_elim
-    (λ is. let here : claims r ≡ Claim.Excl = subst (λ (q : Rid). claims q ≡ Claim.Excl) (same is) a.0 in let c = sym free
-    ∙ here in absurd (cc))
-    (λ off. ap (λ (b : Bool). cond {A = List Rec} b (x ∷ filter (at r.page r.slot) xs) (filter (at r.page r.slot) xs)) off
-    ∙ none-there claims r xs free a.1)
-    (cases_Bool (at r.page r.slot x))
-  where
-    same : at r.page r.slot x ≡ true → rid_of x ≡ r
-    same is = let e = at_is r.page r.slot x is in λ n. record { page = e.0 n; slot = e.1 n }
 
 -- ---- what a crash may leave, with logs that begin somewhere: outcomes and logs stand for any that have the record
 
@@ -166,8 +140,7 @@ module _ (i : ℕ) (k : Change) (x : Transaction) (image : Page) (spare great : 
   each-log : {A : Type 0} (f : LogState → A) → f log ≡ f (log_at c i) → (j : ℕ) → f (log_at new j) ≡ f (log_at c j)
   each-log f own j = ⊎_elim
       (λ e. ap (λ (n : ℕ). f (log_at new n)) e ∙ ap f log-here ∙ own ∙ ap (λ (n : ℕ). f (log_at c n)) (sym e))
-      (λ ne. ap f (log-else j ne))
-      (cases_eq j i)
+      (λ ne. ap f (log-else j ne)) (cases_eq j i)
 
   base-same : (j : ℕ) → base_at (log_at new j) ≡ base_at (log_at c j)
   base-same = each-log base_at refl
@@ -196,8 +169,7 @@ module _ (i : ℕ) (k : Change) (x : Transaction) (image : Page) (spare great : 
   claims-same : (u : TxnId) → (m'.part u).claims ≡ (m.part u).claims
   claims-same = each_txn k.txn (λ u (p : Part). p.claims ≡ (m.part u).claims) part m.part
       (fun_ext (each_claim (λ q (d : Claim). d ≡ (m.part k.txn).claims q) k.rid Claim.Excl (m.part k.txn).claims (sym claim)
-      (λ q. refl)))
-      (λ u ne. refl)
+      (λ q. refl))) (λ u ne. refl)
 
   doubted : (u : TxnId) → is_doubt (m.part u).life ≡ true → as_done m' u ≡ as_done m u
   doubted = each_txn k.txn (λ u (p : Part). is_doubt (m.part u).life ≡ true → done u p ≡ done u (m.part u)) part m.part
@@ -208,15 +180,23 @@ module _ (i : ℕ) (k : Change) (x : Transaction) (image : Page) (spare great : 
 
   begun : k.txn.epoch ≤ (m.inst i).epoch
   begun = subst (λ (n : ℕ). k.txn.epoch ≤ (m.inst n).epoch) w.home
-      (below-epoch m m.begun k.txn g.listed.bounds (g.listed.there k.txn (λ e. let f = sym runs ∙ e in absurd (cc))))
+      (⊎_elim (λ lt. omega (arith, lt)) (λ same. let e = same.0 in omega (arith, e))
+      (began-there m k.txn g.listed (λ e. let f = sym runs ∙ e in absurd (cc))))
+
+  -- it runs, so its log has no end of it
+  alive : IsOpen k.txn (all_at (log_at c i))
+  alive = subst (λ (n : ℕ). IsOpen k.txn (all_at (log_at c n))) w.home
+      (g.going k.txn (subst (λ (n : ℕ). 1 ≤ n) (sym w.home) w.low) (subst (λ (n : ℕ). n ≤ 8) (sym w.home) w.high)
+      (subst (λ (life : Life). goes_on_as life (Pending.Idle ≡ Pending.Commits k.txn → ⊥) (live (m.part k.txn).acts ≢ [])) (sym runs)
+      (λ e. absurd (cc))))
 
   logged : IsLogged x k.txn (all_at (log_at c i))
-  logged = logged-open x k.txn (all_at (log_at c i)) a.alive
+  logged = logged-open x k.txn (all_at (log_at c i)) alive
       (subst (λ (o : Option Transaction). RowIsLogged o k.txn (all_at (log_at c i))) ch.row.was (told-i.rows k.txn w.home))
 
   follows : MayFollow (all_at (log_at c i)) y
   follows = record {
-    alive = a.alive;
+    alive = alive;
     prev = a.prev ∙ ap (λ (o : Option (ℕ × ℕ)). option_map_or (λ (span : ℕ × ℕ). span.1) o 0) logged.span
         ∙ span-last k.txn (all_at (log_at c i));
     done = λ e. absurd (cc);
@@ -225,21 +205,18 @@ module _ (i : ℕ) (k : Change) (x : Transaction) (image : Page) (spare great : 
 
   reserves : reserve (all_at (log_at c i) ++ y ∷ []) ≡ reserve_of table
   reserves = reserves-then k x (txns_at c i) table (all_at
-      (log_at c i)) ch.bytes ch.records a.alive logged told-i.owes told-i.reserves
+      (log_at c i)) ch.bytes ch.records alive logged told-i.owes told-i.reserves
 
   owes : owed (all_at (log_at c i) ++ y ∷ []) ≡ owed_of table
-  owes = owes-then k x (txns_at c i) table (all_at (log_at c i)) ch.bytes ch.records a.alive logged told-i.owes told-i.reserves
+  owes = owes-then k x (txns_at c i) table (all_at (log_at c i)) ch.bytes ch.records alive logged told-i.owes told-i.reserves
 
   rises : image.lsn < k.lsn
   rises = let e = a.lsn in omega (arith, e)
 
-  -- who has a change of the record open claims it
-  claimed-none : (u : TxnId) (l : List Rec) → u ≢ k.txn → (IsOpenIn u l → IsClaimed m u l) → IsOpen u l
-      → filter (at k.rid.page k.rid.slot) (stack u l) ≡ []
-  claimed-none u l ne h o = ⊎_elim
-      (λ there. none-there (m.part u).claims k.rid (stack u l) (alone u (λ e. ne (sym e))) (h (open-fate u l o there)).claims)
-      (λ none. ap (filter (at k.rid.page k.rid.slot)) (stack-none u l none))
-      (cases_Bool (list_any (of_txn u) l))
+  -- a begun checkpoint's low is below the record
+  begun-low : (b : Begun) → check_at c i ≡ Some b → b.low ≤ k.lsn
+  begun-low b is = let ck = g.checking i b is in let low = ck.low in let begin = ck.begun in let lsn = a.lsn in
+      omega (arith, low, begin, lsn)
 
   -- ---- wherever logs begin
 
@@ -291,12 +268,8 @@ module _ (i : ℕ) (k : Change) (x : Transaction) (image : Page) (spare great : 
 
     free : (u : TxnId) → u ≢ k.txn → IsOpen u (base_at (old_logs (home u)))
         → filter (at k.rid.page k.rid.slot) (stack u (all_at (old_logs (home u)))) ≡ []
-    free u ne o = ⊎_elim (claimed-none u (all_at (old_logs (home u))) ne (h.claimed all_kept u))
-        (λ closed. ⊎_elim (a.unforced moved u ne o)
-        (λ ended. ap (filter (at k.rid.page k.rid.slot))
-        (ended-none u (all_at (old_logs (home u))) (h.coherent.safe.order all_kept (home u) u) ended))
-        (closed-fate u (all_at (old_logs (home u))) closed))
-        (open-or u (all_at (old_logs (home u))))
+    free u ne o = none-there (m.part u).claims k.rid (stack u (all_at (old_logs (home u)))) (alone u (λ e. ne (sym e)))
+        (h.held u o)
 
     can : MayChange i (tails_of old_logs) (now old_base) y
     can = changes.change-may_come (may_of left) i i image y old_base (dir_of c) h.coherent w.owns (inl
@@ -305,8 +278,7 @@ module _ (i : ℕ) (k : Change) (x : Transaction) (image : Page) (spare great : 
 
     redone : IsRedone (may_of left) i y (tails_of new_logs) (disk_page (seen 0)) old_base.version
     redone = change-named (may_of left) (may_of left) i y old_base (dir_of c) (tails_of new_logs) (disk_page
-        (seen 0)) h.coherent appends can
-        (λ p z may. may) h.coherent.reads
+        (seen 0)) h.coherent appends can (λ p z may. may) h.coherent.reads
 
     changed : Changes i i image y old_base new_base (dir_of c) (dir_of new)
     changed = record {
@@ -330,8 +302,7 @@ module _ (i : ℕ) (k : Change) (x : Transaction) (image : Page) (spare great : 
         pools = λ j q ne. ⊎_elim
             (λ e. subst (λ (n : ℕ). buffers.image_at (pool_at new n) q ≡ buffers.image_at (pool_at c n) q) (sym e)
             (ap (λ (b : Buffers). buffers.image_at b q) pool-here ∙ ch.other_pages q ne))
-            (λ nj. ap (λ (b : Buffers). buffers.image_at b q) (pool-else j nj))
-            (cases_eq j i);
+            (λ nj. ap (λ (b : Buffers). buffers.image_at b q) (pool-else j nj)) (cases_eq j i);
         moving = λ q ne. ch.moving q;
       };
       rec_lsn = ch.rec_lsn;
@@ -349,31 +320,13 @@ module _ (i : ℕ) (k : Change) (x : Transaction) (image : Page) (spare great : 
 
     -- ---- what the logs have
 
-    -- the log with what is kept has the record, or is as it was
-    kept-either : (keeps : Keeps) (j : ℕ) → (kept_logs (tails_of new_logs) keeps j ≡ kept_logs (tails_of old_logs) keeps j)
-        ⊎ (kept_logs (tails_of new_logs) keeps j ≡ kept_logs (tails_of old_logs) keeps j ++ y ∷ [])
-    kept-either keeps j = ⊎_elim
-        (λ e. subst (λ (n : ℕ). (kept_logs (tails_of new_logs) keeps n ≡ kept_logs (tails_of old_logs) keeps n)
-        ⊎ (kept_logs (tails_of new_logs) keeps n ≡ kept_logs (tails_of old_logs) keeps n ++ y ∷ [])) (sym e) (own (keeps i)))
-        (λ ne. inl (ap (λ (l : LogState). base_at l ++ cond (keeps j) (tail_at l) []) (elsewhere j ne)))
-        (cases_eq j i)
-      where
-        own : (b : Bool)
-            → ((base_at (new_logs i) ++ cond b (tail_at (new_logs i)) [])
-            ≡ (base_at (old_logs i) ++ cond b (tail_at (old_logs i)) []))
-            ⊎ ((base_at (new_logs i) ++ cond b (tail_at (new_logs i)) [])
-            ≡ (base_at (old_logs i) ++ cond b (tail_at (old_logs i)) []) ++ y ∷ [])
-        own false = inl (ap (λ (l : List Rec). l ++ []) (grows.base i))
-        own true = inr (ap₂ (λ (b t : List Rec). b ++ t) (grows.base i) grows.here
-            ∙ sym (append_assoc (base_at (old_logs i)) (tail_at (old_logs i)) (y ∷ [])))
-
     values-same : (keeps : Keeps) (p s : ℕ) → values m Pending.Idle (kept_logs (tails_of old_logs) keeps) p s
         ≡ values m' Pending.Idle (kept_logs (tails_of new_logs) keeps) p s
     values-same keeps p s = ap (λ (d : List Done). after m.start (m.done ++ d) (record { page = p; slot = s }))
         (sym (decided-same m m' (kept_logs (tails_of old_logs) keeps) (kept_logs (tails_of new_logs) keeps) refl lives doubted
         (λ u. ⊎_elim (λ e. ap (list_any (commits u)) e)
         (λ e. ap (list_any (commits u)) e ∙ no-commit u (kept_logs (tails_of old_logs) keeps (home u)) y refl)
-        (kept-either keeps (home u)))))
+        (kept-either i y (tails_of old_logs) (tails_of new_logs) grows keeps (home u)))))
 
     gives : Gives (tails_of new_logs) (may_of left) (λ keeps. values m' Pending.Idle (kept_logs (tails_of new_logs) keeps))
     gives disk all keeps p s = subst (Recovered (cut keeps (with_disk (tails_of new_logs) disk)) p s) (values-same keeps p s)
@@ -395,8 +348,7 @@ module _ (i : ℕ) (k : Change) (x : Transaction) (image : Page) (spare great : 
       there = λ e. let f = sym runs ∙ sym (lives k.txn) ∙ e in absurd (cc);
       claims = subst (λ (f : Claims). Each (λ r. f (rid_of r) ≡ Claim.Excl) (stack k.txn (l ++ y ∷ []))) (sym (claims-same k.txn))
           (subst (Each (λ r. (m.part k.txn).claims (rid_of r) ≡ Claim.Excl)) (sym (stack-push k.txn l y
-          ∙ step-own k.txn (stack k.txn l) y refl))
-          (claim, below (cases_Bool (list_any (of_txn k.txn) l))));
+          ∙ step-own k.txn (stack k.txn l) y refl)) (claim, below (cases_Bool (list_any (of_txn k.txn) l))));
     }
       where
         below : ((list_any (of_txn k.txn) l ≡ true) ⊎ (list_any (of_txn k.txn) l ≡ false))
@@ -420,44 +372,75 @@ module _ (i : ℕ) (k : Change) (x : Transaction) (image : Page) (spare great : 
         → IsClaimed m' u (kept_logs (tails_of new_logs) keeps (home u))
     claimed keeps u = ⊎_elim
         (λ e. subst (λ (l : List Rec). IsOpenIn u l → IsClaimed m' u l) (sym e) (λ is. claimed-there u (was u)
-        (h.claimed keeps u is)))
-        (λ e. subst (λ (l : List Rec). IsOpenIn u l → IsClaimed m' u l) (sym e)
+        (h.claimed keeps u is))) (λ e. subst (λ (l : List Rec). IsOpenIn u l → IsClaimed m' u l) (sym e)
         (⊎_elim
         (λ same. subst (λ (v : TxnId). IsOpenIn v (was u ++ y ∷ []) → IsClaimed m' v (was u ++ y ∷ [])) (sym same)
         (claimed-own (was u) (subst (λ (v : TxnId). IsOpenIn v (was u) → IsClaimed m v (was u)) same (h.claimed keeps u))))
         (λ ne. claimed-other u ne (was u) (h.claimed keeps u))
         (cases_txn u k.txn)))
-        (kept-either keeps (home u))
+        (kept-either i y (tails_of old_logs) (tails_of new_logs) grows keeps (home u))
       where
         was : TxnId → List Rec
         was v = kept_logs (tails_of old_logs) keeps (home v)
 
+    all-more : all_at (new_logs i) ≡ all_at (old_logs i) ++ y ∷ []
+    all-more = ap all_at here ∙ appended-log (old_logs i) (update k) spare
+
+    held-own : Each (λ z. (m'.part k.txn).claims (rid_of z) ≡ Claim.Excl) (stack k.txn (all_at (old_logs i)))
+        → Each (λ z. (m'.part k.txn).claims (rid_of z) ≡ Claim.Excl) (stack k.txn (all_at (new_logs i)))
+    held-own old = subst (λ (l : List Rec). Each (λ z. (m'.part k.txn).claims (rid_of z) ≡ Claim.Excl) (stack k.txn l)) (sym all-more)
+        (subst (Each (λ z. (m'.part k.txn).claims (rid_of z) ≡ Claim.Excl)) (sym (stack-push k.txn (all_at (old_logs i)) y
+        ∙ step-own k.txn (stack k.txn (all_at (old_logs i))) y refl))
+        (ap (λ (f : Claims). f k.rid) (claims-same k.txn) ∙ claim, old))
+
+    held-else : (u : TxnId) → u ≢ k.txn → stack u (all_at (new_logs (home u))) ≡ stack u (all_at (old_logs (home u)))
+    held-else u ne = ⊎_elim
+        (λ e. subst (λ (n : ℕ). stack u (all_at (new_logs n)) ≡ stack u (all_at (old_logs n))) (sym e)
+        (ap (stack u) all-more ∙ stack-push u (all_at (old_logs i)) y
+        ∙ step-other u (stack u (all_at (old_logs i))) y (λ same. ne (sym same))))
+        (λ far. ap (λ (l : LogState). stack u (all_at l)) (elsewhere (home u) far)) (cases_eq (home u) i)
+
+    held : (u : TxnId) → IsOpen u (base_at (new_logs (home u)))
+        → Each (λ z. (m'.part u).claims (rid_of z) ≡ Claim.Excl) (stack u (all_at (new_logs (home u))))
+    held u o =
+        let was : Each (λ z. (m'.part u).claims (rid_of z) ≡ Claim.Excl) (stack u (all_at (old_logs (home u)))) =
+        subst (λ (f : Claims). Each (λ z. f (rid_of z) ≡ Claim.Excl) (stack u (all_at (old_logs (home u))))) (sym (claims-same u))
+        (h.held u (subst (IsOpen u) (grows.base (home u)) o)) in
+        ⊎_elim
+        (λ same. subst (λ (v : TxnId). Each (λ z. (m'.part v).claims (rid_of z) ≡ Claim.Excl) (stack v (all_at (new_logs (home v))))) (sym same)
+        (subst (λ (n : ℕ). Each (λ z. (m'.part k.txn).claims (rid_of z) ≡ Claim.Excl) (stack k.txn (all_at (new_logs n)))) (sym w.home)
+        (held-own (subst (λ (n : ℕ). Each (λ z. (m'.part k.txn).claims (rid_of z) ≡ Claim.Excl) (stack k.txn (all_at (old_logs n)))) w.home
+        (subst (λ (v : TxnId). Each (λ z. (m'.part v).claims (rid_of z) ≡ Claim.Excl) (stack v (all_at (old_logs (home v))))) same was)))))
+        (λ ne. subst (Each (λ z. (m'.part u).claims (rid_of z) ≡ Claim.Excl)) (sym (held-else u ne)) was) (cases_txn u k.txn)
+
+    -- ---- what is owed
+
+    owes-each : (j : ℕ) → 1 ≤ j → j ≤ 8 → OwesAtMost (owes_most new j) (new_logs j)
+    owes-each j lo hi = ⊎_elim
+        (λ e. subst (λ (n : ℕ). OwesAtMost (owes_most new n) (new_logs n)) (sym e)
+        (settled-owes new i (new_logs i) settled
+        (g.owed i w.low w.high settled ∙ ap owed (sym (grows.base i ∙ ap base_at one)))
+        (λ tells. ap owed_of table-here ∙ sym owes ∙ ap owed (sym (all-more ∙ ap (λ (l : LogState). all_at l ++ y ∷ []) one)))
+        (λ silent. let up = sym (ap tells_log w.up) ∙ silent in absurd (cc))))
+        (λ ne. subst (OwesAtMost (owes_most new j)) (sym (elsewhere j ne))
+        (subst (λ (z : Transactions). OwesAtMost (cond (is_loose c j) (owed_at c j) (cond (tells_log (status_at c j))
+        (max (owed_at c j) (owed_of z)) (owed_at c j))) (old_logs j)) (sym (table-else j ne))
+        (owes-at-most seen leaves Pending.Idle c m g moved j lo hi)))
+        (cases_eq j i)
+
+    owes-all : most_owed (tails_of new_logs) ≤ owed_in_all new
+    owes-all = most-in-all new new_logs owes-each
+
     -- ---- soundness, epochs and checkpoints
 
     known-great : (p : ℕ) (z : Page) → may_of left p z → z.lsn ≤ great
-    known-great p z may = ⊎_elim (λ le. omega (arith, le, room.disk))
-        (λ r. reached z.lsn great (base_at (log_at c r.0)) r.3
-        (each-front (λ q. q.lsn ≤ great) (base_at (log_at c r.0)) (tail_at (log_at c r.0)) (room.logs r.0 r.1 r.2)))
-        (g.disk_lsns p z (may.0, may.1.0, may.2))
+    known-great = known-low seen leaves Pending.Idle c m g moved great room.disk room.logs
 
     great-there : (j : ℕ) → 1 ≤ j → j ≤ 8 → Each (λ q. q.lsn ≤ great) (all_at (old_logs j))
     great-there j lo hi = each-by (λ q. q.lsn ≤ great) c moved j (room.logs j lo hi)
 
-    -- the image is the newest version, whose LSN is the disk's or a record's
     page-great : image.lsn ≤ great
-    page-great = subst (λ (z : Page). z.lsn ≤ great) (sym (changes.held-now i k.rid.page image old_base
-        (dir_of c) h.coherent w.copy))
-        (newest-low (λ n. n ≤ great) (cut all_kept (with_disk (tails_of old_logs) (disk_page (seen 0)))) k.rid.page
-        (known-great k.rid.page (disk_page (seen 0) k.rid.page) (h.coherent.reads k.rid.page)) each)
-      where
-        none : (j : ℕ) → base_at (old_logs j) ++ tail_at (old_logs j) ≡ [] → Each (λ q. q.lsn ≤ great) (all_at (old_logs j))
-        none j e = subst (Each (λ (q : Rec). q.lsn ≤ great)) (sym e) tt
-
-        each : (j : ℕ) → Each (λ q. q.lsn ≤ great) (all_at (old_logs j))
-        each zero = none zero (ap₂ (λ (b t : List Rec). b ++ t) h.coherent.eight.0 h.coherent.eight.1)
-        each (suc j) = ⊎_elim (λ lt. great-there (suc j) (omega arith) (omega (arith, lt)))
-            (λ ge. none (suc j) (h.coherent.safe.eight (suc j) ge))
-            (cases_lt (suc j) 9)
+    page-great = image-low seen leaves Pending.Idle c m g moved great room.disk room.logs i k.rid.page image w.copy
 
     epoch-low : (bytes : List ℕ) → left i bytes → k.txn.epoch ≤ (past_at (master bytes) (forced (old_logs i))).epoch
     epoch-low bytes l = let e = (h.epochs i w.low w.high bytes l).1.low in omega (arith, e, begun)
@@ -474,7 +457,7 @@ module _ (i : ℕ) (k : Change) (x : Transaction) (image : Page) (spare great : 
       logs = great-there;
       pages = known-great;
       page = page-great;
-      fits = room.fits moved;
+      fits = let most = owes-all in let fits = room.fits in omega (arith, most, fits);
     }
 
     soundly : IsSoundly left new_logs
@@ -507,13 +490,12 @@ module _ (i : ℕ) (k : Change) (x : Transaction) (image : Page) (spare great : 
             → f (new_logs j) ≡ f (old_logs j)
         each f own = ⊎_elim
             (λ e. ap (λ (n : ℕ). f (new_logs n)) e ∙ ap f here ∙ own ∙ ap (λ (n : ℕ). f (old_logs n)) (sym e))
-            (λ ne. ap f (elsewhere j ne))
-            (cases_eq j i)
+            (λ ne. ap f (elsewhere j ne)) (cases_eq j i)
 
     checks : (q : ℕ) (b : Begun) → check_at c q ≡ Some b → Covered b.low q new_base × Closed b.low q (tails_of new_logs)
     checks q b is = let old = h.checks q b is in ⊎_elim
         (λ e.
-        let le = a.checks b (ap (check_at c) (sym e) ∙ is) in
+        let le = begun-low b (ap (check_at c) (sym e) ∙ is) in
         let was : Covered b.low i old_base × Closed b.low i (tails_of old_logs) =
         subst (λ (n : ℕ). Covered b.low n old_base × Closed b.low n (tails_of old_logs)) e old in
         let both : Covered b.low i new_base × Closed b.low i (tails_of new_logs) = (
@@ -535,6 +517,7 @@ module _ (i : ℕ) (k : Change) (x : Transaction) (image : Page) (spare great : 
       soundly = soundly;
       gives = gives;
       claimed = claimed;
+      held = held;
       epochs = epochs;
       checks = checks;
     }
@@ -555,10 +538,11 @@ module _ (i : ℕ) (k : Change) (x : Transaction) (image : Page) (spare great : 
     stands = ⊎_elim
         (λ same. subst (λ (n : ℕ). StandsOn (log_at new n) (seen n)) (sym same) (subst
         (λ (l : LogState). StandsOn l (seen i)) (sym log-here) at-i.stands))
-        (λ ne. subst (λ (l : LogState). StandsOn l (seen j)) (sym (log-else j ne)) s.stands)
-        (cases_eq j i);
+        (λ ne. subst (λ (l : LogState). StandsOn l (seen j)) (sym (log-else j ne)) s.stands) (cases_eq j i);
     one_place = s.one_place;
     counted = s.counted;
+    epoch = each-log (λ q. (past_at (master (seen j)) (forced q)).epoch)
+        (epoch-others (master (seen j)) (log_at c i) (update k) spare refl) j ∙ s.epoch;
   }
 
   -- ---- the serial table
@@ -597,8 +581,7 @@ module _ (i : ℕ) (k : Change) (x : Transaction) (image : Page) (spare great : 
   each-table : {A : Type 0} (f : Transactions → A) → f table ≡ f (txns_at c i) → (j : ℕ) → f (txns_at new j) ≡ f (txns_at c j)
   each-table f own j = ⊎_elim
       (λ e. ap (λ (n : ℕ). f (txns_at new n)) e ∙ ap f table-here ∙ own ∙ ap (λ (n : ℕ). f (txns_at c n)) (sym e))
-      (λ ne. ap f (table-else j ne))
-      (cases_eq j i)
+      (λ ne. ap f (table-else j ne)) (cases_eq j i)
 
   other : (u : TxnId) → u ≢ k.txn → of_txn u y ≡ false
   other u ne = other_of u y (λ e. ne (sym e))
@@ -612,19 +595,16 @@ module _ (i : ℕ) (k : Change) (x : Transaction) (image : Page) (spare great : 
       (λ same. subst (λ (v : TxnId). NamesLife (txn_at table v) (m.part v).life (fate v (base_at (log_at c i))) (fate v (all_at
       (log_at c i) ++ y ∷ []))) (sym same)
       (subst (λ (o : Option Transaction). NamesLife o (m.part k.txn).life (fate k.txn (base_at (log_at c i))) (fate k.txn
-      (all_at (log_at c i) ++ y ∷ [])))
-      (sym ch.row.now)
+      (all_at (log_at c i) ++ y ∷ []))) (sym ch.row.now)
       (stands-running x.state (m.part k.txn).life (fate k.txn (base_at (log_at c i))) (fate k.txn (all_at (log_at c i)))
       (fate k.txn (base_at (log_at c i))) (fate k.txn (all_at (log_at c i) ++ y ∷ [])) runs
       (subst (λ (o : Option Transaction). NamesLife o (m.part k.txn).life (fate k.txn (base_at (log_at c i))) (fate k.txn
       (all_at (log_at c i)))) ch.row.was
       ((g.instances i w.low w.high).names k.txn w.home)))))
       (λ ne. subst (λ (o : Option Transaction). NamesLife o (m.part u).life (fate u (base_at (log_at c i))) (fate u (all_at
-      (log_at c i) ++ y ∷ [])))
-      (sym (ch.row.others u ne))
+      (log_at c i) ++ y ∷ []))) (sym (ch.row.others u ne))
       (subst (NamesLife (txn_at (txns_at c i) u) (m.part u).life (fate u (base_at (log_at c i))))
-      (sym (fate-others u (all_at (log_at c i)) (y ∷ []) (other u ne, tt))) old))
-      (cases_txn u k.txn)
+      (sym (fate-others u (all_at (log_at c i)) (y ∷ []) (other u ne, tt))) old)) (cases_txn u k.txn)
 
   instance-there : (q : ℕ) → 1 ≤ q → q ≤ 8 → IsInstance new m' q
   instance-there q lo hi = let old = g.instances q lo hi in record {
@@ -633,6 +613,13 @@ module _ (i : ℕ) (k : Change) (x : Transaction) (image : Page) (spare great : 
     begins = λ up. each-table (λ (z : Transactions). begins_in z (m.inst q).epoch)
         (ap₂ (λ (e b : ℕ). if e == (m.inst q).epoch then b else 0) ch.row.order.same_epoch ch.row.order.same_begins) q
         ∙ old.begins up;
+    first = old.first;
+    own = λ u ne. ⊎_elim
+        (λ same. subst (λ (n : ℕ). txn_at (txns_at new n) u ≡ None) (sym same) (ap (λ (z : Transactions). txn_at z u) table-here
+        ∙ ch.row.others u (λ e. ne (ap home e ∙ w.home ∙ sym same)) ∙ (g.instances i w.low w.high).own u (λ e. ne (e ∙ sym same))))
+        (λ off. ap (λ (z : Transactions). txn_at z u) (table-else q off) ∙ old.own u ne)
+        (cases_eq q i);
+    table = let e = each-table (λ (z : Transactions). z.epoch) ch.row.order.same_epoch q in let o = old.table in omega (arith, e, o);
     names = λ u own. subst (λ (life : Life). NamesLife (txn_at (txns_at new q) u) life (fate u (base_at (log_at new q))) (fate u
         (all_at (log_at new q)))) (sym (lives u))
         (⊎_elim
@@ -643,20 +630,18 @@ module _ (i : ℕ) (k : Change) (x : Transaction) (image : Page) (spare great : 
         (subst (λ (b : List Rec). NamesLife (txn_at table u) (m.part u).life (fate u b) (fate u (all_at (log_at new i))))
         (sym (base-same i))
         (subst (λ (b : List Rec). NamesLife (txn_at table u) (m.part u).life (fate u (base_at (log_at c i))) (fate u b))
-        (sym all-here)
-        (names-i u (own ∙ same))))))
+        (sym all-here) (names-i u (own ∙ same))))))
         (λ ne. subst (λ (z : Transactions). NamesLife (txn_at z u) (m.part u).life (fate u (base_at (log_at new q))) (fate u
         (all_at (log_at new q)))) (sym (table-else q ne))
         (subst (λ (l : LogState). NamesLife (txn_at (txns_at c q) u) (m.part u).life (fate u (base_at l)) (fate u (all_at l)))
-        (sym (log-else q ne)) (old.names u own)))
-        (cases_eq q i));
+        (sym (log-else q ne)) (old.names u own))) (cases_eq q i));
   }
 
   rows-i : (u : TxnId) → home u ≡ i → RowIsLogged (txn_at table u) u (all_at (log_at c i) ++ y ∷ [])
   rows-i u own = ⊎_elim
       (λ same. subst (λ (v : TxnId). RowIsLogged (txn_at table v) v (all_at (log_at c i) ++ y ∷ [])) (sym same)
       (subst (λ (o : Option Transaction). RowIsLogged o k.txn (all_at (log_at c i) ++ y ∷ [])) (sym ch.row.now)
-      (inl (logged-then k x (txns_at c i) table (all_at (log_at c i)) ch.bytes ch.records a.alive logged told-i.owes
+      (inl (logged-then k x (txns_at c i) table (all_at (log_at c i)) ch.bytes ch.records alive logged told-i.owes
       told-i.reserves))))
       (λ ne. subst (λ (o : Option Transaction). RowIsLogged o u (all_at (log_at c i) ++ y ∷ [])) (sym (ch.row.others u ne))
       (row-other (txn_at (txns_at c i) u) u (all_at (log_at c i)) y (other u ne) (stack-else u ne) (told-i.rows u own)))
@@ -668,8 +653,8 @@ module _ (i : ℕ) (k : Change) (x : Transaction) (image : Page) (spare great : 
         (subst (RowIsLogged (txn_at table u) u) (sym all-here) (rows-i u own));
     owes = ap owed_of table-here ∙ sym owes ∙ ap owed (sym all-here);
     reserves = ap reserve_of table-here ∙ sym reserves ∙ ap reserve (sym all-here);
-    spare = let e = ap reserve all-here ∙ reserves in let s = ap (λ (l : LogState). l.spare) log-here in omega
-        (arith, e, s, room.memory);
+    spare = λ up. let e = ap reserve all-here ∙ reserves in let s = ap (λ (l : LogState). l.spare) log-here in
+        let enough = room.memory in omega (arith, e, s, enough);
   }
 
   told-there : (q : ℕ) → 1 ≤ q → q ≤ 8 → tells_log (status_at c q) ≡ true → is_loose c q ≡ false → IsTold new m' q
@@ -681,15 +666,14 @@ module _ (i : ℕ) (k : Change) (x : Transaction) (image : Page) (spare great : 
         owes = ap owed_of (table-else q ne) ∙ old.owes ∙ ap (λ (l : LogState). owed (all_at l)) (sym (log-else q ne));
         reserves = ap reserve_of (table-else q ne) ∙ old.reserves ∙ ap (λ (l : LogState). reserve (all_at l)) (sym
             (log-else q ne));
-        spare = subst (λ (l : LogState). reserve (all_at l) ≤ l.spare) (sym (log-else q ne)) old.spare;
+        spare = λ up. subst (λ (l : LogState). reserve (all_at l) ≤ l.spare) (sym (log-else q ne)) (old.spare up);
       })
       (cases_eq q i)
 
   rest-there : (q : ℕ) → tells_log (status_at c q) ≡ false → (log_at c q).tail ≡ [] → (log_at new q).tail ≡ []
   rest-there q rests none = ⊎_elim
       (λ same. let up = sym (ap tells_log (ap (status_at c) same ∙ w.up)) ∙ rests in absurd (cc))
-      (λ ne. ap (λ (l : LogState). l.tail) (log-else q ne) ∙ none)
-      (cases_eq q i)
+      (λ ne. ap (λ (l : LogState). l.tail) (log-else q ne) ∙ none) (cases_eq q i)
 
   -- whom instance i has at work
   live-own : RowIsLive (txn_at (txns_at c i) k.txn) k.txn (m.part k.txn) (all_at (log_at c i))
@@ -697,81 +681,86 @@ module _ (i : ℕ) (k : Change) (x : Transaction) (image : Page) (spare great : 
   live-own row =
       let old : IsLive x k.txn (m.part k.txn) (all_at (log_at c i)) =
       subst (λ (o : Option Transaction). RowIsLive o k.txn (m.part k.txn) (all_at (log_at c i))) ch.row.was row in
-      let now : IsLive (changed_row k x) k.txn part (all_at (log_at c i) ++ y ∷ []) = record {
-        puts = live_from-append [] (m.part k.txn).acts (Act.Put k.rid k.after ∷ [])
-            ∙ ap (λ (l : List (Rid × Content)). (k.rid, k.after) ∷ l) old.puts
-            ∙ ap (map put_of) (sym (stack-push k.txn (all_at (log_at c i)) y
-            ∙ step-own k.txn (stack k.txn (all_at (log_at c i))) y refl));
-        marks = old.marks;
-      } in
+      let now = live-then k x (m.part k.txn) (all_at (log_at c i)) old in
       subst (λ (o : Option Transaction). RowIsLive o k.txn (m'.part k.txn) (all_at (log_at c i) ++ y ∷ [])) (sym ch.row.now)
       (subst (λ (p : Part). IsLive (changed_row k x) k.txn p (all_at (log_at c i) ++ y ∷ [])) (sym part-here) now)
 
   live-i : (u : TxnId) → home u ≡ i → RowIsLive (txn_at table u) u (m'.part u) (all_at (log_at c i) ++ y ∷ [])
   live-i u own = let old = g.at_work i w.low w.high w.up in ⊎_elim
       (λ same. subst (λ (v : TxnId). RowIsLive (txn_at table v) v (m'.part v) (all_at (log_at c i) ++ y ∷ []))
-      (sym same) (live-own (old k.txn w.home)))
+      (sym same) (live-own (old k.txn w.home (λ e. absurd (cc)))))
       (λ ne. subst (λ (o : Option Transaction). RowIsLive o u (m'.part u) (all_at (log_at c i) ++ y ∷ []))
       (sym (ch.row.others u ne))
       (subst (λ (p : Part). RowIsLive (txn_at (txns_at c i) u) u p (all_at (log_at c i) ++ y ∷ [])) (sym (part-else u ne))
       (live-other (txn_at (txns_at c i) u) u (m.part u) (all_at (log_at c i)) (all_at (log_at c i) ++ y ∷ []) (stack-else u ne)
-      (old u own))))
-      (cases_txn u k.txn)
+      (old u own (λ e. absurd (cc)))))) (cases_txn u k.txn)
 
-  work-there : (q : ℕ) → 1 ≤ q → q ≤ 8 → status_at c q ≡ S.Up → IsAtWork new m' q
-  work-there q lo hi up u own = ⊎_elim
+  work-there : (q : ℕ) → 1 ≤ q → q ≤ 8 → status_at c q ≡ S.Up → IsAtWork Pending.Idle new m' q
+  work-there q lo hi up u own free = ⊎_elim
       (λ same. subst (λ (n : ℕ). RowIsLive (txn_at (txns_at new n) u) u (m'.part u) (all_at (log_at new n))) (sym same)
       (subst (λ (z : Transactions). RowIsLive (txn_at z u) u (m'.part u) (all_at (log_at new i))) (sym table-here)
       (subst (RowIsLive (txn_at table u) u (m'.part u)) (sym all-here) (live-i u (own ∙ same)))))
       (λ ne. subst (λ (z : Transactions). RowIsLive (txn_at z u) u (m'.part u) (all_at (log_at new q))) (sym (table-else q ne))
       (subst (λ (l : LogState). RowIsLive (txn_at (txns_at c q) u) u (m'.part u) (all_at l)) (sym (log-else q ne))
       (subst (λ (p : Part). RowIsLive (txn_at (txns_at c q) u) u p (all_at (log_at c q)))
-      (sym (part-else u (λ e. ne (sym own ∙ ap home e ∙ w.home)))) (g.at_work q lo hi up u own))))
+      (sym (part-else u (λ e. ne (sym own ∙ ap home e ∙ w.home)))) (g.at_work q lo hi up u own free)))) (cases_eq q i)
+
+  -- each record is of one that has begun
+  begun-then : (q : ℕ) → 1 ≤ q → q ≤ 8 → status_at c q ≡ S.Up → Each (IsOfBegun (m.inst q)) (all_at (log_at new q))
+  begun-then q lo hi up = ⊎_elim
+      (λ same. subst (λ (n : ℕ). Each (IsOfBegun (m.inst n)) (all_at (log_at new n))) (sym same)
+      (subst (Each (IsOfBegun (m.inst i))) (sym all-here)
+      (begun-more m i y (all_at (log_at c i)) (sym (g.instances i w.low w.high).status ∙ w.up) (λ spoken. w.home)
+      (λ spoken. began-there m k.txn g.listed (λ e. let f = sym runs ∙ e in absurd (cc))) (g.begun i w.low w.high w.up))))
+      (λ ne. subst (λ (l : LogState). Each (IsOfBegun (m.inst q)) (all_at l)) (sym (log-else q ne)) (g.begun q lo hi up))
       (cases_eq q i)
 
-  -- ---- asks
+  -- ---- LSNs, and who may have further records
 
-  asks-there : (p : ℕ) → Each (λ ask. (is_active c ask.by ≡ true) × (is_open (entry_at places p) ask ≡ true)) (asks_at places p)
-  asks-there p = ⊎_elim
-      (λ same. subst (λ (q : ℕ). Each (λ ask. (is_active c ask.by ≡ true) × (is_open (entry_at places q) ask
-      ≡ true)) (asks_at places q)) (sym same) here)
-      (λ ne. subst (λ (e : Entry). Each (λ ask. (is_active c ask.by ≡ true) × (is_open e ask
-      ≡ true)) (asks_at places p)) (sym (ch.other_entries p ne))
-      (subst (Each (λ ask. (is_active c ask.by ≡ true) × (is_open (entry_at c.directory p) ask
-      ≡ true))) (sym (ch.other_asks p ne)) (g.asks p)))
-      (cases_eq p k.rid.page)
-    where
-      here : Each (λ ask. (is_active c ask.by ≡ true) × (is_open (entry_at places k.rid.page) ask
-          ≡ true)) (asks_at places k.rid.page)
-      here = subst (λ (e : Entry). Each (λ ask. (is_active c ask.by ≡ true) × (is_open e ask
-          ≡ true)) (asks_at places k.rid.page)) (sym ch.entry)
-          (subst (Each (λ ask. (is_active c ask.by ≡ true) × (is_open (dirtied i) ask ≡ true))) (sym ch.asks)
-          (each-left (λ (ask : Ask). is_active c ask.by ≡ true) (is_open (dirtied i)) (asks_at c.directory k.rid.page)
-          (each-first (λ (ask : Ask). is_active c ask.by ≡ true) (λ (ask : Ask). is_open (entry_at c.directory k.rid.page) ask
-          ≡ true)
-          (asks_at c.directory k.rid.page) (g.asks k.rid.page))))
+  last-there : (j : ℕ) → 1 ≤ j → j ≤ 8 → Each (λ z. z.lsn ≤ last_lsn (scanned (log_at new j))) (all_at (log_at new j))
+  last-there j lo hi = ⊎_elim
+      (λ e. subst (λ (n : ℕ). Each (λ z. z.lsn ≤ last_lsn (scanned (log_at new n))) (all_at (log_at new n))) (sym e)
+      (subst (λ (l : LogState). Each (λ z. z.lsn ≤ last_lsn (scanned l)) (all_at l)) (sym log-here)
+      (subst (Each (λ z. z.lsn ≤ last_lsn (scanned log))) (sym (appended-log (log_at c i) (update k) spare))
+      (last-grows (log_at c i) (update k) spare image.lsn (all_at (log_at c i)) (g.last i w.low w.high) a.lsn))))
+      (λ ne. subst (λ (l : LogState). Each (λ z. z.lsn ≤ last_lsn (scanned l)) (all_at l)) (sym (log-else j ne)) (g.last j lo hi))
+      (cases_eq j i)
+
+  owed-loose-there : (moved : Keeps) (j : ℕ) → 1 ≤ j → j ≤ 8 → is_loose c j ≡ true → OwesAtMost (owed_at c j) (log_by new moved j)
+  owed-loose-there moved j lo hi e = ⊎_elim
+      (λ same. let s = settled in let f = sym (ap (is_loose c) same ∙ settled) ∙ e in absurd (cc))
+      (λ ne. subst (OwesAtMost (owed_at c j)) (sym (elsewhere moved j ne)) (g.owed_loose moved j lo hi e)) (cases_eq j i)
+
+  checking-there : (q : ℕ) (b : Begun) → check_at c q ≡ Some b → IsChecking new q b
+  checking-there q b is = let old = g.checking q b is in record {
+    active = old.active;
+    low = old.low;
+    begun = ⊎_elim
+        (λ e. let own = subst (λ (n : ℕ). b.begin ≤ last_lsn (scanned (log_at c n))) e old.begun in
+        let last = last-more (log_at c i) (update k) spare in let lsn = a.lsn in
+        subst (λ (n : ℕ). b.begin ≤ last_lsn (scanned (log_at new n))) (sym e)
+        (subst (λ (l : LogState). b.begin ≤ last_lsn (scanned l)) (sym log-here) (omega (arith, own, last, lsn))))
+        (λ ne. subst (λ (l : LogState). b.begin ≤ last_lsn (scanned l)) (sym (log-else q ne)) old.begun) (cases_eq q i);
+  }
+
+  open-there : (u : TxnId) → (ends y.kind && same_txn y.txn u) ≡ false → IsOpen u (all_at (log_at c (home u)))
+      → IsOpen u (all_at (log_at new (home u)))
+  open-there u off o = ⊎_elim
+      (λ e. subst (λ (n : ℕ). IsOpen u (all_at (log_at new n))) (sym e) (subst (IsOpen u) (sym all-here)
+      (open-more u (all_at (log_at c i)) y off (subst (λ (n : ℕ). IsOpen u (all_at (log_at c n))) e o))))
+      (λ ne. subst (λ (l : LogState). IsOpen u (all_at l)) (sym (log-else (home u) ne)) o) (cases_eq (home u) i)
+
+  going-there : (u : TxnId) → 1 ≤ home u → home u ≤ 8 → GoesOn Pending.Idle u (m'.part u) → IsOpen u (all_at (log_at new (home u)))
+  going-there u lo hi go = open-there u refl (⊎_elim
+      (λ same. subst (λ (v : TxnId). IsOpen v (all_at (log_at c (home v)))) (sym same)
+      (subst (λ (n : ℕ). IsOpen k.txn (all_at (log_at c n))) (sym w.home) alive))
+      (λ ne. g.going u lo hi (subst (GoesOn Pending.Idle u) (part-else u ne) go)) (cases_txn u k.txn))
 
   -- ---- the whole
 
-  shape-there : IsShape new
-  shape-there = record {
-    logs = length-set c.logs (i - 1) log ∙ g.shape.logs;
-    pools = length-set c.pools (i - 1) pool ∙ g.shape.pools;
-    txns = length-set c.txns (i - 1) table ∙ g.shape.txns;
-    statuses = g.shape.statuses;
-    epochs = g.shape.epochs;
-    masters = g.shape.masters;
-    checks = g.shape.checks;
-    others = g.shape.others;
-    owed = g.shape.owed;
-    loose = g.shape.loose;
-    own_log = λ j lo hi. each-log (λ l. l.inst) refl j ∙ g.shape.own_log j lo hi;
-    own_txns = λ j lo hi. each-table (λ z. z.inst) ch.row.order.same_inst j ∙ g.shape.own_txns j lo hi;
-  }
-
   pub changed-good : Good seen leaves Pending.Idle new m'
   changed-good = record {
-    shape = shape-there;
+    shape = shape-changed i log table pool places c w.low w.high refl ch.row.order.same_inst g.shape;
     half = half-there;
     places = λ j place is bytes left. subst (λ (n : ℕ). ((master bytes).start ≡ place) ⊎ ((master bytes).start ≡ n))
         (sym (each-log (λ l. l.start) refl j)) (g.places j place is bytes left);
@@ -779,21 +768,28 @@ module _ (i : ℕ) (k : Change) (x : Transaction) (image : Page) (spare great : 
     disk_settled = g.disk_settled;
     disk_lsns = λ p z may. ⊎_elim (λ le. inl le)
         (λ r. inr (r.0, r.1, r.2, ap (list_any (reaches z.lsn)) (base-same r.0) ∙ r.3)) (g.disk_lsns p z may);
-    owed = λ j lo hi. g.owed j lo hi ∙ ap owed (sym (base-same j));
+    last = last-there;
+    owed = λ j lo hi e. g.owed j lo hi e ∙ ap owed (sym (base-same j));
+    owed_loose = owed-loose-there;
     kept = kept-there;
     placed = put-placed m k.txn part (inl refl) g.placed;
     listed = listed-there;
     marked = marked-there;
+    numbered = λ u there. g.numbered u (λ e. there (lives u ∙ e));
+    named = each_txn k.txn (λ u (p : Part). NamedOnce p.marks) part m.part (g.named k.txn) (λ u ne. g.named u);
     recoverers = record { each = g.recoverers.each };
     not_closed = g.not_closed;
     instances = instance-there;
     told = told-there;
     at_rest = λ q lo hi rests e. rest-there q rests (g.at_rest q lo hi rests e);
+    begun = begun-then;
     at_work = work-there;
+    going = going-there;
     pending = tt;
     locks = λ u r. g.locks u r ∙ ap (λ (f : Claims). lock_of (f r)) (sym (claims-same u));
-    asks = asks-there;
-    checking = g.checking;
+    gone = λ u e r. ap (λ (f : Claims). f r) (claims-same u) ∙ g.gone u (sym (lives u) ∙ e) r;
+    asks = asks-left i k.rid.page c.directory places (is_active c) ch.entry ch.asks ch.other_entries ch.other_asks g.asks;
+    checking = checking-there;
   }
 
 pub change-keeps_good : (leaves : Outcomes) → ChangeKeepsGood leaves

@@ -1,18 +1,31 @@
 -- One more record of a log, an update: what the log tells then. For a change.
-use Rattle.std.proofs.Common.{◌≡◌, ◌⊎◌, inl, inr, ⊎_elim, ℕ, ◌≤◌, Bool, true, false, cond, List, [], ◌∷◌, ◌++◌, ◌||◌, ◌&&◌, map, refl, sym, ap, ◌∙◌, arith, append-nil, append_assoc, leb-true, subst}
+use Rattle.sd_base.specs.declared.ids.Rid.{Rid}
+use Rattle.sd_chain.proofs.Newest.{at_is}
+use Rattle.sd_chain.specs.Images.{Grows, Tails}
+use Rattle.sd_chain.specs.Records.{at}
+use Rattle.sd_model.specs.Claims.{Claims}
+use Rattle.sd_page.specs.Page.{Page}
+use Rattle.sd_pagelock.specs.Asks.{is_open, open_asks}
+use Rattle.sd_pagelock.specs.declared.queue.Ask.{Ask}
+use Rattle.sd_pagelock.specs.Directory.{DirectoryState, asks_at, entry_at}
+use Rattle.sd_pagelock.specs.Places.{Entry}
+use Rattle.sd_pagelock.specs.Rows.{dirtied}
+use Rattle.sd_sound.specs.Logs.{kept_logs}
+use Rattle.sd_state.specs.Values.{rid_of}
+use Rattle.std.proofs.Common.{◌≢◌, ◌⊎◌, ap₂, inl, inr}
+use Rattle.std.proofs.lemmas.Bool.{cases_eq}
+use Rattle.std.proofs.Common.{◌≡◌, ⊎_elim, ℕ, ◌≤◌, Bool, true, false, cond, List, [], ◌∷◌, ◌++◌, ◌||◌, map, refl, sym, ap, ◌∙◌, arith, append-nil, append_assoc, leb-true, subst}
 use Rattle.std.specs.Prelude.{Option, None, Some, filter, is_some, leb}
 use Rattle.std.specs.Option.{option_map_or}
 use Rattle.std.specs.List.{flat_map, list_any}
 use Rattle.std.proofs.lemmas.Bool.{cases_Bool}
 use mathlib.Core.Path.{fun_ext}
 use Rattle.sd_base.specs.declared.ids.TxnId.{TxnId}
-use Rattle.sd_logrec.specs.View.{Kind, Rec, flat}
+use Rattle.sd_logrec.specs.View.{Rec, flat}
 use Rattle.sd_model.specs.State.{State}
-use Rattle.sd_chain.specs.Fates.{Fate, commits, fate, finishes, is_end}
-use Rattle.sd_chain.specs.Order.{InOrder, Sofar, Tidy, advance, after_all, none_yet, of_txn, span_from, span_of, spanned, speaks}
-use Rattle.sd_chain.specs.Records.{Each, IsOpen, ends, moved, stack, step}
-use Rattle.sd_chain.proofs.Fates.{endless-open, fate-ended, open-endless}
-use Rattle.sd_chain.proofs.Whose.{advance-off, open_ones-is}
+use Rattle.sd_chain.specs.Fates.{commits}
+use Rattle.sd_chain.specs.Order.{Sofar, advance, after_all, none_yet, of_txn, span_from, span_of, spanned}
+use Rattle.sd_chain.specs.Records.{Each, ends, moved, step}
 use Rattle.sd_chain.specs.Images.{Keeps}
 use Rattle.sd_logrec.specs.Kept.{Group}
 use Rattle.sd_logrec.specs.declared.record.Record.{Record}
@@ -20,7 +33,6 @@ use Rattle.sd_sound.specs.Logs.{all_at, tail_at}
 use Rattle.sd_state.specs.Images.{begun_at, log_by}
 use Rattle.sd_state.specs.Parts.{Parts, log_at, other_at}
 use Rattle.std.proofs.lemmas.List.{map-append}
-use Rattle.sd_base.specs.Ids.{same_txn}
 use Rattle.sd_base.specs.declared.place.Mode.TheVariants as modes
 use Rattle.sd_model.specs.declared.act.Claim.{Claim}
 use Rattle.sd_state.specs.Tables.{lock_of}
@@ -138,14 +150,6 @@ decided-same m m' logs logs' cuts lives acts commits_same =
 
 -- ---- others
 
--- it is open, or isn't
-pub open-or : (t : TxnId) (log : List Rec) → IsOpen t log ⊎ (IsOpen t log → ⊥)
-open-or t log = ⊎_elim
-    (λ c. inr (λ o. let n = (open-endless t log o).0 in absurd (cc)))
-    (λ c. ⊎_elim (λ f. inr (λ o. let n = (open-endless t log o).1 in absurd (cc)))
-    (λ f. inl (endless-open t log c f)) (cases_Bool (list_any (finishes t) log)))
-    (cases_Bool (list_any (commits t) log))
-
 -- what holds of each of both holds of those in front
 pub each-front : {A : Type 0} (P : A → Type 0) (xs ys : List A) → Each P (xs ++ ys) → Each P xs
 each-front P [] ys a = tt
@@ -174,46 +178,6 @@ reached lsn great (x ∷ xs) e a = ⊎_elim
 pub each-first : {A : Type 0} (P Q : A → Type 0) (xs : List A) → Each (λ x. P x × Q x) xs → Each P xs
 each-first P Q [] a = tt
 each-first P Q (x ∷ xs) a = (a.0.0, each-first P Q xs a.1)
-
--- behind the end of a transaction it has no record
-shut-stays : (t : TxnId) (sofar : Sofar) (xs : List Rec) → sofar.shut ≡ true → InOrder t sofar xs → after_all t sofar xs ≡ sofar
-shut-stays t sofar [] shut a = refl
-shut-stays t sofar (x ∷ xs) shut a = ⊎_elim
-    (λ own. let e = sym shut ∙ (a.0 own).alive in absurd (cc))
-    (λ off. let same = advance-off t sofar x off in
-    ap (λ (s : Sofar). after_all t s xs) same ∙ shut-stays t sofar xs shut (subst (λ (s : Sofar). InOrder t s xs) same a.1))
-    (cases_Bool (of_txn t x))
-
-finish-is : (t : TxnId) (x : Rec) → finishes t x ≡ true → (x.kind ≡ Kind.End) × (same_txn x.txn t ≡ true)
-finish-is t x e = by x.kind (same_txn x.txn t) e
-  where
-    by : (kind : Kind) (b : Bool) → (is_end kind && b) ≡ true → (kind ≡ Kind.End) × (b ≡ true)
-    by Kind.Update b e = absurd (cc)
-    by Kind.Clr b e = absurd (cc)
-    by Kind.Commit b e = absurd (cc)
-    by Kind.End b e = (refl, e)
-    by Kind.Plain b e = absurd (cc)
-
--- an End finds nothing open, and nothing comes behind it
-ended-empty : (t : TxnId) (sofar : Sofar) (xs : List Rec) → InOrder t sofar xs → list_any (finishes t) xs ≡ true
-    → (after_all t sofar xs).open_ones ≡ []
-ended-empty t sofar [] a e = absurd (cc)
-ended-empty t sofar (x ∷ xs) a e = ⊎_elim
-    (λ is.
-    let f = finish-is t x is in
-    let own : of_txn t x ≡ true = ap (λ (kind : Kind). speaks kind && same_txn x.txn t) f.0 ∙ f.1 in
-    let then : advance t sofar x ≡ record { open_ones = step t sofar.open_ones x; last = x.lsn; shut = ends x.kind } =
-    ap (λ (b : Bool). cond b (record { open_ones = step t sofar.open_ones x; last = x.lsn; shut = ends x.kind }) sofar) own in
-    let shut : (advance t sofar x).shut ≡ true = ap (λ (s : Sofar). s.shut) then ∙ ap ends f.0 in
-    ap (λ (s : Sofar). s.open_ones) (shut-stays t (advance t sofar x) xs shut a.1 ∙ then)
-    ∙ ap (λ (b : Bool). cond b (moved x.kind x sofar.open_ones) sofar.open_ones) f.1
-    ∙ ap (λ (kind : Kind). moved kind x sofar.open_ones) f.0 ∙ (a.0 own).done f.0)
-    (λ off. ended-empty t (advance t sofar x) xs a.1 (sym (ap (λ (b : Bool). b || list_any (finishes t) xs) off) ∙ e))
-    (cases_Bool (finishes t x))
-
--- so an ended transaction has nothing open
-pub ended-none : (t : TxnId) (log : List Rec) → Tidy t log → fate t log ≡ Fate.Ended → stack t log ≡ []
-ended-none t log tidy e = sym (open_ones-is t none_yet log) ∙ ended-empty t none_yet log tidy.order (fate-ended t log e).0
 
 -- ---- logs that begin later
 
@@ -269,3 +233,49 @@ pub lock-none : (d : Claim) → lock_of d ≡ None → d ≡ Claim.Free
 lock-none Claim.Free e = refl
 lock-none Claim.Shared e = absurd (cc)
 lock-none Claim.Excl e = absurd (cc)
+
+-- no open change of this record, where the claims of whoever has one open are exclusive and there is none
+pub none-there : (claims : Claims) (r : Rid) (xs : List Rec) → claims r ≡ Claim.Free → Each (λ x. claims (rid_of x) ≡ Claim.Excl) xs
+    → filter (at r.page r.slot) xs ≡ []
+none-there claims r [] free a = refl
+none-there claims r (x ∷ xs) free a = ⊎_elim
+    (λ is. let here : claims r ≡ Claim.Excl = subst (λ (q : Rid). claims q ≡ Claim.Excl) (same is) a.0 in let c = sym free
+    ∙ here in absurd (cc))
+    (λ off. ap (λ (b : Bool). cond {A = List Rec} b (x ∷ filter (at r.page r.slot) xs) (filter (at r.page r.slot) xs)) off
+    ∙ none-there claims r xs free a.1)
+    (cases_Bool (at r.page r.slot x))
+  where
+    same : at r.page r.slot x ≡ true → rid_of x ≡ r
+    same is = let e = at_is r.page r.slot x is in λ n. record { page = e.0 n; slot = e.1 n }
+
+-- where log i has one more record, each log with what is kept has it, or is as it was
+pub kept-either : (i : ℕ) (y : Rec) (old new : Tails) → Grows i y old new → (keeps : Keeps) (j : ℕ)
+    → (kept_logs new keeps j ≡ kept_logs old keeps j) ⊎ (kept_logs new keeps j ≡ kept_logs old keeps j ++ y ∷ [])
+kept-either i y old new g keeps j = ⊎_elim
+    (λ e. subst (λ (n : ℕ). (kept_logs new keeps n ≡ kept_logs old keeps n)
+    ⊎ (kept_logs new keeps n ≡ kept_logs old keeps n ++ y ∷ [])) (sym e) (own (keeps i)))
+    (λ ne. inl (ap₂ (λ (b t : List Rec). b ++ cond (keeps j) t []) (g.base j) (g.others j ne)))
+    (cases_eq j i)
+  where
+    own : (b : Bool) → ((new.base i ++ cond b (new.tail i) []) ≡ (old.base i ++ cond b (old.tail i) []))
+        ⊎ ((new.base i ++ cond b (new.tail i) []) ≡ (old.base i ++ cond b (old.tail i) []) ++ y ∷ [])
+    own false = inl (ap (λ (l : List Rec). l ++ []) (g.base i))
+    own true = inr (ap₂ (λ (b t : List Rec). b ++ t) (g.base i) g.here ∙ sym (append_assoc (old.base i) (old.tail i) (y ∷ [])))
+
+-- the asks that are left where instance i has the page alone
+pub asks-left : (i p : ℕ) (old new : DirectoryState Page) (active : ℕ → Bool) → entry_at new p ≡ dirtied i
+    → asks_at new p ≡ open_asks (dirtied i) (asks_at old p) → ((q : ℕ) → q ≢ p → entry_at new q ≡ entry_at old q)
+    → ((q : ℕ) → q ≢ p → asks_at new q ≡ asks_at old q)
+    → ((q : ℕ) → Each (λ ask. (active ask.by ≡ true) × (is_open (entry_at old q) ask ≡ true)) (asks_at old q))
+    → (q : ℕ) → Each (λ ask. (active ask.by ≡ true) × (is_open (entry_at new q) ask ≡ true)) (asks_at new q)
+asks-left i p old new active entry asks others other_asks each q = ⊎_elim
+    (λ same. subst (λ (n : ℕ). Each (Fine (entry_at new n)) (asks_at new n)) (sym same)
+    (subst (λ (e : Entry). Each (Fine e) (asks_at new p)) (sym entry) (subst (Each (Fine (dirtied i))) (sym asks)
+    (each-left (λ (ask : Ask). active ask.by ≡ true) (is_open (dirtied i)) (asks_at old p)
+    (each-first (λ (ask : Ask). active ask.by ≡ true) (λ (ask : Ask). is_open (entry_at old p) ask ≡ true) (asks_at old p) (each p))))))
+    (λ ne. subst (λ (e : Entry). Each (Fine e) (asks_at new q)) (sym (others q ne))
+    (subst (Each (Fine (entry_at old q))) (sym (other_asks q ne)) (each q)))
+    (cases_eq q p)
+  where
+    Fine : Entry → Ask → Type 0
+    Fine e ask = (active ask.by ≡ true) × (is_open e ask ≡ true)

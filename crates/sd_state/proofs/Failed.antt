@@ -1,6 +1,6 @@
 -- A force that failed: what held of the complex holds of it then, and the instance that acted is to fall.
-use Rattle.std.proofs.Common.{◌≡◌, ◌≢◌, ◌⊎◌, inl, inr, ℕ, ◌≤◌, Bool, true, false, cond, List, length, refl, sym, ap, ◌∙◌, subst, arith, ⊎_elim, eq-eqb, ne_eqb}
-use Rattle.std.specs.Prelude.{None, Some, IfSome}
+use Rattle.std.proofs.Common.{◌≡◌, ◌≢◌, ◌⊎◌, inl, inr, ℕ, ◌-◌, ◌≤◌, Bool, true, false, cond, List, length, refl, sym, ap, ◌∙◌, subst, arith, ⊎_elim, eq-eqb, ne_eqb}
+use Rattle.std.specs.Prelude.{Some, IfSome}
 use Rattle.std.proofs.lemmas.Bool.{cases_eq}
 use Rattle.std.proofs.lemmas.List.{get_or-set_other, get_or-set_same, length-set}
 use Rattle.sd_base.specs.Twin.{chosen_body, number_of}
@@ -15,10 +15,16 @@ use Rattle.sd_rig.specs.Devices as rig
 use Rattle.sd_chain.specs.Bytes.{disk_page}
 use Rattle.sd_chain.specs.Images.{Keeps}
 use Rattle.sd_coherent.specs.Changes as changes_law
-use Rattle.sd_coherent.specs.Coherent.{Coherent}
+use Rattle.sd_chain.specs.Laws.{May}
+use Rattle.sd_pagelock.specs.Places.{Entry}
+use Rattle.sd_pagelock.specs.Rows.{dirtied}
+use Rattle.sd_pagelock.proofs.Members.{not_both}
+use Rattle.sd_pagelock.proofs.Uses
+use Rattle.sd_coherent.specs.Coherent.{Coherent, Quiet}
 use Rattle.sd_coherent.specs.Forces.{failing}
 use Rattle.sd_coherent.specs.Named.{IsNamed}
-use Rattle.sd_coherent.specs.World.{Base, put_at}
+use Rattle.sd_coherent.specs.World.{Base, Dir, put_at}
+use Rattle.sd_coherent.proofs.Cases.{by_seat, the_same}
 use Rattle.sd_coherent.proofs.Changes.{rest-keeps}
 use Rattle.sd_coherent.proofs.Checkpoints.{cover-stays}
 use Rattle.sd_coherent.proofs.Forces as forces
@@ -29,10 +35,12 @@ use Rattle.sd_sound.proofs.Forces.{failed-keeps}
 use Rattle.sd_sound.proofs.Kept.{master-same}
 use Rattle.sd_sound.proofs.Outcomes.{less-same}
 use Rattle.sd_state.specs.Values.{Pending}
-use Rattle.sd_state.specs.Forcing.{IsHalfForced, with_failed}
-use Rattle.sd_state.specs.Good.{IsUnderWay, Good, Half, IsSettledAt, base_of, dir_of}
+use Rattle.sd_state.specs.Forcing.{ForcesNow, IsHalfForced, owed_either, with_failed}
+use Rattle.sd_state.specs.Good.{IsUnderWay, Good, Half, IsSettledAt, OwesAtMost, base_of, dir_of}
 use Rattle.sd_state.specs.Images.{IsEpochOf, leaves_by, log_by}
-use Rattle.sd_state.specs.Parts.{Parts, acting, active_as, actor, count_at, is_loose, log_at, other_at, status_at, up_as}
+use Rattle.sd_state.specs.Parts.{Parts, acting, active_as, actor, count_at, is_loose, log_at, other_at, owed_at, status_at, up_as}
+use Rattle.sd_state.proofs.Items.{item-kept, item-set}
+use Rattle.sd_state.proofs.Owed.{owed-forced}
 use Rattle.sd_state.proofs.Standing.{no-place, one-place}
 
 -- who acts for an instance is itself, or the instance is neither active nor up
@@ -44,10 +52,24 @@ acts i S.Clean = inl refl
 acts i S.Restarting = inl refl
 acts i S.Closed = inl refl
 
+-- An instance that is to fall by a log, which it was to force, doesn't get it forced.
+due-fails : (may : May) (a i : ℕ) (b : Base may) (d : Dir) → Coherent b d → b.due ≡ Some (a, i) → b.loose i ≡ false
+    → (a ≡ i) ⊎ (b.active i ≡ false) → b.up i ≡ false → Coherent (failing a i true b) d
+due-fails may a i b d c due settled whose not_up = forces.fail-keeps may a i true b d c (inr due) (inr not_up) at
+  where
+    at : (p : ℕ) → Quiet p (b.tails.tail i) ⊎ (d.entry p ≡ dirtied a)
+    at p = ⊎_elim (λ q. inl q)
+        (by_seat b (d.entry p) i (Quiet p (b.tails.tail i) ⊎ (d.entry p ≡ dirtied a))
+        (λ mark is. ⊎_elim (λ e. inr (is ∙ ap (λ (k : ℕ). Entry.Excl k true) (sym e)))
+        (λ off. not_both (c.live i p (Uses.excl-uses i true (d.entry p) is)) off) whose)
+        (λ loose lost. not_both loose settled)
+        (λ z is_due is. inr (is ∙ ap (λ (k : ℕ). Entry.Excl k true) (ap (λ (x : ℕ × ℕ). x.0) (the_same is_due due)))))
+        (c.unforced i p)
+
 -- What a crash may leave, with logs that begin somewhere.
 module _ (i : ℕ) (seen seen' : rig.Image) (leaves leaves' : Outcomes) (logs : Logs) (pend : Pending) (c : Parts) (m : State)
-    (low : 1 ≤ i) (high : i ≤ 8) (h : Half seen leaves logs pend c m) (idle : c.due ≡ None) (settled : is_loose c i ≡ false)
-    (marks : length c.loose ≡ 9)
+    (low : 1 ≤ i) (high : i ≤ 8) (h : Half seen leaves logs pend c m)
+    (failed : Coherent (failing (actor c i) i true (base_of seen leaves logs c)) (dir_of c)) (marks : length c.loose ≡ 9)
     (reads_disk : leaves 0 (seen 0)) (reads_log : leaves i (seen i)) (f : IsHalfForced i (logs i) seen seen' leaves leaves') where
   abbrev new : Parts
   new = with_failed (actor c i) i c
@@ -66,9 +88,6 @@ module _ (i : ℕ) (seen seen' : rig.Image) (leaves leaves' : Outcomes) (logs : 
 
   abbrev old_base : Base (may_of leaves)
   old_base = base_of seen leaves logs c
-
-  failed : Coherent (failing (actor c i) i true old_base) (dir_of c)
-  failed = forces.settled_fail-keeps (may_of leaves) (actor c i) i old_base (dir_of c) h.coherent idle settled (acts i (status_at c i))
 
   named : IsNamed (may_of leaves') (tails_of logs) (disk_page (seen' 0)) old_base.version
   named = may_be-named (may_of leaves) (may_of leaves') (tails_of logs) old_base.version (disk_page (seen' 0)) h.coherent.safe may_less allowed
@@ -115,6 +134,7 @@ module _ (i : ℕ) (seen seen' : rig.Image) (leaves leaves' : Outcomes) (logs : 
     soundly = failed-keeps leaves leaves' i logs (seen i) low high reads_log h.soundly less (λ bytes left. (f.outside bytes left, f.either bytes left));
     gives = λ disk all keeps p s. h.gives disk (λ q. may_less q (disk q) (all q)) keeps p s;
     claimed = h.claimed;
+    held = h.held;
     epochs = epochs;
     checks = λ k b is. let old = h.checks k b is in (
       cover-stays (may_of leaves) (may_of leaves') b.low k old_base (base_of seen' leaves' logs new) refl may_less old.0,
@@ -123,7 +143,7 @@ module _ (i : ℕ) (seen seen' : rig.Image) (leaves leaves' : Outcomes) (logs : 
   }
 
 module _ (i : ℕ) (seen seen' : rig.Image) (leaves leaves' : Outcomes) (pend : Pending) (c : Parts) (m : State)
-    (low : 1 ≤ i) (high : i ≤ 8) (g : Good seen leaves pend c m) (idle : c.due ≡ None) (settled : is_loose c i ≡ false)
+    (low : 1 ≤ i) (high : i ≤ 8) (g : Good seen leaves pend c m) (now : ForcesNow i c) (settled : is_loose c i ≡ false)
     (reads : (d : ℕ) → d ≤ 8 → leaves d (seen d)) (f : IsHalfForced i (log_at c i) seen seen' leaves leaves') where
   abbrev failed_parts : Parts
   failed_parts = with_failed (actor c i) i c
@@ -145,6 +165,15 @@ module _ (i : ℕ) (seen seen' : rig.Image) (leaves leaves' : Outcomes) (pend : 
     one : log_by c moved i ≡ log_at c i
     one = one-place c moved i at-i.one_place
 
+    fails : Coherent (failing (actor c i) i true (base_of seen (leaves_by c moved leaves) (log_by c moved) c)) (dir_of c)
+    fails = let old = (g.half moved).coherent in let b = base_of seen (leaves_by c moved leaves) (log_by c moved) c in
+        let may = may_of (leaves_by c moved leaves) in ⊎_elim
+        (λ idle. forces.settled_fail-keeps may (actor c i) i b (dir_of c) old idle settled (acts i (status_at c i)))
+        (λ by. let is : actor c i ≡ by.0 = ap (acting i) by.1 in
+        due-fails may (actor c i) i b (dir_of c) old (by.2 ∙ ap (λ (a : ℕ). Some (a, i)) (sym is)) settled
+        (⊎_elim (λ e. inl e) (λ off. inr off.0) (acts i (status_at c i))) (ap up_as by.1))
+        now
+
     half-failed-there : IsHalfForced i (log_by c moved i) seen seen' (leaves_by c moved leaves) (leaves_by failed_parts moved leaves')
     half-failed-there = subst (λ (l : LogState). IsHalfForced i l seen seen' (leaves_by c moved leaves) (leaves_by failed_parts moved leaves')) (sym one) (record {
       outside = λ bytes l. f.outside bytes l.0;
@@ -155,7 +184,7 @@ module _ (i : ℕ) (seen seen' : rig.Image) (leaves leaves' : Outcomes) (pend : 
 
     half-there : Half seen' (leaves_by failed_parts moved leaves') (log_by failed_parts moved) pend failed_parts m
     half-there = half-failed i seen seen' (leaves_by c moved leaves) (leaves_by failed_parts moved leaves') (log_by c moved) pend c m
-        low high (g.half moved) idle settled g.shape.loose (reads 0 (omega arith), tt) (reads i high, no-place (other_at c i) _ at-i.one_place) half-failed-there
+        low high (g.half moved) fails g.shape.loose (reads 0 (omega arith), tt) (reads i high, no-place (other_at c i) _ at-i.one_place) half-failed-there
 
   settled-there : (j : ℕ) → 1 ≤ j → j ≤ 8 → is_loose failed_parts j ≡ false → IsSettledAt seen' leaves' failed_parts j
   settled-there j lo hi e =
@@ -170,6 +199,7 @@ module _ (i : ℕ) (seen seen' : rig.Image) (leaves leaves' : Outcomes) (pend : 
         stands = subst (λ (bytes : List ℕ). StandsOn (log_at c j) bytes) (sym (f.others j ne)) s.stands;
         one_place = s.one_place;
         counted = subst (λ (bytes : List ℕ). IfSome (chosen_body 0 64 bytes) (λ body. number_of body ≡ count_at c j)) (sym (f.others j ne)) s.counted;
+        epoch = ap (λ (bytes : List ℕ). (past_at (master bytes) (forced (log_at c j))).epoch) (f.others j ne) ∙ s.epoch;
       }
 
   places-there : (j place : ℕ) → other_at c j ≡ Some place → (bytes : List ℕ) → leaves' j bytes
@@ -177,6 +207,23 @@ module _ (i : ℕ) (seen seen' : rig.Image) (leaves leaves' : Outcomes) (pend : 
   places-there j place other bytes left = ⊎_elim
       (λ e. let clash = sym at-i.one_place ∙ ap (other_at c) (sym e) ∙ other in absurd (cc))
       (λ ne. g.places j place other bytes ((f.others_leave j ne bytes).0 left))
+      (cases_eq j i)
+
+  -- what log i owes either way
+  owes-either : OwesAtMost (owed_either c i) (log_at c i)
+  owes-either =
+      let base = g.owed i low high settled in
+      let all = owed-forced seen leaves pend c m i low high g (reads 0 (omega arith)) settled in
+      (omega (arith, base), omega (arith, all))
+
+  owed-loose : (moved : Keeps) (j : ℕ) → 1 ≤ j → j ≤ 8 → is_loose failed_parts j ≡ true
+      → OwesAtMost (owed_at failed_parts j) (log_by failed_parts moved j)
+  owed-loose moved j lo hi e = ⊎_elim
+      (λ same. subst (λ (k : ℕ). OwesAtMost (owed_at failed_parts k) (log_by failed_parts moved k)) (sym same)
+      (subst (λ (n : ℕ). OwesAtMost n (log_by failed_parts moved i)) (sym (item-set 0 c.owed i (owed_either c i) low high g.shape.owed))
+      (subst (OwesAtMost (owed_either c i)) (sym (one moved)) owes-either)))
+      (λ ne. subst (λ (n : ℕ). OwesAtMost n (log_by failed_parts moved j)) (sym (item-kept 0 c.owed i (owed_either c i) low j ne))
+      (g.owed_loose moved j lo hi (sym (get_or-set_other c.loose i j true true ne) ∙ e)))
       (cases_eq j i)
 
   pub failed-good : Good seen' leaves' pend failed_parts m
@@ -190,7 +237,7 @@ module _ (i : ℕ) (seen seen' : rig.Image) (leaves leaves' : Outcomes) (pend : 
       masters = g.shape.masters;
       checks = g.shape.checks;
       others = g.shape.others;
-      owed = g.shape.owed;
+      owed = length-set c.owed (i - 1) (owed_either c i) ∙ g.shape.owed;
       loose = length-set c.loose i true ∙ g.shape.loose;
       own_log = g.shape.own_log;
       own_txns = g.shape.own_txns;
@@ -203,26 +250,33 @@ module _ (i : ℕ) (seen seen' : rig.Image) (leaves leaves' : Outcomes) (pend : 
       (λ is. (f.others_leave 0 w.0 bytes).1 ((g.disk_settled w.1 bytes).1 (is ∙ f.others 0 w.0))),
     );
     disk_lsns = λ p x may. g.disk_lsns p x (may-less i leaves leaves' low (less-same i leaves leaves' f.others_leave) p x may);
-    owed = g.owed;
+    last = g.last;
+    owed = λ j lo hi e. let w = was-settled j e in item-kept 0 c.owed i (owed_either c i) low j w.0 ∙ g.owed j lo hi w.1;
+    owed_loose = owed-loose;
     kept = g.kept;
     placed = g.placed;
     listed = g.listed;
     marked = g.marked;
+    named = g.named;
+    numbered = g.numbered;
     recoverers = g.recoverers;
     not_closed = g.not_closed;
     instances = λ k lo hi. let old = g.instances k lo hi in
-        record { status = old.status; epoch = old.epoch; begins = old.begins; names = old.names };
+        record { status = old.status; epoch = old.epoch; first = old.first; own = old.own; table = old.table; begins = old.begins; names = old.names };
     told = λ k lo hi tells e. let old = g.told k lo hi tells (was-settled k e).1 in
         record { rows = old.rows; owes = old.owes; reserves = old.reserves; spare = old.spare };
     at_rest = λ k lo hi tells e. g.at_rest k lo hi tells (was-settled k e).1;
+    begun = g.begun;
     at_work = g.at_work;
+    going = g.going;
     pending = pending-there pend g.pending;
     locks = g.locks;
+    gone = g.gone;
     asks = g.asks;
-    checking = g.checking;
+    checking = λ k b is. let old = g.checking k b is in record { active = old.active; low = old.low; begun = old.begun };
   }
     where
       pending-there : (q : Pending) → IsUnderWay c m q → IsUnderWay failed_parts m q
       pending-there Pending.Idle u = u
       pending-there (Pending.Commits t) u = record { runs = u.runs; up = u.up; committed = u.committed }
-      pending-there (Pending.Starts k) u = u
+      pending-there (Pending.Starts k) u = record { waits = u.waits; above = u.above; older = u.older }

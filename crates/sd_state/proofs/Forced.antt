@@ -1,5 +1,5 @@
 -- A log that is forced: what held of the complex holds of it then.
-use Rattle.std.proofs.Common.{◌≡◌, ◌≢◌, ◌⊎◌, ◌↔◌, inl, inr, ℕ, ◌-◌, ◌≤◌, Bool, true, false, cond, List, [], ◌∷◌, ◌++◌, ◌||◌, get_or, map, refl, sym, ap, ap₂, ◌∙◌, subst, arith, ⊎_elim, append-nil, eq-eqb, ne_eqb}
+use Rattle.std.proofs.Common.{◌≡◌, ◌≢◌, ◌⊎◌, ◌↔◌, inl, inr, ℕ, ◌-◌, ◌≤◌, Bool, true, false, cond, List, [], ◌∷◌, ◌++◌, ◌||◌, ◌&&◌, get_or, map, refl, sym, ap, ap₂, ◌∙◌, subst, arith, ⊎_elim, append-nil, eq-eqb, ne_eqb}
 use Rattle.std.specs.Prelude.{Option, None, Some, IfSome}
 use Rattle.std.specs.Option.{option_map_or}
 use Rattle.std.specs.List.{list_any}
@@ -7,11 +7,12 @@ use Rattle.std.proofs.lemmas.Bool.{cases_eq}
 use Rattle.std.proofs.lemmas.List.{length-set}
 use mathlib.Core.Path.{fun_ext}
 use Rattle.sd_base.specs.declared.ids.TxnId.{TxnId}
+use Rattle.sd_base.specs.Ids.{same_txn}
 use Rattle.sd_base.specs.Twin.{chosen_body, number_of}
 use Rattle.sd_logrec.specs.Kept.{Master, Whole, area, master, reading}
 use Rattle.sd_logrec.specs.View.{Rec, flat}
 use Rattle.sd_logrec.specs.declared.record.Record.{Record}
-use Rattle.sd_log.specs.Logs.{LogState, StandsOn, forced, forced_with}
+use Rattle.sd_log.specs.Logs.{LogState, StandsOn, forced, forced_with, last_lsn, scanned}
 use Rattle.sd_log.specs.Forces.{forced_at, forced_len}
 use Rattle.sd_page.specs.Page.{Page}
 use Rattle.sd_model.specs.State.{State}
@@ -29,10 +30,11 @@ use Rattle.sd_chain.specs.Image.{Recovered}
 use Rattle.sd_chain.specs.Checks.{owed, reserve}
 use Rattle.sd_chain.specs.Fates.{commits, fate}
 use Rattle.sd_chain.specs.Images.{Gives, Keeps, Settled, kept_at, with_disk}
-use Rattle.sd_chain.specs.Records.{home}
+use Rattle.sd_chain.specs.Records.{Each, IsOpen, ends, home, stack}
 use Rattle.sd_chain.proofs.Devices.{chosen_same, part_before}
 use Rattle.sd_chain.proofs.Fates.{committed-stays}
 use Rattle.sd_chain.proofs.Images as images
+use Rattle.sd_chain.proofs.Lists.{Each-front}
 use Rattle.sd_coherent.specs.Coherent.{Coherent}
 use Rattle.sd_coherent.specs.Forces as forced_law
 use Rattle.sd_coherent.specs.World.{Base, Dir}
@@ -46,26 +48,29 @@ use Rattle.sd_sound.proofs.Kept.{forced-base, forced-idle, forced-tail, master-s
 use Rattle.sd_sound.proofs.Forces.{forced-keeps}
 use Rattle.sd_sound.proofs.Outcomes.{less-same}
 use Rattle.sd_sound.proofs.Changed.{may-less}
-use Rattle.sd_state.specs.Forcing.{IsForced, with_forced}
-use Rattle.sd_state.specs.Good.{Good, Half, IsInstance, IsKnownLsn, IsUnderWay, IsSettledAt, IsTold, base_of, dir_of, reaches}
+use Rattle.sd_state.specs.Forcing.{ForcesNow, IsForced, with_settled}
+use Rattle.sd_state.specs.Good.{IsOlder, Good, Half, IsInstance, IsKnownLsn, IsUnderWay, IsOfBegun, IsSettledAt, IsTold, OwesAtMost, base_of, dir_of, reaches}
 use Rattle.sd_state.specs.Images.{IsClaimed, IsEpochOf, IsOpenIn, begun_at, leaves_by, log_by}
 use Rattle.sd_state.specs.Tables.{NamesLife, RowIsLive, RowIsLogged, StandsAs}
 use Rattle.sd_txn.specs.declared.state.TxnState.{TxnState}
 use Rattle.sd_txn.specs.Transactions.{Transaction, txn_at}
 use Rattle.sd_model.specs.declared.act.Life.{Life}
-use Rattle.sd_state.specs.Parts.{Begun, Parts, active_as, among, count_at, is_loose, log_at, no_log, no_pool, other_at, owed_at, txns_at, up_as}
+use Rattle.sd_model.specs.declared.act.Claim.{Claim}
+use Rattle.sd_state.specs.Parts.{Begun, Parts, active_as, among, count_at, is_loose, log_at, no_log, no_pool, other_at, owed_at, txns_at, up_as, epoch_at}
 use Rattle.sd_state.proofs.Items.{item-kept, item-set}
 use Rattle.sd_state.proofs.Standing.{no-place, one-place}
-use Rattle.sd_state.specs.Values.{Pending, values}
+use Rattle.sd_state.proofs.Lasts.{last-forced}
+use Rattle.sd_state.specs.Values.{Pending, rid_of, values}
 
 -- What a crash may leave, with logs that begin somewhere, of which log i, which is settled, is forced. The parts that coherence
 -- sees are the same.
 module _ (i : ℕ) (seen seen' : rig.Image) (leaves leaves' : Outcomes) (logs logs' : Logs) (pend : Pending) (c c' : Parts) (m : State)
-    (low : 1 ≤ i) (high : i ≤ 8) (h : Half seen leaves logs pend c m) (idle : c.due ≡ None) (settled : is_loose c i ≡ false)
+    (low : 1 ≤ i) (high : i ≤ 8) (h : Half seen leaves logs pend c m) (settled : is_loose c i ≡ false)
     (reads_disk : leaves 0 (seen 0)) (reads_log : leaves i (seen i)) (f : IsForced i (logs i) seen seen' leaves leaves')
     (here : logs' i ≡ forced (logs i)) (elsewhere : (j : ℕ) → j ≢ i → logs' j ≡ logs j)
     (placed : c'.directory ≡ c.directory) (pools : c'.pools ≡ c.pools) (statuses : c'.statuses ≡ c.statuses)
-    (checks : c'.checks ≡ c.checks) (loose : c'.loose ≡ c.loose) (due : c'.due ≡ c.due) where
+    (checks : c'.checks ≡ c.checks) (loose : c'.loose ≡ c.loose)
+    (due : (c'.due ≡ c.due) ⊎ ((a : ℕ) × (c.due ≡ Some (a, i)) × (c'.due ≡ None))) where
   less : LessElsewhere i leaves leaves'
   less = less-same i leaves leaves' f.others_leave
 
@@ -131,7 +136,7 @@ module _ (i : ℕ) (seen seen' : rig.Image) (leaves leaves' : Outcomes) (logs lo
     loose_disk = ap (λ (marks : List Bool). get_or marks 0 true) loose;
     active = λ j. ap (λ (l : List Status). active_as j (among S.Closed l j)) statuses;
     up = λ j. ap (λ (l : List Status). up_as (among S.Closed l j)) statuses;
-    due = inl due;
+    due = due;
   }
 
   dir-same : dir_of c' ≡ dir_of c
@@ -157,6 +162,23 @@ module _ (i : ℕ) (seen seen' : rig.Image) (leaves leaves' : Outcomes) (logs lo
       → IsClaimed m t (kept_logs (tails_of logs') keeps (home t))
   claimed keeps t is = subst (IsClaimed m t) (sym (kept-same keeps (home t)))
       (h.claimed (kept_at i true keeps) t (subst (IsOpenIn t) (kept-same keeps (home t)) is))
+
+  -- what each log has, tail and all, is the same
+  all-here : all_at (logs' i) ≡ all_at (logs i)
+  all-here = ap₂ (λ (b t : List Rec). b ++ t) settles.base settles.tail ∙ append-nil (all_at (logs i))
+
+  held : (t : TxnId) → IsOpen t (base_at (logs' (home t)))
+      → Each (λ x. (m.part t).claims (rid_of x) ≡ Claim.Excl) (stack t (all_at (logs' (home t))))
+  held t opens = ⊎_elim
+      (λ e. subst (λ (k : ℕ). Each (λ x. (m.part t).claims (rid_of x) ≡ Claim.Excl) (stack t (all_at (logs' k)))) (sym e)
+      (subst (λ (log : List Rec). Each (λ x. (m.part t).claims (rid_of x) ≡ Claim.Excl) (stack t log)) (sym all-here)
+      (subst (λ (k : ℕ). Each (λ x. (m.part t).claims (rid_of x) ≡ Claim.Excl) (stack t (all_at (logs k)))) e
+      (h.held t (subst (λ (k : ℕ). IsOpen t (base_at (logs k))) (sym e)
+      (Each-front (λ x. (ends x.kind && same_txn x.txn t) ≡ false) (base_at (logs i)) (tail_at (logs i))
+      (subst (IsOpen t) settles.base (subst (λ (k : ℕ). IsOpen t (base_at (logs' k))) e opens))))))))
+      (λ ne. subst (λ (l : LogState). Each (λ x. (m.part t).claims (rid_of x) ≡ Claim.Excl) (stack t (all_at l))) (sym (elsewhere (home t) ne))
+      (h.held t (subst (λ (l : LogState). IsOpen t (base_at l)) (elsewhere (home t) ne) opens)))
+      (cases_eq (home t) i)
 
   master-stays : (bytes : List ℕ) → leaves' i bytes → master bytes ≡ master (seen i)
   master-stays bytes left = ap master ((f.durable bytes).0 left)
@@ -186,6 +208,7 @@ module _ (i : ℕ) (seen seen' : rig.Image) (leaves leaves' : Outcomes) (logs lo
         (record { low = low; high = high; here = here; others = elsewhere }) f.outside f.stands f.durable;
     gives = gives;
     claimed = claimed;
+    held = held;
     epochs = epochs;
     checks = λ k b is.
         let old = h.checks k b (ap (λ (l : List (Option Begun)). among {A = Option Begun} None l k) (sym checks) ∙ is) in (
@@ -235,11 +258,14 @@ names-forced None life t base tail h = h
 names-forced (Some x) life t base tail h = stands-forced x.state life t base tail h
 
 module _ (i : ℕ) (seen seen' : rig.Image) (leaves leaves' : Outcomes) (pend : Pending) (c : Parts) (m : State) (log : LogState) (owes : ℕ)
-    (low : 1 ≤ i) (high : i ≤ 8) (g : Good seen leaves pend c m) (idle : c.due ≡ None) (settled : is_loose c i ≡ false)
+    (low : 1 ≤ i) (high : i ≤ 8) (g : Good seen leaves pend c m) (now : ForcesNow i c) (settled : is_loose c i ≡ false)
     (reads : (d : ℕ) → d ≤ 8 → leaves d (seen d)) (is : log ≡ forced (log_at c i)) (f : IsForced i (log_at c i) seen seen' leaves leaves')
     (owed_is : owes ≡ owed (all_at (log_at c i))) where
   abbrev new : Parts
-  new = with_forced i log owes c
+  new = with_settled i log owes c
+
+  due-there : (new.due ≡ c.due) ⊎ ((a : ℕ) × (c.due ≡ Some (a, i)) × (new.due ≡ None))
+  due-there = ⊎_elim (λ idle. inl (sym idle)) (λ by. inr (by.0, by.2, refl)) now
 
   at-i : IsSettledAt seen leaves c i
   at-i = g.settled i low high settled
@@ -294,8 +320,8 @@ module _ (i : ℕ) (seen seen' : rig.Image) (leaves leaves' : Outcomes) (pend : 
 
     half-there : Half seen' (leaves_by new moved leaves') (log_by new moved) pend new m
     half-there = half-forced i seen seen' (leaves_by c moved leaves) (leaves_by new moved leaves') (log_by c moved) (log_by new moved) pend c new m
-        low high (g.half moved) idle settled (reads 0 (omega arith), tt) (reads i high, no-place (other_at c i) _ at-i.one_place) forced-there
-        (one-place new moved i at-i.one_place ∙ log-here ∙ ap forced (sym one)) by-else refl refl refl refl refl refl
+        low high (g.half moved) settled (reads 0 (omega arith), tt) (reads i high, no-place (other_at c i) _ at-i.one_place) forced-there
+        (one-place new moved i at-i.one_place ∙ log-here ∙ ap forced (sym one)) by-else refl refl refl refl refl due-there
 
   -- ---- devices
 
@@ -306,6 +332,9 @@ module _ (i : ℕ) (seen seen' : rig.Image) (leaves leaves' : Outcomes) (pend : 
         stands = subst (λ (l : LogState). StandsOn l (seen' i)) (sym log-here) f.stands;
         one_place = at-i.one_place;
         counted = subst (λ (o : Option (List ℕ)). IfSome o (λ body. number_of body ≡ count_at c i)) (sym chosen) at-i.counted;
+        epoch = ap₂ (λ (k : Master) (l : LogState). (past_at k l).epoch)
+            (master-same (forced_at (log_at c i)) (forced_len (log_at c i)) (seen i) (seen' i) (omega arith) f.outside)
+            (ap forced log-here ∙ forced-idle (forced (log_at c i)) (forced-tail (log_at c i))) ∙ at-i.epoch;
       }))
       (λ ne. let s = g.settled j lo hi e in record {
         only = λ bytes. (
@@ -316,6 +345,7 @@ module _ (i : ℕ) (seen seen' : rig.Image) (leaves leaves' : Outcomes) (pend : 
             ∙ ap (λ (l : LogState). Whole l.groups l.gate) (sym (log-else j ne));
         one_place = s.one_place;
         counted = subst (λ (bytes : List ℕ). IfSome (chosen_body 0 64 bytes) (λ body. number_of body ≡ count_at c j)) (sym (f.others j ne)) s.counted;
+        epoch = ap₂ (λ (l : LogState) (bytes : List ℕ). (past_at (master bytes) (forced l)).epoch) (log-else j ne) (f.others j ne) ∙ s.epoch;
       })
       (cases_eq j i)
     where
@@ -336,11 +366,30 @@ module _ (i : ℕ) (seen seen' : rig.Image) (leaves leaves' : Outcomes) (pend : 
           (λ ne. ap (λ (l : LogState). list_any (reaches x.lsn) (base_at l)) (log-else j ne) ∙ e)
           (cases_eq j i)
 
-  owed-there : (j : ℕ) → 1 ≤ j → j ≤ 8 → owed_at new j ≡ owed (base_at (log_at new j))
-  owed-there j lo hi = ⊎_elim
+  last-same : (j : ℕ) → last_lsn (scanned (log_at new j)) ≡ last_lsn (scanned (log_at c j))
+  last-same j = ⊎_elim
+      (λ e. subst (λ (k : ℕ). last_lsn (scanned (log_at new k)) ≡ last_lsn (scanned (log_at c k))) (sym e)
+      (ap (λ (l : LogState). last_lsn (scanned l)) log-here ∙ last-forced (log_at c i)))
+      (λ ne. ap (λ (l : LogState). last_lsn (scanned l)) (log-else j ne))
+      (cases_eq j i)
+
+  last-there : (j : ℕ) → 1 ≤ j → j ≤ 8 → Each (λ x. x.lsn ≤ last_lsn (scanned (log_at new j))) (all_at (log_at new j))
+  last-there j lo hi = subst (λ (n : ℕ). Each (λ (x : Rec). x.lsn ≤ n) (all_at (log_at new j))) (sym (last-same j))
+      (subst (Each (λ x. x.lsn ≤ last_lsn (scanned (log_at c j)))) (sym (all-same j)) (g.last j lo hi))
+
+  -- an unsettled log is another
+  owed-loose : (moved : Keeps) (j : ℕ) → 1 ≤ j → j ≤ 8 → is_loose c j ≡ true → OwesAtMost (owed_at new j) (log_by new moved j)
+  owed-loose moved j lo hi e = ⊎_elim
+      (λ same. let clash = sym settled ∙ ap (is_loose c) (sym same) ∙ e in absurd (cc))
+      (λ ne. subst (λ (n : ℕ). OwesAtMost n (log_by new moved j)) (sym (item-kept 0 c.owed i owes low j ne))
+      (subst (OwesAtMost (owed_at c j)) (sym (by-else moved j ne)) (g.owed_loose moved j lo hi e)))
+      (cases_eq j i)
+
+  owed-there : (j : ℕ) → 1 ≤ j → j ≤ 8 → is_loose c j ≡ false → owed_at new j ≡ owed (base_at (log_at new j))
+  owed-there j lo hi e = ⊎_elim
       (λ same. subst (λ (k : ℕ). owed_at new k ≡ owed (base_at (log_at new k))) (sym same)
       (item-set 0 c.owed i owes low high g.shape.owed ∙ owed_is ∙ ap owed (sym base-here)))
-      (λ ne. item-kept 0 c.owed i owes low j ne ∙ g.owed j lo hi ∙ ap (λ (l : LogState). owed (base_at l)) (sym (log-else j ne)))
+      (λ ne. item-kept 0 c.owed i owes low j ne ∙ g.owed j lo hi e ∙ ap (λ (l : LogState). owed (base_at l)) (sym (log-else j ne)))
       (cases_eq j i)
 
   -- ---- instances
@@ -350,6 +399,9 @@ module _ (i : ℕ) (seen seen' : rig.Image) (leaves leaves' : Outcomes) (pend : 
     status = old.status;
     epoch = old.epoch;
     begins = old.begins;
+    first = old.first;
+    own = old.own;
+    table = old.table;
     names = λ t own. ⊎_elim
         (λ same. subst (λ (j : ℕ). NamesLife (txn_at (txns_at c k) t) (m.part t).life (fate t (base_at (log_at new j))) (fate t (all_at (log_at new j)))) (sym same)
         (subst (λ (base : List Rec). NamesLife (txn_at (txns_at c k) t) (m.part t).life (fate t base) (fate t (all_at (log_at new i)))) (sym base-here)
@@ -371,8 +423,8 @@ module _ (i : ℕ) (seen seen' : rig.Image) (leaves leaves' : Outcomes) (pend : 
     rows = λ t own. subst (RowIsLogged (txn_at (txns_at c k) t) t) (sym (all-same k)) (old.rows t own);
     owes = old.owes ∙ ap owed (sym (all-same k));
     reserves = old.reserves ∙ ap reserve (sym (all-same k));
-    spare = subst (λ (n : ℕ). reserve (all_at (log_at new k)) ≤ n) (sym (spare-same k))
-        (subst (λ (l : List Rec). reserve l ≤ (log_at c k).spare) (sym (all-same k)) old.spare);
+    spare = λ up. subst (λ (n : ℕ). reserve (all_at (log_at new k)) ≤ n) (sym (spare-same k))
+        (subst (λ (l : List Rec). reserve l ≤ (log_at c k).spare) (sym (all-same k)) (old.spare up));
   }
 
   tail-there : (k : ℕ) → (log_at c k).tail ≡ [] → (log_at new k).tail ≡ []
@@ -388,7 +440,11 @@ module _ (i : ℕ) (seen seen' : rig.Image) (leaves leaves' : Outcomes) (pend : 
     up = u.up;
     committed = ap (list_any (commits t)) (all-same (home t)) ∙ u.committed;
   }
-  pending-there (Pending.Starts k) u = u
+  pending-there (Pending.Starts k) u = record {
+    waits = u.waits;
+    above = u.above;
+    older = subst (Each (IsOlder (epoch_at c k))) (sym (all-same k)) u.older;
+  }
 
   places-there : (j place : ℕ) → other_at c j ≡ Some place → (bytes : List ℕ) → leaves' j bytes
       → ((master bytes).start ≡ place) ⊎ ((master bytes).start ≡ (log_at new j).start)
@@ -422,21 +478,33 @@ module _ (i : ℕ) (seen seen' : rig.Image) (leaves leaves' : Outcomes) (pend : 
       (λ is. (f.others_leave 0 (λ z. omega (arith, low, z)) bytes).1 ((g.disk_settled e bytes).1 (is ∙ f.others 0 (λ z. omega (arith, low, z))))),
     );
     disk_lsns = known-there;
+    last = last-there;
     owed = owed-there;
+    owed_loose = owed-loose;
     kept = g.kept;
     placed = g.placed;
     listed = g.listed;
     marked = g.marked;
+    named = g.named;
+    numbered = g.numbered;
     recoverers = g.recoverers;
     not_closed = g.not_closed;
     instances = instance-there;
     told = λ k lo hi tells e. told-there k (g.told k lo hi tells e);
     at_rest = λ k lo hi tells e. tail-there k (g.at_rest k lo hi tells e);
-    at_work = λ k lo hi up t own. subst (RowIsLive (txn_at (txns_at c k) t) t (m.part t)) (sym (all-same k)) (g.at_work k lo hi up t own);
+    begun = λ k lo hi up. subst (Each (IsOfBegun (m.inst k))) (sym (all-same k)) (g.begun k lo hi up);
+    at_work = λ k lo hi up t own free.
+        subst (RowIsLive (txn_at (txns_at c k) t) t (m.part t)) (sym (all-same k)) (g.at_work k lo hi up t own free);
+    going = λ t lo hi goes. subst (IsOpen t) (sym (all-same (home t))) (g.going t lo hi goes);
     pending = pending-there pend g.pending;
     locks = g.locks;
+    gone = g.gone;
     asks = g.asks;
-    checking = g.checking;
+    checking = λ k b is. let old = g.checking k b is in record {
+      active = old.active;
+      low = old.low;
+      begun = subst (λ (n : ℕ). b.begin ≤ n) (sym (last-same k)) old.begun;
+    };
   }
     where
       inst-same : (j : ℕ) → (log_at new j).inst ≡ (log_at c j).inst

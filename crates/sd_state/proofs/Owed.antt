@@ -30,7 +30,7 @@ by-status S.Restarting told was owes t w = t refl
 by-status S.Closed told was owes t w = w refl
 
 -- few records are owed
-few-owed : (seen : rig.Image) (leaves : Outcomes) (pend : Pending) (c : Parts) (m : State) (i : ℕ) → 1 ≤ i → i ≤ 8
+pub few-owed : (seen : rig.Image) (leaves : Outcomes) (pend : Pending) (c : Parts) (m : State) (i : ℕ) → 1 ≤ i → i ≤ 8
     → Good seen leaves pend c m → leaves 0 (seen 0) → owed (all_at (log_at c i)) < 2 ^ 62
 few-owed seen leaves pend c m i low high g reads =
     let moved : Keeps = λ j. false in
@@ -45,5 +45,5 @@ owed-forced seen leaves pend c m i low high g reads settled =
     by-status (status_at c i) (min (owed_of (txns_at c i)) (2 ^ 64 - 1)) (owed_at c i) (owed (all_at (log_at c i)))
     (λ tells. let is = (g.told i low high tells settled).owes in let few = few-owed seen leaves pend c m i low high g reads in
     omega (arith, is, few))
-    (λ rests. g.owed i low high ∙ ap owed (sym (ap (λ (tail : List Record). base_at (log_at c i) ++ map flat tail) (g.at_rest i low high rests settled)
+    (λ rests. g.owed i low high settled ∙ ap owed (sym (ap (λ (tail : List Record). base_at (log_at c i) ++ map flat tail) (g.at_rest i low high rests settled)
     ∙ append-nil (base_at (log_at c i)))))

@@ -1,9 +1,11 @@
 -- A recovery that begins: what held of the complex holds of it then.
-use Rattle.std.proofs.Common.{◌≡◌, ◌≢◌, ◌⊎◌, inl, inr, ℕ, zero, suc, ◌-◌, ◌≤◌, Bool, true, false, cond, eqb, length, slice_set, refl, sym, ap, ◌∙◌, subst, arith, ⊎_elim, eq-eqb, ne_eqb}
+use Rattle.std.proofs.Common.{◌≡◌, ◌≢◌, ◌⊎◌, inl, inr, ℕ, zero, suc, ◌-◌, ◌≤◌, Bool, true, false, cond, eqb, List, map, ◌++◌, length, slice_set, append-nil, refl, sym, ap, ◌∙◌, subst, arith, ⊎_elim, eq-eqb, ne_eqb}
 use Rattle.std.specs.Prelude.{None}
-use Rattle.std.proofs.lemmas.Bool.{cases_eq, cases_lt}
+use Rattle.std.proofs.lemmas.Bool.{cases_Bool, cases_eq, cases_lt}
 use Rattle.std.proofs.lemmas.List.{get_or_past, get_or-set_other, get_or-set_same, length-set}
 use Rattle.sd_base.specs.declared.place.Status.TheVariants as S
+use Rattle.sd_logrec.specs.View.{flat}
+use Rattle.sd_logrec.specs.declared.record.Record.{Record}
 use Rattle.sd_model.specs.declared.act.Inst.{Inst}
 use Rattle.sd_model.specs.declared.event.Event.TheVariants.{RecoverBegin}
 use Rattle.sd_model.specs.declared.event.Reply.TheVariants.{Did}
@@ -15,23 +17,26 @@ use Rattle.sd_model.proofs.MarksRun.{step-marked}
 use Rattle.sd_model.proofs.Recoverers.{step-recoverers}
 use Rattle.sd_pagelock.specs.Directory.{asks_at}
 use Rattle.sd_rig.specs.Devices as rig
+use Rattle.sd_chain.specs.Checks.{owed}
 use Rattle.sd_chain.specs.Images.{Keeps}
 use Rattle.sd_chain.proofs.Lists.{Each-weaker}
+use Rattle.sd_chain.specs.Records.{Each}
 use Rattle.sd_coherent.specs.Changes as changes_law
 use Rattle.sd_coherent.specs.Coherent.{Coherent}
 use Rattle.sd_coherent.specs.Falls.{begun}
 use Rattle.sd_coherent.specs.World.{Base, put_at}
 use Rattle.sd_coherent.proofs.Changes.{rest-keeps}
 use Rattle.sd_coherent.proofs.Falls.{begin-keeps}
-use Rattle.sd_sound.specs.Logs.{Outcomes, may_of}
-use Rattle.sd_state.specs.Good.{Good, Half, IsInstance, base_of, dir_of}
+use Rattle.sd_sound.specs.Logs.{all_at, Outcomes, base_at, may_of}
+use Rattle.sd_state.specs.Good.{IsOfBegun, Good, Half, IsInstance, OwesAtMost, base_of, dir_of}
 use Rattle.sd_state.specs.Images.{IsEpochOf, leaves_by, log_by}
 use Rattle.sd_state.specs.Tables.{tells_log}
 use Rattle.sd_txn.specs.Transactions.{begins_in}
-use Rattle.sd_state.specs.Parts.{Parts, active_as, is_active, is_loose, is_up, status_at, txns_at, up_as}
+use Rattle.sd_state.specs.Parts.{Parts, active_as, is_active, is_loose, is_up, log_at, owed_at, status_at, txns_at, up_as}
 use Rattle.sd_state.specs.Recovering.{recovers, with_recovering}
 use Rattle.sd_state.specs.Values.{Pending}
 use Rattle.sd_state.proofs.Items.{item-kept, item-set}
+use Rattle.sd_state.proofs.Standing.{one-place}
 
 module _ (i by : ℕ) (seen : rig.Image) (leaves : Outcomes) (c : Parts) (m : State) (low : 1 ≤ i) (high : i ≤ 8)
     (g : Good seen leaves Pending.Idle c m) (idle : c.due ≡ None) (down : status_at c i ≡ S.Down)
@@ -164,6 +169,7 @@ module _ (i by : ℕ) (seen : rig.Image) (leaves : Outcomes) (c : Parts) (m : St
       soundly = h.soundly;
       gives = h.gives;
       claimed = λ keeps t opens. let old = h.claimed keeps t opens in record { there = old.there; claims = old.claims };
+      held = h.held;
       epochs = λ j lo hi bytes left. let old = h.epochs j lo hi bytes left in (epoch-same j _ old.0, epoch-same j _ old.1);
       checks = h.checks;
     }
@@ -179,21 +185,44 @@ module _ (i by : ℕ) (seen : rig.Image) (leaves : Outcomes) (c : Parts) (m : St
   instance-there k lo hi = let old = g.instances k lo hi in ⊎_elim
       (λ same. subst (IsInstance new then) (sym same) (let here = g.instances i low high in record {
         status = status-here ∙ sym (ap (λ (x : Inst). x.status) inst-here);
-        epoch = here.epoch ∙ sym (ap (λ (x : Inst). x.epoch) inst-here);
+        epoch = λ up. let clash = sym status-here ∙ up in absurd (cc);
         begins = λ up. let clash = sym status-here ∙ up in absurd (cc);
+        table = let e = ap (λ (x : Inst). x.epoch) inst-here in let o = here.table in omega (arith, e, o);
+        first = λ up. let clash = sym status-here ∙ up in absurd (cc);
+        own = here.own;
         names = here.names;
       }))
       (λ ne. record {
         status = status-else k ne ∙ old.status ∙ sym (ap (λ (x : Inst). x.status) (inst-else k ne));
-        epoch = old.epoch ∙ sym (ap (λ (x : Inst). x.epoch) (inst-else k ne));
+        epoch = λ up. old.epoch (sym (status-else k ne) ∙ up) ∙ sym (ap (λ (x : Inst). x.epoch) (inst-else k ne));
         begins = λ up. ap (λ (x : Inst). begins_in (txns_at c k) x.epoch) (inst-else k ne) ∙ old.begins (sym (status-else k ne) ∙ up)
             ∙ sym (ap (λ (x : Inst). x.begins) (inst-else k ne));
+        table = let e = ap (λ (x : Inst). x.epoch) (inst-else k ne) in let o = old.table in omega (arith, e, o);
+        first = λ up. let one = old.first (sym (status-else k ne) ∙ up) in let e = ap (λ (x : Inst). x.epoch) (inst-else k ne) in
+            omega (arith, one, e);
+        own = old.own;
         names = old.names;
       })
       (cases_eq k i)
 
   not-up : (k : ℕ) → status_at new k ≡ S.Up → k ≢ i
   not-up k up e = let clash = sym status-here ∙ ap (status_at new) (sym e) ∙ up in absurd (cc)
+
+  -- Log i, where it was settled, has no tail, so it owes the same either way.
+  owes-here : (moved : Keeps) → OwesAtMost (owed_at c i) (log_by c moved i)
+  owes-here moved = ⊎_elim (λ e. g.owed_loose moved i low high e)
+      (λ e.
+      let base = g.owed i low high e in
+      let all = ap (λ (tail : List Record). owed (base_at (log_at c i) ++ map flat tail)) (g.at_rest i low high (ap tells_log down) e)
+      ∙ ap owed (append-nil (base_at (log_at c i))) in
+      subst (OwesAtMost (owed_at c i)) (sym (one-place c moved i (g.settled i low high e).one_place)) (omega (arith, base), omega (arith, base, all)))
+      (cases_Bool (is_loose c i))
+
+  owed-loose : (moved : Keeps) (j : ℕ) → 1 ≤ j → j ≤ 8 → is_loose new j ≡ true → OwesAtMost (owed_at c j) (log_by c moved j)
+  owed-loose moved j lo hi e = ⊎_elim
+      (λ same. subst (λ (k : ℕ). OwesAtMost (owed_at c k) (log_by c moved k)) (sym same) (owes-here moved))
+      (λ ne. g.owed_loose moved j lo hi (sym (loose-else j lo ne) ∙ e))
+      (cases_eq j i)
 
   pub recovering-good : Good seen leaves Pending.Idle new then
   recovering-good = record {
@@ -214,14 +243,18 @@ module _ (i by : ℕ) (seen : rig.Image) (leaves : Outcomes) (c : Parts) (m : St
     half = half-there;
     places = g.places;
     settled = λ j lo hi e. let s = g.settled j lo hi (was-settled j lo e).1 in
-        record { only = s.only; stands = s.stands; one_place = s.one_place; counted = s.counted };
+        record { only = s.only; stands = s.stands; one_place = s.one_place; counted = s.counted; epoch = s.epoch };
     disk_settled = λ e. let clash = sym loose-disk ∙ e in absurd (cc);
     disk_lsns = g.disk_lsns;
-    owed = g.owed;
+    last = g.last;
+    owed = λ j lo hi e. g.owed j lo hi (was-settled j lo e).1;
+    owed_loose = owed-loose;
     kept = record { serial = g.kept.serial; reads = g.kept.reads; covered = g.kept.covered; apart = g.kept.apart };
     placed = step-placed m (RecoverBegin i by) Did then step g.placed;
     listed = step-listed m (RecoverBegin i by) Did then step g.listed;
     marked = step-marked m (RecoverBegin i by) Did then step g.marked;
+    named = g.named;
+    numbered = g.numbered;
     recoverers = step-recoverers m (RecoverBegin i by) Did then step g.recoverers;
     not_closed = λ closed. ⊎_elim
         (λ e. let clash = sym (ap (λ (x : Inst). x.status) (ap then.inst e ∙ inst-here)) ∙ closed in absurd (cc))
@@ -230,13 +263,18 @@ module _ (i by : ℕ) (seen : rig.Image) (leaves : Outcomes) (c : Parts) (m : St
     instances = instance-there;
     told = λ k lo hi tells e. let w = was-settled k lo e in
         let old = g.told k lo hi (sym (ap tells_log (status-else k w.0)) ∙ tells) w.1 in
-        record { rows = old.rows; owes = old.owes; reserves = old.reserves; spare = old.spare };
+        record { rows = old.rows; owes = old.owes; reserves = old.reserves; spare = λ up. old.spare (sym (status-else k w.0) ∙ up) };
     at_rest = λ k lo hi tells e. let w = was-settled k lo e in g.at_rest k lo hi (sym (ap tells_log (status-else k w.0)) ∙ tells) w.1;
+    begun = λ k lo hi up. subst (λ (x : Inst). Each (IsOfBegun x) (all_at (log_at c k))) (sym (inst-else k (not-up k up)))
+        (g.begun k lo hi (sym (status-else k (not-up k up)) ∙ up));
     at_work = λ k lo hi up. g.at_work k lo hi (sym (status-else k (not-up k up)) ∙ up);
+    going = g.going;
     pending = tt;
     locks = g.locks;
+    gone = g.gone;
     asks = λ p. Each-weaker _ _ (λ ask a. (still-active ask.by a.0, a.1)) (asks_at c.directory p) (g.asks p);
-    checking = λ k b is. still-active k (g.checking k b is);
+    checking = λ k b is. let old = g.checking k b is in
+        record { active = still-active k old.active; low = old.low; begun = old.begun };
   }
 
 -- an instance that is up is one of the eight

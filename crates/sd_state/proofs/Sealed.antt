@@ -23,7 +23,7 @@ use Rattle.sd_chain.specs.Fates.{Fate, commits, fate, fate_after, is_commit}
 use Rattle.sd_chain.specs.Images as images
 use Rattle.sd_chain.specs.Images.{Gives, Grows, Keeps, log}
 use Rattle.sd_chain.specs.Order.{MayFollow, of_txn, speaks}
-use Rattle.sd_chain.specs.Records.{changes, home, moved, stack}
+use Rattle.sd_chain.specs.Records.{IsOpen, changes, home, moved, stack}
 use Rattle.sd_chain.proofs.Fates.{fate-others, fate-own}
 use Rattle.sd_chain.proofs.Stacks.{stack-push}
 use Rattle.sd_chain.proofs.Whose.{own_is}
@@ -38,7 +38,7 @@ use Rattle.sd_coherent.proofs.Named.{seal-named}
 use Rattle.sd_sound.specs.Appends.{Appends}
 use Rattle.sd_sound.specs.Logs.{Logs, Outcomes, all_at, base_at, kept_logs, may_of, past_at, tail_at, tails_of}
 use Rattle.sd_sound.specs.Soundly.{IsSoundly}
-use Rattle.sd_sound.proofs.Appends.{kept-elsewhere, kept-old, kept-with, kept-without}
+use Rattle.sd_sound.proofs.Appends.{appended-log, kept-elsewhere, kept-old, kept-with, kept-without}
 use Rattle.sd_state.specs.Good.{Half, base_of, dir_of}
 use Rattle.sd_state.specs.Images.{IsClaimed, IsEpochOf, IsOpenIn}
 use Rattle.sd_state.specs.Parts.{Begun, Parts, check_at}
@@ -47,6 +47,10 @@ use Rattle.sd_state.specs.Values.{Pending, as_done, is_committed, rid_of, undeci
 use Rattle.sd_model.specs.Acts.{after}
 use Rattle.sd_model.specs.declared.act.Claim.{Claim}
 use Rattle.sd_chain.specs.Records.{Each}
+
+-- log i, the table of instance i and the epochs are these
+abbrev pub with_came : ℕ → LogState → Transactions → List ℕ → Parts → Parts
+with_came i log table epochs c = record (with_ended i log table c) { epochs = epochs }
 
 -- ---- one more record without a page
 
@@ -101,13 +105,13 @@ commits-same t xs y none = list_any-append (commits t) xs (y ∷ [])
 
 module _ (i : ℕ) (y : Record) (seen : rig.Image) (leaves : Outcomes) (logs logs' : Logs) (pend pend' : Pending) (c : Parts)
     (l : LogState)
-    (table : Transactions) (m : State) (h : Half seen leaves logs pend c m) (a : Appends i y leaves logs logs')
+    (table : Transactions) (epochs : List ℕ) (m : State) (h : Half seen leaves logs pend c m) (a : Appends i y leaves logs logs')
     (reads : leaves 0 (seen 0))
     (no_page : changes (flat y).kind ≡ false) (own : speaks (flat y).kind ≡ true → home (flat y).txn ≡ i)
     (follows : speaks (flat y).kind ≡ true → MayFollow (all_at (logs i)) (flat y)) (numbered : 0 < lsn_of y)
     (above : (k : Begun) → check_at c i ≡ Some k → k.low ≤ lsn_of y) where
   abbrev new : Parts
-  new = with_ended i l table c
+  new = with_came i l table epochs c
 
   pub grows : Grows i (flat y) (tails_of logs) (tails_of logs')
   grows = record {
@@ -193,6 +197,20 @@ module _ (i : ℕ) (y : Record) (seen : rig.Image) (leaves : Outcomes) (logs log
         claims = subst (λ (l : List Rec). Each (λ x. (m.part t).claims (rid_of x) ≡ Claim.Excl) l) (sym was.1) old.claims;
       }
 
+  -- those whose forced records have no end of them have open what they had
+  held : (t : TxnId) → IsOpen t (base_at (logs' (home t)))
+      → Each (λ x. (m.part t).claims (rid_of x) ≡ Claim.Excl) (stack t (all_at (logs' (home t))))
+  held t is = subst (λ (l : List Rec). Each (λ x. (m.part t).claims (rid_of x) ≡ Claim.Excl) l) (sym (stacks (home t)))
+      (h.held t (subst (IsOpen t) (grows.base (home t)) is))
+    where
+      stacks : (j : ℕ) → stack t (all_at (logs' j)) ≡ stack t (all_at (logs j))
+      stacks j = ⊎_elim
+          (λ e. subst (λ (k : ℕ). stack t (all_at (logs' k)) ≡ stack t (all_at (logs k))) (sym e)
+          (ap (λ (l : LogState). stack t (all_at l)) a.log.here ∙ ap (stack t) (appended-log (logs i) y a.spare)
+          ∙ stack-same t (all_at (logs i)) (flat y) no_page))
+          (λ ne. ap (λ (l : LogState). stack t (all_at l)) (a.log.others j ne))
+          (cases_eq j i)
+
   -- the record commits nobody: the table that recovery gives is as before
   pub values-stay : is_commit (flat y).kind ≡ false → (keeps : Keeps) (p s : ℕ)
       → values m pend (kept_logs (tails_of logs) keeps) p s ≡ values m pend (kept_logs (tails_of logs') keeps) p s
@@ -226,6 +244,7 @@ module _ (i : ℕ) (y : Record) (seen : rig.Image) (leaves : Outcomes) (logs log
     soundly = soundly;
     gives = gives;
     claimed = claimed;
+    held = held;
     epochs = λ j lo hi bytes left. ⊎_elim
         (λ e. subst (λ (k : ℕ). IsEpochOf m pend' k (past_at (master bytes) (logs' k)).epoch × IsEpochOf m pend' k
         (past_at (master bytes) (forced (logs' k))).epoch)

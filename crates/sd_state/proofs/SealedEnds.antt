@@ -1,11 +1,10 @@
--- A log has room and memory for the end of a transaction that has a record: for `seal_end`.
-use Rattle.std.proofs.Common.{◌≡◌, ◌⊎◌, ℕ, ◌≤◌, true, false, length, refl, ap, ◌∙◌, subst, arith, ⊎_elim}
-use Rattle.std.specs.Prelude.{Result, Ok, Err, IsOk}
+-- A log has room and memory for the end of a transaction that has a record: for the calls that end one.
+use Rattle.std.proofs.Common.{◌≡◌, ℕ, ◌≤◌, true, false, length, refl, ap, ◌∙◌, subst, arith}
+use Rattle.sd_base.specs.declared.place.Status.TheVariants as S
 use Rattle.sd_logrec.specs.Spelling.{spelling}
 use Rattle.sd_logrec.specs.View.{flat}
 use Rattle.sd_logrec.specs.declared.record.Record.{Record}
-use Rattle.sd_logrec.specs.declared.record.Record.TheVariants as records
-use Rattle.sd_log.specs.Logs.{LogState, forced, is_reserved, needed}
+use Rattle.sd_log.specs.Logs.{LogState, forced, needed}
 use Rattle.sd_model.specs.State.{State}
 use Rattle.sd_rig.specs.Devices as rig
 use Rattle.sd_chain.specs.Images.{Keeps}
@@ -17,20 +16,10 @@ use Rattle.sd_sound.proofs.Owing.{end-owes, ends-speaks}
 use Rattle.sd_sound.proofs.Room.{end-len, end-room}
 use Rattle.sd_state.specs.Good.{Good}
 use Rattle.sd_state.specs.Images.{log_by}
-use Rattle.sd_state.specs.Parts.{Parts, log_at, other_at}
+use Rattle.sd_state.specs.Parts.{Parts, log_at, other_at, status_at}
 use Rattle.sd_state.specs.Sealing.{MaySeal}
 use Rattle.sd_state.specs.Values.{Pending}
 use Rattle.sd_state.proofs.Standing.{no-place, one-place}
-
--- bytes are reserved for it
-pub reserved-end : (r : Record) → ends (flat r).kind ≡ true → is_reserved r ≡ true
-reserved-end (records.Start l epoch) e = absurd (cc)
-reserved-end (records.Update l txn prev page slot capacity before after) e = absurd (cc)
-reserved-end (records.Clr l txn prev undo_next page slot after) e = absurd (cc)
-reserved-end (records.Commit l txn prev) e = refl
-reserved-end (records.End l txn prev) e = refl
-reserved-end (records.BeginCheck l) e = absurd (cc)
-reserved-end (records.EndCheck l begin spans recs) e = absurd (cc)
 
 module _ (i : ℕ) (y : Record) (seen : rig.Image) (leaves : Outcomes) (pend : Pending) (c : Parts) (m : State) (log : LogState)
     (g : Good seen leaves pend c m) (may : MaySeal i y c) (it_ends : ends (flat y).kind ≡ true)
@@ -49,15 +38,10 @@ module _ (i : ℕ) (y : Record) (seen : rig.Image) (leaves : Outcomes) (pend : P
       ((s.only (seen i)).1 refl, no-place (other_at c i) _ s.one_place)).sound_forced)
       (subst (IsEnd y) is is_end)
 
-  pub memory-there : length (spelling y) ≤ log.spare
-  memory-there =
-      let told = (g.told i may.low may.high may.tells may.settled).spare in
+  pub memory-there : status_at c i ≡ S.Up → length (spelling y) ≤ log.spare
+  memory-there up =
+      let told = (g.told i may.low may.high may.tells may.settled).spare up in
       let owes = (end-owes (all_at (log_at c i)) (flat y) it_ends is_end.alive there).0 in
       let len = end-len y it_ends in
       let same = ap (λ (l : LogState). l.spare) is in
       omega (arith, told, owes, len, same)
-
--- so it is Ok
-pub ok-there : {E : Type 0} (r : Result (Unit {0}) E) (full : E) → (r ≡ Ok tt) ⊎ (r ≡ Err full) → (r ≡ Err full → ⊥) → IsOk r
-ok-there (Ok x) full either not = refl
-ok-there (Err e) full either not = ⊎_elim (λ ok. absurd (cc)) (λ bad. absurd (not bad)) either

@@ -1,6 +1,6 @@
 -- What a crash may leave once a transaction's last open record is undone: for the law `undo`.
 use Rattle.std.proofs.Common.{◌≡◌, ◌≢◌, ◌⊎◌, inl, inr, ⊎_elim, ℕ, ◌<◌, ◌≤◌, Bool, true, false, List, [], ◌∷◌, ◌++◌, ◌||◌, filter, length, map, refl, sym, ap, ap₂, ◌∙◌, subst, arith}
-use Rattle.std.specs.Prelude.{Some}
+use Rattle.std.specs.Prelude.{Option, Some}
 use Rattle.std.specs.List.{list_any}
 use Rattle.std.proofs.lemmas.Bool.{cases_Bool, cases_eq}
 use Rattle.std.proofs.lemmas.List.{map_push}
@@ -11,7 +11,7 @@ use Rattle.sd_base.proofs.SameIds.{cases_txn, each_txn}
 use Rattle.sd_logrec.specs.Kept.{master}
 use Rattle.sd_logrec.specs.View.{Rec, flat}
 use Rattle.sd_logrec.specs.declared.record.Record.{Record}
-use Rattle.sd_log.specs.Logs.{LogState, StandsOn, forced, with_record}
+use Rattle.sd_log.specs.Logs.{LogState, StandsOn, forced, last_lsn, scanned, with_record}
 use Rattle.sd_model.specs.Claims.{Claims}
 use Rattle.sd_model.specs.Changes.{undid, undid_part}
 use Rattle.sd_model.specs.Acts.{after}
@@ -32,14 +32,14 @@ use Rattle.sd_chain.specs.Image.{Recovered}
 use Rattle.sd_chain.specs.Images.{Gives, Grows, Keeps, all_kept, log, with_disk}
 use Rattle.sd_chain.specs.Images as images
 use Rattle.sd_chain.specs.Order.{MayFollow, UndoesTop}
-use Rattle.sd_chain.specs.Records.{Each, home, rest, stack}
+use Rattle.sd_chain.specs.Records.{Each, IsOpen, home, rest, stack}
 use Rattle.sd_chain.proofs.Cuts.{newest-cut}
 use Rattle.sd_chain.proofs.Fates.{fate-others, open-fate}
 use Rattle.sd_chain.proofs.Images as gives-proofs
 use Rattle.sd_chain.proofs.Lists.{Each-append, Each-filter}
 use Rattle.sd_chain.proofs.Stacks.{stack-push, step-other, step-own}
 use Rattle.sd_chain.proofs.Whose.{other_of}
-use Rattle.sd_coherent.specs.Changes.{IsUndo}
+use Rattle.sd_coherent.specs.Changes.{Acts, IsUndo}
 use Rattle.sd_coherent.specs.Checkpoints.{Closed, Covered}
 use Rattle.sd_coherent.specs.Coherent.{Coherent}
 use Rattle.sd_coherent.specs.Named.{IsRedone}
@@ -51,14 +51,14 @@ use Rattle.sd_coherent.proofs.Named.{undo-named}
 use Rattle.sd_sound.specs.Appends as sound
 use Rattle.sd_sound.specs.Logs.{Logs, Outcomes, Replaces, all_at, base_at, kept_logs, may_of, next_lsn, past_at, tail_at, tails_of}
 use Rattle.sd_sound.specs.Soundly.{IsSoundly}
-use Rattle.sd_sound.proofs.Appends.{kept-elsewhere, kept-old, kept-with, kept-without}
+use Rattle.sd_sound.proofs.Appends.{appended-log, kept-elsewhere, kept-old, kept-with, kept-without}
 use Rattle.sd_sound.proofs.Next.{epoch-others}
 use Rattle.sd_sound.proofs.Owing.{stack-there}
 use Rattle.sd_sound.proofs.Reserved.{undo-keeps}
 use Rattle.sd_state.specs.Good.{Half, base_of, dir_of}
 use Rattle.sd_state.specs.Images.{IsClaimed, IsEpochOf, IsOpenIn}
 use Rattle.sd_state.specs.Parts.{Begun, Parts, check_at, is_loose, log_at, no_pool, pool_at}
-use Rattle.sd_state.specs.Undoing.{IsUndone, MayUndo, clr_at, with_undone}
+use Rattle.sd_state.specs.Undoing.{HasTop, IsUndone, clr_at, with_undone_by}
 use Rattle.sd_state.specs.Values.{Pending, as_done, decided, is_committed, is_doubt, rid_of, values}
 use Rattle.sd_state.proofs.Items.{item-kept, item-set}
 
@@ -123,19 +123,33 @@ any-push test xs y off = list_any-append test xs (y ∷ []) ∙ ap (λ (b : Bool
 
 -- ---- the devices
 
-module _ (t : TxnId) (x : Transaction) (o : OpenRec) (image : Page) (log : LogState) (pool : Buffers) (table : Transactions)
-    (places : DirectoryState Page) (seen : rig.Image) (leaves : Outcomes) (logs logs' : Logs) (c : Parts) (m : State)
-    (top : Rec) (below : List Rec)
-    (w : MayUndo t x o image c m) (d : IsUndone t x o image log pool table places c) (pools : length c.pools ≡ 8)
-    (h : Half seen leaves logs Pending.Idle c m) (settled : is_loose c (home t) ≡ false) (reads : leaves (home t) (seen (home t)))
+-- the devices as coherence sees them while the log is settled, and this fall is due
+abbrev pub acting_base : rig.Image → (leaves : Outcomes) → Logs → Parts → (ℕ → Bool) → Option (ℕ × ℕ) → Base (may_of leaves)
+acting_base seen leaves logs c marks due = record (base_of seen leaves logs c) { loose = marks; due = due }
+
+-- Instance a undoes the record, and no life or claim of the serial table changes.
+module _ (a : ℕ) (t : TxnId) (x : Transaction) (o : OpenRec) (image : Page) (log : LogState) (pool : Buffers) (table : Transactions)
+    (places : DirectoryState Page) (due : Option (ℕ × ℕ)) (seen : rig.Image) (leaves : Outcomes) (logs logs' : Logs) (c : Parts)
+    (m : State) (part' : TxnId → Part) (top : Rec) (below : List Rec) (a_low : 1 ≤ a) (a_high : a ≤ 8)
+    (w : HasTop a t x o image c) (d : IsUndone a t x o image log pool table places c) (pools : length c.pools ≡ 8)
+    (lives : (u : TxnId) → (part' u).life ≡ (m.part u).life) (claims_stay : (u : TxnId) → (part' u).claims ≡ (m.part u).claims)
+    (tables : (one other : ℕ → List Rec) → ((u : TxnId) → is_committed one u ≡ is_committed other u) → (p s : ℕ)
+    → values (record m { part = part' }) Pending.Idle one p s ≡ values m Pending.Idle other p s)
+    (h : Half seen leaves logs Pending.Idle c m) (marks : ℕ → Bool) (marks_are : (j : ℕ) → 1 ≤ j → is_loose c j ≡ marks j)
+    (acting : Coherent (acting_base seen leaves logs c marks due) (dir_of c))
+    (acts : Acts (acting_base seen leaves logs c marks due) a (home t)) (reads : leaves (home t) (seen (home t)))
     (stands : (bytes : List ℕ) → leaves (home t) bytes → StandsOn (logs (home t)) bytes)
     (one : logs (home t) ≡ log_at c (home t)) (here : logs' (home t) ≡ log) (elsewhere : (j : ℕ) → j ≢ home t → logs' j ≡ logs j)
-    (undo_there : IsUndo (flat (clr_at t x o image c)) top below (all_at (log_at c (home t)))) where
+    (undo_there : IsUndo (flat (clr_at t x o image c)) top below (all_at (log_at c (home t))))
+    (lows : (k : Begun) → check_at c (home t) ≡ Some k → k.low ≤ last_lsn (scanned (log_at c (home t)))) where
   abbrev i : ℕ
   i = home t
 
   abbrev new : Parts
-  new = with_undone i log pool table places c
+  new = with_undone_by a i log pool table places due c
+
+  abbrev then_m : State
+  then_m = record m { part = part' }
 
   abbrev r : Record
   r = clr_at t x o image c
@@ -148,6 +162,9 @@ module _ (t : TxnId) (x : Transaction) (o : OpenRec) (image : Page) (log : LogSt
 
   abbrev b' : Base (may_of leaves)
   b' = base_of seen leaves logs' new
+
+  abbrev b0 : Base (may_of leaves)
+  b0 = acting_base seen leaves logs c marks due
 
   undo : IsUndo y top below (all_at (logs i))
   undo = subst (λ (l : LogState). IsUndo y top below (all_at l)) (sym one) undo_there
@@ -176,25 +193,24 @@ module _ (t : TxnId) (x : Transaction) (o : OpenRec) (image : Page) (log : LogSt
   rises = omega arith
 
   may_undo : images.MayUndo i (tails_of logs) (now b) y top below
-  may_undo = undo-may_come (may_of leaves) i i image y top below b (dir_of c) h.coherent w.held
-      (inl (refl, settled, w.idle)) w.copy rises undo
+  may_undo = undo-may_come (may_of leaves) a i image y top below b0 (dir_of c) acting w.held acts w.copy rises undo
 
   named : IsRedone (may_of leaves) i y (tails_of logs') (disk_page (seen 0)) b.version
   named = undo-named (may_of leaves) (may_of leaves) i y top below b (dir_of c) (tails_of logs') (disk_page (seen 0)) h.coherent
       (record { grows = grows; own = λ e. refl }) may_undo (λ p v l. l) h.coherent.reads
 
-  pool-here : pool_at new i ≡ pool
-  pool-here = item-set no_pool c.pools i pool w.low w.high pools
+  pool-here : pool_at new a ≡ pool
+  pool-here = item-set no_pool c.pools a pool a_low a_high pools
 
-  pool-else : (k : ℕ) → k ≢ i → pool_at new k ≡ pool_at c k
-  pool-else = item-kept no_pool c.pools i pool w.low
+  pool-else : (k : ℕ) → k ≢ a → pool_at new k ≡ pool_at c k
+  pool-else = item-kept no_pool c.pools a pool a_low
 
   coherent : Coherent b' (dir_of new)
-  coherent = change-keeps (may_of leaves) (may_of leaves) i i image y b b' (dir_of c) (dir_of new) h.coherent (record {
+  coherent = change-keeps (may_of leaves) (may_of leaves) a i image y b0 b' (dir_of c) (dir_of new) acting (record {
     held = w.held;
     copy = w.copy;
     rises = rises;
-    acts = inl (refl, settled, w.idle);
+    acts = acts;
     low = w.low;
     grows = grows;
     redone = named.redone;
@@ -212,7 +228,7 @@ module _ (t : TxnId) (x : Transaction) (o : OpenRec) (image : Page) (log : LogSt
           (λ e. subst (λ (j : ℕ). buffers.image_at (pool_at new j) q ≡ buffers.image_at (pool_at c j) q) (sym e)
           (ap (λ (p : Buffers). buffers.image_at p q) pool-here ∙ d.other_pages q ne))
           (λ nk. ap (λ (p : Buffers). buffers.image_at p q) (pool-else k nk))
-          (cases_eq k i);
+          (cases_eq k a);
       moving = λ q ne. d.images q;
     };
     rec_lsn = d.rec_lsn;
@@ -220,7 +236,7 @@ module _ (t : TxnId) (x : Transaction) (o : OpenRec) (image : Page) (log : LogSt
     stays = record {
       less = λ p v l. l;
       disk = λ p. refl;
-      loose = λ j lo. refl;
+      loose = marks_are;
       loose_disk = refl;
       active = λ j. refl;
       up = λ j. refl;
@@ -231,8 +247,8 @@ module _ (t : TxnId) (x : Transaction) (o : OpenRec) (image : Page) (log : LogSt
   -- the image is the newest version wherever log i has its tail: no other tail has a record of the page
   newest : sound.IsNewestAt i b.version o.rid.page image
   newest keeps kept = newest-cut keeps i o.rid.page (with_disk (tails_of logs) (disk_page (seen 0))) kept
-      (lone (may_of leaves) i i o.rid.page b (dir_of c) h.coherent w.held (inl (refl, settled, w.idle)))
-      ∙ sym (held-now i o.rid.page image b (dir_of c) h.coherent w.copy)
+      (lone (may_of leaves) a i o.rid.page b0 (dir_of c) acting w.held acts)
+      ∙ sym (held-now a o.rid.page image b (dir_of c) h.coherent w.copy)
 
   follows : MayFollow (all_at (logs i)) y
   follows = record {
@@ -290,14 +306,11 @@ module _ (t : TxnId) (x : Transaction) (o : OpenRec) (image : Page) (log : LogSt
       (λ more. ap (list_any test) more.is ∙ any-push test all y off ∙ ap (list_any test) (sym more.was))
       (either-kept keeps j)
 
-  rolls : is_doubt (m.part t).life ≡ false
-  rolls = ap is_doubt w.rolls
-
-  table-same : (keeps : Keeps) (p s : ℕ) → values (undid t m) Pending.Idle (new_kept keeps) p s ≡ values m Pending.Idle
+  table-same : (keeps : Keeps) (p s : ℕ) → values then_m Pending.Idle (new_kept keeps) p s ≡ values m Pending.Idle
       (old_kept keeps) p s
-  table-same keeps = values-same t m (new_kept keeps) (old_kept keeps) rolls (λ u. any-kept (commits u) refl keeps (home u))
+  table-same keeps = tables (new_kept keeps) (old_kept keeps) (λ u. any-kept (commits u) refl keeps (home u))
 
-  gives : Gives (tails_of logs') (may_of leaves) (λ keeps. values (undid t m) Pending.Idle (new_kept keeps))
+  gives : Gives (tails_of logs') (may_of leaves) (λ keeps. values then_m Pending.Idle (new_kept keeps))
   gives disk allowed keeps p s = subst (Recovered (cut keeps (with_disk (tails_of logs') disk)) p s) (sym (table-same keeps p s))
       (gives-proofs.undo-gives i y (tails_of logs) (tails_of logs') grows (λ e. refl)
       (may_of leaves) b.version b'.version h.coherent.safe
@@ -316,10 +329,10 @@ module _ (t : TxnId) (x : Transaction) (o : OpenRec) (image : Page) (log : LogSt
   other-fate u ne = fate-others u all (y ∷ []) (other_of u y (λ e. ne (sym e)), tt)
 
   -- what is claimed by m is claimed by the new table
-  claimed-then : (u : TxnId) (xs : List Rec) → IsClaimed m u xs → IsClaimed (undid t m) u xs
+  claimed-then : (u : TxnId) (xs : List Rec) → IsClaimed m u xs → IsClaimed then_m u xs
   claimed-then u xs k = record {
-    there = λ gone. k.there (sym (life-same t m u) ∙ gone);
-    claims = subst (λ (held : Claims). Each (λ z. held (rid_of z) ≡ Claim.Excl) (stack u xs)) (sym (claims-same t m u)) k.claims;
+    there = λ gone. k.there (sym (lives u) ∙ gone);
+    claims = subst (λ (held : Claims). Each (λ z. held (rid_of z) ≡ Claim.Excl) (stack u xs)) (sym (claims_stay u)) k.claims;
   }
 
   claimed-own : IsClaimed m t all → IsClaimed m t whole
@@ -338,7 +351,7 @@ module _ (t : TxnId) (x : Transaction) (o : OpenRec) (image : Page) (log : LogSt
   open-there : fate t all ≡ Fate.Open
   open-there = open-fate t all undo.alive (stack-there t all below top undo.stack)
 
-  claimed : (keeps : Keeps) (u : TxnId) → IsOpenIn u (new_kept keeps (home u)) → IsClaimed (undid t m) u (new_kept keeps (home u))
+  claimed : (keeps : Keeps) (u : TxnId) → IsOpenIn u (new_kept keeps (home u)) → IsClaimed then_m u (new_kept keeps (home u))
   claimed keeps u opens = claimed-then u (new_kept keeps (home u)) (⊎_elim
       (λ same. subst (IsClaimed m u) (sym same) (h.claimed keeps u (subst (IsOpenIn u) same opens)))
       (λ more.
@@ -351,14 +364,41 @@ module _ (t : TxnId) (x : Transaction) (o : OpenRec) (image : Page) (log : LogSt
       (cases_txn u t)))
       (either-kept keeps (home u)))
 
+  whole-is : all_at (logs' i) ≡ whole
+  whole-is = ap all_at appended ∙ appended-log (logs i) r d.spare
+
+  -- what is open of u in a log is claimed
+  abbrev AreClaimed : TxnId → List Rec → Type 0
+  AreClaimed u xs = Each (λ z. (m.part u).claims (rid_of z) ≡ Claim.Excl) (stack u xs)
+
+  held-more : (u : TxnId) → AreClaimed u all → AreClaimed u whole
+  held-more u was = ⊎_elim
+      (λ e. subst (λ (v : TxnId). AreClaimed v whole) (sym e)
+      (subst (Each (λ z. (m.part t).claims (rid_of z) ≡ Claim.Excl)) (sym own-stack)
+      (subst (Each (λ z. (m.part t).claims (rid_of z) ≡ Claim.Excl)) undo.stack
+      (subst (λ (v : TxnId). AreClaimed v all) e was)).1))
+      (λ ne. subst (Each (λ z. (m.part u).claims (rid_of z) ≡ Claim.Excl)) (sym (other-stack u ne)) was)
+      (cases_txn u t)
+
+  held : (u : TxnId) → IsOpen u (base_at (logs' (home u)))
+      → Each (λ z. (then_m.part u).claims (rid_of z) ≡ Claim.Excl) (stack u (all_at (logs' (home u))))
+  held u opens =
+      let was : AreClaimed u (all_at (logs (home u))) = h.held u (subst (IsOpen u) (bases (home u)) opens) in
+      subst (λ (claims : Claims). Each (λ z. claims (rid_of z) ≡ Claim.Excl) (stack u (all_at (logs' (home u)))))
+      (sym (claims_stay u)) (⊎_elim
+      (λ e. subst (λ (j : ℕ). AreClaimed u (all_at (logs' j))) (sym e) (subst (AreClaimed u) (sym whole-is)
+      (held-more u (subst (λ (j : ℕ). AreClaimed u (all_at (logs j))) e was))))
+      (λ ne. subst (λ (l : LogState). AreClaimed u (all_at l)) (sym (elsewhere (home u) ne)) was)
+      (cases_eq (home u) i))
+
   -- ---- epochs and checkpoints
 
-  epoch-then : (j epoch : ℕ) → IsEpochOf m Pending.Idle j epoch → IsEpochOf (undid t m) Pending.Idle j epoch
+  epoch-then : (j epoch : ℕ) → IsEpochOf m Pending.Idle j epoch → IsEpochOf then_m Pending.Idle j epoch
   epoch-then j epoch k = record { low = k.low; high = k.high }
 
   epochs : (j : ℕ) → 1 ≤ j → j ≤ 8 → (bytes : List ℕ) → leaves j bytes
-      → IsEpochOf (undid t m) Pending.Idle j (past_at (master bytes) (logs' j)).epoch
-      × IsEpochOf (undid t m) Pending.Idle j (past_at (master bytes) (forced (logs' j))).epoch
+      → IsEpochOf then_m Pending.Idle j (past_at (master bytes) (logs' j)).epoch
+      × IsEpochOf then_m Pending.Idle j (past_at (master bytes) (forced (logs' j))).epoch
   epochs j lo hi bytes left =
       let old = h.epochs j lo hi bytes left in
       let same : ((past_at (master bytes) (logs' j)).epoch ≡ (past_at (master bytes) (logs j)).epoch)
@@ -381,7 +421,7 @@ module _ (t : TxnId) (x : Transaction) (o : OpenRec) (image : Page) (log : LogSt
   log-else : (j : ℕ) → j ≢ i → images.log (tails_of logs') j ≡ images.log (tails_of logs) j
   log-else j ne = ap all_at (elsewhere j ne)
 
-  lows-there : (g : Begun) → g.low ≤ next_lsn (log_at c i) 0 → g.low ≤ y.lsn
+  lows-there : (g : Begun) → g.low ≤ last_lsn (scanned (log_at c i)) → g.low ≤ y.lsn
   lows-there g low = omega (arith, low)
 
   checks : (k : ℕ) (g : Begun) → check_at c k ≡ Some g → Covered g.low k b' × Closed g.low k (tails_of logs')
@@ -389,7 +429,7 @@ module _ (t : TxnId) (x : Transaction) (o : OpenRec) (image : Page) (log : LogSt
       let old = h.checks k g is in
       ⊎_elim
       (λ e.
-      let low = lows-there g (w.goes_on.lows g (ap (check_at c) (sym e) ∙ is)) in
+      let low = lows-there g (lows g (ap (check_at c) (sym e) ∙ is)) in
       subst (λ (j : ℕ). Covered g.low j b' × Closed g.low j (tails_of logs')) (sym e) (
         cover-grows (may_of leaves) (may_of leaves) g.low i y b b' grows (λ p v l. l) low
             (subst (λ (j : ℕ). Covered g.low j b) e old.0),
@@ -402,12 +442,13 @@ module _ (t : TxnId) (x : Transaction) (o : OpenRec) (image : Page) (log : LogSt
       ))
       (cases_eq k i)
 
-  pub half-undone : Half seen leaves logs' Pending.Idle new (undid t m)
+  pub half-undone : Half seen leaves logs' Pending.Idle new then_m
   half-undone = record {
     coherent = coherent;
     soundly = soundly;
     gives = gives;
     claimed = claimed;
+    held = held;
     epochs = epochs;
     checks = checks;
   }

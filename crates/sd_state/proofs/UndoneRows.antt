@@ -16,7 +16,7 @@ use Rattle.sd_txn.specs.Marked.{AreRising}
 use Rattle.sd_txn.specs.declared.state.OpenRec.{OpenRec}
 use Rattle.sd_chain.proofs.Whose.{both}
 use Rattle.sd_chain.specs.Order.{Sofar, advance, after_all, none_yet, of_txn, span_from, span_of, spanned}
-use Rattle.sd_state.specs.Undoing.{NamedOnce}
+use Rattle.sd_state.specs.Tables.{NamedOnce}
 use Rattle.sd_state.specs.Values.{open_of}
 
 -- ---- the span of a transaction's records

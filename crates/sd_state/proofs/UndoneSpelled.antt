@@ -1,5 +1,5 @@
 -- The record of an undo is one of the grammar: for the law `undo`.
-use Rattle.std.proofs.Common.{◌≡◌, ◌^◌, ◌<◌, Bool, true, false, List, [], ◌∷◌, ◌++◌, map, refl, sym, ap, ◌∙◌, subst, arith}
+use Rattle.std.proofs.Common.{◌≡◌, ℕ, ◌^◌, ◌<◌, Bool, true, false, List, [], ◌∷◌, ◌++◌, map, refl, sym, ap, ◌∙◌, subst, arith}
 use Rattle.std.specs.List.{AllByRecursion}
 use Rattle.std.proofs.lemmas.List.Elements.{recursion_from_All}
 use Rattle.sd_base.specs.declared.ids.TxnId.{TxnId}
@@ -24,9 +24,9 @@ use Rattle.sd_sound.specs.Logs.{Outcomes, all_at}
 use Rattle.sd_sound.proofs.Lsns.{log-records, scanned-records}
 use Rattle.sd_state.specs.Good.{Good}
 use Rattle.sd_state.specs.Parts.{Parts, log_at}
-use Rattle.sd_state.specs.Undoing.{MayUndo, UndoIsSpelled, clr_at}
+use Rattle.sd_state.specs.Undoing.{HasTop, UndoIsSpelled, clr_at}
 use Rattle.sd_state.specs.Values.{Pending}
-use Rattle.sd_state.proofs.UndoneTop.{finds-room, tops, undo}
+use Rattle.sd_state.proofs.UndoneTop.{finds-place, top-found, tops, undo}
 
 -- a change as the grammar has it
 pub record IsChange (x : Rec) : Type 0 where
@@ -70,8 +70,8 @@ last-low t sofar (x ∷ xs) low each = last-low t (advance t sofar x) xs (by (of
     by true is = rw is each.0.lsn
     by false is = rw is low
 
-module _ (t : TxnId) (x : Transaction) (o : OpenRec) (image : Page) (seen : rig.Image) (leaves : Outcomes) (c : Parts) (m : State)
-    (g : Good seen leaves Pending.Idle c m) (w : MayUndo t x o image c m)
+module _ (a : ℕ) (t : TxnId) (x : Transaction) (o : OpenRec) (image : Page) (seen : rig.Image) (leaves : Outcomes) (c : Parts)
+    (m : State) (g : Good seen leaves Pending.Idle c m) (w : HasTop a t x o image c)
     (spelled : AreSpelled (scanned (log_at c (home t)))) where
   each : Each IsOfGrammar (all_at (log_at c (home t)))
   each = log-of-grammar (log_at c (home t)) spelled
@@ -89,20 +89,20 @@ module _ (t : TxnId) (x : Transaction) (o : OpenRec) (image : Page) (seen : rig.
   split : (front : List OpenRec) × (x.stack ≡ front ++ o ∷ [])
   split = split-top x.stack o w.last
 
-  clr-spelled : HasSpelling (clr_at t x o image c)
+  pub clr-spelled : HasSpelling (clr_at t x o image c)
   clr-spelled =
-      let top = tops t x o image seen leaves c m g w split.0 split.1 in
-      let u = undo t x o image seen leaves c m g w split.0 top in
-      let f = finds-room t x o image seen leaves c m g w in
+      let top = tops a t x o image seen leaves c m g w split.0 split.1 in
+      let u = undo a t x o image seen leaves c m g w split.0 top in
+      let f = finds-place a t x o image seen leaves c m g w in
       let s : IsChange top.top = (subst (Each IsChange) top.is open-ones).0 in
       let own : top.top.txn ≡ t = (subst (Each (λ z. z.txn ≡ t)) top.is own-txn).0 in
       let last = last-low t none_yet (all_at (log_at c (home t))) (omega arith) each in
       let prev = u.prev in let next = u.next in let page = u.page in let slot = u.slot in
-      let a = s.prev in let b = s.page in let d = s.slot in (
+      let n = s.prev in let b = s.page in let d = s.slot in (
         (f.low, f.high),
         subst IsTxn own s.txn,
         omega (arith, prev, last),
-        omega (arith, next, a),
+        omega (arith, next, n),
         omega (arith, page, b),
         omega (arith, slot, d),
         subst IsValue (sym u.value) s.before,
@@ -110,4 +110,5 @@ module _ (t : TxnId) (x : Transaction) (o : OpenRec) (image : Page) (seen : rig.
 
 -- for the law
 pub undo-spelled : (leaves : Outcomes) → UndoIsSpelled leaves
-undo-spelled leaves seen c m t x o image g w spelled = clr-spelled t x o image seen leaves c m g w spelled
+undo-spelled leaves seen c m t x o image g w spelled =
+    clr-spelled (home t) t x o image seen leaves c m g (top-found t x o image seen leaves c m g w) spelled

@@ -1,16 +1,19 @@
 -- A change of a record: what the complex is after it, and when it may come.
-use Rattle.std.specs.Prelude.{◌≡◌, ◌≢◌, ℕ, ◌+◌, ◌-◌, ◌^◌, ◌<◌, ◌≤◌, true, [], ◌∷◌, length, filter, slice_set, None, Some}
+use Rattle.std.specs.Prelude.{◌≡◌, ◌≢◌, ℕ, ◌+◌, ◌-◌, ◌^◌, ◌<◌, ◌≤◌, true, [], ◌∷◌, length, is_some, max, option_map, slice_set, unwrap_or, if◌then◌else◌, None, Some}
+use Rattle.std.specs.List.{IsDistinct}
 use Rattle.std.specs.Option.{option_map_or}
+use Rattle.sd_base.specs.Ids.{same_txn}
 use Rattle.sd_base.specs.declared.ids.TxnId.{TxnId}
 use Rattle.sd_base.specs.declared.ids.Rid.{Rid}
 use Rattle.sd_base.specs.declared.place.Mode.TheVariants as modes
 use Rattle.sd_base.specs.declared.place.Status.TheVariants as S
-use Rattle.sd_page.specs.Page.{Page}
-use Rattle.sd_logrec.specs.Spelling.{spelling}
+use Rattle.sd_page.specs.Page.{Page, empty_page}
+use Rattle.sd_page.specs.declared.op.Op.{Op}
+use Rattle.sd_logrec.specs.Spelling.{spelled_length, spelling}
 use Rattle.sd_logrec.specs.View.{Rec, flat}
 use Rattle.sd_logrec.specs.declared.record.Record.{Record}
 use Rattle.sd_logrec.specs.declared.record.Record.TheVariants as records
-use Rattle.sd_log.specs.Logs.{LogState, last_lsn, needed, scanned, with_record}
+use Rattle.sd_log.specs.Logs.{LogState, needed, with_record}
 use Rattle.sd_model.specs.State.{State, took}
 use Rattle.sd_model.specs.Tables.{Content}
 use Rattle.sd_model.specs.declared.act.Act.{Act}
@@ -24,18 +27,16 @@ use Rattle.sd_pool.specs.Buffers as buffers
 use Rattle.sd_pool.specs.Buffers.{Buffers}
 use Rattle.sd_reclock.specs.Locks.{held}
 use Rattle.sd_rig.specs.Devices as rig
-use Rattle.sd_txn.specs.Owing.{bytes_owed, owed_of, records_owed, reserve_of}
-use Rattle.sd_txn.specs.Transactions.{Replaces, Transaction, Transactions, noted, pushed}
+use Rattle.sd_txn.specs.Owing.{bytes_owed, owed_of, records_owed, reserve_of, undo_len}
+use Rattle.sd_txn.specs.Transactions.{OthersStay, Replaces, SameOrder, Transaction, Transactions, ids, noted, pushed, started, txn_at}
 use Rattle.sd_txn.specs.declared.state.OpenRec.{OpenRec}
 use Rattle.sd_txn.specs.declared.state.TxnState.{TxnState}
-use Rattle.sd_chain.specs.Fates.{Fate, fate}
-use Rattle.sd_chain.specs.Images.{Keeps}
-use Rattle.sd_chain.specs.Pages.{FitsUpdate, redo}
-use Rattle.sd_chain.specs.Records.{Each, IsOpen, at, home, stack}
-use Rattle.sd_sound.specs.Logs.{Outcomes, all_at, base_at, most_owed, next_lsn, tails_of}
+use Rattle.sd_chain.specs.Pages.{FitsUpdate, redo, value}
+use Rattle.sd_chain.specs.Records.{Each, home}
+use Rattle.sd_sound.specs.Logs.{Outcomes, all_at, next_lsn}
 use Rattle.sd_state.specs.Good.{Good}
-use Rattle.sd_state.specs.Images.{log_by}
-use Rattle.sd_state.specs.Parts.{Begun, Parts, check_at, log_at, other_at, pool_at, status_at, txns_at}
+use Rattle.sd_state.specs.Parts.{Parts, log_at, owed_at, pool_at, status_at, txns_at}
+use Rattle.sd_state.specs.Sums.{great_of, owed_in_all, owed_where}
 use Rattle.sd_state.specs.Values.{Pending}
 
 -- a transaction's change of a record, with the LSN of its log record and that of the transaction's record before it
@@ -112,26 +113,19 @@ pub record MayWrite (i : ℕ) (k : Change) (x : Transaction) (image : Page) (c :
   pub copy : buffers.image_at (pool_at c i) k.rid.page ≡ Some image
   pub fits : FitsUpdate image.slots k.rid.slot k.capacity k.before k.after
 
--- What the record follows: its LSN is the next one, above that of the page and not below the low of a begun checkpoint, and
--- `prev` is that of the transaction's last record. The transaction isn't ended, and none whose Commit isn't forced has the
--- record open.
+-- What the record follows: its LSN is the next one, above that of the page, and `prev` is that of the transaction's last record.
 pub record MayAppend (i : ℕ) (k : Change) (x : Transaction) (image : Page) (c : Parts) : Type 0 where
   pub lsn : k.lsn ≡ next_lsn (log_at c i) image.lsn
   pub prev : k.prev ≡ option_map_or (λ (span : ℕ × ℕ). span.1) x.span 0
-  pub alive : IsOpen k.txn (all_at (log_at c i))
-  pub checks : (b : Begun) → check_at c i ≡ Some b → b.low ≤ k.lsn
-  pub unforced : (moved : Keeps) (u : TxnId) → u ≢ k.txn → IsOpen u (base_at (log_by c moved (home u)))
-      → fate u (all_at (log_by c moved (home u))) ≡ Fate.Committed
-      → filter (at k.rid.page k.rid.slot) (stack u (all_at (log_by c moved (home u)))) ≡ []
 
 -- There are bytes and LSNs for it: the log has room, with what the table owes then, and `great` is at or above each LSN, and
--- leaves LSNs for the record and for all that are owed then.
+-- leaves LSNs for the record and for all that the logs owe then.
 pub record HasRoom (i : ℕ) (k : Change) (spare great : ℕ) (table : Transactions) (new c : Parts) : Type 0 where
   pub memory : reserve_of table ≤ spare
   pub room : needed (log_at c i) (length (spelling (update k))) (reserve_of table) ≤ 1048576
   pub disk : c.disk_lsn ≤ great
   pub logs : (j : ℕ) → 1 ≤ j → j ≤ 8 → Each (λ x. x.lsn ≤ great) (all_at (log_at c j))
-  pub fits : (moved : Keeps) → great + 1 + most_owed (tails_of (log_by new moved)) < 2 ^ 62
+  pub fits : great + 1 + owed_in_all new < 2 ^ 62
 
 -- A change keeps the invariant: the transaction has put the value there.
 abbrev pub ChangeKeepsGood : Outcomes → Type 0
@@ -141,8 +135,86 @@ ChangeKeepsGood leaves = (i : ℕ) (k : Change) (x : Transaction) (image : Page)
     → HasRoom i k spare great table (with_changed i (changed_log i k spare c) table pool places c) c
     → Good seen leaves Pending.Idle (with_changed i (changed_log i k spare c) table pool places c) (putting k.txn k.rid k.after m)
 
--- The last LSN of a log that begins at one place is its greatest.
-abbrev pub LastIsGreatest : Outcomes → Type 0
-LastIsGreatest leaves = (j : ℕ) (seen : rig.Image) (pend : Pending) (c : Parts) (m : State) → Good seen leaves pend c m
-    → 1 ≤ j → j ≤ 8 → other_at c j ≡ None → leaves j (seen j)
-    → Each (λ x. x.lsn ≤ last_lsn (scanned (log_at c j))) (all_at (log_at c j))
+-- ---- the call
+
+-- the image that the transaction's instance has of a page
+abbrev pub image_for : TxnId → ℕ → Parts → Page
+image_for t p c = unwrap_or (buffers.image_at (pool_at c (home t)) p) (empty_page p)
+
+-- what its instance's table knows of the transaction
+abbrev pub row_for : TxnId → Parts → Transaction
+row_for t c = unwrap_or (txn_at (txns_at c (home t)) t) (started TxnState.Running)
+
+-- what a change of the record to this value is, by the log, the table and the page's image of the transaction's instance
+abbrev pub change_of : TxnId → Rid → ℕ → Content → Parts → Change
+change_of t r capacity after c = record {
+  txn = t;
+  rid = r;
+  lsn = next_lsn (log_at c (home t)) (image_for t r.page c).lsn;
+  prev = option_map_or (λ (span : ℕ × ℕ). span.1) (row_for t c).span 0;
+  capacity = capacity;
+  before = value (image_for t r.page c).slots r.slot;
+  after = after;
+}
+
+-- the new value fits the record's slot, or a new slot behind the last one
+abbrev pub FitsThere : TxnId → Rid → ℕ → Content → Parts → Type 0
+FitsThere t r capacity after c =
+    FitsUpdate (image_for t r.page c).slots r.slot capacity (value (image_for t r.page c).slots r.slot) after
+
+-- the bytes that are to be reserved behind it: for what is owed, for its undo, and for the End where it is the transaction's first
+abbrev pub reserve_then : Change → Parts → ℕ
+reserve_then k c = reserve_of (txns_at c (home k.txn)) + undo_len (opened k) + (if is_some (row_for k.txn c).span then 0 else 31)
+
+-- and the records that the table of its instance owes then
+abbrev pub owed_then : TxnId → Parts → ℕ
+owed_then t c = owed_of (txns_at c (home t)) + 1 + (if is_some (row_for t c).span then 0 else 1)
+
+-- its log has no room for it with what is to be reserved behind it
+abbrev pub LacksRoom : Change → Parts → Type 0
+LacksRoom k c = 1048576 < needed (log_at c (home k.txn)) (spelled_length (update k)) (reserve_then k c)
+
+-- no LSNs are left for a change of the transaction and for all that the logs owe then
+abbrev pub LacksLsns : TxnId → Parts → Type 0
+LacksLsns t c = 2 ^ 62 ≤ great_of c + 1 + owed_where (home t) (max (owed_at c (home t)) (owed_then t c)) c
+
+-- the change whose undo wants this, and that writes so into the page
+abbrev pub change_in : TxnId → OpenRec → Op → Change
+change_in t top op = record {
+  txn = t;
+  rid = top.rid;
+  lsn = top.lsn;
+  prev = top.prev;
+  capacity = op.capacity;
+  before = top.before;
+  after = op.after;
+}
+
+-- Its log record agrees with both.
+pub record IsPrepared (t : TxnId) (rec : Record) (top : OpenRec) (op : Op) : Type 0 where
+  pub is : rec ≡ update (change_in t top op)
+  pub slot : op.slot ≡ top.rid.slot
+
+-- The table has a further open record of the transaction, and is else as it was.
+pub record IsRowPut (t : TxnId) (top : OpenRec) (old new : Transactions) : Type 0 where
+  pub row : txn_at new t ≡ option_map (λ x. noted top.lsn (pushed top x)) (txn_at old t)
+  pub others : OthersStay old new t
+  pub order : SameOrder old new
+  -- what every table keeps
+  pub once : IsDistinct same_txn (ids old)
+
+-- Log, table, pool and directory have the change, which found all as it was; nothing else is changed.
+pub record IsPut (k : Change) (reserve : ℕ) (old new : Parts) : Type 0 where
+  pub spare : ℕ
+  pub table : Transactions
+  pub pool : Buffers
+  pub places : DirectoryState Page
+  pub memory : reserve ≤ spare
+  pub changed : IsChanged (home k.txn) k (row_for k.txn old) (image_for k.txn k.rid.page old) table pool places old
+  pub is : new ≡ with_changed (home k.txn) (changed_log (home k.txn) k spare old) table pool places old
+
+-- And it was one that the law asks for.
+pub record IsMade (k : Change) (old new : Parts) : Type 0 where
+  pub may : MayWrite (home k.txn) k (row_for k.txn old) (image_for k.txn k.rid.page old) old
+  pub appends : MayAppend (home k.txn) k (row_for k.txn old) (image_for k.txn k.rid.page old) old
+  pub put : IsPut k (reserve_then k old) old new

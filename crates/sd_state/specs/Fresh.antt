@@ -44,5 +44,6 @@ pub record IsFresh (frames : ℕ) (c : Parts) : Type 0 where
   pub still : (p : ℕ) → directory.image_at c.directory p ≡ None
   pub unasked : (p : ℕ) → asks_at c.directory p ≡ []
   pub unlocked : c.locks.locks ≡ []
+  pub unwaited : c.locks.waiting ≡ []
   pub disk_lsn : c.disk_lsn ≡ 0
   pub due : c.due ≡ None

@@ -1,5 +1,5 @@
 -- How a transaction table, its log and the serial table agree.
-use Rattle.std.specs.Prelude.{◌≡◌, ◌≢◌, ◌⊎◌, ℕ, Bool, true, false, List, [], map, reverse, Option, None, Some}
+use Rattle.std.specs.Prelude.{◌≡◌, ◌≢◌, ◌⊎◌, ℕ, Bool, true, false, List, [], ◌∷◌, map, reverse, Option, None, Some}
 use Rattle.sd_base.specs.declared.ids.TxnId.{TxnId}
 use Rattle.sd_base.specs.declared.place.Status.{Status}
 use Rattle.sd_base.specs.declared.place.Status.TheVariants as S
@@ -13,11 +13,11 @@ use Rattle.sd_model.specs.declared.act.Claim.{Claim}
 use Rattle.sd_model.specs.declared.act.Life.{Life}
 use Rattle.sd_chain.specs.Fates.{Fate, fate}
 use Rattle.sd_chain.specs.Order.{span_of}
-use Rattle.sd_chain.specs.Records.{stack}
+use Rattle.sd_chain.specs.Records.{IsOpen, stack}
 use Rattle.sd_txn.specs.declared.state.TxnState.{TxnState}
 use Rattle.sd_txn.specs.Transactions as txns
 use Rattle.sd_txn.specs.Transactions.{Transaction, Transactions, begins_in, txn_at}
-use Rattle.sd_state.specs.Values.{open_of, put_of}
+use Rattle.sd_state.specs.Values.{Pending, open_of, put_of}
 
 -- its commit was cut
 abbrev pub IsInDoubt : Life → Type 0
@@ -42,18 +42,18 @@ abbrev pub NamesLife : Option Transaction → Life → Fate → Fate → Type 0
 NamesLife None life forced whole = life ≡ Life.Gone
 NamesLife (Some x) life forced whole = StandsAs x.state life forced whole
 
--- A table's row has of its transaction what the log has: the open records, the oldest first, and the span of its records.
+-- A table's row has of its transaction what the log has, where that has no end of it: the open records, the oldest first, and the
+-- span of its records.
 pub record IsLogged (x : Transaction) (t : TxnId) (log : List Rec) : Type 0 where
+  pub alive : IsOpen t log
   pub open_ones : reverse x.stack ≡ map open_of (stack t log)
   pub span : x.span ≡ span_of t log
 
--- The row of a transaction whose end the log has already: it has no open record and no span. Nor has the log an open record
--- of it, unless it runs: then the end is its Commit.
+-- The row of a transaction whose end the log has already: it has no open record and no span, so it owes nothing.
 pub record IsShut (x : Transaction) (t : TxnId) (log : List Rec) : Type 0 where
-  pub ended : (fate t log ≡ Fate.Open) → ⊥
+  pub ended : IsOpen t log → ⊥
   pub emptied : x.stack ≡ []
   pub span : x.span ≡ None
-  pub left : (stack t log ≡ []) ⊎ (x.state ≡ TxnState.Running)
 
 -- One that is none has none there.
 abbrev pub RowIsLogged : Option Transaction → TxnId → List Rec → Type 0
@@ -68,6 +68,25 @@ pub record IsLive (x : Transaction) (t : TxnId) (p : Part) (log : List Rec) : Ty
 abbrev pub RowIsLive : Option Transaction → TxnId → Part → List Rec → Type 0
 RowIsLive None t p log = Unit {0}
 RowIsLive (Some x) t p log = IsLive x t p log
+
+-- no mark's name stands twice
+abbrev pub NamedOnce : List (List ℕ × ℕ) → Type 0
+NamedOnce [] = Unit {0}
+NamedOnce (x ∷ marks) = (mark_of x.0 marks ≡ None) × NamedOnce marks
+
+-- by its life: what is asked of one that runs, and of one that rolls back wholly
+abbrev pub goes_on_as : Life → Type 0 → Type 0 → Type 0
+goes_on_as Life.Gone runs rolls = ⊥
+goes_on_as Life.Running runs rolls = runs
+goes_on_as Life.Retained runs rolls = ⊥
+goes_on_as (Life.Rolling None) runs rolls = rolls
+goes_on_as (Life.Rolling (Some n)) runs rolls = Unit {0}
+goes_on_as (Life.Doubt cut) runs rolls = ⊥
+
+-- The transaction may have further records: it runs, and its Commit isn't under way; or it rolls back, to a mark or with puts
+-- that are live.
+abbrev pub GoesOn : Pending → TxnId → Part → Type 0
+GoesOn pend t p = goes_on_as p.life (pend ≡ Pending.Commits t → ⊥) (live p.acts ≢ [])
 
 -- The log of such an instance is told by its table, where it is settled.
 abbrev pub tells_log : Status → Bool

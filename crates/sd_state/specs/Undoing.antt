@@ -1,5 +1,5 @@
 -- The undo of a transaction's last open record.
-use Rattle.std.specs.Prelude.{◌≡◌, ◌≢◌, ℕ, ◌+◌, ◌-◌, ◌^◌, ◌<◌, ◌≤◌, true, List, [], ◌∷◌, Option, None, Some, length, slice_set}
+use Rattle.std.specs.Prelude.{◌≡◌, ◌≢◌, ℕ, ◌+◌, ◌-◌, ◌^◌, ◌<◌, ◌≤◌, true, false, Option, None, Some, length, slice_set}
 use Rattle.std.specs.List.{IsDistinct}
 use Rattle.std.specs.Option.{option_map_or}
 use Rattle.sd_base.specs.Ids.{same_txn}
@@ -11,7 +11,7 @@ use Rattle.sd_logrec.specs.declared.record.Record.{Record}
 use Rattle.sd_logrec.specs.declared.record.Record.TheVariants as records
 use Rattle.sd_log.specs.Logs.{AreSpelled, LogState, needed, scanned, with_record}
 use Rattle.sd_model.specs.Acts.{live}
-use Rattle.sd_model.specs.Changes.{goal, mark_of, undid}
+use Rattle.sd_model.specs.Changes.{goal, undid}
 use Rattle.sd_model.specs.State.{State}
 use Rattle.sd_model.specs.declared.act.Life.{Life}
 use Rattle.sd_page.specs.Page.{Page}
@@ -27,16 +27,12 @@ use Rattle.sd_txn.specs.Marked.{AreMarks}
 use Rattle.sd_txn.specs.Transactions.{Replaces, Transaction, Transactions, depth, ids, noted, popped, top, txn_at}
 use Rattle.sd_txn.specs.declared.state.OpenRec.{OpenRec}
 use Rattle.sd_chain.specs.Pages.{FitsUndo, redo}
-use Rattle.sd_chain.specs.Records.{IsOpen, home}
-use Rattle.sd_sound.specs.Logs.{Outcomes, all_at, next_lsn}
+use Rattle.sd_chain.specs.Records.{home}
+use Rattle.sd_sound.specs.Logs.{Outcomes, next_lsn}
 use Rattle.sd_state.specs.Good.{Good}
-use Rattle.sd_state.specs.Parts.{Begun, Parts, check_at, log_at, pool_at, status_at, txns_at}
+use Rattle.sd_state.specs.Parts.{IsShape, Parts, is_loose, log_at, pool_at, status_at, txns_at}
+use Rattle.sd_state.specs.Tables.{tells_log}
 use Rattle.sd_state.specs.Values.{Pending}
-
--- no name stands twice
-abbrev pub NamedOnce : List (List ℕ × ℕ) → Type 0
-NamedOnce [] = Unit {0}
-NamedOnce (x ∷ marks) = (mark_of x.0 marks ≡ None) × NamedOnce marks
 
 -- the LSN of the next record of the log of t's instance, for a page with this image
 abbrev pub lsn_for : TxnId → Page → Parts → ℕ
@@ -49,21 +45,33 @@ clr_of t x o lsn = records.Clr lsn t (option_map_or (λ span. span.1) x.span 0) 
 abbrev pub clr_at : TxnId → Transaction → OpenRec → Page → Parts → Record
 clr_at t x o image c = clr_of t x o (lsn_for t image c)
 
--- log i, its pool, its table and the directory are these
-abbrev pub with_undone : ℕ → LogState → Buffers → Transactions → DirectoryState Page → Parts → Parts
-with_undone i log pool table places c = record c {
+-- log i and its table, the pool of instance a, the directory and the fall that is due are these
+abbrev pub with_undone_by : ℕ → ℕ → LogState → Buffers → Transactions → DirectoryState Page → Option (ℕ × ℕ) → Parts → Parts
+with_undone_by a i log pool table places due c = record c {
   logs = slice_set c.logs (i - 1) log;
-  pools = slice_set c.pools (i - 1) pool;
+  pools = slice_set c.pools (a - 1) pool;
   txns = slice_set c.txns (i - 1) table;
   directory = places;
+  due = due;
 }
 
--- A transaction may have further records: its log has no end of it, each of its marks has a name of its own, and the low of a
--- checkpoint that its instance has begun isn't above the LSNs to come.
-pub record GoesOn (t : TxnId) (c : Parts) (m : State) : Type 0 where
-  pub alive : IsOpen t (all_at (log_at c (home t)))
-  pub named : NamedOnce (m.part t).marks
-  pub lows : (k : Begun) → check_at c (home t) ≡ Some k → k.low ≤ next_lsn (log_at c (home t)) 0
+-- log i, its pool, its table and the directory are these
+abbrev pub with_undone : ℕ → LogState → Buffers → Transactions → DirectoryState Page → Parts → Parts
+with_undone i log pool table places c = with_undone_by i i log pool table places c.due c
+
+-- The log of the transaction's instance is settled, its table tells of it and has the row with this last open record, and
+-- instance a has the page of that alone.
+pub record HasTop (a : ℕ) (t : TxnId) (x : Transaction) (o : OpenRec) (image : Page) (c : Parts) : Type 0 where
+  pub low : 1 ≤ home t
+  pub high : home t ≤ 8
+  pub settled : is_loose c (home t) ≡ false
+  pub tells : tells_log (status_at c (home t)) ≡ true
+  pub row : txn_at (txns_at c (home t)) t ≡ Some x
+  pub last : top x ≡ Some o
+  pub held : owns (entry_at c.directory o.rid.page) a ≡ true
+  pub copy : buffers.image_at (pool_at c a) o.rid.page ≡ Some image
+  -- what every table keeps
+  pub once : IsDistinct same_txn (ids (txns_at c (home t)))
 
 -- The transaction rolls back and is above its target; its instance is up, and has the page of its last open record alone.
 pub record MayUndo (t : TxnId) (x : Transaction) (o : OpenRec) (image : Page) (c : Parts) (m : State) : Type 0 where
@@ -81,12 +89,10 @@ pub record MayUndo (t : TxnId) (x : Transaction) (o : OpenRec) (image : Page) (c
   -- what every table keeps
   pub once : IsDistinct same_txn (ids (txns_at c (home t)))
   pub marks : AreMarks x.marks (depth x)
-  -- what the invariant doesn't say
-  pub goes_on : GoesOn t c m
 
--- The log has the record, with what it leaves to spare; the row is without the last open record; the pool has the page with the
--- value before; and the page is changed.
-pub record IsUndone (t : TxnId) (x : Transaction) (o : OpenRec) (image : Page) (log : LogState) (pool : Buffers)
+-- The log has the record, with what it leaves to spare; the row is without the last open record; the pool of instance a has the page
+-- with the value before; and the page is changed.
+pub record IsUndone (a : ℕ) (t : TxnId) (x : Transaction) (o : OpenRec) (image : Page) (log : LogState) (pool : Buffers)
     (table : Transactions)
     (places : DirectoryState Page) (c : Parts) : Type 0 where
   pub spare : ℕ
@@ -94,23 +100,29 @@ pub record IsUndone (t : TxnId) (x : Transaction) (o : OpenRec) (image : Page) (
   pub spent : (log_at c (home t)).spare ≤ spare + length (spelling (clr_at t x o image c))
   pub row : Replaces (txns_at c (home t)) table t x (noted (lsn_for t image c) (popped x))
   pub page : buffers.image_at pool o.rid.page ≡ Some (redo image (flat (clr_at t x o image c)))
-  pub other_pages : (q : ℕ) → q ≢ o.rid.page → buffers.image_at pool q ≡ buffers.image_at (pool_at c (home t)) q
-  pub entry : entry_at places o.rid.page ≡ dirtied (home t)
+  pub other_pages : (q : ℕ) → q ≢ o.rid.page → buffers.image_at pool q ≡ buffers.image_at (pool_at c a) q
+  pub entry : entry_at places o.rid.page ≡ dirtied a
   pub rec_lsn : rec_lsn_at places o.rid.page
       ≡ kept_rec (changed (entry_at c.directory o.rid.page)) true (rec_lsn_at c.directory o.rid.page) (Some (lsn_for t image c))
-  pub asks : asks_at places o.rid.page ≡ open_asks (dirtied (home t)) (asks_at c.directory o.rid.page)
+  pub asks : asks_at places o.rid.page ≡ open_asks (dirtied a) (asks_at c.directory o.rid.page)
   pub images : (q : ℕ) → directory.image_at places q ≡ directory.image_at c.directory q
   pub other_entries : (q : ℕ) → q ≢ o.rid.page → entry_at places q ≡ entry_at c.directory q
   pub other_rec_lsns : (q : ℕ) → q ≢ o.rid.page → rec_lsn_at places q ≡ rec_lsn_at c.directory q
   pub other_asks : (q : ℕ) → q ≢ o.rid.page → asks_at places q ≡ asks_at c.directory q
 
--- An undo keeps the invariant, and the serial table has one put less that is live. The transaction may have further records.
+-- An undo keeps the invariant, and the serial table has one put less that is live.
 abbrev pub UndoIsGood : Outcomes → Type 0
 UndoIsGood leaves = (seen : rig.Image) (c : Parts) (m : State) (t : TxnId) (x : Transaction) (o : OpenRec) (image : Page)
     (log : LogState) (pool : Buffers) (table : Transactions) (places : DirectoryState Page) → Good seen leaves Pending.Idle c m
-    → MayUndo t x o image c m → IsUndone t x o image log pool table places c
+    → MayUndo t x o image c m → IsUndone (home t) t x o image log pool table places c
     → Good seen leaves Pending.Idle (with_undone (home t) log pool table places c) (undid t m)
-    × GoesOn t (with_undone (home t) log pool table places c) (undid t m)
+
+-- What an undo finds in its log, but for memory, and in its page.
+pub record FindsPlace (y : Record) (image : Page) (lsn : ℕ) (log : LogState) : Type 0 where
+  pub room : needed log (length (spelling y)) 0 ≤ 1048576
+  pub low : 1 ≤ lsn
+  pub high : lsn < 2 ^ 62
+  pub slot : FitsUndo image.slots (flat y).slot (flat y).after
 
 -- What an undo finds: in its log room for its record, the bytes of memory that it takes, and an LSN; and in its page the slot,
 -- with room for the value before.
@@ -150,3 +162,37 @@ abbrev pub UndoIsSpelled : Outcomes → Type 0
 UndoIsSpelled leaves = (seen : rig.Image) (c : Parts) (m : State) (t : TxnId) (x : Transaction) (o : OpenRec) (image : Page)
     → Good seen leaves Pending.Idle c m → MayUndo t x o image c m → AreSpelled (scanned (log_at c (home t)))
     → HasSpelling (clr_at t x o image c)
+
+-- ---- the call
+
+-- The transaction rolls back to this goal, and has puts that are live above it.
+pub record RollsTo (t : TxnId) (to : Option ℕ) (m : State) : Type 0 where
+  pub rolls : (m.part t).life ≡ Life.Rolling to
+  pub above : goal to < length (live (m.part t).acts)
+
+-- An undo finds the transaction's row, its last open record, and the page of that in the pool of instance a, which has it alone; and
+-- what it takes of the log, but for memory, and of the page is there.
+pub record CanUndo (a : ℕ) (t : TxnId) (x : Transaction) (o : OpenRec) (image : Page) (c : Parts) : Type 0 where
+  pub shape : IsShape c
+  pub low : 1 ≤ home t
+  pub high : home t ≤ 8
+  pub by_low : 1 ≤ a
+  pub by_high : a ≤ 8
+  pub row : txn_at (txns_at c (home t)) t ≡ Some x
+  pub last : top x ≡ Some o
+  pub held : owns (entry_at c.directory o.rid.page) a ≡ true
+  pub copy : buffers.image_at (pool_at c a) o.rid.page ≡ Some image
+  pub finds : FindsPlace (clr_at t x o image c) image (lsn_for t image c) (log_at c (home t))
+  pub spelled : HasSpelling (clr_at t x o image c)
+
+-- Instance a has undone the last open record of the transaction: of the log and the table, of a's pool and of the directory all is
+-- told, this fall is due, and all other parts are as before.
+pub record HasUndone (a : ℕ) (due : Option (ℕ × ℕ)) (t : TxnId) (old new : Parts) : Type 0 where
+  pub x : Transaction
+  pub o : OpenRec
+  pub image : Page
+  pub row : txn_at (txns_at old (home t)) t ≡ Some x
+  pub last : top x ≡ Some o
+  pub copy : buffers.image_at (pool_at old a) o.rid.page ≡ Some image
+  pub undone : IsUndone a t x o image (log_at new (home t)) (pool_at new a) (txns_at new (home t)) new.directory old
+  pub rest : new ≡ with_undone_by a (home t) (log_at new (home t)) (pool_at new a) (txns_at new (home t)) new.directory due old

@@ -6,7 +6,7 @@ ghost use Rattle.sd_log.specs.Logs.{forced};
 ghost use Rattle.sd_model.specs.State.{State};
 ghost use Rattle.sd_rig.specs.Devices.{Elapses, Span};
 ghost use Rattle.sd_state.specs.Complexes.{parts};
-ghost use Rattle.sd_state.specs.Forcing.{owed_by, with_failed, with_forced};
+ghost use Rattle.sd_state.specs.Forcing.{ForcesNow, owed_by, with_failed, with_forced, with_settled};
 ghost use Rattle.sd_state.specs.Good.{Good};
 ghost use Rattle.sd_state.specs.Images.{Stands};
 ghost use Rattle.sd_state.specs.Values.{Pending};
@@ -15,6 +15,7 @@ ghost use Rattle.sd_state.specs.Parts.{IsShape, actor, is_loose, log_at, owed_at
 use crate::complex::{Complex, Due};
 use sd_base::{Failed, InstNo, Status};
 use sd_rig::Rig;
+use std::cmp;
 
 impl<G: Rig> Complex<G> {
     /// Forces the log of an instance. Where its device isn't settled no call is made: the tail stays, until it is known what the
@@ -42,10 +43,37 @@ impl<G: Rig> Complex<G> {
         if self.loose[i.get() as usize] {
             return Ok(());
         }
+        self.force_settled(i)
+    }
+
+    // Forces a log that is settled, while no fall is due or that of the instance which recovers its instance, by this log. Once it
+    // is forced no fall is due.
+    pub(crate) fn force_settled(&mut self, i: InstNo) -> Result<(), Failed>
+        requires good { (pend : Pending) × (m : State) × Good (G.seen self.old.rig) (G.leaves self.old.rig) pend (parts self.old) m }
+        requires now { ForcesNow i (parts self.old) }
+        requires settled { is_loose (parts self.old) i ≡ false }
+
+        ensures good { (pend : Pending) (m : State) → Good (G.seen self.old.rig) (G.leaves self.old.rig) pend (parts self.old) m
+            → Good (G.seen self.new.rig) (G.leaves self.new.rig) pend (parts self.new) m }
+        ensures images { (pend : Pending) (m : State) → Good (G.seen self.old.rig) (G.leaves self.old.rig) pend (parts self.old) m
+            → Span (G.moment self.old.rig) (G.since self.new.rig) (Stands m pend) }
+        ensures time { Elapses (G.moment self.old.rig) (G.moment self.new.rig) (G.since self.old.rig) (G.since self.new.rig) }
+
+        ensures forced { OnOk result
+            (parts self.new ≡ with_settled i (forced (log_at (parts self.old) i)) (owed_at (parts self.new) i) (parts self.old)) }
+        ensures failed { OnErr result (parts self.new ≡ with_failed (actor (parts self.old) i) i (parts self.old)) }
+
+        ensures cause { OnErr result (Rises (G.faults self.old.rig) (G.faults self.new.rig)) }
+        ensures quiet { OnOk result (G.faults self.new.rig ≡ G.faults self.old.rig) }
+        ensures count { G.faults self.old.rig ≤ G.faults self.new.rig }
+    {
         let at = i.get() as usize - 1;
         let done = self.logs[at].force(&mut self.rig);
         match done {
-            Ok(()) => self.owed[at] = self.owed_when_forced(i),
+            Ok(()) => {
+                self.owed[at] = self.owed_when_forced(i);
+                self.due = None;
+            }
             Err(_) => self.fails(i),
         }
         done
@@ -65,7 +93,8 @@ impl<G> Complex<G> {
         }
     }
 
-    // The device of the log isn't settled, and whoever acts for the instance is to fall.
+    // The device of the log isn't settled, so it owes what it owes with its tail or without it; whoever acts for the instance is to
+    // fall.
     fn fails(&mut self, i: InstNo)
         requires shape { IsShape (parts self.old) }
         ensures parts { parts self.new ≡ with_failed (actor (parts self.old) i) i (parts self.old) }
@@ -75,7 +104,9 @@ impl<G> Complex<G> {
             Status::Recovering { by } => by,
             _ => i,
         };
-        self.loose[i.get() as usize] = true;
+        let at = i.get() as usize - 1;
+        self.owed[at] = cmp::max(self.owed[at], self.owed_when_forced(i));
+        self.loose[at + 1] = true;
         self.due = Some(Due { inst, log: i });
     }
 }

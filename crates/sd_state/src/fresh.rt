@@ -42,7 +42,7 @@ impl<G: Rig> Complex<G> {
 }
 
 // The same over a rig.
-fn over<G>(rest: Complex<()>, rig: G) -> Complex<G>
+pub(crate) fn over<G>(rest: Complex<()>, rig: G) -> Complex<G>
     ensures rig { result.rig ≡ rig }
     ensures parts { parts result ≡ parts rest }
 {
@@ -102,7 +102,7 @@ fn new_logs(alloc: Global) -> Result<Vec<Log>, Memory>
 }
 
 // Pools without pages.
-fn empty_pools(alloc: Global, frames: u16) -> Result<Vec<Pool>, Memory>
+pub(crate) fn empty_pools(alloc: Global, frames: u16) -> Result<Vec<Pool>, Memory>
     requires least { 1 ≤ frames }
     requires most { frames ≤ 1024 }
     ensures { IfOk result (λ pools. pools.items ≡ for_each (λ i. empty_pool frames) 8) }
@@ -136,7 +136,7 @@ fn empty_tables(alloc: Global) -> Result<Vec<TxnTable>, Memory>
 }
 
 // No instance has begun a checkpoint.
-fn no_checks(alloc: Global) -> Result<Vec<Option<Checkpoint>>, Memory>
+pub(crate) fn no_checks(alloc: Global) -> Result<Vec<Option<Checkpoint>>, Memory>
     ensures { IfOk result (λ checks. checks.items ≡ for_each (λ i. None) 8) }
 {
     let mut checks = Vec::with_capacity(alloc, 8)?;
@@ -147,7 +147,7 @@ fn no_checks(alloc: Global) -> Result<Vec<Option<Checkpoint>>, Memory>
 }
 
 // So many copies.
-fn repeated<T: Copy>(alloc: Global, item: T, count: usize) -> Result<Vec<T>, AllocError>
+pub(crate) fn repeated<T: Copy>(alloc: Global, item: T, count: usize) -> Result<Vec<T>, AllocError>
     ensures { IfOk result (λ items. items.items ≡ for_each (λ i. item) count) }
 {
     let mut items = Vec::with_capacity(alloc, count)?;

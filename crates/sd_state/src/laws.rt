@@ -1,10 +1,13 @@
 //! What the invariant says at any moment: laws, each the contract of a call that does nothing.
 
 ghost use Rattle.std.specs.Prelude.{ℕ, List};
-ghost use Rattle.sd_state.specs.Changing.{ChangeKeepsGood, LastIsGreatest};
+ghost use Rattle.sd_state.specs.Changing.{ChangeKeepsGood};
+ghost use Rattle.sd_state.specs.Fits.{FitsStands, FreshFits};
 ghost use Rattle.sd_state.specs.Laws.{EachCopyIsNewest, ForceLeftStands, LeftStands, OneMayUpdate};
-ghost use Rattle.sd_state.specs.Sealing.{CheckSeals, CommitSeals, EndSeals, EndTells, StartSeals};
+ghost use Rattle.sd_state.specs.Sealing.{CheckSeals, CommitSeals, EndSeals, StartSeals};
+ghost use Rattle.sd_state.specs.Working.{ReadIsGood};
 ghost use Rattle.sd_state.specs.Undoing.{UndoFindsCopy, UndoFindsRoom, UndoFindsTop, UndoIsGood, UndoIsSpelled};
+ghost use Rattle.sd_state.specs.UndoingFor.{UndoForIsGood};
 
 /// What a crash may leave of each device, at one moment.
 pub trait Moment {
@@ -23,30 +26,27 @@ pub fn page_locks<M: Moment>()
     ensures newest { EachCopyIsNewest M.leaves }
 {}
 
+/// A complex that fits a world: whatever a crash leaves of it stands for the world's state; and a fresh complex fits the world in which
+/// nothing has happened.
+pub fn worlds<M: Moment>()
+    ensures stands { FitsStands M.leaves }
+    ensures fresh { FreshFits M.leaves }
+{}
+
 /// A change of a record keeps the invariant.
 pub fn change<M: Moment>()
     ensures good { ChangeKeepsGood M.leaves }
 {}
 
-/// The last LSN of a log that begins at one place is its greatest.
-pub fn last_lsns<M: Moment>()
-    ensures greatest { LastIsGreatest M.leaves }
-{}
-
-/// A record without a page comes to a log: the End or the Commit of a transaction that has a record, which is never refused; one
-/// of a checkpoint; or the Start of the next epoch.
+/// A record without a page comes to a log: the End or the Commit of a transaction that has a record, which is never refused, and
+/// whose row is shut; one of a checkpoint; or the Start of the next epoch.
 pub fn sealing<M: Moment>()
     ensures end { EndSeals M.leaves }
     ensures commit { CommitSeals M.leaves }
     ensures check { CheckSeals M.leaves }
     ensures start { StartSeals M.leaves }
-{}
-
-/// A table tells of a log that has the end of one of its transactions where that one's row is shut.
-pub fn shut_rows()
-    ensures { EndTells }
 {
-    sd_txn::laws::owed_by_change();
+    sd_txn::laws::owed_by_shut();
 }
 
 /// A transaction that rolls back undoes the last of its open records. Its log has room for that, memory and an LSN, and its page
@@ -57,4 +57,15 @@ pub fn undo<M: Moment>()
     ensures spelled { UndoIsSpelled M.leaves }
     ensures top { UndoFindsTop M.leaves }
     ensures copy { UndoFindsCopy M.leaves }
+{}
+
+/// A loser's last open record is undone by the instance that recovers the loser's: the invariant holds then for the same state of
+/// the serial table, and the fall of that instance is due by that log until it is forced.
+pub fn undo_for<M: Moment>()
+    ensures good { UndoForIsGood M.leaves }
+{}
+
+/// A transaction that runs and has the lock finds what it sees at a record: the invariant holds with the read noted.
+pub fn reads<M: Moment>()
+    ensures { ReadIsGood M.leaves }
 {}

@@ -14,6 +14,7 @@ enum Call {
     Save,
     Pop,
     Roll,
+    Shut,
     End,
 }
 
@@ -41,6 +42,7 @@ fn calls(alloc: Global, table: &mut TxnTable, t: &TxnId, call: Call) -> Result<(
         Call::Save => table.save(t, Sequence::of(b"here".to_vec(alloc)?))?,
         Call::Pop => drop(table.pop(t)),
         Call::Roll => table.set(t, TxnState::Rolling { target: Some(0) }),
+        Call::Shut => table.shut(t),
         Call::End => table.end(t),
     }
     Ok(())
@@ -63,6 +65,9 @@ fn a_transaction_opens_undoes_and_ends(rt: HostRuntime) -> Result<(), Fail> {
         (Call::Roll, Some(1), 128, 3),
         (Call::Pop, Some(1), 81, 2),
         (Call::Pop, None, 31, 1),
+        (Call::Push(None), None, 78, 2),
+        (Call::Save, Some(1), 78, 2),
+        (Call::Shut, None, 0, 0),
         (Call::End, None, 0, 0),
     ];
     for (call, mark, bytes, records) in steps {

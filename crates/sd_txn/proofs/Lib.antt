@@ -1,4 +1,4 @@
-mod Alike
+pub mod Alike
 mod Keyed
 mod Marks
 pub mod Owing

@@ -16,6 +16,10 @@ module _ (f : Transaction → ℕ) where
       → total f new.unresolved + f x ≡ total f old.unresolved + f y
   total-replaced old new t x y once r = ap (λ txns. total f txns + f x) (Replaces-set_value old new t x y once r) ∙ total-set_value f (same_txn t) x y old.unresolved r.was
 
+  pub total-emptied : (old new : Transactions) (t : TxnId) (x y : Transaction) → f y ≡ 0 → IsDistinct same_txn (ids old) → Replaces old new t x y
+      → total f new.unresolved + f x ≡ total f old.unresolved
+  total-emptied old new t x y nothing once r = let moves = total-replaced old new t x y once r in omega (arith, moves, nothing)
+
   pub total-begun : (old new : Transactions) (t : TxnId) (x : Transaction) → f x ≡ 0 → IsDistinct same_txn (ids new) → txn_at old t ≡ None → txn_at new t ≡ Some x → OthersStay old new t
       → ids new ≡ ids old ++ t ∷ [] → total f new.unresolved ≡ total f old.unresolved
   total-begun old new t x nothing once none now others order =

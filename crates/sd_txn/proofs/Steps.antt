@@ -11,9 +11,9 @@ use Rattle.sd_txn.specs.declared.state.TxnState.{TxnState}
 use Rattle.sd_txn.specs.Kept.{undo_of, spans_of, IsTable, IsWith, IsWithin}
 use Rattle.sd_txn.specs.Marked.{AreMarks}
 use Rattle.sd_txn.specs.Owing.{undo_len}
-use Rattle.sd_txn.specs.Transactions.{Transaction, depth, noted, popped, pushed, saved, started, top, with_state}
+use Rattle.sd_txn.specs.Transactions.{Transaction, depth, noted, popped, pushed, saved, shut, started, top, with_state}
 use Rattle.sd_txn.proofs.Keyed.{insert_entry-absent, insert_entry-held}
-use Rattle.sd_txn.proofs.Marks.{all-push, all-remove_entry, AreMarks-more, AreMarks-with_mark}
+use Rattle.sd_txn.proofs.Marks.{all-push, all-remove_entry, AreMarks-more, AreMarks-trimmed, AreMarks-with_mark}
 use Rattle.sd_txn.proofs.Stacks.{undo_of-pushed, depth-pushed, undo_of-popped, depth-popped, undo_of-popped_none, depth-popped_none, AreMarks-popped}
 use Rattle.sd_txn.proofs.Sums.{total-part, total-push, total-remove_entry, total-set_value}
 
@@ -86,6 +86,10 @@ module _ (owed : Owed) (txns : Txns) (ok : IsTable owed txns) (t : TxnId) where
       pub IsTable-anew : (state : TxnState) → IsWith y new owed → IsTable new (insert_entry same_txn txns t (started state))
       IsTable-anew state less = subst (IsTable new) (sym (insert_entry-held t (started state) txns y there))
           (IsTable-set (started state) (AreMarks-started state) (omega (arith, less.undo)) (omega (arith, less.records)) (omega (arith, less.spans)))
+
+      -- its row is shut
+      pub IsTable-shut : IsWith y new owed → IsTable new (set_value (same_txn t) txns (shut y))
+      IsTable-shut less = IsTable-set (shut y) (AreMarks-trimmed 0 y.marks marked.rising) (omega (arith, less.undo)) (omega (arith, less.records)) (omega (arith, less.spans))
 
       pub IsTable-noted : (lsn : ℕ) → new.undo ≡ owed.undo → new.records ≡ owed.records → new.spans ≡ owed.spans + cond (is_some y.span) 0 1 → IsTable new (set_value (same_txn t) txns (noted lsn y))
       IsTable-noted lsn undo records spans = IsTable-set (noted lsn y) marked (ap (λ n. n + undo_of y) undo) (ap (λ n. n + depth y) records) (spans-noted (is_some y.span) spans)

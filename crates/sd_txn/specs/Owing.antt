@@ -1,5 +1,5 @@
 -- What the ends of transactions take of a log: for each open record its undo, and for one with a record its End.
-use Rattle.std.specs.Prelude.{ℕ, ◌+◌, if◌then◌else◌, List, length, sum_by, is_some}
+use Rattle.std.specs.Prelude.{ℕ, ◌+◌, if◌then◌else◌, length, sum_by, is_some}
 use Rattle.sd_base.specs.Values.{size}
 use Rattle.sd_txn.specs.declared.state.OpenRec.{OpenRec}
 use Rattle.sd_txn.specs.Transactions.{Transaction, Transactions}

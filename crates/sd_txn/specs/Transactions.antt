@@ -73,6 +73,10 @@ pushed o x = record x { stack = x.stack ++ o ∷ [] }
 abbrev pub popped : Transaction → Transaction
 popped x = let left = length x.stack - 1 in record x { stack = take left x.stack; marks = filter (λ mark. leb mark.1 left) x.marks }
 
+-- its end is in the log: nothing of it is open and no record of it is known; a mark stays where nothing was open
+abbrev pub shut : Transaction → Transaction
+shut x = record x { stack = []; span = None; marks = filter (λ mark. leb mark.1 0) x.marks }
+
 -- what is known of t
 abbrev pub state_at : Transactions → TxnId → Option TxnState
 state_at table t = option_map (λ x. x.state) (txn_at table t)

@@ -7,7 +7,7 @@ ghost use Rattle.sd_base.specs.Ids.{same_txn};
 ghost use Rattle.sd_base.specs.declared.ids.TxnId.{TxnId};
 ghost use Rattle.sd_txn.specs.Marked.{AreMarks};
 ghost use Rattle.sd_txn.specs.Owing.{bytes_owed, owed_of, records_owed, reserve_of, undo_len};
-ghost use Rattle.sd_txn.specs.Transactions.{depth, ids, noted, popped, pushed, started, top, txn_at, without, Replaces, Transaction, Transactions, OthersStay};
+ghost use Rattle.sd_txn.specs.Transactions.{depth, ids, noted, popped, pushed, shut, started, top, txn_at, without, Replaces, Transaction, Transactions, OthersStay};
 ghost use Rattle.sd_txn.specs.declared.state.OpenRec.{OpenRec};
 ghost use Rattle.sd_txn.specs.declared.state.TxnState.{TxnState};
 
@@ -34,6 +34,16 @@ pub fn owed_by_push()
 pub fn owed_by_pop()
     ensures bytes { (x : Transaction) (rec : OpenRec) → top x ≡ Some rec → bytes_owed (popped x) + undo_len rec ≡ bytes_owed x }
     ensures records { (x : Transaction) (rec : OpenRec) → top x ≡ Some rec → records_owed (popped x) + 1 ≡ records_owed x }
+{}
+
+/// A row that is shut owes nothing.
+pub fn owed_by_shut()
+    ensures bytes { (x : Transaction) → bytes_owed (shut x) ≡ 0 }
+    ensures records { (x : Transaction) → records_owed (shut x) ≡ 0 }
+    ensures reserve { (old new : Transactions) (t : TxnId) (x : Transaction) → IsDistinct same_txn (ids old) → Replaces old new t x (shut x)
+        → reserve_of new + bytes_owed x ≡ reserve_of old }
+    ensures owed { (old new : Transactions) (t : TxnId) (x : Transaction) → IsDistinct same_txn (ids old) → Replaces old new t x (shut x)
+        → owed_of new + records_owed x ≡ owed_of old }
 {}
 
 /// The first record of a transaction, and each later one.

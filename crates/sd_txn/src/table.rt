@@ -8,7 +8,7 @@ ghost use Rattle.sd_base.specs.declared.refusal.Refusal.TheVariants as R;
 ghost use Rattle.sd_txn.specs.declared.state.TxnState.TheVariants.{Retained, Running};
 ghost use Rattle.sd_txn.specs.Marked.{AreMarks};
 ghost use Rattle.sd_txn.specs.Owing.{owed_of, reserve_of};
-ghost use Rattle.sd_txn.specs.Transactions.{begins_in, depth, depth_at, ids, mark_at, next_txn, noted, popped, pushed, saved, span_at, started, state_at, top_at, txn_at, with_state, without, Transaction, IsUnresolved, OthersStay, SameOrder};
+ghost use Rattle.sd_txn.specs.Transactions.{begins_in, depth, depth_at, ids, mark_at, next_txn, noted, popped, pushed, saved, shut, span_at, started, state_at, top_at, txn_at, with_state, without, Transaction, IsUnresolved, OthersStay, SameOrder};
 
 use crate::list::TxnList;
 use crate::owed::{Owed, undo_len};
@@ -241,6 +241,19 @@ impl TxnTable {
         let first = self.span(t).is_none();
         self.owed.spans += u64::from(first);
         self.txns.get_mut(t).unwrap().note(lsn);
+    }
+
+    /// Shuts the row of an unresolved transaction whose end is in the log: no open record and no span is left of it, so it
+    /// owes nothing, and each mark above 0 goes. It takes no memory.
+    pub fn shut(&mut self, t: &TxnId)
+        requires { IsUnresolved self.old t.now }
+        ensures changed { txn_at self.new t.now ≡ option_map shut (txn_at self.old t.now) }
+        ensures others { OthersStay self.old self.new t.now }
+        ensures order { SameOrder self.old self.new }
+    {
+        let txn = self.txns.get_mut(t).unwrap();
+        self.owed.forget(txn);
+        txn.shut();
     }
 
     /// Marks the place that an unresolved transaction has reached, in place of an older mark of the name. `Memory`

@@ -3,7 +3,7 @@
 ghost use Rattle.std.specs.Prelude.{◌≡◌, OnErr, OnOk, filter, leb, option_copied, vec_items};
 ghost use Rattle.sd_txn.specs.Kept.{undo_of};
 ghost use Rattle.sd_txn.specs.Marked.{ends_above as is_above, named, AreRising};
-ghost use Rattle.sd_txn.specs.Transactions.{depth, mark_of, noted, popped, pushed, saved, started, top, with_mark, with_state};
+ghost use Rattle.sd_txn.specs.Transactions.{depth, mark_of, noted, popped, pushed, saved, shut, started, top, with_mark, with_state};
 
 use crate::owed::undo_len;
 use crate::{OpenRec, TxnState};
@@ -125,6 +125,16 @@ impl Txn {
         self.undo -= undo_len(&top);
         trim(&mut self.marks, self.stack.len());
         Some(top)
+    }
+
+    /// Lets go of what is open and of the span, and takes out the marks above 0.
+    pub(crate) fn shut(&mut self)
+        ensures { self.new ≡ shut self.old }
+    {
+        self.stack.clear();
+        self.undo = 0;
+        self.span = None;
+        trim(&mut self.marks, 0);
     }
 
     /// How many records are open.

@@ -2,10 +2,10 @@ use Rattle.sd_state.proofs.SealedLaws.{check-seals, commit-seals, end-seals, sta
 use Rattle.sd_state.proofs.laws.sealing.Goals as goal
 
 pub returns-clause-end : goal.returns-clause-end
-returns-clause-end g c = end-seals g.M.Moment.leaves
+returns-clause-end g c = end-seals g.M.Moment.leaves c.owed_by_shut.ensures.reserve c.owed_by_shut.ensures.owed
 
 pub returns-clause-commit : goal.returns-clause-commit
-returns-clause-commit g c = commit-seals g.M.Moment.leaves
+returns-clause-commit g c = commit-seals g.M.Moment.leaves c.owed_by_shut.ensures.reserve c.owed_by_shut.ensures.owed
 
 pub returns-clause-check : goal.returns-clause-check
 returns-clause-check g c = check-seals g.M.Moment.leaves

@@ -1,4 +1,4 @@
-use Rattle.sd_state.proofs.Undone.{undo-good}
+use Rattle.sd_state.proofs.UndoneOwn.{undo-good}
 use Rattle.sd_state.proofs.UndoneSpelled.{undo-spelled}
 use Rattle.sd_state.proofs.UndoneThere.{undo-finds_copy, undo-finds_top}
 use Rattle.sd_state.proofs.UndoneTop.{undo-finds_room}

@@ -1,0 +1,30 @@
+//! One instance of a complex at work, one call at a time: for tests and benches.
+//!
+//! Meaning: `IsReady` is the invariant of sd_state with nothing under way and no fall due, for some state of the serial table
+//! (`specs/Ready.antt`).
+//! Keeps: nothing; each call is one or several of sd_state, of instance 1 for the transactions that it began.
+//! Promises: a complex that is ready is so after each call, but for one whose force failed; what a call needs and code can see is
+//! tested (`standing.rt`), so nothing but `IsReady` is asked for.
+//! Refuses: what sd_state refuses, and `Odd` what doesn't stand as the call needs it; both leave the complex ready, but for `Failed`
+//! by a force.
+//! Knows nothing of: which state of the serial table it is, replies, other instances, recovery.
+//! Stands on: sd_base, sd_logrec, sd_rig, sd_log, sd_page, sd_pool, sd_txn, sd_pagelock, sd_chain, sd_sound, sd_model, sd_reclock,
+//! sd_state.
+//! Beside the house: tests and benches hold it, and no part of the program is to stand on it.
+//!
+//! To change:
+//! - free: all but the clauses
+//! - dear: nothing
+//! - frozen: nothing
+#![tactic(auto)]
+
+mod ends;
+mod standing;
+mod starting;
+mod stop;
+mod work;
+
+pub use ends::{commit, roll_back_whole, undo};
+pub use starting::{arm, first, hold, start};
+pub use stop::Stop;
+pub use work::{begin, put};

@@ -1,0 +1,194 @@
+use Rattle.std.proofs.Common.{◌≡◌, ◌≢◌, ⊎_elim, ℕ, ◌-◌, ◌≤◌, List, [], sym, ap, ◌∙◌, subst, arith, slice_set}
+use Rattle.std.specs.Prelude.{None}
+use Rattle.sd_log.specs.Logs.{LogState, StandsOn, forced}
+use Rattle.sd_log.specs.Forces.{Forces, forced_at, forced_len}
+use Rattle.sd_rig.specs.Devices.{AgreesOutside, LeavesOnly, Span}
+use Rattle.sd_rig.specs.Spans.{span-weaker}
+use Rattle.sd_sound.specs.Laws.{MayForce}
+use Rattle.sd_sound.proofs.Kept.{forced-idle}
+use Rattle.sd_sound.proofs.Outcomes.{failed-outcomes}
+use Rattle.sd_state.specs.Complexes.{parts}
+use Rattle.sd_state.specs.Forcing.{IsForced, IsHalfForced, with_failed}
+use Rattle.sd_state.specs.Good.{Good, IsSettledAt}
+use Rattle.sd_state.specs.Images.{Stands}
+use Rattle.sd_state.specs.Parts.{IsShape, Parts, actor, log_at}
+use Rattle.sd_state.proofs.Answered.{forced-parts, log-lent, nil-or, not-ok, on-ok, same-set, shape-log}
+use Rattle.sd_state.proofs.Failed.{failed-good}
+use Rattle.sd_state.proofs.Forced.{forced-good, forced-inst}
+use Rattle.sd_state.proofs.Owed.{owed-forced}
+use Rattle.sd_state.proofs.Standing.{left-stands, force-left-stands}
+use Rattle.sd_state.proofs.complex.Complex.force_settled.Goals as goal
+
+pub force-done-requires-clause-stable : goal.force-done-requires-clause-stable
+force-done-requires-clause-stable g c some =
+    let p : Parts = parts c.args.self.now in
+    let i : ℕ = c.args.i in
+    let low : 1 ≤ i = omega (arith, c.get.ensures.value, c.get.ensures.low) in
+    let high : i ≤ 8 = omega (arith, c.get.ensures.value, c.get.ensures.high) in
+    let log : LogState = c.index_mut.result.now in
+    let good = c.requires.good.2 in
+    let is : log_at p i ≡ log = log-lent p i (c.get.result - 1) log low high good.shape.logs (ap (λ n. n - 1) c.get.ensures.value) c.index_mut.ensures.value in
+    let inst : log.inst ≡ i = sym (ap (λ (x : LogState). x.inst) is) ∙ good.shape.own_log i low high in
+    let settled = c.requires.settled in
+    subst (λ (k : ℕ). LeavesOnly (g.G.Rig.seen c.args.self.now.rig k) (g.G.Rig.leaves c.args.self.now.rig k)) (sym inst) (good.settled i low high settled).only
+
+pub force-done-requires-clause-stands : goal.force-done-requires-clause-stands
+force-done-requires-clause-stands g c some =
+    let p : Parts = parts c.args.self.now in
+    let i : ℕ = c.args.i in
+    let low : 1 ≤ i = omega (arith, c.get.ensures.value, c.get.ensures.low) in
+    let high : i ≤ 8 = omega (arith, c.get.ensures.value, c.get.ensures.high) in
+    let log : LogState = c.index_mut.result.now in
+    let good = c.requires.good.2 in
+    let is : log_at p i ≡ log = log-lent p i (c.get.result - 1) log low high good.shape.logs (ap (λ n. n - 1) c.get.ensures.value) c.index_mut.ensures.value in
+    let inst : log.inst ≡ i = sym (ap (λ (x : LogState). x.inst) is) ∙ good.shape.own_log i low high in
+    let settled = c.requires.settled in
+    subst (λ (k : ℕ). StandsOn log (g.G.Rig.seen c.args.self.now.rig k)) (sym inst)
+    (subst (λ (x : LogState). StandsOn x (g.G.Rig.seen c.args.self.now.rig i)) is (good.settled i low high settled).stands)
+
+pub owed_when_forced-requires : goal.owed_when_forced-requires
+owed_when_forced-requires g c =
+    let p : Parts = parts c.args.self.now in
+    let i : ℕ = c.args.i in
+    let low : 1 ≤ i = omega (arith, c.get.ensures.value, c.get.ensures.low) in
+    let high : i ≤ 8 = omega (arith, c.get.ensures.value, c.get.ensures.high) in
+    let log : LogState = c.index_mut.result.now in
+    let good = c.requires.good.2 in
+    let place : c.get.result - 1 ≡ i - 1 = ap (λ n. n - 1) c.get.ensures.value in
+    let is : log_at p i ≡ log = log-lent p i (c.get.result - 1) log low high good.shape.logs place c.index_mut.ensures.value in
+    let inst : c.force-done.new.self.inst ≡ i = ap (λ (x : LogState). x.inst) c.in-Ok.ensures.ok ∙ forced-inst log ∙ sym (ap (λ (x : LogState). x.inst) is) ∙ good.shape.own_log i low high in
+    record {
+      shape = subst (λ (n : ℕ). IsShape (record p { logs = slice_set p.logs n c.force-done.new.self })) (sym place)
+          (shape-log p i c.force-done.new.self low high inst good.shape);
+    }
+
+pub returns-in-Ok-clause-forced : goal.returns-in-Ok-clause-forced
+returns-in-Ok-clause-forced g c =
+    let p : Parts = parts c.args.self.now in
+    let i : ℕ = c.args.i in
+    let low : 1 ≤ i = omega (arith, c.get.ensures.value, c.get.ensures.low) in
+    let high : i ≤ 8 = omega (arith, c.get.ensures.value, c.get.ensures.high) in
+    let log : LogState = c.index_mut.result.now in
+    let good = c.requires.good.2 in
+    let place : c.get.result - 1 ≡ i - 1 = ap (λ n. n - 1) c.get.ensures.value in
+    let is : log_at p i ≡ log = log-lent p i (c.get.result - 1) log low high good.shape.logs place c.index_mut.ensures.value in
+    on-ok c.force-done.result tt _ c.in-Ok.is (forced-parts (record p { due = None }) i (c.get.result - 1) c.force-done.new.self (forced (log_at p i)) c.owed_when_forced.result
+    low high good.shape.owed place (c.in-Ok.ensures.ok ∙ ap forced (sym is)))
+
+pub returns-in-Ok-clause-good : goal.returns-in-Ok-clause-good
+returns-in-Ok-clause-good g c pend m good =
+    let r = g.G.Rig in
+    let laws = g.met.G.Rig in
+    let old = c.args.self.now.rig in
+    let new = c.force-done.new.rig in
+    let p : Parts = parts c.args.self.now in
+    let i : ℕ = c.args.i in
+    let low : 1 ≤ i = omega (arith, c.get.ensures.value, c.get.ensures.low) in
+    let high : i ≤ 8 = omega (arith, c.get.ensures.value, c.get.ensures.high) in
+    let log : LogState = c.index_mut.result.now in
+    let self : LogState = c.force-done.new.self in
+    let owes : ℕ = c.owed_when_forced.result in
+    let place : c.get.result - 1 ≡ i - 1 = ap (λ n. n - 1) c.get.ensures.value in
+    let is : log_at p i ≡ log = log-lent p i (c.get.result - 1) log low high good.shape.logs place c.index_mut.ensures.value in
+    let inst : log.inst ≡ i = sym (ap (λ (x : LogState). x.inst) is) ∙ good.shape.own_log i low high in
+    let settled = c.requires.settled in
+    let ok : self ≡ forced (log_at p i) = c.in-Ok.ensures.ok ∙ ap forced (sym is) in
+    let at-i : IsSettledAt (r.seen old) (r.leaves old) p i = good.settled i low high settled in
+    let owed_is = c.owed_when_forced.ensures ∙ owed-forced (r.seen old) (r.leaves old) pend p m i low high good (laws.leaves_seen old 0 (omega arith)) settled in
+    let done : IsForced i (log_at p i) (r.seen old) (r.seen new) (r.leaves old) (r.leaves new) =
+    subst (λ (x : LogState). IsForced i x (r.seen old) (r.seen new) (r.leaves old) (r.leaves new)) (sym is) (record {
+      outside = subst (λ (k : ℕ). AgreesOutside (forced_at log) (forced_len log) (r.seen old k) (r.seen new k)) inst c.in-Ok.ensures.outside;
+      stands = ⊎_elim
+          (λ none. subst (λ (l : LogState). StandsOn l (r.seen new i)) (sym (forced-idle log none))
+          (subst (λ x. StandsOn log (r.seen x i)) (sym (c.in-Ok.ensures.idle none).1)
+          (subst (λ (l : LogState). StandsOn l (r.seen old i)) is at-i.stands)))
+          (λ some. subst (λ (l : LogState). StandsOn l (r.seen new i)) c.in-Ok.ensures.ok
+          (subst (λ (k : ℕ). StandsOn self (r.seen new k)) inst (c.in-Ok.ensures.stands some)))
+          (nil-or log.tail);
+      durable = ⊎_elim
+          (λ none. subst (λ x. LeavesOnly (r.seen x i) (r.leaves x i)) (sym (c.in-Ok.ensures.idle none).1) at-i.only)
+          (λ some. subst (λ (k : ℕ). LeavesOnly (r.seen new k) (r.leaves new k)) inst (c.in-Ok.ensures.durable some))
+          (nil-or log.tail);
+      others = λ d ne. c.in-Ok.ensures.others d (λ e. ne (e ∙ inst));
+      others_leave = λ d ne. c.in-Ok.ensures.others_leave d (λ e. ne (e ∙ inst));
+    }) in
+    subst (λ (n : ℕ). Good (r.seen new) (r.leaves new) pend (record p { logs = slice_set p.logs n self; owed = slice_set p.owed n owes; due = None }) m) (sym place)
+    (forced-good i (r.seen old) (r.seen new) (r.leaves old) (r.leaves new) pend p m self owes low high good c.requires.now settled
+    (λ d le. laws.leaves_seen old d le) ok done owed_is)
+
+pub returns-in-Ok-clause-images : goal.returns-in-Ok-clause-images
+returns-in-Ok-clause-images g c pend m good =
+    let r = g.G.Rig in
+    let laws = g.met.G.Rig in
+    let old = c.args.self.now.rig in
+    let p : Parts = parts c.args.self.now in
+    let i : ℕ = c.args.i in
+    let low : 1 ≤ i = omega (arith, c.get.ensures.value, c.get.ensures.low) in
+    let high : i ≤ 8 = omega (arith, c.get.ensures.value, c.get.ensures.high) in
+    let log : LogState = c.index_mut.result.now in
+    let is : log_at p i ≡ log = log-lent p i (c.get.result - 1) log low high good.shape.logs (ap (λ n. n - 1) c.get.ensures.value) c.index_mut.ensures.value in
+    let settled = c.requires.settled in
+    let one = (good.settled i low high settled).one_place in
+    ⊎_elim
+    (λ none. subst (λ x. Span (r.moment old) (r.since x) (Stands m pend)) (sym (c.in-Ok.ensures.idle none).1)
+    (record { each = λ img since. left-stands (r.leaves old) (r.seen old) img pend p m good (laws.only_now old img since) }))
+    (λ some. span-weaker (r.moment old) (r.since c.force-done.new.rig) (Forces log (r.seen old) (r.leaves old)) (Stands m pend)
+    (λ img f. force-left-stands (r.leaves old) i (r.seen old) img pend p m good low high one (laws.leaves_seen old i high)
+    (subst (λ (x : LogState). Forces x (r.seen old) (r.leaves old) img) (sym is) f))
+    (c.in-Ok.ensures.any_moment some))
+    (nil-or log.tail)
+
+pub returns-in-Err-clause-good : goal.returns-in-Err-clause-good
+returns-in-Err-clause-good g c pend m good =
+    let r = g.G.Rig in
+    let laws = g.met.G.Rig in
+    let old = c.args.self.now.rig in
+    let new = c.force-done.new.rig in
+    let p : Parts = parts c.args.self.now in
+    let i : ℕ = c.args.i in
+    let low : 1 ≤ i = omega (arith, c.get.ensures.value, c.get.ensures.low) in
+    let high : i ≤ 8 = omega (arith, c.get.ensures.value, c.get.ensures.high) in
+    let log : LogState = c.index_mut.result.now in
+    let self : LogState = c.force-done.new.self in
+    let place : c.get.result - 1 ≡ i - 1 = ap (λ n. n - 1) c.get.ensures.value in
+    let is : log_at p i ≡ log = log-lent p i (c.get.result - 1) log low high good.shape.logs place c.index_mut.ensures.value in
+    let inst : log.inst ≡ i = sym (ap (λ (x : LogState). x.inst) is) ∙ good.shape.own_log i low high in
+    let settled = c.requires.settled in
+    let some : log.tail ≢ [] = λ e. not-ok tt c.in-Err.field-0 (c.in-Err.ensures.idle e).0 in
+    let may : (bytes : List ℕ) → r.leaves new i bytes → MayForce log (r.seen old i) bytes =
+    failed-outcomes (r.leaves old) (r.leaves new) i log (r.seen old) (r.seen new) inst (λ d le. laws.leaves_seen new d le)
+    (λ img left. (c.in-Err.ensures.any_moment some).each img (laws.counts_now new (r.moment old) img c.in-Err.ensures.time.later left)) in
+    let failed : IsHalfForced i (log_at p i) (r.seen old) (r.seen new) (r.leaves old) (r.leaves new) =
+    subst (λ (x : LogState). IsHalfForced i x (r.seen old) (r.seen new) (r.leaves old) (r.leaves new)) (sym is) (record {
+      outside = λ bytes left. (may bytes left).0;
+      either = λ bytes left. (may bytes left).1;
+      others = λ d ne. c.in-Err.ensures.others d (λ e. ne (e ∙ inst));
+      others_leave = λ d ne. c.in-Err.ensures.others_leave d (λ e. ne (e ∙ inst));
+    }) in
+    let same : record p { logs = slice_set p.logs (c.get.result - 1) self } ≡ p =
+    ap (λ (logs : List LogState). record p { logs = logs }) (same-set p.logs (c.get.result - 1) log self c.index_mut.ensures.value c.in-Err.ensures.stays) in
+    let after : parts c.fails.new.self ≡ with_failed (actor p i) i p = c.fails.ensures.parts ∙ ap (λ (q : Parts). with_failed (actor q i) i q) same in
+    subst (λ x. Good (r.seen x) (r.leaves x) pend (parts c.fails.new.self) m) (sym c.fails.ensures.rig)
+    (subst (λ (q : Parts). Good (r.seen new) (r.leaves new) pend q m) (sym after)
+    (failed-good i (r.seen old) (r.seen new) (r.leaves old) (r.leaves new) pend p m low high good c.requires.now settled
+    (λ d le. laws.leaves_seen old d le) failed))
+
+pub returns-in-Err-clause-images : goal.returns-in-Err-clause-images
+returns-in-Err-clause-images g c pend m good =
+    let r = g.G.Rig in
+    let laws = g.met.G.Rig in
+    let old = c.args.self.now.rig in
+    let p : Parts = parts c.args.self.now in
+    let i : ℕ = c.args.i in
+    let low : 1 ≤ i = omega (arith, c.get.ensures.value, c.get.ensures.low) in
+    let high : i ≤ 8 = omega (arith, c.get.ensures.value, c.get.ensures.high) in
+    let log : LogState = c.index_mut.result.now in
+    let is : log_at p i ≡ log = log-lent p i (c.get.result - 1) log low high good.shape.logs (ap (λ n. n - 1) c.get.ensures.value) c.index_mut.ensures.value in
+    let settled = c.requires.settled in
+    let some : log.tail ≢ [] = λ e. not-ok tt c.in-Err.field-0 (c.in-Err.ensures.idle e).0 in
+    let one = (good.settled i low high settled).one_place in
+    subst (λ x. Span (r.moment old) (r.since x) (Stands m pend)) (sym c.fails.ensures.rig)
+    (span-weaker (r.moment old) (r.since c.force-done.new.rig) (Forces log (r.seen old) (r.leaves old)) (Stands m pend)
+    (λ img f. force-left-stands (r.leaves old) i (r.seen old) img pend p m good low high one (laws.leaves_seen old i high)
+    (subst (λ (x : LogState). Forces x (r.seen old) (r.leaves old) img) (sym is) f))
+    (c.in-Err.ensures.any_moment some))

@@ -1,0 +1,125 @@
+use Rattle.std.proofs.Common.{ℕ, ◌≤◌, sym, subst, arith}
+use Rattle.sd_model.specs.State.{State}
+use Rattle.sd_rig.specs.Devices.{Elapses, Span}
+use Rattle.sd_rig.specs.Spans.{elapses-then, span-then}
+use Rattle.sd_state.specs.Complexes.{parts}
+use Rattle.sd_state.specs.Good.{Good}
+use Rattle.sd_state.specs.Images.{Stands}
+use Rattle.sd_state.specs.Parts.{Parts, owed_at}
+use Rattle.sd_state.specs.Values.{Pending}
+use Rattle.sd_state.proofs.UndoneForCalls.{own-forced}
+use Rattle.sd_state.proofs.complex.Complex.undo_forced.Goals as goal
+
+pub returns-in_err-force_log-clause-good : goal.returns-in_err-force_log-clause-good
+returns-in_err-force_log-clause-good g c m good = c.force_log.ensures.good Pending.Idle m good
+
+pub returns-in_err-force_log-clause-images : goal.returns-in_err-force_log-clause-images
+returns-in_err-force_log-clause-images g c m good = c.force_log.ensures.images Pending.Idle m good
+
+pub undo_due-requires-clause-good : goal.undo_due-requires-clause-good
+undo_due-requires-clause-good g c = (c.requires.good.0, c.force_log.ensures.good Pending.Idle c.requires.good.0 c.requires.good.1)
+
+pub undo_due-requires-clause-own : goal.undo_due-requires-clause-own
+undo_due-requires-clause-own g c =
+    let p : Parts = parts c.args.self.now in
+    let a : ℕ = c.args.by in
+    let new : Parts = parts c.force_log.new.self in
+    let low : 1 ≤ a = omega (arith, c.get-own.ensures.value, c.get-own.ensures.low) in
+    let high : a ≤ 8 = omega (arith, c.get-own.ensures.value, c.get-own.ensures.high) in
+    own-forced a (owed_at new a) p new c.requires.good.1.shape low high (c.in_ok-force_log.ensures.forced c.requires.may.own_settled)
+
+pub returns-in_err-undo_due-clause-good : goal.returns-in_err-undo_due-clause-good
+returns-in_err-undo_due-clause-good g c m good =
+    let r = g.G.Rig in
+    let rig = c.force_log.new.self.rig in
+    subst (λ x. Good (r.seen x) (r.leaves x) Pending.Idle (parts c.undo_due.new.self) m) (sym c.undo_due.ensures.rig)
+    (subst (λ (q : Parts). Good (r.seen rig) (r.leaves rig) Pending.Idle q m) (sym c.in_err-undo_due.ensures.err)
+    (c.force_log.ensures.good Pending.Idle m good))
+
+pub returns-in_err-undo_due-clause-images : goal.returns-in_err-undo_due-clause-images
+returns-in_err-undo_due-clause-images g c m good =
+    let r = g.G.Rig in
+    subst (λ x. Span (r.moment c.args.self.now.rig) (r.since x) (Stands m Pending.Idle)) (sym c.undo_due.ensures.rig)
+    (c.force_log.ensures.images Pending.Idle m good)
+
+pub force_settled-requires-clause-good : goal.force_settled-requires-clause-good
+force_settled-requires-clause-good g c =
+    let m : State = c.requires.good.0 in
+    let good = c.requires.good.1 in
+    let r = g.G.Rig in
+    let mid : Good (r.seen c.undo_due.new.self.rig) (r.leaves c.undo_due.new.self.rig) Pending.Idle (parts c.undo_due.new.self) m =
+    subst (λ x. Good (r.seen x) (r.leaves x) Pending.Idle (parts c.undo_due.new.self) m) (sym c.undo_due.ensures.rig)
+    (c.in_ok-undo_due.ensures.good m (c.force_log.ensures.good Pending.Idle m good)) in
+    (Pending.Idle, m, mid)
+
+pub returns-in_err-force_settled-clause-good : goal.returns-in_err-force_settled-clause-good
+returns-in_err-force_settled-clause-good g c m good =
+    let r = g.G.Rig in
+    let mid : Good (r.seen c.undo_due.new.self.rig) (r.leaves c.undo_due.new.self.rig) Pending.Idle (parts c.undo_due.new.self) m =
+    subst (λ x. Good (r.seen x) (r.leaves x) Pending.Idle (parts c.undo_due.new.self) m) (sym c.undo_due.ensures.rig)
+    (c.in_ok-undo_due.ensures.good m (c.force_log.ensures.good Pending.Idle m good)) in
+    c.force_settled.ensures.good Pending.Idle m mid
+
+pub returns-in_err-force_settled-clause-images : goal.returns-in_err-force_settled-clause-images
+returns-in_err-force_settled-clause-images g c m good =
+    let r = g.G.Rig in
+    let mid : Good (r.seen c.undo_due.new.self.rig) (r.leaves c.undo_due.new.self.rig) Pending.Idle (parts c.undo_due.new.self) m =
+    subst (λ x. Good (r.seen x) (r.leaves x) Pending.Idle (parts c.undo_due.new.self) m) (sym c.undo_due.ensures.rig)
+    (c.in_ok-undo_due.ensures.good m (c.force_log.ensures.good Pending.Idle m good)) in
+    let old = c.args.self.now.rig in
+    let two = c.undo_due.new.self.rig in
+    let three = c.force_settled.new.self.rig in
+    let time : Elapses (r.moment old) (r.moment two) (r.since old) (r.since two) =
+    subst (λ x. Elapses (r.moment old) (r.moment x) (r.since old) (r.since x)) (sym c.undo_due.ensures.rig) c.force_log.ensures.time in
+    span-then (r.moment old) (r.moment two) (r.moment three) (r.since two) (r.since three) (Stands m Pending.Idle) time.later
+    c.force_settled.ensures.time
+    (subst (λ x. Span (r.moment old) (r.since x) (Stands m Pending.Idle)) (sym c.undo_due.ensures.rig)
+    (c.force_log.ensures.images Pending.Idle m good))
+    (c.force_settled.ensures.images Pending.Idle m mid)
+
+pub returns-in_err-force_settled-clause-time : goal.returns-in_err-force_settled-clause-time
+returns-in_err-force_settled-clause-time g c =
+    let r = g.G.Rig in
+    let old = c.args.self.now.rig in
+    let two = c.undo_due.new.self.rig in
+    let three = c.force_settled.new.self.rig in
+    let time : Elapses (r.moment old) (r.moment two) (r.since old) (r.since two) =
+    subst (λ x. Elapses (r.moment old) (r.moment x) (r.since old) (r.since x)) (sym c.undo_due.ensures.rig) c.force_log.ensures.time in
+    elapses-then _ _ _ _ (r.since two) _ (λ t u img le since. g.met.G.Rig.earlier three t u img le since) time
+    c.force_settled.ensures.time
+
+pub returns-clause-good : goal.returns-clause-good
+returns-clause-good g c m good =
+    let r = g.G.Rig in
+    let mid : Good (r.seen c.undo_due.new.self.rig) (r.leaves c.undo_due.new.self.rig) Pending.Idle (parts c.undo_due.new.self) m =
+    subst (λ x. Good (r.seen x) (r.leaves x) Pending.Idle (parts c.undo_due.new.self) m) (sym c.undo_due.ensures.rig)
+    (c.in_ok-undo_due.ensures.good m (c.force_log.ensures.good Pending.Idle m good)) in
+    c.force_settled.ensures.good Pending.Idle m mid
+
+pub returns-clause-images : goal.returns-clause-images
+returns-clause-images g c m good =
+    let r = g.G.Rig in
+    let mid : Good (r.seen c.undo_due.new.self.rig) (r.leaves c.undo_due.new.self.rig) Pending.Idle (parts c.undo_due.new.self) m =
+    subst (λ x. Good (r.seen x) (r.leaves x) Pending.Idle (parts c.undo_due.new.self) m) (sym c.undo_due.ensures.rig)
+    (c.in_ok-undo_due.ensures.good m (c.force_log.ensures.good Pending.Idle m good)) in
+    let old = c.args.self.now.rig in
+    let two = c.undo_due.new.self.rig in
+    let three = c.force_settled.new.self.rig in
+    let time : Elapses (r.moment old) (r.moment two) (r.since old) (r.since two) =
+    subst (λ x. Elapses (r.moment old) (r.moment x) (r.since old) (r.since x)) (sym c.undo_due.ensures.rig) c.force_log.ensures.time in
+    span-then (r.moment old) (r.moment two) (r.moment three) (r.since two) (r.since three) (Stands m Pending.Idle) time.later
+    c.force_settled.ensures.time
+    (subst (λ x. Span (r.moment old) (r.since x) (Stands m Pending.Idle)) (sym c.undo_due.ensures.rig)
+    (c.force_log.ensures.images Pending.Idle m good))
+    (c.force_settled.ensures.images Pending.Idle m mid)
+
+pub returns-clause-time : goal.returns-clause-time
+returns-clause-time g c =
+    let r = g.G.Rig in
+    let old = c.args.self.now.rig in
+    let two = c.undo_due.new.self.rig in
+    let three = c.force_settled.new.self.rig in
+    let time : Elapses (r.moment old) (r.moment two) (r.since old) (r.since two) =
+    subst (λ x. Elapses (r.moment old) (r.moment x) (r.since old) (r.since x)) (sym c.undo_due.ensures.rig) c.force_log.ensures.time in
+    elapses-then _ _ _ _ (r.since two) _ (λ t u img le since. g.met.G.Rig.earlier three t u img le since) time
+    c.force_settled.ensures.time

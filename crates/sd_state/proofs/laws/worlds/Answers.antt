@@ -1,0 +1,8 @@
+use Rattle.sd_state.proofs.Fitting.{fits-stands, fresh-fits}
+use Rattle.sd_state.proofs.laws.worlds.Goals as goal
+
+pub returns-clause-stands : goal.returns-clause-stands
+returns-clause-stands g c = fits-stands g.M.Moment.leaves
+
+pub returns-clause-fresh : goal.returns-clause-fresh
+returns-clause-fresh g c = fresh-fits g.M.Moment.leaves

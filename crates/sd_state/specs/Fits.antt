@@ -1,0 +1,85 @@
+-- When a complex fits a world: the serial table with its waits, the pages, and the sums.
+use Rattle.sd_chain.specs.Records.{IsOpen, home}
+use Rattle.sd_model.specs.declared.act.Life.{Life}
+use Rattle.std.specs.Prelude.{◌≡◌, ℕ, ◌+◌, ◌≤◌, false, List, [], ◌∷◌, None, is_some, map}
+use Rattle.sd_base.specs.declared.ids.TxnId.{TxnId}
+use Rattle.sd_log.specs.Logs.{LogState, forced}
+use Rattle.sd_model.specs.State.{fresh}
+use Rattle.sd_page.specs.Page.{Page}
+use Rattle.sd_pagelock.specs.Directory.{asks_at, entry_at}
+use Rattle.sd_pagelock.specs.Places.{Entry, is_lost}
+use Rattle.sd_reclock.specs.Locks.{waits}
+use Rattle.sd_rig.specs.Devices as rig
+use Rattle.sd_chain.specs.Bytes.{disk_page}
+use Rattle.sd_chain.specs.Checks.{reserve}
+use Rattle.sd_chain.specs.Images.{Keeps}
+use Rattle.sd_coherent.specs.Named.{version_of}
+use Rattle.sd_sound.specs.Logs.{Outcomes, all_at, base_at, tails_of}
+use Rattle.sd_world.specs.Bounds.{Bounds}
+use Rattle.sd_world.specs.Pages.{Pages}
+use Rattle.sd_world.specs.Serving.{Core}
+use Rattle.sd_state.specs.Fresh.{AreBlank, IsFresh}
+use Rattle.sd_state.specs.Good.{Good}
+use Rattle.sd_state.specs.Images.{Stands, log_by}
+use Rattle.sd_state.specs.Laws.{newest_of}
+use Rattle.sd_state.specs.Parts.{Parts, check_at, count_at, pool_at, log_at}
+use Rattle.sd_state.specs.Sums.{great_of, owed_in_all}
+use Rattle.sd_state.specs.Values.{Pending}
+
+-- Each page is where the world says, with the same asks; the newest version of one that isn't lost has the world's number; and
+-- the same instances have begun checkpoints.
+pub record FitsPages (seen : rig.Image) (leaves : Outcomes) (c : Parts) (w : Pages) : Type 0 where
+  pub frames : (i : ℕ) → 1 ≤ i → i ≤ 8 → (pool_at c i).frames ≡ w.frames
+  pub entry : (p : ℕ) → w.entry p ≡ entry_at c.directory p
+  pub asks : (p : ℕ) → w.asks p ≡ asks_at c.directory p
+  pub number : (p : ℕ) → is_lost (w.entry p) ≡ false → w.number p ≡ (newest_of seen leaves c p).lsn
+  pub begun : (i : ℕ) → w.begun i ≡ is_some (check_at c i)
+
+-- the first list is a front of the second, each number at most that of its place there
+abbrev pub AreWithin : List ℕ → List ℕ → Type 0
+AreWithin [] ys = Unit {0}
+AreWithin (x ∷ xs) [] = ⊥
+AreWithin (x ∷ xs) (y ∷ ys) = (x ≤ y) × AreWithin xs ys
+
+-- the capacities of a page's slots
+abbrev pub capacities : Page → List ℕ
+capacities x = map (λ slot. slot.0) x.slots
+
+-- The log, with what it reserves, goes no further, with its tail and without it.
+abbrev pub ReachesAtMost : ℕ → LogState → Type 0
+ReachesAtMost n log = (log.gate + reserve (base_at log) ≤ n) × ((forced log).gate + reserve (all_at log) ≤ n)
+
+-- No real number is above the world's sums, whatever a crash leaves.
+pub record FitsBounds (seen : rig.Image) (c : Parts) (b : Bounds) : Type 0 where
+  pub slots : (moved keeps : Keeps) (p : ℕ)
+      → AreWithin (capacities (version_of (tails_of (log_by c moved)) (disk_page (seen 0)) keeps p)) (b.slots p)
+  pub reach : (moved : Keeps) (i : ℕ) → 1 ≤ i → i ≤ 8 → ReachesAtMost (b.reach i) (log_by c moved i)
+  pub lsns : great_of c + owed_in_all c ≤ b.lsns
+  pub masters : (i : ℕ) → 1 ≤ i → i ≤ 8 → count_at c i ≤ b.masters i
+
+-- The complex is as the world says: between any two events nothing is under way, no fall is due, and no End waits for its force.
+pub record Fits (seen : rig.Image) (leaves : Outcomes) (c : Parts) (w : Core) : Type 0 where
+  pub good : Good seen leaves Pending.Idle c w.scene.state
+  pub idle : c.due ≡ None
+  pub rolling : (t : TxnId) → (w.scene.state.part t).life ≡ Life.Rolling None → IsOpen t (all_at (log_at c (home t)))
+  pub waits : (t : TxnId) → waits c.locks t ≡ w.scene.waits t
+  pub pages : FitsPages seen leaves c w.pages
+  pub bounds : FitsBounds seen c w.bounds
+
+-- Whatever a crash leaves of a complex that fits stands for the world's state.
+abbrev pub FitsStands : Outcomes → Type 0
+FitsStands leaves = (seen img : rig.Image) (c : Parts) (w : Core) → Fits seen leaves c w → rig.Leaves leaves img
+    → Stands w.scene.state Pending.Idle img
+
+-- the world in which nothing has happened
+abbrev pub fresh_core : ℕ → Core
+fresh_core frames = record {
+  scene = record { state = fresh; waits = λ t. None };
+  pages = record { frames = frames; entry = λ p. Entry.Free; asks = λ p. []; number = λ p. 0; begun = λ i. false };
+  bounds = record { slots = λ p. []; reach = λ i. 0; lsns = 0; masters = λ i. 0 };
+}
+
+-- A fresh complex fits it.
+abbrev pub FreshFits : Outcomes → Type 0
+FreshFits leaves = (seen : rig.Image) (frames : ℕ) (c : Parts) → AreBlank seen leaves → IsFresh frames c
+    → Fits seen leaves c (fresh_core frames)
