@@ -18,7 +18,6 @@ pub mod ChangedRows
 pub mod ChangeLsns
 pub mod Changed
 pub mod ChangeCalls
-pub mod Fitting
 pub mod Recovers
 pub mod Joins
 pub mod Locks

@@ -17,4 +17,3 @@ pub mod Changing
 pub mod Sealing
 pub mod Undoing
 pub mod UndoingFor
-pub mod Fits

@@ -1,10 +1,10 @@
 //! The force of a log.
 
-ghost use Rattle.std.specs.Prelude.{◌≡◌, ◌≤◌, ℕ, List, None, true, false, Ok, OnErr, OnOk};
+ghost use Rattle.std.specs.Prelude.{◌≡◌, ◌≢◌, ◌≤◌, ℕ, List, None, true, false, Ok, OnErr, OnOk};
 ghost use Rattle.sd_base.specs.Streams.{Rises};
 ghost use Rattle.sd_log.specs.Logs.{forced};
 ghost use Rattle.sd_model.specs.State.{State};
-ghost use Rattle.sd_rig.specs.Devices.{Elapses, Span};
+ghost use Rattle.sd_rig.specs.Devices.{Elapses, LeavesSame, Span};
 ghost use Rattle.sd_state.specs.Complexes.{parts};
 ghost use Rattle.sd_state.specs.Forcing.{ForcesNow, owed_by, with_failed, with_forced, with_settled};
 ghost use Rattle.sd_state.specs.Good.{Good};
@@ -30,6 +30,8 @@ impl<G: Rig> Complex<G> {
         ensures images { (pend : Pending) (m : State) → Good (G.seen self.old.rig) (G.leaves self.old.rig) pend (parts self.old) m
             → Span (G.moment self.old.rig) (G.since self.new.rig) (Stands m pend) }
         ensures time { Elapses (G.moment self.old.rig) (G.moment self.new.rig) (G.since self.old.rig) (G.since self.new.rig) }
+        ensures others { (d : ℕ) → d ≢ i → G.seen self.new.rig d ≡ G.seen self.old.rig d }
+        ensures others_leave { (d : ℕ) → d ≢ i → LeavesSame (G.leaves self.old.rig d) (G.leaves self.new.rig d) }
 
         ensures loose { is_loose (parts self.old) i ≡ true → (parts self.new ≡ parts self.old) × (self.new.rig ≡ self.old.rig) × (result ≡ Ok tt) }
         ensures forced { is_loose (parts self.old) i ≡ false → OnOk result
@@ -58,6 +60,8 @@ impl<G: Rig> Complex<G> {
         ensures images { (pend : Pending) (m : State) → Good (G.seen self.old.rig) (G.leaves self.old.rig) pend (parts self.old) m
             → Span (G.moment self.old.rig) (G.since self.new.rig) (Stands m pend) }
         ensures time { Elapses (G.moment self.old.rig) (G.moment self.new.rig) (G.since self.old.rig) (G.since self.new.rig) }
+        ensures others { (d : ℕ) → d ≢ i → G.seen self.new.rig d ≡ G.seen self.old.rig d }
+        ensures others_leave { (d : ℕ) → d ≢ i → LeavesSame (G.leaves self.old.rig d) (G.leaves self.new.rig d) }
 
         ensures forced { OnOk result
             (parts self.new ≡ with_settled i (forced (log_at (parts self.old) i)) (owed_at (parts self.new) i) (parts self.old)) }

@@ -2,7 +2,6 @@
 
 ghost use Rattle.std.specs.Prelude.{ℕ, List};
 ghost use Rattle.sd_state.specs.Changing.{ChangeKeepsGood};
-ghost use Rattle.sd_state.specs.Fits.{FitsStands, FreshFits};
 ghost use Rattle.sd_state.specs.Laws.{EachCopyIsNewest, ForceLeftStands, LeftStands, OneMayUpdate};
 ghost use Rattle.sd_state.specs.Sealing.{CheckSeals, CommitSeals, EndSeals, StartSeals};
 ghost use Rattle.sd_state.specs.Working.{ReadIsGood};
@@ -24,13 +23,6 @@ pub fn images<M: Moment>()
 pub fn page_locks<M: Moment>()
     ensures one { OneMayUpdate M.leaves }
     ensures newest { EachCopyIsNewest M.leaves }
-{}
-
-/// A complex that fits a world: whatever a crash leaves of it stands for the world's state; and a fresh complex fits the world in which
-/// nothing has happened.
-pub fn worlds<M: Moment>()
-    ensures stands { FitsStands M.leaves }
-    ensures fresh { FreshFits M.leaves }
 {}
 
 /// A change of a record keeps the invariant.

@@ -43,7 +43,8 @@ impl<G: Rig> Complex<G> {
         ensures parts { parts self.new ≡ parts self.old }
         ensures stays { IsUnchanged (G.seen self.old.rig) (G.seen self.new.rig) (G.leaves self.old.rig) (G.leaves self.new.rig)
             (G.moment self.old.rig) (G.moment self.new.rig) (G.since self.old.rig) (G.since self.new.rig) }
-        ensures refusals { IfErr result (λ e. (e ≡ R.Memory) ⊎ ((e ≡ R.Failed) × Rises (G.faults self.old.rig) (G.faults self.new.rig))) }
+        ensures refusals { IfErr result (λ e. ((e ≡ R.Memory) × (G.faults self.new.rig ≡ G.faults self.old.rig))
+            ⊎ ((e ≡ R.Failed) × Rises (G.faults self.old.rig) (G.faults self.new.rig))) }
         ensures quiet { OnOk result (G.faults self.new.rig ≡ G.faults self.old.rig) }
         ensures count { G.faults self.old.rig ≤ G.faults self.new.rig }
     {

@@ -2,7 +2,7 @@ use Rattle.std.proofs.Common.{◌≡◌, ◌≢◌, ⊎_elim, ℕ, ◌-◌, ◌�
 use Rattle.std.specs.Prelude.{None}
 use Rattle.sd_log.specs.Logs.{LogState, StandsOn, forced}
 use Rattle.sd_log.specs.Forces.{Forces, forced_at, forced_len}
-use Rattle.sd_rig.specs.Devices.{AgreesOutside, LeavesOnly, Span}
+use Rattle.sd_rig.specs.Devices.{AgreesOutside, LeavesOnly, LeavesSame, Span}
 use Rattle.sd_rig.specs.Spans.{span-weaker}
 use Rattle.sd_sound.specs.Laws.{MayForce}
 use Rattle.sd_sound.proofs.Kept.{forced-idle}
@@ -192,3 +192,52 @@ returns-in-Err-clause-images g c pend m good =
     (λ img f. force-left-stands (r.leaves old) i (r.seen old) img pend p m good low high one (laws.leaves_seen old i high)
     (subst (λ (x : LogState). Forces x (r.seen old) (r.leaves old) img) (sym is) f))
     (c.in-Err.ensures.any_moment some))
+
+pub returns-in-Ok-clause-others : goal.returns-in-Ok-clause-others
+returns-in-Ok-clause-others g c d ne =
+    let p : Parts = parts c.args.self.now in
+    let i : ℕ = c.args.i in
+    let low : 1 ≤ i = omega (arith, c.get.ensures.value, c.get.ensures.low) in
+    let high : i ≤ 8 = omega (arith, c.get.ensures.value, c.get.ensures.high) in
+    let log : LogState = c.index_mut.result.now in
+    let good = c.requires.good.2 in
+    let is : log_at p i ≡ log = log-lent p i (c.get.result - 1) log low high good.shape.logs (ap (λ n. n - 1) c.get.ensures.value) c.index_mut.ensures.value in
+    let inst : log.inst ≡ i = sym (ap (λ (x : LogState). x.inst) is) ∙ good.shape.own_log i low high in
+    c.force-done.ensures.others d (λ e. ne (e ∙ inst))
+
+pub returns-in-Ok-clause-others_leave : goal.returns-in-Ok-clause-others_leave
+returns-in-Ok-clause-others_leave g c d ne =
+    let p : Parts = parts c.args.self.now in
+    let i : ℕ = c.args.i in
+    let low : 1 ≤ i = omega (arith, c.get.ensures.value, c.get.ensures.low) in
+    let high : i ≤ 8 = omega (arith, c.get.ensures.value, c.get.ensures.high) in
+    let log : LogState = c.index_mut.result.now in
+    let good = c.requires.good.2 in
+    let is : log_at p i ≡ log = log-lent p i (c.get.result - 1) log low high good.shape.logs (ap (λ n. n - 1) c.get.ensures.value) c.index_mut.ensures.value in
+    let inst : log.inst ≡ i = sym (ap (λ (x : LogState). x.inst) is) ∙ good.shape.own_log i low high in
+    c.force-done.ensures.others_leave d (λ e. ne (e ∙ inst))
+
+pub returns-in-Err-clause-others : goal.returns-in-Err-clause-others
+returns-in-Err-clause-others g c d ne =
+    let p : Parts = parts c.args.self.now in
+    let i : ℕ = c.args.i in
+    let low : 1 ≤ i = omega (arith, c.get.ensures.value, c.get.ensures.low) in
+    let high : i ≤ 8 = omega (arith, c.get.ensures.value, c.get.ensures.high) in
+    let log : LogState = c.index_mut.result.now in
+    let good = c.requires.good.2 in
+    let is : log_at p i ≡ log = log-lent p i (c.get.result - 1) log low high good.shape.logs (ap (λ n. n - 1) c.get.ensures.value) c.index_mut.ensures.value in
+    let inst : log.inst ≡ i = sym (ap (λ (x : LogState). x.inst) is) ∙ good.shape.own_log i low high in
+    ap (λ rig. g.G.Rig.seen rig d) c.fails.ensures.rig ∙ c.force-done.ensures.others d (λ e. ne (e ∙ inst))
+
+pub returns-in-Err-clause-others_leave : goal.returns-in-Err-clause-others_leave
+returns-in-Err-clause-others_leave g c d ne =
+    let p : Parts = parts c.args.self.now in
+    let i : ℕ = c.args.i in
+    let low : 1 ≤ i = omega (arith, c.get.ensures.value, c.get.ensures.low) in
+    let high : i ≤ 8 = omega (arith, c.get.ensures.value, c.get.ensures.high) in
+    let log : LogState = c.index_mut.result.now in
+    let good = c.requires.good.2 in
+    let is : log_at p i ≡ log = log-lent p i (c.get.result - 1) log low high good.shape.logs (ap (λ n. n - 1) c.get.ensures.value) c.index_mut.ensures.value in
+    let inst : log.inst ≡ i = sym (ap (λ (x : LogState). x.inst) is) ∙ good.shape.own_log i low high in
+    subst (λ rig. LeavesSame (g.G.Rig.leaves c.args.self.now.rig d) (g.G.Rig.leaves rig d)) (sym c.fails.ensures.rig)
+    (c.force-done.ensures.others_leave d (λ e. ne (e ∙ inst)))

@@ -9,7 +9,7 @@ use Rattle.sd_rig.specs.Devices as rig
 use Rattle.sd_txn.specs.Owing.{owed_of}
 use Rattle.sd_chain.specs.Images.{all_kept}
 use Rattle.sd_sound.specs.Logs.{Outcomes}
-use Rattle.sd_state.specs.Fits.{AreWithin, Fits, FitsBounds, FitsPages, FitsStands, FreshFits, ReachesAtMost, capacities, fresh_core}
+use Rattle.sd_fits.specs.Fits.{AreWithin, Fits, FitsBounds, FitsPages, FitsStands, FreshFits, ReachesAtMost, capacities, fresh_core}
 use Rattle.sd_state.specs.Fresh.{AreBlank, IsFresh, empty_pool}
 use Rattle.sd_state.specs.Parts.{Parts, among, is_loose, log_at, no_pool, status_at}
 use Rattle.sd_state.specs.Sums.{most_to, owes_most, sum_to}
@@ -94,6 +94,8 @@ module _ (leaves : Outcomes) (seen : rig.Image) (frames : ℕ) (c : Parts) (devi
     idle = f.due;
     rolling = λ t rolls. absurd (cc);
     waits = λ t. ap (λ waiting. waits_in waiting t) f.unwaited;
+    waiting = λ t gone. refl;
+    put = λ t none. absurd none;
     pages = pages-there;
     bounds = bounds-there;
   }

@@ -1,5 +1,5 @@
-use Rattle.sd_state.proofs.Fitting.{fits-stands, fresh-fits}
-use Rattle.sd_state.proofs.laws.worlds.Goals as goal
+use Rattle.sd_fits.proofs.Fitting.{fits-stands, fresh-fits}
+use Rattle.sd_fits.proofs.laws.worlds.Goals as goal
 
 pub returns-clause-stands : goal.returns-clause-stands
 returns-clause-stands g c = fits-stands g.M.Moment.leaves

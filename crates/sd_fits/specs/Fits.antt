@@ -1,10 +1,14 @@
 -- When a complex fits a world: the serial table with its waits, the pages, and the sums.
 use Rattle.sd_chain.specs.Records.{IsOpen, home}
 use Rattle.sd_model.specs.declared.act.Life.{Life}
-use Rattle.std.specs.Prelude.{◌≡◌, ℕ, ◌+◌, ◌≤◌, false, List, [], ◌∷◌, None, is_some, map}
+use Rattle.std.specs.Prelude.{◌≡◌, ℕ, ◌+◌, ◌≤◌, false, List, [], ◌∷◌, None, IsSome, is_some, map}
 use Rattle.sd_base.specs.declared.ids.TxnId.{TxnId}
 use Rattle.sd_log.specs.Logs.{LogState, forced}
+use Rattle.sd_model.specs.Applies.{HasPut}
+use Rattle.sd_model.specs.Listed.{IsAtWork}
+use Rattle.sd_model.specs.Scenes.{is_running}
 use Rattle.sd_model.specs.State.{fresh}
+use Rattle.sd_txn.specs.Transactions.{span_at}
 use Rattle.sd_page.specs.Page.{Page}
 use Rattle.sd_pagelock.specs.Directory.{asks_at, entry_at}
 use Rattle.sd_pagelock.specs.Places.{Entry, is_lost}
@@ -22,7 +26,7 @@ use Rattle.sd_state.specs.Fresh.{AreBlank, IsFresh}
 use Rattle.sd_state.specs.Good.{Good}
 use Rattle.sd_state.specs.Images.{Stands, log_by}
 use Rattle.sd_state.specs.Laws.{newest_of}
-use Rattle.sd_state.specs.Parts.{Parts, check_at, count_at, pool_at, log_at}
+use Rattle.sd_state.specs.Parts.{Parts, check_at, count_at, pool_at, log_at, txns_at}
 use Rattle.sd_state.specs.Sums.{great_of, owed_in_all}
 use Rattle.sd_state.specs.Values.{Pending}
 
@@ -62,7 +66,10 @@ pub record Fits (seen : rig.Image) (leaves : Outcomes) (c : Parts) (w : Core) : 
   pub good : Good seen leaves Pending.Idle c w.scene.state
   pub idle : c.due ≡ None
   pub rolling : (t : TxnId) → (w.scene.state.part t).life ≡ Life.Rolling None → IsOpen t (all_at (log_at c (home t)))
+  -- only those that run wait, and whoever is at work and has a record has put something
   pub waits : (t : TxnId) → waits c.locks t ≡ w.scene.waits t
+  pub waiting : (t : TxnId) → is_running (w.scene.state.part t).life ≡ false → w.scene.waits t ≡ None
+  pub put : (t : TxnId) → IsAtWork (w.scene.state.part t).life → IsSome (span_at (txns_at c (home t)) t) → HasPut (w.scene.state.part t).acts
   pub pages : FitsPages seen leaves c w.pages
   pub bounds : FitsBounds seen c w.bounds
 

@@ -1,0 +1,15 @@
+pub mod Fitting
+pub mod Served
+pub mod Heads
+pub mod Worked
+pub mod Still
+pub mod Frames
+pub mod Places
+pub mod Forcing
+pub mod Sealing
+pub mod Values
+pub mod Unclaimed
+pub mod Leaving
+pub mod Looking
+pub mod Taking
+pub mod Changing

@@ -1,0 +1,23 @@
+//! A complex that fits a world, and how it goes on fitting: laws alone.
+//!
+//! Meaning: `Fits` says when a complex is as a world says (`specs/Fits.antt`); `Serving` is what a call of an event promises of it
+//! (`specs/Serving.antt`).
+//! Keeps: nothing.
+//! Promises: whatever a crash leaves of a complex that fits stands for the world's state, and a fresh one fits the world in which
+//! nothing has happened (`laws.rt`).
+//! Refuses: nothing.
+//! Knows nothing of: the calls of events.
+//! Stands on: sd_base, sd_model, sd_page, sd_logrec, sd_rig, sd_log, sd_pool, sd_txn, sd_reclock, sd_pagelock, sd_chain, sd_sound,
+//! sd_coherent, sd_world, sd_state, sd_moves.
+//! Lends: in `proofs`, over what a crash may leave, the lemma of each law (Fitting), and how a complex goes on fitting: where nothing
+//! or locks alone change (Served, Still), where transactions work and end (Heads, Worked, Taking, Leaving), where pages move (Places,
+//! Frames), where a log grows or is forced (Changing, Sealing, Forcing); what a record has (Values, Unclaimed), and who stands in the way
+//! of a lock (Looking).
+//!
+//! To change:
+//! - free: proofs
+//! - dear: `Fits`, `Serving`
+//! - frozen: nothing
+#![tactic(auto)]
+
+pub mod laws;

@@ -1,0 +1,45 @@
+-- A page that is put onto the data device: the complex then, and who may put it.
+use Rattle.std.specs.Prelude.{◌≡◌, ℕ, Bool, true, false, [], slice_set}
+use Rattle.sd_page.specs.Page.{Page}
+use Rattle.sd_pagelock.specs.Directory.{DirectoryState, entry_at}
+use Rattle.sd_pagelock.specs.Rows.{may_write}
+use Rattle.sd_world.specs.Pages.{is_duty}
+use Rattle.sd_rig.specs.Devices as rig
+use Rattle.sd_chain.specs.Bytes.{disk_page}
+use Rattle.sd_chain.specs.Images.{Keeps}
+use Rattle.sd_coherent.specs.Named.{version_of}
+use Rattle.sd_sound.specs.Logs.{tails_of}
+use Rattle.sd_moves.specs.declared.putting.Unput.{Unput}
+use Rattle.sd_moves.specs.declared.putting.Unput.TheVariants as U
+use Rattle.sd_state.specs.Images.{log_by}
+use Rattle.sd_state.specs.Parts.{Parts, log_at}
+
+-- device 0 is settled, or it isn't
+abbrev pub with_loose_disk : Bool → Parts → Parts
+with_loose_disk loose c = record c { loose = slice_set c.loose 0 loose }
+
+-- device 0 is settled, and the directory is this one
+abbrev pub with_written : DirectoryState Page → Parts → Parts
+with_written places c = record (with_loose_disk false c) { directory = places }
+
+-- what a put that failed leaves: device 0 isn't settled once a write failed, or the sync before it
+abbrev pub left_after : Unput → Parts → Parts
+left_after U.Unread c = with_loose_disk false c
+left_after U.Unwritten c = with_loose_disk true c
+
+-- after a read that failed the devices read as before
+abbrev pub ReadsAfter : Unput → rig.Image → rig.Image → Type 0
+ReadsAfter U.Unread seen seen' = (d : ℕ) → seen' d ≡ seen d
+ReadsAfter U.Unwritten seen seen' = Unit {0}
+
+-- The page rests, changed, and the write is i's: it has the page alone, or is the writer. All of i's log is forced.
+pub record MayPut (p i : ℕ) (c : Parts) : Type 0 where
+  pub changed : may_write (entry_at c.directory p) ≡ true
+  pub duty : is_duty i (entry_at c.directory p) ≡ true
+  pub forced : (log_at c i).tail ≡ []
+
+-- Wherever logs begin, and whichever tails are kept, each page's newest version is the same over what device 0 reads then.
+abbrev pub SameVersions : rig.Image → rig.Image → Parts → Type 0
+SameVersions seen seen' c = (moved keeps : Keeps) (q : ℕ)
+    → version_of (tails_of (log_by c moved)) (disk_page (seen' 0)) keeps q
+    ≡ version_of (tails_of (log_by c moved)) (disk_page (seen 0)) keeps q
