@@ -1,0 +1,5 @@
+pub mod Begins
+pub mod Held
+pub mod Rows
+pub mod Lists
+pub mod Commits

@@ -1,0 +1,25 @@
+//! Transactions and their records: begun, read, changed, committed.
+//!
+//! Meaning: a call of an event promises `Serving` of sd_fits: from each world that the complex fits, it turns to one that it fits
+//! then, as the reply says.
+//! Keeps: nothing.
+//! Promises: each call answers as the serial table and the pages allow (`served`).
+//! Refuses: in the order of the causes of sd_model; `Memory` changes nothing.
+//! Knows nothing of: scripts, sessions, how a page comes to an instance.
+//! Stands on: sd_base, sd_model, sd_page, sd_logrec, sd_rig, sd_log, sd_pool, sd_txn, sd_reclock, sd_pagelock, sd_chain,
+//! sd_sound, sd_coherent, sd_world, sd_state, sd_fits.
+//! Held by the caller: that the complex fits a world.
+//!
+//! To change:
+//! - free: bodies, proofs
+//! - dear: nothing
+//! - frozen: nothing
+#![tactic(auto)]
+
+mod copies;
+mod listing;
+mod standing;
+mod transactions;
+
+pub use listing::list_page;
+pub use transactions::begin;

@@ -1,0 +1,214 @@
+-- What the world says of an ask: for the goals of asking.rt.
+use Rattle.std.proofs.Common.{◌≡◌, ℕ, ◌≤◌, Bool, true, false, cond, refl, sym, ap, ◌∙◌, inl}
+use Rattle.std.specs.Prelude.{◌||◌}
+use Rattle.sd_base.specs.declared.place.Mode.{Mode}
+use Rattle.sd_base.specs.declared.place.Mode.TheVariants as modes
+use Rattle.sd_base.specs.declared.refusal.Refusal.TheVariants as R
+use Rattle.sd_rig.specs.Devices.{Image}
+use Rattle.sd_model.specs.Applies.{Clear, Serves as Standing}
+use Rattle.sd_model.specs.Causes.{order}
+use Rattle.sd_model.specs.State.{State}
+use Rattle.sd_model.specs.declared.cause.Cause.{Cause}
+use Rattle.sd_model.specs.declared.event.Event.{Event}
+use Rattle.sd_model.specs.declared.event.Event.TheVariants.{Ask}
+use Rattle.sd_model.specs.declared.event.Reply.TheVariants as reply
+use Rattle.sd_pagelock.specs.Directory.{entry_at}
+use Rattle.sd_pagelock.specs.Places.{Entry, holds_as, is_free, is_lost, passes, receives, rests}
+use Rattle.sd_pagelock.specs.Rows.{locked, may_raise, raised}
+use Rattle.sd_pagelock.proofs.Uses.{free-is}
+use Rattle.sd_sound.specs.Logs.{Outcomes}
+use Rattle.sd_world.specs.Answers.{Fails, Gets, Queues}
+use Rattle.sd_world.specs.PageCauses.{IsLostFor, IsUnderWay, LacksFrame, NoneSays}
+use Rattle.sd_world.specs.Pages.{Pages, had, held, is_had, placed}
+use Rattle.sd_world.specs.Serving.{Core, Turns}
+use Rattle.sd_state.specs.Parts.{Parts, is_active}
+use Rattle.sd_fits.specs.Fits.{Fits}
+use Rattle.sd_fits.proofs.Places.{repaged, turns-repaged}
+use Rattle.sd_fits.proofs.Served.{none-ended}
+use Rattle.sd_transfer.specs.Asking.{MayAsk}
+use Rattle.sd_transfer.proofs.Refused.{IsFor, active-serves, idle-refuses, unlike}
+
+-- ---- places that an instance has so at once
+
+pub none-holds : (mode : Mode) (e : Entry) (i : ℕ) → e ≡ Entry.Free → holds_as mode e i ≡ false
+none-holds modes.Shared e i is = ap (λ (x : Entry). holds_as modes.Shared x i) is
+none-holds modes.Excl e i is = ap (λ (x : Entry). holds_as modes.Excl x i) is
+
+-- a page that it has so is in a pool
+pub has-pool : (mode : Mode) (e : Entry) (i : ℕ) → holds_as mode e i ≡ true → is_free e ≡ true → ⊥
+has-pool mode e i has free = unlike (none-holds mode e i (free-is e free)) has
+
+pub raise-pool : (e : Entry) (i : ℕ) → may_raise i e ≡ true → is_free e ≡ true → ⊥
+raise-pool e i may free = unlike {b = may_raise i e} (ap (may_raise i) (free-is e free)) may
+
+module _ (i p : ℕ) (mode : Mode) (w : Pages) where
+  abbrev e : Entry
+  e = w.entry p
+
+  abbrev pick : Bool → Entry → Pages
+  pick b to = cond {A = Pages} b w (placed p to w)
+
+  pub gets-held : holds_as mode e i ≡ true → Gets i p mode w w
+  gets-held has = (ap (λ (b : Bool). b || (is_free e || may_raise i e)) has, sym (ap (λ (b : Bool). pick b (had i mode e)) has))
+
+  pub gets-free : e ≡ Entry.Free → Gets i p mode w (placed p (locked i mode) w)
+  gets-free free =
+      let none : holds_as mode e i ≡ false = none-holds mode e i free in
+      let yes : is_free e ≡ true = ap is_free free in (
+        ap (λ (b : Bool). b || (is_free e || may_raise i e)) none ∙ ap (λ (b : Bool). b || may_raise i e) yes,
+        sym (ap (λ (b : Bool). pick b (cond {A = Entry} b e (cond {A = Entry} (is_free e) (locked i mode) (raised i e)))) none
+            ∙ ap (λ (b : Bool). placed p (cond {A = Entry} b (locked i mode) (raised i e)) w) yes),
+      )
+
+  pub gets-raised : holds_as mode e i ≡ false → is_free e ≡ false → may_raise i e ≡ true
+      → Gets i p mode w (placed p (raised i e) w)
+  gets-raised none pooled may = (
+    ap (λ (b : Bool). b || (is_free e || may_raise i e)) none ∙ ap (λ (b : Bool). b || may_raise i e) pooled ∙ may,
+    sym (ap (λ (b : Bool). pick b (cond {A = Entry} b e (cond {A = Entry} (is_free e) (locked i mode) (raised i e)))) none
+        ∙ ap (λ (b : Bool). placed p (cond {A = Entry} b (locked i mode) (raised i e)) w) pooled),
+  )
+
+  pub not-had : holds_as mode e i ≡ false → is_free e ≡ false → may_raise i e ≡ false → is_had i mode e ≡ false
+  not-had none pooled alone =
+      ap (λ (b : Bool). b || (is_free e || may_raise i e)) none ∙ ap (λ (b : Bool). b || may_raise i e) pooled ∙ alone
+
+-- a page of a pool that an instance has so, or may have alone at once, isn't read, and nobody is asked for it
+pub had-pool : (mode : Mode) (e : Entry) (i : ℕ) → (holds_as mode e i || may_raise i e) ≡ true → is_free e ≡ true → ⊥
+had-pool mode e i had free = unlike
+    (ap (λ (b : Bool). b || may_raise i e) (none-holds mode e i (free-is e free)) ∙ ap (may_raise i) (free-is e free)) had
+
+pub had-lacks : (mode : Mode) (e : Entry) (i : ℕ) → holds_as mode e i ≡ false → may_raise i e ≡ false
+    → (holds_as mode e i || may_raise i e) ≡ true → ⊥
+had-lacks mode e i lacks alone had = unlike (ap (λ (b : Bool). b || may_raise i e) lacks ∙ alone) had
+
+-- a page that is somewhere, and not on its way
+pub stays-there : (x : Entry) → is_free x ≡ false → is_lost x ≡ false → passes x ≡ false → rests x ≡ true
+stays-there Entry.Free pooled there still = absurd (cc)
+stays-there (Entry.Shared set writer) pooled there still = refl
+stays-there (Entry.Excl holder dirty) pooled there still = refl
+stays-there (Entry.Moving to mode rest dirty) pooled there still = absurd (cc)
+stays-there Entry.Lost pooled there still = absurd (cc)
+
+-- ---- causes
+
+module _ (seen : Image) (leaves : Outcomes) (c : Parts) (i p : ℕ) (mode : Mode) (low : 1 ≤ i) (high : i ≤ 8)
+    (w : Core) (f : Fits seen leaves c w) where
+  abbrev m : State
+  m = w.scene.state
+
+  abbrev event : Event
+  event = Ask i p mode
+
+  abbrev here : Entry
+  here = entry_at c.directory p
+
+  stands : is_active c i ≡ true → (Standing m event → ⊥) → ⊥
+  stands active none = none (active-serves seen leaves c w f i low high active)
+
+  found : is_lost here ≡ false → IsLostFor m w.pages event → ⊥
+  found is lost = unlike is (sym (ap is_lost (f.pages.entry p)) ∙ lost)
+
+  still : passes here ≡ false → IsUnderWay w.pages event → ⊥
+  still is moves = unlike is (sym (ap passes (f.pages.entry p)) ∙ moves)
+
+  pub down : is_active c i ≡ false → IsFor m w event R.Down Cause.Down
+  down idle = record {
+    waits = refl;
+    whom = tt;
+    unused = tt;
+    allowed = tt;
+    names = refl;
+    tells = tt;
+    first = (refl, (f.good.not_closed, tt), idle-refuses seen leaves c w f i low high idle);
+    refuses = refl;
+    passes = (tt, tt);
+    says = λ never. absurd (cc);
+    place = tt;
+    left = refl;
+  }
+
+  pub lost : is_active c i ≡ true → is_lost here ≡ true → IsFor m w event R.Lost Cause.Lost
+  lost active is = record {
+    waits = refl;
+    whom = tt;
+    unused = tt;
+    allowed = tt;
+    names = refl;
+    tells = tt;
+    first = (refl, (f.good.not_closed, (stands active, tt)), tt);
+    refuses = refl;
+    passes = (tt, (tt, tt));
+    says = λ yes. ap is_lost (f.pages.entry p) ∙ is;
+    place = tt;
+    left = refl;
+  }
+
+  pub moving : (to : ℕ) → is_active c i ≡ true → is_lost here ≡ false → passes here ≡ true → receives here to ≡ true
+      → IsFor m w event (R.MovingTo to) Cause.Moving
+  moving to active not_lost moves takes = record {
+    waits = refl;
+    whom = tt;
+    unused = tt;
+    allowed = tt;
+    names = refl;
+    tells = tt;
+    first = (refl, (f.good.not_closed, (stands active, (tt, tt))), tt);
+    refuses = refl;
+    passes = (tt, (tt, (found not_lost, tt)));
+    says = λ yes. ap passes (f.pages.entry p) ∙ moves;
+    place = ap (λ (x : Entry). receives x to) (f.pages.entry p) ∙ takes;
+    left = refl;
+  }
+
+  -- the page may be asked for
+  module _ (may : MayAsk c i p) where
+    pub full : is_free here ≡ true → w.pages.frames ≤ held w.pages.entry i 1024 → IsFor m w event R.PoolFull Cause.Frame
+    full free all = record {
+      waits = refl;
+      whom = tt;
+      unused = tt;
+      allowed = tt;
+      names = refl;
+      tells = tt;
+      first = (refl, (f.good.not_closed, (stands may.active, (tt, (tt, tt)))), tt);
+      refuses = refl;
+      passes = (tt, (tt, (found may.found, (still may.still, tt))));
+      says = λ yes. (ap is_free (f.pages.entry p) ∙ free, all);
+      place = tt;
+      left = refl;
+    }
+
+    module _ (room : LacksFrame w.pages event → ⊥) where
+      pub failed : IsFor m w event R.Failed Cause.Rig
+      failed = record {
+        waits = refl;
+        whom = tt;
+        unused = tt;
+        allowed = tt;
+        names = refl;
+        tells = tt;
+        first = (refl, (f.good.not_closed, (stands may.active, (tt, (tt, (tt, tt))))), tt);
+        refuses = inl refl;
+        passes = (tt, (tt, (found may.found, (still may.still, (room, tt)))));
+        says = λ never. absurd (cc);
+        place = tt;
+        left = Fails.stays refl refl;
+      }
+
+      clear : Clear m event
+      clear = (f.good.not_closed, (stands may.active, (tt, (tt, (tt, (tt, tt))))))
+
+      none : NoneSays m w.pages event (order event)
+      none = (tt, (tt, (found may.found, (still may.still, (room, (tt, tt))))))
+
+      -- the instance has the page then
+      pub have-turns : (pages : Pages) → Gets i p mode w.pages pages → Turns w event reply.Have (repaged w pages event reply.Have)
+      have-turns pages gets = turns-repaged w pages event reply.Have (clear, refl) (λ t. sym
+          (none-ended seen leaves c w f t)) tt tt
+          (none, gets) tt
+
+      -- or has asked another for it
+      pub asked-turns : (of : ℕ) (pages : Pages) → Queues i p mode of w.pages pages
+          → Turns w event (reply.Asked of) (repaged w pages event (reply.Asked of))
+      asked-turns of pages queues = turns-repaged w pages event (reply.Asked of) (clear, refl)
+          (λ t. sym (none-ended seen leaves c w f t)) tt tt (none, queues) tt

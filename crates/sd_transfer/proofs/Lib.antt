@@ -1,0 +1,4 @@
+pub mod Refused
+pub mod Evicted
+pub mod Asked
+pub mod Fetched

@@ -1,0 +1,127 @@
+use Rattle.std.proofs.Common.{◌≡◌, ℕ, ◌∙◌, ap, subst, sym}
+use Rattle.std.specs.Prelude.{Option, Result, Err}
+use Rattle.std.proofs.lemmas.Result.{err_from_is_err_and}
+use Rattle.sd_base.specs.declared.refusal.Refusal.{Refusal}
+use Rattle.sd_base.specs.declared.refusal.Refusal.TheVariants as R
+use Rattle.sd_state.specs.Complexes.{parts}
+use Rattle.sd_transfer.specs.Asking.{IsUnserved}
+use Rattle.sd_fits.specs.Serving.{Serving}
+use Rattle.sd_model.specs.declared.event.Event.TheVariants.{Ask}
+use Rattle.sd_pagelock.specs.Directory.{DirectoryState, entry_at}
+use Rattle.sd_pagelock.specs.Places.{Entry, Formed, holds_as, is_free, is_lost, passes}
+use Rattle.sd_pagelock.specs.Rows.{may_raise}
+use Rattle.sd_pagelock.proofs.Uses.{free-is}
+use Rattle.sd_world.specs.Pages.{answerer}
+use Rattle.sd_world.specs.Serving.{answered, had_or_asked, telling}
+use Rattle.sd_transfer.proofs.Asked.{had-lacks, had-pool, stays-there}
+use Rattle.sd_transfer.proofs.Fetched.{ask-refused, ask-spared, has-served, queued-served, raised-served, unchanged-here}
+use Rattle.sd_transfer.proofs.Fetched.{unchanged-to}
+use Rattle.sd_transfer.proofs.asking.ask.Goals as goal
+
+err-same : (r : Result (Option ℕ) Refusal) (a b : Refusal) → r ≡ Err a → r ≡ Err b → a ≡ b
+err-same r a b is so = cc
+
+pub returns-in_err-place-clause-served : goal.returns-in_err-place-clause-served
+returns-in_err-place-clause-served g c =
+    let old = c.args.c.now in
+    let tell = telling g.G.Rig.seen g.G.Rig.leaves g.G.Rig.moment g.G.Rig.since g.G.Rig.faults in
+    let p = err_from_is_err_and c.from_residual.result c.from_residual.ensures.1 in
+    subst (λ (r : Result (Option ℕ) Refusal). Serving tell (Ask c.args.i c.args.p c.args.mode) (answered had_or_asked r) old old)
+    (sym (p.1 ∙ ap (λ (n : Refusal). Err n) p.2))
+    (ask-refused tell old c.args.i c.args.p c.args.mode c.instances.ensures.low c.instances.ensures.high
+    (λ img since. g.met.G.Rig.only_now old.rig img since) c.in_err-place.field-0.0 c.in_err-place.ensures.refused)
+
+pub returns-then-holds_as-clause-served : goal.returns-then-holds_as-clause-served
+returns-then-holds_as-clause-served g c =
+    let old = c.args.c.now in
+    let tell = telling g.G.Rig.seen g.G.Rig.leaves g.G.Rig.moment g.G.Rig.since g.G.Rig.faults in
+    has-served tell old c.args.i c.args.p c.args.mode c.instances.ensures.low c.instances.ensures.high
+    (λ img since. g.met.G.Rig.only_now old.rig img since) c.in_ok-place.ensures.may
+    (ap (λ (e : Entry). holds_as c.args.mode e c.args.i) (sym c.in_ok-place.ensures.place)
+    ∙ sym c.holds_as.ensures ∙ c.if-holds_as.true)
+
+pub fetch-requires-clause-free : goal.fetch-requires-clause-free
+fetch-requires-clause-free g c = sym c.in_ok-place.ensures.place
+    ∙ free-is _ (sym c.is_free.ensures ∙ c.if-is_free.true)
+
+pub returns-then-may_raise-clause-served : goal.returns-then-may_raise-clause-served
+returns-then-may_raise-clause-served g c =
+    let old = c.args.c.now in
+    let tell = telling g.G.Rig.seen g.G.Rig.leaves g.G.Rig.moment g.G.Rig.since g.G.Rig.faults in
+    let at = sym c.in_ok-place.ensures.place in
+    let raised = c.raise.ensures in
+    raised-served tell old c.args.i c.args.p c.args.mode c.instances.ensures.low c.instances.ensures.high
+    (λ img since. g.met.G.Rig.only_now old.rig img since) c.in_ok-place.ensures.may
+    (ap (λ (e : Entry). holds_as c.args.mode e c.args.i) at ∙ sym c.holds_as.ensures ∙ c.if-holds_as.false)
+    (ap is_free at ∙ sym c.is_free.ensures ∙ c.if-is_free.false)
+    c.raise.new.c raised.rig raised.parts raised.good
+    (ap (may_raise c.args.i) at ∙ sym c.may_raise.ensures ∙ c.if-may_raise.true) raised.place
+
+pub returns-then-may_raise-clause-still : goal.returns-then-may_raise-clause-still
+returns-then-may_raise-clause-still g c =
+    let rig = c.args.c.now.rig in
+    let tell = telling g.G.Rig.seen g.G.Rig.leaves g.G.Rig.moment g.G.Rig.since g.G.Rig.faults in
+    unchanged-to tell rig rig c.raise.new.c.rig c.raise.ensures.rig (unchanged-here tell rig)
+
+pub answerer-of-requires-clause-formed : goal.answerer-of-requires-clause-formed
+answerer-of-requires-clause-formed g c = subst Formed (sym c.in_ok-place.ensures.place)
+    (subst (λ (d : DirectoryState _). Formed (entry_at d c.args.p)) c.directory.ensures (c.keeps.ensures.formed c.args.p))
+
+pub answerer-of-requires-clause-rests : goal.answerer-of-requires-clause-rests
+answerer-of-requires-clause-rests g c =
+    let at = c.in_ok-place.ensures.place in
+    let may = c.in_ok-place.ensures.may in
+    stays-there _ (sym c.is_free.ensures ∙ c.if-is_free.false) (ap is_lost at ∙ may.found) (ap passes at ∙ may.still)
+
+pub returns-in_err-queue_ask-clause-served : goal.returns-in_err-queue_ask-clause-served
+returns-in_err-queue_ask-clause-served g c =
+    let old = c.args.c.now in
+    let tell = telling g.G.Rig.seen g.G.Rig.leaves g.G.Rig.moment g.G.Rig.since g.G.Rig.faults in
+    let p = err_from_is_err_and c.from_residual-in_err-queue_ask.result c.from_residual-in_err-queue_ask.ensures.1 in
+    let at = sym c.in_ok-place.ensures.place in
+    let queue = c.queue_ask.ensures in
+    subst (λ (r : Result (Option ℕ) Refusal). Serving tell (Ask c.args.i c.args.p c.args.mode) (answered had_or_asked r) old
+    c.queue_ask.new.c)
+    (sym (p.1 ∙ ap (λ (n : Refusal). Err n) p.2))
+    (ask-spared tell old c.args.i c.args.p c.args.mode c.instances.ensures.low c.instances.ensures.high
+    (λ img since. g.met.G.Rig.only_now old.rig img since) c.in_ok-place.ensures.may
+    (ap (λ (e : Entry). holds_as c.args.mode e c.args.i) at ∙ sym c.holds_as.ensures ∙ c.if-holds_as.false)
+    (ap is_free at ∙ sym c.is_free.ensures ∙ c.if-is_free.false)
+    c.queue_ask.new.c queue.rig queue.parts queue.good c.in_err-queue_ask.ensures.stays)
+
+pub returns-clause-served : goal.returns-clause-served
+returns-clause-served g c =
+    let old = c.args.c.now in
+    let tell = telling g.G.Rig.seen g.G.Rig.leaves g.G.Rig.moment g.G.Rig.since g.G.Rig.faults in
+    let at = sym c.in_ok-place.ensures.place in
+    let queue = c.queue_ask.ensures in
+    queued-served tell old c.args.i c.args.p c.args.mode c.instances.ensures.low c.instances.ensures.high
+    (λ img since. g.met.G.Rig.only_now old.rig img since) c.in_ok-place.ensures.may
+    (ap (λ (e : Entry). holds_as c.args.mode e c.args.i) at ∙ sym c.holds_as.ensures ∙ c.if-holds_as.false)
+    (ap is_free at ∙ sym c.is_free.ensures ∙ c.if-is_free.false)
+    c.queue_ask.new.c queue.rig queue.parts queue.good
+    (ap (may_raise c.args.i) at ∙ sym c.may_raise.ensures ∙ c.if-may_raise.false) c.answerer-of.result
+    (c.answerer-of.ensures ∙ ap (answerer c.args.i) (sym at)) c.in_ok-queue_ask.ensures.asks
+
+pub returns-clause-still : goal.returns-clause-still
+returns-clause-still g c =
+    let rig = c.args.c.now.rig in
+    let tell = telling g.G.Rig.seen g.G.Rig.leaves g.G.Rig.moment g.G.Rig.since g.G.Rig.faults in
+    unchanged-to tell rig rig c.queue_ask.new.c.rig c.queue_ask.ensures.rig (unchanged-here tell rig)
+
+pub returns-in_err-place-clause-there : goal.returns-in_err-place-clause-there
+returns-in_err-place-clause-there g c had is =
+    let p = err_from_is_err_and c.from_residual.result c.from_residual.ensures.1 in
+    let same : p.0 ≡ R.Memory = err-same c.from_residual.result p.0 R.Memory p.1 is in
+    subst (λ (n : Refusal). IsUnserved (parts c.args.c.now) c.args.i c.args.p n) (sym p.2 ∙ same) c.in_err-place.ensures.refused
+
+pub returns-in_err-fetch-clause-there : goal.returns-in_err-fetch-clause-there
+returns-in_err-fetch-clause-there g c had is = had-pool c.args.mode _ c.args.i had
+    (ap is_free (sym c.in_ok-place.ensures.place) ∙ sym c.is_free.ensures ∙ c.if-is_free.true)
+
+pub returns-in_err-queue_ask-clause-there : goal.returns-in_err-queue_ask-clause-there
+returns-in_err-queue_ask-clause-there g c had is =
+    let at = sym c.in_ok-place.ensures.place in
+    had-lacks c.args.mode _ c.args.i
+    (ap (λ (e : Entry). holds_as c.args.mode e c.args.i) at ∙ sym c.holds_as.ensures ∙ c.if-holds_as.false)
+    (ap (may_raise c.args.i) at ∙ sym c.may_raise.ensures ∙ c.if-may_raise.false) had

@@ -1,0 +1,28 @@
+use Rattle.std.proofs.Common.{◌∙◌, ap, subst, sym}
+use Rattle.std.specs.Prelude.{Result, Err}
+use Rattle.std.proofs.lemmas.Result.{err_from_is_err_and}
+use Rattle.sd_base.specs.declared.refusal.Refusal.{Refusal}
+use Rattle.sd_fits.specs.Serving.{Serving}
+use Rattle.sd_model.specs.declared.event.Event.TheVariants.{Evict}
+use Rattle.sd_world.specs.Serving.{did, telling}
+use Rattle.sd_transfer.proofs.Evicted.{evict-refused, evicted}
+use Rattle.sd_transfer.proofs.evicting.evict.Goals as goal
+
+pub returns-in_err-may_go-clause-served : goal.returns-in_err-may_go-clause-served
+returns-in_err-may_go-clause-served g c =
+    let old = c.args.c.now in
+    let tell = telling g.G.Rig.seen g.G.Rig.leaves g.G.Rig.moment g.G.Rig.since g.G.Rig.faults in
+    let p = err_from_is_err_and c.from_residual.result c.from_residual.ensures.1 in
+    subst (λ (r : Result (Unit {0}) Refusal). Serving tell (Evict c.args.i c.args.p) (did r) old old)
+    (sym (p.1 ∙ ap (λ (n : Refusal). Err n) p.2))
+    (evict-refused tell old c.args.i c.args.p c.instances.ensures.low c.instances.ensures.high
+    (λ img since. g.met.G.Rig.only_now old.rig img since) c.in_err-may_go.field-0.0 c.in_err-may_go.ensures.refused)
+
+pub returns-clause-served : goal.returns-clause-served
+returns-clause-served g c =
+    let old = c.args.c.now in
+    let tell = telling g.G.Rig.seen g.G.Rig.leaves g.G.Rig.moment g.G.Rig.since g.G.Rig.faults in
+    let drop = c.drop_copy.ensures in
+    evicted tell old c.args.i c.args.p c.instances.ensures.low c.instances.ensures.high
+    (λ img since. g.met.G.Rig.only_now old.rig img since) c.drop_copy.new.c drop.rig drop.parts drop.place drop.good
+    c.in_ok-may_go.ensures.active c.in_ok-may_go.ensures.spare

@@ -1,0 +1,26 @@
+//! Pages between instances: asked for, given, taken, evicted.
+//!
+//! Meaning: each call is an event of the serial table, and serves it as `Serving` of sd_fits says.
+//! Keeps: nothing.
+//! Promises: from each world that the complex fits, the answer leads to one that it fits then (`evicting.rt`, `asking.rt`). An
+//! eviction calls no device, and an ask reads alone.
+//! Refuses: what the order of the event's causes says, the first that applies; `Memory` changes nothing that a world tells.
+//! Knows nothing of: whose turn it is, what is noted of an answer.
+//! Stands on: sd_base, sd_model, sd_page, sd_rig, sd_pagelock, sd_pool, sd_chain, sd_coherent, sd_sound,
+//! sd_world, sd_state, sd_fits, sd_moves.
+//! Lends: in `proofs`, how a refusal for what instances and pages say is served (`Refused`).
+//! Held by the caller: that no fall is due, which `Fits` says.
+//!
+//! To change:
+//! - free: bodies, proofs
+//! - dear: nothing
+//! - frozen: nothing
+#![tactic(auto)]
+
+mod asking;
+mod evicting;
+mod laws;
+mod standing;
+
+pub use asking::ask;
+pub use evicting::evict;
