@@ -1,8 +1,13 @@
 -- A change of a record: how the complex goes on fitting. For the calls on records.
-use Rattle.std.proofs.Common.{◌≡◌, ◌≢◌, ◌⊎◌, inl, inr, ⊎_elim, ℕ, zero, suc, ◌+◌, ◌^◌, ◌<◌, ◌≤◌, Bool, true, false, cond, eqb, eq-eqb, List, [], ◌∷◌, ◌++◌, length, filter, map, max, refl, sym, ap, ◌∙◌, subst, arith, length-append}
+use Rattle.std.proofs.Common.{◌≡◌, ◌≢◌, ◌⊎◌, inl, inr, ⊎_elim, ℕ, zero, suc, ◌+◌, ◌^◌, ◌<◌, ◌≤◌, Bool, true, false, cond, eqb}
+use Rattle.std.proofs.Common.{eq-eqb, ◌||◌, List, [], ◌∷◌, ◌++◌, append-nil, length, filter, map, max, refl, sym, ap, ◌∙◌, subst}
+use Rattle.std.proofs.Common.{arith, length-append}
 use Rattle.std.specs.Prelude.{Option, None, IsSome, option_and_then, is_some}
+use Rattle.std.specs.List.{list_any}
 use Rattle.std.specs.Option.{option_map_or}
 use Rattle.std.proofs.lemmas.Bool.{cases_Bool, cases_eq, ne_eqb}
+use Rattle.std.proofs.lemmas.List.{map-append}
+use Rattle.std.proofs.lemmas.List.Folds.{list_any-append}
 use Rattle.sd_base.specs.Values.{size}
 use Rattle.sd_base.specs.declared.ids.Rid.{Rid}
 use Rattle.sd_base.specs.declared.ids.TxnId.{TxnId}
@@ -10,7 +15,7 @@ use Rattle.sd_base.specs.declared.place.Status.TheVariants as S
 use Rattle.sd_base.proofs.SameIds.{cases_txn}
 use Rattle.sd_logrec.specs.Kept.{spelled}
 use Rattle.sd_logrec.specs.Spelling.{spelling}
-use Rattle.sd_logrec.specs.View.{Rec}
+use Rattle.sd_logrec.specs.View.{Rec, flat}
 use Rattle.sd_logrec.specs.declared.record.Record.{Record}
 use Rattle.sd_logrec.proofs.Lengths.{length-spelling}
 use Rattle.sd_log.specs.Logs.{LogState, forced, forced_with, last_lsn, scanned, tail_len, with_record}
@@ -35,12 +40,14 @@ use Rattle.sd_txn.specs.Transactions.{Transaction, Transactions, span_at, txn_at
 use Rattle.sd_chain.specs.Bytes.{disk_page}
 use Rattle.sd_chain.specs.Checks.{reserve}
 use Rattle.sd_chain.specs.Cuts.{cut}
+use Rattle.sd_chain.specs.Fates.{commits}
 use Rattle.sd_chain.specs.Images.{Keeps, Tails, all_kept, with_disk}
 use Rattle.sd_chain.specs.Pages.{redo, write}
 use Rattle.sd_chain.specs.Records.{IsOpen, Val, home, of_page}
 use Rattle.sd_chain.proofs.Cuts.{newest-by_page}
 use Rattle.sd_chain.proofs.Lists.{Each-weaker}
 use Rattle.sd_chain.proofs.Newest.{newest-other}
+use Rattle.sd_chain.proofs.Slots.{length-write}
 use Rattle.sd_coherent.specs.Coherent.{Quiet}
 use Rattle.sd_coherent.specs.Named.{version_of}
 use Rattle.sd_coherent.proofs.Cases.{by_seat, none_some}
@@ -59,16 +66,17 @@ use Rattle.sd_state.specs.Laws.{newest_of}
 use Rattle.sd_state.specs.Parts.{Parts, is_loose, log_at, no_log, no_pool, no_txns, other_at, owed_at, pool_at, status_at, txns_at, up_as}
 use Rattle.sd_state.specs.Sums.{great_of, most_to, owed_in_all, owes_most, sum_to}
 use Rattle.sd_state.specs.Tables.{tells_log}
-use Rattle.sd_state.specs.Values.{Pending}
+use Rattle.sd_state.specs.Values.{Pending, is_committed}
 use Rattle.sd_state.proofs.ChangeCalls.{most-at, owed-more, reserve-more}
 use Rattle.sd_state.proofs.ChangedRows.{open-more}
 use Rattle.sd_state.proofs.ChangeLsns.{image-low}
 use Rattle.sd_state.proofs.Items.{item-kept, item-set}
 use Rattle.sd_state.proofs.Lasts.{last-more}
 use Rattle.sd_state.proofs.Standing.{one-place}
-use Rattle.sd_fits.specs.Fits.{AreWithin, Fits, FitsBounds, FitsPages, ReachesAtMost, capacities}
+use Rattle.sd_fits.specs.Fits.{AreWithin, Fits, FitsBounds, FitsDoubts, FitsPages, ReachesAtMost, capacities}
+use Rattle.sd_fits.proofs.Doubts.{HadCommit, commits-more, doubts-on}
 use Rattle.sd_fits.proofs.Served.{bounds-stay}
-use Rattle.sd_fits.proofs.Taking.{GoesOnAs}
+use Rattle.sd_fits.proofs.Taking.{GoesOnAs, on-stays}
 
 -- ---- capacities of slots
 
@@ -85,6 +93,17 @@ caps-new [] c v [] within = (omega arith, tt)
 caps-new [] c v (b ∷ bounds) within = (omega arith, tt)
 caps-new (x ∷ xs) c v [] within = elim within [ ]
 caps-new (x ∷ xs) c v (b ∷ bounds) within = (within.0, caps-new xs c v bounds within.1)
+
+-- who is committed without a tail is it with it
+front-commits : (u : TxnId) (base tail : List Rec) (kept : Bool) → list_any (commits u) (base ++ cond kept tail []) ≡ true
+    → list_any (commits u) (base ++ tail) ≡ true
+front-commits u base tail true has = has
+front-commits u base tail false has = list_any-append (commits u) base tail
+    ∙ front (list_any (commits u) base) (list_any (commits u) tail) (ap (list_any (commits u)) (sym (append-nil base)) ∙ has)
+  where
+    front : (a b : Bool) → a ≡ true → (a || b) ≡ true
+    front true b e = refl
+    front false b e = absurd (cc)
 
 -- ---- numbers
 
@@ -270,6 +289,59 @@ module _ (k : Change) (seen : Image) (leaves : Outcomes) (c after : Parts) (m' :
       version-redone : (keeps : Keeps) → keeps i ≡ true → version_of is disk keeps p ≡ redo image y
       version-redone keeps on = tails-agree (may_of left_then) (base_of seen left_then (log_by new moved) new) (dir_of new) h.coherent keeps all_kept p
           (lone keeps on) ∙ sym redone-is
+
+      -- ---- those in doubt
+
+      -- the record commits nobody
+      commits-was : (keeps : Keeps) (u : TxnId) → is_committed (kept_logs is keeps) u ≡ is_committed (kept_logs was keeps) u
+      commits-was keeps u = ⊎_elim
+          (λ e. subst (λ (j : ℕ). list_any (commits u) (kept_logs is keeps j) ≡ list_any (commits u) (kept_logs was keeps j))
+          (sym e)
+          (ap (λ (l : LogState). list_any (commits u) (base_at l ++ cond (keeps i) (tail_at l) [])) (here-by moved)
+          ∙ ap (λ (t : List Rec). list_any (commits u) (base_at (log_by c moved i) ++ cond (keeps i) t []))
+          (map-append flat (log_by c moved i).tail (update k ∷ []))
+          ∙ commits-more u (base_at (log_by c moved i)) (tail_at (log_by c moved i)) y (keeps i) refl))
+          (λ ne. ap (λ (l : LogState). list_any (commits u) (base_at l ++ cond (keeps (home u)) (tail_at l) []))
+          (else-by moved (home u) ne))
+          (cases_eq (home u) i)
+
+      -- who is committed where some tails are dropped is it with all of them
+      all-commits : (keeps : Keeps) (u : TxnId) → is_committed (kept_logs was keeps) u ≡ true
+          → is_committed (kept_logs was all_kept) u ≡ true
+      all-commits keeps u = front-commits u (base_at (log_by c moved (home u))) (tail_at (log_by c moved (home u)))
+          (keeps (home u))
+
+      had-commit : (keeps : Keeps) (u : TxnId) → is_committed (kept_logs is keeps) u ≡ true → (q : ℕ)
+          → HadCommit seen c moved u q (length (version_of is disk keeps q).slots)
+      had-commit keeps u has q = ⊎_elim
+          (λ on. ⊎_elim
+          (λ same. record {
+            keeps = all_kept;
+            commits = all-commits keeps u (sym (commits-was keeps u) ∙ has);
+            slots =
+                let longer = (length-write image.slots k.rid.slot k.capacity k.after).0 in
+                let old = ap (λ (z : Page). length z.slots) image-is
+                ∙ ap (λ (n : ℕ). length (version_of was disk all_kept n).slots) (sym same) in
+                let new_is = ap (λ (n : ℕ). length (version_of is disk keeps n).slots) same
+                ∙ ap (λ (z : Page). length z.slots) (version-redone keeps on) in
+                omega (arith, longer, old, new_is);
+          })
+          (λ ne. record {
+            keeps = keeps;
+            commits = sym (commits-was keeps u) ∙ has;
+            slots = let same = ap (λ (z : Page). length z.slots) (version-else keeps on q ne) in omega (arith, same);
+          })
+          (cases_eq q p))
+          (λ off. record {
+            keeps = keeps;
+            commits = sym (commits-was keeps u) ∙ has;
+            slots = let same = ap (λ (z : Page). length z.slots) (version-without keeps off q) in omega (arith, same);
+          })
+          (cases_Bool (keeps i))
+
+    doubts-fit : GoesOnAs w.scene.state m' → FitsDoubts seen new m'
+    doubts-fit on = doubts-on seen seen c new w.scene.state m' f.doubts (on-stays w.scene.state m' on)
+        (λ moved keeps u doubt has q. had-commit moved keeps u has q)
 
     -- ---- pages
 
@@ -506,6 +578,7 @@ module _ (k : Change) (seen : Image) (leaves : Outcomes) (c after : Parts) (m' :
         put = put-then on puts;
         pages = pages-fit frames;
         bounds = bounds-fit;
+        doubts = doubts-fit on;
       })
 
 -- ---- a change that finds no room, or no LSN

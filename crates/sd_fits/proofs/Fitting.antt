@@ -98,6 +98,7 @@ module _ (leaves : Outcomes) (seen : rig.Image) (frames : ℕ) (c : Parts) (devi
     put = λ t none. absurd none;
     pages = pages-there;
     bounds = bounds-there;
+    doubts = λ moved keeps t doubt commits. absurd (cc);
   }
 
 pub fresh-fits : (leaves : Outcomes) → FreshFits leaves

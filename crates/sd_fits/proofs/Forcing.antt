@@ -32,7 +32,8 @@ use Rattle.sd_state.proofs.Lasts.{last-forced}
 use Rattle.sd_state.proofs.Standing.{one-place}
 use Rattle.sd_world.specs.Bounds.{Bounds}
 use Rattle.sd_world.specs.Pages.{Pages}
-use Rattle.sd_fits.specs.Fits.{AreWithin, FitsBounds, FitsPages, ReachesAtMost, capacities}
+use Rattle.sd_fits.specs.Fits.{AreWithin, FitsBounds, FitsDoubts, FitsPages, ReachesAtMost, capacities}
+use Rattle.sd_fits.proofs.Doubts.{doubts-kept, same-doubts}
 use Rattle.sd_moves.proofs.FallBounds.{sum-less, told-most}
 
 -- ---- versions that see the same records
@@ -180,6 +181,14 @@ module _ (i owes : ℕ) (seen seen' : rig.Image) (leaves leaves' : Outcomes) (pe
     masters = f.masters;
   }
 
+  pub forced-doubts : (s : State) → FitsDoubts seen c s → FitsDoubts seen' new s
+  forced-doubts s d = doubts-kept seen seen' c new s s d (same-doubts s) (kept_at i true)
+      (λ moved keeps j. kept-by (log_by c moved) (log_by new moved) (here-by moved) (else-by moved) keeps j)
+      (λ moved keeps p. versions-same (tails_of (log_by c moved)) (tails_of (log_by new moved)) (disk_page (seen 0))
+      (disk_page (seen' 0))
+      (kept_at i true keeps) keeps p (kept-by (log_by c moved) (log_by new moved) (here-by moved) (else-by moved) keeps)
+      page-same)
+
 -- ---- a force that fails
 
 -- The force of log i, which was settled, failed: the log is as it was, and owes what it owes either way.
@@ -226,3 +235,7 @@ module _ (a i : ℕ) (seen seen' : rig.Image) (leaves leaves' : Outcomes) (pend 
         (sum-less (owes_most failed) (owes_most c) 8 (λ j lo hi. owes-failed j lo)) f.lsns;
     masters = f.masters;
   }
+
+  pub failed-doubts : (s : State) → FitsDoubts seen c s → FitsDoubts seen' failed s
+  failed-doubts s d = doubts-kept seen seen' c failed s s d (same-doubts s) (λ keeps. keeps) (λ moved keeps j. refl)
+      (λ moved keeps p. ap (λ (bytes : List ℕ). version_of (tails_of (log_by c moved)) (disk_page bytes) keeps p) disk)

@@ -31,7 +31,8 @@ use Rattle.sd_state.specs.Values.{Pending}
 use Rattle.sd_state.specs.Working.{with_working}
 use Rattle.sd_state.proofs.Items.{item-kept, item-set}
 use Rattle.sd_state.proofs.WorkingGood.{working-settled}
-use Rattle.sd_fits.specs.Fits.{Fits, FitsBounds, FitsPages}
+use Rattle.sd_fits.specs.Fits.{Fits, FitsBounds, FitsDoubts, FitsPages}
+use Rattle.sd_fits.proofs.Doubts.{doubts-kept, part-stays}
 use Rattle.sd_fits.proofs.Served.{ended-wait}
 use Rattle.sd_fits.proofs.Worked.{worked-bounds, worked-pages}
 
@@ -83,7 +84,8 @@ pub record Leaves (t : TxnId) (seen : Image) (leaves : Outcomes) (pend : Pending
 
 module _ (t : TxnId) (seen seen' : Image) (leaves leaves' : Outcomes) (pend : Pending) (c mid new : Parts) (w : Core) (m' : State) (b' : Bounds)
     (f : Fits seen leaves c w) (l : Leaves t seen' leaves' pend c mid new w.scene.state m')
-    (pages : FitsPages seen' leaves' mid w.pages) (bounds : FitsBounds seen' mid b') where
+    (pages : FitsPages seen' leaves' mid w.pages) (bounds : FitsBounds seen' mid b')
+    (doubts : FitsDoubts seen' mid w.scene.state) where
   abbrev m : State
   m = w.scene.state
 
@@ -157,4 +159,7 @@ module _ (t : TxnId) (seen seen' : Image) (leaves leaves' : Outcomes) (pend : Pe
         (worked-pages made.txns new.locks seen' leaves' mid w.pages pages);
     bounds = subst (λ (p : Parts). FitsBounds seen' p b') (sym l.is)
         (worked-bounds made.txns new.locks seen' leaves' mid b' owes bounds);
+    doubts = subst (λ (p : Parts). FitsDoubts seen' p m') (sym l.is)
+        (doubts-kept seen' seen' mid made m m' doubts (part-stays t gone m m' refl l.part) (λ keeps. keeps)
+        (λ moved keeps j. refl) (λ moved keeps p. refl));
   }

@@ -1,3 +1,4 @@
+pub mod Doubts
 pub mod Fitting
 pub mod Served
 pub mod Heads
@@ -13,3 +14,7 @@ pub mod Leaving
 pub mod Looking
 pub mod Taking
 pub mod Changing
+pub mod Falling
+pub mod Refused
+pub mod Putting
+pub mod Room

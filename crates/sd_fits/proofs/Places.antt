@@ -37,6 +37,7 @@ use Rattle.sd_state.specs.declared.complex.Complex.{Complex}
 use Rattle.sd_state.proofs.Items.{item-kept, item-set}
 use Rattle.sd_fits.specs.Fits.{AreWithin, Fits, FitsBounds, FitsPages, capacities}
 use Rattle.sd_fits.specs.Serving.{fits_by, stands_for}
+use Rattle.sd_fits.proofs.Doubts.{doubts-kept, same-doubts}
 use Rattle.sd_fits.proofs.Served.{fits-left}
 
 -- the world after a call that leaves the state and the waits: its pages are these, and the sums are those after the event
@@ -80,6 +81,7 @@ module _ (pools : List Buffers) (places : DirectoryState Page) (seen : rig.Image
     put = f.put;
     pages = there;
     bounds = record { slots = b.slots; reach = b.reach; lsns = b.lsns; masters = b.masters };
+    doubts = f.doubts;
   }
 
   module _ (frames : (j : ℕ) → (pool_at turned j).frames ≡ (pool_at c j).frames) where
@@ -169,6 +171,10 @@ module _ {G : Type 0} (tell : Telling G) (old new : G)
           lsns = b.lsns;
           masters = b.masters;
         };
+    doubts = doubts-kept (tell.seen old) (tell.seen new) c c w.scene.state w.scene.state f.doubts (same-doubts w.scene.state)
+        (λ keeps. keeps)
+        (λ moved keeps j. refl)
+        (λ moved keeps q. ap (λ (bytes : List ℕ). version_of (tails_of (log_by c moved)) (disk_page bytes) keeps q) (u.reads 0));
   }
 
 -- ---- the call of an event

@@ -1,11 +1,14 @@
 -- A record of no page comes to a log: how pages and sums go on fitting. For the calls that put a Commit, an End, a Start or a
 -- record of a checkpoint.
-use Rattle.std.proofs.Common.{◌≡◌, ◌≢◌, ⊎_elim, ℕ, zero, suc, eqb, ◌+◌, ◌-◌, ◌≤◌, Bool, true, false, cond, ◌&&◌, List, [], ◌∷◌, ◌++◌, length, max, slice_set, append-nil, refl, sym, ap, ◌∙◌, subst, arith}
-use Rattle.std.specs.Prelude.{None, filter}
+use Rattle.std.proofs.Common.{◌≡◌, ◌≢◌, ⊎_elim, ℕ, zero, suc, eqb, ◌+◌, ◌-◌, ◌≤◌, Bool, true, false, cond, ◌&&◌, ◌||◌, List, []}
+use Rattle.std.proofs.Common.{◌∷◌, ◌++◌, length, max, slice_set, append-nil, refl, sym, ap, ◌∙◌, subst, arith}
+use Rattle.std.specs.Prelude.{None, filter, map}
+use Rattle.std.specs.List.{list_any}
 use Rattle.std.specs.Option.{option_map_or}
-use Rattle.std.proofs.lemmas.Bool.{cases_eq}
+use Rattle.std.proofs.lemmas.Bool.{cases_Bool, cases_eq}
 use Rattle.std.proofs.lemmas.List.{length-append, map-append}
 use Rattle.std.proofs.lemmas.List.Elements.{filter-append}
+use Rattle.std.proofs.lemmas.List.Folds.{list_any-append}
 use Rattle.sd_log.specs.Logs.{LogState, forced, forced_with, last_lsn, scanned, tail_len, with_record}
 use Rattle.sd_log.proofs.Parted.{spelled-more}
 use Rattle.sd_logrec.specs.Kept.{spelled}
@@ -13,16 +16,24 @@ use Rattle.sd_logrec.specs.Spelling.{spelling}
 use Rattle.sd_logrec.specs.View.{Rec, flat}
 use Rattle.sd_logrec.specs.declared.record.Record.{Record}
 use Rattle.sd_page.specs.Page.{Page}
-use Rattle.sd_model.specs.State.{State}
+use Rattle.sd_base.specs.declared.ids.TxnId.{TxnId}
+use Rattle.sd_base.proofs.SameIds.{cases_txn}
+use Rattle.sd_model.specs.Acts.{live}
+use Rattle.sd_model.specs.State.{Part, State}
+use Rattle.sd_model.specs.declared.act.Life.{Life}
+use Rattle.sd_model.proofs.Moves.{doubted, in_doubt}
+use Rattle.sd_model.proofs.Views.{part-elsewhere, part-here}
 use Rattle.sd_rig.specs.Devices as rig
 use Rattle.sd_txn.specs.Owing.{owed_of}
 use Rattle.sd_txn.specs.Transactions.{Transactions}
 use Rattle.sd_chain.specs.Bytes.{disk_page}
 use Rattle.sd_chain.specs.Checks.{reserve}
 use Rattle.sd_chain.specs.Cuts.{cut}
+use Rattle.sd_chain.specs.Fates.{commits}
 use Rattle.sd_chain.specs.Images.{Keeps, all_kept, with_disk}
-use Rattle.sd_chain.specs.Records.{changes, of_page}
+use Rattle.sd_chain.specs.Records.{IsOpen, changes, home, of_page, stack}
 use Rattle.sd_chain.proofs.Cuts.{newest-by_page}
+use Rattle.sd_chain.proofs.Fates.{open-endless}
 use Rattle.sd_chain.proofs.Lists.{filter-skip}
 use Rattle.sd_coherent.specs.Named.{version_of}
 use Rattle.sd_sound.specs.Logs.{Logs, Outcomes, all_at, base_at, kept_logs, next_lsn, tail_at, tails_of}
@@ -33,13 +44,14 @@ use Rattle.sd_state.specs.Images.{begun_at, log_by}
 use Rattle.sd_state.specs.Parts.{Parts, among, is_loose, log_at, no_log, no_txns, other_at, owed_at, status_at, txns_at}
 use Rattle.sd_state.specs.Sums.{great_of, most_to, owed_in_all, owes_most}
 use Rattle.sd_state.specs.Tables.{tells_log}
-use Rattle.sd_state.specs.Values.{Pending}
+use Rattle.sd_state.specs.Values.{Pending, is_committed, is_doubt, put_of}
 use Rattle.sd_state.proofs.Items.{item-kept, item-set}
 use Rattle.sd_state.proofs.Lasts.{last-more}
 use Rattle.sd_state.proofs.Standing.{one-place}
 use Rattle.sd_world.specs.Bounds.{Bounds}
 use Rattle.sd_world.specs.Pages.{Pages}
-use Rattle.sd_fits.specs.Fits.{AreWithin, FitsBounds, FitsPages, ReachesAtMost, capacities}
+use Rattle.sd_fits.specs.Fits.{AreWithin, FitsBounds, FitsDoubts, FitsPages, HaveSlots, ReachesAtMost, capacities}
+use Rattle.sd_fits.proofs.Doubts.{commits-more, doubts-on, placed-slots, same-doubts, slots-kept}
 use Rattle.sd_moves.proofs.FallBounds.{sum-less}
 
 -- ---- one record more in a tail
@@ -199,3 +211,113 @@ module _ (i spare extra : ℕ) (y : Record) (txns : List Transactions) (epochs :
     where
       all-more : (x g o p n k : ℕ) → x ≤ g + 1 → o ≤ p → g + p ≤ n → n + 1 ≤ k → x + o ≤ k
       all-more x g o p n k great owed was more = omega arith
+
+  -- ---- those in doubt
+
+  -- whoever the record doesn't commit was committed before
+  commits-was : (moved keeps : Keeps) (u : TxnId) → commits u (flat y) ≡ false
+      → is_committed (kept_logs (tails_of (log_by new moved)) keeps) u ≡ is_committed
+      (kept_logs (tails_of (log_by c moved)) keeps) u
+  commits-was moved keeps u none = ⊎_elim
+      (λ e. subst (λ (j : ℕ). list_any (commits u) (kept_logs (tails_of (log_by new moved)) keeps j)
+      ≡ list_any (commits u) (kept_logs (tails_of (log_by c moved)) keeps j)) (sym e)
+      (ap (λ (l : LogState). list_any (commits u) (base_at l ++ cond (keeps i) (tail_at l) [])) (here-by moved)
+      ∙ ap (λ (t : List Rec). list_any (commits u) (base_at (log_by c moved i) ++ cond (keeps i) t []))
+      (map-append flat (log_by c moved i).tail (y ∷ []))
+      ∙ commits-more u (base_at (log_by c moved i)) (tail_at (log_by c moved i)) (flat y) (keeps i) none))
+      (λ ne. ap (λ (l : LogState). list_any (commits u) (base_at l ++ cond (keeps (home u)) (tail_at l) []))
+      (else-by moved (home u) ne))
+      (cases_eq (home u) i)
+
+  version-by : (moved keeps : Keeps) (p : ℕ) → version_of (tails_of (log_by new moved)) (disk_page (seen 0)) keeps p
+      ≡ version_of (tails_of (log_by c moved)) (disk_page (seen 0)) keeps p
+  version-by moved keeps p = version-same (log_by c moved) (log_by new moved) (here-by moved) (else-by moved)
+      (disk_page (seen 0)) keeps p
+
+  slots-by : (moved keeps : Keeps) (p : ℕ) → length (version_of (tails_of (log_by c moved)) (disk_page (seen 0)) keeps p).slots
+      ≤ length (version_of (tails_of (log_by new moved)) (disk_page (seen 0)) keeps p).slots
+  slots-by moved keeps p = let same = ap (λ (x : Page). length x.slots) (version-by moved keeps p) in omega (arith, same)
+
+  pub sealed-doubts : (s : State) → ((u : TxnId) → is_doubt (s.part u).life ≡ true → commits u (flat y) ≡ false)
+      → FitsDoubts seen c s
+      → FitsDoubts seen new s
+  sealed-doubts s none d = doubts-on seen seen c new s s d (same-doubts s) (λ moved keeps u doubt has p. record {
+    keeps = keeps;
+    commits = sym (commits-was moved keeps u (none u doubt)) ∙ has;
+    slots = slots-by moved keeps p;
+  })
+
+  -- The record is the Commit of t, which is cut: what t put is at slots of its pages.
+  module _ (t : TxnId) (own : home t ≡ i) (runs : (m.part t).life ≡ Life.Running) (alive : IsOpen t (all_at log))
+      (puts : live (m.part t).acts ≡ map put_of (stack t (all_at log)))
+      (others : (u : TxnId) → u ≢ t → commits u (flat y) ≡ false) where
+    -- without its tail the log has no Commit of t
+    not-dropped : (moved keeps : Keeps) → keeps i ≡ false
+        → list_any (commits t) (kept_logs (tails_of (log_by new moved)) keeps (home t)) ≡ true → ⊥
+    not-dropped moved keeps off has =
+        let front : list_any (commits t) (base_at log) ≡ false = first (list_any (commits t) (base_at log))
+        (list_any (commits t) (tail_at log))
+        (sym (list_any-append (commits t) (base_at log) (tail_at log)) ∙ (open-endless t (all_at log) alive).0) in
+        let is : list_any (commits t) (kept_logs (tails_of (log_by new moved)) keeps (home t)) ≡ list_any (commits t)
+        (base_at log) =
+        ap (λ (j : ℕ). list_any (commits t) (kept_logs (tails_of (log_by new moved)) keeps j)) own
+        ∙ ap (λ (l : LogState). list_any (commits t) (base_at l ++ cond (keeps i) (tail_at l) []))
+        (one-place new moved i begins-once ∙ here)
+        ∙ ap (λ (b : Bool). list_any (commits t) (base_at log ++ cond b (tail_at (with_record y spare log)) [])) off
+        ∙ ap (list_any (commits t)) (append-nil (base_at log)) in
+        let clash : true ≡ false = sym has ∙ is ∙ front in absurd (cc)
+      where
+        first : (a b : Bool) → (a || b) ≡ false → a ≡ false
+        first true b e = absurd (cc)
+        first false b e = refl
+
+    -- with it t had places before its Commit
+    kept-places : (moved keeps : Keeps) → keeps i ≡ true
+        → HaveSlots (version_of (tails_of (log_by c moved)) (disk_page (seen 0)) keeps) (live (m.part t).acts)
+    kept-places moved keeps on =
+        let h = g.half moved in
+        let whole : kept_logs (tails_of (log_by c moved)) keeps (home t) ≡ all_at log =
+        ap (kept_logs (tails_of (log_by c moved)) keeps) own
+        ∙ ap (λ (l : LogState). base_at l ++ cond (keeps i) (tail_at l) []) (one-place c moved i begins-once)
+        ∙ ap (λ (b : Bool). base_at log ++ cond b (tail_at log) []) on in
+        let places = ((h.coherent.safe.sound (disk_page (seen 0)) h.coherent.reads keeps).stacks t
+        (subst (IsOpen t) (sym whole) alive)).places in
+        subst (HaveSlots (version_of (tails_of (log_by c moved)) (disk_page (seen 0)) keeps))
+        (ap (λ (xs : List Rec). map put_of (stack t xs)) whole ∙ sym puts)
+        (placed-slots (version_of (tails_of (log_by c moved)) (disk_page (seen 0)) keeps)
+        (stack t (kept_logs (tails_of (log_by c moved)) keeps (home t))) places)
+
+    else : (v : TxnId) → v ≢ t → (doubted t m).part v ≡ m.part v
+    else v ne = part-elsewhere (record m { cuts = m.cuts ++ t ∷ [] }) t v (in_doubt (m.part t)) (λ e. ne (sym e))
+
+    others-doubt : (v : TxnId) → is_doubt (m.part v).life ≡ true → commits v (flat y) ≡ false
+    others-doubt v is = others v (λ e. let clash = sym is ∙ ap (λ (x : TxnId). is_doubt (m.part x).life) e ∙ ap is_doubt runs in
+        absurd (cc))
+
+    module _ (moved keeps : Keeps) where
+      abbrev now : ℕ → Page
+      now = version_of (tails_of (log_by new moved)) (disk_page (seen 0)) keeps
+
+      abbrev committed_now : TxnId → Type 0
+      committed_now v = is_committed (kept_logs (tails_of (log_by new moved)) keeps) v ≡ true
+
+      own-puts : committed_now t → HaveSlots now (live ((doubted t m).part t).acts)
+      own-puts is = subst (λ (p : Part). HaveSlots now (live p.acts))
+          (sym (part-here (record m { cuts = m.cuts ++ t ∷ [] }) t (in_doubt (m.part t))))
+          (⊎_elim
+          (λ on. slots-kept (version_of (tails_of (log_by c moved)) (disk_page (seen 0)) keeps) now (slots-by moved keeps)
+          (live (m.part t).acts) (kept-places moved keeps on))
+          (λ off. absurd (not-dropped moved keeps off is))
+          (cases_Bool (keeps i)))
+
+      cut-puts : FitsDoubts seen c m → (u : TxnId) → is_doubt ((doubted t m).part u).life ≡ true → committed_now u
+          → HaveSlots now (live ((doubted t m).part u).acts)
+      cut-puts d u doubt has = ⊎_elim
+          (λ e. subst (λ (v : TxnId). HaveSlots now (live ((doubted t m).part v).acts)) (sym e)
+          (own-puts (subst committed_now e has)))
+          (λ ne. subst (λ (p : Part). HaveSlots now (live p.acts)) (sym (else u ne))
+          (sealed-doubts m others-doubt d moved keeps u (ap (λ (p : Part). is_doubt p.life) (sym (else u ne)) ∙ doubt) has))
+          (cases_txn u t)
+
+    pub cut-doubts : FitsDoubts seen c m → FitsDoubts seen new (doubted t m)
+    cut-doubts d moved keeps u doubt has = cut-puts moved keeps d u doubt has

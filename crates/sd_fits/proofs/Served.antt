@@ -243,6 +243,7 @@ module _ (locks : LockTable) (asks : Waits) (e : Event) (r : Reply) (seen : Imag
       begun = f.pages.begun;
     };
     bounds = relock-bounds (bounds-stay seen c w.bounds e r f.bounds);
+    doubts = f.doubts;
   }
     where
       relock-bounds : FitsBounds seen c (bounds_after w.bounds e r) → FitsBounds seen (with_locks locks c) (bounds_after w.bounds e r)
@@ -259,6 +260,7 @@ module _ (locks : LockTable) (asks : Waits) (e : Event) (r : Reply) (seen : Imag
     put = f.put;
     pages = f.pages;
     bounds = bounds-stay seen c w.bounds e r f.bounds;
+    doubts = f.doubts;
   }
 
 -- the event turns the world so, where it leaves state and pages

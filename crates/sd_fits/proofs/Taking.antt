@@ -11,6 +11,7 @@ use Rattle.sd_base.proofs.SameIds.{each_txn, eq-same, ne-same}
 use Rattle.sd_base.specs.declared.place.Mode.{Mode}
 use Rattle.sd_base.specs.declared.place.Mode.TheVariants as modes
 use Rattle.sd_base.specs.declared.place.Status.TheVariants as S
+use Rattle.sd_model.specs.Acts.{live}
 use Rattle.sd_model.specs.Applies.{HasPut}
 use Rattle.sd_model.specs.Claims.{Claims, Holds, raised, with_claim}
 use Rattle.sd_model.specs.Listed.{IsAtWork}
@@ -38,11 +39,12 @@ use Rattle.sd_world.specs.Pages.{Pages}
 use Rattle.sd_world.specs.Serving.{Core}
 use Rattle.sd_state.specs.Good.{Good}
 use Rattle.sd_state.specs.Parts.{Parts, status_at}
-use Rattle.sd_state.specs.Values.{Pending}
+use Rattle.sd_state.specs.Values.{Pending, is_doubt}
 use Rattle.sd_state.specs.Working.{with_locks}
 use Rattle.sd_state.proofs.Recovers.{up-there}
 use Rattle.sd_state.proofs.WorkingTakes.{free-claims, own-locks, takes-good}
 use Rattle.sd_fits.specs.Fits.{Fits, FitsBounds}
+use Rattle.sd_fits.proofs.Doubts.{DoubtsStay, doubts-kept}
 
 -- ---- two takes of one record are one
 
@@ -110,16 +112,30 @@ turned_to w m asks pages e r = record {
   bounds = bounds_after w.bounds e r;
 }
 
--- Who lives as before, and has put what it had.
+-- Each lives as before, and has put what it had; and one in doubt does nothing.
 pub record GoesOnAs (m m' : State) : Type 0 where
   pub lives : (u : TxnId) → (m'.part u).life ≡ (m.part u).life
   pub puts : (u : TxnId) → HasPut (m.part u).acts → HasPut (m'.part u).acts
+  pub doubts : (u : TxnId) → is_doubt (m.part u).life ≡ true → (m'.part u).acts ≡ (m.part u).acts
 
-pub took-on : (t : TxnId) (r : Rid) (mode : Claim) (acts : List Act) (m : State) → GoesOnAs m (took t r mode acts m)
-took-on t r mode acts m = record { lives = took-lives t r mode acts m; puts = took-puts t r mode acts m }
+pub took-on : (t : TxnId) (r : Rid) (mode : Claim) (acts : List Act) (m : State) → (m.part t).life ≡ Life.Running
+    → GoesOnAs m (took t r mode acts m)
+took-on t r mode acts m runs = record {
+  lives = took-lives t r mode acts m;
+  puts = took-puts t r mode acts m;
+  doubts = each_txn t (λ u (p : Part). is_doubt (m.part u).life ≡ true → p.acts ≡ (m.part u).acts)
+      (took_part r mode acts (m.part t)) m.part
+      (λ doubt. let clash = sym doubt ∙ ap is_doubt runs in absurd (cc)) (λ u ne doubt. refl);
+}
 
 pub same-on : (m : State) → GoesOnAs m m
-same-on m = record { lives = λ u. refl; puts = λ u h. h }
+same-on m = record { lives = λ u. refl; puts = λ u h. h; doubts = λ u doubt. refl }
+
+pub on-stays : (m m' : State) → GoesOnAs m m' → DoubtsStay m m'
+on-stays m m' on = record {
+  before = λ u doubt. sym (ap is_doubt (on.lives u)) ∙ doubt;
+  puts = λ u doubt. ap live (on.doubts u (sym (ap is_doubt (on.lives u)) ∙ doubt));
+}
 
 module _ (table : LockTable) (asks : Waits) (m' : State) (b : Bounds) (seen : Image) (leaves : Outcomes) (c : Parts) (w : Core)
     (f : Fits seen leaves c w) where
@@ -146,6 +162,9 @@ module _ (table : LockTable) (asks : Waits) (m' : State) (b : Bounds) (seen : Im
       begun = f.pages.begun;
     };
     bounds = record { slots = bounds.slots; reach = bounds.reach; lsns = bounds.lsns; masters = bounds.masters };
+    doubts = doubts-kept seen seen c (with_locks table c) w.scene.state m' f.doubts (on-stays w.scene.state m' on)
+        (λ keeps. keeps)
+        (λ moved keeps j. refl) (λ moved keeps p. refl);
   }
 
 -- A transaction that runs has the lock, raised to the mode, and finds what it sees: the complex is good with that read noted.

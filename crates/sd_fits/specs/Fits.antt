@@ -1,13 +1,16 @@
 -- When a complex fits a world: the serial table with its waits, the pages, and the sums.
-use Rattle.sd_chain.specs.Records.{IsOpen, home}
+use Rattle.sd_chain.specs.Records.{Each, IsOpen, home}
 use Rattle.sd_model.specs.declared.act.Life.{Life}
-use Rattle.std.specs.Prelude.{◌≡◌, ℕ, ◌+◌, ◌≤◌, false, List, [], ◌∷◌, None, IsSome, is_some, map}
+use Rattle.std.specs.Prelude.{◌≡◌, ℕ, ◌+◌, ◌<◌, ◌≤◌, true, false, List, [], ◌∷◌, None, IsSome, is_some, length, map}
+use Rattle.sd_base.specs.declared.ids.Rid.{Rid}
 use Rattle.sd_base.specs.declared.ids.TxnId.{TxnId}
 use Rattle.sd_log.specs.Logs.{LogState, forced}
+use Rattle.sd_model.specs.Acts.{Puts, live}
 use Rattle.sd_model.specs.Applies.{HasPut}
 use Rattle.sd_model.specs.Listed.{IsAtWork}
 use Rattle.sd_model.specs.Scenes.{is_running}
-use Rattle.sd_model.specs.State.{fresh}
+use Rattle.sd_model.specs.State.{State, fresh}
+use Rattle.sd_model.specs.Tables.{Content}
 use Rattle.sd_txn.specs.Transactions.{span_at}
 use Rattle.sd_page.specs.Page.{Page}
 use Rattle.sd_pagelock.specs.Directory.{asks_at, entry_at}
@@ -18,7 +21,7 @@ use Rattle.sd_chain.specs.Bytes.{disk_page}
 use Rattle.sd_chain.specs.Checks.{reserve}
 use Rattle.sd_chain.specs.Images.{Keeps}
 use Rattle.sd_coherent.specs.Named.{version_of}
-use Rattle.sd_sound.specs.Logs.{Outcomes, all_at, base_at, tails_of}
+use Rattle.sd_sound.specs.Logs.{Outcomes, all_at, base_at, kept_logs, tails_of}
 use Rattle.sd_world.specs.Bounds.{Bounds}
 use Rattle.sd_world.specs.Pages.{Pages}
 use Rattle.sd_world.specs.Serving.{Core}
@@ -28,7 +31,7 @@ use Rattle.sd_state.specs.Images.{Stands, log_by}
 use Rattle.sd_state.specs.Laws.{newest_of}
 use Rattle.sd_state.specs.Parts.{Parts, check_at, count_at, pool_at, log_at, txns_at}
 use Rattle.sd_state.specs.Sums.{great_of, owed_in_all}
-use Rattle.sd_state.specs.Values.{Pending}
+use Rattle.sd_state.specs.Values.{Pending, is_committed, is_doubt}
 
 -- Each page is where the world says, with the same asks; the newest version of one that isn't lost has the world's number; and
 -- the same instances have begun checkpoints.
@@ -61,6 +64,16 @@ pub record FitsBounds (seen : rig.Image) (c : Parts) (b : Bounds) : Type 0 where
   pub lsns : great_of c + owed_in_all c ≤ b.lsns
   pub masters : (i : ℕ) → 1 ≤ i → i ≤ 8 → count_at c i ≤ b.masters i
 
+-- each put is to a slot that its page has
+abbrev pub HaveSlots : (ℕ → Page) → Puts → Type 0
+HaveSlots version puts = Each (λ (put : Rid × Content). put.0.slot < length (version put.0.page).slots) puts
+
+-- Whatever a crash leaves with the Commit of a transaction in doubt has the slots to which that put something.
+abbrev pub FitsDoubts : rig.Image → Parts → State → Type 0
+FitsDoubts seen c m = (moved keeps : Keeps) (t : TxnId) → is_doubt (m.part t).life ≡ true
+    → is_committed (kept_logs (tails_of (log_by c moved)) keeps) t ≡ true
+    → HaveSlots (version_of (tails_of (log_by c moved)) (disk_page (seen 0)) keeps) (live (m.part t).acts)
+
 -- The complex is as the world says: between any two events nothing is under way, no fall is due, and no End waits for its force.
 pub record Fits (seen : rig.Image) (leaves : Outcomes) (c : Parts) (w : Core) : Type 0 where
   pub good : Good seen leaves Pending.Idle c w.scene.state
@@ -72,6 +85,7 @@ pub record Fits (seen : rig.Image) (leaves : Outcomes) (c : Parts) (w : Core) : 
   pub put : (t : TxnId) → IsAtWork (w.scene.state.part t).life → IsSome (span_at (txns_at c (home t)) t) → HasPut (w.scene.state.part t).acts
   pub pages : FitsPages seen leaves c w.pages
   pub bounds : FitsBounds seen c w.bounds
+  pub doubts : FitsDoubts seen c w.scene.state
 
 -- Whatever a crash leaves of a complex that fits stands for the world's state.
 abbrev pub FitsStands : Outcomes → Type 0

@@ -1,5 +1,5 @@
 -- What the answers of a put say of the complex, and of calls one after another. For the goals of putting.rt.
-use Rattle.std.proofs.Common.{◌≡◌, ◌≢◌, inl, ℕ, ◌<◌, ◌≤◌, Bool, true, false, List, [], ◌∷◌, Option, None, Some, get_or, refl, sym, ap, ◌∙◌, subst, arith, slice_set}
+use Rattle.std.proofs.Common.{◌≡◌, ◌≢◌, inl, ℕ, zero, suc, ◌<◌, ◌≤◌, Bool, true, false, List, [], ◌∷◌, Option, None, Some, get_or, refl, sym, ap, ◌∙◌, subst, arith, slice_set}
 use Rattle.std.specs.Prelude.{Result, Ok, Err, OnOk}
 use Rattle.std.specs.Result.{is_err}
 use Rattle.std.specs.Option.{option_map_or}
@@ -30,7 +30,7 @@ use Rattle.sd_state.specs.Good.{Good}
 use Rattle.sd_state.specs.Images.{Stands}
 use Rattle.sd_state.specs.Laws.{newest_of}
 use Rattle.sd_state.specs.Locking.{IsSet}
-use Rattle.sd_state.specs.Parts.{Parts, is_loose, pool_at}
+use Rattle.sd_state.specs.Parts.{Parts, is_loose, log_at, pool_at}
 use Rattle.sd_state.specs.Values.{Pending}
 use Rattle.sd_state.proofs.LockReads.{named-well}
 use Rattle.sd_state.proofs.Standing.{each-copy-is-newest}
@@ -162,6 +162,12 @@ pub duty-copy : (p i : ℕ) (seen : rig.Image) (leaves : Outcomes) (pend : Pendi
 duty-copy p i seen leaves pend c m g formed duty =
     (each-copy-is-newest leaves seen pend c m g p i).0 (tried.duty-holds i (entry_at c.directory p) formed duty)
 
+-- whether device 0 is settled makes no difference to a log
+pub forced-still : (i : ℕ) (b : Bool) (c : Parts) → (is_loose c i ≡ false → (log_at c i).tail ≡ [])
+    → is_loose (with_loose_disk b c) i ≡ false → (log_at c i).tail ≡ []
+forced-still zero b c f settled = refl
+forced-still (suc k) b c f settled = f (sym (get_or-set_other c.loose 0 (suc k) b true (omega arith)) ∙ settled)
+
 pub clean-good : (p i : ℕ) (places : DirectoryState Page) (seen : rig.Image) (leaves : Outcomes) (pend : Pending) (c : Parts)
     (m : State) → Good seen leaves pend (with_loose_disk false c) m → leaves 0 (seen 0) → Formed (entry_at c.directory p)
     → c.due ≡ None
@@ -174,5 +180,5 @@ clean-good p i places seen leaves pend c m g left formed idle can there set movi
     let nine = g.shape.loose in
     cleaned-good p i (newest_of seen leaves c p) places seen leaves pend (with_loose_disk false c) m g left
     (duty-copy p i seen leaves pend (with_loose_disk false c) m g formed can.duty) idle
-    (record { changed = can.changed; duty = can.duty; forced = can.forced })
+    (record { changed = can.changed; duty = can.duty; forced = forced-still i false c can.forced })
     (get_or-set_same c.loose 0 false true (omega (arith, size, nine))) there set moving

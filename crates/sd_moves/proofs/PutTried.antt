@@ -134,8 +134,9 @@ module _ (p i : ℕ) (im : Page) (seen : rig.Image) (leaves : Outcomes) (pend : 
     -- no tail has a record of the page
     pub none : puts_law.NoneUnforced base p
     none = forced-none (may_of wide) base (dir_of c) p half.coherent idle (write-found (entry_at c.directory p) can.changed)
-        (λ j is settled. ap (map flat) (tail-same j
-        ∙ ap (λ (k : ℕ). (log_at c k).tail) (duty-alone i j true (entry_at c.directory p) can.duty is) ∙ can.forced))
+        (λ j is settled. let own = duty-alone i j true (entry_at c.directory p) can.duty is in
+        ap (map flat) (tail-same j ∙ ap (λ (k : ℕ). (log_at c k).tail) own
+        ∙ can.forced (subst (λ (k : ℕ). is_loose c k ≡ false) own settled)))
 
     -- so its newest version is the same whatever tails are kept
     version-same : (keeps : Keeps) → base.version keeps p ≡ now base p

@@ -12,7 +12,7 @@ use Rattle.sd_sound.specs.Logs.{tails_of}
 use Rattle.sd_moves.specs.declared.putting.Unput.{Unput}
 use Rattle.sd_moves.specs.declared.putting.Unput.TheVariants as U
 use Rattle.sd_state.specs.Images.{log_by}
-use Rattle.sd_state.specs.Parts.{Parts, log_at}
+use Rattle.sd_state.specs.Parts.{Parts, is_loose, log_at}
 
 -- device 0 is settled, or it isn't
 abbrev pub with_loose_disk : Bool → Parts → Parts
@@ -32,11 +32,12 @@ abbrev pub ReadsAfter : Unput → rig.Image → rig.Image → Type 0
 ReadsAfter U.Unread seen seen' = (d : ℕ) → seen' d ≡ seen d
 ReadsAfter U.Unwritten seen seen' = Unit {0}
 
--- The page rests, changed, and the write is i's: it has the page alone, or is the writer. All of i's log is forced.
+-- The page rests, changed, and the write is i's: it has the page alone, or is the writer. All of i's log is
+-- forced, where that is settled: an unsettled one has no record of such a page.
 pub record MayPut (p i : ℕ) (c : Parts) : Type 0 where
   pub changed : may_write (entry_at c.directory p) ≡ true
   pub duty : is_duty i (entry_at c.directory p) ≡ true
-  pub forced : (log_at c i).tail ≡ []
+  pub forced : is_loose c i ≡ false → (log_at c i).tail ≡ []
 
 -- Wherever logs begin, and whichever tails are kept, each page's newest version is the same over what device 0 reads then.
 abbrev pub SameVersions : rig.Image → rig.Image → Parts → Type 0

@@ -21,9 +21,12 @@
 #![tactic(auto)]
 
 mod falling;
+pub mod laws;
 mod places;
 mod putting;
+mod standing;
 
 pub use falling::{cut, down};
 pub use places::{drop_copy, queue_ask, raise, touch};
 pub use putting::{Unput, put_page};
+pub use standing::is_active;

@@ -43,8 +43,9 @@ pub enum Unput {
 const TWIN_BYTES: usize = 2 * (PAGE_BYTES + 1);
 
 /// Puts the newest version of a page onto the data device. The page rests, changed, and the write is the instance's, which has
-/// the page alone or is its writer, and all of whose log is forced. Where the device isn't settled it is synced first, and
-/// where it has the version already nothing is written. The page is clean then, and the device settled. It takes no memory.
+/// the page alone or is its writer, and all of whose log is forced, where that log is settled: an unsettled one has no record of
+/// such a page. Where the data device isn't settled it is synced first, and where it has the version already nothing is written.
+/// The page is clean then, and the device settled. It takes no memory.
 ///
 /// Both errors come only where the rig's count of faults rose, and leave the page where it is, with its newest version. After
 /// `Unread` the device is settled. After `Unwritten` it isn't, and the caller makes the instance fall.
@@ -53,7 +54,7 @@ pub fn put_page<G: Rig>(c: &mut Complex<G>, p: PageNo, i: InstNo) -> Result<(), 
     requires idle { (parts c.old).due ≡ None }
     requires changed { rows.may_write (entry_at (parts c.old).directory p) ≡ true }
     requires duty { is_duty i (entry_at (parts c.old).directory p) ≡ true }
-    requires forced { (log_at (parts c.old) i).tail ≡ [] }
+    requires forced { is_loose (parts c.old) i ≡ false → (log_at (parts c.old) i).tail ≡ [] }
 
     ensures good { (pend : Pending) (m : State) → Good (G.seen c.old.rig) (G.leaves c.old.rig) pend (parts c.old) m
         → Good (G.seen c.new.rig) (G.leaves c.new.rig) pend (parts c.new) m }

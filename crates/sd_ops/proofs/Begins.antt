@@ -46,8 +46,9 @@ use Rattle.sd_state.specs.Working.{with_working}
 use Rattle.sd_state.specs.declared.complex.Complex.{Complex}
 use Rattle.sd_state.proofs.Items.{item-kept}
 use Rattle.sd_state.proofs.WorkingGood.{working-settled}
-use Rattle.sd_fits.specs.Fits.{Fits, FitsBounds, FitsPages}
+use Rattle.sd_fits.specs.Fits.{Fits, FitsBounds, FitsDoubts, FitsPages}
 use Rattle.sd_fits.specs.Serving.{Serving}
+use Rattle.sd_fits.proofs.Doubts.{doubts-kept, part-stays}
 use Rattle.sd_fits.proofs.Heads.{count-is, is-up, not-up}
 use Rattle.sd_fits.proofs.Served.{bounds-stay, none-ended, passed, still-serves, turns-on}
 use Rattle.sd_fits.proofs.Still.{kept-serves, kept-spares, moved-fits}
@@ -234,6 +235,9 @@ module _ (i : ℕ) (t : TxnId) (seen : Image) (leaves : Outcomes) (c new : Parts
     bounds = subst (λ (p : Parts). FitsBounds seen p (bounds_after w.bounds (Begin i) (reply.Began t))) (sym b.is)
         (bounds-stay seen (with_working i (txns_at new i) new.locks c) w.bounds (Begin i) (reply.Began t)
         (worked-bounds (with_working i (txns_at new i) new.locks c).txns new.locks seen leaves c w.bounds owes f.bounds));
+    doubts = subst (λ (p : Parts). FitsDoubts seen p later) (sym b.is)
+        (doubts-kept seen seen c (with_working i (txns_at new i) new.locks c) state later f.doubts
+        (part-stays t started state later refl (λ u. refl)) (λ keeps. keeps) (λ moved keeps j. refl) (λ moved keeps p. refl));
   }
     where
       old-rolling : (u : TxnId) → (later.part u).life ≡ Life.Rolling None → IsOpen u (all_at (log_at c (home u)))

@@ -15,13 +15,16 @@ use Rattle.sd_logrec.specs.declared.record.Record.{Record}
 use Rattle.sd_reclock.specs.Locks.{waits}
 use Rattle.sd_rig.specs.Devices.{Image}
 use Rattle.sd_model.specs.State.{State, committed}
+use Rattle.sd_model.specs.declared.act.Life.{Life}
 use Rattle.sd_model.specs.declared.event.Event.TheVariants.{Commit}
 use Rattle.sd_model.specs.declared.event.Reply.TheVariants as reply
+use Rattle.sd_model.proofs.Moves.{doubted}
 use Rattle.sd_model.proofs.Steps.{commit-step}
 use Rattle.sd_txn.specs.Owing.{owed_of}
 use Rattle.sd_txn.specs.Transactions.{Transaction, Transactions, span_at, state_at, txn_at, without}
 use Rattle.sd_txn.specs.declared.state.TxnState.{TxnState}
 use Rattle.sd_chain.specs.Checks.{owed, reserve}
+use Rattle.sd_chain.specs.Fates.{commits}
 use Rattle.sd_chain.specs.Records.{IsOpen, home}
 use Rattle.sd_chain.proofs.Lists.{Each-append}
 use Rattle.sd_sound.specs.Logs.{HasRecord, Outcomes, all_at, base_at}
@@ -36,18 +39,19 @@ use Rattle.sd_state.specs.Good.{Good}
 use Rattle.sd_state.specs.Parts.{Parts, among, is_loose, log_at, no_log, no_txns, owed_at, status_at, txns_at}
 use Rattle.sd_state.specs.Sealing.{HasEnd, commit_of}
 use Rattle.sd_state.specs.Tables.{tells_log}
-use Rattle.sd_state.specs.Values.{Pending}
+use Rattle.sd_state.specs.Values.{Pending, is_doubt}
 use Rattle.sd_state.specs.Working.{with_working}
 use Rattle.sd_state.proofs.Items.{item-kept, item-set}
 use Rattle.sd_state.proofs.SealedCalls.{has}
 use Rattle.sd_state.proofs.WorkingGood.{working-settled}
-use Rattle.sd_state.proofs.WorkingTakes.{running-goes}
-use Rattle.sd_fits.specs.Fits.{Fits, FitsBounds, FitsPages}
-use Rattle.sd_fits.proofs.Forcing.{forced-bounds, forced-pages}
+use Rattle.sd_fits.specs.Fits.{Fits, FitsBounds, FitsDoubts, FitsPages}
+use Rattle.sd_fits.proofs.Falling.{IsElsewhere}
+use Rattle.sd_fits.proofs.Forcing.{forced-bounds, forced-doubts, forced-pages}
 use Rattle.sd_fits.proofs.Heads.{is-ready}
 use Rattle.sd_fits.proofs.Leaving.{Leaves, left-fits, left_core}
-use Rattle.sd_fits.proofs.Sealing.{AreMore, sealed-bounds, sealed-pages}
+use Rattle.sd_fits.proofs.Sealing.{AreMore, cut-doubts, sealed-bounds, sealed-doubts, sealed-pages}
 use Rattle.sd_fits.proofs.Served.{bounds-stay}
+use Rattle.sd_fits.proofs.Values.{running-open, running-puts}
 
 -- the sums once it has committed
 abbrev pub commit_bounds : TxnId → Core → Bounds
@@ -81,7 +85,7 @@ module _ (t : TxnId) (seen : Image) (leaves : Outcomes) (c : Parts) (w : Core) (
   -- one without a record
   pub bare-fits : (new : Parts) → Leaves t seen leaves Pending.Idle c c new m (committed t m) → Fits seen leaves new (commit_core t w)
   bare-fits new l = left-fits t seen seen leaves leaves Pending.Idle c c new w (committed t m) (commit_bounds t w) f l f.pages
-      (bounds-stay seen c w.bounds (Commit t) reply.Did f.bounds)
+      (bounds-stay seen c w.bounds (Commit t) reply.Did f.bounds) f.doubts
 
   -- ---- one with a record, whose Commit comes
 
@@ -99,8 +103,11 @@ module _ (t : TxnId) (seen : Image) (leaves : Outcomes) (c : Parts) (w : Core) (
     settled : is_loose c i ≡ false
     settled = working-settled seen leaves Pending.Idle c m i f.good f.idle low up
 
+    life : (m.part t).life ≡ Life.Running
+    life = (is-ready seen leaves Pending.Idle c m f.good t low high up runs).runs
+
     alive : IsOpen t (all_at log)
-    alive = f.good.going t low high (running-goes t (m.part t) (is-ready seen leaves Pending.Idle c m f.good t low high up runs).runs)
+    alive = running-open seen leaves c m t f.good up life
 
     recorded : HasRecord t (all_at log)
     recorded = has t h.x seen leaves Pending.Idle c m f.good reads low high settled (ap tells_log up) h.ended.row.was h.ended.there
@@ -110,6 +117,9 @@ module _ (t : TxnId) (seen : Image) (leaves : Outcomes) (c : Parts) (w : Core) (
 
     log-here : log_at mid i ≡ with_record y h.spare log
     log-here = ap (λ (p : Parts). log_at p i) h.is ∙ item-set no_log c.logs i (with_record y h.spare log) low high f.good.shape.logs
+
+    pub ending-settled : is_loose mid i ≡ false
+    ending-settled = ap (λ (p : Parts). is_loose p i) h.is ∙ settled
 
     log-else : (j : ℕ) → j ≢ i → log_at mid j ≡ log_at c j
     log-else j ne = ap (λ (p : Parts). log_at p j) h.is ∙ item-kept no_log c.logs i (with_record y h.spare log) low j ne
@@ -163,6 +173,25 @@ module _ (t : TxnId) (seen : Image) (leaves : Outcomes) (c : Parts) (w : Core) (
         (sealed-bounds i h.spare 0 y (slice_set c.txns (i - 1) h.table) c.epochs seen leaves Pending.Idle c m f.good low high settled
         refl refl takes owes w.bounds (commit_bounds t w) more f.bounds)
 
+    -- the Commit is no other's
+    no-others : (u : TxnId) → u ≢ t → commits u (flat y) ≡ false
+    no-others u ne = ne-same t u (λ e. ne (sym e))
+
+    pub ending-doubts : FitsDoubts seen mid m
+    ending-doubts = subst (λ (p : Parts). FitsDoubts seen p m) (sym h.is)
+        (sealed-doubts i h.spare 0 y (slice_set c.txns (i - 1) h.table) c.epochs seen leaves Pending.Idle c m f.good low high
+        settled
+        refl refl takes owes m
+        (λ u doubt. no-others u (λ e. let clash = sym doubt ∙ ap (λ (x : TxnId). is_doubt (m.part x).life) e ∙ ap is_doubt life in
+        absurd (cc)))
+        f.doubts)
+
+    -- and where it is cut, the transaction's puts are in place
+    pub ending-cut : FitsDoubts seen mid (doubted t m)
+    ending-cut = subst (λ (p : Parts). FitsDoubts seen p (doubted t m)) (sym h.is)
+        (cut-doubts i h.spare 0 y (slice_set c.txns (i - 1) h.table) c.epochs seen leaves Pending.Idle c m f.good low high settled
+        refl refl takes owes t refl life alive (running-puts seen leaves c m t f.good up life) no-others f.doubts)
+
     -- of the others the tables and the logs tell the same
     pub ending-spans : (u : TxnId) → t ≢ u → span_at (txns_at mid (home u)) u ≡ span_at (txns_at c (home u)) u
     ending-spans u ne = ap (option_and_then (λ (x : Transaction). x.span)) (⊎_elim
@@ -179,14 +208,15 @@ module _ (t : TxnId) (seen : Image) (leaves : Outcomes) (c : Parts) (w : Core) (
         (λ nk. subst (λ (l : LogState). IsOpen u (all_at l)) (sym (log-else (home u) nk)) opens)
         (cases_eq (home u) i)
 
+    -- and so do those of other instances
+    pub ending-else : IsElsewhere i c mid
+    ending-else = record { logs = log-else; txns = txns-else; waits = λ u. ap (λ (p : Parts). waits p.locks u) h.is }
+
     -- ---- and is forced
 
     module _ (owes_now : ℕ) (seen' : Image) (leaves' : Outcomes) (done : Parts)
         (is_forced : done ≡ with_forced i (forced (log_at mid i)) owes_now mid)
         (forced_good : Good seen' leaves' (Pending.Commits t) done m) (disk : seen' 0 ≡ seen 0) where
-      settled-mid : is_loose mid i ≡ false
-      settled-mid = ap (λ (p : Parts). is_loose p i) h.is ∙ settled
-
       done-here : log_at done i ≡ forced (log_at mid i)
       done-here = ap (λ (p : Parts). log_at p i) is_forced ∙ item-set no_log mid.logs i (forced (log_at mid i)) low high good.shape.logs
 
@@ -195,7 +225,7 @@ module _ (t : TxnId) (seen : Image) (leaves : Outcomes) (c : Parts) (w : Core) (
 
       owes-is : owes_now ≡ owed (all_at (log_at mid i))
       owes-is = sym (item-set 0 mid.owed i owes_now low high good.shape.owed) ∙ sym (ap (λ (p : Parts). owed_at p i) is_forced)
-          ∙ forced_good.owed i low high (ap (λ (p : Parts). is_loose p i) is_forced ∙ settled-mid)
+          ∙ forced_good.owed i low high (ap (λ (p : Parts). is_loose p i) is_forced ∙ ending-settled)
           ∙ ap (λ (l : LogState). owed (base_at l)) done-here ∙ ap owed (forced-base (log_at mid i))
 
       -- the log has no tail: the transaction may be told as committed
@@ -204,12 +234,17 @@ module _ (t : TxnId) (seen : Image) (leaves : Outcomes) (c : Parts) (w : Core) (
 
       pub done-pages : FitsPages seen' leaves' done w.pages
       done-pages = subst (λ (p : Parts). FitsPages seen' leaves' p w.pages) (sym is_forced)
-          (forced-pages i owes_now seen seen' leaves leaves' (Pending.Commits t) mid m good low high settled-mid disk owes-is w.pages ending-pages)
+          (forced-pages i owes_now seen seen' leaves leaves' (Pending.Commits t) mid m good low high ending-settled disk owes-is w.pages ending-pages)
 
       pub done-bounds : FitsBounds seen' done (commit_bounds t w)
       done-bounds = subst (λ (p : Parts). FitsBounds seen' p (commit_bounds t w)) (sym is_forced)
-          (forced-bounds i owes_now seen seen' leaves leaves' (Pending.Commits t) mid m good low high settled-mid disk owes-is
+          (forced-bounds i owes_now seen seen' leaves leaves' (Pending.Commits t) mid m good low high ending-settled disk owes-is
           (commit_bounds t w) ending-bounds)
+
+      done-doubts : FitsDoubts seen' done m
+      done-doubts = subst (λ (p : Parts). FitsDoubts seen' p m) (sym is_forced)
+          (forced-doubts i owes_now seen seen' leaves leaves'
+          (Pending.Commits t) mid m good low high ending-settled disk owes-is m ending-doubts)
 
       same-all : (j : ℕ) → all_at (log_at done j) ≡ all_at (log_at mid j)
       same-all j = ⊎_elim
@@ -239,4 +274,4 @@ module _ (t : TxnId) (seen : Image) (leaves : Outcomes) (c : Parts) (w : Core) (
             spans = λ u ne. ap (λ (p : Parts). span_at (txns_at p (home u)) u) is_forced ∙ ending-spans u ne;
             opens = λ u ne opens. subst (IsOpen u) (sym (same-all (home u))) (ending-opens u ne opens);
           })
-          done-pages done-bounds
+          done-pages done-bounds done-doubts

@@ -1,5 +1,5 @@
 -- The copies that instances hold. For `copy` and `found`.
-use Rattle.std.proofs.Common.{◌≡◌, ℕ, ◌-◌, ◌≤◌, true, length, get_or, refl, sym, ap, ◌∙◌, Bor}
+use Rattle.std.proofs.Common.{◌≡◌, ℕ, ◌-◌, ◌≤◌, true, get_or, refl, sym, ap, ◌∙◌, Bor}
 use Rattle.std.specs.Prelude.{Option, None, Some, IsSome, List, option_copied, option_map, unwrap_or}
 use Rattle.sd_base.specs.declared.ids.TxnId.{TxnId}
 use Rattle.sd_base.specs.declared.place.Mode.{Mode}
@@ -16,7 +16,7 @@ use Rattle.sd_sound.specs.Logs.{Outcomes}
 use Rattle.sd_state.specs.Changing.{image_for}
 use Rattle.sd_state.specs.Good.{Good}
 use Rattle.sd_state.specs.Laws.{newest_of}
-use Rattle.sd_state.specs.Parts.{Parts, no_pool, pool_at}
+use Rattle.sd_state.specs.Parts.{Parts, pool_at}
 use Rattle.sd_state.specs.Values.{Pending}
 use Rattle.sd_state.proofs.Locks.{pool-lent}
 use Rattle.sd_state.proofs.Standing.{each-copy-is-newest}

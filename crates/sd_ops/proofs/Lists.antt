@@ -1,6 +1,7 @@
 -- The list of a page: what it makes of the world. For `list_page`.
-use Rattle.std.proofs.Common.{◌≡◌, ℕ, ◌≤◌, Bool, true, false, List, length, refl, sym, ap, ◌∙◌, subst}
-use Rattle.std.specs.Prelude.{None, Some}
+use Rattle.std.proofs.Common.{◌≡◌, ℕ, ◌-◌, ◌≤◌, Bool, true, false, List, length, slice_set, refl, sym, ap, ◌∙◌, subst}
+use Rattle.std.specs.Prelude.{Option, None, Some}
+use Rattle.std.specs.Option.{option_map_or}
 use Rattle.sd_base.specs.declared.ids.Rid.{Rid}
 use Rattle.sd_base.specs.declared.ids.TxnId.{TxnId}
 use Rattle.sd_base.specs.declared.place.Mode.TheVariants as modes
@@ -25,14 +26,18 @@ use Rattle.sd_model.proofs.Steps.{list-step}
 use Rattle.sd_page.specs.Page.{Page}
 use Rattle.sd_pagelock.specs.Directory.{entry_at}
 use Rattle.sd_pagelock.specs.Places.{Entry, holds, is_lost, seen}
+use Rattle.sd_pool.specs.Buffers.{Buffers, image_at, used, with_page}
 use Rattle.sd_reclock.specs.Locks.{IsLowestOwner, OwnsIn, held}
 use Rattle.sd_sound.specs.Logs.{Outcomes}
 use Rattle.sd_chain.specs.Pages.{value}
 use Rattle.sd_chain.proofs.Slots.{value-at}
+use Rattle.sd_world.specs.Bounds.{bounds_after}
 use Rattle.sd_world.specs.Serving.{Core, Serves, Telling, Turns, refused}
 use Rattle.sd_state.specs.Complexes.{parts}
+use Rattle.sd_state.specs.Good.{Good}
 use Rattle.sd_state.specs.Laws.{newest_of}
-use Rattle.sd_state.specs.Parts.{Parts, status_at}
+use Rattle.sd_state.specs.Locking.{with_place}
+use Rattle.sd_state.specs.Parts.{Parts, pool_at, status_at}
 use Rattle.sd_state.specs.Tables.{lock_of}
 use Rattle.sd_state.specs.Values.{Pending}
 use Rattle.sd_state.specs.declared.complex.Complex.{Complex}
@@ -40,7 +45,8 @@ use Rattle.sd_state.proofs.Standing.{each-copy-is-newest}
 use Rattle.sd_fits.specs.Fits.{Fits}
 use Rattle.sd_fits.specs.Serving.{Serving, fits_by, stands_for}
 use Rattle.sd_fits.proofs.Heads.{is-up, not-up}
-use Rattle.sd_fits.proofs.Served.{none-ended, passed, turns-on}
+use Rattle.sd_fits.proofs.Places.{frames-kept, kept-pages, moved-fits}
+use Rattle.sd_fits.proofs.Served.{bounds-stay, none-ended, passed, still-serves, turns-on}
 use Rattle.sd_fits.proofs.Still.{kept-serves, kept-spares}
 use Rattle.sd_fits.proofs.Unclaimed.{unclaimed-there}
 use Rattle.sd_ops.specs.Listing.{IsListed, IsUnlisted, rows_below}
@@ -211,6 +217,11 @@ pub record Lists {G : Type 0} (tell : Telling G) (i : ℕ) (c : Complex G) : Typ
   pub high : i ≤ 8
   pub now : (img : Image) → tell.since c.rig (tell.moment c.rig) img → Leaves (tell.leaves c.rig) img
 
+-- a pool that is used has its frames
+used-frames : (pool : Buffers) (p : ℕ) (copy : Option Page) → (option_map_or (with_page pool p) copy pool).frames ≡ pool.frames
+used-frames pool p None = refl
+used-frames pool p (Some image) = refl
+
 module _ {G : Type 0} (tell : Telling G) (i p : ℕ) (c : Complex G) (b : Lists tell i c) where
   by-turns : (r : Reply)
       → ((w : Core) → Fits (tell.seen c.rig) (tell.leaves c.rig) (parts c) w
@@ -225,12 +236,29 @@ module _ {G : Type 0} (tell : Telling G) (i p : ℕ) (c : Complex G) (b : Lists 
     refl,
   )
 
-  pub list-rows : status_at (parts c) i ≡ S.Up → (rows : List (Rid × List ℕ)) → IsListed i p (parts c) rows
-      → Serving tell (event.List i p) (Some (reply.Rows rows)) c c
-  list-rows up rows l = (
-    by-turns (reply.Rows rows)
-        (λ w f. rows-turns i p (tell.seen c.rig) (tell.leaves c.rig) (parts c) w f b.low b.high up l.held rows l),
-    refl,
+  -- the rows are told, and the page is used
+  pub list-rows : status_at (parts c) i ≡ S.Up → (rows : List (Rid × List ℕ)) → IsListed i p (parts c) rows → (new : Complex G)
+      → new.rig ≡ c.rig → parts new ≡ with_place i (used (pool_at (parts c) i) p) (parts c).directory (parts c)
+      → ((pend : Pending) (m : State) → Good (tell.seen c.rig) (tell.leaves c.rig) pend (parts c) m
+      → Good (tell.seen new.rig) (tell.leaves new.rig) pend (parts new) m)
+      → Serving tell (event.List i p) (Some (reply.Rows rows)) c new
+  list-rows up rows l new same is good = (
+    λ w f.
+        let pool : Buffers = used (pool_at (parts c) i) p in
+        let pools : List Buffers = slice_set (parts c).pools (i - 1) pool in
+        let then : Core = passed w w.scene.waits (event.List i p) (reply.Rows rows) in (
+          then,
+          still-serves tell (event.List i p) (reply.Rows rows) c new w then (sym same) b.now f
+              (rows-turns i p (tell.seen c.rig) (tell.leaves c.rig) (parts c) w f b.low b.high up l.held rows l)
+              (moved-fits tell c new w f pools (parts c).directory same is (good Pending.Idle w.scene.state f.good) w.pages
+              (bounds_after w.bounds (event.List i p) (reply.Rows rows))
+              (kept-pages pools (parts c).directory (tell.seen c.rig) (tell.leaves c.rig) (parts c) w f
+              (frames-kept (parts c) i pool (parts c).directory b.low b.high f.good.shape.pools
+              (used-frames (pool_at (parts c) i) p (image_at (pool_at (parts c) i) p)))
+              (λ q. refl) (λ q. refl))
+              (bounds-stay (tell.seen c.rig) (parts c) w.bounds (event.List i p) (reply.Rows rows) f.bounds)),
+        ),
+    ap tell.faults same,
   )
 
   list-memory : Serving tell (event.List i p) None c c

@@ -15,16 +15,17 @@ use crate::copies::copy;
 use crate::standing::is_up;
 use sd_base::{Bytes, InstNo, Memory, Mode, PageNo, Refusal, Rid};
 use sd_model::Rows;
+use sd_moves::touch;
 use sd_page::Image;
 use sd_rig::Rig;
 use sd_state::Complex;
 use std::alloc::Global;
 
-/// The records of a page, rising by slot, each with its committed value.
+/// The records of a page, rising by slot, each with its committed value. The page is used: it is the last that will be evicted.
 ///
 /// Refused, the first that applies: `Down` where the instance isn't up; `Lost` and `NeedPage` where it hasn't the page; `Busy`
 /// where a transaction has an exclusive claim on a record of the page, which names the lowest such one. `Memory` comes where there
-/// is none. Nothing changes, and no device is called.
+/// is none. A refusal changes nothing. No device is called.
 pub fn list_page<G: Rig>(c: &mut Complex<G>, i: InstNo, p: PageNo) -> Result<Rows, Refusal>
     requires fits { (w : Core) × Fits (G.seen c.old.rig) (G.leaves c.old.rig) (parts c.old) w }
     ensures served { Serving (telling G.seen G.leaves G.moment G.since G.faults) (event.List i p) (listed result) c.old c.new }
@@ -32,6 +33,7 @@ pub fn list_page<G: Rig>(c: &mut Complex<G>, i: InstNo, p: PageNo) -> Result<Row
 {
     is_up(c, i)?;
     let rows = rows_in(c, i, p)?;
+    touch(c, p, i);
     Ok(rows)
 }
 

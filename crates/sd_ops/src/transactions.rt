@@ -1,14 +1,22 @@
-//! Transactions: begun.
+//! Transactions: begun, committed.
 
-ghost use Rattle.std.specs.Prelude.{◌≡◌, ◌^◌, ◌<◌};
+ghost use Rattle.std.specs.Prelude.{◌≡◌, ◌≢◌, ◌^◌, ◌<◌, ◌≤◌, Err, IsSome, None, Some};
+ghost use Rattle.sd_base.specs.declared.place.Status.TheVariants as S;
+ghost use Rattle.sd_base.specs.declared.refusal.Refusal.TheVariants as R;
 ghost use Rattle.sd_model.specs.declared.event.Event.TheVariants as event;
+ghost use Rattle.sd_rig.specs.Devices.{LeavesSame};
 ghost use Rattle.sd_state.specs.Complexes.{parts};
-ghost use Rattle.sd_world.specs.Serving.{Core, began, telling};
+ghost use Rattle.sd_state.specs.Parts.{status_at, txns_at};
+ghost use Rattle.sd_txn.specs.Transactions.{span_at, state_at};
+ghost use Rattle.sd_txn.specs.declared.state.TxnState.TheVariants.{Running};
+ghost use Rattle.sd_world.specs.Serving.{Core, began, did, telling};
 ghost use Rattle.sd_fits.specs.Fits.{Fits};
 ghost use Rattle.sd_fits.specs.Serving.{Serving};
 
 use crate::standing::is_up;
+use crate::waiting::{at_work, refuse};
 use sd_base::{InstNo, Refusal, TxnId};
+use sd_moves::cut;
 use sd_rig::Rig;
 use sd_state::Complex;
 
@@ -28,6 +36,84 @@ pub fn begin<G: Rig>(c: &mut Complex<G>, i: InstNo) -> Result<TxnId, Refusal>
     let t = c.begin(i)?;
     let _number = number(&t);
     Ok(t)
+}
+
+/// Commits a transaction: it is among the committed, and its locks go, once its Commit is forced. One without a record has none
+/// to force. No page is written, and no memory is taken.
+///
+/// Refused, the first that applies: `NoTxn`; `Down` where its instance isn't up; `Busy` where it rolls back. These end its wait
+/// alone. `CutCommit` comes where the force failed: its instance falls then, and a recovery will tell whether it committed.
+pub fn commit<G: Rig>(c: &mut Complex<G>, t: &TxnId) -> Result<(), Refusal>
+    requires fits { (w : Core) × Fits (G.seen c.old.rig) (G.leaves c.old.rig) (parts c.old) w }
+    ensures served { Serving (telling G.seen G.leaves G.moment G.since G.faults) (event.Commit t.now) (did result) c.old c.new }
+    ensures there { result ≢ Err R.Memory }
+    ensures disk { G.seen c.new.rig 0 ≡ G.seen c.old.rig 0 }
+    ensures disk_leaves { LeavesSame (G.leaves c.old.rig 0) (G.leaves c.new.rig 0) }
+    ensures bare { span_at (txns_at (parts c.old) t.now.inst) t.now ≡ None → c.new.rig ≡ c.old.rig }
+{
+    match at_work(c, t) {
+        Ok(()) => commit_running(c, t),
+        Err(refusal) => refuse(c, t, refusal),
+    }
+}
+
+// Commits a transaction that runs.
+fn commit_running<G: Rig>(c: &mut Complex<G>, t: &TxnId) -> Result<(), Refusal>
+    requires fits { (w : Core) × Fits (G.seen c.old.rig) (G.leaves c.old.rig) (parts c.old) w }
+    requires up { status_at (parts c.old) t.now.inst ≡ S.Up }
+    requires runs { state_at (txns_at (parts c.old) t.now.inst) t.now ≡ Some Running }
+    ensures served { Serving (telling G.seen G.leaves G.moment G.since G.faults) (event.Commit t.now) (did result) c.old c.new }
+    ensures there { result ≢ Err R.Memory }
+    ensures disk { G.seen c.new.rig 0 ≡ G.seen c.old.rig 0 }
+    ensures disk_leaves { LeavesSame (G.leaves c.old.rig 0) (G.leaves c.new.rig 0) }
+    ensures bare { span_at (txns_at (parts c.old) t.now.inst) t.now ≡ None → c.new.rig ≡ c.old.rig }
+{
+    name(t);
+    match c.txns(t.inst).span(t) {
+        None => {
+            c.committed_bare(t);
+            Ok(())
+        }
+        Some(_) => commit_recorded(c, t),
+    }
+}
+
+// Commits a transaction that runs and has a record.
+fn commit_recorded<G: Rig>(c: &mut Complex<G>, t: &TxnId) -> Result<(), Refusal>
+    requires fits { (w : Core) × Fits (G.seen c.old.rig) (G.leaves c.old.rig) (parts c.old) w }
+    requires up { status_at (parts c.old) t.now.inst ≡ S.Up }
+    requires runs { state_at (txns_at (parts c.old) t.now.inst) t.now ≡ Some Running }
+    requires there { IsSome (span_at (txns_at (parts c.old) t.now.inst) t.now) }
+    ensures served { Serving (telling G.seen G.leaves G.moment G.since G.faults) (event.Commit t.now) (did result) c.old c.new }
+    ensures there { result ≢ Err R.Memory }
+    ensures disk { G.seen c.new.rig 0 ≡ G.seen c.old.rig 0 }
+    ensures disk_leaves { LeavesSame (G.leaves c.old.rig 0) (G.leaves c.new.rig 0) }
+{
+    name(t);
+    c.seal_commit(t);
+    match c.force_log(t.inst) {
+        Ok(()) => {
+            // Its locks go, and it is told, once its Commit is forced.
+            c.committed(t);
+            Ok(())
+        }
+        Err(_) => {
+            cut(c, t);
+            Err(Refusal::CutCommit)
+        }
+    }
+}
+
+// The numbers of a transaction's name.
+fn name(t: &TxnId)
+    ensures low { 1 ≤ t.now.inst }
+    ensures high { t.now.inst ≤ 8 }
+    ensures epoch { t.now.epoch < 2 ^ 32 }
+    ensures seq { t.now.seq < 2 ^ 32 }
+{
+    let _inst = t.inst.get();
+    let _epoch = t.epoch;
+    let _seq = t.seq;
 }
 
 // The transaction's number in its epoch.

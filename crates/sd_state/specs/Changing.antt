@@ -89,6 +89,7 @@ pub record IsChanged (i : ℕ) (k : Change) (x : Transaction) (image : Page) (ta
   pub records : owed_of table + records_owed x ≡ owed_of (txns_at c i) + records_owed (changed_row k x)
   pub page : buffers.image_at pool k.rid.page ≡ Some (redo image (flat_of k))
   pub other_pages : (q : ℕ) → q ≢ k.rid.page → buffers.image_at pool q ≡ buffers.image_at (pool_at c i) q
+  pub frames : pool.frames ≡ (pool_at c i).frames
   pub entry : entry_at places k.rid.page ≡ dirtied i
   pub rec_lsn : rec_lsn_at places k.rid.page
       ≡ kept_rec (changed (entry_at c.directory k.rid.page)) true (rec_lsn_at c.directory k.rid.page) (Some k.lsn)

@@ -382,6 +382,7 @@ fn rewrite(pool: &mut Pool, p: PageNo, op: &Op, lsn: Lsn)
     requires held { IsSome (image_at pool.old p) }
     ensures here { image_at pool.new p ≡ option_map (applied op.now lsn) (image_at pool.old p) }
     ensures others { (q : ℕ) → q ≢ p → image_at pool.new q ≡ image_at pool.old q }
+    ensures frames { pool.new.frames ≡ pool.old.frames }
 {
     sd_pool::laws::rewritten();
     pool.get(p).unwrap().apply(op, lsn).unwrap();

@@ -26,7 +26,7 @@ use Rattle.sd_fits.specs.Fits.{Fits}
 use Rattle.sd_fits.proofs.Places.{repaged, turns-repaged}
 use Rattle.sd_fits.proofs.Served.{none-ended}
 use Rattle.sd_transfer.specs.Asking.{MayAsk}
-use Rattle.sd_transfer.proofs.Refused.{IsFor, active-serves, idle-refuses, unlike}
+use Rattle.sd_fits.proofs.Refused.{IsFor, active-serves, idle-refuses, unlike}
 
 -- ---- places that an instance has so at once
 

@@ -32,7 +32,7 @@ use Rattle.sd_fits.proofs.Places.{frames-kept, moved-fits, placed-pages, repaged
 use Rattle.sd_fits.proofs.Served.{bounds-stay, none-ended, still-serves}
 use Rattle.sd_moves.proofs.Placed.{evicts-held}
 use Rattle.sd_transfer.specs.Evicting.{StaysFor}
-use Rattle.sd_transfer.proofs.Refused.{IsFor, active-serves, idle-refuses, refused-serves, unlike}
+use Rattle.sd_fits.proofs.Refused.{IsFor, active-serves, idle-refuses, refused-serves, unlike}
 
 module _ {G : Type 0} (tell : Telling G) (c : Complex G) (i p : ℕ) (low : 1 ≤ i) (high : i ≤ 8)
     (now : (img : Image) → tell.since c.rig (tell.moment c.rig) img → Leaves (tell.leaves c.rig) img) where

@@ -39,7 +39,7 @@ use Rattle.sd_fits.proofs.Served.{bounds-stay, nothing-fits, passed, still-serve
 use Rattle.sd_moves.specs.Places.{IsAsked, with_directory}
 use Rattle.sd_transfer.specs.Asking.{IsUnserved, MayAsk}
 use Rattle.sd_transfer.proofs.Asked
-use Rattle.sd_transfer.proofs.Refused.{IsFor, refused-serves, refused-turns, unlike}
+use Rattle.sd_fits.proofs.Refused.{IsFor, refused-serves, refused-turns, unlike}
 
 -- what was read of devices stays, also once more is done to the complex
 pub unchanged-to : {G : Type 0} (tell : Telling G) (old mid new : G) → new ≡ mid

@@ -1,4 +1,4 @@
-pub mod Refused
 pub mod Evicted
 pub mod Asked
 pub mod Fetched
+pub mod Shown

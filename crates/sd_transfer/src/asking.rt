@@ -19,10 +19,8 @@ ghost use Rattle.sd_transfer.specs.Asking.{IsUnserved, MayAsk};
 ghost use Rattle.sd_world.specs.Pages.{answerer, lowest_of};
 ghost use Rattle.sd_world.specs.Serving.{Core, answered, had_or_asked, telling};
 
-use crate::laws;
-use crate::standing::is_active;
 use sd_base::{InstNo, InstSet, Mode, PageNo, Place, Refusal};
-use sd_moves::{queue_ask, raise};
+use sd_moves::{is_active, laws, queue_ask, raise};
 use sd_pagelock::rows;
 use sd_rig::Rig;
 use sd_state::Complex;

@@ -12,10 +12,8 @@ ghost use Rattle.sd_state.specs.Parts.{is_active, IsShape};
 ghost use Rattle.sd_transfer.specs.Evicting.{StaysFor};
 ghost use Rattle.sd_world.specs.Serving.{Core, did, telling};
 
-use crate::laws;
-use crate::standing::is_active;
 use sd_base::{InstNo, PageNo, Refusal};
-use sd_moves::drop_copy;
+use sd_moves::{drop_copy, is_active, laws};
 use sd_pagelock::rows;
 use sd_rig::Rig;
 use sd_state::Complex;

@@ -2,13 +2,13 @@
 //!
 //! Meaning: each call is an event of the serial table, and serves it as `Serving` of sd_fits says.
 //! Keeps: nothing.
-//! Promises: from each world that the complex fits, the answer leads to one that it fits then (`evicting.rt`, `asking.rt`). An
-//! eviction calls no device, and an ask reads alone.
+//! Promises: from each world that the complex fits, the answer leads to one that it fits then (`evicting.rt`, `asking.rt`,
+//! `showing.rt`). An eviction calls no device, and an ask reads alone; to show a page changes nothing.
 //! Refuses: what the order of the event's causes says, the first that applies; `Memory` changes nothing that a world tells.
 //! Knows nothing of: whose turn it is, what is noted of an answer.
 //! Stands on: sd_base, sd_model, sd_page, sd_rig, sd_pagelock, sd_pool, sd_chain, sd_coherent, sd_sound,
 //! sd_world, sd_state, sd_fits, sd_moves.
-//! Lends: in `proofs`, how a refusal for what instances and pages say is served (`Refused`).
+//! Lends: nothing.
 //! Held by the caller: that no fall is due, which `Fits` says.
 //!
 //! To change:
@@ -19,8 +19,8 @@
 
 mod asking;
 mod evicting;
-mod laws;
-mod standing;
+mod showing;
 
 pub use asking::ask;
 pub use evicting::evict;
+pub use showing::show;

@@ -20,10 +20,18 @@ use Rattle.sd_state.specs.Laws.{newest_of}
 use Rattle.sd_state.specs.Locking.{IsSet}
 use Rattle.sd_state.specs.Parts.{Parts, log_at, pool_at}
 use Rattle.sd_state.proofs.UndoneCalls.{image-unboxed}
-use Rattle.sd_moves.specs.Putting.{SameVersions, left_after, with_loose_disk}
+use Rattle.sd_moves.specs.Putting.{MayPut, SameVersions, left_after, with_loose_disk}
 use Rattle.sd_moves.specs.declared.putting.Unput.{Unput}
-use Rattle.sd_moves.proofs.PutCalls.{clean-good, duty-copy, left-again, not-err, same-then}
+use Rattle.sd_moves.proofs.PutCalls.{clean-good, duty-copy, forced-still, left-again, not-err, same-then}
 use Rattle.sd_moves.proofs.putting.put_page.Goals as goal
+
+pub write_newest-requires-clause-may : goal.write_newest-requires-clause-may
+write_newest-requires-clause-may g c =
+    let p : Parts = parts c.args.c.now in
+    let settled : parts c.settle_disk.new.c ≡ with_loose_disk false p =
+    not-err c.settle_disk.result _ c.if-is_err.ensures.value c.settle_disk.ensures.settled in
+    subst (MayPut c.args.p c.args.i) (sym settled)
+    (record { changed = c.requires.changed; duty = c.requires.duty; forced = forced-still c.args.i false p c.requires.forced })
 
 pub write_newest-requires-clause-held : goal.write_newest-requires-clause-held
 write_newest-requires-clause-held g c =

@@ -40,3 +40,4 @@ returns-clause-served g c =
     let a = c.in_ok-is_up.ensures in
     list-rows tell c.args.i c.args.p old
     (record { low = a.low; high = a.high; now = λ img s. g.met.G.Rig.only_now old.rig img s }) a.up c.in_ok-rows.rows c.in_ok-rows.ensures.rows
+    c.touch.new.c c.touch.ensures.rig c.touch.ensures.parts c.touch.ensures.good

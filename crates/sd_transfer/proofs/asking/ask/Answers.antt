@@ -125,3 +125,9 @@ returns-in_err-queue_ask-clause-there g c had is =
     had-lacks c.args.mode _ c.args.i
     (ap (λ (e : Entry). holds_as c.args.mode e c.args.i) at ∙ sym c.holds_as.ensures ∙ c.if-holds_as.false)
     (ap (may_raise c.args.i) at ∙ sym c.may_raise.ensures ∙ c.if-may_raise.false) had
+
+pub returns-in_err-queue_ask-clause-still : goal.returns-in_err-queue_ask-clause-still
+returns-in_err-queue_ask-clause-still g c =
+    let rig = c.args.c.now.rig in
+    let tell = telling g.G.Rig.seen g.G.Rig.leaves g.G.Rig.moment g.G.Rig.since g.G.Rig.faults in
+    unchanged-to tell rig rig c.queue_ask.new.c.rig c.queue_ask.ensures.rig (unchanged-here tell rig)

@@ -11,7 +11,7 @@ use Rattle.sd_state.specs.Parts.{Parts, pool_at}
 use Rattle.sd_state.specs.Values.{Pending}
 use Rattle.sd_world.specs.Serving.{answered, telling}
 use Rattle.sd_transfer.proofs.Fetched.{fetched, full-served, read-refused, read-spared, unchanged-to}
-use Rattle.sd_transfer.proofs.Refused.{unlike}
+use Rattle.sd_fits.proofs.Refused.{unlike}
 use Rattle.sd_transfer.proofs.asking.fetch.Goals as goal
 
 pub returns-then-lacks_frame-clause-served : goal.returns-then-lacks_frame-clause-served

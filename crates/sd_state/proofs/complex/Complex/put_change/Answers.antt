@@ -81,6 +81,7 @@ returns-clause-put g c =
         page = ap (buffers.image_at pool) (sym page) ∙ c.rewrite.ensures.here ∙ ap (option_map (applied c.args.op k.lsn)) lent
             ∙ ap (λ (z : Page). Some z) redone;
         other_pages = λ q ne. c.rewrite.ensures.others q (λ e. ne (e ∙ page)) ∙ ap (λ (b : Buffers). buffers.image_at b q) (sym pool_is);
+        frames = c.rewrite.ensures.frames ∙ ap (λ (b : Buffers). b.frames) (sym pool_is);
         entry = ap (entry_at c.set.new.self) (sym page) ∙ c.set.ensures.here;
         rec_lsn = subst (λ (n : ℕ). rec_lsn_at c.set.new.self n ≡ kept_rec (changed (entry_at c.args.self.now.directory n)) true
             (rec_lsn_at c.args.self.now.directory n) (Some k.lsn)) page c.set.ensures.rec_lsn;

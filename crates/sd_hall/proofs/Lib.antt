@@ -1,0 +1,4 @@
+pub mod Owes
+pub mod Paid
+pub mod Owing
+pub mod Keeping

@@ -1,0 +1,138 @@
+//! One event served on the complex, by the call that it stands for.
+
+ghost use Rattle.std.specs.Prelude.{◌≡◌, ◌≢◌, ℕ, None, Some};
+ghost use Rattle.sd_model.specs.declared.event.Reply.{Reply};
+ghost use Rattle.sd_model.specs.declared.event.Reply.TheVariants as reply;
+ghost use Rattle.sd_model.specs.State.{State};
+ghost use Rattle.sd_state.specs.Complexes.{parts};
+ghost use Rattle.sd_world.specs.Serving.{Core, answered, began, did, found, had_or_asked, joined, listed, placed_at, refused, telling};
+ghost use Rattle.sd_fits.specs.Fits.{Fits};
+ghost use Rattle.sd_fits.specs.Serving.{Serving};
+ghost use Rattle.sd_hall.specs.Ledger.{IsOwed};
+ghost use Rattle.sd_hall.specs.Served.{told, IsServed};
+
+use sd_base::{Bytes, InstNo, Lsn, Memory, Place, Refusal, Rid, TxnId};
+use sd_model::{Event, Reply, Rows};
+use sd_rig::Rig;
+use sd_state::Complex;
+
+/// Does the event on the complex, and tells its reply. Where an entry is owed for it there is memory.
+pub(crate) fn serve<G: Rig>(c: &mut Complex<G>, e: &Event) -> Result<Reply, Memory>
+    requires served { IsServed e.now }
+    requires fits { (w : Core) × Fits (G.seen c.old.rig) (G.leaves c.old.rig) (parts c.old) w }
+    ensures served { Serving (telling G.seen G.leaves G.moment G.since G.faults) e.now (told result) c.old c.new }
+    ensures there { (m : State) → IsOwed m e.now → told result ≢ None }
+{
+    match e {
+        Event::Begin { inst } => as_began(sd_ops::begin(c, *inst)),
+        Event::Read { txn, rid } => as_found(sd_ops::read(c, txn, rid)),
+        Event::Write { txn, rid, value } => as_did(sd_ops::write(c, txn, rid, value.items())),
+        Event::Add { txn, rid, by } => as_did(sd_ops::add(c, txn, rid, *by)),
+        Event::Insert {
+            txn,
+            page,
+            value,
+            capacity,
+        } => as_placed(sd_ops::insert(c, txn, *page, value.items(), *capacity)),
+        Event::Delete { txn, rid } => as_did(sd_ops::delete(c, txn, rid)),
+        Event::Commit { txn } => as_did(sd_ops::commit(c, txn)),
+        Event::List { inst, page } => as_listed(sd_ops::list_page(c, *inst, *page)),
+        Event::Ask { inst, page, mode } => as_asked(sd_transfer::ask(c, *inst, *page, *mode)),
+        Event::Evict { inst, page } => as_did(sd_transfer::evict(c, *inst, *page)),
+        Event::Flush { inst, page } => as_did(sd_writer::write_page(c, *inst, *page)),
+        Event::Force { inst } => as_did(sd_writer::force(c, *inst)),
+        Event::Fail { inst } => as_did(sd_survive::fail(c, *inst)),
+        Event::Join { inst } => as_joined(sd_survive::join(c, *inst)),
+        Event::Show { page } => as_shown(sd_transfer::show(c, *page)),
+        _ => unreachable!(),
+    }
+}
+
+// The reply to a begin.
+fn as_began(done: Result<TxnId, Refusal>) -> Result<Reply, Memory>
+    ensures { told result ≡ began done }
+{
+    match done {
+        Ok(t) => Ok(Reply::Began(t)),
+        Err(n) => as_refused(n),
+    }
+}
+
+// The reply to a read.
+fn as_found(done: Result<Option<Bytes>, Refusal>) -> Result<Reply, Memory>
+    ensures { told result ≡ found done }
+{
+    match done {
+        Ok(value) => Ok(Reply::Value(value)),
+        Err(n) => as_refused(n),
+    }
+}
+
+// The reply to an insert.
+fn as_placed(done: Result<Rid, Refusal>) -> Result<Reply, Memory>
+    ensures { told result ≡ placed_at done }
+{
+    match done {
+        Ok(rid) => Ok(Reply::At(rid)),
+        Err(n) => as_refused(n),
+    }
+}
+
+// The reply to a look at a page.
+fn as_shown(shown: (Place, Lsn)) -> Result<Reply, Memory>
+    ensures { told result ≡ Some (reply.Shown shown.0 shown.1) }
+{
+    let (place, lsn) = shown;
+    Ok(Reply::Shown { place, lsn })
+}
+
+// The reply to a list.
+fn as_listed(done: Result<Rows, Refusal>) -> Result<Reply, Memory>
+    ensures { told result ≡ listed done }
+{
+    match done {
+        Ok(rows) => Ok(Reply::Rows(rows)),
+        Err(n) => as_refused(n),
+    }
+}
+
+// The reply to an ask.
+fn as_asked(done: Result<Option<InstNo>, Refusal>) -> Result<Reply, Memory>
+    ensures { told result ≡ answered had_or_asked done }
+{
+    match done {
+        Ok(None) => Ok(Reply::Have),
+        Ok(Some(of)) => Ok(Reply::Asked { of }),
+        Err(n) => as_refused(n),
+    }
+}
+
+// The reply to a join.
+fn as_joined(done: Result<u32, Refusal>) -> Result<Reply, Memory>
+    ensures { told result ≡ joined done }
+{
+    match done {
+        Ok(epoch) => Ok(Reply::Joined { epoch }),
+        Err(n) => as_refused(n),
+    }
+}
+
+// The reply of a call without a value.
+fn as_did(done: Result<(), Refusal>) -> Result<Reply, Memory>
+    ensures { told result ≡ did done }
+{
+    match done {
+        Ok(()) => Ok(Reply::Did),
+        Err(n) => as_refused(n),
+    }
+}
+
+// The reply of a call that is refused; want of memory has none.
+fn as_refused(n: Refusal) -> Result<Reply, Memory>
+    ensures { told result ≡ refused n }
+{
+    match n {
+        Refusal::Memory => Err(Memory),
+        n => Ok(Reply::Refused(n)),
+    }
+}

@@ -1,0 +1,87 @@
+-- What an edit comes to in a slot of a page. For `plan_in`.
+use Rattle.std.proofs.Common.{◌≡◌, ℕ, zero, suc, ◌<◌, ◌≤◌, List, [], ◌∷◌, length, refl, sym, ap, ◌∙◌, arith, Bor}
+use Rattle.std.specs.Prelude.{Option, None, Some, IsSome, Result, Ok, Err, IfOk, ℤ}
+use Rattle.std.specs.List.{AllByRecursion}
+use Rattle.sd_base.specs.Values.{size}
+use Rattle.sd_base.specs.declared.refusal.Refusal.{Refusal}
+use Rattle.sd_base.specs.declared.refusal.Refusal.TheVariants as R
+use Rattle.sd_page.specs.Page.{Fits, Page, Slot, SlotFits, capacity_at, value_at}
+use Rattle.sd_chain.specs.Pages.{capacity, value}
+use Rattle.sd_chain.proofs.Slots.{has-slot, value-at}
+use Rattle.sd_ops.specs.declared.edits.Edit.{Edit}
+use Rattle.sd_ops.specs.declared.edits.Edit.TheVariants.{To, By, Gone}
+use Rattle.sd_ops.specs.declared.edits.Plan.{Plan}
+use Rattle.sd_ops.specs.declared.edits.Plan.TheVariants.{Put, Refuse}
+use Rattle.sd_ops.specs.Edits.{IsFitted, IsPlan, IsSpoiled, IsSumFitted, Makes, Sets, Spoils}
+
+-- a slot with a value has a capacity
+pub has-capacity : (slots : List Slot) (s : ℕ) (u : List ℕ) → value_at slots s ≡ Some u → IsSome (capacity_at slots s)
+has-capacity [] s u found = absurd (cc)
+has-capacity (x ∷ xs) zero u found = refl
+has-capacity (x ∷ xs) (suc s) u found = has-capacity xs s u found
+
+-- a slot of a page fits its place
+pub slot-fits : (slots : List Slot) (s : ℕ) → AllByRecursion SlotFits slots → s < length slots
+    → (capacity slots s ≤ 256) × (size (value slots s) ≤ capacity slots s)
+slot-fits [] s all lt = absurd (omega (arith, lt))
+slot-fits (x ∷ xs) zero all lt = (all.0.capacity, all.0.value)
+slot-fits (x ∷ xs) (suc s) all lt = slot-fits xs s all.1 (omega (arith, lt))
+
+module _ (page : Page) (s own : ℕ) (u : List ℕ) (fits : Fits page) (found : value_at page.slots s ≡ Some u)
+    (has : capacity_at page.slots s ≡ Some own) where
+  place : s < length page.slots
+  place = (has-slot page.slots s own has).0
+
+  own-is : own ≡ capacity page.slots s
+  own-is = (has-slot page.slots s own has).1
+
+  value-is : value page.slots s ≡ Some u
+  value-is = sym (value-at page.slots s) ∙ found
+
+  small : own ≤ 256
+  small = let all = slot-fits page.slots s fits.slots place in let is = own-is in omega (arith, all.0, is)
+
+  room : length u ≤ own
+  room = let all = slot-fits page.slots s fits.slots place in let is = own-is in let had = ap size value-is in omega (arith, all.1, is, had)
+
+  sets : (edit : Edit) (new : ℕ) (after : Option (List ℕ)) → new ≡ own → Makes edit u after → size after ≤ own → Sets page s edit new after
+  sets edit new after same makes within = record {
+    u = u;
+    found = value-is;
+    makes = makes;
+    place = place;
+    fits = record {
+      place = let lt = place in omega (arith, lt);
+      found = refl;
+      same = λ lt. same ∙ own-is;
+      room = λ e. let lt = place in absurd (omega (arith, lt, e));
+      within = omega (arith, same, within);
+    };
+    small = let le = small in omega (arith, same, le);
+    had_small = let le = small in let had = room in omega (arith, le, had);
+  }
+
+  spoiled : (edit : Edit) (n : Refusal) → Spoils edit u own n → IsSpoiled page s edit n
+  spoiled edit n why = record { u = u; capacity = own; found = value-is; room = room; why = why }
+
+  to-plan : (v : Bor (List ℕ)) (plan : Plan) → IsFitted own v.now plan → IsPlan page s (To v) plan
+  to-plan v (Put new after) f = sets (To v) new after f.0 f.1 (let le = f.2 in let e = ap size f.1 in omega (arith, le, e))
+  to-plan v (Refuse R.TooLong) f = spoiled (To v) R.TooLong f
+  to-plan v (Refuse n) f = elim f [ ]
+
+  sum-plan : (by : ℤ) (plan : Plan) → IsSumFitted own u by plan → IsPlan page s (By by) plan
+  sum-plan by (Put new after) f = sets (By by) new after f.1 (f.0, f.2, f.4) (let le = f.3 in let e = ap size f.2 in omega (arith, le, e))
+  sum-plan by (Refuse R.NotNumber) f = spoiled (By by) R.NotNumber f
+  sum-plan by (Refuse R.TooLong) f = spoiled (By by) R.TooLong f
+  sum-plan by (Refuse n) f = elim f [ ]
+
+  pub to-planned : {X : Type 0} (v : Bor (List ℕ)) (result : Result Plan X) → IfOk result (IsFitted own v.now) → IfOk result (IsPlan page s (To v))
+  to-planned v (Ok plan) f = to-plan v plan f
+  to-planned v (Err e) f = tt
+
+  pub sum-planned : {X : Type 0} (by : ℤ) (result : Result Plan X) → IfOk result (IsSumFitted own u by) → IfOk result (IsPlan page s (By by))
+  sum-planned by (Ok plan) f = sum-plan by plan f
+  sum-planned by (Err e) f = tt
+
+  pub gone-planned : Sets page s Gone own None
+  gone-planned = sets Gone own None refl refl (omega arith)

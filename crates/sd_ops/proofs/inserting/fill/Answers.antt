@@ -1,0 +1,193 @@
+use Rattle.std.proofs.Common.{◌≡◌, ◌≤◌, ℕ, true, List, length, sym, ap, ◌∙◌, subst, arith, rules}
+use Rattle.std.specs.Prelude.{None, Some, Err}
+use Rattle.std.proofs.lemmas.Result.{err_from_is_err_and}
+use Rattle.sd_base.specs.declared.ids.Rid.{Rid}
+use Rattle.sd_base.specs.declared.place.Mode.TheVariants.{Excl}
+use Rattle.sd_base.specs.declared.place.Status.TheVariants as S
+use Rattle.sd_base.specs.declared.refusal.Refusal.TheVariants as R
+use Rattle.sd_model.specs.declared.event.Event.TheVariants as event
+use Rattle.sd_model.specs.declared.event.Reply.TheVariants as reply
+use Rattle.sd_pagelock.specs.Directory.{entry_at}
+use Rattle.sd_pagelock.specs.Places.{holds_as}
+use Rattle.sd_reclock.specs.Answers.{IsFree}
+use Rattle.sd_reclock.specs.Locks.{LockTable, stands, wait_for}
+use Rattle.sd_state.specs.Changing.{FitsThere, LacksRoom, change_of, image_for}
+use Rattle.sd_state.specs.Complexes.{parts}
+use Rattle.sd_state.specs.Parts.{Parts, status_at, txns_at}
+use Rattle.sd_txn.specs.Transactions.{state_at}
+use Rattle.sd_txn.specs.declared.state.TxnState.{TxnState}
+use Rattle.sd_world.specs.Serving.{refused}
+use Rattle.sd_fits.specs.Fits.{Fits}
+use Rattle.sd_ops.specs.Halves.{HalfServed}
+use Rattle.sd_ops.specs.Puts.{IsPutThere}
+use Rattle.sd_ops.specs.Vacancies.{IsFullFor, IsVacant}
+use Rattle.sd_ops.proofs.Filled.{filled-half, put-not-full, unfilled-half}
+use Rattle.sd_ops.proofs.Filling.{insert-asked, insert-away, insert-long, insert-work}
+use Rattle.sd_ops.proofs.Vacating.{not-long}
+use Rattle.sd_ops.proofs.Work.{err-half, off-half}
+use Rattle.sd_ops.proofs.inserting.fill.Goals as goal
+
+pub returns-in_err-at_work-clause-half : goal.returns-in_err-at_work-clause-half
+returns-in_err-at_work-clause-half g c =
+    let rig = c.args.c.now.rig in
+    let ev = event.Insert c.args.t.now c.args.p c.args.value.now c.args.capacity in
+    let x : Parts = parts c.args.c.now in
+    let n = c.in_err-at_work.field-0.0 in
+    let e = err_from_is_err_and c.from_residual.result c.from_residual.ensures.1 in (
+      None,
+      err-half (λ (r : Rid). reply.At r) c.from_residual.result e.0 n (g.G.Rig.seen rig) (g.G.Rig.leaves rig) None ev x x e.1 e.2
+          (off-half ev c.args.t.now (insert-work c.args.t.now c.args.p c.args.value.now c.args.capacity) (g.G.Rig.seen rig)
+          (g.G.Rig.leaves rig) x c.at_work.ensures.low c.at_work.ensures.high n c.in_err-at_work.ensures.off),
+    )
+
+pub returns-then-is_long-clause-half : goal.returns-then-is_long-clause-half
+returns-then-is_long-clause-half g c =
+    let rig = c.args.c.now.rig in (
+      None,
+      insert-long c.args.t.now c.args.p c.args.value.now c.args.capacity (g.G.Rig.seen rig) (g.G.Rig.leaves rig)
+          (parts c.args.c.now)
+          c.at_work.ensures.low c.at_work.ensures.high c.in_ok-at_work.ensures.up c.in_ok-at_work.ensures.runs
+          (c.is_long.ensures.0 c.if-is_long.true),
+    )
+
+pub returns-in_err-vacancy-clause-half : goal.returns-in_err-vacancy-clause-half
+returns-in_err-vacancy-clause-half g c =
+    let rig = c.args.c.now.rig in
+    let ev = event.Insert c.args.t.now c.args.p c.args.value.now c.args.capacity in
+    let x : Parts = parts c.args.c.now in
+    let n = c.in_err-vacancy.field-0.0 in
+    let e = err_from_is_err_and c.from_residual-in_err-vacancy.result c.from_residual-in_err-vacancy.ensures.1 in (
+      None,
+      err-half (λ (r : Rid). reply.At r) c.from_residual-in_err-vacancy.result e.0 n (g.G.Rig.seen rig)
+          (g.G.Rig.leaves rig) None ev x x
+          e.1 e.2
+          (insert-away c.args.t.now c.args.p c.args.value.now c.args.capacity (g.G.Rig.seen rig) (g.G.Rig.leaves rig) x
+          c.at_work.ensures.low c.at_work.ensures.high c.in_ok-at_work.ensures.up c.in_ok-at_work.ensures.runs
+          (λ long. let f = sym c.if-is_long.false ∙ c.is_long.ensures.1 long in absurd (cc)) n c.in_err-vacancy.ensures.lacks),
+    )
+
+pub returns-in_err-ask-clause-half : goal.returns-in_err-ask-clause-half
+returns-in_err-ask-clause-half g c =
+    let rig = c.args.c.now.rig in
+    let ev = event.Insert c.args.t.now c.args.p c.args.value.now c.args.capacity in
+    let x : Parts = parts c.args.c.now in
+    let r : Rid = record { page = c.args.p; slot = c.in_ok-vacancy.vacancy.slot } in
+    let n = c.in_err-ask.field-0.0 in
+    let e = err_from_is_err_and c.from_residual-in_err-ask.result c.from_residual-in_err-ask.ensures.1 in (
+      Some r,
+      err-half (λ (q : Rid). reply.At q) c.from_residual-in_err-ask.result e.0 n (g.G.Rig.seen rig) (g.G.Rig.leaves rig)
+          (Some r) ev x
+          (parts c.ask.new.c) e.1 e.2
+          (insert-asked c.args.t.now c.args.p c.args.value.now c.args.capacity (g.G.Rig.seen rig) (g.G.Rig.leaves rig) x
+          c.at_work.ensures.low c.at_work.ensures.high c.in_ok-at_work.ensures.up c.in_ok-at_work.ensures.runs
+          (λ long. let f = sym c.if-is_long.false ∙ c.is_long.ensures.1 long in absurd (cc)) c.in_ok-vacancy.ensures.held
+          c.in_ok-vacancy.vacancy.slot c.in_ok-vacancy.vacancy.capacity c.in_ok-vacancy.ensures.vacant
+          (parts c.ask.new.c) n c.in_err-ask.ensures.refused c.in_err-ask.ensures.noted),
+    )
+
+pub returns-in_err-bytes-clause-half : goal.returns-in_err-bytes-clause-half
+returns-in_err-bytes-clause-half g c =
+    let rig = c.args.c.now.rig in
+    let ev = event.Insert c.args.t.now c.args.p c.args.value.now c.args.capacity in
+    let x : Parts = parts c.args.c.now in
+    let e = err_from_is_err_and c.from_residual-in_err-bytes.result c.from_residual-in_err-bytes.ensures.1 in (
+      None,
+      err-half (λ (r : Rid). reply.At r) c.from_residual-in_err-bytes.result e.0 R.Memory (g.G.Rig.seen rig)
+          (g.G.Rig.leaves rig) None ev x
+          (parts c.ask.new.c) e.1 e.2
+          (λ w f. subst (λ (y : Parts). Fits (g.G.Rig.seen rig) (g.G.Rig.leaves rig) y w) (sym c.in_ok-ask.ensures.same) f),
+    )
+
+pub put-requires-clause-free : goal.put-requires-clause-free
+put-requires-clause-free g c = subst
+    (λ (l : LockTable). IsFree (stands l) c.args.t.now (wait_for
+    (record { page = c.args.p; slot = c.in_ok-vacancy.vacancy.slot }) Excl))
+    (sym (ap (λ (x : Parts). x.locks) c.in_ok-ask.ensures.same)) c.in_ok-ask.ensures.free
+
+pub put-requires-clause-small : goal.put-requires-clause-small
+put-requires-clause-small g c = c.in_ok-vacancy.ensures.vacant.small
+
+pub put-requires-clause-takes : goal.put-requires-clause-takes
+put-requires-clause-takes g c =
+    let short : length c.args.value.now ≤ c.args.capacity = not-long c.args.value.now c.args.capacity
+    (λ long. let f = sym c.if-is_long.false ∙ c.is_long.ensures.1 long in absurd (cc)) in
+    let same : c.in_ok-bytes.bytes.items ≡ c.args.value.now = search rules in
+    let len = ap (λ (b : List ℕ). length b) (c.of.ensures ∙ same) in
+    subst (λ (x : Parts). FitsThere c.args.t.now (record { page = c.args.p; slot = c.in_ok-vacancy.vacancy.slot })
+    c.in_ok-vacancy.vacancy.capacity (Some c.of.result) x) (sym c.in_ok-ask.ensures.same)
+    (c.in_ok-vacancy.ensures.vacant.takes (Some c.of.result) (omega (arith, short, len)))
+
+pub returns-in_err-put-clause-half : goal.returns-in_err-put-clause-half
+returns-in_err-put-clause-half g c =
+    let rig = c.args.c.now.rig in
+    let t = c.args.t.now in
+    let ev = event.Insert t c.args.p c.args.value.now c.args.capacity in
+    let x : Parts = parts c.args.c.now in
+    let mid : Parts = parts c.ask.new.c in
+    let same = c.in_ok-ask.ensures.same in
+    let bytes : c.of.result ≡ c.args.value.now = search rules in
+    let n = c.in_err-put.field-0.0 in
+    let e = err_from_is_err_and c.from_residual-in_err-put.result c.from_residual-in_err-put.ensures.1 in (
+      None,
+      err-half (λ (r : Rid). reply.At r) c.from_residual-in_err-put.result e.0 n (g.G.Rig.seen rig) (g.G.Rig.leaves rig) None ev x
+          (parts c.put.new.c) e.1 e.2
+          (subst (λ d. HalfServed (g.G.Rig.seen d) (g.G.Rig.leaves d) None ev (refused n) x (parts c.put.new.c)) c.ask.ensures.rig
+          (subst (λ (y : Parts). HalfServed (g.G.Rig.seen c.ask.new.c.rig) (g.G.Rig.leaves c.ask.new.c.rig) None ev (refused n) y
+          (parts c.put.new.c)) same
+          (unfilled-half t c.args.p c.args.value.now c.args.capacity (g.G.Rig.seen c.ask.new.c.rig)
+          (g.G.Rig.leaves c.ask.new.c.rig) mid
+          c.at_work.ensures.low c.at_work.ensures.high
+          (subst (λ (y : Parts). status_at y t.inst ≡ S.Up) (sym same) c.in_ok-at_work.ensures.up)
+          (subst (λ (y : Parts). state_at (txns_at y t.inst) t ≡ Some TxnState.Running) (sym same) c.in_ok-at_work.ensures.runs)
+          (λ long. let f = sym c.if-is_long.false ∙ c.is_long.ensures.1 long in absurd (cc))
+          (subst (λ (y : Parts). holds_as Excl (entry_at y.directory c.args.p) t.inst ≡ true)
+          (sym same) c.in_ok-vacancy.ensures.held)
+          c.in_ok-vacancy.vacancy.slot c.in_ok-vacancy.vacancy.capacity
+          (subst (λ (y : Parts). IsVacant (image_for t c.args.p y) t c.args.p c.args.capacity y c.in_ok-vacancy.vacancy.slot
+          c.in_ok-vacancy.vacancy.capacity) (sym same) c.in_ok-vacancy.ensures.vacant)
+          (subst (λ (y : Parts). IsFree (stands y.locks) t
+          (wait_for (record { page = c.args.p; slot = c.in_ok-vacancy.vacancy.slot }) Excl)) (sym same) c.in_ok-ask.ensures.free)
+          (parts c.put.new.c) c.put.result n c.in_err-put.was c.put.ensures.lowered
+          (subst (λ (b : List ℕ). c.put.result ≡ Err R.LogFull → LacksRoom (change_of t
+          (record { page = c.args.p; slot = c.in_ok-vacancy.vacancy.slot }) c.in_ok-vacancy.vacancy.capacity (Some b) mid) mid)
+          bytes c.put.ensures.full)
+          c.put.ensures.lsns c.put.ensures.refusals))),
+    )
+
+pub returns-in_err-put-clause-full : goal.returns-in_err-put-clause-full
+returns-in_err-put-clause-full g c =
+    let e = err_from_is_err_and c.from_residual-in_err-put.result c.from_residual-in_err-put.ensures.1 in
+    put-not-full c.from_residual-in_err-put.result c.put.result e.0 c.in_err-put.field-0.0
+    (IsFullFor (image_for c.args.t.now c.args.p (parts c.args.c.now)) c.args.t.now c.args.p c.args.capacity (parts c.args.c.now))
+    e.1 e.2 c.in_err-put.was c.put.ensures.refusals
+
+pub returns-clause-half : goal.returns-clause-half
+returns-clause-half g c =
+    let t = c.args.t.now in
+    let r : Rid = record { page = c.args.p; slot = c.in_ok-vacancy.vacancy.slot } in
+    let ev = event.Insert t c.args.p c.args.value.now c.args.capacity in
+    let x : Parts = parts c.args.c.now in
+    let mid : Parts = parts c.ask.new.c in
+    let same = c.in_ok-ask.ensures.same in
+    let bytes : c.of.result ≡ c.args.value.now = search rules in (
+      Some r,
+      subst (λ d. HalfServed (g.G.Rig.seen d) (g.G.Rig.leaves d) (Some r) ev (Some (reply.At r)) x (parts c.put.new.c))
+          c.ask.ensures.rig
+          (subst (λ (y : Parts). HalfServed (g.G.Rig.seen c.ask.new.c.rig) (g.G.Rig.leaves c.ask.new.c.rig) (Some r) ev
+          (Some (reply.At r)) y (parts c.put.new.c)) same
+          (filled-half t c.args.p c.args.value.now c.args.capacity (g.G.Rig.seen c.ask.new.c.rig)
+          (g.G.Rig.leaves c.ask.new.c.rig) mid
+          c.at_work.ensures.low c.at_work.ensures.high
+          (subst (λ (y : Parts). status_at y t.inst ≡ S.Up) (sym same) c.in_ok-at_work.ensures.up)
+          (subst (λ (y : Parts). state_at (txns_at y t.inst) t ≡ Some TxnState.Running) (sym same) c.in_ok-at_work.ensures.runs)
+          (λ long. let f = sym c.if-is_long.false ∙ c.is_long.ensures.1 long in absurd (cc))
+          (subst (λ (y : Parts). holds_as Excl (entry_at y.directory c.args.p) t.inst ≡ true)
+          (sym same) c.in_ok-vacancy.ensures.held)
+          c.in_ok-vacancy.vacancy.slot c.in_ok-vacancy.vacancy.capacity
+          (subst (λ (y : Parts). IsVacant (image_for t c.args.p y) t c.args.p c.args.capacity y c.in_ok-vacancy.vacancy.slot
+          c.in_ok-vacancy.vacancy.capacity) (sym same) c.in_ok-vacancy.ensures.vacant)
+          (subst (λ (y : Parts). IsFree (stands y.locks) t (wait_for r Excl)) (sym same) c.in_ok-ask.ensures.free)
+          (parts c.put.new.c)
+          (subst (λ (b : List ℕ). IsPutThere (g.G.Rig.seen c.ask.new.c.rig) (g.G.Rig.leaves c.ask.new.c.rig) t r
+          c.in_ok-vacancy.vacancy.capacity (Some b) mid (parts c.put.new.c)) bytes c.in_ok-put.ensures.put))),
+    )

@@ -1,0 +1,115 @@
+use Rattle.std.proofs.Common.{◌≡◌, sym, ap, ◌∙◌, subst}
+use Rattle.std.specs.Prelude.{None, Some}
+use Rattle.std.proofs.lemmas.Result.{err_from_is_err_and}
+use Rattle.sd_base.specs.declared.place.Mode.TheVariants.{Excl}
+use Rattle.sd_base.specs.declared.place.Status.TheVariants as S
+use Rattle.sd_model.specs.declared.event.Reply.TheVariants as reply
+use Rattle.sd_reclock.specs.Answers.{IsFree}
+use Rattle.sd_reclock.specs.Locks.{LockTable, stands, wait_for}
+use Rattle.sd_state.specs.Changing.{image_for}
+use Rattle.sd_state.specs.Complexes.{parts}
+use Rattle.sd_state.specs.Parts.{Parts, status_at, txns_at}
+use Rattle.sd_txn.specs.Transactions.{state_at}
+use Rattle.sd_txn.specs.declared.state.TxnState.{TxnState}
+use Rattle.sd_world.specs.Serving.{did, refused}
+use Rattle.sd_ops.specs.Edits.{IsPlan, event_of}
+use Rattle.sd_ops.specs.Halves.{HalfServed, LacksPage}
+use Rattle.sd_ops.proofs.Edited.{put-served}
+use Rattle.sd_ops.proofs.Editing.{edit-asked, edit-away, edit-long, edit-work}
+use Rattle.sd_ops.proofs.Spoiling.{vain-half}
+use Rattle.sd_ops.proofs.Work.{err-half, off-half}
+use Rattle.sd_ops.proofs.records.carry.Goals as goal
+
+pub returns-in_err-at_work-clause-half : goal.returns-in_err-at_work-clause-half
+returns-in_err-at_work-clause-half g c =
+    let rig = c.args.c.now.rig in
+    let t = c.args.t.now in
+    let r = c.args.r.now in
+    let ev = event_of t r c.args.edit.now in
+    let p : Parts = parts c.args.c.now in
+    let n = c.in_err-at_work.field-0.0 in
+    let e = err_from_is_err_and c.from_residual.result c.from_residual.ensures.1 in
+    err-half (λ v. reply.Did) c.from_residual.result e.0 n (g.G.Rig.seen rig) (g.G.Rig.leaves rig) None ev p p e.1 e.2
+    (off-half ev t (edit-work t r c.args.edit.now) (g.G.Rig.seen rig) (g.G.Rig.leaves rig) p c.at_work.ensures.low c.at_work.ensures.high n
+    c.in_err-at_work.ensures.off)
+
+pub returns-then-is_long-clause-half : goal.returns-then-is_long-clause-half
+returns-then-is_long-clause-half g c =
+    let rig = c.args.c.now.rig in
+    edit-long c.args.t.now c.args.r.now (g.G.Rig.seen rig) (g.G.Rig.leaves rig) (parts c.args.c.now) c.at_work.ensures.low c.at_work.ensures.high
+    c.in_ok-at_work.ensures.up c.in_ok-at_work.ensures.runs c.args.edit.now (c.is_long.ensures.0 c.if-is_long.true)
+
+pub returns-in_err-ask-clause-half : goal.returns-in_err-ask-clause-half
+returns-in_err-ask-clause-half g c =
+    let rig = c.args.c.now.rig in
+    let t = c.args.t.now in
+    let r = c.args.r.now in
+    let ev = event_of t r c.args.edit.now in
+    let p : Parts = parts c.args.c.now in
+    let n = c.in_err-ask.field-0.0 in
+    let e = err_from_is_err_and c.from_residual-in_err-ask.result c.from_residual-in_err-ask.ensures.1 in
+    err-half (λ v. reply.Did) c.from_residual-in_err-ask.result e.0 n (g.G.Rig.seen rig) (g.G.Rig.leaves rig) None ev p (parts c.ask.new.c) e.1 e.2
+    (edit-asked t r (g.G.Rig.seen rig) (g.G.Rig.leaves rig) p c.at_work.ensures.low c.at_work.ensures.high c.in_ok-at_work.ensures.up
+    c.in_ok-at_work.ensures.runs c.args.edit.now (λ long. let f = sym c.if-is_long.false ∙ c.is_long.ensures.1 long in absurd (cc))
+    (parts c.ask.new.c) n c.in_err-ask.ensures.refused c.in_err-ask.ensures.noted)
+
+pub returns-in_err-plan-clause-half : goal.returns-in_err-plan-clause-half
+returns-in_err-plan-clause-half g c =
+    let rig = c.args.c.now.rig in
+    let t = c.args.t.now in
+    let r = c.args.r.now in
+    let ev = event_of t r c.args.edit.now in
+    let p : Parts = parts c.args.c.now in
+    let n = c.in_err-plan.field-0.0 in
+    let same = c.in_ok-ask.ensures.same in
+    let e = err_from_is_err_and c.from_residual-in_err-plan.result c.from_residual-in_err-plan.ensures.1 in
+    err-half (λ v. reply.Did) c.from_residual-in_err-plan.result e.0 n (g.G.Rig.seen rig) (g.G.Rig.leaves rig) None ev p (parts c.ask.new.c) e.1 e.2
+    (subst (λ (x : Parts). HalfServed (g.G.Rig.seen rig) (g.G.Rig.leaves rig) None ev (refused n) p x) (sym same)
+    (edit-away t r (g.G.Rig.seen rig) (g.G.Rig.leaves rig) p c.at_work.ensures.low c.at_work.ensures.high c.in_ok-at_work.ensures.up
+    c.in_ok-at_work.ensures.runs c.args.edit.now (λ long. let f = sym c.if-is_long.false ∙ c.is_long.ensures.1 long in absurd (cc))
+    c.in_ok-ask.ensures.free n (subst (λ (x : Parts). LacksPage Excl t.inst r.page x n) same c.in_err-plan.ensures.lacks)))
+
+pub put-requires-clause-free : goal.put-requires-clause-free
+put-requires-clause-free g c = subst (λ (l : LockTable). IsFree (stands l) c.args.t.now (wait_for c.args.r.now Excl))
+    (sym (ap (λ (x : Parts). x.locks) c.in_ok-ask.ensures.same)) c.in_ok-ask.ensures.free
+
+pub grant-requires-clause-free : goal.grant-requires-clause-free
+grant-requires-clause-free g c = subst (λ (l : LockTable). IsFree (stands l) c.args.t.now (wait_for c.args.r.now Excl))
+    (sym (ap (λ (x : Parts). x.locks) c.in_ok-ask.ensures.same)) c.in_ok-ask.ensures.free
+
+pub returns-in-Put-clause-half : goal.returns-in-Put-clause-half
+returns-in-Put-clause-half g c =
+    let t = c.args.t.now in
+    let r = c.args.r.now in
+    let ev = event_of t r c.args.edit.now in
+    let mid : Parts = parts c.ask.new.c in
+    let same = c.in_ok-ask.ensures.same in
+    subst (λ d. HalfServed (g.G.Rig.seen d) (g.G.Rig.leaves d) None ev (did c.put.result) (parts c.args.c.now) (parts c.put.new.c)) c.ask.ensures.rig
+    (subst (λ (x : Parts). HalfServed (g.G.Rig.seen c.ask.new.c.rig) (g.G.Rig.leaves c.ask.new.c.rig) None ev (did c.put.result) x
+    (parts c.put.new.c)) same
+    (put-served t r c.args.edit.now (λ long. let f = sym c.if-is_long.false ∙ c.is_long.ensures.1 long in absurd (cc))
+    (g.G.Rig.seen c.ask.new.c.rig) (g.G.Rig.leaves c.ask.new.c.rig) mid c.at_work.ensures.low c.at_work.ensures.high
+    (subst (λ (x : Parts). status_at x t.inst ≡ S.Up) (sym same) c.in_ok-at_work.ensures.up)
+    (subst (λ (x : Parts). state_at (txns_at x t.inst) t ≡ Some TxnState.Running) (sym same) c.in_ok-at_work.ensures.runs)
+    (subst (λ (x : Parts). IsFree (stands x.locks) t (wait_for r Excl)) (sym same) c.in_ok-ask.ensures.free)
+    c.in_ok-plan.ensures.held c.in-Put.capacity c.in-Put.after
+    (subst (IsPlan (image_for t r.page mid) r.slot c.args.edit.now) c.in-Put.is c.in_ok-plan.ensures.plan)
+    c.put.result (parts c.put.new.c) c.put.ensures.put c.put.ensures.lowered c.put.ensures.full c.put.ensures.lsns c.put.ensures.refusals))
+
+pub returns-in_ok-grant-in-Refuse-clause-half : goal.returns-in_ok-grant-in-Refuse-clause-half
+returns-in_ok-grant-in-Refuse-clause-half g c =
+    let rig = c.args.c.now.rig in
+    let t = c.args.t.now in
+    let r = c.args.r.now in
+    let ev = event_of t r c.args.edit.now in
+    let mid : Parts = parts c.ask.new.c in
+    let same = c.in_ok-ask.ensures.same in
+    subst (λ (x : Parts). HalfServed (g.G.Rig.seen rig) (g.G.Rig.leaves rig) None ev (refused c.in-Refuse.refusal) x (parts c.grant.new.self)) same
+    (vain-half t r (g.G.Rig.seen rig) (g.G.Rig.leaves rig) mid c.at_work.ensures.low c.at_work.ensures.high
+    (subst (λ (x : Parts). status_at x t.inst ≡ S.Up) (sym same) c.in_ok-at_work.ensures.up)
+    (subst (λ (x : Parts). state_at (txns_at x t.inst) t ≡ Some TxnState.Running) (sym same) c.in_ok-at_work.ensures.runs)
+    (subst (λ (x : Parts). IsFree (stands x.locks) t (wait_for r Excl)) (sym same) c.in_ok-ask.ensures.free)
+    c.in_ok-plan.ensures.held c.args.edit.now (λ long. let f = sym c.if-is_long.false ∙ c.is_long.ensures.1 long in absurd (cc))
+    c.in-Refuse.refusal (subst (IsPlan (image_for t r.page mid) r.slot c.args.edit.now) c.in-Refuse.is c.in_ok-plan.ensures.plan)
+    (parts c.grant.new.self)
+    (record { rest = c.grant.ensures.parts; given = c.in_ok-grant-in-Refuse.ensures.given; waiting = c.grant.ensures.waits }))

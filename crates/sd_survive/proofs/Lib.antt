@@ -1,0 +1,7 @@
+pub mod Failed
+mod Fewer
+mod Spans
+mod Started
+mod Unjoined
+mod Joined
+mod Calls

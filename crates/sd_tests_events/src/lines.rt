@@ -1,0 +1,308 @@
+//! Events and replies of worked runs, built from short words.
+
+ghost use Rattle.std.specs.Prelude.{IfOk, IfSome};
+ghost use Rattle.sd_hall.specs.Served.{IsServed};
+
+use sd_base::{Bytes, InstNo, InstSet, Memory, Mode, PageNo, Place, Refusal, Rid, Status, TxnId};
+use sd_model::{Event, Reply};
+use std::alloc::Global;
+
+/// A line of a run: what this one asks, and what is answered.
+pub type Line = (Who, Ask, Say);
+
+/// A slot, and the value of its record.
+pub type Row = (u16, &'static [u8]);
+
+/// A transaction: its instance, the epoch of that, and its number in the epoch. It stands for its instance too.
+#[derive(Clone, Copy, PartialEq, Eq)]
+pub struct Who(pub u8, pub u32, pub u32);
+
+/// Instance 1, and its first three transactions.
+pub const ONE: Who = Who(1, 0, 0);
+
+pub const FIRST: Who = Who(1, 1, 1);
+
+pub const NEXT: Who = Who(1, 1, 2);
+
+pub const LAST: Who = Who(1, 1, 3);
+
+/// Instance 2, and its first transaction.
+pub const TWO: Who = Who(2, 0, 0);
+
+pub const FAR: Who = Who(2, 1, 1);
+
+/// What a transaction or an instance asks. A record that is there is of page 0, and named by its slot.
+#[derive(Clone, Copy)]
+pub enum Ask {
+    Begin,
+    Read(u16),
+    Write(u16, &'static [u8]),
+    Add(u16, i64),
+    /// A value into the page, in a slot of this capacity in bytes.
+    Insert(u16, &'static [u8], u16),
+    Delete(u16),
+    Commit,
+    List(u16),
+    Show(u16),
+    /// The page is asked for, to be changed.
+    Alone(u16),
+    /// The page is asked for, to be read.
+    Share(u16),
+    Evict(u16),
+    Flush(u16),
+    Force,
+    Fail,
+    Join,
+}
+
+/// What is answered.
+#[derive(Clone, Copy)]
+pub enum Say {
+    Began(Who),
+    Absent,
+    Value(&'static [u8]),
+    Did,
+    /// The new record's slot.
+    At(u16),
+    Rows(&'static [Row]),
+    Have,
+    Asked(Who),
+    Joined(u32),
+    /// Where the page is, and the LSN of its newest version.
+    Shown(Spot, u64),
+    No(Why),
+}
+
+/// Where a page is.
+#[derive(Clone, Copy)]
+pub enum Spot {
+    Free,
+    /// In this instance's pool alone, to be read.
+    Shared(Who),
+    /// In this instance's pool alone, to be changed, and as on disk.
+    Clean(Who),
+    /// The same, and not as on disk.
+    Changed(Who),
+}
+
+/// Why it is refused.
+#[derive(Clone, Copy)]
+pub enum Why {
+    PageFull,
+    NoRecord,
+    NotNumber,
+    TooLong,
+    PoolFull,
+    Blocked(Who),
+    /// The first waits for the second, and that for the first.
+    Deadlock(Who, Who),
+    NeedPage(Spot),
+    Down,
+    Busy(Who),
+    Dirty,
+    /// It isn't down, but up.
+    Up,
+    /// It isn't recovered, but down.
+    NotRecovered,
+    NoTxn,
+}
+
+fn txn(who: Who) -> Option<TxnId> {
+    let Who(number, epoch, seq) = who;
+    let inst = InstNo::new(number)?;
+    Some(TxnId { inst, epoch, seq })
+}
+
+/// The event of what this one asks; `None` where it names no instance or no page.
+pub fn event(alloc: Global, who: Who, ask: Ask) -> Result<Option<Event>, Memory>
+    ensures { IfOk result (λ e. IfSome e (λ x. IsServed x)) }
+{
+    match ask {
+        Ask::Write(slot, bytes) => Ok(written(who, slot, text(alloc, bytes)?)),
+        Ask::Insert(p, bytes, capacity) => Ok(inserted(who, p, text(alloc, bytes)?, capacity)),
+        _ => Ok(call(who, ask)),
+    }
+}
+
+fn text(alloc: Global, bytes: &[u8]) -> Result<Bytes, Memory> {
+    Ok(Bytes::of(bytes.to_vec(alloc)?))
+}
+
+// The event of a write.
+fn written(who: Who, slot: u16, value: Bytes) -> Option<Event>
+    ensures { IfSome result (λ e. IsServed e) }
+{
+    let txn = txn(who)?;
+    let rid = Rid {
+        page: PageNo::new(0)?,
+        slot,
+    };
+    Some(Event::Write { txn, rid, value })
+}
+
+// The event of an insert.
+fn inserted(who: Who, p: u16, value: Bytes, capacity: u16) -> Option<Event>
+    ensures { IfSome result (λ e. IsServed e) }
+{
+    let txn = txn(who)?;
+    let page = PageNo::new(p)?;
+    Some(Event::Insert {
+        txn,
+        page,
+        value,
+        capacity,
+    })
+}
+
+// The event of a call that carries no text.
+fn call(who: Who, ask: Ask) -> Option<Event>
+    ensures { IfSome result (λ e. IsServed e) }
+{
+    let txn = txn(who)?;
+    let page = PageNo::new(0)?;
+    match ask {
+        Ask::Read(slot) => Some(Event::Read {
+            txn,
+            rid: Rid { page, slot },
+        }),
+        Ask::Add(slot, by) => Some(Event::Add {
+            txn,
+            rid: Rid { page, slot },
+            by,
+        }),
+        Ask::Delete(slot) => Some(Event::Delete {
+            txn,
+            rid: Rid { page, slot },
+        }),
+        Ask::Commit => Some(Event::Commit { txn }),
+        other => deed(txn.inst, other),
+    }
+}
+
+// The event of what the instance asks.
+fn deed(inst: InstNo, ask: Ask) -> Option<Event>
+    ensures { IfSome result (λ e. IsServed e) }
+{
+    match ask {
+        Ask::Begin => Some(Event::Begin { inst }),
+        Ask::Force => Some(Event::Force { inst }),
+        Ask::Fail => Some(Event::Fail { inst }),
+        Ask::Join => Some(Event::Join { inst }),
+        Ask::List(p) => Some(Event::List {
+            inst,
+            page: PageNo::new(p)?,
+        }),
+        Ask::Evict(p) => Some(Event::Evict {
+            inst,
+            page: PageNo::new(p)?,
+        }),
+        Ask::Flush(p) => Some(Event::Flush {
+            inst,
+            page: PageNo::new(p)?,
+        }),
+        Ask::Show(p) => Some(Event::Show {
+            page: PageNo::new(p)?,
+        }),
+        Ask::Alone(p) => page_asked(inst, p, Mode::Excl),
+        Ask::Share(p) => page_asked(inst, p, Mode::Shared),
+        _ => None,
+    }
+}
+
+// The event of an ask for a page.
+fn page_asked(inst: InstNo, p: u16, mode: Mode) -> Option<Event>
+    ensures { IfSome result (λ e. IsServed e) }
+{
+    let page = PageNo::new(p)?;
+    Some(Event::Ask { inst, page, mode })
+}
+
+/// Whether it is answered so.
+pub fn is_said(reply: &Reply, say: Say) -> bool {
+    match (reply, say) {
+        (Reply::Began(t), Say::Began(who)) => is_txn(t, who),
+        (Reply::Value(None), Say::Absent) => true,
+        (Reply::Value(Some(value)), Say::Value(bytes)) => value.items() == bytes,
+        (Reply::Did, Say::Did) => true,
+        (Reply::At(rid), Say::At(slot)) => rid.slot == slot,
+        (Reply::Rows(rows), Say::Rows(said)) => are_rows(rows.items(), said),
+        (Reply::Have, Say::Have) => true,
+        (Reply::Asked { of }, Say::Asked(who)) => of.get() == who.0,
+        (Reply::Joined { epoch }, Say::Joined(number)) => *epoch == number,
+        (Reply::Shown { place, lsn }, Say::Shown(spot, number)) => is_spot(place, spot)
+            && *lsn == number,
+        (Reply::Refused(refusal), Say::No(why)) => is_why(refusal, why),
+        _ => false,
+    }
+}
+
+// Whether these are the rows, in this order.
+fn are_rows(rows: &[(Rid, Bytes)], said: &[Row]) -> bool {
+    if rows.len() != said.len() {
+        return false;
+    }
+    for n in 0..said.len() {
+        let (rid, value) = &rows[n];
+        let (slot, bytes) = said[n];
+        if rid.slot != slot || value.items() != bytes {
+            return false;
+        }
+    }
+    true
+}
+
+// Whether a page is there.
+fn is_spot(place: &Place, spot: Spot) -> bool {
+    match (place, spot) {
+        (Place::Free, Spot::Free) => true,
+        (Place::Shared { set, writer: None }, Spot::Shared(who)) => is_alone(*set, who),
+        (Place::Excl { holder, dirty }, Spot::Clean(who)) => holder.get() == who.0 && !*dirty,
+        (Place::Excl { holder, dirty }, Spot::Changed(who)) => holder.get() == who.0 && *dirty,
+        _ => false,
+    }
+}
+
+// Whether the set has this instance alone.
+fn is_alone(set: InstSet, who: Who) -> bool {
+    match InstNo::new(who.0) {
+        Some(inst) => set == InstSet::only(inst),
+        None => false,
+    }
+}
+
+// Whether it is refused so.
+fn is_why(refusal: &Refusal, why: Why) -> bool {
+    match (refusal, why) {
+        (Refusal::PageFull, Why::PageFull) => true,
+        (Refusal::NoRecord, Why::NoRecord) => true,
+        (Refusal::NotNumber, Why::NotNumber) => true,
+        (Refusal::TooLong, Why::TooLong) => true,
+        (Refusal::PoolFull, Why::PoolFull) => true,
+        (Refusal::Down, Why::Down) => true,
+        (Refusal::Dirty, Why::Dirty) => true,
+        (Refusal::NoTxn, Why::NoTxn) => true,
+        (Refusal::Blocked { by }, Why::Blocked(who)) => is_txn(by, who),
+        (Refusal::Busy { by }, Why::Busy(who)) => is_txn(by, who),
+        (Refusal::Deadlock { cycle }, Why::Deadlock(one, other)) => is_cycle(
+            cycle.items(),
+            one,
+            other,
+        ),
+        (Refusal::NeedPage { place }, Why::NeedPage(spot)) => is_spot(place, spot),
+        (Refusal::NotDown { status }, Why::Up) => *status == Status::Up,
+        (Refusal::NotRecovered { status }, Why::NotRecovered) => *status == Status::Down,
+        _ => false,
+    }
+}
+
+fn is_txn(t: &TxnId, who: Who) -> bool {
+    who == Who(t.inst.get(), t.epoch, t.seq)
+}
+
+// Whether the first waits for the second, and that for the first.
+fn is_cycle(cycle: &[TxnId], one: Who, other: Who) -> bool {
+    match cycle {
+        [a, b, c] => is_txn(a, one) && is_txn(b, other) && is_txn(c, one),
+        _ => false,
+    }
+}

@@ -1,0 +1,289 @@
+//! Runs of the hall over blank devices, each reply beside the one that is worked out by hand.
+
+ghost use Rattle.std.specs.Prelude.{◌≤◌};
+ghost use Rattle.sd_state.specs.Fresh.{AreBlank};
+
+use crate::lines::Ask::{
+    Add, Alone, Begin, Commit, Delete, Evict, Fail as Falls, Flush, Force, Insert, Join, List,
+    Read, Share, Show, Write,
+};
+use crate::lines::Say::{Absent, Asked, At, Began, Did, Have, Joined, No, Rows, Shown, Value};
+use crate::lines::Spot::{Changed, Clean, Free, Shared};
+use crate::lines::Why::{
+    Blocked, Busy, Deadlock, Dirty, Down, NeedPage, NoRecord, NoTxn, NotNumber, NotRecovered,
+    PageFull, PoolFull, TooLong, Up,
+};
+use crate::lines::{FAR, FIRST, LAST, Line, NEXT, ONE, TWO, event, is_said};
+use sd_hall::Hall;
+use sd_rig::{MemRig, Rig};
+use sd_state::Shape;
+use std::alloc::Global;
+use std::test::Fail;
+
+/// One instance, one page, and records that aren't there.
+static ALONE: &[Line] = &[
+    (ONE, Begin, No(Down)),
+    (ONE, Join, Joined(1)),
+    (ONE, Join, No(Up)),
+    (ONE, Begin, Began(FIRST)),
+    (FIRST, Read(0), No(NeedPage(Free))),
+    (ONE, Alone(0), Have),
+    (FIRST, Read(0), Absent),
+    (FIRST, Write(0, &[7; 257]), No(TooLong)),
+    (FIRST, Write(0, b"red"), No(NoRecord)),
+    (FIRST, Add(1, -3), No(NoRecord)),
+    (FIRST, Delete(2), No(NoRecord)),
+    // Whoever was refused for what it found has the record's lock.
+    (ONE, List(0), No(Busy(FIRST))),
+    (FIRST, Commit, Did),
+    (FIRST, Commit, No(NoTxn)),
+    (FIRST, Read(0), No(NoTxn)),
+    (ONE, List(0), Rows(&[])),
+    (ONE, Flush(0), Did),
+    (ONE, Evict(0), Did),
+    (ONE, Evict(0), No(NeedPage(Free))),
+    (ONE, Alone(0), Have),
+    (ONE, Force, Did),
+    (ONE, Begin, Began(NEXT)),
+    (ONE, Falls, Did),
+    (ONE, Falls, No(Down)),
+    (ONE, Begin, No(Down)),
+    (NEXT, Commit, No(Down)),
+    (ONE, Force, No(Down)),
+    (ONE, Join, No(NotRecovered)),
+    (FIRST, Commit, No(NoTxn)),
+];
+
+/// A pool of one frame, and an instance that asks another.
+static PAGES: &[Line] = &[
+    (ONE, Join, Joined(1)),
+    (TWO, Join, Joined(1)),
+    (ONE, Share(0), Have),
+    (ONE, Share(1), No(PoolFull)),
+    (TWO, Share(0), Asked(ONE)),
+    (ONE, Evict(0), Did),
+    (ONE, Share(1), Have),
+    (TWO, Share(0), Have),
+    (TWO, Alone(1), Asked(ONE)),
+    (ONE, Alone(1), Have),
+];
+
+/// Locks of records, on one instance and on two.
+static LOCKS: &[Line] = &[
+    (ONE, Join, Joined(1)),
+    (TWO, Join, Joined(1)),
+    (ONE, Begin, Began(FIRST)),
+    (ONE, Begin, Began(NEXT)),
+    (TWO, Begin, Began(FAR)),
+    (ONE, Alone(0), Have),
+    (FIRST, Read(0), Absent),
+    (NEXT, Read(0), Absent),
+    (FIRST, Write(0, b"red"), No(Blocked(NEXT))),
+    (NEXT, Delete(0), No(Deadlock(NEXT, FIRST))),
+    (FAR, Write(0, b"red"), No(Blocked(FIRST))),
+    (NEXT, Commit, Did),
+    (FIRST, Write(0, b"red"), No(NoRecord)),
+    (FAR, Read(0), No(Blocked(FIRST))),
+    // The locks of who falls stay.
+    (ONE, Falls, Did),
+    (FIRST, Commit, No(Down)),
+    (TWO, Alone(0), Have),
+    (FAR, Write(0, b"red"), No(Blocked(FIRST))),
+    (FAR, Commit, Did),
+];
+
+/// Records made, changed and deleted by one transaction after another, and listed once they are committed.
+static RECORDS: &[Line] = &[
+    (ONE, Join, Joined(1)),
+    (ONE, Begin, Began(FIRST)),
+    (ONE, Alone(0), Have),
+    (FIRST, Insert(0, b"red", 4), At(0)),
+    (FIRST, Insert(0, b"tan", 3), At(1)),
+    (FIRST, Read(0), Value(b"red")),
+    (FIRST, Commit, Did),
+    (ONE, List(0), Rows(&[(0, b"red"), (1, b"tan")])),
+    (ONE, Begin, Began(NEXT)),
+    (NEXT, Write(0, b"green"), No(TooLong)),
+    (NEXT, Add(0, 2), No(NotNumber)),
+    (NEXT, Write(0, b"40"), Did),
+    (NEXT, Add(0, 2), Did),
+    (NEXT, Read(0), Value(b"42")),
+    (NEXT, Delete(1), Did),
+    (NEXT, Read(1), Absent),
+    (ONE, List(0), No(Busy(NEXT))),
+    (NEXT, Commit, Did),
+    (ONE, List(0), Rows(&[(0, b"42")])),
+    (ONE, Begin, Began(LAST)),
+    (LAST, Add(0, 9_958), No(TooLong)),
+    (LAST, Add(0, -1_041), Did),
+    (LAST, Insert(0, b"blue", 3), No(TooLong)),
+    // The dead slot is too short for the first of these, and keeps its three bytes for the second.
+    (LAST, Insert(0, b"blue", 4), At(2)),
+    (LAST, Insert(0, b"", 0), At(1)),
+    (LAST, Write(1, b"gold"), No(TooLong)),
+    (LAST, Write(1, b"sky"), Did),
+    (LAST, Commit, Did),
+    (
+        ONE,
+        List(0),
+        Rows(&[(0, b"-999"), (1, b"sky"), (2, b"blue")]),
+    ),
+];
+
+/// Two pages through a pool of one frame.
+static FRAME: &[Line] = &[
+    (ONE, Show(0), Shown(Free, 0)),
+    (ONE, Join, Joined(1)),
+    (ONE, Begin, Began(FIRST)),
+    (ONE, Alone(0), Have),
+    (ONE, Show(0), Shown(Clean(ONE), 0)),
+    // The log's first record is that of the join.
+    (FIRST, Insert(0, b"red", 3), At(0)),
+    (ONE, Show(0), Shown(Changed(ONE), 2)),
+    (ONE, Alone(1), No(PoolFull)),
+    (ONE, Evict(0), No(Dirty)),
+    (ONE, Flush(0), Did),
+    (ONE, Show(0), Shown(Clean(ONE), 2)),
+    (ONE, Evict(0), Did),
+    (FIRST, Read(0), No(NeedPage(Free))),
+    (ONE, Alone(1), Have),
+    (FIRST, Insert(1, b"tan", 3), At(0)),
+    (FIRST, Commit, Did),
+    (ONE, Show(0), Shown(Free, 0)),
+    (ONE, Show(1), Shown(Changed(ONE), 3)),
+    (ONE, List(1), Rows(&[(0, b"tan")])),
+    (ONE, Flush(1), Did),
+    (ONE, Evict(1), Did),
+    (ONE, Share(0), Have),
+    (ONE, Show(0), Shown(Shared(ONE), 2)),
+    (ONE, List(0), Rows(&[(0, b"red")])),
+];
+
+/// A page that fills.
+static FULL: &[Line] = &[
+    (ONE, Join, Joined(1)),
+    (ONE, Begin, Began(FIRST)),
+    (ONE, Alone(0), Have),
+    (FIRST, Insert(0, &[7; 250], 250), At(0)),
+    (FIRST, Insert(0, &[7; 250], 250), At(1)),
+    (FIRST, Insert(0, &[7; 250], 250), At(2)),
+    (FIRST, Insert(0, &[7; 250], 250), No(PageFull)),
+    (FIRST, Insert(0, b"", 257), No(TooLong)),
+    // Of the page's 1,024 bytes the head takes 16, three slots take 256 each, and the next one 6 besides its capacity.
+    (FIRST, Insert(0, b"", 235), No(PageFull)),
+    (FIRST, Insert(0, b"red", 234), At(3)),
+    (FIRST, Insert(0, b"", 0), No(PageFull)),
+    (FIRST, Delete(1), Did),
+    (FIRST, Insert(0, b"tan", 200), At(1)),
+    (FIRST, Insert(0, b"", 0), No(PageFull)),
+    (FIRST, Commit, Did),
+];
+
+/// Records that are inserted and not committed yet, and who reads them.
+static UNCOMMITTED: &[Line] = &[
+    (ONE, Join, Joined(1)),
+    (TWO, Join, Joined(1)),
+    (ONE, Begin, Began(FIRST)),
+    (ONE, Begin, Began(NEXT)),
+    (TWO, Begin, Began(FAR)),
+    (ONE, Alone(0), Have),
+    (FIRST, Insert(0, b"red", 3), At(0)),
+    (NEXT, Read(0), No(Blocked(FIRST))),
+    (FAR, Read(0), No(Blocked(FIRST))),
+    (NEXT, Insert(0, b"tan", 3), At(1)),
+    (FIRST, Read(1), No(Blocked(NEXT))),
+    (NEXT, Read(0), No(Deadlock(NEXT, FIRST))),
+    (ONE, List(0), No(Busy(FIRST))),
+    (NEXT, Commit, Did),
+    (FIRST, Read(1), Value(b"tan")),
+    (FIRST, Commit, Did),
+    (ONE, List(0), Rows(&[(0, b"red"), (1, b"tan")])),
+    (FAR, Read(0), No(NeedPage(Changed(ONE)))),
+    (TWO, Share(0), Asked(ONE)),
+];
+
+// The number of lines that are answered as they say, up to one that isn't, in a hall of two instances over these devices, with so
+// many frames in each pool.
+fn agreeing<G: Rig + Drop>(
+    alloc: Global,
+    rig: G,
+    frames: u16,
+    lines: &[Line],
+) -> Result<usize, Fail>
+    requires blank { AreBlank (G.seen rig) (G.leaves rig) }
+    requires least { 1 ≤ frames }
+    requires most { frames ≤ 1024 }
+{
+    let shape = Shape {
+        insts: 2,
+        pages: 4,
+        frames,
+    };
+    let Ok(mut hall) = Hall::fresh(alloc, rig, shape) else {
+        return Err("no memory".into());
+    };
+    for n in 0..lines.len() {
+        let (who, ask, say) = lines[n];
+        let Some(e) = event(alloc, who, ask)? else {
+            return Err("no such event".into());
+        };
+        hall.call(0, 0, e)?;
+        let Some(entry) = hall.book().entries().last() else {
+            return Ok(n);
+        };
+        if !is_said(&entry.reply, say) {
+            return Ok(n);
+        }
+    }
+    Ok(lines.len())
+}
+
+// The same over devices of zeros.
+fn agreed(alloc: Global, frames: u16, lines: &[Line]) -> Result<usize, Fail>
+    requires least { 1 ≤ frames }
+    requires most { frames ≤ 1024 }
+{
+    agreeing(alloc, MemRig::blank(alloc)?, frames, lines)
+}
+
+#[test]
+fn one_instance_begins_commits_and_fails(rt: HostRuntime) -> Result<(), Fail> {
+    assert_eq!(rt; agreed(rt.alloc(), 2, ALONE)?, ALONE.len());
+    Ok(())
+}
+
+#[test]
+fn a_pool_is_full_and_a_page_is_elsewhere(rt: HostRuntime) -> Result<(), Fail> {
+    assert_eq!(rt; agreed(rt.alloc(), 1, PAGES)?, PAGES.len());
+    Ok(())
+}
+
+#[test]
+fn locks_block_and_a_circle_is_refused(rt: HostRuntime) -> Result<(), Fail> {
+    assert_eq!(rt; agreed(rt.alloc(), 2, LOCKS)?, LOCKS.len());
+    Ok(())
+}
+
+#[test]
+fn what_is_committed_is_listed(rt: HostRuntime) -> Result<(), Fail> {
+    assert_eq!(rt; agreed(rt.alloc(), 2, RECORDS)?, RECORDS.len());
+    Ok(())
+}
+
+#[test]
+fn a_page_goes_to_disk_and_comes_back(rt: HostRuntime) -> Result<(), Fail> {
+    assert_eq!(rt; agreed(rt.alloc(), 1, FRAME)?, FRAME.len());
+    Ok(())
+}
+
+#[test]
+fn a_page_fills_to_its_last_byte(rt: HostRuntime) -> Result<(), Fail> {
+    assert_eq!(rt; agreed(rt.alloc(), 2, FULL)?, FULL.len());
+    Ok(())
+}
+
+#[test]
+fn who_reads_an_uncommitted_record_waits(rt: HostRuntime) -> Result<(), Fail> {
+    assert_eq!(rt; agreed(rt.alloc(), 2, UNCOMMITTED)?, UNCOMMITTED.len());
+    Ok(())
+}

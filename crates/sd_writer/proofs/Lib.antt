@@ -1,0 +1,5 @@
+pub mod Broken
+pub mod Forced
+pub mod Forces
+pub mod Settled
+pub mod Writes

@@ -1,0 +1,21 @@
+use Rattle.std.proofs.Common.{◌∙◌, ap, sym}
+use Rattle.sd_state.specs.Parts.{active_as}
+use Rattle.sd_world.specs.Serving.{telling}
+use Rattle.sd_writer.proofs.Forces.{force-did, force-refused}
+use Rattle.sd_writer.proofs.forcing.force.Goals as goal
+
+pub returns-then-not-is_active-clause-served : goal.returns-then-not-is_active-clause-served
+returns-then-not-is_active-clause-served g c =
+    let tell = telling g.G.Rig.seen g.G.Rig.leaves g.G.Rig.moment g.G.Rig.since g.G.Rig.faults in
+    let old = c.args.c.now in
+    force-refused tell old c.args.i c.instances.ensures.low c.instances.ensures.high
+    (λ img since. g.met.G.Rig.only_now old.rig img since)
+    (ap (active_as c.args.i) (sym c.status.ensures) ∙ sym c.is_active.ensures ∙ c.if-not-is_active.true)
+
+pub returns-clause-served : goal.returns-clause-served
+returns-clause-served g c =
+    let tell = telling g.G.Rig.seen g.G.Rig.leaves g.G.Rig.moment g.G.Rig.since g.G.Rig.faults in
+    let force = c.force_or_fall.ensures in
+    force-did tell c.args.c.now c.args.i c.instances.ensures.low c.instances.ensures.high
+    (ap (active_as c.args.i) (sym c.status.ensures) ∙ sym c.is_active.ensures ∙ c.if-not-is_active.false)
+    c.force_or_fall.new.c c.force_or_fall.result force.spared force.failed force.only

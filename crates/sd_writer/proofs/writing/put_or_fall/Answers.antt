@@ -1,0 +1,66 @@
+use Rattle.std.proofs.Common.{◌≡◌, inl, ap, ◌∙◌, subst}
+use Rattle.sd_moves.specs.Putting.{left_after}
+use Rattle.sd_moves.specs.declared.putting.Unput.{Unput}
+use Rattle.sd_state.specs.Complexes.{parts}
+use Rattle.sd_state.specs.Parts.{Parts}
+use Rattle.sd_state.specs.Values.{Pending}
+use Rattle.sd_world.specs.Serving.{telling}
+use Rattle.sd_writer.proofs.Writes.{put-served, put-stands, unread-served, unwritten-served}
+use Rattle.sd_writer.proofs.writing.put_or_fall.Goals as goal
+
+pub put_page-requires-clause-good : goal.put_page-requires-clause-good
+put_page-requires-clause-good g c =
+    let fits = c.requires.fits in
+    (Pending.Idle, fits.0.scene.state, fits.1.good)
+
+pub put_page-requires-clause-idle : goal.put_page-requires-clause-idle
+put_page-requires-clause-idle g c = c.requires.fits.1.idle
+
+pub returns-in-Ok-clause-served : goal.returns-in-Ok-clause-served
+returns-in-Ok-clause-served g c =
+    let tell = telling g.G.Rig.seen g.G.Rig.leaves g.G.Rig.moment g.G.Rig.since g.G.Rig.faults in
+    let put = c.in-Ok.ensures in
+    put-served tell c.args.c.now c.args.i c.args.p c.instances.ensures.low c.instances.ensures.high c.put_page.new.c
+    c.requires.may
+    put.good put.images put.time put.versions put.written put.place put.quiet
+
+pub returns-in-Ok-clause-written : goal.returns-in-Ok-clause-written
+returns-in-Ok-clause-written g c =
+    let tell = telling g.G.Rig.seen g.G.Rig.leaves g.G.Rig.moment g.G.Rig.since g.G.Rig.faults in
+    let put = c.in-Ok.ensures in
+    put-stands tell c.args.c.now c.args.i c.args.p c.instances.ensures.low c.instances.ensures.high c.put_page.new.c
+    c.requires.may
+    put.good put.images put.time put.versions put.written put.place put.quiet c.requires.fits c.requires.changed
+
+pub returns-in-Err-Unread-clause-served : goal.returns-in-Err-Unread-clause-served
+returns-in-Err-Unread-clause-served g c =
+    let tell = telling g.G.Rig.seen g.G.Rig.leaves g.G.Rig.moment g.G.Rig.since g.G.Rig.faults in
+    let put = c.in-Err-Unread.ensures in
+    unread-served tell c.args.c.now c.args.i c.args.p c.instances.ensures.low c.instances.ensures.high c.put_page.new.c
+    c.requires.may
+    put.good put.images put.time put.versions
+    (subst (λ (e : Unput). parts c.put_page.new.c ≡ left_after e (parts c.args.c.now)) c.in-Err-Unread.field-0-is put.errors)
+    put.cause
+
+pub down-requires-clause-good : goal.down-requires-clause-good
+down-requires-clause-good g c =
+    let fits = c.requires.fits in
+    (Pending.Idle, fits.0.scene.state, c.in-Err-Unwritten.ensures.good Pending.Idle fits.0.scene.state fits.1.good)
+
+pub down-requires-clause-due : goal.down-requires-clause-due
+down-requires-clause-due g c =
+    inl (ap (λ (k : Parts). k.due)
+    (subst (λ (e : Unput). parts c.put_page.new.c ≡ left_after e (parts c.args.c.now)) c.in-Err-Unwritten.field-0-is
+    c.in-Err-Unwritten.ensures.errors)
+    ∙ c.requires.fits.1.idle)
+
+pub returns-in-Err-Unwritten-clause-served : goal.returns-in-Err-Unwritten-clause-served
+returns-in-Err-Unwritten-clause-served g c =
+    let tell = telling g.G.Rig.seen g.G.Rig.leaves g.G.Rig.moment g.G.Rig.since g.G.Rig.faults in
+    let put = c.in-Err-Unwritten.ensures in
+    let down = c.down.ensures in
+    unwritten-served tell c.args.c.now c.args.i c.args.p c.instances.ensures.low c.instances.ensures.high c.put_page.new.c
+    c.requires.may
+    put.good put.images put.time put.versions
+    (subst (λ (e : Unput). parts c.put_page.new.c ≡ left_after e (parts c.args.c.now)) c.in-Err-Unwritten.field-0-is put.errors)
+    c.down.new.c down.rig down.parts down.fallen down.good put.cause
