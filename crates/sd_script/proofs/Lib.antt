@@ -1,6 +1,9 @@
 pub mod Numbers
 pub mod Lines
 mod Words
+pub mod Shapes
+pub mod Spellings
+mod Refused
 pub mod OneForm
 pub mod Packing
 pub mod Ordinals

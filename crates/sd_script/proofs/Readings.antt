@@ -5,7 +5,7 @@ use Rattle.std.proofs.lemmas.List.{take_all}
 use Rattle.std.proofs.lemmas.Option.{slice_get_within}
 use Rattle.std.specs.Prelude.{slice_get}
 use Rattle.sd_script.specs.declared.line.Form.{Form}
-use Rattle.sd_script.specs.declared.line.Form.TheVariants.{Complex, Begin, Insert, Commit, Table}
+use Rattle.sd_script.specs.declared.line.Form.TheVariants.{Read, Write, Add, Insert, Delete, Commit}
 use Rattle.sd_script.specs.declared.line.Line.{Line}
 use Rattle.sd_script.specs.Forms.{form_words, IsForm, IsKnownBy}
 use Rattle.sd_script.specs.Order.{Follows, begun, ordinal_of}
@@ -16,11 +16,13 @@ use Rattle.sd_base.proofs.Lists.{stands_at, slice_get-append_left, slice_get-pus
 
 -- a form that may follow has the ordinal of its name
 pub ordinal_known : (before : List Line) (form : Form) → Follows before form → IsKnownBy (ordinal_of (begun before)) form
-ordinal_known before (Insert name ordinal page value) follows = follows.0
+ordinal_known before (Read name ordinal rid) follows = follows.0
+ordinal_known before (Write name ordinal rid value) follows = follows.0
+ordinal_known before (Add name ordinal rid by) follows = follows.0
+ordinal_known before (Insert name ordinal page value capacity) follows = follows.0
+ordinal_known before (Delete name ordinal rid) follows = follows.0
 ordinal_known before (Commit name ordinal) follows = follows
-ordinal_known before (Complex insts pages frames) follows = tt
-ordinal_known before (Begin inst name) follows = tt
-ordinal_known before Table follows = tt
+ordinal_known before _ follows = tt
 
 abbrev made : ℕ → ℕ → Form → Line
 made number session form = record { number = number; session = session; form = form }

@@ -10,7 +10,7 @@ use Rattle.std.proofs.lemmas.Slice.Eq.{bytes_eq-Decides}
 use Rattle.std.specs.Prelude.{filter, Some, None}
 use Rattle.std.specs.Str.{bytes_eq}
 use Rattle.sd_script.specs.declared.line.Form.{Form}
-use Rattle.sd_script.specs.declared.line.Form.TheVariants.{Complex, Begin, Insert, Commit, Table}
+use Rattle.sd_script.specs.declared.line.Form.TheVariants.{Complex, Begin, Read, Write, Add, Insert, Delete, Commit, Table}
 use Rattle.sd_script.specs.declared.line.Line.{Line}
 use Rattle.sd_script.specs.Order.{begun_by, ended_by, begun, ended, has, ordinal_of, IsBegun, open_names, insts_in, insts_of, pages_in, pages_of, is_table, table_count, Follows}
 use Rattle.sd_script.specs.Remembered.{known_after, begins_after, less, open_after, insts_after, pages_after, tables_after, IsOpened, AreOrdinals, Remembers, Fits, IsFresh, IsUnknown}
@@ -145,9 +145,7 @@ opened_form lines (Begin inst name) new begins opened follows count opens at = (
   ordinal_push (begun lines) name name (unnamed lines name follows.1) ∙ ap (λ (b : Bool). cond b (Some (length (begun lines))) (ordinal_of (begun lines) name)) ((bytes_eq-Decides name name).1 refl) ∙ ap (λ (n : ℕ). Some n) (sym count),
 )
 opened_form lines (Commit name ordinal) new begins opened follows count opens at = closed (open_names lines) new (begun lines) name ordinal opened opens follows at
-opened_form lines (Complex insts pages frames) new begins opened follows count opens at = kept_open (open_names lines) new (begun lines) opened opens at
-opened_form lines (Insert name ordinal page value) new begins opened follows count opens at = kept_open (open_names lines) new (begun lines) opened opens at
-opened_form lines Table new begins opened follows count opens at = kept_open (open_names lines) new (begun lines) opened opens at
+opened_form lines _ new begins opened follows count opens at = kept_open (open_names lines) new (begun lines) opened opens at
 
 open_push : (lines : List Line) (line : Line) → Follows lines line.form → ((name : List ℕ) → has (ended lines) name ≡ true → has (begun lines) name ≡ true) → open_names (lines ++ line ∷ []) ≡ opens_after (open_names lines) line.form
 open_push lines line follows was =
@@ -214,16 +212,23 @@ begun_few (line ∷ lines) = omega (arith, ap length (flat_map-cons (λ (l : Lin
 pub follows_from : (lines : List Line) (known : List ℕ → Option ℕ) → AreOrdinals lines known → (form : Form) → IsForm form → IsKnownBy known form → Fits lines form → IsFresh lines form → Follows lines form
 follows_from lines known names (Complex insts pages frames) is knows fits fresh = fits
 follows_from lines known names (Begin inst name) is knows fits fresh = (fits.0, fresh, fits.1)
-follows_from lines known names (Insert name ordinal page value) is knows fits fresh = (sym (names name is.0) ∙ knows, fits)
+follows_from lines known names (Read name ordinal rid) is knows fits fresh = (sym (names name is.0) ∙ knows, fits)
+follows_from lines known names (Write name ordinal rid value) is knows fits fresh = (sym (names name is.0) ∙ knows, fits)
+follows_from lines known names (Add name ordinal rid by) is knows fits fresh = (sym (names name is.0) ∙ knows, fits)
+follows_from lines known names (Insert name ordinal page value capacity) is knows fits fresh = (sym (names name is.0) ∙ knows, fits)
+follows_from lines known names (Delete name ordinal rid) is knows fits fresh = (sym (names name is.0) ∙ knows, fits)
 follows_from lines known names (Commit name ordinal) is knows fits fresh = sym (names name is) ∙ knows
-follows_from lines known names Table is knows fits fresh = fits
+follows_from lines known names _ is knows fits fresh = fits
 
 pub fits_from : (lines : List Line) (form : Form) → Follows lines form → Fits lines form
-fits_from lines (Complex insts pages frames) follows = follows
 fits_from lines (Begin inst name) follows = (follows.0, follows.2)
-fits_from lines (Insert name ordinal page value) follows = follows.1
+fits_from lines (Read name ordinal rid) follows = follows.1
+fits_from lines (Write name ordinal rid value) follows = follows.1
+fits_from lines (Add name ordinal rid by) follows = follows.1
+fits_from lines (Insert name ordinal page value capacity) follows = follows.1
+fits_from lines (Delete name ordinal rid) follows = follows.1
 fits_from lines (Commit name ordinal) follows = tt
-fits_from lines Table follows = follows
+fits_from lines _ follows = follows
 
 pub fresh_from : (lines : List Line) (form : Form) → Follows lines form → IsFresh lines form
 fresh_from lines (Begin inst name) follows = follows.1
@@ -231,26 +236,30 @@ fresh_from lines _ follows = tt
 
 -- the ordinals of the names are those that are known
 pub known_from : (lines : List Line) (known : List ℕ → Option ℕ) → AreOrdinals lines known → (form : Form) → IsForm form → IsKnownBy (ordinal_of (begun lines)) form → IsKnownBy known form
-known_from lines known names (Insert name ordinal page value) is knows = names name is.0 ∙ knows
+known_from lines known names (Read name ordinal rid) is knows = names name is.0 ∙ knows
+known_from lines known names (Write name ordinal rid value) is knows = names name is.0 ∙ knows
+known_from lines known names (Add name ordinal rid by) is knows = names name is.0 ∙ knows
+known_from lines known names (Insert name ordinal page value capacity) is knows = names name is.0 ∙ knows
+known_from lines known names (Delete name ordinal rid) is knows = names name is.0 ∙ knows
 known_from lines known names (Commit name ordinal) is knows = names name is ∙ knows
-known_from lines known names (Complex insts pages frames) is knows = tt
-known_from lines known names (Begin inst name) is knows = tt
-known_from lines known names Table is knows = tt
+known_from lines known names _ is knows = tt
 
 pub ordinals_from : (lines : List Line) (known : List ℕ → Option ℕ) → AreOrdinals lines known → (form : Form) → IsForm form → IsKnownBy known form → IsKnownBy (ordinal_of (begun lines)) form
-ordinals_from lines known names (Insert name ordinal page value) is knows = sym (names name is.0) ∙ knows
+ordinals_from lines known names (Read name ordinal rid) is knows = sym (names name is.0) ∙ knows
+ordinals_from lines known names (Write name ordinal rid value) is knows = sym (names name is.0) ∙ knows
+ordinals_from lines known names (Add name ordinal rid by) is knows = sym (names name is.0) ∙ knows
+ordinals_from lines known names (Insert name ordinal page value capacity) is knows = sym (names name is.0) ∙ knows
+ordinals_from lines known names (Delete name ordinal rid) is knows = sym (names name is.0) ∙ knows
 ordinals_from lines known names (Commit name ordinal) is knows = sym (names name is) ∙ knows
-ordinals_from lines known names (Complex insts pages frames) is knows = tt
-ordinals_from lines known names (Begin inst name) is knows = tt
-ordinals_from lines known names Table is knows = tt
+ordinals_from lines known names _ is knows = tt
 
 -- a name is new where it isn't known
 pub fresh_unknown : (lines : List Line) (known : List ℕ → Option ℕ) → AreOrdinals lines known → (form : Form) → IsForm form → IsUnknown known form → IsFresh lines form
-fresh_unknown lines known names (Begin inst name) is unknown = λ had. true≢false (sym had ∙ has_none (begun lines) name (sym (names name is.2) ∙ unknown))
+fresh_unknown lines known names (Begin inst name) is unknown = λ had. true≢false (sym had ∙ has_none (begun lines) name (sym (names name is.1) ∙ unknown))
 fresh_unknown lines known names _ is unknown = tt
 
 pub unknown_fresh : (lines : List Line) (known : List ℕ → Option ℕ) → AreOrdinals lines known → (form : Form) → IsForm form → IsFresh lines form → IsUnknown known form
-unknown_fresh lines known names (Begin inst name) is fresh = names name is.2 ∙ no_ordinal (begun lines) name (unnamed lines name fresh)
+unknown_fresh lines known names (Begin inst name) is fresh = names name is.1 ∙ no_ordinal (begun lines) name (unnamed lines name fresh)
 unknown_fresh lines known names _ is fresh = tt
 
 -- no name is open where none has its ordinal remembered

@@ -1,15 +1,41 @@
 -- The forms of a line: the words of each, and what its parts may be.
-use Rattle.std.specs.Prelude.{◌≡◌, ◌≢◌, ℕ, ◌<◌, ◌≤◌, ◌⊎◌, List, [], ◌∷◌, length, codes, All, slice_index, Option, None, Some}
-use Rattle.std.specs.Fmt.{decimal}
+use Rattle.std.specs.Prelude.{◌≡◌, ◌≢◌, ℕ, ℤ, ◌<◌, ◌≤◌, ◌^◌, ◌⊎◌, List, [], ◌∷◌, ◌++◌, length, codes, All, slice_index, Option, None, Some, IfSome, unsigned_abs}
+use Rattle.std.specs.Fmt.{decimal, signed_decimal}
+use Rattle.sd_base.specs.declared.ids.Rid.{Rid}
+use Rattle.sd_base.specs.declared.place.Mode.{Mode}
+use Rattle.sd_base.specs.declared.place.Mode.TheVariants.{Shared, Excl}
 use Rattle.sd_script.specs.declared.line.Form.{Form}
-use Rattle.sd_script.specs.declared.line.Form.TheVariants.{Complex, Begin, Insert, Commit, Table}
+use Rattle.sd_script.specs.declared.line.Form.TheVariants.{Complex, Begin, Read, Write, Add, Insert, Delete, Commit, Ask, Evict, Flush, Force, Where, Table}
+
+-- the word of a record: its page, a dot, its slot
+abbrev pub rid_word : Rid → List ℕ
+rid_word rid = decimal rid.page ++ 46 ∷ decimal rid.slot
+
+-- the word of a mode
+abbrev pub mode_word : Mode → List ℕ
+mode_word Shared = codes "s"
+mode_word Excl = codes "x"
+
+-- the words of a capacity, which may be left out
+abbrev pub capacity_words : Option ℕ → List (List ℕ)
+capacity_words None = []
+capacity_words (Some capacity) = decimal capacity ∷ []
 
 -- the words of a form
 abbrev pub form_words : Form → List (List ℕ)
 form_words (Complex insts pages frames) = codes "complex" ∷ decimal insts ∷ decimal pages ∷ decimal frames ∷ []
 form_words (Begin inst name) = decimal inst ∷ codes "begin" ∷ name ∷ []
-form_words (Insert name ordinal page value) = codes "insert" ∷ name ∷ decimal page ∷ value ∷ []
+form_words (Read name ordinal rid) = codes "read" ∷ name ∷ rid_word rid ∷ []
+form_words (Write name ordinal rid value) = codes "write" ∷ name ∷ rid_word rid ∷ value ∷ []
+form_words (Add name ordinal rid by) = codes "add" ∷ name ∷ rid_word rid ∷ signed_decimal by ∷ []
+form_words (Insert name ordinal page value capacity) = codes "insert" ∷ name ∷ decimal page ∷ value ∷ capacity_words capacity
+form_words (Delete name ordinal rid) = codes "delete" ∷ name ∷ rid_word rid ∷ []
 form_words (Commit name ordinal) = codes "commit" ∷ name ∷ []
+form_words (Ask inst page mode) = decimal inst ∷ codes "ask" ∷ decimal page ∷ mode_word mode ∷ []
+form_words (Evict inst page) = decimal inst ∷ codes "evict" ∷ decimal page ∷ []
+form_words (Flush inst page) = decimal inst ∷ codes "flush" ∷ decimal page ∷ []
+form_words (Force inst) = decimal inst ∷ codes "force" ∷ []
+form_words (Where page) = codes "where" ∷ decimal page ∷ []
 form_words Table = codes "table" ∷ []
 
 -- a to z
@@ -35,17 +61,50 @@ pub record IsValue (value : List ℕ) : Type 0 where
 abbrev pub IsCount : ℕ → Type 0
 IsCount n = (1 ≤ n) × (n ≤ 1024)
 
+-- an instance
+abbrev pub IsInst : ℕ → Type 0
+IsInst inst = (1 ≤ inst) × (inst ≤ 8)
+
+-- a word that names no instance
+abbrev pub IsNoInst : List ℕ → Type 0
+IsNoInst word = (inst : ℕ) → IsInst inst → decimal inst ≢ word
+
+-- a record: its page is one of 1,024, and its slot has at most 3 digits
+abbrev pub IsRid : Rid → Type 0
+IsRid rid = (rid.page < 1024) × (rid.slot < 1000)
+
+-- a number of at most 10 digits, or its negative
+abbrev pub IsAmount : ℤ → Type 0
+IsAmount by = unsigned_abs by < 10 ^ 10
+
+-- a capacity that has room for the value, if one is given
+abbrev pub HasRoom : List ℕ → Option ℕ → Type 0
+HasRoom value capacity = IfSome capacity (λ c. (length value ≤ c) × (c ≤ 65535))
+
 -- what the parts of a form may be, wherever its line stands
 abbrev pub IsForm : Form → Type 0
 IsForm (Complex insts pages frames) = (insts ≡ 1) × IsCount pages × IsCount frames
-IsForm (Begin inst name) = (1 ≤ inst) × (inst ≤ 8) × IsName name
-IsForm (Insert name ordinal page value) = IsName name × (page < 1024) × IsValue value
+IsForm (Begin inst name) = IsInst inst × IsName name
+IsForm (Read name ordinal rid) = IsName name × IsRid rid
+IsForm (Write name ordinal rid value) = IsName name × IsRid rid × IsValue value
+IsForm (Add name ordinal rid by) = IsName name × IsRid rid × IsAmount by
+IsForm (Insert name ordinal page value capacity) = IsName name × (page < 1024) × IsValue value × HasRoom value capacity
+IsForm (Delete name ordinal rid) = IsName name × IsRid rid
 IsForm (Commit name ordinal) = IsName name
+IsForm (Ask inst page mode) = IsInst inst × (page < 1024)
+IsForm (Evict inst page) = IsInst inst × (page < 1024)
+IsForm (Flush inst page) = IsInst inst × (page < 1024)
+IsForm (Force inst) = IsInst inst
+IsForm (Where page) = page < 1024
 IsForm Table = Unit {0}
 
 -- the ordinal of a form that has one is known under its name
 abbrev pub IsKnownBy : (List ℕ → Option ℕ) → Form → Type 0
-IsKnownBy known (Insert name ordinal page value) = known name ≡ Some ordinal
+IsKnownBy known (Read name ordinal rid) = known name ≡ Some ordinal
+IsKnownBy known (Write name ordinal rid value) = known name ≡ Some ordinal
+IsKnownBy known (Add name ordinal rid by) = known name ≡ Some ordinal
+IsKnownBy known (Insert name ordinal page value capacity) = known name ≡ Some ordinal
+IsKnownBy known (Delete name ordinal rid) = known name ≡ Some ordinal
 IsKnownBy known (Commit name ordinal) = known name ≡ Some ordinal
 IsKnownBy known _ = Unit {0}
 

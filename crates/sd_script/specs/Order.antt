@@ -3,7 +3,7 @@ use Rattle.std.specs.Prelude.{◌≡◌, ◌≢◌, ℕ, ◌<◌, ◌≤◌, Boo
 use Rattle.std.specs.List.{list_any, flat_map}
 use Rattle.std.specs.Str.{bytes_eq}
 use Rattle.sd_script.specs.declared.line.Form.{Form}
-use Rattle.sd_script.specs.declared.line.Form.TheVariants.{Complex, Begin, Insert, Commit, Table}
+use Rattle.sd_script.specs.declared.line.Form.TheVariants.{Complex, Begin, Read, Write, Add, Insert, Delete, Commit, Ask, Evict, Flush, Force, Where, Table}
 use Rattle.sd_script.specs.declared.line.Line.{Line}
 
 -- the name that a form begins, and the name that it ends
@@ -63,12 +63,25 @@ is_table _ = false
 abbrev pub table_count : List Line → ℕ
 table_count lines = count_by (λ line. is_table line.form) lines
 
+-- the name was begun with this ordinal among the begin lines
+abbrev pub IsOfBegun : List Line → List ℕ → ℕ → Type 0
+IsOfBegun before name ordinal = ordinal_of (begun before) name ≡ Some ordinal
+
 -- A line of this form may stand behind these lines. The first line alone is a complex line. An instance and a page
 -- are of those that it gives. A name is begun once, and used behind its begin line, which the line tells by its
 -- ordinal among the begin lines. No name is open at a begin or a table line, and 64 table lines are the most.
 abbrev pub Follows : List Line → Form → Type 0
 Follows before (Complex insts pages frames) = before ≡ []
 Follows before (Begin inst name) = (inst ≤ insts_of before) × ¬ IsBegun name before × (open_names before ≡ [])
-Follows before (Insert name ordinal page value) = (ordinal_of (begun before) name ≡ Some ordinal) × (page < pages_of before)
-Follows before (Commit name ordinal) = ordinal_of (begun before) name ≡ Some ordinal
+Follows before (Read name ordinal rid) = IsOfBegun before name ordinal × (rid.page < pages_of before)
+Follows before (Write name ordinal rid value) = IsOfBegun before name ordinal × (rid.page < pages_of before)
+Follows before (Add name ordinal rid by) = IsOfBegun before name ordinal × (rid.page < pages_of before)
+Follows before (Insert name ordinal page value capacity) = IsOfBegun before name ordinal × (page < pages_of before)
+Follows before (Delete name ordinal rid) = IsOfBegun before name ordinal × (rid.page < pages_of before)
+Follows before (Commit name ordinal) = IsOfBegun before name ordinal
+Follows before (Ask inst page mode) = (inst ≤ insts_of before) × (page < pages_of before)
+Follows before (Evict inst page) = (inst ≤ insts_of before) × (page < pages_of before)
+Follows before (Flush inst page) = (inst ≤ insts_of before) × (page < pages_of before)
+Follows before (Force inst) = inst ≤ insts_of before
+Follows before (Where page) = page < pages_of before
 Follows before Table = (before ≢ []) × (open_names before ≡ []) × (table_count before < 64)

@@ -6,7 +6,7 @@ use Rattle.sd_base.specs.declared.refusal.Refusal.{Refusal}
 use Rattle.sd_base.specs.declared.refusal.Refusal.TheVariants as refusal
 use Rattle.sd_base.specs.declared.refusal.Cause.TheVariants.{Word}
 use Rattle.sd_script.specs.declared.line.Form.{Form}
-use Rattle.sd_script.specs.declared.line.Form.TheVariants.{Complex, Begin, Insert, Commit, Table}
+use Rattle.sd_script.specs.declared.line.Form.TheVariants.{Complex, Begin, Read, Write, Add, Insert, Delete, Commit, Ask, Evict, Flush, Force, Where, Table}
 use Rattle.sd_script.specs.declared.line.Line.{Line}
 use Rattle.sd_script.specs.Forms.{IsForm, IsName}
 use Rattle.sd_script.specs.Order.{begun, ended, has, ordinal_of, IsBegun, open_names, insts_of, pages_of, table_count}
@@ -80,8 +80,17 @@ IsUnknown known _ = Unit {0}
 abbrev pub Fits : List Line → Form → Type 0
 Fits before (Complex insts pages frames) = before ≡ []
 Fits before (Begin inst name) = (inst ≤ insts_of before) × (open_names before ≡ [])
-Fits before (Insert name ordinal page value) = page < pages_of before
+Fits before (Read name ordinal rid) = rid.page < pages_of before
+Fits before (Write name ordinal rid value) = rid.page < pages_of before
+Fits before (Add name ordinal rid by) = rid.page < pages_of before
+Fits before (Insert name ordinal page value capacity) = page < pages_of before
+Fits before (Delete name ordinal rid) = rid.page < pages_of before
 Fits before (Commit name ordinal) = Unit {0}
+Fits before (Ask inst page mode) = (inst ≤ insts_of before) × (page < pages_of before)
+Fits before (Evict inst page) = (inst ≤ insts_of before) × (page < pages_of before)
+Fits before (Flush inst page) = (inst ≤ insts_of before) × (page < pages_of before)
+Fits before (Force inst) = inst ≤ insts_of before
+Fits before (Where page) = page < pages_of before
 Fits before Table = (before ≢ []) × (open_names before ≡ []) × (table_count before < 64)
 
 -- the line as which these bytes read, if there is one

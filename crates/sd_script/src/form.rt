@@ -1,15 +1,21 @@
-//! From the words of a line to its form. Of other lines it sees the names that they began.
+//! From the words of a line to its form. Of other lines it sees the names that they began. A line is an instance's,
+//! whose first word is its number, or a verb's.
 
-ghost use Rattle.std.specs.Prelude.{◌≡◌, ◌≢◌, ℕ, ◌≤◌, ◌<◌, [], ◌∷◌, List, Option, codes, IfSome, IfNone, IfOk};
+ghost use Rattle.std.specs.Prelude.{ℕ, ◌∷◌, [], List, Option, IfOk, option_copied};
 ghost use Rattle.std.specs.Fmt.{decimal};
-ghost use Rattle.sd_script.specs.Forms.{IsFormOf};
+ghost use Rattle.sd_script.specs.Forms.{IsFormOf, IsInst, IsNoInst};
 ghost use Rattle.sd_script.specs.Known.{known};
-ghost use Rattle.sd_script.specs.Text.{words_of};
+ghost use Rattle.sd_script.specs.Text.{words_of, words_behind};
 
 use crate::Form;
+use crate::inst_forms::{ask_of, begin_of, evict_of, flush_of, force_of};
 use crate::names::Names;
-use crate::word::{first_word, is_name, is_value, number_within};
-use sd_base::{InstNo, Memory, PAGES, PageNo, Sequence};
+use crate::parts::{capacity_of, inst_of};
+use crate::verb_forms::{
+    add_of, commit_of, complex_of, delete_of, insert_of, read_of, table_of, where_of, write_of,
+};
+use crate::word::first_word;
+use sd_base::{InstNo, Memory};
 use std::alloc::Global;
 
 /// The form of a line, where these names were begun; `None` exactly where it has none.
@@ -17,132 +23,165 @@ pub(crate) fn form_of(alloc: Global, line: &[u8], begun: &Names) -> Result<Optio
     ensures { IfOk result (IsFormOf (known begun.now) (words_of line.now)) }
 {
     let (first, rest) = first_word(line);
+    match inst_of(first, 8) {
+        Some(inst) => inst_form_of(alloc, inst, rest),
+        None => verb_form_of(alloc, first, rest, begun),
+    }
+}
+
+// The form of an instance's line, of which this is left.
+fn inst_form_of(alloc: Global, inst: InstNo, rest: Option<&[u8]>) -> Result<Option<Form>, Memory>
+    requires { IsInst inst }
+    ensures { (known : List ℕ → Option ℕ) →
+        IfOk result (IsFormOf known (decimal inst ∷ words_behind (option_copied rest.entry))) }
+{
     let Some(rest) = rest else {
-        return Ok(table_of(first));
+        return Ok(None);
     };
-    let (second, rest) = first_word(rest);
+    let (verb, rest) = first_word(rest);
     let Some(rest) = rest else {
-        return commit_of(alloc, first, second, begun);
+        return Ok(force_of(inst, verb));
     };
     let (third, rest) = first_word(rest);
     let Some(rest) = rest else {
-        return begin_of(alloc, first, second, third);
+        return three_of_inst(alloc, inst, verb, third);
     };
     match first_word(rest) {
-        (fourth, None) => long_form_of(alloc, first, second, third, fourth, begun),
+        (fourth, None) => Ok(ask_of(inst, verb, third, fourth)),
         (_, Some(_)) => Ok(None),
     }
 }
 
-fn long_form_of(
+fn three_of_inst(
     alloc: Global,
+    inst: InstNo,
     verb: &[u8],
-    first: &[u8],
-    second: &[u8],
-    third: &[u8],
-    begun: &Names,
+    word: &[u8],
 ) -> Result<Option<Form>, Memory>
-    ensures { IfOk result (IsFormOf (known begun.now) (verb.now ∷ first.now ∷ second.now ∷ third.now ∷ [])) }
+    requires { IsInst inst }
+    ensures { (known : List ℕ → Option ℕ) → IfOk result (IsFormOf known (decimal inst ∷ verb.now ∷ word.now ∷ [])) }
 {
-    if verb == b"complex".as_slice() {
-        Ok(complex_of(first, second, third))
-    } else if verb == b"insert".as_slice() {
-        insert_of(alloc, first, second, third, begun)
+    if verb == b"begin".as_slice() {
+        begin_of(alloc, inst, word)
+    } else if verb == b"evict".as_slice() {
+        Ok(evict_of(inst, word))
+    } else if verb == b"flush".as_slice() {
+        Ok(flush_of(inst, word))
     } else {
         Ok(None)
     }
 }
 
-fn complex_of(insts: &[u8], pages: &[u8], frames: &[u8]) -> Option<Form>
-    ensures { (known : List ℕ → Option ℕ) → IsFormOf known (codes "complex" ∷ insts.now ∷ pages.now ∷ frames.now ∷ []) result }
-{
-    Some(Form::Complex {
-        insts: inst_of(insts, 1)?,
-        pages: number_within(pages, 1, PAGES as u64)? as u16,
-        frames: number_within(frames, 1, PAGES as u64)? as u16,
-    })
-}
-
-fn begin_of(alloc: Global, inst: &[u8], verb: &[u8], name: &[u8]) -> Result<Option<Form>, Memory>
-    ensures { (known : List ℕ → Option ℕ) → IfOk result (IsFormOf known (inst.now ∷ verb.now ∷ name.now ∷ [])) }
-{
-    if verb != b"begin".as_slice() || !is_name(name) {
-        return Ok(None);
-    }
-    let Some(inst) = inst_of(inst, 8) else {
-        return Ok(None);
-    };
-    let name = Sequence::of(name.to_vec(alloc)?);
-    Ok(Some(Form::Begin { inst, name }))
-}
-
-fn insert_of(
+// The form of a verb's line, of which this is left.
+fn verb_form_of(
     alloc: Global,
+    verb: &[u8],
+    rest: Option<&[u8]>,
+    begun: &Names,
+) -> Result<Option<Form>, Memory>
+    requires { IsNoInst verb.now }
+    ensures { IfOk result (IsFormOf (known begun.now) (verb.now ∷ words_behind (option_copied rest.entry))) }
+{
+    let Some(rest) = rest else {
+        return Ok(table_of(verb));
+    };
+    let (second, rest) = first_word(rest);
+    let Some(rest) = rest else {
+        return two_of_verb(alloc, verb, second, begun);
+    };
+    let (third, rest) = first_word(rest);
+    let Some(rest) = rest else {
+        return three_of_verb(alloc, verb, second, third, begun);
+    };
+    let (fourth, rest) = first_word(rest);
+    let Some(rest) = rest else {
+        return four_of_verb(alloc, verb, second, third, fourth, begun);
+    };
+    match first_word(rest) {
+        (fifth, None) => five_of_verb(alloc, verb, second, third, fourth, fifth, begun),
+        (_, Some(_)) => Ok(None),
+    }
+}
+
+fn two_of_verb(
+    alloc: Global,
+    verb: &[u8],
+    word: &[u8],
+    begun: &Names,
+) -> Result<Option<Form>, Memory>
+    requires { IsNoInst verb.now }
+    ensures { IfOk result (IsFormOf (known begun.now) (verb.now ∷ word.now ∷ [])) }
+{
+    if verb == b"commit".as_slice() {
+        commit_of(alloc, word, begun)
+    } else if verb == b"where".as_slice() {
+        Ok(where_of(word))
+    } else {
+        Ok(None)
+    }
+}
+
+fn three_of_verb(
+    alloc: Global,
+    verb: &[u8],
+    name: &[u8],
+    word: &[u8],
+    begun: &Names,
+) -> Result<Option<Form>, Memory>
+    requires { IsNoInst verb.now }
+    ensures { IfOk result (IsFormOf (known begun.now) (verb.now ∷ name.now ∷ word.now ∷ [])) }
+{
+    if verb == b"read".as_slice() {
+        read_of(alloc, name, word, begun)
+    } else if verb == b"delete".as_slice() {
+        delete_of(alloc, name, word, begun)
+    } else {
+        Ok(None)
+    }
+}
+
+fn four_of_verb(
+    alloc: Global,
+    verb: &[u8],
+    second: &[u8],
+    third: &[u8],
+    fourth: &[u8],
+    begun: &Names,
+) -> Result<Option<Form>, Memory>
+    requires { IsNoInst verb.now }
+    ensures { IfOk result (IsFormOf (known begun.now) (verb.now ∷ second.now ∷ third.now ∷ fourth.now ∷ [])) }
+{
+    if verb == b"insert".as_slice() {
+        insert_of(alloc, second, third, fourth, None, begun)
+    } else if verb == b"write".as_slice() {
+        write_of(alloc, second, third, fourth, begun)
+    } else if verb == b"add".as_slice() {
+        add_of(alloc, second, third, fourth, begun)
+    } else if verb == b"complex".as_slice() {
+        Ok(complex_of(second, third, fourth))
+    } else {
+        Ok(None)
+    }
+}
+
+fn five_of_verb(
+    alloc: Global,
+    verb: &[u8],
     name: &[u8],
     page: &[u8],
     value: &[u8],
+    capacity: &[u8],
     begun: &Names,
 ) -> Result<Option<Form>, Memory>
-    ensures { IfOk result (IsFormOf (known begun.now) (codes "insert" ∷ name.now ∷ page.now ∷ value.now ∷ [])) }
+    requires { IsNoInst verb.now }
+    ensures { IfOk result (IsFormOf (known begun.now)
+        (verb.now ∷ name.now ∷ page.now ∷ value.now ∷ capacity.now ∷ [])) }
 {
-    if !is_name(name) || !is_value(value) {
+    if verb != b"insert".as_slice() {
         return Ok(None);
     }
-    let Some(page) = page_of(page) else {
+    let Some(capacity) = capacity_of(capacity, value) else {
         return Ok(None);
     };
-    let Some(ordinal) = begun.get(name) else {
-        return Ok(None);
-    };
-    let name = Sequence::of(name.to_vec(alloc)?);
-    let value = Sequence::of(value.to_vec(alloc)?);
-    Ok(Some(Form::Insert {
-        name,
-        ordinal,
-        page,
-        value,
-    }))
-}
-
-fn commit_of(alloc: Global, verb: &[u8], name: &[u8], begun: &Names) -> Result<Option<Form>, Memory>
-    ensures { IfOk result (IsFormOf (known begun.now) (verb.now ∷ name.now ∷ [])) }
-{
-    if verb != b"commit".as_slice() || !is_name(name) {
-        return Ok(None);
-    }
-    let Some(ordinal) = begun.get(name) else {
-        return Ok(None);
-    };
-    let name = Sequence::of(name.to_vec(alloc)?);
-    Ok(Some(Form::Commit { name, ordinal }))
-}
-
-fn table_of(verb: &[u8]) -> Option<Form>
-    ensures { (known : List ℕ → Option ℕ) → IsFormOf known (verb.now ∷ []) result }
-{
-    if verb == b"table".as_slice() {
-        Some(Form::Table)
-    } else {
-        None
-    }
-}
-
-// The instance that the word names, up to this number.
-fn inst_of(word: &[u8], most: u8) -> Option<InstNo>
-    requires { most ≤ 8 }
-    ensures found { IfSome result (λ i. decimal i ≡ word.now) }
-    ensures low { IfSome result (λ i. 1 ≤ i) }
-    ensures high { IfSome result (λ i. i ≤ most) }
-    ensures none { IfNone result ((i : ℕ) → 1 ≤ i → i ≤ most → decimal i ≢ word.now) }
-{
-    InstNo::new(number_within(word, 1, u64::from(most))? as u8)
-}
-
-// The page that the word names.
-fn page_of(word: &[u8]) -> Option<PageNo>
-    ensures found { IfSome result (λ p. decimal p ≡ word.now) }
-    ensures range { IfSome result (λ p. p < 1024) }
-    ensures none { IfNone result ((p : ℕ) → p < 1024 → decimal p ≢ word.now) }
-{
-    PageNo::new(number_within(word, 0, 1023)? as u16)
+    insert_of(alloc, name, page, value, Some(capacity), begun)
 }

@@ -4,7 +4,7 @@
 //! Keeps: nothing behind a call.
 //! Promises: `Script::read` reads each script and nothing else (`found`, `exact`); it names the first bad line
 //! (`bad`, `exact_bad`); a text has one reading (`one_reading`, `no_bad_script`, `one_bad_line`).
-//! An insert and a commit line tell their transaction by the ordinal of its begin line (`Follows`).
+//! A line of a transaction tells it by the ordinal of its begin line (`Follows`).
 //! Refuses: `BadLine` with the cause `Word`, and `Memory`.
 //! Knows nothing of: what a line does, replies, devices.
 //! Stands on: sd_base.
@@ -16,13 +16,16 @@
 #![tactic(auto)]
 
 mod form;
+mod inst_forms;
 pub mod laws;
 mod line;
 mod names;
 mod packed;
+mod parts;
 mod reader;
 mod script;
 mod text;
+mod verb_forms;
 mod word;
 
 pub use line::{Form, Line};

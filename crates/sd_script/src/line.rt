@@ -1,8 +1,9 @@
 //! A line of a script, and the forms that it may have.
 
-use sd_base::{Bytes, InstNo, PageNo, Word};
+use sd_base::{Bytes, InstNo, Mode, PageNo, Rid, Word};
 
-/// What a line says.
+/// What a line says. The ordinal of a line of a transaction is that of its begin line among the begin lines, counted
+/// from 0.
 #[derive(Debug, Drop)]
 pub enum Form {
     /// `complex N P F`: so many instances, pages, and frames for each instance.
@@ -16,18 +17,69 @@ pub enum Form {
         inst: InstNo,
         name: Word,
     },
-    /// `insert T P V`: the transaction inserts the value into the page. The ordinal is that of its begin line among the
-    /// begin lines, counted from 0.
+    /// `read T R`: the transaction reads the record.
+    Read {
+        name: Word,
+        ordinal: u32,
+        rid: Rid,
+    },
+    /// `write T R V`: the transaction puts the value in place of the record's.
+    Write {
+        name: Word,
+        ordinal: u32,
+        rid: Rid,
+        value: Bytes,
+    },
+    /// `add T R N`: the transaction adds the number to the record's.
+    Add {
+        name: Word,
+        ordinal: u32,
+        rid: Rid,
+        by: i64,
+    },
+    /// `insert T P V` or `insert T P V C`: the transaction inserts the value into the page, in a slot of this capacity
+    /// in bytes, or of the value's length where the line gives none.
     Insert {
         name: Word,
         ordinal: u32,
         page: PageNo,
         value: Bytes,
+        capacity: Option<u16>,
     },
-    /// `commit T`: the transaction commits. The ordinal is that of its begin line among the begin lines, counted from 0.
+    /// `delete T R`: the transaction deletes the record.
+    Delete {
+        name: Word,
+        ordinal: u32,
+        rid: Rid,
+    },
+    /// `commit T`: the transaction commits.
     Commit {
         name: Word,
         ordinal: u32,
+    },
+    /// `I ask P s` or `I ask P x`: the instance asks for the page, shared or exclusive.
+    Ask {
+        inst: InstNo,
+        page: PageNo,
+        mode: Mode,
+    },
+    /// `I evict P`: the instance drops its copy of the page.
+    Evict {
+        inst: InstNo,
+        page: PageNo,
+    },
+    /// `I flush P`: the instance writes the page to disk.
+    Flush {
+        inst: InstNo,
+        page: PageNo,
+    },
+    /// `I force`: the instance forces its log.
+    Force {
+        inst: InstNo,
+    },
+    /// `where P`: it is shown where the page is.
+    Where {
+        page: PageNo,
     },
     /// `table`: the records are shown.
     Table,

@@ -3,14 +3,14 @@
 ghost use Rattle.std.specs.Prelude.{◌≡◌, ℕ, ◌<◌, ◌≤◌, ◌∷◌, ◌++◌, ◌↔◌, List, [], length, IsTrue, IfOk, IfErr, IfSome, IfNone};
 ghost use Rattle.sd_script.specs.Forms.{IsForm, IsName};
 ghost use Rattle.sd_script.specs.Known.{known};
-ghost use Rattle.sd_script.specs.Order.{is_table, Follows};
+ghost use Rattle.sd_script.specs.Order.{is_table, insts_of, pages_of, Follows};
 ghost use Rattle.sd_script.specs.Remembered.{known_after, begins_after, open_after, insts_after, pages_after, tables_after};
 ghost use Rattle.sd_script.specs.Remembered.{Fits, IsUnknown, IsFresh, IsWith, IsLikelyLine, GoesOn, IsLineRefusedWith};
 
 use crate::form::form_of;
 use crate::names::Names;
 use crate::{Form, Line};
-use sd_base::{Cause, Memory, Refusal};
+use sd_base::{Cause, InstNo, Memory, PageNo, Refusal};
 use std::alloc::Global;
 use std::marker::Model;
 
@@ -118,13 +118,33 @@ impl Reader {
     {
         match form {
             Form::Complex { .. } => self.lines.is_empty(),
-            Form::Begin { inst, .. } => inst.get() <= self.insts && self.opened.is_none(),
-            Form::Insert { page, .. } => page.get() < self.pages,
+            Form::Begin { inst, .. } => self.has_inst(*inst) && self.opened.is_none(),
+            Form::Read { rid, .. }
+            | Form::Write { rid, .. }
+            | Form::Add { rid, .. }
+            | Form::Delete { rid, .. } => self.has_page(rid.page),
+            Form::Insert { page, .. } | Form::Where { page } => self.has_page(*page),
             Form::Commit { .. } => true,
+            Form::Ask { inst, page, .. }
+            | Form::Evict { inst, page }
+            | Form::Flush { inst, page } => self.has_inst(*inst) && self.has_page(*page),
+            Form::Force { inst } => self.has_inst(*inst),
             Form::Table => {
                 !self.lines.is_empty() && self.opened.is_none() && self.tables < TABLES
             }
         }
+    }
+
+    fn has_inst(&self, inst: InstNo) -> bool
+        ensures { IsTrue result ↔ (inst ≤ insts_of self.now) }
+    {
+        inst.get() <= self.insts
+    }
+
+    fn has_page(&self, page: PageNo) -> bool
+        ensures { IsTrue result ↔ (page < pages_of self.now) }
+    {
+        page.get() < self.pages
     }
 
     // The reader behind the line; none where it begins a name again.

@@ -1,8 +1,8 @@
 //! Events and replies of worked scripts, built from short words.
 
 use sd_base::{
-    Bytes, Cycle, InstNo, Memory, Mode, PageNo, Pick, Place, Refusal, Rid, Sequence, Status,
-    Trouble, TxnId,
+    Bytes, Cause, Cycle, InstNo, InstSet, Memory, Mode, PageNo, Pick, Place, Refusal, Rid,
+    Sequence, Status, Trouble, TxnId,
 };
 use sd_model::{Event, Reply, Rows};
 use sd_oracle::Outcome;
@@ -72,11 +72,14 @@ pub enum Say {
     At(u16),
     /// The records of page 0 are those of slot 0 and on.
     Rows(&'static [&'static [u8]]),
+    Have,
     Asked(Who),
     Gave(Who),
     Step,
     Finished,
     Joined(u32),
+    /// A page is here, and its newest version has this LSN.
+    Shown(Spot, u64),
     No(Why),
     /// It is done, and this one was found committed.
     Found(Who),
@@ -88,6 +91,17 @@ pub enum Say {
     Claimed(u16, Who),
 }
 
+/// Where a page is, and whether it is changed.
+#[derive(Clone, Copy)]
+pub enum Spot {
+    Free,
+    /// At these instances, of which the other writes it.
+    Shared(&'static [Who], Option<Who>),
+    Excl(Who, bool),
+    Moving(Who, bool),
+    Lost,
+}
+
 /// Why it is refused.
 #[derive(Clone, Copy)]
 pub enum Why {
@@ -95,6 +109,12 @@ pub enum Why {
     PageFull,
     NoRecord,
     TooLong,
+    BadRecord(u64),
+    LogFull,
+    LsnEnd,
+    BadLog(u64),
+    PoolFull,
+    TooManyTxns,
     Blocked(Who),
     /// The first waits for the second, and that for the first.
     Deadlock(Who, Who),
@@ -104,12 +124,22 @@ pub enum Why {
     Lost,
     Busy(Who),
     CutCommit,
+    NotAsked,
+    Dirty,
+    MovingTo(Who),
+    NoCheck,
     /// It isn't down, but up.
     Up,
     /// It isn't down, but clean.
     Clean,
+    /// It isn't recovered, but up.
+    NotRecovered,
+    Damaged(u8, u64),
+    /// The line of this number has a wrong word.
+    BadLine(u32),
     NoTxn,
     NotNumber,
+    NoMemory,
 }
 
 fn rid(rt: &impl Abort, slot: u16) -> Rid {
@@ -119,7 +149,8 @@ fn rid(rt: &impl Abort, slot: u16) -> Rid {
     }
 }
 
-fn txn(rt: &impl Abort, who: Who) -> TxnId {
+/// The transaction by its numbers.
+pub fn txn(rt: &impl Abort, who: Who) -> TxnId {
     let Who(number, epoch, seq) = who;
     TxnId {
         inst: InstNo::new(number).expect(rt, "an instance"),
@@ -221,6 +252,7 @@ pub fn reply(rt: &(impl Abort + AllocGlobal), say: Say) -> Result<Reply, Memory>
         Say::Did | Say::Found(_) | Say::PageLost => Reply::Did,
         Say::At(slot) => Reply::At(rid(rt, slot)),
         Say::Rows(values) => Reply::Rows(rows(rt, values)?),
+        Say::Have => Reply::Have,
         Say::Asked(who) => Reply::Asked {
             of: txn(rt, who).inst,
         },
@@ -230,6 +262,10 @@ pub fn reply(rt: &(impl Abort + AllocGlobal), say: Say) -> Result<Reply, Memory>
         Say::Step => Reply::Step,
         Say::Finished => Reply::Finished,
         Say::Joined(epoch) => Reply::Joined { epoch },
+        Say::Shown(spot, lsn) => Reply::Shown {
+            place: place(rt, spot),
+            lsn,
+        },
         Say::No(why) => Reply::Refused(refusal(rt, why)?),
         Say::Fell(_) => Reply::Refused(Refusal::Failed),
         Say::Claimed(_, by) => Reply::Refused(Refusal::Blocked { by: txn(rt, by) }),
@@ -244,12 +280,47 @@ fn rows(rt: &(impl Abort + AllocGlobal), values: &[&[u8]]) -> Result<Rows, Memor
     Ok(Rows::of(rows))
 }
 
+fn place(rt: &impl Abort, spot: Spot) -> Place {
+    match spot {
+        Spot::Free => Place::Free,
+        Spot::Shared(holders, writer) => Place::Shared {
+            set: set(rt, holders),
+            writer: writer.map(|who| txn(rt, who).inst),
+        },
+        Spot::Excl(who, dirty) => Place::Excl {
+            holder: txn(rt, who).inst,
+            dirty,
+        },
+        Spot::Moving(who, dirty) => Place::Moving {
+            to: txn(rt, who).inst,
+            mode: Mode::Excl,
+            rest: InstSet::EMPTY,
+            dirty,
+        },
+        Spot::Lost => Place::Lost,
+    }
+}
+
+fn set(rt: &impl Abort, members: &[Who]) -> InstSet {
+    let mut set = InstSet::EMPTY;
+    for who in members {
+        set = set.with(txn(rt, *who).inst);
+    }
+    set
+}
+
 fn refusal(rt: &(impl Abort + AllocGlobal), why: Why) -> Result<Refusal, Memory> {
     Ok(match why {
         Why::Failed => Refusal::Failed,
         Why::PageFull => Refusal::PageFull,
         Why::NoRecord => Refusal::NoRecord,
         Why::TooLong => Refusal::TooLong,
+        Why::BadRecord(at) => Refusal::BadRecord { at },
+        Why::LogFull => Refusal::LogFull,
+        Why::LsnEnd => Refusal::LsnEnd,
+        Why::BadLog(at) => Refusal::BadLog { at },
+        Why::PoolFull => Refusal::PoolFull,
+        Why::TooManyTxns => Refusal::TooManyTxns,
         Why::Blocked(by) => Refusal::Blocked { by: txn(rt, by) },
         Why::Deadlock(one, other) => {
             let (one, other) = (txn(rt, one), txn(rt, other));
@@ -263,12 +334,25 @@ fn refusal(rt: &(impl Abort + AllocGlobal), why: Why) -> Result<Refusal, Memory>
         Why::Lost => Refusal::Lost,
         Why::Busy(by) => Refusal::Busy { by: txn(rt, by) },
         Why::CutCommit => Refusal::CutCommit,
+        Why::NotAsked => Refusal::NotAsked,
+        Why::Dirty => Refusal::Dirty,
+        Why::MovingTo(who) => Refusal::MovingTo {
+            to: txn(rt, who).inst,
+        },
+        Why::NoCheck => Refusal::NoCheck,
         Why::Up => Refusal::NotDown { status: Status::Up },
         Why::Clean => Refusal::NotDown {
             status: Status::Clean,
         },
+        Why::NotRecovered => Refusal::NotRecovered { status: Status::Up },
+        Why::Damaged(dev, at) => Refusal::Damaged { dev, at },
+        Why::BadLine(line) => Refusal::BadLine {
+            line,
+            cause: Cause::Word,
+        },
         Why::NoTxn => Refusal::NoTxn,
         Why::NotNumber => Refusal::NotNumber,
+        Why::NoMemory => Refusal::Memory,
     })
 }
 

@@ -4,40 +4,88 @@ use sd_base::Refusal;
 use sd_script::{Kind, Script};
 use std::test::Fail;
 
+/// Texts with the number of lines of a script, or of the first bad line.
+static TEXTS: [(&[u8], Result<usize, u32>); 61] = [
+    (
+        b"complex 1 1 2\n1 begin a\ninsert a 0 red\ncommit a\ntable\n",
+        Ok(5),
+    ),
+    (b"complex 1 1024 1024", Ok(1)),
+    (b"complex 1 11 2\n1 begin a\ninsert a 10 !~\n", Ok(3)),
+    (
+        b"complex 1 1 2\n1 begin a\ncommit a\n1 begin b\ncommit a\ninsert a 0 x\ncommit b\n",
+        Ok(7),
+    ),
+    (b"complex 1 1 2\n1 begin abcdefghijklmno9\n", Ok(2)),
+    (b"", Err(1)),
+    (b"\x00\xff\x80\n", Err(1)),
+    (b"complex 01 1 2", Err(1)),
+    (b"complex 1 1 2\n\ntable\n", Err(2)),
+    (b"complex 1 1 2\ntable \n", Err(2)),
+    (b"complex 1 1 2\n1  begin a\n", Err(2)),
+    (b"complex 1 1 2\r\n", Err(1)),
+    (b"complex 1 1 2\n1 begin a\ninsert a 0 red blue\n", Err(3)),
+    (b"complex 1 1 2\n1 begin a\ninsert a 0 r\x7fd\n", Err(3)),
+    (b"complex 1 1 2\n1 begin a\ntable\ncommit a\n", Err(3)),
+    (b"complex 1 1 2\n1 begin a\ncommit a\n1 begin a\n", Err(4)),
+    // The forms of a transaction's lines.
+    (b"complex 1 2 2\n1 begin a\nread a 1.999\n", Ok(3)),
+    (b"complex 1 2 2\n1 begin a\nwrite a 0.0 !\n", Ok(3)),
+    (b"complex 1 2 2\n1 begin a\nadd a 0.0 0\n", Ok(3)),
+    (b"complex 1 2 2\n1 begin a\nadd a 0.0 -9999999999\n", Ok(3)),
+    (b"complex 1 2 2\n1 begin a\ndelete a 1.0\n", Ok(3)),
+    (b"complex 1 2 2\n1 begin a\ninsert a 0 red 3\n", Ok(3)),
+    (b"complex 1 2 2\n1 begin a\ninsert a 0 red 65535\n", Ok(3)),
+    (b"complex 1 2 2\n1 begin a\nread a 1\n", Err(3)),
+    (b"complex 1 2 2\n1 begin a\nread a 2.0\n", Err(3)),
+    (b"complex 1 2 2\n1 begin a\nread a 0.1000\n", Err(3)),
+    (b"complex 1 2 2\n1 begin a\nread a 0.01\n", Err(3)),
+    (b"complex 1 2 2\n1 begin a\nread a .0\n", Err(3)),
+    (b"complex 1 2 2\n1 begin a\nread b 0.0\n", Err(3)),
+    (b"complex 1 2 2\n1 begin a\nwrite a 0.0\n", Err(3)),
+    (b"complex 1 2 2\n1 begin a\nwrite a 0.0 x y\n", Err(3)),
+    (b"complex 1 2 2\n1 begin a\nadd a 0.0 -0\n", Err(3)),
+    (b"complex 1 2 2\n1 begin a\nadd a 0.0 --1\n", Err(3)),
+    (b"complex 1 2 2\n1 begin a\nadd a 0.0 10000000000\n", Err(3)),
+    (b"complex 1 2 2\n1 begin a\nadd a 0.0 1 1\n", Err(3)),
+    (b"complex 1 2 2\n1 begin a\ndelete a 0.0 x\n", Err(3)),
+    (b"complex 1 2 2\n1 begin a\ninsert a 0 red 2\n", Err(3)),
+    (b"complex 1 2 2\n1 begin a\ninsert a 0 red 65536\n", Err(3)),
+    (b"complex 1 2 2\n1 begin a\ninsert a 0 red 03\n", Err(3)),
+    (b"complex 1 2 2\n1 begin a\ninsert a 0 red 3 3\n", Err(3)),
+    // Those of an instance's and a page's lines.
+    (b"complex 1 2 2\n1 ask 1 s\n", Ok(2)),
+    (b"complex 1 2 2\n1 ask 0 x\n", Ok(2)),
+    (b"complex 1 2 2\n1 evict 1\n", Ok(2)),
+    (b"complex 1 2 2\n1 flush 0\n", Ok(2)),
+    (b"complex 1 2 2\n1 force\n", Ok(2)),
+    (b"complex 1 2 2\nwhere 1\n", Ok(2)),
+    (b"complex 1 2 2\n1 ask 0\n", Err(2)),
+    (b"complex 1 2 2\n1 ask 0 y\n", Err(2)),
+    (b"complex 1 2 2\n1 ask 2 s\n", Err(2)),
+    (b"complex 1 2 2\n2 ask 0 s\n", Err(2)),
+    (b"complex 1 2 2\n01 ask 0 s\n", Err(2)),
+    (b"complex 1 2 2\n1 evict 2\n", Err(2)),
+    (b"complex 1 2 2\n1 evict\n", Err(2)),
+    (b"complex 1 2 2\n2 flush 0\n", Err(2)),
+    (b"complex 1 2 2\n1 flush 01\n", Err(2)),
+    (b"complex 1 2 2\n1 force 0\n", Err(2)),
+    (b"complex 1 2 2\n2 force\n", Err(2)),
+    (b"complex 1 2 2\nwhere\n", Err(2)),
+    (b"complex 1 2 2\nwhere 2\n", Err(2)),
+    (b"complex 1 2 2\nwhere 0 0\n", Err(2)),
+    (b"1 force\ncomplex 1 2 2\n", Err(1)),
+];
+
 #[test]
 fn a_text_is_a_script_or_has_a_first_bad_line(rt: HostRuntime) -> Result<(), Fail> {
-    // The number of lines of a script, or of the bad line.
-    let texts: [(&[u8], Result<usize, u32>); 16] = [
-        (
-            b"complex 1 1 2\n1 begin a\ninsert a 0 red\ncommit a\ntable\n",
-            Ok(5),
-        ),
-        (b"complex 1 1024 1024", Ok(1)),
-        (b"complex 1 11 2\n1 begin a\ninsert a 10 !~\n", Ok(3)),
-        (
-            b"complex 1 1 2\n1 begin a\ncommit a\n1 begin b\ncommit a\ninsert a 0 x\ncommit b\n",
-            Ok(7),
-        ),
-        (b"complex 1 1 2\n1 begin abcdefghijklmno9\n", Ok(2)),
-        (b"", Err(1)),
-        (b"\x00\xff\x80\n", Err(1)),
-        (b"complex 01 1 2", Err(1)),
-        (b"complex 1 1 2\n\ntable\n", Err(2)),
-        (b"complex 1 1 2\ntable \n", Err(2)),
-        (b"complex 1 1 2\n1  begin a\n", Err(2)),
-        (b"complex 1 1 2\r\n", Err(1)),
-        (b"complex 1 1 2\n1 begin a\ninsert a 0 red blue\n", Err(3)),
-        (b"complex 1 1 2\n1 begin a\ninsert a 0 r\x7fd\n", Err(3)),
-        (b"complex 1 1 2\n1 begin a\ntable\ncommit a\n", Err(3)),
-        (b"complex 1 1 2\n1 begin a\ncommit a\n1 begin a\n", Err(4)),
-    ];
-    for (text, due) in texts {
+    for (text, due) in &TEXTS {
         let read = match Script::read(rt.alloc(), text, Kind::Replay) {
             Ok(script) => Ok(script.lines().len()),
             Err(Refusal::BadLine { line, cause: _ }) => Err(line),
             Err(refusal) => return Err(Fail::from(refusal)),
         };
-        assert_eq!(rt; read, due, "in {text:?}");
+        assert_eq!(rt; read, *due, "in {text:?}");
     }
     Ok(())
 }

@@ -1,12 +1,5 @@
-pub mod Naming
-pub mod LineOrder
 pub mod Puts
 pub mod Takes
-pub mod Slots
-pub mod Refuses
-pub mod Serves
-pub mod Reaches
-pub mod Arms
 mod Scripts
+mod Rising
 mod Answered
-mod Unnamed

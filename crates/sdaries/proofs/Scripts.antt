@@ -8,89 +8,105 @@ use Rattle.std.proofs.lemmas.Bool.{eqb-true}
 use Rattle.std.proofs.lemmas.List.{take_more, drop_more, take_all}
 use Rattle.std.proofs.lemmas.List.Splits.{join_with_byte-slice_split}
 use Rattle.std.proofs.lemmas.List.Sums.{sum_by-cons}
-use Rattle.std.proofs.lemmas.Option.{slice_get-get_or, slice_get_within}
 use Rattle.sd_script.specs.declared.line.Form.{Form}
 use Rattle.sd_script.specs.declared.line.Form.TheVariants as form
 use Rattle.sd_script.specs.declared.line.Line.{Line}
 use Rattle.sd_script.specs.Text.{lines_of, words_of, end_of, less_empty_last}
-use Rattle.sd_script.specs.Forms.{form_words, IsForm}
-use Rattle.sd_script.specs.Order.{Follows, insts_in, pages_in, insts_of, pages_of}
+use Rattle.sd_script.specs.Forms.{IsCount, IsForm, capacity_words, form_words}
+use Rattle.sd_script.specs.Order.{Follows, insts_in, insts_of, pages_in, pages_of}
 use Rattle.sd_script.specs.Reading.{Reads, IsScript}
-use Rattle.sdaries.specs.Reaching.{IsNext, value_length}
-use Rattle.sdaries.specs.Report.{AreAbove}
+use Rattle.sd_drive.specs.Reaching.{AreDriven, IsShort, MayStand}
+use Rattle.sdaries.specs.Opening.{frames_in, frames_of}
+
+-- the first of words is no longer than all of them, nor are those behind it
+head_within : (w : List ℕ) (ws : List (List ℕ)) → length w ≤ length (join_with_byte 32 (w ∷ ws))
+head_within w [] = omega arith
+head_within w (x ∷ ws) = omega (arith, length-append w (32 ∷ join_with_byte 32 (x ∷ ws)))
+
+tail_within : (w x : List ℕ) (ws : List (List ℕ)) → length (join_with_byte 32 (x ∷ ws)) ≤ length (join_with_byte 32 (w ∷ x ∷ ws))
+tail_within w x ws = omega (arith, length-append w (32 ∷ join_with_byte 32 (x ∷ ws)))
 
 -- a value is no longer than its line
-within : (name value : List ℕ) (page : ℕ) → length value ≤ length (join_with_byte 32 (codes "insert" ∷ name ∷ decimal page ∷ value ∷ []))
-within name value page =
-    let tail : List ℕ = decimal page ++ 32 ∷ value in
-    let a : length tail ≡ length (decimal page) + suc (length value) = length-append (decimal page) (32 ∷ value) in
-    let b : length (name ++ 32 ∷ tail) ≡ length name + suc (length tail) = length-append name (32 ∷ tail) in
-    let c : length (codes "insert" ++ 32 ∷ name ++ 32 ∷ tail) ≡ length (codes "insert") + suc (length (name ++ 32 ∷ tail)) = length-append (codes "insert") (32 ∷ name ++ 32 ∷ tail) in
-    omega (arith, a, b, c)
-
-shorter : (f : Form) → value_length f ≤ length (join_with_byte 32 (form_words f))
-shorter (form.Complex insts pages frames) = omega arith
-shorter (form.Begin inst name) = omega arith
-shorter (form.Insert name ordinal page value) = within name value page
-shorter (form.Commit name ordinal) = omega arith
-shorter form.Table = omega arith
+value_within : (name value page : List ℕ) (ws : List (List ℕ))
+    → length value ≤ length (join_with_byte 32 (codes "insert" ∷ name ∷ page ∷ value ∷ ws))
+value_within name value page ws = omega (
+  arith,
+  head_within value ws,
+  tail_within page value ws,
+  tail_within name page (value ∷ ws),
+  tail_within (codes "insert") name (page ∷ value ∷ ws),
+)
 
 line_length : (bytes : List ℕ) (f : Form) → words_of bytes ≡ form_words f → length (join_with_byte 32 (form_words f)) ≡ length bytes
 line_length bytes f words = ap (λ (l : List (List ℕ)). length (join_with_byte 32 l)) (sym words) ∙ ap length (join_with_byte-slice_split 32 bytes)
 
--- the line at an index of a script
-at_index : (text : List ℕ) (lines : List Line) (k : ℕ) (line : Line) → IsScript text lines → k < length lines → line ≡ get_or lines k line → Reads text (take k lines) line
-at_index text lines k line script lt is = script.read k line (slice_get-get_or lines k line lt ∙ ap (λ (x : Line). Some x) (sym is))
+short_form : (f : Form) → length (join_with_byte 32 (form_words f)) ≤ 1024 → IsShort f
+short_form (form.Insert name ordinal page value capacity) most =
+    omega (arith, most, value_within name value (decimal page) (capacity_words capacity))
+short_form (form.Complex insts pages frames) most = tt
+short_form (form.Begin inst name) most = tt
+short_form (form.Read name ordinal rid) most = tt
+short_form (form.Write name ordinal rid value) most = tt
+short_form (form.Add name ordinal rid by) most = tt
+short_form (form.Delete name ordinal rid) most = tt
+short_form (form.Commit name ordinal) most = tt
+short_form (form.Ask inst page mode) most = tt
+short_form (form.Evict inst page) most = tt
+short_form (form.Flush inst page) most = tt
+short_form (form.Force inst) most = tt
+short_form (form.Where page) most = tt
+short_form form.Table most = tt
 
 length_front : (lines : List Line) (k : ℕ) → k ≤ length lines → length (take k lines) ≡ k
 length_front lines zero le = refl
 length_front [] (suc k) le = absurd (omega (arith, le))
 length_front (line ∷ lines) (suc k) le = ap suc (length_front lines k (omega (arith, le)))
 
-pub script_next : (text : List ℕ) (lines : List Line) (k : ℕ) (line : Line) → IsScript text lines → k < length lines → line ≡ get_or lines k line → IsNext lines k line
-script_next text lines k line script lt is =
-    let reads : Reads text (take k lines) line = at_index text lines k line script lt is in
-    let front : length (take k lines) ≡ k = length_front lines k (omega (arith, lt)) in
-    let number : line.number ≡ k + 1 = reads.reads.number ∙ ap (λ (n : ℕ). n + 1) front in
-    record {
-      at = drop_more lines k line lt ∙ ap (λ (x : Line). x ∷ drop (k + 1) lines) (sym is);
-      front = take_more lines k line lt ∙ ap (λ (x : Line). take k lines ++ x ∷ []) (sym is);
-      follows = reads.reads.follows;
-      number = number;
-      session = reads.reads.session;
-      few = omega (arith, number, reads.reads.lines_most);
-      form = reads.reads.form;
-      short = omega (arith, shorter line.form, line_length reads.bytes line.form reads.reads.words, reads.reads.bytes_most);
-    }
-
--- lines that are numbered from one on
-above_from : (lines : List Line) (low : ℕ) → ((k : ℕ) (line : Line) → slice_get lines k ≡ Some line → line.number ≡ low + k + 1) → AreAbove low lines
-above_from [] low numbered = tt
-above_from (line ∷ lines) low numbered =
-    let first : line.number ≡ low + 1 = numbered 0 line refl ∙ omega arith in
-    (omega (arith, first), above_from lines line.number (λ k other is. numbered (suc k) other is ∙ omega (arith, first)))
-
-script_numbers : (text : List ℕ) (lines : List Line) → IsScript text lines → (k : ℕ) (line : Line) → slice_get lines k ≡ Some line → line.number ≡ 0 + k + 1
-script_numbers text lines script k line is =
-    let front : length (take k lines) ≡ k = length_front lines k (omega (arith, slice_get_within lines k line is)) in
-    (script.read k line is).reads.number ∙ ap (λ (n : ℕ). n + 1) front ∙ omega arith
-
-pub script_above : (text : List ℕ) (lines : List Line) → IsScript text lines → AreAbove 0 lines
-script_above text lines script = above_from lines 0 (script_numbers text lines script)
-
 -- the first line is the one that gives the complex
-behind_none : (f : Form) → Follows [] f → IsForm f → (insts_in f ≡ 1) × (0 < pages_in f) × (pages_in f ≤ 1024)
-behind_none (form.Complex insts pages frames) follows is = (is.0, omega (arith, is.1), is.1.1)
+behind_none : (f : Form) → Follows [] f → IsForm f → (insts_in f ≡ 1) × IsCount (pages_in f) × IsCount (frames_in f)
+behind_none (form.Complex insts pages frames) follows is = is
 behind_none (form.Begin inst name) follows is = absurd (omega (arith, follows.0, is.0))
-behind_none (form.Insert name ordinal page value) follows is = absurd (omega (arith, follows.1))
+behind_none (form.Read name ordinal rid) follows is = absurd (omega (arith, follows.1))
+behind_none (form.Write name ordinal rid value) follows is = absurd (omega (arith, follows.1))
+behind_none (form.Add name ordinal rid by) follows is = absurd (omega (arith, follows.1))
+behind_none (form.Insert name ordinal page value capacity) follows is = absurd (omega (arith, follows.1))
+behind_none (form.Delete name ordinal rid) follows is = absurd (omega (arith, follows.1))
 behind_none (form.Commit name ordinal) follows is = absurd (cc)
+behind_none (form.Ask inst page mode) follows is = absurd (omega (arith, follows.1))
+behind_none (form.Evict inst page) follows is = absurd (omega (arith, follows.1))
+behind_none (form.Flush inst page) follows is = absurd (omega (arith, follows.1))
+behind_none (form.Force inst) follows is = absurd (omega (arith, follows, is.0))
+behind_none (form.Where page) follows is = absurd (omega (arith, follows))
 behind_none form.Table follows is = absurd (follows.0 refl)
 
-pub script_complex : (text : List ℕ) (lines : List Line) → IsScript text lines → (insts_of lines ≡ 1) × (0 < pages_of lines) × (pages_of lines ≤ 1024)
+pub script_complex : (text : List ℕ) (lines : List Line) → IsScript text lines
+    → (insts_of lines ≡ 1) × IsCount (pages_of lines) × IsCount (frames_of lines)
 script_complex text [] script = absurd (omega (arith, script.some))
 script_complex text (line ∷ lines) script =
     let reads : Reads text [] line = script.read 0 line refl in
     behind_none line.form reads.reads.follows reads.reads.form
+
+-- the lines of a script may be driven
+may_stand : (text : List ℕ) (lines : List Line) → IsScript text lines → (n : ℕ) (line : Line) → slice_get lines n ≡ Some line → MayStand lines n line
+may_stand text lines script n line is =
+    let reads : Reads text (take n lines) line = script.read n line is in
+    record {
+      follows = reads.reads.follows;
+      form = reads.reads.form;
+      short = short_form line.form (omega (arith, line_length reads.bytes line.form reads.reads.words, reads.reads.bytes_most));
+    }
+
+pub script_driven : (text : List ℕ) (lines : List Line) (pages : ℕ) → IsScript text lines → pages ≡ pages_of lines → AreDriven lines pages
+script_driven text lines pages script is =
+    let first = script_complex text lines script in
+    let count = first.1 in
+    record {
+      each = may_stand text lines script;
+      insts = first.0;
+      pages = sym is;
+      some = omega (arith, count.0, is);
+      most = omega (arith, count.1, is);
+    }
 
 -- the lines take no less than the text
 abbrev taken : List ℕ → ℕ

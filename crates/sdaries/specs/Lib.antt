@@ -1,15 +1,7 @@
 pub mod Sides
 pub mod Input
 pub mod Output
-pub mod Names
-pub mod Progress
-pub mod Bounds
-pub mod World
-pub mod Words
-pub mod Refusals
-pub mod Report
-pub mod Pages
-pub mod Serving
-pub mod Reaching
+pub mod Opening
+pub mod Unopened
 pub mod Outcome
 pub mod ExitNumber

@@ -1,35 +1,29 @@
 //! The program: it runs a script of transactions and reports one reply a line.
 //!
-//! Meaning: `Outcome` (`specs/Outcome.antt`) says for each status what was taken, written and noted; a `World`
-//! (`specs/World.antt`) holds the serial table, what is told of the script, and the bounds of what stands outside.
-//! Keeps: `Reached` (`specs/Reaching.antt`): after n lines the book's entries lead to a world that the engine stands for.
+//! Meaning: `Outcome` (`specs/Outcome.antt`) says for each status what was taken, written and noted, and what the devices stand
+//! for, by the runs of sd_drive (`Led`).
+//! Keeps: nothing behind a call.
 //! Promises: `top::top`: each reply is the serial table's, each refusal has its cause, the committed transactions read
-//! as if they ran one after another, and the report is the book's (`outcome`); a script is done unless a stream fails
-//! or memory wants (`complete`); other words touch nothing (`usage`, `untouched`).
+//! as if they ran one after another, the report is the book's, and what a crash may leave at any moment stands for a world on
+//! the way (`outcome`); a script is done unless a stream fails, a device fails in the opening, or memory wants (`complete`);
+//! other words touch nothing (`usage`, `untouched`).
 //! Refuses: bad lines with `BadLine`, other words with `Usage`; faults and want of memory have their own status.
-//! Knows nothing of: devices, logs, buffer pools, which stand behind `sd_rig` and its callers.
-//! Stands on: sd_base, sd_model, sd_page, sd_rig, sd_script.
+//! Knows nothing of: how a line is driven, how an event is served.
+//! Stands on: sd_base, sd_model, sd_rig, sd_script, sd_sound, sd_world, sd_state, sd_fits, sd_hall, sd_report, sd_drive.
+//! Held by the caller: blank devices (`top`, `blank`).
 //!
 //! To change:
-//! - free: bodies, proofs, the text of what isn't reported
-//! - dear: the clauses of `top`, `Outcome`, `World`
-//! - frozen: the statuses' numbers, the words of the report (`specs/Report.antt`, `specs/Refusals.antt`)
+//! - free: bodies, proofs
+//! - dear: the clauses of `top`, `Outcome`
+//! - frozen: the statuses' numbers
 #![tactic(auto)]
 
-mod engine;
 mod input;
-mod laws;
 mod output;
-mod parting;
-mod refusals;
-mod replay;
-mod report;
 mod status;
 #[cfg(test)]
 mod tests;
 mod top;
-mod txn_names;
-mod words;
 
 use sd_base::{OpenGate, StdSink, StdSource};
 use sd_rig::MemRig;

@@ -18,6 +18,8 @@ pub enum Status {
     WriteFault,
     /// 5: there was no memory.
     NoMemory,
+    /// 7: a device failed in the opening.
+    Device,
 }
 
 impl Status {
@@ -32,6 +34,7 @@ impl Status {
             Status::ReadFault => 3,
             Status::WriteFault => 4,
             Status::NoMemory => 5,
+            Status::Device => 7,
         }
     }
 }

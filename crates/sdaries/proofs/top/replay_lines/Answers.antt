@@ -1,62 +1,29 @@
-use Rattle.std.proofs.Common.{sym, ap, ◌∙◌, subst, arith}
-use Rattle.sdaries.proofs.Scripts.{script_next, script_above, script_complex}
-use Rattle.std.specs.Prelude.{Some}
-use Rattle.sdaries.specs.Sides.{SinkSide}
+use Rattle.std.proofs.Common.{◌∙◌, ap, arith, subst}
+use Rattle.sd_world.specs.Serving.{Telling, telling}
+use Rattle.sdaries.specs.Sides.{Ends, SinkSide}
 use Rattle.sdaries.specs.Outcome.{Answers}
-use Rattle.sdaries.proofs.Answered.{answers_reached, answers_partial}
+use Rattle.sdaries.proofs.Scripts.{script_complex}
 use Rattle.sdaries.proofs.top.replay_lines.Goals as goal
-use Rattle.sdaries.proofs.top.replay_lines.Goals.{in-Ok-run, in-Err-run}
 
-pub start-requires : goal.start-requires
-start-requires c c' =
-    let (text, script) = c'.requires in
-    omega (arith, c'.page_count.ensures, (script_complex text c'.args.lines.now script).2)
+pub fresh-requires-clause-least : goal.fresh-requires-clause-least
+fresh-requires-clause-least g c =
+    let count = (script_complex c.requires.script.0 c.args.lines.now c.requires.script.1).2 in
+    let is = c.shape-shape.ensures.frames in
+    omega (arith, count.0, is)
 
-pub run-requires-clause-next : goal.run-requires-clause-next
-run-requires-clause-next c c' = λ k line lt is.
-    let (text, script) = c'.requires in
-    script_next text c'.args.lines.now k line script lt is
+pub fresh-requires-clause-most : goal.fresh-requires-clause-most
+fresh-requires-clause-most g c =
+    let count = (script_complex c.requires.script.0 c.args.lines.now c.requires.script.1).2 in
+    let is = c.shape-shape.ensures.frames in
+    omega (arith, count.1, is)
 
-pub run-requires-clause-pages : goal.run-requires-clause-pages
-run-requires-clause-pages c c' = c'.in-Ok.ensures.pages ∙ c'.page_count.ensures
-
-pub run-requires-clause-insts : goal.run-requires-clause-insts
-run-requires-clause-insts c c' =
-    let (text, script) = c'.requires in
-    (script_complex text c'.args.lines.now script).0
-
-pub run-requires-clause-some : goal.run-requires-clause-some
-run-requires-clause-some c c' =
-    let (text, script) = c'.requires in
-    (script_complex text c'.args.lines.now script).1
-
-pub run-requires-clause-few : goal.run-requires-clause-few
-run-requires-clause-few c c' =
-    let (text, script) = c'.requires in
-    (script_complex text c'.args.lines.now script).2
-
-pub report-status-requires-clause-lines : goal.report-status-requires-clause-lines
-report-status-requires-clause-lines c c' =
-    let (text, script) = c'.requires in
-    script_above text c'.args.lines.now script
-
-pub returns : goal.returns
-returns c c' = λ text script.
-    let lines = c'.args.lines.now in
-    let replay = c'.run.new.self in
-    let sink : SinkSide = record { written = c.K.Sink.written c'.args.sink.now; faults = c.K.Sink.faults c'.args.sink.now } in
-    let then : SinkSide = record { written = c.K.Sink.written c'.match-run.sink; faults = c.K.Sink.faults c'.match-run.sink } in
-    let runs = c'.turns_are_steps.ensures in
-    let serial = c'.serial_order.ensures in
-    elim c'.match-run.branch [
-      | in-Ok-run w ↦
-          let (world, reached) = w.in-Ok-run.ensures.told in
-          let after : SinkSide = record { written = c.K.Sink.written w.report-status.new.sink; faults = c.K.Sink.faults w.report-status.new.sink } in
-          let answered = answers_reached runs serial.serial serial.fresh w.report-status.result text lines replay world sink after script reached w.report-status.ensures in
-          subst (λ s. Answers s text sink then (Some replay.book)) (sym w.status-is)
-          (subst (λ k. Answers w.report-status.result text sink (record { written = c.K.Sink.written k; faults = c.K.Sink.faults k }) (Some replay.book)) (sym w.sink-is) answered)
-      | in-Err-run w ↦
-          let (world, leads) = w.in-Err-run.ensures.err in
-          let answered = answers_partial runs serial.serial serial.fresh text lines replay.book world sink then script w.in-Err-run.ensures.blank leads (ap (λ k. c.K.Sink.written k) w.sink-is) in
-          subst (λ s. Answers s text sink then (Some replay.book)) (sym w.status-is) answered
-    ]
+pub returns-in-Ok : goal.returns-in-Ok
+returns-in-Ok g c = λ text script.
+    let tell : Telling g.row.G.Denot = telling g.G.Rig.seen g.G.Rig.leaves g.G.Rig.moment g.G.Rig.since g.G.Rig.faults in
+    let sink : SinkSide = record { written = g.K.Sink.written c.args.sink.now; faults = g.K.Sink.faults c.args.sink.now } in
+    let then : Ends g.row.G.Denot = record {
+      sink = record { written = g.K.Sink.written c.open.new.sink; faults = g.K.Sink.faults c.open.new.sink };
+      rig = c.open.result.rig;
+    } in
+    subst (λ rig. Answers tell c.open.result.status text (record { sink = sink; rig = rig }) then c.open.result.book)
+    (ap (λ h. h.complex.rig) c.new.ensures.hall ∙ c.in-Ok.ensures.rig) (c.open.ensures text script)

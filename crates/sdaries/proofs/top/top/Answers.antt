@@ -1,25 +1,17 @@
-use Rattle.std.proofs.Common.{◌≡◌, ◌⊎◌, true, sym, subst}
-use Rattle.sd_base.specs.Streams.{Rises}
-use Rattle.sdaries.specs.declared.status.Status.TheVariants as status
+use Rattle.sd_world.specs.Serving.{telling}
 use Rattle.sdaries.proofs.Answered.{completes}
 use Rattle.sdaries.proofs.top.top.Goals as goal
-use Rattle.sdaries.proofs.top.top.Goals.{then-is_replay, else-is_replay}
 
-pub returns-clause-complete : goal.returns-clause-complete
-returns-clause-complete c c' = λ text lines command is script reads writes. elim c'.if-is_replay.branch [
-  | then-is_replay w ↦
-      let source = c'.args.source.now in
-      let sink = c'.args.sink.now in
-      let done = completes w.replay.result.0 (record { left = c.S.Source.left source; faults = c.S.Source.faults source })
-      (record { left = c.S.Source.left w.replay.new.source; faults = c.S.Source.faults w.replay.new.source })
-      (record { written = c.K.Sink.written sink; faults = c.K.Sink.faults sink })
-      (record { written = c.K.Sink.written w.replay.new.sink; faults = c.K.Sink.faults w.replay.new.sink }) w.replay.result.1 text lines
-      w.replay.ensures.outcome is script
-      (λ rises. reads (subst (λ s. Rises (c.S.Source.faults source) (c.S.Source.faults s)) (sym w.source-is) rises))
-      (λ rises. writes (subst (λ k. Rises (c.K.Sink.faults sink) (c.K.Sink.faults k)) (sym w.sink-is) rises)) in
-      subst (λ r. (r.0 ≡ status.Done) ⊎ (r.0 ≡ status.NoMemory)) (sym w.status-is) done
-  | else-is_replay w ↦
-      let yes : c'.is_replay.result ≡ true = c'.is_replay.ensures.1 command in
-      let no = w.if-is_replay.false in
-      absurd (cc)
-]
+pub returns-then-is_replay-clause-complete : goal.returns-then-is_replay-clause-complete
+returns-then-is_replay-clause-complete g c = λ text lines command is script reads writes devices.
+    let source = c.args.source.now in
+    let sink = c.args.sink.now in
+    completes (telling g.G.Rig.seen g.G.Rig.leaves g.G.Rig.moment g.G.Rig.since g.G.Rig.faults) c.replay.result.status
+    (record { left = g.S.Source.left source; faults = g.S.Source.faults source })
+    (record { left = g.S.Source.left c.replay.new.source; faults = g.S.Source.faults c.replay.new.source })
+    (record { sink = record { written = g.K.Sink.written sink; faults = g.K.Sink.faults sink }; rig = c.args.rig })
+    (record {
+      sink = record { written = g.K.Sink.written c.replay.new.sink; faults = g.K.Sink.faults c.replay.new.sink };
+      rig = c.replay.result.rig;
+    })
+    c.replay.result.book text lines c.replay.ensures.outcome is script reads writes devices

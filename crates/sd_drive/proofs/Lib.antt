@@ -1,0 +1,19 @@
+pub mod Alone
+pub mod Telling
+pub mod Needs
+pub mod Rooms
+pub mod Running
+pub mod Steps
+pub mod Asking
+pub mod Helps
+pub mod Pulled
+pub mod Victims
+pub mod Operating
+pub mod Naming
+pub mod Lines
+pub mod Doing
+pub mod Begins
+pub mod Tables
+pub mod Opening
+pub mod Replays
+mod Example

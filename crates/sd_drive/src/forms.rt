@@ -1,0 +1,96 @@
+//! The event that a line asks for.
+
+ghost use Rattle.std.specs.Prelude.{◌≡◌, ◌<◌, ◌^◌, ℕ, List, None, Some, IfOk, IsSome, length};
+ghost use Rattle.sd_drive.specs.Lines.{Names, capacity_of, event_of};
+ghost use Rattle.sd_drive.specs.Reaching.{IsShort, name_in, ordinal_in};
+
+use sd_base::{Bytes, Duplicate, Memory, TxnId};
+use sd_model::Event;
+use sd_script::Form;
+
+/// The ordinal of the line's transaction, where it is of one that began before.
+pub(crate) fn ordinal(form: &Form) -> Option<u32>
+    ensures { result ≡ ordinal_in form.now }
+{
+    match form {
+        Form::Read { ordinal, .. } => Some(*ordinal),
+        Form::Write { ordinal, .. } => Some(*ordinal),
+        Form::Add { ordinal, .. } => Some(*ordinal),
+        Form::Insert { ordinal, .. } => Some(*ordinal),
+        Form::Delete { ordinal, .. } => Some(*ordinal),
+        Form::Commit { ordinal, .. } => Some(*ordinal),
+        _ => None,
+    }
+}
+
+/// The event of a line that is of no such transaction, where it has one.
+pub(crate) fn lone_event(form: &Form) -> Option<Event>
+    requires { ordinal_in form.now ≡ None }
+    ensures { (names : Names) → result ≡ event_of names form.now }
+{
+    match form {
+        Form::Begin { inst, .. } => Some(Event::Begin { inst: *inst }),
+        Form::Ask { inst, page, mode } => Some(Event::Ask {
+            inst: *inst,
+            page: *page,
+            mode: *mode,
+        }),
+        Form::Evict { inst, page } => Some(Event::Evict {
+            inst: *inst,
+            page: *page,
+        }),
+        Form::Flush { inst, page } => Some(Event::Flush {
+            inst: *inst,
+            page: *page,
+        }),
+        Form::Force { inst } => Some(Event::Force { inst: *inst }),
+        Form::Where { page } => Some(Event::Show { page: *page }),
+        _ => None,
+    }
+}
+
+/// The event of a line of this transaction.
+pub(crate) fn event_by(form: &Form, txn: TxnId) -> Result<Event, Memory>
+    requires named { IsSome (ordinal_in form.now) }
+    requires short { IsShort form.now }
+    ensures { IfOk result (λ e. (names : Names) → names (name_in form.now) ≡ Some txn → event_of names form.now ≡ Some e) }
+{
+    match form {
+        Form::Read { rid, .. } => Ok(Event::Read { txn, rid: *rid }),
+        Form::Write { rid, value, .. } => Ok(Event::Write {
+            txn,
+            rid: *rid,
+            value: value.copy()?,
+        }),
+        Form::Add { rid, by, .. } => Ok(Event::Add {
+            txn,
+            rid: *rid,
+            by: *by,
+        }),
+        Form::Insert {
+            page,
+            value,
+            capacity,
+            ..
+        } => Ok(Event::Insert {
+            txn,
+            page: *page,
+            value: value.copy()?,
+            capacity: capacity_of(value, *capacity),
+        }),
+        Form::Delete { rid, .. } => Ok(Event::Delete { txn, rid: *rid }),
+        Form::Commit { .. } => Ok(Event::Commit { txn }),
+        _ => unreachable!(),
+    }
+}
+
+// The capacity of an insert: where the line tells none, the value's length.
+fn capacity_of(value: &Bytes, capacity: Option<u16>) -> u16
+    requires { length value.now < 2 ^ 16 }
+    ensures { result ≡ capacity_of value.now capacity }
+{
+    match capacity {
+        Some(capacity) => capacity,
+        None => value.items().len() as u16,
+    }
+}

@@ -1,0 +1,26 @@
+//! The lines of a script driven through the hall, with the pulls of the pages that they need.
+//!
+//! Meaning: `Drives` (`specs/Driving.antt`): each entry turns the core, and is the one that the script is due; `IsTold`: none is left.
+//! `Reached` (`specs/Reaching.antt`) says that the first lines have their replies.
+//! Keeps: that the hall is in a world to which its entries drive (`IsIn`, `specs/Driven.antt`), in which each page is at instance 1 or
+//! nowhere.
+//! Promises: the entries are those that the lines are due, with the pulls of their pages, and no others (`Driver::replay`, `told`,
+//! `memory`); instance 1 joins first (`Driver::opening`).
+//! Refuses: `Memory`, after which what was noted was due; `Failed` in the opening alone, where the rig's count of faults rose.
+//! Knows nothing of: text, reports, what an event does.
+//! Stands on: sd_base, sd_model, sd_page, sd_rig, sd_pagelock, sd_pool, sd_chain, sd_coherent, sd_sound, sd_world, sd_state, sd_fits,
+//! sd_script, sd_hall.
+//! Held by the caller: that the lines stand as the grammar of scripts has them (`AreDriven`).
+//!
+//! To change:
+//! - free: bodies, proofs
+//! - dear: `Tells`, `Drives`, the clauses of `replay` and `opening`
+//! - frozen: nothing
+#![tactic(auto)]
+
+mod driver;
+mod forms;
+mod operate;
+mod pull;
+
+pub use driver::Driver;

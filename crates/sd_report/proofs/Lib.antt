@@ -1,0 +1,6 @@
+mod Examples
+pub mod LineOrder
+mod OneLine
+pub mod Scripts
+mod Sets
+mod Unnamed

@@ -1,0 +1,25 @@
+use Rattle.std.proofs.Common.{◌≡◌, ◌∙◌, List, sym}
+use Rattle.std.specs.Prelude.{Result, Ok, Err, IfOk}
+use Rattle.sd_base.specs.declared.ids.TxnId.{TxnId}
+use Rattle.sd_base.specs.declared.refusal.Memory.{Memory}
+use Rattle.sd_model.specs.declared.event.Entry.{Entry}
+use Rattle.sd_script.specs.declared.line.Line.{Line}
+use Rattle.sd_report.specs.declared.txn_names.TxnNames.{TxnNames}
+use Rattle.sd_report.specs.Names.{name_in}
+use Rattle.sd_report.specs.Report.{gathered, report, reported, names_of}
+use Rattle.sd_report.proofs.Unnamed.{same_report}
+use Rattle.sd_report.proofs.report.names_for.Goals as goal
+
+pub returns-else-any_tells_txn : goal.returns-else-any_tells_txn
+returns-else-any_tells_txn c =
+    same_report (name_in c.new.result) (names_of c.args.lines.now c.args.entries.now) c.args.lines.now c.args.entries.now
+    (sym c.any_tells_txn.ensures ∙ c.if-any_tells_txn.false)
+
+named_report : (lines : List Line) (entries : List Entry) (r : Result TxnNames Memory)
+    → IfOk r (λ names. (t : TxnId) → name_in names t ≡ names_of lines entries t)
+    → IfOk r (λ names. gathered (reported (name_in names)) lines entries ≡ report lines entries)
+named_report lines entries (Ok names) same = λ i. gathered (reported (λ t. same t i)) lines entries
+named_report lines entries (Err e) same = tt
+
+pub returns-then-any_tells_txn : goal.returns-then-any_tells_txn
+returns-then-any_tells_txn c = named_report c.args.lines.now c.args.entries.now c.of.result c.of.ensures

@@ -1,0 +1,43 @@
+use Rattle.std.proofs.Common.{◌≡◌, ◌++◌, ℕ, List, take, sym, ap, ◌∙◌}
+use Rattle.std.proofs.lemmas.List.{take_all}
+use Rattle.sd_script.specs.declared.line.Line.{Line}
+use Rattle.sd_report.specs.Names.{name_in}
+use Rattle.sd_report.specs.Report.{entries_of, gathered, reported}
+use Rattle.sd_report.proofs.LineOrder.{parted_none, parted_more, gathered_more}
+use Rattle.sd_report.proofs.report.render.Goals as goal
+
+pub loop-line-init : goal.loop-line-init
+loop-line-init c = record {
+  parted = (0, parted_none c.args.lines.now c.args.entries.now c.requires.lines c.requires.entries);
+  text = c.new-out.ensures.items;
+}
+
+-- the line's entries are reported, and those behind it are left
+pub loop-line-preserved : goal.loop-line-preserved
+loop-line-preserved c =
+    let lines = c.args.lines.now in
+    let entries = c.args.entries.now in
+    let line = c.line-item.result in
+    let i = c.loop-line.line-index in
+    let rest = c.loop-line.rest.now in
+    let at = c.loop-line.invariant.parted in
+    let f = reported (name_in c.in_ok-names.names) in
+    record {
+      parted = (
+        line.number,
+        parted_more lines entries rest i at.0 line at.1 c.loop-line-test.true c.line-item.is
+            c.part_at.result.1.now c.part_at.ensures.others,
+      );
+      text = c.in_ok-push_line.ensures ∙ ap (λ (l : List ℕ). l ++ f line.form
+          (entries_of line.number c.part_at.result.0.now)) c.loop-line.invariant.text
+          ∙ sym (gathered_more lines entries rest i at.0 line at.1 c.loop-line-test.true c.line-item.is f c.part_at.result.0.now
+          c.part_at.ensures.own);
+    }
+
+pub returns : goal.returns
+returns c =
+    let lines = c.args.lines.now in
+    let entries = c.args.entries.now in
+    let whole : take c.loop-line.line-index lines ≡ lines = take_all c.loop-line.line-index lines c.loop-line-test.false in
+    c.loop-line.invariant.text ∙ ap (λ (l : List Line). gathered (reported (name_in c.in_ok-names.names)) l entries) whole
+    ∙ c.in_ok-names.ensures

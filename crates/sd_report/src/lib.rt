@@ -1,0 +1,27 @@
+//! The text of a report: one line a line of the script.
+//!
+//! Meaning: `report` (`specs/Report.antt`): what each line of a script prints, by the entries that carry its number.
+//! Keeps: nothing behind a call.
+//! Promises: `render` writes that text and nothing else (its one clause), `bad_line` that of a bad line.
+//! Refuses: nothing but for want of memory.
+//! Knows nothing of: how a line is served, what a reply means, where the text goes.
+//! Stands on: sd_base, sd_model, sd_script.
+//! Asked of the caller: the lines of the entries don't fall, but for those of line 0 (`in_order` tells).
+//!
+//! To change:
+//! - free: bodies, proofs
+//! - dear: the clauses of `render` and `bad_line`
+//! - frozen: the words of the report (`specs/Replies.antt`, `specs/Refusals.antt`, `specs/Places.antt`)
+#![tactic(auto)]
+
+mod order;
+mod parting;
+mod places;
+mod refusals;
+mod replies;
+mod report;
+mod txn_names;
+mod words;
+
+pub use order::in_order;
+pub use report::{bad_line, render};

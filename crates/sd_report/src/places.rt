@@ -1,0 +1,82 @@
+//! The text of a page's place.
+
+ghost use Rattle.std.specs.Prelude.{◌≡◌, ◌++◌, OnOk};
+ghost use Rattle.sd_base.specs.Sets.{members};
+ghost use Rattle.sd_report.specs.Places.{insts_text, lsn_text, dirty_text, writer_text, place_text};
+
+use crate::words::{push_digits, push_word};
+use sd_base::{InstNo, InstSet, Lsn, Memory, Place};
+
+// Appends the instances of a set, with a comma between each two.
+fn push_insts(out: &mut Vec<u8>, set: InstSet) -> Result<(), Memory>
+    ensures { OnOk result (out.new.items ≡ out.old.items ++ insts_text (members set.bits)) }
+{
+    let Some(first) = set.first() else {
+        return Ok(());
+    };
+    push_digits(out, u64::from(first.get()))?;
+    let mut rest = set.without(first);
+    while let Some(next) = rest.first() {
+        push_word(out, b",")?;
+        push_digits(out, u64::from(next.get()))?;
+        rest = rest.without(next);
+    }
+    Ok(())
+}
+
+fn push_lsn(out: &mut Vec<u8>, lsn: Lsn) -> Result<(), Memory>
+    ensures { OnOk result (out.new.items ≡ out.old.items ++ lsn_text lsn) }
+{
+    push_word(out, b" lsn ")?;
+    push_digits(out, lsn)
+}
+
+fn push_dirty(out: &mut Vec<u8>, dirty: bool) -> Result<(), Memory>
+    ensures { OnOk result (out.new.items ≡ out.old.items ++ dirty_text dirty) }
+{
+    if dirty {
+        push_word(out, b" dirty")
+    } else {
+        push_word(out, b" clean")
+    }
+}
+
+fn push_writer(out: &mut Vec<u8>, writer: Option<InstNo>) -> Result<(), Memory>
+    ensures { OnOk result (out.new.items ≡ out.old.items ++ writer_text writer) }
+{
+    match writer {
+        None => push_word(out, b" clean"),
+        Some(writer) => {
+            push_word(out, b" dirty by ")?;
+            push_digits(out, u64::from(writer.get()))
+        }
+    }
+}
+
+/// Appends where a page is, with the LSN of its newest version.
+pub fn push_place(out: &mut Vec<u8>, place: &Place, lsn: Lsn) -> Result<(), Memory>
+    ensures { OnOk result (out.new.items ≡ out.old.items ++ place_text place.now lsn) }
+{
+    match place {
+        Place::Free => push_word(out, b"free"),
+        Place::Shared { set, writer } => {
+            push_word(out, b"shared ")?;
+            push_insts(out, *set)?;
+            push_lsn(out, lsn)?;
+            push_writer(out, *writer)
+        }
+        Place::Excl { holder, dirty } => {
+            push_word(out, b"excl ")?;
+            push_digits(out, u64::from(holder.get()))?;
+            push_lsn(out, lsn)?;
+            push_dirty(out, *dirty)
+        }
+        Place::Moving { to, dirty, .. } => {
+            push_word(out, b"moving ")?;
+            push_digits(out, u64::from(to.get()))?;
+            push_lsn(out, lsn)?;
+            push_dirty(out, *dirty)
+        }
+        Place::Lost => push_word(out, b"lost"),
+    }
+}

@@ -1,0 +1,209 @@
+//! The words of each reply, put behind the name, the instance or the page of its line.
+
+ghost use Rattle.std.specs.Prelude.{◌≡◌, ◌++◌, codes, OnOk};
+ghost use Rattle.std.specs.Fmt.{decimal};
+ghost use Rattle.std.specs.Option.{option_copied};
+ghost use Rattle.sd_script.specs.Forms.{rid_word};
+ghost use Rattle.sd_report.specs.Names.{name_in};
+ghost use Rattle.sd_report.specs.Refusals.{refusal_text};
+ghost use Rattle.sd_report.specs.Replies.{no_reply, began, value_text, found, placed, done, asked, shown, words_of};
+ghost use Rattle.sd_report.specs.Replies.{pulled_text, last_text};
+
+use crate::places::push_place;
+use crate::refusals::push_refusal;
+use crate::txn_names::TxnNames;
+use crate::words::{push_digits, push_number, push_rid, push_txn_numbers, push_word};
+use sd_base::{Bytes, Memory, PageNo, Refusal, Rid};
+use sd_model::{Entry, Event, Reply};
+use sd_script::Form;
+
+fn push_no_reply(out: &mut Vec<u8>) -> Result<(), Memory>
+    ensures { OnOk result (out.new.items ≡ out.old.items ++ no_reply) }
+{
+    push_word(out, b"no reply")
+}
+
+fn push_began(out: &mut Vec<u8>, reply: &Reply) -> Result<(), Memory>
+    ensures { OnOk result (out.new.items ≡ out.old.items ++ began reply.now) }
+{
+    match reply {
+        Reply::Began(txn) => {
+            push_word(out, b"begin ")?;
+            push_txn_numbers(out, *txn)
+        }
+        _ => push_no_reply(out),
+    }
+}
+
+fn push_value(out: &mut Vec<u8>, value: &Option<Bytes>) -> Result<(), Memory>
+    ensures { OnOk result (out.new.items ≡ out.old.items ++ value_text value.now) }
+{
+    match value {
+        None => push_word(out, b" absent"),
+        Some(value) => {
+            push_word(out, b" = ")?;
+            push_word(out, value.items())
+        }
+    }
+}
+
+fn push_found(out: &mut Vec<u8>, rid: Rid, reply: &Reply) -> Result<(), Memory>
+    ensures { OnOk result (out.new.items ≡ out.old.items ++ found rid reply.now) }
+{
+    match reply {
+        Reply::Value(value) => {
+            push_word(out, b"read ")?;
+            push_rid(out, rid)?;
+            push_value(out, value)
+        }
+        _ => push_no_reply(out),
+    }
+}
+
+fn push_placed(out: &mut Vec<u8>, reply: &Reply) -> Result<(), Memory>
+    ensures { OnOk result (out.new.items ≡ out.old.items ++ placed reply.now) }
+{
+    match reply {
+        Reply::At(rid) => {
+            push_word(out, b"insert ")?;
+            push_rid(out, *rid)
+        }
+        _ => push_no_reply(out),
+    }
+}
+
+// What was done on a record: a word with its space.
+fn push_on_record(out: &mut Vec<u8>, word: &[u8], rid: Rid, reply: &Reply) -> Result<(), Memory>
+    ensures { OnOk result (out.new.items ≡ out.old.items ++ done (word.now ++ rid_word rid) reply.now) }
+{
+    match reply {
+        Reply::Did => {
+            push_word(out, word)?;
+            push_rid(out, rid)
+        }
+        _ => push_no_reply(out),
+    }
+}
+
+// What was done on a page: a word with its space.
+fn push_on_page(out: &mut Vec<u8>, word: &[u8], page: PageNo, reply: &Reply) -> Result<(), Memory>
+    ensures { OnOk result (out.new.items ≡ out.old.items ++ done (word.now ++ decimal page) reply.now) }
+{
+    match reply {
+        Reply::Did => {
+            push_word(out, word)?;
+            push_digits(out, u64::from(page.get()))
+        }
+        _ => push_no_reply(out),
+    }
+}
+
+fn push_done(out: &mut Vec<u8>, word: &[u8], reply: &Reply) -> Result<(), Memory>
+    ensures { OnOk result (out.new.items ≡ out.old.items ++ done word.now reply.now) }
+{
+    match reply {
+        Reply::Did => push_word(out, word),
+        _ => push_no_reply(out),
+    }
+}
+
+fn push_asked(out: &mut Vec<u8>, page: PageNo, reply: &Reply) -> Result<(), Memory>
+    ensures { OnOk result (out.new.items ≡ out.old.items ++ asked page reply.now) }
+{
+    match reply {
+        Reply::Have => {
+            push_word(out, b"have")?;
+            push_number(out, u64::from(page.get()))
+        }
+        Reply::Asked { of } => {
+            push_word(out, b"asked")?;
+            push_number(out, u64::from(page.get()))?;
+            push_word(out, b" of")?;
+            push_number(out, u64::from(of.get()))
+        }
+        _ => push_no_reply(out),
+    }
+}
+
+fn push_shown(out: &mut Vec<u8>, reply: &Reply) -> Result<(), Memory>
+    ensures { OnOk result (out.new.items ≡ out.old.items ++ shown reply.now) }
+{
+    match reply {
+        Reply::Shown { place, lsn } => push_place(out, place, *lsn),
+        _ => push_no_reply(out),
+    }
+}
+
+// The words of a reply that is no refusal.
+fn push_words(out: &mut Vec<u8>, form: &Form, reply: &Reply) -> Result<(), Memory>
+    ensures { OnOk result (out.new.items ≡ out.old.items ++ words_of form.now reply.now) }
+{
+    match form {
+        Form::Complex { .. } | Form::Table => push_no_reply(out),
+        Form::Begin { .. } => push_began(out, reply),
+        Form::Read { rid, .. } => push_found(out, *rid, reply),
+        Form::Write { rid, .. } => push_on_record(out, b"write ", *rid, reply),
+        Form::Add { rid, .. } => push_on_record(out, b"add ", *rid, reply),
+        Form::Insert { .. } => push_placed(out, reply),
+        Form::Delete { rid, .. } => push_on_record(out, b"delete ", *rid, reply),
+        Form::Commit { .. } => push_done(out, b"commit", reply),
+        Form::Ask { page, .. } => push_asked(out, *page, reply),
+        Form::Evict { page, .. } => push_on_page(out, b"evicted ", *page, reply),
+        Form::Flush { page, .. } => push_on_page(out, b"flushed ", *page, reply),
+        Form::Force { .. } => push_done(out, b"forced", reply),
+        Form::Where { .. } => push_shown(out, reply),
+    }
+}
+
+/// Appends the text of a refusal to a line for which pages are pulled.
+pub fn push_pulled(
+    out: &mut Vec<u8>,
+    names: &TxnNames,
+    event: &Event,
+    refusal: &Refusal,
+) -> Result<(), Memory>
+    ensures { OnOk result (out.new.items ≡ out.old.items ++ pulled_text (name_in names.now) event.now refusal.now) }
+{
+    match refusal {
+        Refusal::NeedPage { .. } => push_word(out, b"fault"),
+        refusal => push_refusal(out, names, event, refusal),
+    }
+}
+
+/// Appends what a line of a transaction has behind its name.
+pub fn push_txn_reply(
+    out: &mut Vec<u8>,
+    names: &TxnNames,
+    form: &Form,
+    last: Option<&Entry>,
+) -> Result<(), Memory>
+    ensures { OnOk result (out.new.items ≡ out.old.items
+        ++ last_text (pulled_text (name_in names.now)) (words_of form.now) (codes "ended") (option_copied last.entry)) }
+{
+    let Some(entry) = last else {
+        return push_word(out, b"ended");
+    };
+    match &entry.reply {
+        Reply::Refused(refusal) => push_pulled(out, names, &entry.event, refusal),
+        reply => push_words(out, form, reply),
+    }
+}
+
+/// Appends what a line of an instance or a page has behind its number.
+pub fn push_page_reply(
+    out: &mut Vec<u8>,
+    names: &TxnNames,
+    form: &Form,
+    last: Option<&Entry>,
+) -> Result<(), Memory>
+    ensures { OnOk result (out.new.items ≡ out.old.items
+        ++ last_text (refusal_text (name_in names.now)) (words_of form.now) no_reply (option_copied last.entry)) }
+{
+    let Some(entry) = last else {
+        return push_no_reply(out);
+    };
+    match &entry.reply {
+        Reply::Refused(refusal) => push_refusal(out, names, &entry.event, refusal),
+        reply => push_words(out, form, reply),
+    }
+}

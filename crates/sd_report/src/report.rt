@@ -1,0 +1,237 @@
+//! The text of the report, from the script's lines and the entries of the book.
+
+ghost use Rattle.std.specs.Prelude.{◌≡◌, ◌+◌, ◌<◌, ◌≤◌, [], ◌∷◌, ◌++◌, length, codes, vec_len, IfOk, OnOk};
+ghost use Rattle.std.specs.List.{flat_map};
+ghost use Rattle.std.specs.Option.{option_copied};
+ghost use Rattle.std.specs.Fmt.{decimal};
+ghost use Rattle.sd_script.specs.declared.line.Form.TheVariants as form;
+ghost use Rattle.sd_script.specs.Forms.{rid_word};
+ghost use Rattle.sd_report.specs.Names.{name_in};
+ghost use Rattle.sd_report.specs.Words.{line_of, no_names};
+ghost use Rattle.sd_report.specs.Refusals.{refusal_text};
+ghost use Rattle.sd_report.specs.Replies.{no_reply, pulled_text, last_text, words_of};
+ghost use Rattle.sd_report.specs.Report.{entries_of, reported, report, bad_text};
+ghost use Rattle.sd_report.specs.Report.{gathered, reply_tells_txn, tell_txns, AreFrom, AreAbove};
+ghost use Rattle.sd_report.specs.Report.{row_line, rows_in, table_text, table_rows};
+
+use crate::parting::{last_of, part_at};
+use crate::refusals::{cause_name, push_refusal};
+use crate::replies::{push_page_reply, push_pulled, push_txn_reply};
+use crate::txn_names::TxnNames;
+use crate::words::{push_digits, push_end, push_next, push_number, push_rid, push_word};
+use sd_base::{Bytes, Cause, InstNo, Memory, Refusal, Rid, Word};
+use sd_model::{Entry, Reply};
+use sd_script::{Form, Line};
+use std::alloc::Global;
+
+fn push_complex(out: &mut Vec<u8>, insts: InstNo, pages: u16, frames: u16) -> Result<(), Memory>
+    ensures { OnOk result (out.new.items ≡ out.old.items ++ reported no_names (form.Complex insts pages frames) []) }
+{
+    push_word(out, b"complex")?;
+    push_number(out, u64::from(insts.get()))?;
+    push_number(out, u64::from(pages))?;
+    push_number(out, u64::from(frames))?;
+    push_end(out)
+}
+
+// A line of the transaction of this name.
+fn push_txn_line(
+    out: &mut Vec<u8>,
+    names: &TxnNames,
+    name: &Word,
+    form: &Form,
+    last: Option<&Entry>,
+) -> Result<(), Memory>
+    ensures { OnOk result (out.new.items ≡ out.old.items ++ line_of (name.now
+        ∷ last_text (pulled_text (name_in names.now)) (words_of form.now) (codes "ended") (option_copied last.entry) ∷ [])) }
+{
+    push_word(out, name.items())?;
+    push_word(out, b" ")?;
+    push_txn_reply(out, names, form, last)?;
+    push_end(out)
+}
+
+// A line of the instance or the page of this number.
+fn push_page_line(
+    out: &mut Vec<u8>,
+    names: &TxnNames,
+    number: u64,
+    form: &Form,
+    last: Option<&Entry>,
+) -> Result<(), Memory>
+    ensures { OnOk result (out.new.items ≡ out.old.items ++ line_of (decimal number
+        ∷ last_text (refusal_text (name_in names.now)) (words_of form.now) no_reply (option_copied last.entry) ∷ [])) }
+{
+    push_digits(out, number)?;
+    push_word(out, b" ")?;
+    push_page_reply(out, names, form, last)?;
+    push_end(out)
+}
+
+// A row takes a byte at least.
+fn push_row(out: &mut Vec<u8>, rid: Rid, value: &Bytes) -> Result<(), Memory>
+    ensures text { OnOk result (out.new.items ≡ out.old.items ++ line_of (rid_word rid ∷ value.now ∷ [])) }
+    ensures bytes { OnOk result (vec_len out.old < vec_len out.new) }
+{
+    push_rid(out, rid)?;
+    push_next(out, value.items())?;
+    push_end(out)
+}
+
+// Each row takes a byte at least.
+fn push_rows(out: &mut Vec<u8>, rows: &[(Rid, Bytes)]) -> Result<(), Memory>
+    ensures text { OnOk result (out.new.items ≡ out.old.items ++ flat_map row_line rows.now) }
+    ensures bytes { OnOk result (vec_len out.old + length rows.now ≤ vec_len out.new) }
+{
+    for (rid, value) in rows {
+        push_row(out, *rid, value)?;
+    }
+    Ok(())
+}
+
+// The rows of an entry, and how many they are.
+fn push_entry(out: &mut Vec<u8>, entry: &Entry) -> Result<usize, Memory>
+    ensures text { OnOk result (out.new.items ≡ out.old.items ++ flat_map row_line (rows_in entry.now.reply)) }
+    ensures count { IfOk result (λ n. n ≡ length (rows_in entry.now.reply)) }
+    ensures bytes { IfOk result (λ n. vec_len out.old + n ≤ vec_len out.new) }
+{
+    match &entry.reply {
+        Reply::Rows(rows) => {
+            push_rows(out, rows.items())?;
+            Ok(rows.items().len())
+        }
+        _ => Ok(0),
+    }
+}
+
+// The rows of the line's entries, one page after another, and their number.
+fn push_rows_of(out: &mut Vec<u8>, number: u32, entries: &[Entry]) -> Result<(), Memory>
+    ensures { OnOk result (out.new.items ≡ out.old.items ++ table_text (table_rows (entries_of number entries.now))) }
+{
+    let mut count = 0;
+    for entry in entries {
+        if entry.line == number {
+            count += push_entry(out, entry)?;
+        }
+    }
+    push_word(out, b"table")?;
+    push_number(out, count as u64)?;
+    push_end(out)
+}
+
+// What a table line reports: its refusal, or all its rows.
+fn push_table(
+    out: &mut Vec<u8>,
+    names: &TxnNames,
+    number: u32,
+    entries: &[Entry],
+) -> Result<(), Memory>
+    ensures { OnOk result (out.new.items ≡ out.old.items
+        ++ reported (name_in names.now) form.Table (entries_of number entries.now)) }
+{
+    let Some(entry) = last_of(number, entries) else {
+        push_word(out, b"no reply")?;
+        return push_end(out);
+    };
+    match &entry.reply {
+        Reply::Refused(refusal) => {
+            push_pulled(out, names, &entry.event, refusal)?;
+            push_end(out)
+        }
+        _ => push_rows_of(out, number, entries),
+    }
+}
+
+// What is reported of a line, whose entries are among these.
+fn push_line(
+    out: &mut Vec<u8>,
+    names: &TxnNames,
+    line: &Line,
+    entries: &[Entry],
+) -> Result<(), Memory>
+    ensures { OnOk result (out.new.items ≡ out.old.items
+        ++ reported (name_in names.now) line.now.form (entries_of line.now.number entries.now)) }
+{
+    let last = last_of(line.number, entries);
+    let form = &line.form;
+    match form {
+        Form::Complex {
+            insts,
+            pages,
+            frames,
+        } => push_complex(out, *insts, *pages, *frames),
+        Form::Begin { name, .. }
+        | Form::Read { name, .. }
+        | Form::Write { name, .. }
+        | Form::Add { name, .. }
+        | Form::Insert { name, .. }
+        | Form::Delete { name, .. }
+        | Form::Commit { name, .. } => push_txn_line(out, names, name, form, last),
+        Form::Ask { inst, .. }
+        | Form::Evict { inst, .. }
+        | Form::Flush { inst, .. }
+        | Form::Force { inst } => push_page_line(out, names, u64::from(inst.get()), form, last),
+        Form::Where { page } => push_page_line(out, names, u64::from(page.get()), form, last),
+        Form::Table => push_table(out, names, line.number, entries),
+    }
+}
+
+// Whether the reply is a refusal that tells a transaction.
+fn tells_txn(reply: &Reply) -> bool
+    ensures { result ≡ reply_tells_txn reply.now }
+{
+    match reply {
+        Reply::Refused(Refusal::Blocked { .. } | Refusal::Busy { .. } | Refusal::Deadlock { .. }) =>
+            true,
+        _ => false,
+    }
+}
+
+fn any_tells_txn(entries: &[Entry]) -> bool
+    ensures { result ≡ tell_txns entries.now }
+{
+    entries.iter().any(|entry| tells_txn(&entry.reply))
+}
+
+// The names that the report may need: none where no refusal tells a transaction.
+fn names_for(alloc: Global, lines: &[Line], entries: &[Entry]) -> Result<TxnNames, Memory>
+    requires lines { AreAbove 0 lines.now }
+    requires entries { AreFrom 0 entries.now }
+    ensures { IfOk result (λ names. gathered (reported (name_in names)) lines.now entries.now ≡ report lines.now entries.now) }
+{
+    if any_tells_txn(entries) {
+        TxnNames::of(alloc, lines, entries)
+    } else {
+        Ok(TxnNames::new(alloc))
+    }
+}
+
+/// The report of the script's lines by the entries of the book: each line prints the last reply of the entries that carry
+/// its number, a table line the rows of all of them. `Memory` comes where there is none.
+pub fn render(alloc: Global, lines: &[Line], entries: &[Entry]) -> Result<Vec<u8>, Memory>
+    requires lines { AreAbove 0 lines.now }
+    requires entries { AreFrom 0 entries.now }
+    ensures { IfOk result (λ text. text.items ≡ report lines.now entries.now) }
+{
+    let names = names_for(alloc, lines, entries)?;
+    let mut out = Vec::new(alloc);
+    let mut rest = entries;
+    for line in lines {
+        let (own, others) = part_at(line.number, rest);
+        push_line(&mut out, &names, line, own)?;
+        rest = others;
+    }
+    Ok(out)
+}
+
+/// The text that tells a bad line and what is wrong with it. `Memory` comes where there is none.
+pub fn bad_line(alloc: Global, line: u32, cause: Cause) -> Result<Vec<u8>, Memory>
+    ensures { IfOk result (λ text. text.items ≡ bad_text line cause) }
+{
+    let mut out = Vec::new(alloc);
+    push_word(&mut out, b"bad line")?;
+    push_number(&mut out, u64::from(line))?;
+    push_next(&mut out, cause_name(cause))?;
+    push_end(&mut out)?;
+    Ok(out)
+}

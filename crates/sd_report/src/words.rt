@@ -1,0 +1,70 @@
+//! Words of the report, put behind a text.
+
+ghost use Rattle.std.specs.Prelude.{◌≡◌, [], ◌∷◌, ◌++◌, OnOk};
+ghost use Rattle.std.specs.Fmt.{decimal};
+ghost use Rattle.sd_script.specs.Forms.{rid_word};
+ghost use Rattle.sd_report.specs.Words.{txn_text};
+
+use itoa::Buffer;
+use sd_base::{Memory, Rid, TxnId};
+
+/// Appends the first word of a line.
+pub fn push_word(out: &mut Vec<u8>, word: &[u8]) -> Result<(), Memory>
+    ensures { OnOk result (out.new.items ≡ out.old.items ++ word.now) }
+{
+    out.extend_from_slice(word)?;
+    Ok(())
+}
+
+/// Appends a further word, behind a space.
+pub fn push_next(out: &mut Vec<u8>, word: &[u8]) -> Result<(), Memory>
+    ensures { OnOk result (out.new.items ≡ out.old.items ++ 32 ∷ word.now) }
+{
+    out.push(b' ')?;
+    out.extend_from_slice(word)?;
+    Ok(())
+}
+
+/// Appends a number.
+pub fn push_digits(out: &mut Vec<u8>, n: u64) -> Result<(), Memory>
+    ensures { OnOk result (out.new.items ≡ out.old.items ++ decimal n) }
+{
+    let mut digits = Buffer::new();
+    push_word(out, digits.format(n).as_bytes())
+}
+
+/// Appends a number, behind a space.
+pub fn push_number(out: &mut Vec<u8>, n: u64) -> Result<(), Memory>
+    ensures { OnOk result (out.new.items ≡ out.old.items ++ 32 ∷ decimal n) }
+{
+    push_word(out, b" ")?;
+    push_digits(out, n)
+}
+
+/// Ends a line.
+pub fn push_end(out: &mut Vec<u8>) -> Result<(), Memory>
+    ensures { OnOk result (out.new.items ≡ out.old.items ++ 10 ∷ []) }
+{
+    out.push(b'\n')?;
+    Ok(())
+}
+
+/// Appends a record: page, dot, slot.
+pub fn push_rid(out: &mut Vec<u8>, rid: Rid) -> Result<(), Memory>
+    ensures { OnOk result (out.new.items ≡ out.old.items ++ rid_word rid) }
+{
+    push_digits(out, u64::from(rid.page.get()))?;
+    push_word(out, b".")?;
+    push_digits(out, u64::from(rid.slot))
+}
+
+/// Appends a transaction by its numbers: instance, epoch and number.
+pub fn push_txn_numbers(out: &mut Vec<u8>, txn: TxnId) -> Result<(), Memory>
+    ensures { OnOk result (out.new.items ≡ out.old.items ++ txn_text txn) }
+{
+    push_digits(out, u64::from(txn.inst.get()))?;
+    push_word(out, b".")?;
+    push_digits(out, u64::from(txn.epoch))?;
+    push_word(out, b".")?;
+    push_digits(out, u64::from(txn.seq))
+}

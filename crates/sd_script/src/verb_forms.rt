@@ -1,0 +1,172 @@
+//! The forms of a verb's lines, each from its words.
+
+ghost use Rattle.std.specs.Prelude.{ℕ, ◌≤◌, ◌∷◌, [], List, Option, codes, length, IfOk, IfSome};
+ghost use Rattle.sd_script.specs.Forms.{IsFormOf, capacity_words};
+ghost use Rattle.sd_script.specs.Known.{known};
+
+use crate::Form;
+use crate::names::Names;
+use crate::parts::{amount_of, inst_of, ordinal_of, own, page_of, record_of};
+use crate::word::{is_value, number_within};
+use sd_base::{Memory, PAGES};
+use std::alloc::Global;
+
+pub(crate) fn complex_of(insts: &[u8], pages: &[u8], frames: &[u8]) -> Option<Form>
+    ensures { (known : List ℕ → Option ℕ) → IsFormOf known (codes "complex" ∷ insts.now ∷ pages.now ∷ frames.now ∷ []) result }
+{
+    let Some(insts) = inst_of(insts, 1) else {
+        return None;
+    };
+    let Some(pages) = number_within(pages, 1, PAGES as u64) else {
+        return None;
+    };
+    let Some(frames) = number_within(frames, 1, PAGES as u64) else {
+        return None;
+    };
+    Some(Form::Complex {
+        insts,
+        pages: pages as u16,
+        frames: frames as u16,
+    })
+}
+
+pub(crate) fn read_of(
+    alloc: Global,
+    name: &[u8],
+    rid: &[u8],
+    begun: &Names,
+) -> Result<Option<Form>, Memory>
+    ensures { IfOk result (IsFormOf (known begun.now) (codes "read" ∷ name.now ∷ rid.now ∷ [])) }
+{
+    let Some((ordinal, rid)) = record_of(name, rid, begun) else {
+        return Ok(None);
+    };
+    let name = own(alloc, name)?;
+    Ok(Some(Form::Read { name, ordinal, rid }))
+}
+
+pub(crate) fn write_of(
+    alloc: Global,
+    name: &[u8],
+    rid: &[u8],
+    value: &[u8],
+    begun: &Names,
+) -> Result<Option<Form>, Memory>
+    ensures { IfOk result (IsFormOf (known begun.now) (codes "write" ∷ name.now ∷ rid.now ∷ value.now ∷ [])) }
+{
+    if !is_value(value) {
+        return Ok(None);
+    }
+    let Some((ordinal, rid)) = record_of(name, rid, begun) else {
+        return Ok(None);
+    };
+    let name = own(alloc, name)?;
+    let value = own(alloc, value)?;
+    Ok(Some(Form::Write {
+        name,
+        ordinal,
+        rid,
+        value,
+    }))
+}
+
+pub(crate) fn add_of(
+    alloc: Global,
+    name: &[u8],
+    rid: &[u8],
+    by: &[u8],
+    begun: &Names,
+) -> Result<Option<Form>, Memory>
+    ensures { IfOk result (IsFormOf (known begun.now) (codes "add" ∷ name.now ∷ rid.now ∷ by.now ∷ [])) }
+{
+    let Some(by) = amount_of(by) else {
+        return Ok(None);
+    };
+    let Some((ordinal, rid)) = record_of(name, rid, begun) else {
+        return Ok(None);
+    };
+    let name = own(alloc, name)?;
+    Ok(Some(Form::Add {
+        name,
+        ordinal,
+        rid,
+        by,
+    }))
+}
+
+/// An insert line with this capacity, or with none.
+pub(crate) fn insert_of(
+    alloc: Global,
+    name: &[u8],
+    page: &[u8],
+    value: &[u8],
+    capacity: Option<u16>,
+    begun: &Names,
+) -> Result<Option<Form>, Memory>
+    requires { IfSome capacity (λ c. length value.now ≤ c) }
+    ensures { IfOk result (IsFormOf (known begun.now)
+        (codes "insert" ∷ name.now ∷ page.now ∷ value.now ∷ capacity_words capacity)) }
+{
+    if !is_value(value) {
+        return Ok(None);
+    }
+    let Some(page) = page_of(page) else {
+        return Ok(None);
+    };
+    let Some(ordinal) = ordinal_of(name, begun) else {
+        return Ok(None);
+    };
+    let name = own(alloc, name)?;
+    let value = own(alloc, value)?;
+    Ok(Some(Form::Insert {
+        name,
+        ordinal,
+        page,
+        value,
+        capacity,
+    }))
+}
+
+pub(crate) fn delete_of(
+    alloc: Global,
+    name: &[u8],
+    rid: &[u8],
+    begun: &Names,
+) -> Result<Option<Form>, Memory>
+    ensures { IfOk result (IsFormOf (known begun.now) (codes "delete" ∷ name.now ∷ rid.now ∷ [])) }
+{
+    let Some((ordinal, rid)) = record_of(name, rid, begun) else {
+        return Ok(None);
+    };
+    let name = own(alloc, name)?;
+    Ok(Some(Form::Delete { name, ordinal, rid }))
+}
+
+pub(crate) fn commit_of(alloc: Global, name: &[u8], begun: &Names) -> Result<Option<Form>, Memory>
+    ensures { IfOk result (IsFormOf (known begun.now) (codes "commit" ∷ name.now ∷ [])) }
+{
+    let Some(ordinal) = ordinal_of(name, begun) else {
+        return Ok(None);
+    };
+    let name = own(alloc, name)?;
+    Ok(Some(Form::Commit { name, ordinal }))
+}
+
+pub(crate) fn where_of(page: &[u8]) -> Option<Form>
+    ensures { (known : List ℕ → Option ℕ) → IsFormOf known (codes "where" ∷ page.now ∷ []) result }
+{
+    let Some(page) = page_of(page) else {
+        return None;
+    };
+    Some(Form::Where { page })
+}
+
+pub(crate) fn table_of(verb: &[u8]) -> Option<Form>
+    ensures { (known : List ℕ → Option ℕ) → IsFormOf known (verb.now ∷ []) result }
+{
+    if verb == b"table".as_slice() {
+        Some(Form::Table)
+    } else {
+        None
+    }
+}

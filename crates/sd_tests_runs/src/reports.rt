@@ -1,0 +1,291 @@
+//! A report by hand: each form with its replies, and the text of each refusal.
+
+use crate::entries::Say::{
+    Absent, Asked, At, Began, Did, Have, Joined, No, Rows as Listed, Shown, Value,
+};
+use crate::entries::Spot::{Excl, Free, Lost as Nowhere, Moving, Shared};
+use crate::entries::Why::{
+    BadLine, BadLog, BadRecord, Blocked, Busy, CutCommit, Damaged, Deadlock, Dirty, Down, Failed,
+    LogFull, Lost, LsnEnd, MovingTo, NeedPage, NoCheck, NoMemory, NoRecord, NoSavepoint, NoTxn,
+    NotAsked, NotNumber, NotRecovered, PageFull, PoolFull, TooLong, TooManyTxns, Up,
+};
+use crate::entries::{FAR, MAKER, NEAR, ONE, Say, TWO, Who, reply, txn};
+use sd_base::{Cause, Duplicate, Memory, PageNo};
+use sd_model::{Entry, Event};
+use sd_report::{bad_line, in_order, render};
+use sd_script::{Form, Kind, Line, Script};
+use std::process::Abort;
+use std::test::Fail;
+
+/// A line, the replies of its entries and of the helping ones between them, and what is reported of it.
+type Told = (&'static [u8], &'static [Step], &'static [u8]);
+
+/// An entry of the line, or one that helps it.
+#[derive(Clone, Copy)]
+enum Step {
+    Own(Say),
+    Help(Say),
+}
+
+use Step::{Help, Own};
+
+const FIVE: Who = Who(5, 0, 0);
+
+const EIGHT: Who = Who(8, 0, 0);
+
+/// What is done.
+static REPLIES: [Told; 26] = [
+    (b"complex 1 2 1\n", &[Help(Joined(1))], b"complex 1 2 1\n"),
+    (b"1 begin a\n", &[Own(Began(MAKER))], b"a begin 1.1.1\n"),
+    (
+        b"insert a 0 red 5\n",
+        &[Own(No(NeedPage)), Help(Have), Own(At(0))],
+        b"a insert 0.0\n",
+    ),
+    (b"insert a 0 tan\n", &[Own(At(1))], b"a insert 0.1\n"),
+    (
+        b"read a 0.0\n",
+        &[Own(Value(b"red"))],
+        b"a read 0.0 = red\n",
+    ),
+    (b"read a 0.7\n", &[Own(Absent)], b"a read 0.7 absent\n"),
+    (b"write a 0.0 4\n", &[Own(Did)], b"a write 0.0\n"),
+    (b"add a 0.0 -17\n", &[Own(Did)], b"a add 0.0\n"),
+    (b"delete a 0.1\n", &[Own(Did)], b"a delete 0.1\n"),
+    (b"commit a\n", &[Own(Did)], b"a commit\n"),
+    (b"1 ask 1 s\n", &[Own(Have)], b"1 have 1\n"),
+    (b"1 ask 1 x\n", &[Own(Asked(TWO))], b"1 asked 1 of 2\n"),
+    (b"1 evict 1\n", &[Own(Did)], b"1 evicted 1\n"),
+    (b"1 flush 0\n", &[Own(Did)], b"1 flushed 0\n"),
+    (b"1 force\n", &[Own(Did)], b"1 forced\n"),
+    (b"where 1\n", &[Own(Shown(Free, 0))], b"1 free\n"),
+    (
+        b"where 1\n",
+        &[Own(Shown(Excl(ONE, true), 30))],
+        b"1 excl 1 lsn 30 dirty\n",
+    ),
+    (
+        b"where 1\n",
+        &[Own(Shown(Excl(EIGHT, false), 4))],
+        b"1 excl 8 lsn 4 clean\n",
+    ),
+    (
+        b"where 1\n",
+        &[Own(Shown(Shared(&[EIGHT, ONE, FIVE], Some(FIVE)), 6))],
+        b"1 shared 1,5,8 lsn 6 dirty by 5\n",
+    ),
+    (
+        b"where 1\n",
+        &[Own(Shown(Shared(&[TWO], None), 6))],
+        b"1 shared 2 lsn 6 clean\n",
+    ),
+    (
+        b"where 1\n",
+        &[Own(Shown(Moving(TWO, true), 8))],
+        b"1 moving 2 lsn 8 dirty\n",
+    ),
+    (b"where 1\n", &[Own(Shown(Nowhere, 9))], b"1 lost\n"),
+    (
+        b"table\n",
+        &[
+            Own(No(NeedPage)),
+            Help(Have),
+            Own(Listed(&[b"-13", b"tan"])),
+            Own(Listed(&[])),
+        ],
+        b"0.0 -13\n0.1 tan\ntable 2\n",
+    ),
+    (
+        b"table\n",
+        &[Own(Listed(&[])), Own(Listed(&[])), Help(Have)],
+        b"table 0\n",
+    ),
+    (
+        b"table\n",
+        &[Own(Listed(&[b"-13"])), Own(No(Busy(MAKER)))],
+        b"busy a\n",
+    ),
+    (
+        b"table\n",
+        &[Own(No(NeedPage)), Help(No(Failed)), Own(No(NeedPage))],
+        b"fault\n",
+    ),
+];
+
+/// What is refused, behind the lines of the other table.
+static REFUSALS: [Told; 35] = [
+    (b"commit a\n", &[Own(No(NoTxn))], b"a ended\n"),
+    (b"1 begin b\n", &[Own(No(TooManyTxns))], b"b too many\n"),
+    (b"read b 0.0\n", &[], b"b ended\n"),
+    (b"commit b\n", &[Help(Have)], b"b ended\n"),
+    (b"1 begin c\n", &[Own(Began(NEAR))], b"c begin 1.1.2\n"),
+    (
+        b"read c 0.0\n",
+        &[Own(No(NeedPage)), Help(No(Lost)), Own(No(NeedPage))],
+        b"c fault\n",
+    ),
+    (
+        b"read c 0.0\n",
+        &[Own(No(NeedPage)), Help(Have), Own(No(Blocked(MAKER)))],
+        b"c wait for a\n",
+    ),
+    (
+        b"read c 0.0\n",
+        &[Own(No(Blocked(FAR)))],
+        b"c wait for 2.1.1\n",
+    ),
+    (
+        b"read c 0.0\n",
+        &[Own(No(Deadlock(NEAR, FAR)))],
+        b"c deadlock c 2.1.1\n",
+    ),
+    (b"read c 0.0\n", &[Own(No(Busy(NEAR)))], b"c busy c\n"),
+    (b"read c 1.0\n", &[Own(No(Lost))], b"c lost 1\n"),
+    (b"read c 1.0\n", &[Own(No(PoolFull))], b"c pool full\n"),
+    (b"write c 0.0 x\n", &[Own(No(Failed))], b"c fault\n"),
+    (b"write c 0.0 x\n", &[Own(No(NoRecord))], b"c no record\n"),
+    (b"add c 0.0 1\n", &[Own(No(NotNumber))], b"c not a number\n"),
+    (b"add c 0.0 1\n", &[Own(No(TooLong))], b"c too long\n"),
+    (b"insert c 0 x\n", &[Own(No(PageFull))], b"c full\n"),
+    (b"insert c 0 x\n", &[Own(No(LogFull))], b"c log full\n"),
+    (b"insert c 0 x\n", &[Own(No(LsnEnd))], b"c lsn end\n"),
+    (
+        b"delete c 0.0\n",
+        &[Own(No(NoSavepoint))],
+        b"c no savepoint\n",
+    ),
+    (b"delete c 0.0\n", &[Own(No(Down))], b"c down\n"),
+    (b"commit c\n", &[Own(No(CutCommit))], b"c cut\n"),
+    (
+        b"1 ask 1 x\n",
+        &[Own(No(MovingTo(FIVE)))],
+        b"1 moving 1 to 5\n",
+    ),
+    (b"1 evict 1\n", &[Own(No(Dirty))], b"1 dirty 1\n"),
+    (b"1 evict 1\n", &[Own(No(NotAsked))], b"1 not asked 1\n"),
+    (b"1 flush 1\n", &[Own(No(NeedPage))], b"1 need 1\n"),
+    (b"1 flush 1\n", &[Own(No(NoCheck))], b"1 no check\n"),
+    (b"1 force\n", &[Own(No(Up))], b"1 not down\n"),
+    (b"1 force\n", &[Own(No(NotRecovered))], b"1 not recovered\n"),
+    (
+        b"1 force\n",
+        &[Own(No(Damaged(8, 130)))],
+        b"1 damaged 8 130\n",
+    ),
+    (
+        b"1 force\n",
+        &[Own(No(BadRecord(17)))],
+        b"1 bad record 17\n",
+    ),
+    (b"1 force\n", &[Own(No(BadLog(5)))], b"1 bad log 5\n"),
+    (b"1 force\n", &[Own(No(BadLine(2)))], b"1 bad line 2 word\n"),
+    (b"1 force\n", &[Own(No(NoMemory))], b"1 no memory\n"),
+    (
+        b"table\n",
+        &[Own(Listed(&[])), Own(No(Lost)), Help(Have)],
+        b"lost 0\n",
+    ),
+];
+
+// An event of the line, all the same of which transaction.
+fn asked(rt: &(impl Abort + AllocGlobal), form: &Form) -> Result<Event, Memory> {
+    let txn = txn(rt, MAKER);
+    Ok(match form {
+        Form::Complex { insts, .. } => Event::Join { inst: *insts },
+        Form::Begin { inst, .. } => Event::Begin { inst: *inst },
+        Form::Read { rid, .. } => Event::Read { txn, rid: *rid },
+        Form::Write { rid, value, .. } => Event::Write {
+            txn,
+            rid: *rid,
+            value: value.copy()?,
+        },
+        Form::Add { rid, by, .. } => Event::Add {
+            txn,
+            rid: *rid,
+            by: *by,
+        },
+        Form::Insert { page, value, .. } => Event::Insert {
+            txn,
+            page: *page,
+            value: value.copy()?,
+            capacity: 5,
+        },
+        Form::Delete { rid, .. } => Event::Delete { txn, rid: *rid },
+        Form::Commit { .. } => Event::Commit { txn },
+        other => page_event(rt, other),
+    })
+}
+
+// An event of a line of an instance or a page, and of a table.
+fn page_event(rt: &impl Abort, form: &Form) -> Event {
+    match form {
+        Form::Ask { inst, page, mode } => Event::Ask {
+            inst: *inst,
+            page: *page,
+            mode: *mode,
+        },
+        Form::Evict { inst, page } => Event::Evict {
+            inst: *inst,
+            page: *page,
+        },
+        Form::Flush { inst, page } => Event::Flush {
+            inst: *inst,
+            page: *page,
+        },
+        Form::Force { inst } => Event::Force { inst: *inst },
+        Form::Where { page } => Event::Show { page: *page },
+        _ => Event::List {
+            inst: txn(rt, ONE).inst,
+            page: PageNo::new(0).expect(rt, "a page"),
+        },
+    }
+}
+
+// Notes the entries of a line, and those that help it.
+fn note(
+    rt: &(impl Abort + AllocGlobal),
+    entries: &mut Vec<Entry>,
+    line: &Line,
+    steps: &[Step],
+) -> Result<(), Memory> {
+    for step in steps {
+        let (number, say) = match *step {
+            Own(say) => (line.number, say),
+            Help(say) => (0, say),
+        };
+        entries.push(Entry {
+            session: 0,
+            line: number,
+            event: asked(rt, &line.form)?,
+            reply: reply(rt, say)?,
+        })?;
+    }
+    Ok(())
+}
+
+#[test]
+fn each_line_is_reported(rt: HostRuntime) -> Result<(), Fail> {
+    let mut text = Vec::new(rt.alloc());
+    let mut due = Vec::new(rt.alloc());
+    for (line, _, reported) in REPLIES.iter().chain(&REFUSALS) {
+        text.extend_from_slice(line)?;
+        due.extend_from_slice(reported)?;
+    }
+    let script = Script::read(rt.alloc(), &text, Kind::Replay)?;
+    let lines = script.lines();
+    let mut entries = Vec::new(rt.alloc());
+    for (line, (_, steps, _)) in lines.iter().zip(REPLIES.iter().chain(&REFUSALS)) {
+        note(&rt, &mut entries, line, steps)?;
+    }
+    assert!(rt; in_order(lines, &entries));
+    let report = render(rt.alloc(), lines, &entries)?;
+    assert_eq!(rt; report.as_slice(), due.as_slice());
+    Ok(())
+}
+
+#[test]
+fn a_bad_line_is_told(rt: HostRuntime) -> Result<(), Fail> {
+    let text = bad_line(rt.alloc(), 100_000, Cause::Unknown)?;
+    assert_eq!(rt; text.as_slice(), b"bad line 100000 unknown\n".as_slice());
+    Ok(())
+}

@@ -1,0 +1,14 @@
+use Rattle.std.proofs.Common.{◌≡◌, ℕ, ◌∙◌, sym, subst}
+use Rattle.sd_sound.specs.Logs.{IsBlank}
+use Rattle.sdaries.proofs.tests.arm.Goals as goal
+
+pub returns : goal.returns
+returns g c =
+    let stays = c.arm.ensures.stays in
+    record {
+      blank = λ d le. subst IsBlank (sym (stays.reads d)) (c.requires.blank d le);
+      only = λ d le bytes. (
+        λ left. (c.requires.only d le bytes).0 ((stays.outcomes d bytes).0 left) ∙ sym (stays.reads d),
+        λ e. (stays.outcomes d bytes).1 ((c.requires.only d le bytes).1 (e ∙ stays.reads d)),
+      );
+    }
