@@ -4,7 +4,7 @@
 //! as the reply says. `HalfServed` says the same of a call before it ends the transaction's wait (`specs/Halves.antt`).
 //! Keeps: nothing.
 //! Promises: each call answers as the serial table and the pages allow, names exactly who stands in the way of a lock, and makes no
-//! device call (`served`, `rig`), but for a commit, which forces the log of its instance alone.
+//! device call (`served`, `rig`), but for a commit, which leaves the data device as it was (`disk`).
 //! Refuses: in the order of the causes of sd_model; `Memory` comes wherever a call finds none, and changes nothing.
 //! Knows nothing of: scripts, sessions, how a page comes to an instance.
 //! Stands on: sd_base, sd_model, sd_page, sd_logrec, sd_rig, sd_log, sd_pool, sd_txn, sd_reclock, sd_pagelock, sd_chain, sd_sound,

@@ -3,7 +3,7 @@
 //! Meaning: each call is an event of the serial table, and serves it as `Serving` of sd_fits says.
 //! Keeps: nothing.
 //! Promises: from each world that the complex fits, the answer leads to one that it fits then (`failing.rt`, `joining.rt`). A
-//! failure calls no device and takes no memory; a join forces one log.
+//! failure calls no device and takes no memory.
 //! Refuses: what the order of the event's causes says, the first that applies; `Memory` changes nothing.
 //! Knows nothing of: whose turn it is, what is noted of an answer.
 //! Stands on: sd_base, sd_model, sd_logrec, sd_rig, sd_log, sd_txn, sd_chain, sd_sound, sd_world, sd_state, sd_moves, sd_fits.
