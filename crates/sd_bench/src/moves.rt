@@ -34,9 +34,9 @@ fn are_done(alloc: Global, times: u32) -> Option<()> {
     read(alloc, &mut places, &mut giver, page)?;
     for n in 0..times {
         if n % 2 == 0 {
-            pass(&mut places, &mut giver, &mut taker, page)?;
+            pass(alloc, &mut places, &mut giver, &mut taker, page)?;
         } else {
-            pass(&mut places, &mut taker, &mut giver, page)?;
+            pass(alloc, &mut places, &mut taker, &mut giver, page)?;
         }
     }
     Some(())
@@ -53,19 +53,29 @@ impl Member {
 // A page without slots comes to the member alone.
 fn read(alloc: Global, places: &mut Places, to: &mut Member, p: PageNo) -> Option<()> {
     lock(places, p, to.inst)?;
-    let image = Box::new(alloc, Image::empty(p)).ok()?;
-    to.pool.put(p, image).ok()
+    to.pool.put(p, room(alloc, p)?).ok()
 }
 
 // One move, as the calls of the complex make it.
-fn pass(places: &mut Places, giver: &mut Member, taker: &mut Member, p: PageNo) -> Option<()> {
-    places.ask(taker.inst, p, Mode::Excl).ok()?;
+fn pass(
+    alloc: Global,
+    places: &mut Places,
+    giver: &mut Member,
+    taker: &mut Member,
+    p: PageNo,
+) -> Option<()> {
+    places.ask(taker.inst, p, Mode::Excl, room(alloc, p)?).ok()?;
     let (asker, _mode) = places.oldest_ask(p, giver.inst)?;
     give(places, p, asker)?;
     places.send(p, giver.pool.take(p)?);
-    let image = places.arrive(p)?;
+    let image = places.arrive(p, room(alloc, p)?)?;
     settle(places, p)?;
     taker.pool.put(p, image).ok()
+}
+
+// Room for an image of the page.
+fn room(alloc: Global, p: PageNo) -> Option<Box<Image>> {
+    Box::new(alloc, Image::empty(p)).ok()
 }
 
 // The page comes from disk to the instance alone; `None` where it isn't free.

@@ -12,12 +12,13 @@ use Rattle.sd_script.specs.declared.line.Form.{Form}
 use Rattle.sd_script.specs.declared.line.Form.TheVariants as form
 use Rattle.sd_script.specs.declared.line.Line.{Line}
 use Rattle.sd_script.specs.Order.{begun, begun_by, has}
-use Rattle.sd_world.specs.Serving.{Core, Telling, Turns}
+use Rattle.sd_world.specs.Serving.{Telling}
 use Rattle.sd_drive.specs.declared.driver.Driver.{Driver}
 use Rattle.sd_drive.specs.Driving.{Cursor, Work, World, done, works_of}
-use Rattle.sd_drive.specs.Lines.{Names, named_by}
+use Rattle.sd_drive.specs.Lines.{Names, named_by, rolls_back}
 use Rattle.sd_drive.specs.Operating.{Came}
-use Rattle.sd_drive.specs.Reaching.{Reached, began_by, named}
+use Rattle.sd_drive.specs.Reaching.{IsSame, Reached, began_by, named}
+use Rattle.sd_drive.proofs.Lines.{goes-there, once-ends}
 use Rattle.sd_drive.proofs.Naming.{begun-more, named-none, named-push}
 use Rattle.sd_drive.specs.Running.{Start}
 
@@ -38,48 +39,36 @@ module _ (names : List (List ℕ)) (txns : List (Option TxnId)) (known : Names) 
   names-after (reply.Began t) q = ap (λ (o : Option TxnId). cond {A = Option TxnId} (bytes_eq name q) (Some t) o) (all q)
   names-after r q = none-now names txns name q fresh ∙ all q
 
-  inst-of : (m : Core) (r : Reply) (m' : Core) (q : List ℕ) (t : TxnId) → inst ≡ 1 → ((k : List ℕ) (u : TxnId) → known k ≡ Some u → u.inst ≡ 1)
-      → Turns m (event.Begin inst) r m' → named_by (form.Begin inst name) r known q ≡ Some t → t.inst ≡ 1
-  inst-of m (reply.Began x) m' q t one each turns is = ⊎_elim
-      (λ (same : bytes_eq name q ≡ true).
-      let here : Some x ≡ Some t = sym (ap (λ (b : Bool). cond {A = Option TxnId} b (Some x) (known q)) same) ∙ is in
-      sym (ap got here) ∙ ap (λ (u : TxnId). u.inst) turns.plays.step.1.0 ∙ one)
-      (λ (differ : bytes_eq name q ≡ false). each q t (sym (ap (λ (b : Bool). cond {A = Option TxnId} b (Some x) (known q)) differ) ∙ is))
-      (cases_Bool (bytes_eq name q))
-    where
-      got : Option TxnId → ℕ
-      got None = 0
-      got (Some u) = u.inst
-  inst-of m r m' q t one each turns is = each q t is
-
 module _ {G : Type 0} (tell : Telling G) (start : Start G) (lines : List Line) (n : ℕ) (line : Line) (at : slice_get lines n ≡ Some line)
     (old : Driver G) (w : World) (r : Reached tell start lines n old w) (inst : ℕ) (name : List ℕ) (is : line.form ≡ form.Begin inst name)
-    (one : inst ≡ 1) (fresh : has (begun (take n lines)) name ≡ false) where
+    (fresh : has (begun (take n lines)) name ≡ false) where
   now-begun : begun (take (n + 1) lines) ≡ begun (take n lines) ++ name ∷ []
   now-begun = begun-more lines n line at ∙ ap (λ (f : Form). begun (take n lines) ++ begun_by f) is
 
-  pub came-begin : (new : Driver G) → new.pages ≡ old.pages
+  pub came-begin : (new : Driver G) → IsSame old new
       → (came : Came tell new.hall line.session line.number (event.Begin inst) line (works_of (drop (n + 1) lines)) Cursor.Once start w)
       → new.txns.items ≡ old.txns.items ++ began_by came.reply ∷ [] → (w' : World) × Reached tell start lines (n + 1) new w'
-  came-begin new pages came txns =
+  came-begin new same came txns =
       let known = w.told.known.names in
+      let k = r.knows in
       let form_is : named_by line.form came.reply known ≡ named_by (form.Begin inst name) came.reply known =
       ap (λ (f : Form). named_by f came.reply known) is in (
         record { told = done w.told (Work.Do line) (works_of (drop (n + 1) lines)) came.reply; core = came.core },
         record {
-          there = came.there;
+          there = goes-there tell start lines n line new (event.Begin inst) Cursor.Once w came None
+              (once-ends came.core.scene.state w.told.known line came.reply (ap rolls_back is));
           rests = refl;
           idle = refl;
           left = λ m. refl;
-          insts = r.insts;
-          pages = r.pages ∙ sym pages;
-          names = λ q. ap₂ (λ l ts. named l ts q) now-begun txns
-              ∙ named-push (begun (take n lines)) old.txns.items name q (began_by came.reply) fresh r.count
-              ∙ names-after (begun (take n lines)) old.txns.items known r.names inst name fresh came.reply q
-              ∙ ap (λ (names : Names). names q) (sym form_is);
-          count = ap (λ ts. length ts) txns ∙ length-append old.txns.items (began_by came.reply ∷ []) ∙ ap (λ (k : ℕ). k + 1) r.count
-              ∙ sym (length-append (begun (take n lines)) (name ∷ [])) ∙ ap (λ l. length l) (sym now-begun);
-          each = λ q t has_it. inst-of (begun (take n lines)) old.txns.items known r.names inst name fresh came.mid came.reply came.core q t one r.each
-              came.turns (ap (λ (names : Names). names q) (sym form_is) ∙ has_it);
+          knows = record {
+            insts = k.insts ∙ sym same.0;
+            pages = k.pages ∙ sym same.1;
+            names = λ q. ap₂ (λ l ts. named l ts q) now-begun txns
+                ∙ named-push (begun (take n lines)) old.txns.items name q (began_by came.reply) fresh k.count
+                ∙ names-after (begun (take n lines)) old.txns.items known k.names inst name fresh came.reply q
+                ∙ ap (λ (names : Names). names q) (sym form_is);
+            count = ap (λ ts. length ts) txns ∙ length-append old.txns.items (began_by came.reply ∷ []) ∙ ap (λ (m : ℕ). m + 1) k.count
+                ∙ sym (length-append (begun (take n lines)) (name ∷ [])) ∙ ap (λ l. length l) (sym now-begun);
+          };
         },
       )

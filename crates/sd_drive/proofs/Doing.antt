@@ -12,14 +12,13 @@ use Rattle.sd_script.specs.Order.{Follows, begun, has}
 use Rattle.sd_world.specs.Serving.{Telling}
 use Rattle.sd_hall.specs.Served.{IsServed}
 use Rattle.sd_drive.specs.declared.driver.Driver.{Driver}
-use Rattle.sd_drive.specs.Alone.{IsOfOne}
 use Rattle.sd_drive.specs.Driven.{IsIn}
 use Rattle.sd_drive.specs.Driving.{Cursor, World, works_of}
 use Rattle.sd_drive.specs.Lines.{Names, event_of, lists}
 use Rattle.sd_drive.specs.Operating.{Came, DueIn, IsDueFor, Operates, OperatesSome}
-use Rattle.sd_drive.specs.Reaching.{AreDriven, AtLine, DrivesLine, DrivesSome, IsPlain, IsShort, Knows, Reached, began_by, ordinal_in}
+use Rattle.sd_drive.specs.Reaching.{AreDriven, AtLine, DrivesLine, DrivesSome, IsPlain, IsSame, IsShort, Knows, Reached, began_by, ordinal_in}
 use Rattle.sd_drive.proofs.Begins.{came-begin}
-use Rattle.sd_drive.proofs.Lines.{came-plain, insts-one, is-served, knows-now, of-one, once-due, ordinal-there, passed, plain-lists}
+use Rattle.sd_drive.proofs.Lines.{came-plain, is-served, knows-now, once-due, ordinal-there, passed, plain-lists}
 use Rattle.sd_drive.specs.Running.{Start}
 
 module _ {G : Type 0} (tell : Telling G) (old : Driver G) (line : Line) where
@@ -38,7 +37,7 @@ module _ {G : Type 0} (tell : Telling G) (old : Driver G) (line : Line) where
   abbrev Asks : Option Event → Type 0
   Asks o = (names : Names) → Knows old.txns.items names line.form → o ≡ event_of names line.form
 
-  asked-now : (o : Option Event) → Asks o → (start : Start G) (w : World) (lines : List Line) (n : ℕ) → slice_get lines n ≡ Some line → AreDriven lines old.pages
+  asked-now : (o : Option Event) → Asks o → (start : Start G) (w : World) (lines : List Line) (n : ℕ) → slice_get lines n ≡ Some line → AreDriven lines old.insts old.pages
       → Reached tell start lines n old w → event_of w.told.known.names line.form ≡ o
   asked-now o asks start w lines n at d r =
       sym (asks w.told.known.names (knows-now tell start lines n line.form (d.each n line at).follows old w r))
@@ -47,17 +46,11 @@ module _ {G : Type 0} (tell : Telling G) (old : Driver G) (line : Line) where
   event-passed plain asks start w lines n at d r = (w, passed tell start lines n line at old w r plain (asked-now None asks start w lines n at d r))
 
   module _ (plain : IsPlain line.form) (e : Event) (asks : Asks (Some e)) where
-    pub event-one : AtLine tell old line → IsOfOne e
-    event-one a =
-        let may = a.driven.each a.n line a.next in
-        of-one a.world.told.known.names a.reached.each a.lines a.n a.driven.insts line.form e may.follows may.form
-        (asked-now (Some e) asks a.start a.world a.lines a.n a.next a.driven a.reached)
-
     pub event-served : AtLine tell old line → IsServed e
     event-served a = is-served a.world.told.known.names line.form e
         (asked-now (Some e) asks a.start a.world a.lines a.n a.next a.driven a.reached)
 
-    due-now : (start : Start G) (w : World) (lines : List Line) (n : ℕ) (at : slice_get lines n ≡ Some line) → AreDriven lines old.pages
+    due-now : (start : Start G) (w : World) (lines : List Line) (n : ℕ) (at : slice_get lines n ≡ Some line) → AreDriven lines old.insts old.pages
         → Reached tell start lines n old w
         → IsDueFor line.session line.number e w.told.known line (works_of (drop (n + 1) lines)) Cursor.Once w
     due-now start w lines n at d r =
@@ -76,10 +69,10 @@ module _ {G : Type 0} (tell : Telling G) (old : Driver G) (line : Line) where
     }
 
     module _ (new : Driver G) where
-      pub event-came : new.pages ≡ old.pages → new.txns ≡ old.txns → Operates tell old.hall new.hall line.session line.number e
+      pub event-came : IsSame old new → new.txns ≡ old.txns → Operates tell old.hall new.hall line.session line.number e
           → DrivesLine tell old new line
-      event-came pages txns came start w lines n at d r =
-          came-plain tell start lines n line at old w r new e plain pages txns
+      event-came same txns came start w lines n at d r =
+          came-plain tell start lines n line at old w r new e plain same txns
           (came start w w.told.known line (works_of (drop (n + 1) lines)) Cursor.Once r.there (due-now start w lines n at d r))
 
       pub event-some : OperatesSome tell old.hall new.hall line.session line.number e → DrivesSome tell old new line
@@ -107,19 +100,19 @@ module _ {G : Type 0} (tell : Telling G) (old : Driver G) (line : Line) where
     }
 
     -- it came, and its transaction, if one began, is kept
-    pub begin-came : (mid new : Driver G) → new.pages ≡ old.pages → new.hall ≡ mid.hall
+    pub begin-came : (mid new : Driver G) → IsSame old new → new.hall ≡ mid.hall
         → Operates tell old.hall mid.hall line.session line.number (event.Begin inst)
         → ((before : List Entry) (r : Reply)
         → mid.hall.book.entries ≡ before ++ record { session = line.session; line = line.number; event = event.Begin inst; reply = r } ∷ []
         → new.txns.items ≡ old.txns.items ++ began_by r ∷ [])
         → DrivesLine tell old new line
-    begin-came mid new pages hall came kept start w lines n at d r =
+    begin-came mid new same hall came kept start w lines n at d r =
         let may = d.each n line at in
         let follows = subst (Follows (take n lines)) is may.follows in
         let fits = subst IsForm is may.form in
         let c = came start w w.told.known line (works_of (drop (n + 1) lines)) Cursor.Once r.there (begin-due-now start w lines n at r) in
         let fresh : has (begun (take n lines)) name ≡ false = isnt (has (begun (take n lines)) name) follows.1 in
-        came-begin tell start lines n line at old w r inst name is (insts-one lines n inst d.insts follows.0 fits.0.0) fresh new pages
+        came-begin tell start lines n line at old w r inst name is fresh new same
         (subst (λ h. Came tell h line.session line.number (event.Begin inst) line (works_of (drop (n + 1) lines)) Cursor.Once start w) (sym hall) c)
         (kept c.before c.reply c.noted)
       where

@@ -1,14 +1,13 @@
 -- Results of helping events, carried over. It serves the goals of pull.rt.
 use Rattle.std.proofs.Common.{◌≡◌, ℕ, Bool, subst}
 use Rattle.std.specs.Prelude.{Result, Ok, Err, IfOk, OnErr, OnOk}
-use Rattle.sd_base.specs.declared.place.Mode.{Mode}
 use Rattle.sd_base.specs.declared.refusal.Memory.{Memory}
 use Rattle.sd_model.specs.declared.event.Event.{Event}
 use Rattle.sd_model.specs.declared.event.Reply.{Reply}
-use Rattle.sd_world.specs.Serving.{Core, Telling}
+use Rattle.sd_world.specs.Serving.{Telling}
 use Rattle.sd_hall.specs.declared.hall.Hall.{Hall}
-use Rattle.sd_drive.specs.Driven.{Helped, MakesRoom, PullsOn, PullsSome, StaysIn, is_did, next_if}
-use Rattle.sd_drive.specs.Pulls.{Pull}
+use Rattle.sd_drive.specs.Driven.{Helped, MakesRoom, PullsOn, is_did, next_if}
+use Rattle.sd_drive.specs.Pulls.{Pull, Puller}
 
 -- what holds of each value, where there is one
 pub if-ok-then : {X : Type 0} (r : Result X Memory) (P Q : X → Type 0) → ((x : X) → P x → Q x) → IfOk r P → IfOk r Q
@@ -29,19 +28,9 @@ on-err-both (Err e) P Q p q = (p, q)
 
 module _ {G : Type 0} (tell : Telling G) where
   -- a helping event that was done or not, as each reply says
-  pub room-done : (old new : Hall G) (e : Event) (done : Bool)
-      → ((r : Reply) → Helped tell old new e r → (mode : Mode) (p : ℕ) → PullsOn tell old new mode (Pull.Room p 1) (next_if (is_did r) p) (MakesRoom (is_did r)))
+  pub room-done : (old new : Hall G) (i : ℕ) (e : Event) (done : Bool)
+      → ((r : Reply) → Helped tell old new e r → (for : Puller) (p : ℕ) → PullsOn tell old new for (Pull.Room p i) (next_if (is_did r) p) (MakesRoom (is_did r) i))
       → (r : Reply) × (is_did r ≡ done) × Helped tell old new e r
-      → (mode : Mode) (p : ℕ) → PullsOn tell old new mode (Pull.Room p 1) (next_if done p) (MakesRoom done)
-  room-done old new e done on h mode p =
-      subst (λ (b : Bool). PullsOn tell old new mode (Pull.Room p 1) (next_if b p) (MakesRoom b)) h.1 (on h.0 h.2 mode p)
-
-  -- nothing came
-  pub some-stays : (old new : Hall G) → StaysIn tell old new → (mode : Mode) (pull : Pull) → PullsSome tell old new mode pull
-  some-stays old new stays mode pull start w at work rest c e i s = (w, stays start w i)
-
-  -- something came, and then nothing
-  pub some-then : (old mid new : Hall G) (mode : Mode) (pull next : Pull) (P : Core → Core → Type 0) → PullsOn tell old mid mode pull next P
-      → StaysIn tell mid new → PullsSome tell old new mode pull
-  some-then old mid new mode pull next P on stays start w at work rest c e i s =
-      let h = on start w at work rest c e i s in (h.0, stays start h.0 h.1)
+      → (for : Puller) (p : ℕ) → PullsOn tell old new for (Pull.Room p i) (next_if done p) (MakesRoom done i)
+  room-done old new i e done on h for p =
+      subst (λ (b : Bool). PullsOn tell old new for (Pull.Room p i) (next_if b p) (MakesRoom b i)) h.1 (on h.0 h.2 for p)

@@ -1,9 +1,13 @@
-pub mod Alone
+pub mod Acts
+pub mod Tops
+pub mod Measures
+pub mod Nearing
 pub mod Telling
 pub mod Needs
 pub mod Rooms
 pub mod Running
 pub mod Steps
+pub mod Answering
 pub mod Asking
 pub mod Helps
 pub mod Pulled
@@ -13,6 +17,8 @@ pub mod Naming
 pub mod Lines
 pub mod Doing
 pub mod Begins
+pub mod Backs
+pub mod Undoing
 pub mod Tables
 pub mod Opening
 pub mod Replays

@@ -1,26 +1,26 @@
 -- A line's event is due, and the line is done behind its reply. It serves the goals of driver.rt.
-use Rattle.std.proofs.Common.{◌≡◌, ℕ, ◌+◌, ◌<◌, ◌≤◌, Bool, true, false, cond, List, [], ◌∷◌, ◌++◌, length, take, drop, refl, sym, ap, ap₂, ◌∙◌, subst, arith}
+use Rattle.std.proofs.Common.{◌≡◌, ℕ, ◌+◌, ◌<◌, Bool, true, false, cond, List, [], ◌∷◌, ◌++◌, length, take, drop, refl, sym, ap, ap₂, ◌∙◌, subst}
 use Rattle.std.specs.Prelude.{Option, None, Some, is_some, option_map, slice_get}
 use Rattle.std.proofs.lemmas.List.{append-nil}
 use Rattle.sd_base.specs.declared.ids.TxnId.{TxnId}
 use Rattle.sd_model.specs.declared.event.Event.{Event}
 use Rattle.sd_model.specs.declared.event.Event.TheVariants as event
 use Rattle.sd_model.specs.declared.event.Reply.{Reply}
+use Rattle.sd_model.specs.declared.event.Reply.TheVariants as reply
 use Rattle.sd_model.specs.State.{State}
 use Rattle.sd_script.specs.declared.line.Form.{Form}
 use Rattle.sd_script.specs.declared.line.Form.TheVariants as form
 use Rattle.sd_script.specs.declared.line.Line.{Line}
-use Rattle.sd_script.specs.Forms.{IsForm}
-use Rattle.sd_script.specs.Order.{Follows, begun, begun_by, insts_of, ordinal_of}
+use Rattle.sd_script.specs.Order.{Follows, begun, begun_by, ordinal_of}
 use Rattle.sd_world.specs.Serving.{Telling}
 use Rattle.sd_hall.specs.Served.{IsServed}
 use Rattle.sd_drive.specs.declared.driver.Driver.{Driver}
-use Rattle.sd_drive.specs.Alone.{IsOfOne}
-use Rattle.sd_drive.specs.Driving.{Cursor, Known, Work, World, ahead, begins, cursor_in, done, start_of, works_of}
-use Rattle.sd_drive.specs.Lines.{Names, capacity_of, event_of, lists, named_by}
+use Rattle.sd_drive.specs.Driven.{IsIn}
+use Rattle.sd_drive.specs.Driving.{Cursor, Known, Work, World, ahead, begins, cursor_in, followed, goes_on, start_of, works_of}
+use Rattle.sd_drive.specs.Lines.{Names, capacity_of, event_of, lists, named_by, rolls_back}
 use Rattle.sd_drive.specs.Operating.{Came, IsDueFor}
-use Rattle.sd_drive.specs.Reaching.{IsPlain, Knows, Reached, at_ordinal, name_in, named, ordinal_in}
-use Rattle.sd_drive.proofs.Naming.{begun-more, drop-at, insts-within, ordinal-within}
+use Rattle.sd_drive.specs.Reaching.{IsPlain, IsSame, Knows, KnowsAll, Reached, at_ordinal, name_in, named, ordinal_in}
+use Rattle.sd_drive.proofs.Naming.{begun-more, drop-at, ordinal-within}
 use Rattle.sd_drive.specs.Running.{Start}
 
 -- ---- what forms have
@@ -33,14 +33,38 @@ plain-begins : (f : Form) → IsPlain f → begun_by f ≡ []
 plain-begins (form.Begin inst name) plain = absurd plain
 plain-begins f plain = refl
 
-plain-names : (f : Form) (r : Reply) (names : Names) → IsPlain f → named_by f r names ≡ names
-plain-names (form.Begin inst name) r names plain = absurd plain
-plain-names f r names plain = refl
+pub plain-names : (f : Form) → IsPlain f → (r : Reply) (names : Names) → named_by f r names ≡ names
+plain-names (form.Begin inst name) plain r names = absurd plain
+plain-names f plain r names = refl
 
-pub plain-else : (f : Form) → ((inst : ℕ) (name : List ℕ) → f ≡ form.Begin inst name → ⊥) → (f ≡ form.Table → ⊥) → IsPlain f
-plain-else (form.Begin inst name) begin table = begin inst name refl
-plain-else form.Table begin table = table refl
-plain-else f begin table = tt
+plain-rolls : (f : Form) → IsPlain f → rolls_back f ≡ false
+plain-rolls (form.Back name o mark) plain = absurd plain
+plain-rolls (form.Rollback name o) plain = absurd plain
+plain-rolls f plain = refl
+
+-- a line that doesn't roll back ends behind its one event
+pub once-ends : (m : State) (known : Known) (line : Line) (r : Reply) → rolls_back line.form ≡ false
+    → goes_on m known (Work.Do line) Cursor.Once r ≡ None
+once-ends m known line reply.Did single = ap (λ (b : Bool). cond {A = Option Cursor} b (Some Cursor.Undoes) None) single
+once-ends m known line r single = refl
+
+pub plain-else : (f : Form) → ((inst : ℕ) (name : List ℕ) → f ≡ form.Begin inst name → ⊥) → (f ≡ form.Table → ⊥)
+    → ((name : List ℕ) (o : ℕ) (mark : List ℕ) → f ≡ form.Back name o mark → ⊥) → ((name : List ℕ) (o : ℕ) → f ≡ form.Rollback name o → ⊥) → IsPlain f
+plain-else (form.Begin inst name) begin table back rollback = begin inst name refl
+plain-else form.Table begin table back rollback = table refl
+plain-else (form.Back name o mark) begin table back rollback = back name o mark refl
+plain-else (form.Rollback name o) begin table back rollback = rollback name o refl
+plain-else f begin table back rollback = tt
+
+-- a driver with the same transactions knows as much
+pub knows-as : {G : Type 0} (lines : List Line) (n : ℕ) (old new : Driver G) (known : Known) → IsSame old new → new.txns ≡ old.txns
+    → KnowsAll lines n old known → KnowsAll lines n new known
+knows-as lines n old new known same txns k = record {
+  insts = k.insts ∙ sym same.0;
+  pages = k.pages ∙ sym same.1;
+  names = λ q. ap (λ ts. named (begun (take n lines)) ts.items q) txns ∙ k.names q;
+  count = ap (λ ts. length ts.items) txns ∙ k.count;
+}
 
 -- ---- one event of a line that isn't the list of all pages
 
@@ -86,44 +110,70 @@ module _ {G : Type 0} (tell : Telling G) (start : Start G) (lines : List Line) (
         number_is = refl;
       }
 
-  same-begun : IsPlain line.form → begun (take (n + 1) lines) ≡ begun (take n lines)
-  same-begun plain = begun-more lines n line at ∙ ap (λ l. begun (take n lines) ++ l) (plain-begins line.form plain) ∙ append-nil (begun (take n lines))
+  -- behind a line that begins no transaction the driver knows what it knew
+  pub knows-more : (new : Driver G) → begun_by line.form ≡ [] → IsSame old new → new.txns ≡ old.txns → KnowsAll lines (n + 1) new known
+  knows-more new none same txns =
+      let begun_same = begun-more lines n line at ∙ ap (λ l. begun (take n lines) ++ l) none ∙ append-nil (begun (take n lines)) in
+      let k = r.knows in
+      record {
+        insts = k.insts ∙ sym same.0;
+        pages = k.pages ∙ sym same.1;
+        names = λ q. ap₂ (λ l ts. named l ts.items q) begun_same txns ∙ k.names q;
+        count = ap (λ ts. length ts.items) txns ∙ k.count ∙ ap (λ l. length l) (sym begun_same);
+      }
 
   -- it has none
-  pub passed : IsPlain line.form → event_of known.names line.form ≡ None → Reached tell start lines (n + 1) old w
-  passed plain none = record {
+  pub passes : lists line.form ≡ false → begun_by line.form ≡ [] → event_of known.names line.form ≡ None → Reached tell start lines (n + 1) old w
+  passes single unbegun none = record {
     there = r.there;
     rests = r.rests;
     idle = r.idle;
     left = λ m. left-here m ∙ ap (λ (o : Option Cursor). cond {A = List Work} (is_some o) (Work.Do line ∷ rest) (ahead m known rest))
-        (past known m line.form (plain-lists line.form plain) none);
-    insts = r.insts;
-    pages = r.pages;
-    names = λ q. ap (λ l. named l old.txns.items q) (same-begun plain) ∙ r.names q;
-    count = r.count ∙ ap (λ l. length l) (sym (same-begun plain));
-    each = r.each;
+        (past known m line.form single none);
+    knows = knows-more old unbegun (refl, refl) refl;
   }
 
-  -- its event came
-  pub came-plain : (new : Driver G) (e : Event) → IsPlain line.form → new.pages ≡ old.pages → new.txns ≡ old.txns
-      → Came tell new.hall line.session line.number e line rest Cursor.Once start w → (w' : World) × Reached tell start lines (n + 1) new w'
-  came-plain new e plain pages txns came =
-      let names_now : named_by line.form came.reply known.names ≡ known.names = plain-names line.form came.reply known.names plain in (
-        record { told = done w.told (Work.Do line) rest came.reply; core = came.core },
-        record {
-          there = came.there;
-          rests = refl;
-          idle = refl;
-          left = λ m. refl;
-          insts = r.insts;
-          pages = r.pages ∙ sym pages;
-          names = λ q. ap₂ (λ l ts. named l ts.items q) (same-begun plain) txns ∙ r.names q ∙ ap (λ (names : Names). names q) (sym names_now);
-          count = ap (λ ts. length ts.items) txns ∙ r.count ∙ ap (λ l. length l) (sym (same-begun plain));
-          each = subst (λ (names : Names). (q : List ℕ) (t : TxnId) → names q ≡ Some t → t.inst ≡ 1) (sym names_now) r.each;
-        },
-      )
+  pub passed : IsPlain line.form → event_of known.names line.form ≡ None → Reached tell start lines (n + 1) old w
+  passed plain none = passes (plain-lists line.form plain) (plain-begins line.form plain) none
 
--- ---- events of lines are of instance 1, and served
+-- the last event of a line that begins no transaction came
+module _ {G : Type 0} (tell : Telling G) (start : Start G) (lines : List Line) (n : ℕ) (line : Line) (new : Driver G) (e : Event) (c : Cursor)
+    (w : World) (came : Came tell new.hall line.session line.number e line (works_of (drop (n + 1) lines)) c start w) where
+  abbrev next : Option Cursor
+  next = goes_on came.core.scene.state w.told.known (Work.Do line) c came.reply
+
+  abbrev then-at : Option Cursor → World
+  then-at o = record { told = followed w.told (Work.Do line) (works_of (drop (n + 1) lines)) came.reply o; core = came.core }
+
+  pub goes-there : (o : Option Cursor) → next ≡ o → IsIn tell start new.hall (then-at o)
+  goes-there o same = subst (λ (x : Option Cursor). IsIn tell start new.hall (then-at x)) same came.there
+
+  pub came-ended : next ≡ None → ((r : Reply) (names : Names) → named_by line.form r names ≡ names)
+      → KnowsAll lines (n + 1) new w.told.known → (w' : World) × Reached tell start lines (n + 1) new w'
+  came-ended ends unnamed knows = (
+    then-at None,
+    record {
+      there = goes-there None ends;
+      rests = refl;
+      idle = refl;
+      left = λ m. refl;
+      knows = subst (KnowsAll lines (n + 1) new)
+          (sym (ap (λ (names : Names). record w.told.known { names = names }) (unnamed came.reply w.told.known.names))) knows;
+    },
+  )
+
+module _ {G : Type 0} (tell : Telling G) (start : Start G) (lines : List Line) (n : ℕ) (line : Line) (at : slice_get lines n ≡ Some line)
+    (old : Driver G) (w : World) (r : Reached tell start lines n old w) where
+  -- its one event came
+  pub came-plain : (new : Driver G) (e : Event) → IsPlain line.form → IsSame old new → new.txns ≡ old.txns
+      → Came tell new.hall line.session line.number e line (works_of (drop (n + 1) lines)) Cursor.Once start w
+      → (w' : World) × Reached tell start lines (n + 1) new w'
+  came-plain new e plain same txns came =
+      came-ended tell start lines n line new e Cursor.Once w came
+      (once-ends came.core.scene.state w.told.known line came.reply (plain-rolls line.form plain)) (plain-names line.form plain)
+      (knows-more tell start lines n line at old w r new (plain-begins line.form plain) same txns)
+
+-- ---- events of lines are served
 
 mapped : (g : TxnId → Event) (x : Option TxnId) (e : Event) → option_map g x ≡ Some e → (t : TxnId) × (x ≡ Some t) × (g t ≡ e)
 mapped g None e is = absurd (cc)
@@ -134,31 +184,6 @@ mapped g (Some t) e is = (t, refl, same (g t) e is)
 
 this : (a b : Event) → Some a ≡ Some b → a ≡ b
 this a b is = cc
-
--- the instance of a line is instance 1
-pub insts-one : (lines : List Line) (n i : ℕ) → insts_of lines ≡ 1 → i ≤ insts_of (take n lines) → 1 ≤ i → i ≡ 1
-insts-one lines n i one le some = let most : i ≤ insts_of lines = insts-within lines n i le some in omega (arith, one, most, some)
-
-module _ (names : Names) (each : (q : List ℕ) (t : TxnId) → names q ≡ Some t → t.inst ≡ 1) (lines : List Line) (n : ℕ) (insts : insts_of lines ≡ 1) where
-  by-name : (g : TxnId → Event) → ((t : TxnId) → t.inst ≡ 1 → IsOfOne (g t)) → (name : List ℕ) (e : Event) → option_map g (names name) ≡ Some e → IsOfOne e
-  by-name g one name e is =
-      let t = mapped g (names name) e is in subst IsOfOne t.2 (one t.0 (each name t.0 t.1))
-
-  pub of-one : (f : Form) (e : Event) → Follows (take n lines) f → IsForm f → event_of names f ≡ Some e → IsOfOne e
-  of-one (form.Complex insts pages frames) e at fits is = absurd (cc)
-  of-one (form.Begin inst name) e at fits is = subst IsOfOne (this (event.Begin inst) e is) tt
-  of-one (form.Read name o r) e at fits is = by-name (λ t. event.Read t r) (λ t one. one) name e is
-  of-one (form.Write name o r v) e at fits is = by-name (λ t. event.Write t r v) (λ t one. one) name e is
-  of-one (form.Add name o r by) e at fits is = by-name (λ t. event.Add t r by) (λ t one. one) name e is
-  of-one (form.Insert name o p v c) e at fits is = by-name (λ t. event.Insert t p v (capacity_of v c)) (λ t one. one) name e is
-  of-one (form.Delete name o r) e at fits is = by-name (λ t. event.Delete t r) (λ t one. one) name e is
-  of-one (form.Commit name o) e at fits is = by-name (λ t. event.Commit t) (λ t one. tt) name e is
-  of-one (form.Ask i p mode) e at fits is = subst IsOfOne (this (event.Ask i p mode) e is) (insts-one lines n i insts at.0 fits.0.0)
-  of-one (form.Evict i p) e at fits is = subst IsOfOne (this (event.Evict i p) e is) tt
-  of-one (form.Flush i p) e at fits is = subst IsOfOne (this (event.Flush i p) e is) tt
-  of-one (form.Force i) e at fits is = subst IsOfOne (this (event.Force i) e is) tt
-  of-one (form.Where p) e at fits is = subst IsOfOne (this (event.Show p) e is) tt
-  of-one form.Table e at fits is = absurd (cc)
 
 served-by : (names : Names) (g : TxnId → Event) → ((t : TxnId) → IsServed (g t)) → (name : List ℕ) (e : Event) → option_map g (names name) ≡ Some e → IsServed e
 served-by names g all name e is = let t = mapped g (names name) e is in subst IsServed t.2 (all t.0)
@@ -171,11 +196,17 @@ is-served names (form.Write name o r v) e is = served-by names (λ t. event.Writ
 is-served names (form.Add name o r by) e is = served-by names (λ t. event.Add t r by) (λ t. tt) name e is
 is-served names (form.Insert name o p v c) e is = served-by names (λ t. event.Insert t p v (capacity_of v c)) (λ t. tt) name e is
 is-served names (form.Delete name o r) e is = served-by names (λ t. event.Delete t r) (λ t. tt) name e is
+is-served names (form.Save name o k) e is = served-by names (λ t. event.Save t k) (λ t. tt) name e is
+is-served names (form.Back name o k) e is = served-by names (λ t. event.Back t (Some k)) (λ t. tt) name e is
+is-served names (form.Rollback name o) e is = served-by names (λ t. event.Back t None) (λ t. tt) name e is
 is-served names (form.Commit name o) e is = served-by names (λ t. event.Commit t) (λ t. tt) name e is
 is-served names (form.Ask i p mode) e is = subst IsServed (this (event.Ask i p mode) e is) tt
+is-served names (form.Give i p) e is = subst IsServed (this (event.Give i p) e is) tt
+is-served names (form.Take i p) e is = subst IsServed (this (event.Take i p) e is) tt
 is-served names (form.Evict i p) e is = subst IsServed (this (event.Evict i p) e is) tt
 is-served names (form.Flush i p) e is = subst IsServed (this (event.Flush i p) e is) tt
 is-served names (form.Force i) e is = subst IsServed (this (event.Force i) e is) tt
+is-served names (form.Fail i) e is = subst IsServed (this (event.Fail i) e is) tt
 is-served names (form.Where p) e is = subst IsServed (this (event.Show p) e is) tt
 is-served names form.Table e is = absurd (cc)
 
@@ -187,13 +218,16 @@ follows-ordinal before (form.Write name k r v) o at is = at.0 ∙ is
 follows-ordinal before (form.Add name k r by) o at is = at.0 ∙ is
 follows-ordinal before (form.Insert name k p v c) o at is = at.0 ∙ is
 follows-ordinal before (form.Delete name k r) o at is = at.0 ∙ is
+follows-ordinal before (form.Save name k mark) o at is = at ∙ is
+follows-ordinal before (form.Back name k mark) o at is = at ∙ is
+follows-ordinal before (form.Rollback name k) o at is = at ∙ is
 follows-ordinal before (form.Commit name k) o at is = at ∙ is
 follows-ordinal before f o at is = absurd (cc)
 
 module _ {G : Type 0} (tell : Telling G) (start : Start G) (lines : List Line) (n : ℕ) (f : Form) (at : Follows (take n lines) f)
     (old : Driver G) (w : World) (r : Reached tell start lines n old w) where
   pub ordinal-there : (o : ℕ) → ordinal_in f ≡ Some o → o < length old.txns.items
-  ordinal-there o is = ordinal-within (begun (take n lines)) (name_in f) o (length old.txns.items) (follows-ordinal (take n lines) f o at is) r.count
+  ordinal-there o is = ordinal-within (begun (take n lines)) (name_in f) o (length old.txns.items) (follows-ordinal (take n lines) f o at is) r.knows.count
 
   pub knows-now : Knows old.txns.items w.told.known.names f
-  knows-now o is = sym (ap (at_ordinal old.txns.items) (follows-ordinal (take n lines) f o at is)) ∙ r.names (name_in f)
+  knows-now o is = sym (ap (at_ordinal old.txns.items) (follows-ordinal (take n lines) f o at is)) ∙ r.knows.names (name_in f)

@@ -1,5 +1,5 @@
 -- Transactions by the ordinals of their begin lines, and by their names. It serves the goals of driver.rt.
-use Rattle.std.proofs.Common.{◌≡◌, ℕ, zero, suc, ◌+◌, ◌<◌, ◌≤◌, Bool, true, false, cond, List, [], ◌∷◌, ◌++◌, length, take, drop, get_or, refl, sym, ap, ◌∙◌, arith, ⊎_elim}
+use Rattle.std.proofs.Common.{◌≡◌, ℕ, zero, suc, ◌+◌, ◌<◌, Bool, true, false, cond, List, [], ◌∷◌, ◌++◌, length, take, drop, get_or, refl, sym, ap, ◌∙◌, arith, ⊎_elim}
 use Rattle.std.specs.Prelude.{Option, None, Some, slice_get}
 use Rattle.std.specs.Str.{bytes_eq}
 use Rattle.std.proofs.lemmas.Bool.{cases_Bool}
@@ -9,7 +9,7 @@ use Rattle.std.proofs.lemmas.Grind.{flat_map-append}
 use Rattle.std.proofs.lemmas.Option.{slice_get-get_or, slice_get_within}
 use Rattle.sd_base.specs.declared.ids.TxnId.{TxnId}
 use Rattle.sd_script.specs.declared.line.Line.{Line}
-use Rattle.sd_script.specs.Order.{begun, begun_by, has, insts_of, ordinal_of}
+use Rattle.sd_script.specs.Order.{begun, begun_by, has, ordinal_of}
 use Rattle.sd_script.proofs.Ordinals.{named_at, no_ordinal, ordinal_push}
 use Rattle.sd_drive.specs.Reaching.{at_ordinal, named}
 
@@ -35,16 +35,6 @@ pub begun-more : (lines : List Line) (n : ℕ) (line : Line) → slice_get lines
 begun-more lines n line is = ap begun (take-at lines n line is)
     ∙ flat_map-append (λ (l : Line). begun_by l.form) (take n lines) (line ∷ [])
     ∙ ap (λ l. begun (take n lines) ++ l) (flat_map-cons (λ (l : Line). begun_by l.form) line [] ∙ append-nil (begun_by line.form))
-
--- an instance of the first line's is one, wherever the line stands
-pub insts-within : (lines : List Line) (n x : ℕ) → x ≤ insts_of (take n lines) → 1 ≤ x → x ≤ insts_of lines
-insts-within [] n x le some = absurd (none n le)
-  where
-    none : (n : ℕ) → x ≤ insts_of (take n []) → ⊥
-    none zero le = omega arith
-    none (suc n) le = omega arith
-insts-within (line ∷ lines) zero x le some = absurd (omega arith)
-insts-within (line ∷ lines) (suc n) x le some = le
 
 -- ---- a transaction more
 

@@ -1,6 +1,9 @@
--- An event of instance 1 that needs a page: which one, how, and that it has it once it was pulled. It serves the goals of pull.rt.
-use Rattle.std.proofs.Common.{◌≡◌, ◌⊎◌, inl, inr, ℕ, Bool, true, false, cond, refl, sym, ap, ◌∙◌, subst, eq-eqb}
-use Rattle.std.specs.Prelude.{Option, None, Some, is_some, ◌||◌}
+-- An event that needs a page: for whom, which one, how, and that it has it once it was pulled. It serves the goals of pull.rt.
+use Rattle.std.proofs.Common.{◌≡◌, ◌⊎◌, inl, inr, ℕ, List, Bool, true, false, cond, refl, sym, ap, subst, eq-eqb}
+use Rattle.std.specs.Prelude.{ℤ, Option, None, Some, is_some, ◌||◌}
+use Rattle.sd_base.specs.declared.ids.Rid.{Rid}
+use Rattle.sd_base.specs.declared.ids.TxnId.{TxnId}
+use Rattle.sd_base.specs.declared.place.Place.{Place}
 use Rattle.sd_base.specs.declared.place.Mode.{Mode}
 use Rattle.sd_base.specs.declared.place.Mode.TheVariants as modes
 use Rattle.sd_base.specs.declared.refusal.Refusal.TheVariants as R
@@ -10,146 +13,145 @@ use Rattle.sd_model.specs.declared.event.Event.TheVariants as event
 use Rattle.sd_model.specs.declared.event.Reply.{Reply}
 use Rattle.sd_model.specs.declared.event.Reply.TheVariants as reply
 use Rattle.sd_model.specs.State.{State}
-use Rattle.sd_pagelock.specs.Places.{Entry, holds, holds_as, is_free, owns}
+use Rattle.sd_pagelock.specs.Places.{Entry, holds_as, is_free}
 use Rattle.sd_pagelock.specs.Rows.{locked, may_raise, raised}
 use Rattle.sd_world.specs.Pages.{Pages, placed}
-use Rattle.sd_world.specs.PageCauses.{IsAway, decided, page_of}
+use Rattle.sd_world.specs.PageCauses.{IsAway, decided, page_of, undo_page}
 use Rattle.sd_world.specs.Answers.{Gets, Moves}
 use Rattle.sd_world.proofs.Causes.{cause-said}
-use Rattle.sd_drive.specs.Alone.{IsOfOne}
+use Rattle.sd_hall.specs.Served.{IsServed}
+use Rattle.sd_drive.proofs.Measures.{unlike}
 use Rattle.sd_drive.specs.Pulls.{IsPulled, Puller, puller}
 use Rattle.sd_drive.specs.Standing.{is_need, need_of, wanted_of}
-
-unlike : {A : Type 0} {b : Bool} → b ≡ true → b ≡ false → A
-unlike {A} {b} is isnt = let clash : true ≡ false = sym is ∙ isnt in absurd (cc)
 
 abbrev reads : ℕ → Mode → Option Puller
 reads i m = Some (record { inst = i; mode = m })
 
-mode-is : (m n : Mode) (i j : ℕ) → reads i m ≡ reads j n → m ≡ n
-mode-is m n i j is = ap mode_of is
+-- who pulls has the page as it needs it
+pulls-holds : (i : ℕ) (mode : Mode) (for : Puller) (place : Entry) → reads i mode ≡ Some for → holds_as for.mode place for.inst ≡ true
+    → holds_as mode place i ≡ true
+pulls-holds i mode for place is has = subst (λ (x : Puller). holds_as x.mode place x.inst ≡ true) (sym (ap got is)) has
   where
-    mode_of : Option Puller → Mode
-    mode_of None = m
-    mode_of (Some x) = x.mode
+    got : Option Puller → Puller
+    got None = record { inst = i; mode = mode }
+    got (Some x) = x
 
 -- what it has it doesn't lack
-away-not : (m : State) (w : Pages) (e : Event) (mode : Mode) → IsOfOne e → puller m e ≡ Some (record { inst = 1; mode = mode })
-    → holds_as mode (w.entry (page_of m e)) 1 ≡ true → IsAway m w e → ⊥
-away-not m w (event.Read t r) mode one for has away =
-    let shared : modes.Shared ≡ mode = mode-is modes.Shared mode t.inst 1 for in
-    unlike (subst (λ (x : Mode). holds_as x (w.entry r.page) 1 ≡ true) (sym shared) has)
-    (ap (holds (w.entry r.page)) (sym one) ∙ away)
-away-not m w (event.List i p) mode one for has away =
-    let shared : modes.Shared ≡ mode = mode-is modes.Shared mode i 1 for in
-    unlike (subst (λ (x : Mode). holds_as x (w.entry p) 1 ≡ true) (sym shared) has) (ap (holds (w.entry p)) (sym one) ∙ away)
-away-not m w (event.Write t r v) mode one for has away =
-    let excl : modes.Excl ≡ mode = mode-is modes.Excl mode t.inst 1 for in
-    unlike (subst (λ (x : Mode). holds_as x (w.entry r.page) 1 ≡ true) (sym excl) has) (ap (owns (w.entry r.page)) (sym one) ∙ away)
-away-not m w (event.Add t r by) mode one for has away =
-    let excl : modes.Excl ≡ mode = mode-is modes.Excl mode t.inst 1 for in
-    unlike (subst (λ (x : Mode). holds_as x (w.entry r.page) 1 ≡ true) (sym excl) has) (ap (owns (w.entry r.page)) (sym one) ∙ away)
-away-not m w (event.Delete t r) mode one for has away =
-    let excl : modes.Excl ≡ mode = mode-is modes.Excl mode t.inst 1 for in
-    unlike (subst (λ (x : Mode). holds_as x (w.entry r.page) 1 ≡ true) (sym excl) has) (ap (owns (w.entry r.page)) (sym one) ∙ away)
-away-not m w (event.Insert t p v n) mode one for has away =
-    let excl : modes.Excl ≡ mode = mode-is modes.Excl mode t.inst 1 for in
-    unlike (subst (λ (x : Mode). holds_as x (w.entry p) 1 ≡ true) (sym excl) has) (ap (owns (w.entry p)) (sym one) ∙ away)
-away-not m w (event.Undo t) mode one for has away = one
-away-not m w (event.RecoverStep i) mode one for has away = one
-away-not m w e mode one for has away = absurd (cc)
+away-not : (m : State) (w : Pages) (e : Event) (for : Puller) → puller m e ≡ Some for
+    → holds_as for.mode (w.entry (page_of m e)) for.inst ≡ true → IsAway m w e → ⊥
+away-not m w (event.Read t r) for pulls has away = unlike (pulls-holds t.inst modes.Shared for (w.entry r.page) pulls has) away
+away-not m w (event.List i p) for pulls has away = unlike (pulls-holds i modes.Shared for (w.entry p) pulls has) away
+away-not m w (event.Write t r v) for pulls has away = unlike (pulls-holds t.inst modes.Excl for (w.entry r.page) pulls has) away
+away-not m w (event.Add t r by) for pulls has away = unlike (pulls-holds t.inst modes.Excl for (w.entry r.page) pulls has) away
+away-not m w (event.Delete t r) for pulls has away = unlike (pulls-holds t.inst modes.Excl for (w.entry r.page) pulls has) away
+away-not m w (event.Insert t p v n) for pulls has away = unlike (pulls-holds t.inst modes.Excl for (w.entry p) pulls has) away
+away-not m w (event.Undo t) for pulls has away = unlike (pulls-holds t.inst modes.Excl for (w.entry (undo_page m t)) pulls has) away.1
+away-not m w (event.RecoverStep i) for pulls has away = away
+away-not m w e for pulls has away = absurd (cc)
 
 -- it isn't refused for want of the page then
-pub no-need : (m : State) (w : Pages) (e : Event) (mode : Mode) (r : Reply) (m' : State) (w' : Pages) → IsOfOne e
-    → puller m e ≡ Some (record { inst = 1; mode = mode }) → holds_as mode (w.entry (page_of m e)) 1 ≡ true → Moves m w e r m' w' → is_need r ≡ false
-no-need m w e mode (reply.Refused (R.NeedPage place)) m' w' one for has moves =
-    absurd (away-not m w e mode one for has (cause-said m w e (R.NeedPage place) m' w' Cause.Away moves refl (named e one)))
-  where
-    named : (e : Event) → IsOfOne e → decided e Cause.Away ≡ true
-    named (event.RecoverStep i) one = absurd one
-    named e one = refl
-no-need m w e mode r m' w' one for has moves = refl
+pub no-need : (m : State) (w : Pages) (e : Event) (for : Puller) (r : Reply) (m' : State) (w' : Pages) → decided e Cause.Away ≡ true
+    → puller m e ≡ Some for → holds_as for.mode (w.entry (page_of m e)) for.inst ≡ true → Moves m w e r m' w' → is_need r ≡ false
+no-need m w e for (reply.Refused (R.NeedPage place)) m' w' named pulls has moves =
+    absurd (away-not m w e for pulls has (cause-said m w e (R.NeedPage place) m' w' Cause.Away moves refl named))
+no-need m w e for r m' w' named pulls has moves = refl
 
 -- ---- an ask that is answered Have
 
-locked-holds : (mode : Mode) → holds_as mode (locked 1 mode) 1 ≡ true
-locked-holds modes.Shared = refl
-locked-holds modes.Excl = refl
+locked-holds : (i : ℕ) (mode : Mode) → holds_as mode (locked i mode) i ≡ true
+locked-holds i modes.Shared = ap (λ (b : Bool). cond b true false) (eq-eqb i i refl)
+locked-holds i modes.Excl = eq-eqb i i refl
 
-raised-holds : (mode : Mode) (e : Entry) → may_raise 1 e ≡ true → holds_as mode (raised 1 e) 1 ≡ true
-raised-holds modes.Shared (Entry.Shared set writer) may = refl
-raised-holds modes.Excl (Entry.Shared set writer) may = refl
-raised-holds mode Entry.Free may = absurd (cc)
-raised-holds mode (Entry.Excl holder dirty) may = absurd (cc)
-raised-holds mode (Entry.Moving to m rest dirty) may = absurd (cc)
-raised-holds mode Entry.Lost may = absurd (cc)
+raised-holds : (i : ℕ) (mode : Mode) (e : Entry) → may_raise i e ≡ true → holds_as mode (raised i e) i ≡ true
+raised-holds i modes.Shared (Entry.Shared set writer) may = eq-eqb i i refl
+raised-holds i modes.Excl (Entry.Shared set writer) may = eq-eqb i i refl
+raised-holds i mode Entry.Free may = absurd (cc)
+raised-holds i mode (Entry.Excl holder dirty) may = absurd (cc)
+raised-holds i mode (Entry.Moving to m rest dirty) may = absurd (cc)
+raised-holds i mode Entry.Lost may = absurd (cc)
 
 -- the page is there then
-pub gets-holds : (p : ℕ) (mode : Mode) (w w' : Pages) → Gets 1 p mode w w' → holds_as mode (w'.entry p) 1 ≡ true
-gets-holds p mode w w' h = subst (λ (x : Pages). holds_as mode (x.entry p) 1 ≡ true) (sym h.1)
-    (go (holds_as mode (w.entry p) 1) (is_free (w.entry p)) refl refl h.0)
+pub gets-holds : (i p : ℕ) (mode : Mode) (w w' : Pages) → Gets i p mode w w' → holds_as mode (w'.entry p) i ≡ true
+gets-holds i p mode w w' h = subst (λ (x : Pages). holds_as mode (x.entry p) i ≡ true) (sym h.1)
+    (go (holds_as mode (w.entry p) i) (is_free (w.entry p)) refl refl h.0)
   where
-    now-there : (to : Entry) → holds_as mode to 1 ≡ true → holds_as mode ((placed p to w).entry p) 1 ≡ true
-    now-there to has = subst (λ (b : Bool). holds_as mode (cond {A = Entry} b to (w.entry p)) 1 ≡ true) (sym (eq-eqb p p refl)) has
+    now-there : (to : Entry) → holds_as mode to i ≡ true → holds_as mode ((placed p to w).entry p) i ≡ true
+    now-there to has = subst (λ (b : Bool). holds_as mode (cond {A = Entry} b to (w.entry p)) i ≡ true) (sym (eq-eqb p p refl)) has
 
-    go : (b c : Bool) → holds_as mode (w.entry p) 1 ≡ b → is_free (w.entry p) ≡ c → (b || (c || may_raise 1 (w.entry p))) ≡ true
-        → holds_as mode ((cond {A = Pages} b w (placed p (cond {A = Entry} b (w.entry p) (cond {A = Entry} c (locked 1 mode) (raised 1 (w.entry p)))) w)).entry p) 1 ≡ true
+    go : (b c : Bool) → holds_as mode (w.entry p) i ≡ b → is_free (w.entry p) ≡ c → (b || (c || may_raise i (w.entry p))) ≡ true
+        → holds_as mode ((cond {A = Pages} b w (placed p (cond {A = Entry} b (w.entry p) (cond {A = Entry} c (locked i mode) (raised i (w.entry p)))) w)).entry p) i ≡ true
     go true c has free may = has
-    go false true has free may = now-there (locked 1 mode) (locked-holds mode)
-    go false false has free may = now-there (raised 1 (w.entry p)) (raised-holds mode (w.entry p) may)
+    go false true has free may = now-there (locked i mode) (locked-holds i mode)
+    go false false has free may = now-there (raised i (w.entry p)) (raised-holds i mode (w.entry p) may)
 
--- ---- which page is pulled
+-- ---- which page is pulled, and for whom
 
-some-same : (a x : ℕ × Mode) → Some a ≡ Some x → a ≡ x
+-- for whom a page is pulled that an event needs
+abbrev pub puller_in : ℕ × ℕ × Mode → Puller
+puller_in x = record { inst = x.0; mode = x.2 }
+
+some-same : (a x : ℕ × ℕ × Mode) → Some a ≡ Some x → a ≡ x
 some-same a x is = ap got is
   where
-    got : Option (ℕ × Mode) → ℕ × Mode
+    got : Option (ℕ × ℕ × Mode) → ℕ × ℕ × Mode
     got None = a
     got (Some y) = y
 
-pub need-some : (m : State) (e : Event) (x : ℕ × Mode) → IsOfOne e → need_of e ≡ Some x
-    → (puller m e ≡ Some (record { inst = 1; mode = x.1 })) × (x.0 ≡ page_of m e) × IsPulled m e x.0
-need-some m (event.Read t r) x one is =
-    let same : (r.page, modes.Shared) ≡ x = some-same (r.page, modes.Shared) x is in
-    subst (λ (y : ℕ × Mode). (puller m (event.Read t r) ≡ Some (record { inst = 1; mode = y.1 })) × (y.0 ≡ r.page) × IsPulled m (event.Read t r) y.0) same
-    (ap (λ (i : ℕ). Some (record { inst = i; mode = modes.Shared })) one, refl, refl)
-need-some m (event.List i p) x one is =
-    let same : (p, modes.Shared) ≡ x = some-same (p, modes.Shared) x is in
-    subst (λ (y : ℕ × Mode). (puller m (event.List i p) ≡ Some (record { inst = 1; mode = y.1 })) × (y.0 ≡ p) × IsPulled m (event.List i p) y.0) same
-    (ap (λ (j : ℕ). Some (record { inst = j; mode = modes.Shared })) one, refl, refl)
-need-some m (event.Write t r v) x one is =
-    let same : (r.page, modes.Excl) ≡ x = some-same (r.page, modes.Excl) x is in
-    subst (λ (y : ℕ × Mode). (puller m (event.Write t r v) ≡ Some (record { inst = 1; mode = y.1 })) × (y.0 ≡ r.page) × IsPulled m (event.Write t r v) y.0) same
-    (ap (λ (i : ℕ). Some (record { inst = i; mode = modes.Excl })) one, refl, refl)
-need-some m (event.Add t r by) x one is =
-    let same : (r.page, modes.Excl) ≡ x = some-same (r.page, modes.Excl) x is in
-    subst (λ (y : ℕ × Mode). (puller m (event.Add t r by) ≡ Some (record { inst = 1; mode = y.1 })) × (y.0 ≡ r.page) × IsPulled m (event.Add t r by) y.0) same
-    (ap (λ (i : ℕ). Some (record { inst = i; mode = modes.Excl })) one, refl, refl)
-need-some m (event.Delete t r) x one is =
-    let same : (r.page, modes.Excl) ≡ x = some-same (r.page, modes.Excl) x is in
-    subst (λ (y : ℕ × Mode). (puller m (event.Delete t r) ≡ Some (record { inst = 1; mode = y.1 })) × (y.0 ≡ r.page) × IsPulled m (event.Delete t r) y.0) same
-    (ap (λ (i : ℕ). Some (record { inst = i; mode = modes.Excl })) one, refl, refl)
-need-some m (event.Insert t p v n) x one is =
-    let same : (p, modes.Excl) ≡ x = some-same (p, modes.Excl) x is in
-    subst (λ (y : ℕ × Mode). (puller m (event.Insert t p v n) ≡ Some (record { inst = 1; mode = y.1 })) × (y.0 ≡ p) × IsPulled m (event.Insert t p v n) y.0) same
-    (ap (λ (i : ℕ). Some (record { inst = i; mode = modes.Excl })) one, refl, refl)
-need-some m e x one is = absurd (cc)
+abbrev Needs : State → Event → ℕ × ℕ × Mode → Type 0
+Needs m e x = ((s : State) → puller s e ≡ Some (puller_in x)) × (x.1 ≡ page_of m e) × IsPulled m e x.1 × (decided e Cause.Away ≡ true)
 
-pub need-none : (m : State) (e : Event) → IsOfOne e → need_of e ≡ None → is_some (puller m e) ≡ false
-need-none m (event.Read t r) one is = absurd (cc)
-need-none m (event.List i p) one is = absurd (cc)
-need-none m (event.Write t r v) one is = absurd (cc)
-need-none m (event.Add t r by) one is = absurd (cc)
-need-none m (event.Delete t r) one is = absurd (cc)
-need-none m (event.Insert t p v n) one is = absurd (cc)
-need-none m (event.Undo t) one is = absurd one
-need-none m (event.RecoverStep i) one is = absurd one
-need-none m e one is = refl
+need-as : (m : State) (e : Event) (a x : ℕ × ℕ × Mode) → Needs m e a → Some a ≡ Some x → Needs m e x
+need-as m e a x needs is = subst (λ (y : ℕ × ℕ × Mode). Needs m e y) (some-same a x is) needs
 
-pub wanted-none : (e : Event) (r : Reply) → IsOfOne e → wanted_of e r ≡ None → (is_need r ≡ false) ⊎ ((m : State) → is_some (puller m e) ≡ false)
-wanted-none e (reply.Refused (R.NeedPage place)) one is = inr (λ m. need-none m e one is)
-wanted-none e r one is = inl refl
+pub need-some : (m : State) (e : Event) (x : ℕ × ℕ × Mode) → need_of m e ≡ Some x → Needs m e x
+need-some m (event.Read t r) x is = need-as m (event.Read t r) (t.inst, r.page, modes.Shared) x (λ s. refl, refl, refl, refl) is
+need-some m (event.List i p) x is = need-as m (event.List i p) (i, p, modes.Shared) x (λ s. refl, refl, refl, refl) is
+need-some m (event.Write t r v) x is = need-as m (event.Write t r v) (t.inst, r.page, modes.Excl) x (λ s. refl, refl, refl, refl) is
+need-some m (event.Add t r by) x is = need-as m (event.Add t r by) (t.inst, r.page, modes.Excl) x (λ s. refl, refl, refl, refl) is
+need-some m (event.Delete t r) x is = need-as m (event.Delete t r) (t.inst, r.page, modes.Excl) x (λ s. refl, refl, refl, refl) is
+need-some m (event.Insert t p v n) x is = need-as m (event.Insert t p v n) (t.inst, p, modes.Excl) x (λ s. refl, refl, refl, refl) is
+need-some m (event.Undo t) x is = need-as m (event.Undo t) (t.inst, undo_page m t, modes.Excl) x (λ s. refl, refl, refl, refl) is
+need-some m e x is = absurd (cc)
 
-pub wanted-some : (e : Event) (r : Reply) (x : ℕ × Mode) → wanted_of e r ≡ Some x → (is_need r ≡ true) × (need_of e ≡ Some x)
-wanted-some e (reply.Refused (R.NeedPage place)) x is = (refl, is)
-wanted-some e r x is = absurd (cc)
+need-none : (m : State) (e : Event) → IsServed e → need_of m e ≡ None → (s : State) → is_some (puller s e) ≡ false
+need-none m (event.Read t r) served is s = absurd (cc)
+need-none m (event.List i p) served is s = absurd (cc)
+need-none m (event.Write t r v) served is s = absurd (cc)
+need-none m (event.Add t r by) served is s = absurd (cc)
+need-none m (event.Delete t r) served is s = absurd (cc)
+need-none m (event.Insert t p v n) served is s = absurd (cc)
+need-none m (event.Undo t) served is s = absurd (cc)
+need-none m (event.RecoverStep i) served is s = absurd served
+need-none m e served is s = refl
+
+pub wanted-none : (m : State) (e : Event) (r : Reply) → IsServed e → wanted_of m e r ≡ None
+    → (is_need r ≡ false) ⊎ ((s : State) → is_some (puller s e) ≡ false)
+wanted-none m e (reply.Refused (R.NeedPage place)) served is = inr (need-none m e served is)
+wanted-none m e r served is = inl refl
+
+pub wanted-some : (m : State) (e : Event) (r : Reply) (x : ℕ × ℕ × Mode) → wanted_of m e r ≡ Some x
+    → (is_need r ≡ true) × (need_of m e ≡ Some x)
+wanted-some m e (reply.Refused (R.NeedPage place)) x is = (refl, is)
+wanted-some m e r x is = absurd (cc)
+
+pub need-is : (r : Reply) → is_need r ≡ true → (place : Place) × (r ≡ reply.Refused (R.NeedPage place))
+need-is (reply.Refused (R.NeedPage place)) need = (place, refl)
+need-is r need = absurd (cc)
+
+pub needs-none : (m : State) (e : Event) (r : Reply) → is_need r ≡ false → None ≡ wanted_of m e r
+needs-none m e (reply.Refused (R.NeedPage place)) none = absurd (cc)
+needs-none m e r none = refl
+
+-- no other event has its page pulled
+pub need-else : (m : State) (e : Event) → ((t : TxnId) (r : Rid) → e ≡ event.Read t r → ⊥)
+    → ((t : TxnId) (r : Rid) (v : List ℕ) → e ≡ event.Write t r v → ⊥) → ((t : TxnId) (r : Rid) (by : ℤ) → e ≡ event.Add t r by → ⊥)
+    → ((t : TxnId) (p : ℕ) (v : List ℕ) (n : ℕ) → e ≡ event.Insert t p v n → ⊥) → ((t : TxnId) (r : Rid) → e ≡ event.Delete t r → ⊥)
+    → ((t : TxnId) → e ≡ event.Undo t → ⊥) → ((i p : ℕ) → e ≡ event.List i p → ⊥) → None ≡ need_of m e
+need-else m (event.Read t r) read write add insert delete undo list = absurd (read t r refl)
+need-else m (event.Write t r v) read write add insert delete undo list = absurd (write t r v refl)
+need-else m (event.Add t r by) read write add insert delete undo list = absurd (add t r by refl)
+need-else m (event.Insert t p v n) read write add insert delete undo list = absurd (insert t p v n refl)
+need-else m (event.Delete t r) read write add insert delete undo list = absurd (delete t r refl)
+need-else m (event.Undo t) read write add insert delete undo list = absurd (undo t refl)
+need-else m (event.List i p) read write add insert delete undo list = absurd (list i p refl)
+need-else m e read write add insert delete undo list = refl

@@ -7,7 +7,7 @@ use Rattle.sd_world.specs.Serving.{Telling}
 use Rattle.sd_drive.specs.declared.driver.Driver.{Driver}
 use Rattle.sd_drive.specs.Driven.{IsIn}
 use Rattle.sd_drive.specs.Driving.{IsTold, World, ahead, works_of}
-use Rattle.sd_drive.specs.Reaching.{AreDriven, AtLine, DrivesLine, DrivesSome, Reached}
+use Rattle.sd_drive.specs.Reaching.{AreDriven, AtLine, DrivesLine, DrivesSome, IsSame, Reached}
 use Rattle.sd_drive.specs.Running.{Start}
 
 drop-all : (lines : List Line) → drop (length lines) lines ≡ []
@@ -18,14 +18,14 @@ drop-all (line ∷ lines) = drop-all lines
 the-line : (lines : List Line) (n : ℕ) (line : Line) → n < length lines → line ≡ get_or lines n line → slice_get lines n ≡ Some line
 the-line lines n line lt is = slice_get-get_or lines n line lt ∙ ap (λ (x : Line). Some x) (sym is)
 
-module _ {G : Type 0} (tell : Telling G) (lines : List Line) (old : Driver G) (d : AreDriven lines old.pages) where
+module _ {G : Type 0} (tell : Telling G) (lines : List Line) (old : Driver G) (d : AreDriven lines old.insts old.pages) where
   -- wherever the driver began, the first n lines are done
   abbrev pub IsAt : Driver G → ℕ → Type 0
   IsAt here n = (start : Start G) (w : World) → Reached tell start lines 0 old w → (w' : World) × Reached tell start lines n here w'
 
-  module _ (here : Driver G) (pages : here.pages ≡ old.pages) (n : ℕ) (on : IsAt here n) where
-    driven-here : AreDriven lines here.pages
-    driven-here = subst (AreDriven lines) (sym pages) d
+  module _ (here : Driver G) (same : IsSame old here) (n : ℕ) (on : IsAt here n) where
+    driven-here : AreDriven lines here.insts here.pages
+    driven-here = subst (λ (n : ℕ). AreDriven lines n here.pages) (sym same.0) (subst (λ (n : ℕ). AreDriven lines old.insts n) (sym same.1) d)
 
     pub at-line : (line : Line) → n < length lines → line ≡ get_or lines n line
         → (start : Start G) × (w : World) × Reached tell start lines 0 old w → AtLine tell here line

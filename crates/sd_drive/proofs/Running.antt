@@ -1,17 +1,18 @@
 -- A run goes on by one call of the hall: one that is noted, and one that found no memory. It serves whoever drives the hall.
-use Rattle.std.proofs.Common.{◌≡◌, ◌⊎◌, ⊎_elim, ℕ, ◌≤◌, List, [], ◌∷◌, ◌++◌, refl, sym, ◌∙◌, subst, append_assoc, append-nil, ap, arith, inl, inr}
-use Rattle.std.specs.Prelude.{None, Some}
+use Rattle.std.proofs.Common.{◌≡◌, ◌⊎◌, ⊎_elim, ℕ, ◌+◌, ◌≤◌, List, [], ◌∷◌, ◌++◌, refl, sym, ◌∙◌, subst, append_assoc, append-nil, ap, arith, inl, inr}
+use Rattle.std.specs.Prelude.{None, Some, min}
 use Rattle.sd_base.specs.Streams.{Rises}
 use Rattle.sd_base.specs.declared.refusal.Refusal.TheVariants as R
 use Rattle.sd_rig.specs.Devices.{Elapses, Image, Leaves, Span}
 use Rattle.sd_rig.specs.Spans.{span-then, span-weaker, elapses-then}
 use Rattle.sd_model.specs.declared.event.Entry.{Entry}
 use Rattle.sd_model.specs.declared.event.Event.{Event}
-use Rattle.sd_model.specs.declared.event.Event.TheVariants.{Join}
+use Rattle.sd_model.specs.declared.event.Event.TheVariants.{Arm, FailAll, Join}
+use Rattle.sd_model.specs.declared.event.Reply.{Reply}
 use Rattle.sd_model.specs.declared.event.Reply.TheVariants.{Refused}
 use Rattle.sd_model.specs.State.{State}
 use Rattle.sd_world.specs.Leading.{Leads}
-use Rattle.sd_world.specs.Serving.{Core, FaultsAre, KeepsEarlier, Passes, Telling}
+use Rattle.sd_world.specs.Serving.{Core, FaultsAre, FewFaults, KeepsEarlier, Passes, Telling}
 use Rattle.sd_state.specs.Complexes.{parts}
 use Rattle.sd_state.specs.declared.complex.Complex.{Complex}
 use Rattle.sd_fits.specs.Serving.{Serving, fits_by, stands_for}
@@ -31,6 +32,35 @@ drives-grow es e old mid new h a = drives-join es (e ∷ []) old mid new h (new,
 pub faults-grow : (es : List Entry) (e : Entry) (a b c : ℕ) → FaultsOf es a b → FaultsAre e.event e.reply b c → FaultsOf (es ++ e ∷ []) a c
 faults-grow [] e a b c h f = (c, subst (λ (n : ℕ). FaultsAre e.event e.reply n c) h f, refl)
 faults-grow (x ∷ es) e a b c h f = (h.0, h.1, faults-grow es e h.0 b c h.2 f)
+
+-- a count that stands at its end may not rise, and never falls below it
+few-grow : (e : Event) (top a b : ℕ) → FewFaults e a b → min a top ≤ b
+few-grow (FailAll pick) top a b h = omega (arith, h)
+few-grow (Arm trouble) top a b h = omega (arith, h)
+few-grow e top a b h = omega (arith, h)
+
+rise-grows : (top a b : ℕ) → min (a + 1) top ≤ b → min a top ≤ b
+rise-grows top a b h = omega (arith, h)
+
+fault-grows : (e : Event) (r : Reply) (a b : ℕ) → FaultsAre e r a b → min a 18446744073709551615 ≤ b
+fault-grows e (Refused R.Failed) a b h = rise-grows 18446744073709551615 a b h
+fault-grows e (Refused R.CutCommit) a b h = rise-grows 18446744073709551615 a b h
+fault-grows e r a b h = few-grow e 18446744073709551615 a b h
+
+grows-then : (top a b c : ℕ) → min a top ≤ b → min b top ≤ c → min a top ≤ c
+grows-then top a b c h k = omega (arith, h, k)
+
+faults-rise : (es : List Entry) (a b : ℕ) → FaultsOf es a b → min a 18446744073709551615 ≤ b
+faults-rise [] a b h = few-grow (Join 0) 18446744073709551615 a b h
+faults-rise (e ∷ es) a b h =
+    grows-then 18446744073709551615 a h.0 b (fault-grows e.event e.reply a h.0 h.1) (faults-rise es h.0 b h.2)
+
+rises-then : (top a b c : ℕ) → min a top ≤ b → min (b + 1) top ≤ c → min (a + 1) top ≤ c
+rises-then top a b c h k = omega (arith, h, k)
+
+-- a fault behind some entries raises the count from where it stood before them
+rises-later : (es : List Entry) (a b c : ℕ) → FaultsOf es a b → Rises b c → Rises a c
+rises-later es a b c h k = rises-then 18446744073709551615 a b c (faults-rise es a b h) k
 
 -- ---- images on the way
 
@@ -156,8 +186,8 @@ module _ {G : Type 0} (tell : Telling G) (start : Start G) (entries : List Entry
   -- A join in which a device fails ends the opening.
   pub ran-breaks : (c c' : Complex G) (i : ℕ) → KeepsEarlier tell c'.rig
       → ((dev : ℕ) → dev ≤ 8 → tell.leaves c'.rig dev (tell.seen c'.rig dev)) → Ran tell start c entries w
-      → tell.faults c.rig ≡ tell.faults start.rig → Serving tell (Join i) (Some (Refused R.Failed)) c c' → Breaks tell start c'.rig
-  ran-breaks c c' i earlier seen r quiet s =
+      → Serving tell (Join i) (Some (Refused R.Failed)) c c' → Breaks tell start c'.rig
+  ran-breaks c c' i earlier seen r s =
       let served = s.0 w.core r.fits in
       let core = served.0 in
       let does = served.1 in
@@ -176,7 +206,7 @@ module _ {G : Type 0} (tell : Telling G) (start : Start G) (entries : List Entry
             (span-weaker (tell.moment start.rig) (tell.since c.rig) (StandsOnWay start.world entries w) either (λ img s. inl s) r.runs.moments)
             (span-weaker (tell.moment c.rig) (tell.since c'.rig) (λ img. stands_for img w.core.scene.state ⊎ stands_for img core.scene.state) either
             (λ img s. ⊎_elim (λ s. inl (way-ends start.world w entries img r.drives s)) (λ s. inr s) s) does.passes.span);
-        faults = subst (λ (n : ℕ). Rises n (tell.faults c'.rig)) quiet s.1;
+        faults = rises-later entries (tell.faults start.rig) (tell.faults c.rig) (tell.faults c'.rig) r.runs.faults s.1;
       }
 
 -- ---- faults

@@ -1,9 +1,7 @@
 -- A table line lists one page after another. It serves the goals of `table` in driver.rt.
-use Rattle.std.proofs.Common.{◌≡◌, ℕ, ◌+◌, ◌<◌, ◌≤◌, Bool, true, false, cond, ltb, List, [], ◌∷◌, ◌++◌, length, take, drop, refl, sym, ap, ap₂, ◌∙◌, subst}
+use Rattle.std.proofs.Common.{◌≡◌, ℕ, zero, suc, ap₂, ◌+◌, ◌<◌, ◌≤◌, Bool, true, false, cond, ltb, List, [], ◌∷◌, ◌++◌, drop, refl, sym, ap, ◌∙◌, subst, arith}
 use Rattle.std.specs.Prelude.{Option, None, Some, is_some, slice_get, unwrap_or}
 use Rattle.std.proofs.lemmas.Bool.{le-ltb, lt-ltb}
-use Rattle.std.proofs.lemmas.List.{append-nil}
-use Rattle.sd_base.specs.declared.ids.TxnId.{TxnId}
 use Rattle.sd_model.specs.declared.event.Entry.{Entry}
 use Rattle.sd_model.specs.declared.event.Event.TheVariants as event
 use Rattle.sd_model.specs.declared.event.Reply.{Reply}
@@ -12,25 +10,51 @@ use Rattle.sd_model.specs.State.{State}
 use Rattle.sd_script.specs.declared.line.Form.{Form}
 use Rattle.sd_script.specs.declared.line.Form.TheVariants as form
 use Rattle.sd_script.specs.declared.line.Line.{Line}
-use Rattle.sd_script.specs.Order.{begun, begun_by}
+use Rattle.sd_script.specs.Order.{begun_by}
 use Rattle.sd_world.specs.Serving.{Telling}
 use Rattle.sd_drive.specs.declared.driver.Driver.{Driver}
 use Rattle.sd_drive.specs.Driven.{IsIn}
-use Rattle.sd_drive.specs.Driving.{Cursor, Known, Work, World, ahead, begins, cursor_in, done, followed, goes_on, is_up, lister, start_of, stays, works_of}
+use Rattle.sd_state.specs.Complexes.{parts}
+use Rattle.sd_state.specs.Parts.{IsShape, Parts, status_at}
+use Rattle.sd_drive.specs.Driving.{first_from, lister_by, Cursor, Known, Work, World, ahead, begins, cursor_in, goes_on, is_up, lister, start_of, stays, works_of}
 use Rattle.sd_drive.specs.Lines.{Names, lists, named_by}
 use Rattle.sd_drive.specs.Operating.{Came, DueIn, IsDueFor, Operates, OperatesSome}
 use Rattle.sd_drive.specs.Pulls.{Pull}
-use Rattle.sd_drive.specs.Reaching.{AreDriven, AtLine, DrivesLine, DrivesSome, ListsNext, Reached, is_rows, named}
-use Rattle.sd_drive.proofs.Naming.{begun-more, drop-at}
+use Rattle.sd_drive.specs.Reaching.{AreDriven, AtLine, DrivesLine, DrivesSome, IsSame, KnowsAll, ListsNext, Reached, is_rows}
+use Rattle.sd_drive.proofs.Lines.{came-ended, goes-there, knows-more}
+use Rattle.sd_drive.proofs.Naming.{drop-at}
 use Rattle.sd_drive.specs.Running.{Start}
 
--- of one instance it is instance 1 that lists
-lister-one : (m : State) (insts : ℕ) → insts ≡ 1 → lister m insts ≡ 1
-lister-one m insts one = ap (lister m) one ∙ go (is_up (m.inst 1).status)
-  where
-    go : (b : Bool) → unwrap_or (cond {A = Option ℕ} b (Some 1) None) 1 ≡ 1
-    go true = refl
-    go false = refl
+-- ---- who lists
+
+-- tests that say the same of these instances find the same one
+first-same : (f g : ℕ → Bool) (i n : ℕ) → ((j : ℕ) → i ≤ j → j < i + n → f j ≡ g j) → first_from f i n ≡ first_from g i n
+first-same f g i zero same = refl
+first-same f g i (suc n) same = ap₂ (λ (b : Bool) (o : Option ℕ). cond {A = Option ℕ} b (Some i) o) (same i (omega arith) (omega arith))
+    (first-same f g (i + 1) n (λ j le lt. same j (omega (arith, le)) (omega (arith, lt))))
+
+-- the first of them passes, or it is one behind it
+pub first-here : (f : ℕ → Bool) (i n : ℕ) → 1 ≤ n → f i ≡ true → first_from f i n ≡ Some i
+first-here f i zero some yes_ = absurd (omega (arith, some))
+first-here f i (suc n) some yes_ = ap (λ (b : Bool). cond {A = Option ℕ} b (Some i) (first_from f (i + 1) n)) yes_
+
+pub first-behind : (f : ℕ → Bool) (i n m : ℕ) → n ≡ m + 1 → f i ≡ false → first_from f i n ≡ first_from f (i + 1) m
+first-behind f i zero m is no_ = absurd (omega (arith, is))
+first-behind f i (suc n) m is no_ =
+    let same : n ≡ m = omega (arith, is) in
+    ap (λ (b : Bool). cond {A = Option ℕ} b (Some i) (first_from f (i + 1) n)) no_ ∙ ap (first_from f (i + 1)) same
+
+pub first-none : (f : ℕ → Bool) (i n : ℕ) → n ≡ 0 → first_from f i n ≡ None
+first-none f i n is = ap (first_from f i) is
+
+-- the instances stand as the world says, so the one that the code finds lists
+lister-same : (c : Parts) (m : State) (insts : ℕ) → insts ≤ 8 → ((j : ℕ) → 1 ≤ j → j ≤ 8 → status_at c j ≡ (m.inst j).status)
+    → lister_by (status_at c) insts ≡ lister m insts
+lister-same c m insts most same = ap (λ (o : Option ℕ). unwrap_or o 1)
+    (first-same (λ j. is_up (status_at c j)) (λ j. is_up (m.inst j).status) 1 insts
+    (λ j low lt. ap is_up (same j low (omega (arith, lt, most)))))
+
+-- ---- how a list goes on
 
 -- it lists up to the last page
 goes : (m : State) (known : Known) (line : Line) (i p : ℕ) (r : Reply) → is_rows r ≡ true
@@ -44,11 +68,11 @@ goes-not : (m : State) (known : Known) (line : Line) (i p : ℕ) (r : Reply) →
 goes-not m known line i p (reply.Rows rows) no_ = absurd (cc)
 goes-not m known line i p r no_ = refl
 
-table-names : (f : Form) (r : Reply) (names : Names) → f ≡ form.Table → named_by f r names ≡ names
-table-names f r names is = ap (λ (x : Form). named_by x r names) is
+table-names : (f : Form) → f ≡ form.Table → (r : Reply) (names : Names) → named_by f r names ≡ names
+table-names f is r names = ap (λ (x : Form). named_by x r names) is
 
 module _ {G : Type 0} (tell : Telling G) (start : Start G) (lines : List Line) (n : ℕ) (line : Line) (at : slice_get lines n ≡ Some line)
-    (is : line.form ≡ form.Table) (old : Driver G) (w : World) (r : Reached tell start lines n old w) where
+    (is : line.form ≡ form.Table) (old : Driver G) (w : World) (r : Reached tell start lines n old w) (i : ℕ) where
   abbrev known : Known
   known = w.told.known
 
@@ -57,23 +81,32 @@ module _ {G : Type 0} (tell : Telling G) (start : Start G) (lines : List Line) (
 
   -- page p is listed next
   abbrev pub Lists-next : Driver G → ℕ → Type 0
-  Lists-next new p = (w' : World) × IsIn tell start new.hall w' × IsDueFor line.session line.number (event.List 1 p) known line rest (Cursor.Lists 1 p) w'
+  Lists-next new p = (w' : World) × IsIn tell start new.hall w' × IsDueFor line.session line.number (event.List i p) known line rest (Cursor.Lists i p) w'
 
-  starts-so : (m : State) → start_of m known (Work.Do line) ≡ Some (Cursor.Lists 1 0)
-  starts-so m = ap (λ (f : Form). begins (lists f) m known f) is ∙ ap (λ (i : ℕ). Some (Cursor.Lists i 0)) (lister-one m known.insts r.insts)
+  starts-so : (m : State) → start_of m known (Work.Do line) ≡ Some (Cursor.Lists (lister m known.insts) 0)
+  starts-so m = ap (λ (f : Form). begins (lists f) m known f) is
+
+  -- who was found by how the instances stand is the one that lists
+  pub finds-lister : old.insts ≤ 8 → i ≡ lister_by (status_at (parts old.hall.complex)) old.insts → i ≡ lister w.core.scene.state known.insts
+  finds-lister most found =
+      let m = w.core.scene.state in
+      found ∙ lister-same (parts old.hall.complex) m old.insts most (λ j low high. (r.there.ran.fits.good.instances j low high).status)
+      ∙ ap (lister m) (sym r.knows.insts)
 
   has-one : (m : State) → is_some (start_of m known (Work.Do line)) ≡ true
   has-one m = ap (λ (o : Option Cursor). is_some o) (starts-so m)
 
-  pub first-page : IsDueFor line.session line.number (event.List 1 0) known line rest (Cursor.Lists 1 0) w
-  first-page =
+  pub first-page : i ≡ lister w.core.scene.state known.insts
+      → IsDueFor line.session line.number (event.List i 0) known line rest (Cursor.Lists i 0) w
+  first-page lister_is =
       let m = w.core.scene.state in
+      let starts = starts-so m ∙ ap (λ (j : ℕ). Some (Cursor.Lists j 0)) (sym lister_is) in
       record {
         stands = record {
           known_is = refl;
           first = r.left m ∙ ap (λ (ls : List Line). ahead m known (works_of ls)) (drop-at lines n line at)
               ∙ ap (λ (b : Bool). cond {A = List Work} b (Work.Do line ∷ rest) (ahead m known rest)) (has-one m);
-          at = subst (λ (o : Option Cursor). cursor_in m known (Work.Do line) o ≡ Some (Cursor.Lists 1 0)) (sym r.rests) (starts-so m);
+          at = subst (λ (o : Option Cursor). cursor_in m known (Work.Do line) o ≡ Some (Cursor.Lists i 0)) (sym r.rests) starts;
           idle = r.idle;
           begins = has-one;
           event = refl;
@@ -82,28 +115,23 @@ module _ {G : Type 0} (tell : Telling G) (start : Start G) (lines : List Line) (
         number_is = refl;
       }
 
-  module _ (new : Driver G) (p : ℕ) (w1 : World) (due : IsDueFor line.session line.number (event.List 1 p) known line rest (Cursor.Lists 1 p) w1)
-      (came : Came tell new.hall line.session line.number (event.List 1 p) line rest (Cursor.Lists 1 p) start w1) where
+  module _ (new : Driver G) (p : ℕ) (w1 : World) (due : IsDueFor line.session line.number (event.List i p) known line rest (Cursor.Lists i p) w1)
+      (came : Came tell new.hall line.session line.number (event.List i p) line rest (Cursor.Lists i p) start w1) where
     abbrev next : Option Cursor
-    next = goes_on came.core.scene.state w1.told.known (Work.Do line) (Cursor.Lists 1 p) came.reply
-
-    there-as : (o : Option Cursor) → next ≡ o
-        → IsIn tell start new.hall (record { told = followed w1.told (Work.Do line) rest came.reply o; core = came.core })
-    there-as o same = subst (λ (x : Option Cursor). IsIn tell start new.hall
-        (record { told = followed w1.told (Work.Do line) rest came.reply x; core = came.core })) same came.there
+    next = goes_on came.core.scene.state w1.told.known (Work.Do line) (Cursor.Lists i p) came.reply
 
     pages-known : w1.told.known.pages ≡ old.pages
-    pages-known = ap (λ (k : Known). k.pages) due.stands.known_is ∙ r.pages
+    pages-known = ap (λ (k : Known). k.pages) due.stands.known_is ∙ r.knows.pages
 
     -- another page is to come
     pub listed-on : is_rows came.reply ≡ true → p + 1 < old.pages → Lists-next new (p + 1)
     listed-on rows lt =
         let m = came.core.scene.state in
-        let goes_there : next ≡ Some (Cursor.Lists 1 (p + 1)) =
-        goes m w1.told.known line 1 p came.reply rows
-        ∙ ap (λ (b : Bool). cond {A = Option Cursor} b (Some (Cursor.Lists 1 (p + 1))) None) (ap (ltb (p + 1)) pages-known ∙ lt-ltb (p + 1) old.pages lt) in (
-          record { told = stays w1.told (Work.Do line) rest (Cursor.Lists 1 (p + 1)) Pull.Idle; core = came.core },
-          there-as (Some (Cursor.Lists 1 (p + 1))) goes_there,
+        let goes_there : next ≡ Some (Cursor.Lists i (p + 1)) =
+        goes m w1.told.known line i p came.reply rows
+        ∙ ap (λ (b : Bool). cond {A = Option Cursor} b (Some (Cursor.Lists i (p + 1))) None) (ap (ltb (p + 1)) pages-known ∙ lt-ltb (p + 1) old.pages lt) in (
+          record { told = stays w1.told (Work.Do line) rest (Cursor.Lists i (p + 1)) Pull.Idle; core = came.core },
+          goes-there tell start lines n line new (event.List i p) (Cursor.Lists i p) w1 came (Some (Cursor.Lists i (p + 1))) goes_there,
           record {
             stands = record {
               known_is = due.stands.known_is;
@@ -119,49 +147,41 @@ module _ {G : Type 0} (tell : Telling G) (start : Start G) (lines : List Line) (
           },
         )
 
-    same-begun : begun (take (n + 1) lines) ≡ begun (take n lines)
-    same-begun = begun-more lines n line at ∙ ap (λ (f : Form). begun (take n lines) ++ begun_by f) is ∙ append-nil (begun (take n lines))
-
-    ended : next ≡ None → new.pages ≡ old.pages → new.txns ≡ old.txns → (w' : World) × Reached tell start lines (n + 1) new w'
-    ended stops pages txns =
-        let names_now : named_by line.form came.reply w1.told.known.names ≡ known.names =
-        table-names line.form came.reply w1.told.known.names is ∙ ap (λ (k : Known). k.names) due.stands.known_is in (
-          record { told = done w1.told (Work.Do line) rest came.reply; core = came.core },
-          record {
-            there = there-as None stops;
-            rests = refl;
-            idle = refl;
-            left = λ m. refl;
-            insts = ap (λ (k : Known). k.insts) due.stands.known_is ∙ r.insts;
-            pages = pages-known ∙ sym pages;
-            names = λ q. ap₂ (λ l ts. named l ts.items q) same-begun txns ∙ r.names q ∙ ap (λ (names : Names). names q) (sym names_now);
-            count = ap (λ ts. length ts.items) txns ∙ r.count ∙ ap (λ l. length l) (sym same-begun);
-            each = subst (λ (names : Names). (q : List ℕ) (t : TxnId) → names q ≡ Some t → t.inst ≡ 1) (sym names_now) r.each;
-          },
-        )
+    ended : next ≡ None → IsSame old new → new.txns ≡ old.txns → (w' : World) × Reached tell start lines (n + 1) new w'
+    ended stops same txns = came-ended tell start lines n line new (event.List i p) (Cursor.Lists i p) w1 came stops (table-names line.form is)
+        (subst (KnowsAll lines (n + 1) new) (sym due.stands.known_is)
+        (knows-more tell start lines n line at old w r new (ap begun_by is) same txns))
 
     -- it was the last page
-    pub listed-last : is_rows came.reply ≡ true → old.pages ≤ p + 1 → new.pages ≡ old.pages → new.txns ≡ old.txns
+    pub listed-last : is_rows came.reply ≡ true → old.pages ≤ p + 1 → IsSame old new → new.txns ≡ old.txns
         → (w' : World) × Reached tell start lines (n + 1) new w'
-    listed-last rows le = ended (goes came.core.scene.state w1.told.known line 1 p came.reply rows
-        ∙ ap (λ (b : Bool). cond {A = Option Cursor} b (Some (Cursor.Lists 1 (p + 1))) None) (ap (ltb (p + 1)) pages-known ∙ le-ltb (p + 1) old.pages le))
+    listed-last rows le = ended (goes came.core.scene.state w1.told.known line i p came.reply rows
+        ∙ ap (λ (b : Bool). cond {A = Option Cursor} b (Some (Cursor.Lists i (p + 1))) None) (ap (ltb (p + 1)) pages-known ∙ le-ltb (p + 1) old.pages le))
 
     -- or the list was refused
-    pub listed-not : is_rows came.reply ≡ false → new.pages ≡ old.pages → new.txns ≡ old.txns → (w' : World) × Reached tell start lines (n + 1) new w'
-    listed-not none = ended (goes-not came.core.scene.state w1.told.known line 1 p came.reply none)
+    pub listed-not : is_rows came.reply ≡ false → IsSame old new → new.txns ≡ old.txns → (w' : World) × Reached tell start lines (n + 1) new w'
+    listed-not none = ended (goes-not came.core.scene.state w1.told.known line i p came.reply none)
 
 -- ---- as the code has it
 
-module _ {G : Type 0} (tell : Telling G) (old : Driver G) (line : Line) (is : line.form ≡ form.Table) where
+module _ {G : Type 0} (tell : Telling G) (old : Driver G) (line : Line) (is : line.form ≡ form.Table) (i : ℕ) where
   -- wherever the line stands, page p is listed next
   abbrev InTable : Driver G → ℕ → Type 0
-  InTable new p = ListsNext tell old new line p
+  InTable new p = ListsNext tell old new line i p
 
-  pub table-first : InTable old 0
-  table-first start w lines n at d r = (w, r.there, first-page tell start lines n line at is old w r)
+  pub table-first : i ≡ lister_by (status_at (parts old.hall.complex)) old.insts → InTable old 0
+  table-first found start w lines n at d r = (
+    w,
+    r.there,
+    first-page tell start lines n line at is old w r i (finds-lister tell start lines n line at is old w r i d.insts_most found),
+  )
+
+  -- the complex has its shape when it is asked who is up
+  pub table-shape : AtLine tell old line → IsShape (parts old.hall.complex)
+  table-shape a = a.reached.there.ran.fits.good.shape
 
   module _ (here : Driver G) (p : ℕ) (on : InTable here p) where
-    pub table-due : AtLine tell old line → DueIn tell here.hall line.session line.number (event.List 1 p)
+    pub table-due : AtLine tell old line → DueIn tell here.hall line.session line.number (event.List i p)
     table-due a =
         let h = on a.start a.world a.lines a.n a.next a.driven a.reached in
         record {
@@ -170,42 +190,43 @@ module _ {G : Type 0} (tell : Telling G) (old : Driver G) (line : Line) (is : li
           known = a.world.told.known;
           line = line;
           rest = works_of (drop (a.n + 1) a.lines);
-          cursor = Cursor.Lists 1 p;
+          cursor = Cursor.Lists i p;
           there = h.1;
           due = h.2;
         }
 
-    pub table-some : (new : Driver G) → OperatesSome tell here.hall new.hall line.session line.number (event.List 1 p) → DrivesSome tell old new line
+    pub table-some : (new : Driver G) → OperatesSome tell here.hall new.hall line.session line.number (event.List i p) → DrivesSome tell old new line
     table-some new some start w lines n at d r =
         let h = on start w lines n at d r in
-        some start h.0 w.told.known line (works_of (drop (n + 1) lines)) (Cursor.Lists 1 p) h.1 h.2
+        some start h.0 w.told.known line (works_of (drop (n + 1) lines)) (Cursor.Lists i p) h.1 h.2
 
-    module _ (new : Driver G) (came : Operates tell here.hall new.hall line.session line.number (event.List 1 p)) where
-      it-came : (start : Start G) (w : World) (lines : List Line) (n : ℕ) (at : slice_get lines n ≡ Some line) (d : AreDriven lines old.pages)
-          (r : Reached tell start lines n old w)
-          → Came tell new.hall line.session line.number (event.List 1 p) line (works_of (drop (n + 1) lines)) (Cursor.Lists 1 p) start (on start w lines n at d r).0
+    module _ (new : Driver G) (came : Operates tell here.hall new.hall line.session line.number (event.List i p)) where
+      it-came : (start : Start G) (w : World) (lines : List Line) (n : ℕ) (at : slice_get lines n ≡ Some line)
+          (d : AreDriven lines old.insts old.pages) (r : Reached tell start lines n old w)
+          → Came tell new.hall line.session line.number (event.List i p) line (works_of (drop (n + 1) lines)) (Cursor.Lists i p) start
+          (on start w lines n at d r).0
       it-came start w lines n at d r =
           let h = on start w lines n at d r in
-          came start h.0 w.told.known line (works_of (drop (n + 1) lines)) (Cursor.Lists 1 p) h.1 h.2
+          came start h.0 w.told.known line (works_of (drop (n + 1) lines)) (Cursor.Lists i p) h.1 h.2
 
       abbrev Told : Bool → Type 0
       Told b = (before : List Entry) (r : Reply)
-          → new.hall.book.entries ≡ before ++ record { session = line.session; line = line.number; event = event.List 1 p; reply = r } ∷ [] → is_rows r ≡ b
+          → new.hall.book.entries ≡ before ++ record { session = line.session; line = line.number; event = event.List i p; reply = r } ∷ [] → is_rows r ≡ b
 
       pub table-next : Told true → p + 1 < old.pages → InTable new (p + 1)
       table-next rows lt start w lines n at d r =
           let h = on start w lines n at d r in
           let c = it-came start w lines n at d r in
-          listed-on tell start lines n line at is old w r new p h.0 h.2 c (rows c.before c.reply c.noted) lt
+          listed-on tell start lines n line at is old w r i new p h.0 h.2 c (rows c.before c.reply c.noted) lt
 
-      pub table-last : Told true → old.pages ≤ p + 1 → new.pages ≡ old.pages → new.txns ≡ old.txns → DrivesLine tell old new line
-      table-last rows le pages txns start w lines n at d r =
+      pub table-last : Told true → old.pages ≤ p + 1 → IsSame old new → new.txns ≡ old.txns → DrivesLine tell old new line
+      table-last rows le same txns start w lines n at d r =
           let h = on start w lines n at d r in
           let c = it-came start w lines n at d r in
-          listed-last tell start lines n line at is old w r new p h.0 h.2 c (rows c.before c.reply c.noted) le pages txns
+          listed-last tell start lines n line at is old w r i new p h.0 h.2 c (rows c.before c.reply c.noted) le same txns
 
-      pub table-refused : Told false → new.pages ≡ old.pages → new.txns ≡ old.txns → DrivesLine tell old new line
-      table-refused none pages txns start w lines n at d r =
+      pub table-refused : Told false → IsSame old new → new.txns ≡ old.txns → DrivesLine tell old new line
+      table-refused none same txns start w lines n at d r =
           let h = on start w lines n at d r in
           let c = it-came start w lines n at d r in
-          listed-not tell start lines n line at is old w r new p h.0 h.2 c (none c.before c.reply c.noted) pages txns
+          listed-not tell start lines n line at is old w r i new p h.0 h.2 c (none c.before c.reply c.noted) same txns

@@ -1,7 +1,6 @@
 -- What is told of an entry that was due, and where its work stands then. It serves the goals of pull.rt and driver.rt.
 use Rattle.std.proofs.Common.{◌≡◌, ◌⊎◌, inl, inr, ⊎_elim, ℕ, Bool, true, false, cond, List, [], ◌∷◌, ◌++◌, refl, sym, ap, ◌∙◌, subst}
 use Rattle.std.specs.Prelude.{Option, None, Some, is_some}
-use Rattle.sd_base.specs.declared.place.Mode.{Mode}
 use Rattle.sd_base.specs.declared.refusal.Refusal.{Refusal}
 use Rattle.sd_base.specs.declared.refusal.Refusal.TheVariants as R
 use Rattle.sd_model.specs.declared.event.Entry.{Entry}
@@ -14,7 +13,7 @@ use Rattle.sd_world.specs.Leading.{Leads}
 use Rattle.sd_world.specs.Serving.{Core}
 use Rattle.sd_drive.specs.Driving.{Advances, Cursor, Drives, Helps, Known, Own, Progress, Tells, TellsAt, TellsFirst, TellsWork, Work, World, ahead, cursor_in, event_at, followed, goes_on, puller_of, start_of, stays}
 use Rattle.sd_drive.specs.Pulls.{IsDue, IsPulled, Pull, Puller, helped, is_pulling, puller}
-use Rattle.sd_drive.specs.Standing.{Pulling, Stands, is_need}
+use Rattle.sd_drive.specs.Standing.{NoneActs, Pulling, Stands, is_need}
 
 -- ---- runs of worlds
 
@@ -28,7 +27,7 @@ drives-leads (e ∷ es) old new h = (h.0.core, h.1.turns, drives-leads es h.0 ne
 
 -- ---- an entry is told where its work stands
 
-tells-at : (w : World) (w' : Core) (work : Work) (rest : List Work) (c : Cursor) (x : Entry) (then : Progress)
+pub tells-at : (w : World) (w' : Core) (work : Work) (rest : List Work) (c : Cursor) (x : Entry) (then : Progress)
     → ahead w.core.scene.state w.told.known w.told.left ≡ work ∷ rest
     → cursor_in w.core.scene.state w.told.known work w.told.cursor ≡ Some c
     → TellsAt (is_pulling w.told.pull) w.core w' w.told work rest c x then → Tells w.core w' w.told x then
@@ -44,6 +43,7 @@ own-plain m m' at line rest c e r plain = refl
 
 ends-refused : (m : State) (known : Known) (line : Line) (c : Cursor) (n : Refusal) → goes_on m known (Work.Do line) c (reply.Refused n) ≡ None
 ends-refused m known line Cursor.Once n = refl
+ends-refused m known line Cursor.Undoes n = refl
 ends-refused m known line (Cursor.Joins i) n = refl
 ends-refused m known line (Cursor.Lists i p) n = refl
 
@@ -80,12 +80,12 @@ module _ (known : Known) (line : Line) (rest : List Work) (c : Cursor) (e : Even
       (inr (subst (λ (y : Event). is_some (puller w.core.scene.state y) ≡ false) (sym is) (h w.core.scene.state))))
       plain)
 
-  module _ (mode : Mode) (for : (m : State) → puller m e ≡ Some (record { inst = 1; mode = mode })) (p : ℕ)
+  module _ (for : Puller) (pulls : (m : State) → puller m e ≡ Some for) (p : ℕ)
       (page : IsPulled w.core.scene.state e p) (need : is_need x.reply ≡ true) where
     own-asks : (r : Reply) → is_need r ≡ true
         → Own w.core.scene.state w'.scene.state w.told work rest c e r (stays w.told work rest c (Pull.Asks p))
     own-asks (reply.Refused (R.NeedPage place)) needs =
-        inl (s.idle, ap (λ (o : Option Puller). is_some o) (for w.core.scene.state), (p, page, refl))
+        inl (s.idle, ap (λ (o : Option Puller). is_some o) (pulls w.core.scene.state), (p, page, refl))
     own-asks (reply.Refused R.Failed) needs = absurd (cc)
     own-asks r needs = absurd (cc)
 
@@ -95,33 +95,45 @@ module _ (known : Known) (line : Line) (rest : List Work) (c : Cursor) (e : Even
         (subst (λ (y : Event). Own w.core.scene.state w'.scene.state w.told work rest c y x.reply (stays w.told work rest c (Pull.Asks p))) (sym is)
         (own-asks x.reply need))
 
-    pub pulling-begins : Pulling w.told work rest c e mode (Pull.Asks p) (record { told = stays w.told work rest c (Pull.Asks p); core = w' })
-    pulling-begins = record {
+    pub pulling-begins : NoneActs w.core.scene.state w'.scene.state
+        → Pulling w work rest c e for (Pull.Asks p) (record { told = stays w.told work rest c (Pull.Asks p); core = w' })
+    pulling-begins acts = record {
       told = refl;
       begins = subst (λ (k : Known). (m : State) → is_some (start_of m k work) ≡ true) (sym s.known_is) s.begins;
       event = subst (λ (k : Known). event_at k work c ≡ Some e) (sym s.known_is) s.event;
-      puller = for;
+      puller = pulls;
+      acts = acts;
     }
 
 -- ---- the pull
 
-module _ (at : Progress) (work : Work) (rest : List Work) (c : Cursor) (e : Event) (mode : Mode) (pull : Pull) (w : World)
-    (s : Pulling at work rest c e mode pull w) (w' : Core) (x : Entry) where
-  here : (then : Progress) → TellsAt (is_pulling pull) w.core w' (stays at work rest c pull) work rest c x then → Tells w.core w' w.told x then
+module _ (at : World) (work : Work) (rest : List Work) (c : Cursor) (e : Event) (for : Puller) (pull : Pull) (w : World)
+    (s : Pulling at work rest c e for pull w) (w' : Core) (x : Entry) where
+  abbrev then-at : Pull → Progress
+  then-at next = stays at.told work rest c next
+
+  here : (then : Progress) → TellsAt (is_pulling pull) w.core w' (then-at pull) work rest c x then → Tells w.core w' w.told x then
   here then tells = subst (λ (t : Progress). Tells w.core w' t x then) (sym s.told)
-      (tells-at (record { told = stays at work rest c pull; core = w.core }) w' work rest c x then
-      (first-of w.core.scene.state at.known work rest (s.begins w.core.scene.state)) refl tells)
+      (tells-at (record { told = then-at pull; core = w.core }) w' work rest c x then
+      (first-of w.core.scene.state at.told.known work rest (s.begins w.core.scene.state)) refl tells)
 
   -- a helping event that was due
-  pub helping : is_pulling pull ≡ true → x.session ≡ 0 → x.line ≡ 0 → IsDue w.core.pages (record { inst = 1; mode = mode }) pull x.event
-      → Tells w.core w' w.told x (stays at work rest c (helped pull x.event x.reply))
-  helping pulls session line due = here (stays at work rest c (helped pull x.event x.reply))
-      (subst (λ (b : Bool). TellsAt b w.core w' (stays at work rest c pull) work rest c x (stays at work rest c (helped pull x.event x.reply))) (sym pulls)
-      (subst (λ (o : Option Puller). Helps w.core (stays at work rest c pull) work rest c o x (stays at work rest c (helped pull x.event x.reply)))
+  pub helping : is_pulling pull ≡ true → x.session ≡ 0 → x.line ≡ 0 → IsDue w.core.pages for pull x.event
+      → Tells w.core w' w.told x (then-at (helped pull x.event x.reply))
+  helping pulls session line due = here (then-at (helped pull x.event x.reply))
+      (subst (λ (b : Bool). TellsAt b w.core w' (then-at pull) work rest c x (then-at (helped pull x.event x.reply))) (sym pulls)
+      (subst (λ (o : Option Puller). Helps w.core (then-at pull) work rest c o x (then-at (helped pull x.event x.reply)))
       (sym (ap (puller_of w.core.scene.state) s.event ∙ s.puller w.core.scene.state)) (session, line, due, refl)))
 
-  pub pulling-on : (next : Pull) → Pulling at work rest c e mode next (record { told = stays at work rest c next; core = w' })
-  pulling-on next = record { told = refl; begins = s.begins; event = s.event; puller = s.puller }
+  pub pulling-on : NoneActs w.core.scene.state w'.scene.state → (next : Pull)
+      → Pulling at work rest c e for next (record { told = then-at next; core = w' })
+  pulling-on acts next = record {
+    told = refl;
+    begins = s.begins;
+    event = s.event;
+    puller = s.puller;
+    acts = λ t. acts t ∙ s.acts t;
+  }
 
 -- where the pull was at doesn't matter once the work goes on
 followed-stays : (at : Progress) (x : Work) (rest : List Work) (c : Cursor) (pull : Pull) (r : Reply) (next : Option Cursor)
@@ -130,18 +142,18 @@ followed-stays at x rest c pull r None = refl
 followed-stays at x rest c pull r (Some d) = refl
 
 -- the work's own event once more, behind its pull
-module _ (at : Progress) (line : Line) (rest : List Work) (c : Cursor) (e : Event) (mode : Mode) (pull : Pull) (w : World)
-    (s : Pulling at (Work.Do line) rest c e mode pull w) (w' : Core) (x : Entry) where
+module _ (at : World) (line : Line) (rest : List Work) (c : Cursor) (e : Event) (for : Puller) (pull : Pull) (w : World)
+    (s : Pulling at (Work.Do line) rest c e for pull w) (w' : Core) (x : Entry) where
   abbrev again : Progress
-  again = followed at (Work.Do line) rest x.reply (goes_on w'.scene.state at.known (Work.Do line) c x.reply)
+  again = followed at.told (Work.Do line) rest x.reply (goes_on w'.scene.state at.told.known (Work.Do line) c x.reply)
 
   abbrev there : Progress
-  there = stays at (Work.Do line) rest c pull
+  there = stays at.told (Work.Do line) rest c pull
 
   own-now : x.event ≡ e → (is_need x.reply ≡ false) ⊎ (pull ≡ Pull.Ends)
       → Own w.core.scene.state w'.scene.state there (Work.Do line) rest c x.event x.reply again
   own-now is done_now = subst (Own w.core.scene.state w'.scene.state there (Work.Do line) rest c x.event x.reply)
-      (followed-stays at (Work.Do line) rest c pull x.reply (goes_on w'.scene.state at.known (Work.Do line) c x.reply))
+      (followed-stays at.told (Work.Do line) rest c pull x.reply (goes_on w'.scene.state at.told.known (Work.Do line) c x.reply))
       (⊎_elim
       (λ (h : is_need x.reply ≡ false). own-plain w.core.scene.state w'.scene.state there line rest c x.event x.reply h)
       (λ (h : pull ≡ Pull.Ends). own-in-vain w.core.scene.state w'.scene.state there line rest c x.event x.reply (inl h))
@@ -149,6 +161,6 @@ module _ (at : Progress) (line : Line) (rest : List Work) (c : Cursor) (e : Even
 
   pub own-again : is_pulling pull ≡ false → x.session ≡ line.session → x.line ≡ line.number → x.event ≡ e
       → (is_need x.reply ≡ false) ⊎ (pull ≡ Pull.Ends) → Tells w.core w' w.told x again
-  own-again rests session number is done_now = here at (Work.Do line) rest c e mode pull w s w' x again
+  own-again rests session number is done_now = here at (Work.Do line) rest c e for pull w s w' x again
       (subst (λ (b : Bool). TellsAt b w.core w' there (Work.Do line) rest c x again) (sym rests)
       (session, number, s.event ∙ ap (λ (y : Event). Some y) (sym is), tt, own-now is done_now))

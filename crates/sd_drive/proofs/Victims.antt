@@ -14,7 +14,8 @@ use Rattle.sd_state.specs.Good.{base_of}
 use Rattle.sd_state.specs.Images.{leaves_by, log_by}
 use Rattle.sd_state.specs.Parts.{Parts, pool_at}
 use Rattle.sd_fits.specs.Fits.{Fits}
-use Rattle.sd_drive.specs.Driven.{IsFull, copies_of}
+use Rattle.sd_drive.specs.Driven.{IsFull}
+use Rattle.sd_drive.specs.Measure.{copies_of}
 
 none-held : (entry : ℕ → Entry) (i n : ℕ) → ((q : ℕ) → holds (entry q) i ≡ false) → held entry i n ≡ 0
 none-held entry i zero none = refl
@@ -35,21 +36,21 @@ some-if : (b : Bool) (x : Page) → is_some (cond {A = Option Page} b (Some x) N
 some-if true x = refl
 some-if false x = refl
 
-module _ (seen : Image) (leaves : Outcomes) (c : Parts) (w : Core) (f : Fits seen leaves c w) where
-  in-pool : (q : ℕ) → is_some (image_at (pool_at c 1) q) ≡ holds (entry_at c.directory q) 1
+module _ (seen : Image) (leaves : Outcomes) (c : Parts) (w : Core) (f : Fits seen leaves c w) (i : ℕ) where
+  in-pool : (q : ℕ) → is_some (image_at (pool_at c i) q) ≡ holds (entry_at c.directory q) i
   in-pool q =
       let b = base_of seen (leaves_by c (λ j. false) leaves) (log_by c (λ j. false)) c in
-      ap (λ (o : Option Page). is_some o) ((f.good.half (λ j. false)).coherent.copies 1 q) ∙ some-if (holds (entry_at c.directory q) 1) (now b q)
+      ap (λ (o : Option Page). is_some o) ((f.good.half (λ j. false)).coherent.copies i q) ∙ some-if (holds (entry_at c.directory q) i) (now b q)
 
-  pub pool-holds : (v : ℕ) → IsSome (image_at (pool_at c 1) v) → holds (entry_at c.directory v) 1 ≡ true
+  pub pool-holds : (v : ℕ) → IsSome (image_at (pool_at c i) v) → holds (entry_at c.directory v) i ≡ true
   pool-holds v there = sym (in-pool v) ∙ there
 
-  none-copied : (pool_at c 1).held ≡ [] → copies_of w.pages.entry ≡ 0
+  none-copied : (pool_at c i).held ≡ [] → copies_of w.pages.entry i ≡ 0
   unfolding copies_of
-  none-copied empty = none-held w.pages.entry 1 1024 (λ q.
-      ap (λ (e : Entry). holds e 1) (f.pages.entry q) ∙ sym (in-pool q)
-      ∙ ap (λ (es : List (ℕ × Page)). is_some (image_at (record { held = es; frames = (pool_at c 1).frames }) q)) empty)
+  none-copied empty = none-held w.pages.entry i 1024 (λ q.
+      ap (λ (e : Entry). holds e i) (f.pages.entry q) ∙ sym (in-pool q)
+      ∙ ap (λ (es : List (ℕ × Page)). is_some (image_at (record { held = es; frames = (pool_at c i).frames }) q)) empty)
 
-  pub some-held : IsPool (pool_at c 1) → IsFull w → (pool_at c 1).held ≡ [] → ⊥
-  some-held pool full empty = over w.pages.frames (copies_of w.pages.entry)
-      (subst (λ (n : ℕ). 1 ≤ n) (f.pages.frames 1 (omega arith) (omega arith)) pool.least) full (none-copied empty)
+  pub some-held : 1 ≤ i → i ≤ 8 → IsPool (pool_at c i) → IsFull i w → (pool_at c i).held ≡ [] → ⊥
+  some-held low high pool full empty = over w.pages.frames (copies_of w.pages.entry i)
+      (subst (λ (n : ℕ). 1 ≤ n) (f.pages.frames i low high) pool.least) full (none-copied empty)

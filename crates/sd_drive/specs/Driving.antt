@@ -12,7 +12,7 @@ use Rattle.sd_model.specs.State.{State}
 use Rattle.sd_script.specs.declared.line.Form.{Form}
 use Rattle.sd_script.specs.declared.line.Line.{Line}
 use Rattle.sd_world.specs.Serving.{Core, Turns}
-use Rattle.sd_drive.specs.Lines.{Names, event_of, lists, named_by}
+use Rattle.sd_drive.specs.Lines.{Names, event_of, lists, named_by, rolls_back, undo_of}
 use Rattle.sd_drive.specs.Pulls.{Pull, Puller, IsDue, IsPulled, helped, is_pulling, puller}
 
 -- what is done: the opening, told as line 0, and then line after line
@@ -20,9 +20,11 @@ pub data Work : Type 0 where
   Opening : Work
   Do : Line → Work
 
--- where a work stands: its one event, the join of an instance, the list of a page by an instance
+-- where a work stands: its one event, or the first of a rollback; an undo of a rollback; the join of an instance; the list of a page by
+-- an instance
 pub data Cursor : Type 0 where
   Once : Cursor
+  Undoes : Cursor
   Joins : ℕ → Cursor
   Lists : ℕ → ℕ → Cursor
 
@@ -76,9 +78,12 @@ abbrev pub first_from : (ℕ → Bool) → ℕ → ℕ → Option ℕ
 first_from test i zero = None
 first_from test i (suc n) = cond {A = Option ℕ} (test i) (Some i) (first_from test (i + 1) n)
 
--- the lowest instance that is up; instance 1, which refuses, where none is
+-- the lowest instance that is up, by how each stands; instance 1, which refuses, where none is
+abbrev pub lister_by : (ℕ → Status) → ℕ → ℕ
+lister_by status insts = unwrap_or (first_from (λ i. is_up (status i)) 1 insts) 1
+
 abbrev pub lister : State → ℕ → ℕ
-lister m insts = unwrap_or (first_from (λ i. is_up (m.inst i).status) 1 insts) 1
+lister m insts = lister_by (λ i. (m.inst i).status) insts
 
 -- where a line begins
 abbrev pub begins : Bool → State → Known → Form → Option Cursor
@@ -94,12 +99,16 @@ start_of m known (Work.Do line) = begins (lists line.form) m known line.form
 abbrev pub event_at : Known → Work → Cursor → Option Event
 event_at known Work.Opening Cursor.Once = None
 event_at known (Work.Do line) Cursor.Once = event_of known.names line.form
+event_at known Work.Opening Cursor.Undoes = None
+event_at known (Work.Do line) Cursor.Undoes = undo_of known.names line.form
 event_at known work (Cursor.Joins i) = Some (event.Join i)
 event_at known work (Cursor.Lists i p) = Some (event.List i p)
 
 -- where a work goes on behind the reply; nowhere where it is done. m: the state behind the reply
 abbrev pub goes_on : State → Known → Work → Cursor → Reply → Option Cursor
 goes_on m known Work.Opening (Cursor.Joins i) r = cond {A = Option Cursor} (ltb i known.insts) (Some (Cursor.Joins (i + 1))) None
+goes_on m known (Work.Do line) Cursor.Once reply.Did = cond {A = Option Cursor} (rolls_back line.form) (Some Cursor.Undoes) None
+goes_on m known (Work.Do line) Cursor.Undoes reply.Step = Some Cursor.Undoes
 goes_on m known (Work.Do line) (Cursor.Lists i p) (reply.Rows rows) =
     cond {A = Option Cursor} (ltb (p + 1) known.pages) (Some (Cursor.Lists i (p + 1))) None
 goes_on m known work c r = None

@@ -2,7 +2,6 @@ pub mod Lines
 pub mod Pulls
 pub mod Driving
 pub mod Measure
-pub mod Alone
 pub mod Standing
 pub mod Running
 pub mod Driven

@@ -18,7 +18,7 @@ Names = List ℕ → Option TxnId
 abbrev pub capacity_of : List ℕ → Option ℕ → ℕ
 capacity_of value capacity = unwrap_or capacity (length value)
 
--- the event of a line that has one; a line of a name without a transaction has none
+-- The event of a line that has one, or the first of one that rolls back; a line of a name without a transaction has none.
 abbrev pub event_of : Names → Form → Option Event
 event_of names (form.Complex insts pages frames) = None
 event_of names (form.Begin inst name) = Some (event.Begin inst)
@@ -28,13 +28,31 @@ event_of names (form.Add name ordinal rid by) = option_map (λ t. event.Add t ri
 event_of names (form.Insert name ordinal page value capacity) =
     option_map (λ t. event.Insert t page value (capacity_of value capacity)) (names name)
 event_of names (form.Delete name ordinal rid) = option_map (λ t. event.Delete t rid) (names name)
+event_of names (form.Save name ordinal mark) = option_map (λ t. event.Save t mark) (names name)
+event_of names (form.Back name ordinal mark) = option_map (λ t. event.Back t (Some mark)) (names name)
+event_of names (form.Rollback name ordinal) = option_map (λ t. event.Back t None) (names name)
 event_of names (form.Commit name ordinal) = option_map (λ t. event.Commit t) (names name)
 event_of names (form.Ask inst page mode) = Some (event.Ask inst page mode)
+event_of names (form.Give inst page) = Some (event.Give inst page)
+event_of names (form.Take inst page) = Some (event.Take inst page)
 event_of names (form.Evict inst page) = Some (event.Evict inst page)
 event_of names (form.Flush inst page) = Some (event.Flush inst page)
 event_of names (form.Force inst) = Some (event.Force inst)
+event_of names (form.Fail inst) = Some (event.Fail inst)
 event_of names (form.Where page) = Some (event.Show page)
 event_of names form.Table = None
+
+-- the undo by which a line that rolls back goes on
+abbrev pub undo_of : Names → Form → Option Event
+undo_of names (form.Back name ordinal mark) = option_map (λ t. event.Undo t) (names name)
+undo_of names (form.Rollback name ordinal) = option_map (λ t. event.Undo t) (names name)
+undo_of names line = None
+
+-- the line rolls back, to a mark or wholly
+abbrev pub rolls_back : Form → Bool
+rolls_back (form.Back name ordinal mark) = true
+rolls_back (form.Rollback name ordinal) = true
+rolls_back line = false
 
 -- the line lists all pages, one after another
 abbrev pub lists : Form → Bool

@@ -1,75 +1,66 @@
--- How far a pull is from its end: six numbers of what the pages tell, the weightiest first.
-use Rattle.std.specs.Prelude.{◌≡◌, ◌⊎◌, ℕ, ◌+◌, ◌<◌, Bool, false, length, eqb, cond, not}
+-- How far a pull is from its end, by what the directory tells: a number that each round of the pull, from an ask to the next, lowers.
+use Rattle.std.specs.Prelude.{◌≡◌, ◌≢◌, ℕ, ◌+◌, ◌*◌, ◌<◌, Bool, true, false, List, length, cond, not}
 use Rattle.sd_base.specs.declared.place.Mode.{Mode}
-use Rattle.sd_base.specs.declared.place.Mode.TheVariants as modes
-use Rattle.sd_pagelock.specs.Asks.{asks_without}
-use Rattle.sd_pagelock.specs.Places.{Entry, holds_as, rests}
+use Rattle.sd_pagelock.specs.declared.queue.Ask.{Ask}
+use Rattle.sd_pagelock.specs.Asks.{asks_without, open_asks}
+use Rattle.sd_pagelock.specs.Places.{Entry, holds, holds_as, receives}
+use Rattle.sd_pagelock.specs.Rows.{taken}
 use Rattle.sd_world.specs.Pages.{Pages, held}
-use Rattle.sd_drive.specs.Pulls.{Pull, Puller}
-
--- late: the page is on its way to the puller, who isn't to have it so; askers: who has to be served yet; holders: who has a copy; still:
--- the page isn't on its way; full: how many pages has the pool that it comes into; phase: which helping event is due
-pub record Measure : Type 0 where
-  pub late : ℕ
-  pub askers : ℕ
-  pub holders : ℕ
-  pub still : ℕ
-  pub full : ℕ
-  pub phase : ℕ
 
 abbrev pub one_if : Bool → ℕ
 one_if b = cond b 1 0
 
--- the page comes to i in a weaker mode
-abbrev pub is_late : ℕ → Mode → Entry → Bool
-is_late i modes.Shared place = false
-is_late i modes.Excl Entry.Free = false
-is_late i modes.Excl (Entry.Shared set writer) = false
-is_late i modes.Excl (Entry.Excl holder dirty) = false
-is_late i modes.Excl (Entry.Moving to modes.Shared rest dirty) = eqb to i
-is_late i modes.Excl (Entry.Moving to modes.Excl rest dirty) = false
-is_late i modes.Excl Entry.Lost = false
+-- how many have to be served: the others that ask, and i where it hasn't the page so
+abbrev pub unserved : ℕ → Mode → Entry → List Ask → ℕ
+unserved i mode place asks = length (asks_without i asks) + one_if (not (holds_as mode place i))
 
-abbrev pub holders_of : Entry → ℕ
-holders_of Entry.Free = 0
-holders_of (Entry.Shared set writer) = length set
-holders_of (Entry.Excl holder dirty) = 1
-holders_of (Entry.Moving to mode rest dirty) = length rest
-holders_of Entry.Lost = 0
+-- The same, where a page on its way is seen as its take leaves it. Its receiver is one more until then.
+abbrev pub waiting : ℕ → Mode → Entry → List Ask → ℕ
+waiting i mode Entry.Free asks = unserved i mode Entry.Free asks
+waiting i mode (Entry.Shared set writer) asks = unserved i mode (Entry.Shared set writer) asks
+waiting i mode (Entry.Excl holder dirty) asks = unserved i mode (Entry.Excl holder dirty) asks
+waiting i mode (Entry.Moving to how rest dirty) asks =
+    unserved i mode (taken (Entry.Moving to how rest dirty)) (open_asks (taken (Entry.Moving to how rest dirty)) asks) + 1
+waiting i mode Entry.Lost asks = unserved i mode Entry.Lost asks
 
--- the pages of the pool that page p comes into: its receiver's, or, where nobody has it, the puller's
-abbrev pub crowd : Pages → ℕ → Entry → ℕ
-crowd w i Entry.Free = held w.entry i 1024
-crowd w i (Entry.Shared set writer) = 0
-crowd w i (Entry.Excl holder dirty) = 0
-crowd w i (Entry.Moving to mode rest dirty) = held w.entry to 1024
-crowd w i Entry.Lost = 0
+-- how many hold the page, and one more where one of them can give it
+abbrev pub spread : Entry → ℕ
+spread Entry.Free = 0
+spread (Entry.Shared set writer) = length set + 1
+spread (Entry.Excl holder dirty) = 2
+spread (Entry.Moving to mode rest dirty) = length rest
+spread Entry.Lost = 0
 
--- an ask comes before a give where the page rests, and before a take or an eviction where it doesn't
-abbrev pub phase_of : Entry → Pull → ℕ
-phase_of place Pull.Idle = 0
-phase_of place (Pull.Asks p) = cond (rests place) 6 4
-phase_of place (Pull.Gives p of) = 5
-phase_of place (Pull.Takes p to) = 3
-phase_of place (Pull.Room p at) = 2
-phase_of place (Pull.Evicts p at v) = 1
-phase_of place Pull.Ends = 0
+-- A take serves its receiver, and adds two to the spread at most; a give serves none, and lowers the spread.
+abbrev pub steps : ℕ → Mode → Entry → List Ask → ℕ
+steps i mode place asks = 3 * waiting i mode place asks + spread place
 
-abbrev pub measure : Pages → Puller → ℕ → Pull → Measure
-measure w for p pull = record {
-  late = one_if (is_late for.inst for.mode (w.entry p));
-  askers = length (asks_without for.inst (w.asks p)) + one_if (not (holds_as for.mode (w.entry p) for.inst));
-  holders = holders_of (w.entry p);
-  still = one_if (rests (w.entry p));
-  full = crowd w for.inst (w.entry p);
-  phase = phase_of (w.entry p) pull;
-}
+-- into whose pool the page comes next: its receiver's, where it is on its way, else that of i
+abbrev pub comes_to : ℕ → Entry → ℕ
+comes_to i Entry.Free = i
+comes_to i (Entry.Shared set writer) = i
+comes_to i (Entry.Excl holder dirty) = i
+comes_to i (Entry.Moving to mode rest dirty) = to
+comes_to i Entry.Lost = i
 
--- the first of them that differs is less
-abbrev pub IsLess : Measure → Measure → Type 0
-IsLess x y =
-    (x.late < y.late) ⊎ ((x.late ≡ y.late) × (
-    (x.askers < y.askers) ⊎ ((x.askers ≡ y.askers) × (
-    (x.holders < y.holders) ⊎ ((x.holders ≡ y.holders) × (
-    (x.still < y.still) ⊎ ((x.still ≡ y.still) × (
-    (x.full < y.full) ⊎ ((x.full ≡ y.full) × (x.phase < y.phase))))))))))
+-- how many pages i holds
+unfoldable pub copies_of : (ℕ → Entry) → ℕ → ℕ
+copies_of entry i = held entry i 1024
+
+-- Page p is pulled for i in the mode: the steps to go, and in between the copies that have to go from the pool that it comes into,
+-- which are 1,024 at most.
+unfoldable pub distance : ℕ → Mode → ℕ → (ℕ → Entry) → List Ask → ℕ
+distance i mode p entry asks = 1025 * steps i mode (entry p) asks + copies_of entry (comes_to i (entry p))
+
+-- page p came nearer to i
+abbrev pub IsNearer : ℕ → Mode → ℕ → Pages → Pages → Type 0
+IsNearer i mode p old new = distance i mode p new.entry (new.asks p) < distance i mode p old.entry (old.asks p)
+
+-- i gave up its copy of page v, which doesn't move to it; the other pages are as they were
+pub record GivesUp (i v : ℕ) (old new : Pages) : Type 0 where
+  pub below : v < 1024
+  pub had : holds (old.entry v) i ≡ true
+  pub gone : holds (new.entry v) i ≡ false
+  pub still : receives (old.entry v) i ≡ false
+  pub others : (q : ℕ) → v ≢ q → new.entry q ≡ old.entry q
+  pub asks : (q : ℕ) → v ≢ q → new.asks q ≡ old.asks q

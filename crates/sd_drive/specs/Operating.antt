@@ -8,7 +8,7 @@ use Rattle.sd_world.specs.Serving.{Core, Telling, Turns}
 use Rattle.sd_hall.specs.declared.hall.Hall.{Hall}
 use Rattle.sd_drive.specs.Driven.{IsIn}
 use Rattle.sd_drive.specs.Driving.{Cursor, Known, Work, World, followed, goes_on}
-use Rattle.sd_drive.specs.Standing.{Stands}
+use Rattle.sd_drive.specs.Standing.{NoneActs, Stands}
 use Rattle.sd_drive.specs.Running.{Start}
 
 -- the event is due in this world, for a line of this session and number
@@ -28,7 +28,8 @@ pub record DueIn {G : Type 0} (tell : Telling G) (hall : Hall G) (session number
   pub there : IsIn tell start hall world
   pub due : IsDueFor session number e known line rest cursor world
 
--- The event came, or came twice with a pull between. The last reply is told, and the line goes on behind it.
+-- The event came, or came twice with a pull between. The last reply is told, and the line goes on behind it. No transaction has acted
+-- before the last time.
 pub record Came {G : Type 0} (tell : Telling G) (new : Hall G) (session number : ℕ) (e : Event) (line : Line) (rest : List Work) (c : Cursor)
     (start : Start G) (w : World) : Type 0 where
   pub reply : Reply
@@ -37,6 +38,7 @@ pub record Came {G : Type 0} (tell : Telling G) (new : Hall G) (session number :
   pub mid : Core
   pub core : Core
   pub turns : Turns mid e reply core
+  pub acts : NoneActs w.core.scene.state mid.scene.state
   pub there : IsIn tell start new (record {
     told = followed w.told (Work.Do line) rest reply (goes_on core.scene.state w.told.known (Work.Do line) c reply);
     core = core;

@@ -1,7 +1,9 @@
 -- How far a driver has come in its script.
-use Rattle.std.specs.Prelude.{◌≡◌, ℕ, ◌+◌, ◌<◌, ◌≤◌, ◌^◌, Bool, true, false, List, [], Option, None, Some, length, take, drop, get_or, slice_get}
+use Rattle.std.specs.Prelude.{◌≡◌, ◌⊎◌, ℕ, ◌+◌, ◌<◌, ◌≤◌, ◌^◌, Bool, true, false, List, [], ◌∷◌, Option, None, Some, length, take, drop, get_or, slice_get}
 use Rattle.sd_base.specs.declared.ids.TxnId.{TxnId}
+use Rattle.sd_base.specs.declared.place.Status.TheVariants as S
 use Rattle.sd_base.specs.declared.refusal.Refusal.TheVariants as R
+use Rattle.sd_model.specs.Applies.{IsRolling}
 use Rattle.sd_model.specs.State.{State}
 use Rattle.sd_model.specs.declared.event.Event.TheVariants as event
 use Rattle.sd_model.specs.declared.event.Reply.{Reply}
@@ -11,10 +13,13 @@ use Rattle.sd_script.specs.declared.line.Form.TheVariants as form
 use Rattle.sd_script.specs.declared.line.Line.{Line}
 use Rattle.sd_script.specs.Forms.{IsForm}
 use Rattle.sd_script.specs.Order.{Follows, begun, insts_of, ordinal_of, pages_of}
+use Rattle.sd_txn.specs.Transactions.{depth_at}
 use Rattle.sd_world.specs.Serving.{Core, Telling}
+use Rattle.sd_state.specs.Complexes.{parts}
+use Rattle.sd_state.specs.Parts.{txns_at}
 use Rattle.sd_drive.specs.declared.driver.Driver.{Driver}
 use Rattle.sd_drive.specs.Driven.{IsIn}
-use Rattle.sd_drive.specs.Driving.{Cursor, World, ahead, untold, works_of}
+use Rattle.sd_drive.specs.Driving.{Cursor, Known, Work, World, ahead, cursor_in, untold, works_of}
 use Rattle.sd_drive.specs.Operating.{IsDueFor}
 use Rattle.sd_drive.specs.Lines.{Names}
 use Rattle.sd_drive.specs.Pulls.{Pull}
@@ -27,6 +32,9 @@ name_in (form.Write name o r v) = name
 name_in (form.Add name o r by) = name
 name_in (form.Insert name o p v n) = name
 name_in (form.Delete name o r) = name
+name_in (form.Save name o mark) = name
+name_in (form.Back name o mark) = name
+name_in (form.Rollback name o) = name
 name_in (form.Commit name o) = name
 name_in f = []
 
@@ -36,6 +44,9 @@ ordinal_in (form.Write name o r v) = Some o
 ordinal_in (form.Add name o r by) = Some o
 ordinal_in (form.Insert name o p v n) = Some o
 ordinal_in (form.Delete name o r) = Some o
+ordinal_in (form.Save name o mark) = Some o
+ordinal_in (form.Back name o mark) = Some o
+ordinal_in (form.Rollback name o) = Some o
 ordinal_in (form.Commit name o) = Some o
 ordinal_in f = None
 
@@ -56,6 +67,8 @@ Knows txns names f = (o : ℕ) → ordinal_in f ≡ Some o → get_or txns o Non
 abbrev pub IsPlain : Form → Type 0
 IsPlain (form.Begin inst name) = ⊥
 IsPlain form.Table = ⊥
+IsPlain (form.Back name o mark) = ⊥
+IsPlain (form.Rollback name o) = ⊥
 IsPlain f = Unit {0}
 
 -- the transaction that began, if one did
@@ -67,13 +80,21 @@ abbrev pub is_rows : Reply → Bool
 is_rows (reply.Rows rows) = true
 is_rows r = false
 
+abbrev pub is_step : Reply → Bool
+is_step reply.Step = true
+is_step r = false
+
 abbrev pub is_failed : Reply → Bool
 is_failed (reply.Refused R.Failed) = true
 is_failed r = false
 
--- before the first entry, with instance 1 alone
-abbrev pub before : ℕ → List Line → Core → World
-before pages lines core = record { told = untold 1 pages lines; core = core }
+-- before the first entry
+abbrev pub before : ℕ → ℕ → List Line → Core → World
+before insts pages lines core = record { told = untold insts pages lines; core = core }
+
+-- where a driver begins
+abbrev pub begin_of : {G : Type 0} → Driver G → List Line → Core → Start G
+begin_of driver lines core = record { world = before driver.insts driver.pages lines core; rig = driver.hall.complex.rig }
 
 -- a value's length has two bytes
 abbrev pub IsShort : Form → Type 0
@@ -86,26 +107,65 @@ pub record MayStand (lines : List Line) (n : ℕ) (line : Line) : Type 0 where
   pub form : IsForm line.form
   pub short : IsShort line.form
 
--- each line does, and they are of one instance and so many pages
-pub record AreDriven (lines : List Line) (count : ℕ) : Type 0 where
+-- each line does, and they are of so many instances and pages
+pub record AreDriven (lines : List Line) (instances count : ℕ) : Type 0 where
   pub each : (n : ℕ) (line : Line) → slice_get lines n ≡ Some line → MayStand lines n line
-  pub insts : insts_of lines ≡ 1
+  pub insts : insts_of lines ≡ instances
+  pub insts_some : 1 ≤ instances
+  pub insts_most : instances ≤ 8
   pub pages : pages_of lines ≡ count
   pub some : 1 ≤ count
   pub most : count ≤ 1024
 
--- The first n lines have their replies: the hall is in this world, in which the others are to come, and the driver has the transaction
--- of each name.
+-- The driver knows what is told of the first n lines: how many instances and pages there are, and the transaction of each name.
+pub record KnowsAll {G : Type 0} (lines : List Line) (n : ℕ) (driver : Driver G) (known : Known) : Type 0 where
+  pub insts : known.insts ≡ driver.insts
+  pub pages : known.pages ≡ driver.pages
+  pub names : (q : List ℕ) → named (begun (take n lines)) driver.txns.items q ≡ known.names q
+  pub count : length driver.txns.items ≡ length (begun (take n lines))
+
+-- The first n lines have their replies: the hall is in this world, in which the others are to come, and the driver knows what is told.
 pub record Reached {G : Type 0} (tell : Telling G) (start : Start G) (lines : List Line) (n : ℕ) (driver : Driver G) (w : World) : Type 0 where
   pub there : IsIn tell start driver.hall w
   pub rests : w.told.cursor ≡ None
   pub idle : w.told.pull ≡ Pull.Idle
   pub left : (m : State) → ahead m w.told.known w.told.left ≡ ahead m w.told.known (works_of (drop n lines))
-  pub insts : w.told.known.insts ≡ 1
-  pub pages : w.told.known.pages ≡ driver.pages
-  pub names : (q : List ℕ) → named (begun (take n lines)) driver.txns.items q ≡ w.told.known.names q
-  pub count : length driver.txns.items ≡ length (begun (take n lines))
-  pub each : (q : List ℕ) (t : TxnId) → w.told.known.names q ≡ Some t → t.inst ≡ 1
+  pub knows : KnowsAll lines n driver w.told.known
+
+-- ---- the opening
+
+-- Instance i joins next, after those below it.
+pub record JoinsNext {G : Type 0} (tell : Telling G) (start : Start G) (lines : List Line) (driver : Driver G) (i : ℕ) (w : World) : Type 0 where
+  pub there : IsIn tell start driver.hall w
+  pub known : w.told.known ≡ (untold driver.insts driver.pages lines).known
+  pub left : w.told.left ≡ Work.Opening ∷ works_of lines
+  pub at : (m : State) → cursor_in m w.told.known Work.Opening w.told.cursor ≡ Some (Cursor.Joins i)
+  pub idle : w.told.pull ≡ Pull.Idle
+  pub none : driver.txns.items ≡ []
+  pub most : i ≤ driver.insts
+
+-- in some world it does
+pub record IsOpening {G : Type 0} (tell : Telling G) (driver : Driver G) (i : ℕ) : Type 0 where
+  pub start : Start G
+  pub world : World
+  pub lines : List Line
+  pub joins : JoinsNext tell start lines driver i world
+
+-- The instances below i have joined: i joins next, or, behind the last one, the lines are to come.
+abbrev pub HaveJoined : {G : Type 0} → Telling G → Start G → List Line → Driver G → ℕ → World → Type 0
+HaveJoined tell start lines driver i w =
+    JoinsNext tell start lines driver i w ⊎ ((driver.insts < i) × Reached tell start lines 0 driver w)
+
+-- instance i joined
+abbrev pub Joins : {G : Type 0} → Telling G → Driver G → Driver G → ℕ → Type 0
+Joins {G} tell old new i = (start : Start G) (w : World) (lines : List Line) → JoinsNext tell start lines old i w
+    → (w' : World) × HaveJoined tell start lines new (i + 1) w'
+
+-- how many instances and pages there are is as before
+abbrev pub IsSame : {G : Type 0} → Driver G → Driver G → Type 0
+IsSame old new = (new.insts ≡ old.insts) × (new.pages ≡ old.pages)
+
+-- ---- lines
 
 -- the next line of some script, which was driven up to it
 pub record AtLine {G : Type 0} (tell : Telling G) (driver : Driver G) (line : Line) : Type 0 where
@@ -114,24 +174,68 @@ pub record AtLine {G : Type 0} (tell : Telling G) (driver : Driver G) (line : Li
   pub lines : List Line
   pub n : ℕ
   pub next : slice_get lines n ≡ Some line
-  pub driven : AreDriven lines driver.pages
+  pub driven : AreDriven lines driver.insts driver.pages
   pub reached : Reached tell start lines n driver world
 
 -- the line is driven, in whatever script it stands
 abbrev pub DrivesLine : {G : Type 0} → Telling G → Driver G → Driver G → Line → Type 0
 DrivesLine {G} tell old new line =
-    (start : Start G) (w : World) (lines : List Line) (n : ℕ) → slice_get lines n ≡ Some line → AreDriven lines old.pages → Reached tell start lines n old w
-    → (w' : World) × Reached tell start lines (n + 1) new w'
+    (start : Start G) (w : World) (lines : List Line) (n : ℕ) → slice_get lines n ≡ Some line → AreDriven lines old.insts old.pages
+    → Reached tell start lines n old w → (w' : World) × Reached tell start lines (n + 1) new w'
 
 -- as much of it as there was memory for
 abbrev pub DrivesSome : {G : Type 0} → Telling G → Driver G → Driver G → Line → Type 0
 DrivesSome {G} tell old new line =
-    (start : Start G) (w : World) (lines : List Line) (n : ℕ) → slice_get lines n ≡ Some line → AreDriven lines old.pages → Reached tell start lines n old w
-    → (w' : World) × IsIn tell start new.hall w'
+    (start : Start G) (w : World) (lines : List Line) (n : ℕ) → slice_get lines n ≡ Some line → AreDriven lines old.insts old.pages
+    → Reached tell start lines n old w → (w' : World) × IsIn tell start new.hall w'
 
--- the table line lists page p next, in whatever script it stands
-abbrev pub ListsNext : {G : Type 0} → Telling G → Driver G → Driver G → Line → ℕ → Type 0
-ListsNext {G} tell old new line p =
-    (start : Start G) (w : World) (lines : List Line) (n : ℕ) → slice_get lines n ≡ Some line → AreDriven lines old.pages → Reached tell start lines n old w
+-- instance i lists page p next for the table line, in whatever script it stands
+abbrev pub ListsNext : {G : Type 0} → Telling G → Driver G → Driver G → Line → ℕ → ℕ → Type 0
+ListsNext {G} tell old new line i p =
+    (start : Start G) (w : World) (lines : List Line) (n : ℕ) → slice_get lines n ≡ Some line → AreDriven lines old.insts old.pages
+    → Reached tell start lines n old w → (w' : World) × IsIn tell start new.hall w'
+    × IsDueFor line.session line.number (event.List i p) w.told.known line (works_of (drop (n + 1) lines)) (Cursor.Lists i p) w'
+
+-- the transaction rolls back, at an instance that is up
+pub record GoesBack (m : State) (t : TxnId) : Type 0 where
+  pub rolls : IsRolling (m.part t).life
+  pub up : (m.inst t.inst).status ≡ S.Up
+
+-- The n-th line rolls this transaction back, and undoes next: in this world its first event was done.
+pub record RollsBack {G : Type 0} (tell : Telling G) (start : Start G) (lines : List Line) (n : ℕ) (line : Line) (driver : Driver G) (t : TxnId)
+    (w : World) : Type 0 where
+  pub there : IsIn tell start driver.hall w
+  pub undoes : IsDueFor line.session line.number (event.Undo t) w.told.known line (works_of (drop (n + 1) lines)) Cursor.Undoes w
+  pub goes : GoesBack w.core.scene.state t
+  pub knows : KnowsAll lines (n + 1) driver w.told.known
+
+-- in some world of some script it does
+pub record IsRolledBack {G : Type 0} (tell : Telling G) (driver : Driver G) (line : Line) (t : TxnId) : Type 0 where
+  pub start : Start G
+  pub world : World
+  pub lines : List Line
+  pub n : ℕ
+  pub rolls : RollsBack tell start lines n line driver t world
+
+-- the rollback is driven to its end, or to a refusal
+abbrev pub UndoesAll : {G : Type 0} → Telling G → Driver G → Driver G → Line → TxnId → Type 0
+UndoesAll {G} tell old new line t =
+    (start : Start G) (w : World) (lines : List Line) (n : ℕ) → RollsBack tell start lines n line old t w
+    → (w' : World) × Reached tell start lines (n + 1) new w'
+
+-- how many of the transaction's records are open
+abbrev pub open_records : {G : Type 0} → Driver G → TxnId → ℕ
+open_records driver t = depth_at (txns_at (parts driver.hall.complex) t.inst) t
+
+-- An undo came. Where more is to be undone the line still rolls back, and fewer records are open; else it is done.
+abbrev pub Undoes : {G : Type 0} → Telling G → Driver G → Driver G → Line → TxnId → Bool → Type 0
+Undoes {G} tell old new line t true = (open_records new t < open_records old t)
+    × ((start : Start G) (w : World) (lines : List Line) (n : ℕ) → RollsBack tell start lines n line old t w
+    → (w' : World) × RollsBack tell start lines n line new t w')
+Undoes tell old new line t false = UndoesAll tell old new line t
+
+-- as much of it as there was memory for
+abbrev pub UndoesSome : {G : Type 0} → Telling G → Driver G → Driver G → Line → TxnId → Type 0
+UndoesSome {G} tell old new line t =
+    (start : Start G) (w : World) (lines : List Line) (n : ℕ) → RollsBack tell start lines n line old t w
     → (w' : World) × IsIn tell start new.hall w'
-    × IsDueFor line.session line.number (event.List 1 p) w.told.known line (works_of (drop (n + 1) lines)) (Cursor.Lists 1 p) w'

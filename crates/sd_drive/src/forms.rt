@@ -1,4 +1,4 @@
-//! The event that a line asks for.
+//! The event that a line asks for, or the first one that it does.
 
 ghost use Rattle.std.specs.Prelude.{◌≡◌, ◌<◌, ◌^◌, ℕ, List, None, Some, IfOk, IsSome, length};
 ghost use Rattle.sd_drive.specs.Lines.{Names, capacity_of, event_of};
@@ -18,6 +18,9 @@ pub(crate) fn ordinal(form: &Form) -> Option<u32>
         Form::Add { ordinal, .. } => Some(*ordinal),
         Form::Insert { ordinal, .. } => Some(*ordinal),
         Form::Delete { ordinal, .. } => Some(*ordinal),
+        Form::Save { ordinal, .. } => Some(*ordinal),
+        Form::Back { ordinal, .. } => Some(*ordinal),
+        Form::Rollback { ordinal, .. } => Some(*ordinal),
         Form::Commit { ordinal, .. } => Some(*ordinal),
         _ => None,
     }
@@ -35,6 +38,14 @@ pub(crate) fn lone_event(form: &Form) -> Option<Event>
             page: *page,
             mode: *mode,
         }),
+        Form::Give { inst, page } => Some(Event::Give {
+            inst: *inst,
+            page: *page,
+        }),
+        Form::Take { inst, page } => Some(Event::Take {
+            inst: *inst,
+            page: *page,
+        }),
         Form::Evict { inst, page } => Some(Event::Evict {
             inst: *inst,
             page: *page,
@@ -44,12 +55,13 @@ pub(crate) fn lone_event(form: &Form) -> Option<Event>
             page: *page,
         }),
         Form::Force { inst } => Some(Event::Force { inst: *inst }),
+        Form::Fail { inst } => Some(Event::Fail { inst: *inst }),
         Form::Where { page } => Some(Event::Show { page: *page }),
         _ => None,
     }
 }
 
-/// The event of a line of this transaction.
+/// The event of a line of this transaction, or the first one of a line that rolls back.
 pub(crate) fn event_by(form: &Form, txn: TxnId) -> Result<Event, Memory>
     requires named { IsSome (ordinal_in form.now) }
     requires short { IsShort form.now }
@@ -79,6 +91,15 @@ pub(crate) fn event_by(form: &Form, txn: TxnId) -> Result<Event, Memory>
             capacity: capacity_of(value, *capacity),
         }),
         Form::Delete { rid, .. } => Ok(Event::Delete { txn, rid: *rid }),
+        Form::Save { mark, .. } => Ok(Event::Save {
+            txn,
+            mark: mark.copy()?,
+        }),
+        Form::Back { mark, .. } => Ok(Event::Back {
+            txn,
+            mark: Some(mark.copy()?),
+        }),
+        Form::Rollback { .. } => Ok(Event::Back { txn, mark: None }),
         Form::Commit { .. } => Ok(Event::Commit { txn }),
         _ => unreachable!(),
     }

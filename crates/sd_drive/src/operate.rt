@@ -1,18 +1,26 @@
 //! An event of a line done, with a pull of the page that it needs.
 
-ghost use Rattle.std.specs.Prelude.{◌≡◌, ◌≢◌, ◌++◌, ◌∷◌, [], List, OnErr, OnOk};
+ghost use Rattle.std.specs.Prelude.{◌≡◌, ◌≢◌, ◌++◌, ◌∷◌, [], List, OnErr, OnOk, Some};
+ghost use Rattle.sd_base.specs.declared.place.Place.{Place};
+ghost use Rattle.sd_base.specs.declared.refusal.Refusal.TheVariants as R;
 ghost use Rattle.sd_model.specs.declared.event.Entry.{Entry};
-ghost use Rattle.sd_world.specs.Serving.{telling};
+ghost use Rattle.sd_model.specs.declared.event.Event.TheVariants as event;
+ghost use Rattle.sd_model.specs.declared.event.Reply.TheVariants as reply;
+ghost use Rattle.sd_world.specs.PageCauses.{undo_page};
+ghost use Rattle.sd_world.specs.Serving.{Core, Turns, telling};
+ghost use Rattle.sd_state.specs.Complexes.{parts};
+ghost use Rattle.sd_state.specs.Parts.{IsShape};
+ghost use Rattle.sd_fits.specs.Fits.{Fits};
 ghost use Rattle.sd_hall.specs.Served.{IsServed};
-ghost use Rattle.sd_drive.specs.Alone.{IsOfOne};
 ghost use Rattle.sd_drive.specs.Operating.{DueIn, Operates, OperatesSome};
-ghost use Rattle.sd_drive.specs.Standing.{need_of, wanted_of};
+ghost use Rattle.sd_drive.specs.Standing.{Wants, is_need};
 
 use crate::pull::pull;
-use sd_base::{Duplicate, Memory, Mode, PageNo, Refusal};
+use sd_base::{Duplicate, InstNo, Memory, Mode, PageNo, Refusal, TxnId};
 use sd_hall::Hall;
 use sd_model::{Entry, Event, Reply};
 use sd_rig::Rig;
+use sd_state::Complex;
 
 /// Does an event of a line, under its session and number. Where the instance hasn't the page that the event needs, the page is pulled,
 /// and the event is tried once more.
@@ -23,17 +31,16 @@ pub(crate) fn operate<G: Rig>(
     e: Event,
 ) -> Result<(), Memory>
     requires served { IsServed e }
-    requires one { IsOfOne e }
     requires due { DueIn (telling G.seen G.leaves G.moment G.since G.faults) hall.old session line e }
     ensures done { OnOk result (Operates (telling G.seen G.leaves G.moment G.since G.faults) hall.old hall.new session line e) }
     ensures memory { OnErr result (OperatesSome (telling G.seen G.leaves G.moment G.since G.faults) hall.old hall.new session line e) }
 {
     hall.call(session, line, e)?;
     let last = last_entry(hall);
-    match wanted(last) {
+    match wanted(hall.complex(), last) {
         Some(need) => {
             let again = last.event.copy()?;
-            pull(hall, need.0, need.1)?;
+            pull(hall, need.0, need.1, need.2)?;
             hall.call(session, line, again)
         }
         None => Ok(()),
@@ -48,27 +55,50 @@ fn last_entry<G: Rig>(hall: &Hall<G>) -> &Entry
     hall.book().entries().last().unwrap()
 }
 
-// The page that the event of an entry still wants, and how.
-fn wanted(entry: &Entry) -> Option<(PageNo, Mode)>
-    ensures { result ≡ wanted_of entry.now.event entry.now.reply }
+// For whom the event of an entry still wants a page, which page, and how.
+fn wanted<G: Rig>(c: &Complex<G>, entry: &Entry) -> Option<(InstNo, PageNo, Mode)>
+    requires shape { IsShape (parts c.now) }
+    ensures { Wants (telling G.seen G.leaves G.moment G.since G.faults) c.now entry.now.event entry.now.reply result }
 {
-    match &entry.reply {
-        Reply::Refused(Refusal::NeedPage { .. }) => need(&entry.event),
+    if is_need(&entry.reply) {
+        need(c, &entry.event)
+    } else {
+        None
+    }
+}
+
+// Whether the reply wants a page.
+fn is_need(reply: &Reply) -> bool
+    ensures { result ≡ is_need reply.now }
+{
+    matches!(reply, Reply::Refused(Refusal::NeedPage { .. }))
+}
+
+// Who needs a page for an event, which page, and how, where it was refused for want of one; none where none is pulled for it.
+fn need<G: Rig>(c: &Complex<G>, e: &Event) -> Option<(InstNo, PageNo, Mode)>
+    requires shape { IsShape (parts c.now) }
+    ensures { (place : Place) → Wants (telling G.seen G.leaves G.moment G.since G.faults) c.now e.now (reply.Refused (R.NeedPage place)) result }
+{
+    match e {
+        Event::Read { txn, rid } => Some((txn.inst, rid.page, Mode::Shared)),
+        Event::List { inst, page } => Some((*inst, *page, Mode::Shared)),
+        Event::Write { txn, rid, .. } => Some((txn.inst, rid.page, Mode::Excl)),
+        Event::Add { txn, rid, .. } => Some((txn.inst, rid.page, Mode::Excl)),
+        Event::Delete { txn, rid } => Some((txn.inst, rid.page, Mode::Excl)),
+        Event::Insert { txn, page, .. } => Some((txn.inst, *page, Mode::Excl)),
+        Event::Undo { txn } => Some((txn.inst, undo_page(c, txn)?, Mode::Excl)),
         _ => None,
     }
 }
 
-// The page that an event needs, and how; none where it isn't pulled for it.
-fn need(e: &Event) -> Option<(PageNo, Mode)>
-    ensures { result ≡ need_of e.now }
+// The page of the record that an undo takes back.
+fn undo_page<G: Rig>(c: &Complex<G>, txn: &TxnId) -> Option<PageNo>
+    requires shape { IsShape (parts c.now) }
+    ensures { (place : Place) (w w' : Core) → Turns w (event.Undo txn.now) (reply.Refused (R.NeedPage place)) w'
+        → Fits (G.seen c.now.rig) (G.leaves c.now.rig) (parts c.now) w' → result ≡ Some (undo_page w.scene.state txn.now) }
 {
-    match e {
-        Event::Read { rid, .. } => Some((rid.page, Mode::Shared)),
-        Event::List { page, .. } => Some((*page, Mode::Shared)),
-        Event::Write { rid, .. } => Some((rid.page, Mode::Excl)),
-        Event::Add { rid, .. } => Some((rid.page, Mode::Excl)),
-        Event::Delete { rid, .. } => Some((rid.page, Mode::Excl)),
-        Event::Insert { page, .. } => Some((*page, Mode::Excl)),
-        _ => None,
-    }
+    let _number = txn.inst.get();
+    let rec = c.txns(txn.inst).top(txn)?;
+    let page = rec.rid.page;
+    Some(page)
 }

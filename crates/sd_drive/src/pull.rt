@@ -1,10 +1,10 @@
-//! A page pulled for instance 1, whose event needs it: asked for, with a copy of another written and evicted where no frame is left.
+//! A page pulled for an instance whose event needs it: asked for, given by who has it and taken, with another copy written and evicted
+//! where no frame is left.
 
-ghost use Rattle.std.specs.Prelude.{◌≡◌, ◌<◌, ◌&&◌, ℕ, true, [], IfOk, IfSome, IsNone, OnErr, OnOk, IsSome};
-ghost use Rattle.sd_base.specs.declared.place.Mode.{Mode};
+ghost use Rattle.std.specs.Prelude.{◌≡◌, ◌<◌, ◌&&◌, ℕ, true, false, [], IfOk, IfSome, IsNone, OnErr, OnOk, IsSome};
 ghost use Rattle.sd_model.specs.declared.event.Reply.{Reply};
 ghost use Rattle.sd_pagelock.specs.Directory.{entry_at};
-ghost use Rattle.sd_pagelock.specs.Places.{changed, holds, seen};
+ghost use Rattle.sd_pagelock.specs.Places.{changed, holds, receives, seen};
 ghost use Rattle.sd_state.specs.Complexes.{parts};
 ghost use Rattle.sd_state.specs.Parts.{pool_at, IsShape};
 ghost use Rattle.sd_pool.specs.Buffers.{image_at, IsPool};
@@ -12,9 +12,8 @@ ghost use Rattle.sd_fits.specs.Fits.{Fits};
 ghost use Rattle.sd_world.specs.Pages.{is_duty};
 ghost use Rattle.sd_world.specs.Serving.{Core, telling};
 ghost use Rattle.sd_hall.specs.Served.{IsServed};
-ghost use Rattle.sd_drive.specs.Alone.{IsOfOne};
-ghost use Rattle.sd_drive.specs.Driven.{Helped, IsAsked, IsFull, IsSomewhere, MakesRoom, PulledIn, PullsAll, PullsOn, PullsSome, StaysIn, asked_as, is_did, next_if, next_of};
-ghost use Rattle.sd_drive.specs.Pulls.{Pull};
+ghost use Rattle.sd_drive.specs.Driven.{Helped, IsFull, IsGiven, IsSomewhere, IsTaken, MakesRoom, PulledIn, PullsAll, PullsOn, PullsSome, Rounds, StaysIn, answer_as, is_did, next_if};
+ghost use Rattle.sd_drive.specs.Pulls.{Pull, Puller};
 
 use sd_base::{InstNo, Memory, Mode, PageNo, Place, Refusal};
 use sd_hall::Hall;
@@ -23,145 +22,195 @@ use sd_pagelock::rows;
 use sd_rig::Rig;
 use sd_state::Complex;
 
-/// How an ask for a page is answered.
+/// What the reply to a helping event tells.
 #[derive(Clone, Copy, Debug, PartialEq, Eq)]
-pub(crate) enum Asked {
-    /// The instance has the page so.
+pub(crate) enum Answer {
+    /// The instance has the page as it asked.
     Had,
-    /// The page is in no pool, and each frame holds another.
+    /// This instance has the page, and was asked for it.
+    Asked(InstNo),
+    /// The page is on its way to this instance.
+    MovingTo(InstNo),
+    /// The page was given.
+    Gave,
+    /// It is done.
+    Did,
+    /// Each frame of the pool that the page comes into holds another.
     NoFrame,
-    /// It won't have the page.
+    /// It is refused.
     Refused,
 }
 
-/// Instance 1.
-pub(crate) fn only_instance() -> InstNo
-    ensures { result ≡ 1 }
+/// Asks for the page until the instance has it so, or can't have it. Others that ask for it, and those to which it moves, are served on
+/// the way. After `Memory` the book has what happened so far, each entry the one that was due.
+pub(crate) fn pull<G: Rig>(
+    hall: &mut Hall<G>,
+    inst: InstNo,
+    page: PageNo,
+    mode: Mode,
+) -> Result<(), Memory>
+    requires at { PulledIn (telling G.seen G.leaves G.moment G.since G.faults) hall.old (record { inst = inst; mode = mode }) (Pull.Asks page) }
+    ensures pulled { OnOk result (PullsAll (telling G.seen G.leaves G.moment G.since G.faults) hall.old hall.new
+        (record { inst = inst; mode = mode }) page) }
+    ensures memory { OnErr result (PullsSome (telling G.seen G.leaves G.moment G.since G.faults) hall.old hall.new
+        (record { inst = inst; mode = mode }) (Pull.Asks page)) }
 {
-    InstNo::new(1).unwrap()
-}
-
-/// Asks for the page until instance 1 has it so, or can't have it. Where each frame holds another page, the one whose last use is
-/// longest ago makes room.
-pub(crate) fn pull<G: Rig>(hall: &mut Hall<G>, page: PageNo, mode: Mode) -> Result<(), Memory>
-    requires at { PulledIn (telling G.seen G.leaves G.moment G.since G.faults) hall.old mode (Pull.Asks page) }
-    ensures pulled { OnOk result (PullsAll (telling G.seen G.leaves G.moment G.since G.faults) hall.old hall.new page mode) }
-    ensures memory { OnErr result (PullsSome (telling G.seen G.leaves G.moment G.since G.faults) hall.old hall.new mode (Pull.Asks page)) }
-{
-    while let Asked::NoFrame = ask(hall, page, mode)? {
-        if !make_room(hall)? {
-            return Ok(());
-        }
-    }
+    while round(hall, inst, page, mode)? {}
     Ok(())
 }
 
-// Asks for the page.
-fn ask<G: Rig>(hall: &mut Hall<G>, page: PageNo, mode: Mode) -> Result<Asked, Memory>
+// Asks for the page once. Another who has it gives it to the oldest asker, and one to whom it moves takes it; where a pool has no frame
+// for it, room is made there. Whether the page is to be asked for again.
+fn round<G: Rig>(hall: &mut Hall<G>, inst: InstNo, page: PageNo, mode: Mode) -> Result<bool, Memory>
+    requires at { PulledIn (telling G.seen G.leaves G.moment G.since G.faults) hall.old (record { inst = inst; mode = mode }) (Pull.Asks page) }
+    ensures rounds { IfOk result (λ again. Rounds (telling G.seen G.leaves G.moment G.since G.faults) hall.old hall.new
+        (record { inst = inst; mode = mode }) page again) }
+    ensures memory { OnErr result (PullsSome (telling G.seen G.leaves G.moment G.since G.faults) hall.old hall.new
+        (record { inst = inst; mode = mode }) (Pull.Asks page)) }
+{
+    let answer = help(hall, Event::Ask { inst, page, mode })?;
+    match answer {
+        Answer::Asked(of) => give(hall, of, page),
+        Answer::MovingTo(to) => take(hall, to, page),
+        Answer::NoFrame => make_room(hall, inst),
+        _ => Ok(false),
+    }
+}
+
+// The page is given to its oldest asker. Whether it was.
+fn give<G: Rig>(hall: &mut Hall<G>, of: InstNo, page: PageNo) -> Result<bool, Memory>
     requires at { IsSomewhere (telling G.seen G.leaves G.moment G.since G.faults) hall.old }
-    ensures asked { IfOk result (λ answer. PullsOn (telling G.seen G.leaves G.moment G.since G.faults) hall.old hall.new mode
-        (Pull.Asks page) (next_of answer page) (IsAsked answer page mode)) }
+    ensures given { IfOk result (λ given. (for : Puller) → PullsOn (telling G.seen G.leaves G.moment G.since G.faults) hall.old hall.new
+        for (Pull.Gives page of) (next_if given page) (IsGiven given of page)) }
     ensures memory { OnErr result (StaysIn (telling G.seen G.leaves G.moment G.since G.faults) hall.old hall.new) }
 {
-    let inst = only_instance();
-    hall.call(0, 0, Event::Ask { inst, page, mode })?;
-    Ok(answer(hall.last()))
+    let answer = help(hall, Event::Give { inst: of, page })?;
+    Ok(matches!(answer, Answer::Gave))
 }
 
-// What the reply to an ask tells.
-fn answer(reply: &Reply) -> Asked
-    ensures { result ≡ asked_as reply.now }
+// The page is taken by the instance to which it moves. Whether it was, or that instance has room for it.
+fn take<G: Rig>(hall: &mut Hall<G>, to: InstNo, page: PageNo) -> Result<bool, Memory>
+    requires at { (for : Puller) × PulledIn (telling G.seen G.leaves G.moment G.since G.faults) hall.old for (Pull.Takes page to) }
+    ensures taken { IfOk result (λ taken. (for : Puller) → PullsOn (telling G.seen G.leaves G.moment G.since G.faults) hall.old hall.new
+        for (Pull.Takes page to) (next_if taken page) (IsTaken taken to page)) }
+    ensures memory { OnErr result ((for : Puller) → PullsSome (telling G.seen G.leaves G.moment G.since G.faults) hall.old hall.new
+        for (Pull.Takes page to)) }
 {
-    match reply {
-        Reply::Have => Asked::Had,
-        Reply::Refused(Refusal::PoolFull) => Asked::NoFrame,
-        _ => Asked::Refused,
+    let answer = help(hall, Event::Take { inst: to, page })?;
+    match answer {
+        Answer::Did => Ok(true),
+        Answer::NoFrame => make_room(hall, to),
+        _ => Ok(false),
     }
 }
 
-// The page whose last use is longest ago leaves the pool, and is written before where that is the instance's duty. Whether it did.
-fn make_room<G: Rig>(hall: &mut Hall<G>) -> Result<bool, Memory>
-    requires at { (mode : Mode) × (p : ℕ) × (s : PulledIn (telling G.seen G.leaves G.moment G.since G.faults) hall.old mode (Pull.Room p 1)) × IsFull s.world.core }
-    ensures room { IfOk result (λ room. (mode : Mode) (p : ℕ) → PullsOn (telling G.seen G.leaves G.moment G.since G.faults) hall.old hall.new
-        mode (Pull.Room p 1) (next_if room p) (MakesRoom room)) }
-    ensures memory { OnErr result ((mode : Mode) (p : ℕ) → PullsSome (telling G.seen G.leaves G.moment G.since G.faults) hall.old hall.new mode (Pull.Room p 1)) }
+// The page of the instance whose last use is longest ago leaves its pool, and is written before where that is its duty. Whether it did.
+fn make_room<G: Rig>(hall: &mut Hall<G>, inst: InstNo) -> Result<bool, Memory>
+    requires at { (for : Puller) × (p : ℕ) × (s : PulledIn (telling G.seen G.leaves G.moment G.since G.faults) hall.old for (Pull.Room p inst))
+        × IsFull inst s.world.core }
+    ensures room { IfOk result (λ room. (for : Puller) (p : ℕ) → PullsOn (telling G.seen G.leaves G.moment G.since G.faults) hall.old hall.new
+        for (Pull.Room p inst) (next_if room p) (MakesRoom room inst)) }
+    ensures memory { OnErr result ((for : Puller) (p : ℕ) → PullsSome (telling G.seen G.leaves G.moment G.since G.faults) hall.old hall.new
+        for (Pull.Room p inst)) }
 {
-    let inst = only_instance();
-    let page = victim(hall.complex());
-    if must_write(&hall.complex().entry(page)) {
-        return write_out(hall, page);
+    let page = victim(hall.complex(), inst);
+    if must_write(&hall.complex().entry(page), inst) {
+        return write_out(hall, inst, page);
     }
-    help(hall, Event::Evict { inst, page })
+    done(hall, Event::Evict { inst, page })
 }
 
 // A changed page is written, and its copy leaves the pool. Whether it did.
-fn write_out<G: Rig>(hall: &mut Hall<G>, page: PageNo) -> Result<bool, Memory>
-    requires at { (mode : Mode) × (p : ℕ) × PulledIn (telling G.seen G.leaves G.moment G.since G.faults) hall.old mode (Pull.Room p 1) }
+fn write_out<G: Rig>(hall: &mut Hall<G>, inst: InstNo, page: PageNo) -> Result<bool, Memory>
+    requires at { (for : Puller) × (p : ℕ) × PulledIn (telling G.seen G.leaves G.moment G.since G.faults) hall.old for (Pull.Room p inst) }
     requires range { page < 1024 }
-    requires held { holds (entry_at (parts hall.old.complex).directory page) 1 ≡ true }
+    requires held { holds (entry_at (parts hall.old.complex).directory page) inst ≡ true }
+    requires still { receives (entry_at (parts hall.old.complex).directory page) inst ≡ false }
     requires duty { (changed (entry_at (parts hall.old.complex).directory page)
-        && is_duty 1 (entry_at (parts hall.old.complex).directory page)) ≡ true }
-    ensures room { IfOk result (λ room. (mode : Mode) (p : ℕ) → PullsOn (telling G.seen G.leaves G.moment G.since G.faults) hall.old hall.new
-        mode (Pull.Room p 1) (next_if room p) (MakesRoom room)) }
-    ensures memory { OnErr result ((mode : Mode) (p : ℕ) → PullsSome (telling G.seen G.leaves G.moment G.since G.faults) hall.old hall.new mode (Pull.Room p 1)) }
+        && is_duty inst (entry_at (parts hall.old.complex).directory page)) ≡ true }
+    ensures room { IfOk result (λ room. (for : Puller) (p : ℕ) → PullsOn (telling G.seen G.leaves G.moment G.since G.faults) hall.old hall.new
+        for (Pull.Room p inst) (next_if room p) (MakesRoom room inst)) }
+    ensures memory { OnErr result ((for : Puller) (p : ℕ) → PullsSome (telling G.seen G.leaves G.moment G.since G.faults) hall.old hall.new
+        for (Pull.Room p inst)) }
 {
-    let inst = only_instance();
-    if !help(hall, Event::Flush { inst, page })? {
+    if !done(hall, Event::Flush { inst, page })? {
         return Ok(false);
     }
-    help(hall, Event::Evict { inst, page })
+    done(hall, Event::Evict { inst, page })
 }
 
-// Does a helping event. Whether it was done.
-fn help<G: Rig>(hall: &mut Hall<G>, e: Event) -> Result<bool, Memory>
+// Does a helping event that is answered Did. Whether it was.
+fn done<G: Rig>(hall: &mut Hall<G>, e: Event) -> Result<bool, Memory>
     requires served { IsServed e }
-    requires one { IsOfOne e }
     requires at { IsSomewhere (telling G.seen G.leaves G.moment G.since G.faults) hall.old }
     ensures helped { IfOk result (λ done. (r : Reply) × (is_did r ≡ done)
         × Helped (telling G.seen G.leaves G.moment G.since G.faults) hall.old hall.new e r) }
     ensures memory { OnErr result (StaysIn (telling G.seen G.leaves G.moment G.since G.faults) hall.old hall.new) }
 {
-    hall.call(0, 0, e)?;
-    Ok(is_did(hall.last()))
+    let answer = help(hall, e)?;
+    Ok(matches!(answer, Answer::Did))
 }
 
-// Whether it is done.
-fn is_did(reply: &Reply) -> bool
-    ensures { result ≡ is_did reply.now }
+// Does a helping event. What its reply tells.
+fn help<G: Rig>(hall: &mut Hall<G>, e: Event) -> Result<Answer, Memory>
+    requires served { IsServed e }
+    requires at { IsSomewhere (telling G.seen G.leaves G.moment G.since G.faults) hall.old }
+    ensures helped { IfOk result (λ answer. (r : Reply) × (answer_as r ≡ answer)
+        × Helped (telling G.seen G.leaves G.moment G.since G.faults) hall.old hall.new e r) }
+    ensures memory { OnErr result (StaysIn (telling G.seen G.leaves G.moment G.since G.faults) hall.old hall.new) }
 {
-    matches!(reply, Reply::Did)
+    hall.call(0, 0, e)?;
+    Ok(answer_of(hall.last()))
 }
 
-// The page of instance 1 whose last use is longest ago.
-fn victim<G: Rig>(c: &Complex<G>) -> PageNo
-    requires full { (w : Core) × Fits (G.seen c.now.rig) (G.leaves c.now.rig) (parts c.now) w × IsFull w }
-    ensures held { holds (entry_at (parts c.now).directory result) 1 ≡ true }
+// What the reply tells.
+fn answer_of(reply: &Reply) -> Answer
+    ensures { result ≡ answer_as reply.now }
+{
+    match reply {
+        Reply::Have => Answer::Had,
+        Reply::Asked { of } => Answer::Asked(*of),
+        Reply::Gave { .. } => Answer::Gave,
+        Reply::Did => Answer::Did,
+        Reply::Refused(Refusal::MovingTo { to }) => Answer::MovingTo(*to),
+        Reply::Refused(Refusal::PoolFull) => Answer::NoFrame,
+        _ => Answer::Refused,
+    }
+}
+
+// The page of the instance whose last use is longest ago. It doesn't move to that instance.
+fn victim<G: Rig>(c: &Complex<G>, inst: InstNo) -> PageNo
+    requires full { (w : Core) × Fits (G.seen c.now.rig) (G.leaves c.now.rig) (parts c.now) w × IsFull inst w }
+    ensures held { holds (entry_at (parts c.now).directory result) inst ≡ true }
+    ensures still { receives (entry_at (parts c.now).directory result) inst ≡ false }
     ensures range { result < 1024 }
 {
-    let page = least_recent(c).unwrap();
+    c.directory.keeps();
+    let _inst = inst.get();
+    let page = least_recent(c, inst).unwrap();
     let _number = page.get();
     page
 }
 
 // It, where its pool has a page.
-fn least_recent<G: Rig>(c: &Complex<G>) -> Option<PageNo>
+fn least_recent<G: Rig>(c: &Complex<G>, inst: InstNo) -> Option<PageNo>
     requires { IsShape (parts c.now) }
-    ensures held { IfSome result (λ p. IsSome (image_at (pool_at (parts c.now) 1) p)) }
-    ensures none { IsNone result → (pool_at (parts c.now) 1).held ≡ [] }
-    ensures pool { IsPool (pool_at (parts c.now) 1) }
+    ensures held { IfSome result (λ p. IsSome (image_at (pool_at (parts c.now) inst) p)) }
+    ensures none { IsNone result → (pool_at (parts c.now) inst).held ≡ [] }
+    ensures pool { IsPool (pool_at (parts c.now) inst) }
 {
-    let pool = &c.pools[0];
+    let pool = &c.pools[inst.get() as usize - 1];
     let _held = pool.count();
     pool.victim()
 }
 
-// Whether instance 1 has to write the page before its copy goes.
-fn must_write(place: &Place) -> bool
-    ensures { result ≡ (changed (seen place.now) && is_duty 1 (seen place.now)) }
+// Whether the instance has to write the page before its copy goes.
+fn must_write(place: &Place, inst: InstNo) -> bool
+    ensures { result ≡ (changed (seen place.now) && is_duty inst (seen place.now)) }
 {
     match *place {
-        Place::Shared { writer, .. } => writer == Some(only_instance()),
-        Place::Excl { holder, dirty } => dirty && holder == only_instance(),
+        Place::Shared { writer, .. } => writer == Some(inst),
+        Place::Excl { holder, dirty } => dirty && holder == inst,
         Place::Free | Place::Moving { .. } | Place::Lost => false,
     }
 }

@@ -6,6 +6,7 @@ pub mod Worked
 pub mod Still
 pub mod Frames
 pub mod Places
+pub mod Passing
 pub mod Forcing
 pub mod Sealing
 pub mod Values
@@ -13,8 +14,13 @@ pub mod Unclaimed
 pub mod Leaving
 pub mod Looking
 pub mod Taking
+pub mod Recording
 pub mod Changing
+pub mod Undoing
+pub mod Turning
 pub mod Falling
 pub mod Refused
 pub mod Putting
 pub mod Room
+pub mod Disk
+pub mod Known

@@ -68,7 +68,7 @@ none-more p base tail x none true =
     ∙ sym (filter-append (of_page p) base tail)
 
 -- the next gate is further by no more than the record and a group's head
-gate-more : (l : LogState) (y : Record) (spare : ℕ) → (forced (with_record y spare l)).gate ≤ (forced l).gate + 5 + length (spelling y)
+pub gate-more : (l : LogState) (y : Record) (spare : ℕ) → (forced (with_record y spare l)).gate ≤ (forced l).gate + 5 + length (spelling y)
 gate-more l y spare =
     let more : tail_len (with_record y spare l) ≡ tail_len l + length (spelling y) =
     ap length (spelled-more l.tail y) ∙ length-append (spelled l.tail) (spelling y) in
@@ -79,6 +79,13 @@ gate-more l y spare =
     pushed : (tail : List Record) → (forced_with (with_record y spare l) (tail ++ y ∷ [])).gate ≡ l.gate + 5 + tail_len (with_record y spare l)
     pushed [] = refl
     pushed (r ∷ rs) = refl
+
+-- what a log owes at most doesn't grow with its table
+pub owes-less : (loose tells : Bool) (was told told' : ℕ) → told' ≤ told
+    → cond loose was (cond tells (max was told') was) ≤ cond loose was (cond tells (max was told) was)
+owes-less true tells was told told' less = omega arith
+owes-less false true was told told' less = omega arith
+owes-less false false was told told' less = omega arith
 
 -- ---- the complex with it
 
@@ -187,13 +194,6 @@ module _ (i spare extra : ℕ) (y : Record) (txns : List Transactions) (epochs :
     where
       greatest : (d x z : ℕ) → x ≤ z + 1 → max d x ≤ max d z + 1
       greatest d x z more = omega arith
-
-  -- what a log owes at most doesn't grow with its table
-  owes-less : (loose tells : Bool) (was told told' : ℕ) → told' ≤ told
-      → cond loose was (cond tells (max was told') was) ≤ cond loose was (cond tells (max was told) was)
-  owes-less true tells was told told' less = omega arith
-  owes-less false true was told told' less = omega arith
-  owes-less false false was told told' less = omega arith
 
   pub sealed-bounds : (b b' : Bounds) → AreMore i extra b b' → FitsBounds seen c b → FitsBounds seen new b'
   sealed-bounds b b' a f = record {

@@ -90,7 +90,7 @@ pub took-lives : (t : TxnId) (r : Rid) (mode : Claim) (acts : List Act) (m : Sta
     → ((took t r mode acts m).part u).life ≡ (m.part u).life
 took-lives t r mode acts m = each_txn t (λ u (p : Part). p.life ≡ (m.part u).life) (took_part r mode acts (m.part t)) m.part refl (λ u ne. refl)
 
-put-more : (xs ys : List Act) → HasPut xs → HasPut (xs ++ ys)
+pub put-more : (xs ys : List Act) → HasPut xs → HasPut (xs ++ ys)
 put-more [] ys h = absurd h
 put-more (Act.Read r v ∷ xs) ys h = put-more xs ys h
 put-more (Act.Put r v ∷ xs) ys h = tt

@@ -10,10 +10,11 @@
 //! Stands on: sd_base, sd_model, sd_page, sd_logrec, sd_rig, sd_log, sd_pool, sd_txn, sd_reclock, sd_pagelock, sd_chain, sd_sound,
 //! sd_coherent, sd_world, sd_state, sd_moves.
 //! Lends: in `proofs`, over what a crash may leave, the lemma of each law (Fitting), and how a complex goes on fitting: where nothing
-//! or locks alone change (Served, Still), where transactions work and end (Heads, Worked, Taking, Leaving), where pages move or are put
-//! (Places, Frames, Putting), where a log grows or is forced (Changing, Sealing, Forcing) or has no room (Room), where an instance falls
-//! (Falling); what a record has (Values, Unclaimed), who stands in the way of a lock (Looking), and how a refusal for what instances and
-//! pages say is served (Refused).
+//! or locks alone change (Served, Still), where transactions work, turn and end (Heads, Worked, Taking, Turning, Leaving), where pages
+//! move or are put (Places, Passing, Frames, Putting), where a log grows or is forced (Recording, Changing, Undoing, Sealing, Forcing) or has no
+//! room (Room), where an instance falls (Falling); what a record has (Values, Unclaimed), who stands in the way of a lock (Looking), how
+//! a refusal for what instances and pages say is served (Refused), what a row tells of its transaction (Known), and what is left of
+//! the data device (Disk).
 //!
 //! To change:
 //! - free: proofs

@@ -1,61 +1,34 @@
 -- A hall keeps its run. It serves the goals of `call` in hall.rt, and of `serve` in serving.rt.
-use Rattle.std.proofs.Common.{◌≡◌, ◌≢◌, inl, inr, ℕ, ◌+◌, ◌-◌, ◌≤◌, List, [], ◌∷◌, ◌++◌, length, Option, None, Some, refl, sym, ap, ◌∙◌, subst, arith}
+use Rattle.std.proofs.Common.{◌≡◌, ◌≢◌, inl, inr, ⊎_elim, ℕ, zero, suc, Bool, true, false, ◌+◌, ◌-◌, ◌≤◌, List, [], ◌∷◌, ◌++◌, length, Option, None, Some, refl, sym, ap, ◌∙◌, subst, arith}
 use Rattle.std.specs.List.{slice_get}
-use Rattle.std.specs.Prelude.{ℤ, Result, Ok, Err, OnErr}
-use Rattle.std.proofs.lemmas.List.{length-append}
-use Rattle.sd_base.specs.declared.ids.Rid.{Rid}
+use Rattle.std.specs.Prelude.{Result, Ok, Err, OnErr}
+use Rattle.std.proofs.lemmas.Bool.{cases_lt}
+use Rattle.std.proofs.lemmas.List.{get_or_past, length-append}
 use Rattle.sd_base.specs.declared.ids.TxnId.{TxnId}
-use Rattle.sd_base.specs.declared.place.Mode.{Mode}
+use Rattle.sd_base.specs.declared.place.Status.TheVariants as S
 use Rattle.sd_base.specs.declared.refusal.Refusal.{Refusal}
 use Rattle.sd_base.specs.declared.refusal.Refusal.TheVariants as R
 use Rattle.sd_base.proofs.Lists.{slice_get-push}
 use Rattle.sd_rig.specs.Devices.{Image, Leaves}
-use Rattle.sd_model.specs.State.{State}
-use Rattle.sd_model.specs.Step.{Step}
 use Rattle.sd_model.specs.declared.event.Entry.{Entry}
 use Rattle.sd_model.specs.declared.event.Event.{Event}
 use Rattle.sd_model.specs.declared.event.Event.TheVariants as event
 use Rattle.sd_model.specs.declared.event.Reply.{Reply}
 use Rattle.sd_model.specs.declared.event.Reply.TheVariants as reply
 use Rattle.sd_world.specs.Leading.{Leads}
-use Rattle.sd_world.specs.Serving.{Core, Telling, did}
+use Rattle.sd_world.specs.Serving.{Core, Telling, Turns, answered, step_or_finished}
 use Rattle.sd_world.proofs.Leading.{leads-grow}
+use Rattle.sd_state.specs.Complexes.{parts}
+use Rattle.sd_state.specs.Parts.{Parts, status_at}
 use Rattle.sd_state.specs.declared.complex.Complex.{Complex}
-use Rattle.sd_fits.specs.Serving.{Serving}
+use Rattle.sd_fits.specs.Serving.{Serving, fits_by}
 use Rattle.sd_fits.proofs.Served.{still-spares}
 use Rattle.sd_hall.specs.declared.hall.Hall.{Hall}
 use Rattle.sd_hall.specs.Keeping.{HasPlace, Keeps, MakesPlace}
 use Rattle.sd_hall.specs.Ledger.{IsOwed, entries_owed, owed_more}
-use Rattle.sd_hall.specs.Served.{IsServed}
+use Rattle.sd_hall.specs.Served.{IsDownThen, IsServed}
 use Rattle.sd_hall.proofs.Owes.{step-owed}
-use Rattle.sd_hall.proofs.Paid.{owed-none, owed-some, step-paid}
-
--- an event that is served is one of these
-pub none-else : (e : Event) → IsServed e
-    → ((i : ℕ) → e ≡ event.Begin i → ⊥) → ((t : TxnId) (r : Rid) → e ≡ event.Read t r → ⊥)
-    → ((t : TxnId) (r : Rid) (v : List ℕ) → e ≡ event.Write t r v → ⊥) → ((t : TxnId) (r : Rid) (by : ℤ) → e ≡ event.Add t r by
-    → ⊥)
-    → ((t : TxnId) (p : ℕ) (v : List ℕ) (n : ℕ) → e ≡ event.Insert t p v n → ⊥)
-    → ((t : TxnId) (r : Rid) → e ≡ event.Delete t r → ⊥) → ((t : TxnId) → e ≡ event.Commit t → ⊥)
-    → ((i p : ℕ) → e ≡ event.List i p → ⊥) → ((i p : ℕ) (mode : Mode) → e ≡ event.Ask i p mode → ⊥)
-    → ((i p : ℕ) → e ≡ event.Evict i p → ⊥) → ((i p : ℕ) → e ≡ event.Flush i p → ⊥) → ((i : ℕ) → e ≡ event.Force i → ⊥)
-    → ((i : ℕ) → e ≡ event.Fail i → ⊥) → ((i : ℕ) → e ≡ event.Join i → ⊥) → ((p : ℕ) → e ≡ event.Show p → ⊥) → ⊥
-none-else (event.Begin i) served begin read write add insert delete commit list ask evict flush force fail join show = begin i refl
-none-else (event.Read t r) served begin read write add insert delete commit list ask evict flush force fail join show = read t r refl
-none-else (event.Write t r v) served begin read write add insert delete commit list ask evict flush force fail join show = write t r v refl
-none-else (event.Add t r by) served begin read write add insert delete commit list ask evict flush force fail join show = add t r by refl
-none-else (event.Insert t p v n) served begin read write add insert delete commit list ask evict flush force fail join show = insert t p v n refl
-none-else (event.Delete t r) served begin read write add insert delete commit list ask evict flush force fail join show = delete t r refl
-none-else (event.Commit t) served begin read write add insert delete commit list ask evict flush force fail join show = commit t refl
-none-else (event.List i p) served begin read write add insert delete commit list ask evict flush force fail join show = list i p refl
-none-else (event.Ask i p mode) served begin read write add insert delete commit list ask evict flush force fail join show = ask i p mode refl
-none-else (event.Evict i p) served begin read write add insert delete commit list ask evict flush force fail join show = evict i p refl
-none-else (event.Flush i p) served begin read write add insert delete commit list ask evict flush force fail join show = flush i p refl
-none-else (event.Force i) served begin read write add insert delete commit list ask evict flush force fail join show = force i refl
-none-else (event.Fail i) served begin read write add insert delete commit list ask evict flush force fail join show = fail i refl
-none-else (event.Join i) served begin read write add insert delete commit list ask evict flush force fail join show = join i refl
-none-else (event.Show p) served begin read write add insert delete commit list ask evict flush force fail join show = show p refl
-none-else e served begin read write add insert delete commit list ask evict flush force fail join show = served
+use Rattle.sd_hall.proofs.Paid.{HasFallen, owed-none, owed-some, turns-paid}
 
 -- one entry more is owed at most
 pub more-one : (e : Event) (r : Reply) → owed_more e r ≤ 1
@@ -64,6 +37,7 @@ more-one (event.Write t r v) reply.Did = omega arith
 more-one (event.Add t r by) reply.Did = omega arith
 more-one (event.Insert t p v n) (reply.At r) = omega arith
 more-one (event.Delete t r) reply.Did = omega arith
+more-one (event.Back t k) reply.Did = omega arith
 more-one (event.Join i) (reply.Joined epoch) = omega arith
 more-one e r = omega arith
 
@@ -74,10 +48,20 @@ served-as {G} tell old new e arm r answer is so served = subst (λ (x : Event). 
     (subst (λ (x : Option Reply). Serving tell arm x old new) (sym so) served)
 
 -- a call that doesn't want memory is told of
-pub did-some : (done : Result (Unit {0}) Refusal) → done ≢ Err R.Memory → did done ≢ None
-did-some (Ok x) ne = λ e. cc
-did-some (Err R.Memory) ne = λ e. ne refl
-did-some (Err n) ne = λ e. cc
+pub answered-some : {X : Type 0} (answer : X → Reply) (done : Result X Refusal) → done ≢ Err R.Memory → answered answer done ≢ None
+answered-some answer (Ok x) ne = λ e. cc
+answered-some answer (Err R.Memory) ne = λ e. ne refl
+answered-some answer (Err n) ne = λ e. cc
+
+pub same-undo : (t u : TxnId) → event.Undo t ≡ event.Undo u → t ≡ u
+same-undo t u e = cc
+
+-- an undo that is told to have failed has
+pub failed-so : (done : Result Bool Refusal) → answered step_or_finished done ≡ Some (reply.Refused R.Failed) → done ≡ Err R.Failed
+failed-so (Ok false) e = absurd (cc)
+failed-so (Ok true) e = absurd (cc)
+failed-so (Err R.Failed) e = refl
+failed-so (Err n) e = absurd (cc)
 
 -- a complex that stays as it was is spared
 pub spared-still : {G : Type 0} (tell : Telling G) (e : Event) (old new : Complex G) → old ≡ new
@@ -110,29 +94,45 @@ of-err (Err e) P holds = holds
 
 -- a call for which an entry is owed finds memory
 pub no-place : {G : Type 0} (tell : Telling G) (start : Core) (e : Event) (old mid : Hall G) → Keeps tell start old
-    → ((m : State) → IsOwed m e → ⊥) → HasPlace tell e old mid → MakesPlace old mid
-no-place tell start e old mid k none (inl p) = absurd (none k.core.scene.state (p.owed k.core k.fits))
+    → ((w : Core) → IsOwed w e → ⊥) → HasPlace tell e old mid → MakesPlace old mid
+no-place tell start e old mid k none (inl p) = absurd (none k.core (p.owed k.core k.fits))
 no-place tell start e old mid k none (inr p) = p
 
 -- where an entry is owed for an event, the hall counts it
 pub owed-counted : {G : Type 0} (tell : Telling G) (start : Core) (e : Event) (hall : Hall G) → (k : Keeps tell start hall)
-    → IsOwed k.core.scene.state e → 1 ≤ hall.owed
+    → IsOwed k.core e → 1 ≤ hall.owed
 owed-counted tell start e hall k owed =
-    let some = owed-some k.core.scene.state e k.fits.good.listed owed in let counted = k.counted in omega (arith, some, counted)
+    let some = owed-some k.core e k.fits.good.listed owed in let counted = k.counted in omega (arith, some, counted)
+
+-- an instance that is down is one of the eight
+down-there : (c : Parts) → length c.statuses ≡ 8 → (k : ℕ) → status_at c k ≡ S.Down → (1 ≤ k) × (k ≤ 8)
+down-there c eight zero down = absurd (cc)
+down-there c eight (suc j) down = ⊎_elim
+    (λ lt. (omega arith, omega (arith, lt)))
+    (λ ge. let clash = sym (get_or_past c.statuses j S.Closed (omega (arith, eight, ge))) ∙ down in absurd (cc))
+    (cases_lt j 8)
+
+-- so it has taken the instance down
+fallen-so : {G : Type 0} (tell : Telling G) (c : Complex G) (w : Core) → fits_by tell.seen tell.leaves c w → (e : Event) (r : Reply)
+    → IsDownThen e (Some r) (parts c) → HasFallen e r w.scene.state
+fallen-so tell c w f e r down t is failed =
+    let there = down t is (ap (λ (x : Reply). Some x) failed) in
+    let range = down-there (parts c) f.good.shape.statuses t.inst there in
+    (range.0, range.1, sym (f.good.instances t.inst range.0 range.1).status ∙ there)
 
 module _ {G : Type 0} (tell : Telling G) (start : Core) (old mid new : Hall G) (k : Keeps tell start old) where
   -- what the next state owes is counted
-  counted-next : (e : Event) (r : Reply) (m' : State) → IsServed e → Step k.core.scene.state e r m' → HasPlace tell e old mid
-      → new.owed ≡ mid.owed + owed_more e r → entries_owed m' ≤ new.owed
-  counted-next e r m' is_served step (inl p) counts =
+  counted-next : (e : Event) (r : Reply) (w' : Core) → IsServed e → Turns k.core e r w' → HasFallen e r w'.scene.state
+      → HasPlace tell e old mid → new.owed ≡ mid.owed + owed_more e r → entries_owed w'.scene.state ≤ new.owed
+  counted-next e r w' is_served turns fell (inl p) counts =
       let good = k.fits.good in
       let owed = p.owed k.core k.fits in
-      let paid = step-paid k.core.scene.state good.listed good.placed good.not_closed e r m' owed step in
+      let paid = turns-paid k.core w' good.listed good.placed good.not_closed e r owed fell turns in
       let before = k.counted in
       let less = p.less in
       omega (arith, counts, paid, before, less)
-  counted-next e r m' is_served step (inr p) counts =
-      let more = step-owed k.core.scene.state e r m' k.fits.good.listed is_served step in
+  counted-next e r w' is_served turns fell (inr p) counts =
+      let more = step-owed k.core.scene.state e r w'.scene.state k.fits.good.listed is_served turns.plays.step in
       let before = k.counted in
       let same = p.same in
       omega (arith, counts, more, before, same)
@@ -140,7 +140,7 @@ module _ {G : Type 0} (tell : Telling G) (start : Core) (old mid new : Hall G) (
   room-next : (e : Event) (r : Reply) → HasPlace tell e old mid → new.owed ≡ mid.owed + owed_more e r
       → mid.book.spare ≤ new.book.spare + 1 → new.owed ≤ new.book.spare
   room-next e r (inl p) counts spare =
-      let none = owed-none k.core.scene.state e r (p.owed k.core k.fits) in
+      let none = owed-none k.core e r (p.owed k.core k.fits) in
       let less = p.less in
       let room = p.room in
       omega (arith, counts, none, less, room, spare)
@@ -150,15 +150,17 @@ module _ {G : Type 0} (tell : Telling G) (start : Core) (old mid new : Hall G) (
   -- an event is served, and noted
   pub keeps-more : (x : Entry) → IsServed x.event → HasPlace tell x.event old mid
       → new.book.entries ≡ old.book.entries ++ x ∷ [] → Serving tell x.event (Some x.reply) old.complex new.complex
+      → IsDownThen x.event (Some x.reply) (parts new.complex)
       → new.owed ≡ mid.owed + owed_more x.event x.reply → mid.book.spare ≤ new.book.spare + 1 → Keeps tell start new
-  keeps-more x is_served place noted served counts spare =
+  keeps-more x is_served place noted served down counts spare =
       let next = served.0 k.core k.fits in
       record {
         core = next.0;
         leads = subst (λ (es : List Entry). Leads start es next.0) (sym noted)
             (leads-grow old.book.entries x start k.core next.0 k.leads next.1.turns);
         fits = next.1.fits_then;
-        counted = counted-next x.event x.reply next.0.scene.state is_served next.1.turns.plays.step place counts;
+        counted = counted-next x.event x.reply next.0 is_served next.1.turns
+            (fallen-so tell new.complex next.0 next.1.fits_then x.event x.reply down) place counts;
         room = room-next x.event x.reply place counts spare;
       }
 

@@ -1,4 +1,5 @@
 pub mod Owes
 pub mod Paid
+pub mod Rolling
 pub mod Owing
 pub mod Keeping

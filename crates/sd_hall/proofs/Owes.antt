@@ -1,7 +1,7 @@
 -- The entries that a hall owes, through each event. It serves the goals of `call` in hall.rt.
-use Rattle.std.proofs.Common.{◌≡◌, ◌≢◌, inl, inr, ⊎_elim, ℕ, zero, suc, ◌+◌, ◌≤◌, Bool, true, false, cond, eqb, List, [], ◌∷◌, ◌++◌, length, refl, sym, ap, ◌∙◌, subst, arith, eq-eqb, ne_eqb}
+use Rattle.std.proofs.Common.{◌≡◌, ◌≢◌, ◌⊎◌, inl, inr, ⊎_elim, ℕ, zero, suc, ◌+◌, ◌≤◌, Bool, true, false, cond, eqb, List, [], ◌∷◌, ◌++◌, length, refl, sym, ap, ◌∙◌, subst, arith, eq-eqb, ne_eqb}
 use Rattle.std.specs.List.{sum_by}
-use Rattle.std.specs.Prelude.{None, Some}
+use Rattle.std.specs.Prelude.{Option, None, Some}
 use Rattle.std.proofs.lemmas.Bool.{cases_eq}
 use Rattle.std.proofs.lemmas.List.Sums.{sum_by-cons, sum_by-append}
 use Rattle.sd_base.specs.declared.ids.Rid.{Rid}
@@ -17,21 +17,23 @@ use Rattle.sd_model.specs.declared.act.Inst.{Inst}
 use Rattle.sd_model.specs.declared.act.Life.{Life}
 use Rattle.sd_model.specs.declared.cause.Cause.{Cause}
 use Rattle.sd_model.specs.declared.event.Event.{Event}
-use Rattle.sd_model.specs.declared.event.Event.TheVariants.{Add, Ask, Begin, Commit, Delete, Evict, Fail, Flush, Force, Insert, Join, List as Listing, Read, Show, Write}
+use Rattle.sd_model.specs.declared.event.Event.TheVariants.{Add, Ask, Back, Begin, Commit, Delete, Evict, Fail, Flush, Force, Give, Insert, Join, List as Listing, Read, Save, Show, Take, Undo, Write}
 use Rattle.sd_model.specs.declared.event.Reply.{Reply}
 use Rattle.sd_model.specs.declared.event.Reply.TheVariants as reply
-use Rattle.sd_model.specs.Acts.{live, live_from}
+use Rattle.sd_model.specs.Acts.{Puts, live, live_from, undone}
+use Rattle.sd_model.specs.Changes.{marked, undid, undid_part, with_mark}
 use Rattle.sd_model.specs.Fields.{rid_of, txn_of}
 use Rattle.sd_model.specs.Applies.{Clear}
 use Rattle.sd_model.specs.Listed.{IsAmong, Listed, NoneTwice}
 use Rattle.sd_model.specs.Refusing.{Refuses, counted, found}
-use Rattle.sd_model.specs.State.{Part, State, committed, cut_commit, fall, freed, gone, joined, lost, lost_part, put_inst, put_part, read_at, started, took, took_part, view, wrote}
+use Rattle.sd_model.specs.State.{Part, State, committed, cut_commit, fall, freed, gone, joined, lost, lost_part, put_inst, put_part, read_at, started, took, took_part, turned, view, with_life, wrote}
 use Rattle.sd_model.specs.Tables.{Content}
 use Rattle.sd_model.specs.Step.{Row, Step}
 use Rattle.sd_model.proofs.Acts.{live_from-append}
 use Rattle.sd_model.proofs.Among.{once-more}
 use Rattle.sd_model.proofs.Listed.{new-id}
 use Rattle.sd_state.specs.Sums.{sum_to}
+use Rattle.sd_state.proofs.UndoneRows.{live-undone}
 use Rattle.sd_moves.proofs.FallBounds.{sum-less}
 use Rattle.sd_hall.specs.Ledger.{entries_of, entries_of_part, entries_of_inst, entries_owed, owed_more}
 use Rattle.sd_hall.specs.Served.{IsServed}
@@ -146,6 +148,25 @@ module _ (m : State) where
   read-owed : (t : TxnId) (r : Rid) (v : Content) → NoneTwice m.begun → entries_owed (read_at t r v m) ≤ entries_owed m
   read-owed t r v once = let all = took-owed t r Claim.Shared (Act.Read r v ∷ []) 0 once (omega arith) in omega (arith, all)
 
+  -- a mark owes nothing
+  mark-owed : (t : TxnId) (k : List ℕ) → NoneTwice m.begun → entries_owed (marked t k m) ≤ entries_owed m
+  mark-owed t k once =
+      let named : Part = record (m.part t) { marks = with_mark k (length (live (m.part t).acts)) (m.part t).marks } in
+      let all = put-owed t named 0 once (omega arith) in omega (arith, all)
+
+  -- one that begins to roll back owes the end of that
+  back-owed : (t : TxnId) (to : Option ℕ) → NoneTwice m.begun
+      → ((m.part t).life ≡ Life.Running) ⊎ ((from : Option ℕ) × ((m.part t).life ≡ Life.Rolling from))
+      → entries_owed (turned t (Life.Rolling to) m) ≤ entries_owed m + 1
+  back-owed t to once (inl runs) =
+      let owes : entries_of_part (m.part t) ≡ length (live (m.part t).acts) + 1 =
+      ap (λ (life : Life). entries_of life (length (live (m.part t).acts))) runs in
+      put-owed t (with_life (Life.Rolling to) (m.part t)) 1 once (omega (arith, owes))
+  back-owed t to once (inr rolls) =
+      let owes : entries_of_part (m.part t) ≡ length (live (m.part t).acts) + 2 =
+      ap (λ (life : Life). entries_of life (length (live (m.part t).acts))) rolls.1 in
+      put-owed t (with_life (Life.Rolling to) (m.part t)) 1 once (omega (arith, owes))
+
   -- whoever has committed owes nothing
   commit-owed : (t : TxnId) → NoneTwice m.begun → entries_owed (committed t m) ≤ entries_owed m
   commit-owed t once = let all = put-owed t gone 0 once (omega arith) in omega (arith, all)
@@ -228,6 +249,7 @@ refused-none m (Write t r v) n m' less = omega (arith, less)
 refused-none m (Add t r by) n m' less = omega (arith, less)
 refused-none m (Insert t p v k) n m' less = omega (arith, less)
 refused-none m (Delete t r) n m' less = omega (arith, less)
+refused-none m (Back t k) n m' less = omega (arith, less)
 refused-none m (Join i) n m' less = omega (arith, less)
 refused-none m e n m' less = omega (arith, less)
 
@@ -259,6 +281,41 @@ stays-owed m m' is = equal-owed m m m' 0 is (omega arith)
 less-owed : (m x m' : State) → m' ≡ x → entries_owed x ≤ entries_owed m → entries_owed m' ≤ entries_owed m + 0
 less-owed m x m' is less = equal-owed m x m' 0 is (omega (arith, less))
 
+-- a step of a rollback
+module _ (m : State) (t : TxnId) (once : NoneTwice m.begun) where
+  -- what one that rolls back owes: the undo of each live put, the end, and a commit behind it
+  pub rolls-owes : (to : Option ℕ) → (m.part t).life ≡ Life.Rolling to → entries_of_part (m.part t) ≡ length (live (m.part t).acts) + 2
+  rolls-owes to rolls = ap (λ (life : Life). entries_of life (length (live (m.part t).acts))) rolls
+
+  -- and with one put less
+  pub undid-owes : (to : Option ℕ) → (m.part t).life ≡ Life.Rolling to → 1 ≤ length (live (m.part t).acts)
+      → entries_of_part (undid_part (m.part t)) + 1 ≡ entries_of_part (m.part t)
+  undid-owes to rolls some =
+      let acts : List Act = (m.part t).acts in
+      let less : length (live (acts ++ Act.Undo ∷ [])) + 1 ≡ length (live acts) =
+      ap (λ (puts : Puts). length puts + 1) (live-undone acts) ∙ one-less (live acts) some in
+      let owed = rolls-owes to rolls in
+      let left : entries_of_part (undid_part (m.part t)) ≡ length (live (acts ++ Act.Undo ∷ [])) + 2 =
+      ap (λ (life : Life). entries_of life (length (live (acts ++ Act.Undo ∷ [])))) rolls in
+      omega (arith, less, owed, left)
+    where
+      one-less : (puts : Puts) → 1 ≤ length puts → length (undone puts) + 1 ≡ length puts
+      one-less [] some = absurd (omega (arith, some))
+      one-less (p ∷ puts) some = omega arith
+
+  undo-owed : (r : Reply) (m' : State) → Row m (Undo t) r m' → entries_owed m' ≤ entries_owed m + owed_more (Undo t) r
+  undo-owed reply.Step m' h =
+      let one = undid-owes h.0 h.1 (omega (arith, h.2)) in
+      let put = put-owed m t (undid_part (m.part t)) 0 once (omega (arith, one)) in less-owed m (undid t m) m' h.3 (omega (arith, put))
+  undo-owed reply.Finished m' (inl h) = stays-owed m m' h.1
+  undo-owed reply.Finished m' (inr (inl h)) =
+      let owes = rolls-owes (Some h.0) h.1 in
+      let put = put-owed m t (with_life Life.Running (m.part t)) 0 once (omega (arith, owes)) in
+      less-owed m (turned t Life.Running m) m' h.3 (omega (arith, put))
+  undo-owed reply.Finished m' (inr (inr h)) =
+      let put = put-owed m t gone 0 once (omega arith) in less-owed m (put_part t gone m) m' h.2 (omega (arith, put))
+  undo-owed r m' h = absurd h
+
 row-owed : (m : State) (e : Event) (r : Reply) (m' : State) → Listed m → IsServed e → Clear m e → Row m e r m'
     → entries_owed m' ≤ entries_owed m + owed_more e r
 row-owed m (Begin i) (reply.Began x) m' l s c h = begun-owed m i x m' l (c, h)
@@ -267,10 +324,16 @@ row-owed m (Write t r v) reply.Did m' l s c h = equal-owed m _ m' 1 h.3 (wrote-o
 row-owed m (Add t r by) reply.Did m' l s c h = equal-owed m _ m' 1 h.5 (wrote-owed m t r (Some h.0) (Some h.1) l.once)
 row-owed m (Insert t p v n) (reply.At r) m' l s c h = equal-owed m _ m' 1 h.4 (wrote-owed m t r None (Some v) l.once)
 row-owed m (Delete t r) reply.Did m' l s c h = equal-owed m _ m' 1 h.3 (wrote-owed m t r (Some h.0) None l.once)
+row-owed m (Save t k) reply.Did m' l s c h = less-owed m (marked t k m) m' h.1 (mark-owed m t k l.once)
+row-owed m (Back t (Some k)) reply.Did m' l s c h = equal-owed m _ m' 1 h.3 (back-owed m t (Some h.0) l.once (inl h.1))
+row-owed m (Back t None) reply.Did m' l s c h = equal-owed m _ m' 1 h.1 (back-owed m t None l.once h.0)
+row-owed m (Undo t) r m' l s c h = undo-owed m t l.once r m' h
 row-owed m (Commit t) reply.Did m' l s c h = less-owed m (committed t m) m' h.1 (commit-owed m t l.once)
 row-owed m (Listing i p) (reply.Rows rows) m' l s c h = stays-owed m m' h.1
 row-owed m (Ask i p mode) reply.Have m' l s c h = stays-owed m m' h
 row-owed m (Ask i p mode) (reply.Asked of) m' l s c h = stays-owed m m' h
+row-owed m (Give i p) (reply.Gave to) m' l s c h = stays-owed m m' h
+row-owed m (Take i p) reply.Did m' l s c h = stays-owed m m' h
 row-owed m (Evict i p) reply.Did m' l s c h = stays-owed m m' h
 row-owed m (Flush i p) reply.Did m' l s c h = stays-owed m m' h
 row-owed m (Force i) reply.Did m' l s c h = stays-owed m m' h
@@ -289,9 +352,14 @@ row-owed m (Write t r v) x m' l s c h = absurd h
 row-owed m (Add t r by) x m' l s c h = absurd h
 row-owed m (Insert t p v n) x m' l s c h = absurd h
 row-owed m (Delete t r) x m' l s c h = absurd h
+row-owed m (Save t k) r m' l s c h = absurd h
+row-owed m (Back t (Some k)) r m' l s c h = absurd h
+row-owed m (Back t None) r m' l s c h = absurd h
 row-owed m (Commit t) r m' l s c h = absurd h
 row-owed m (Listing i p) r m' l s c h = absurd h
 row-owed m (Ask i p mode) r m' l s c h = absurd h
+row-owed m (Give i p) r m' l s c h = absurd h
+row-owed m (Take i p) r m' l s c h = absurd h
 row-owed m (Evict i p) r m' l s c h = absurd h
 row-owed m (Flush i p) r m' l s c h = absurd h
 row-owed m (Force i) r m' l s c h = absurd h

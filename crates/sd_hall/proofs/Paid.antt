@@ -1,30 +1,39 @@
 -- What the hall owes less once an event has come that was owed. It serves the goals of `call` in hall.rt.
-use Rattle.std.proofs.Common.{◌≡◌, ◌≢◌, inl, inr, ⊎_elim, ℕ, zero, suc, ◌+◌, ◌≤◌, Bool, cond, eqb, List, [], ◌∷◌, ◌++◌, length, refl, sym, ap, ◌∙◌, subst, arith, eq-eqb}
+use Rattle.std.proofs.Common.{◌≡◌, ◌≢◌, inl, inr, ⊎_elim, ℕ, zero, suc, ◌+◌, ◌<◌, ◌≤◌, Bool, true, false, cond, eqb, List, [], ◌∷◌, ◌++◌, length, refl, sym, ap, ◌∙◌, subst, arith, eq-eqb}
 use Rattle.std.specs.List.{sum_by}
+use Rattle.std.specs.Prelude.{Option}
 use Rattle.std.proofs.lemmas.Bool.{cases_eq}
 use Rattle.std.proofs.lemmas.List.Sums.{sum_by-cons}
 use Rattle.sd_base.specs.declared.ids.TxnId.{TxnId}
 use Rattle.sd_base.specs.declared.place.Status.{Status}
 use Rattle.sd_base.specs.declared.place.Status.TheVariants as S
+use Rattle.sd_base.specs.declared.refusal.Refusal.{Refusal}
+use Rattle.sd_base.specs.declared.refusal.Refusal.TheVariants as R
 use Rattle.sd_base.proofs.SameIds.{eq-same, ne-same}
 use Rattle.sd_model.specs.Acts.{live}
-use Rattle.sd_model.specs.Applies.{First}
+use Rattle.sd_model.specs.Applies.{First, HasPage}
+use Rattle.sd_model.specs.Changes.{goal, undid, undid_part}
 use Rattle.sd_model.specs.Listed.{IsAmong, Listed, NoneTwice}
 use Rattle.sd_model.specs.Placed.{MayRun, Placed, Stands}
-use Rattle.sd_model.specs.Refusing.{Refuses}
-use Rattle.sd_model.specs.State.{Part, State, committed, cut_commit, fall, freed, gone, put_part}
-use Rattle.sd_model.specs.Step.{Step}
+use Rattle.sd_model.specs.Refusing.{Names, Refuses}
+use Rattle.sd_model.specs.State.{Part, State, committed, cut_commit, fall, freed, gone, put_part, turned, with_life}
+use Rattle.sd_model.specs.Step.{Row, Step}
 use Rattle.sd_model.specs.declared.act.Cut.TheVariants as Cut
 use Rattle.sd_model.specs.declared.act.Life.{Life}
 use Rattle.sd_model.specs.declared.cause.Cause.{Cause}
 use Rattle.sd_model.specs.declared.event.Event.{Event}
-use Rattle.sd_model.specs.declared.event.Event.TheVariants.{Commit, Fail}
+use Rattle.sd_model.specs.declared.event.Event.TheVariants.{Commit, Fail, Undo}
 use Rattle.sd_model.specs.declared.event.Reply.{Reply}
 use Rattle.sd_model.specs.declared.event.Reply.TheVariants as reply
+use Rattle.sd_pagelock.specs.Places.{Entry, is_lost, owns}
+use Rattle.sd_world.specs.Answers.{Fails, Leaves, Moves}
+use Rattle.sd_world.specs.PageCauses.{PagesAgree, undo_page}
+use Rattle.sd_world.specs.Pages.{Pages}
+use Rattle.sd_world.specs.Serving.{Core, Turns}
 use Rattle.sd_state.specs.Sums.{sum_to}
 use Rattle.sd_moves.proofs.FallBounds.{sum-less}
 use Rattle.sd_hall.specs.Ledger.{IsOwed, entries_of, entries_of_inst, entries_of_part, entries_owed, owed_more}
-use Rattle.sd_hall.proofs.Owes.{fall-owed, fallen-owed, lost-owed, of_insts, of_txns, sums-less}
+use Rattle.sd_hall.proofs.Owes.{fall-owed, fallen-owed, lost-owed, of_insts, of_txns, rolls-owes, sums-less, undid-owes}
 
 -- ---- sums
 
@@ -79,6 +88,9 @@ module _ (m : State) where
   runs-there : (t : TxnId) → Listed m → (m.part t).life ≡ Life.Running → IsAmong t m.begun
   runs-there t l runs = l.there t (λ e. let clash : Life.Running ≡ Life.Gone = sym runs ∙ e in absurd (cc))
 
+  rolls-there : (t : TxnId) → Listed m → (to : Option ℕ) → (m.part t).life ≡ Life.Rolling to → IsAmong t m.begun
+  rolls-there t l to rolls = l.there t (λ e. let clash : Life.Rolling to ≡ Life.Gone = sym rolls ∙ e in absurd (cc))
+
   -- what a transaction that runs owes: the undo of each live put, and its commit
   runs-owes : (t : TxnId) → (m.part t).life ≡ Life.Running → entries_of_part (m.part t) ≡ length (live (m.part t).acts) + 1
   runs-owes t runs = ap (λ (life : Life). entries_of life (length (live (m.part t).acts))) runs
@@ -115,13 +127,30 @@ cut-paid m t l runs =
 
 -- ---- events
 
-may-run : (s : Status) → MayRun s → s ≡ S.Up
+pub may-run : (s : Status) → MayRun s → s ≡ S.Up
 may-run S.Up may = refl
 may-run S.Down may = absurd may
 may-run S.Clean may = absurd may
 may-run S.Restarting may = absurd may
 may-run S.Closed may = absurd may
 may-run (S.Recovering by) may = absurd may
+
+-- who owns a page finds it not lost
+owned-there : (e : Entry) (i : ℕ) → owns e i ≡ true → is_lost e ≡ true → ⊥
+owned-there Entry.Free i owned lost = absurd (cc)
+owned-there (Entry.Shared set writer) i owned lost = absurd (cc)
+owned-there (Entry.Excl holder dirty) i owned lost = absurd (cc)
+owned-there (Entry.Moving to mode rest dirty) i owned lost = absurd (cc)
+owned-there Entry.Lost i owned lost = absurd (cc)
+
+rig-failed : (n : Refusal) → Names Cause.Rig n → n ≡ R.Failed
+rig-failed R.Failed h = refl
+rig-failed n h = absurd (cc)
+
+-- an undo that a device failed has taken its instance down
+abbrev pub HasFallen : Event → Reply → State → Type 0
+HasFallen e r m' = (t : TxnId) → e ≡ Undo t → r ≡ reply.Refused R.Failed
+    → (1 ≤ t.inst) × (t.inst ≤ 8) × ((m'.inst t.inst).status ≡ S.Down)
 
 equal-paid : (m x m' : State) → m' ≡ x → entries_owed x + 1 ≤ entries_owed m → entries_owed m' + 1 ≤ entries_owed m
 equal-paid m x m' is less = subst (λ (y : State). entries_owed y + 1 ≤ entries_owed m) (sym is) less
@@ -146,24 +175,101 @@ module _ (m : State) (l : Listed m) (placed : Placed m) (opened : (m.inst 1).sta
   fail-refused i Cause.Down up f = f.2 (inl up)
   fail-refused i c up f = let clash = f.0 in absurd (cc)
 
-  -- an entry that was owed is owed no more
-  pub step-paid : (e : Event) (r : Reply) (m' : State) → IsOwed m e → Step m e r m' → entries_owed m' + 1 ≤ entries_owed m
-  step-paid (Commit t) reply.Did m' owed h = equal-paid m (committed t m) m' h.1.1 (commit-paid m t l owed)
-  step-paid (Commit t) (reply.Refused n) m' owed h = commit-refused t h.0 m' owed h.3 h.4
-  step-paid (Commit t) r m' owed h = absurd h.1
-  step-paid (Fail i) reply.Did m' owed h = equal-paid m (fall i m) m' h.1 (fall-paid m i owed.0 owed.1 owed.2)
-  step-paid (Fail i) (reply.Refused n) m' owed h = absurd (fail-refused i h.0 owed.2 h.3)
-  step-paid (Fail i) r m' owed h = absurd h.1
-  step-paid e r m' owed h = absurd owed
+  -- a step of a rollback is owed
+  module _ (t : TxnId) (to : Option ℕ) (rolls : (m.part t).life ≡ Life.Rolling to) where
+    owes : entries_of_part (m.part t) ≡ length (live (m.part t).acts) + 2
+    owes = rolls-owes m t l.once to rolls
+
+    up : (m.inst t.inst).status ≡ S.Up
+    up = may-run (m.inst t.inst).status (subst (λ (life : Life). Stands life (m.inst t.inst).status) rolls (placed.stands t))
+
+    turn-paid : (p : Part) → entries_of_part p + 1 ≤ entries_of_part (m.part t) → entries_owed (put_part t p m) + 1 ≤ entries_owed m
+    turn-paid p less = put-paid m t p 1 l.once (rolls-there m t l to rolls) less
+
+    undo-paid : (r : Reply) (m' : State) → Row m (Undo t) r m' → entries_owed m' + 1 ≤ entries_owed m
+    undo-paid reply.Step m' h =
+        let one = undid-owes m t l.once h.0 h.1 (omega (arith, h.2)) in
+        equal-paid m (undid t m) m' h.3 (turn-paid (undid_part (m.part t)) (omega (arith, one)))
+    undo-paid reply.Finished m' (inl h) = let clash : Life.Rolling to ≡ Life.Running = sym rolls ∙ h.0 in absurd (cc)
+    undo-paid reply.Finished m' (inr (inl h)) =
+        let all = owes in
+        equal-paid m (turned t Life.Running m) m' h.3 (turn-paid (with_life Life.Running (m.part t)) (omega (arith, all)))
+    undo-paid reply.Finished m' (inr (inr h)) =
+        let all = owes in equal-paid m (put_part t gone m) m' h.2 (turn-paid gone (omega (arith, all)))
+    undo-paid r m' h = absurd h
+
+    -- where a device fails, the instance falls, and its failure is owed no more
+    undo-fails : (w w' : Pages) (m' : State) → (1 ≤ t.inst) × (t.inst ≤ 8) × ((m'.inst t.inst).status ≡ S.Down)
+        → Fails m w (Undo t) m' w' → entries_owed m' + 1 ≤ entries_owed m
+    undo-fails w w' m' down (Fails.stays same pages) =
+        let clash : S.Up ≡ S.Down = sym up ∙ ap (λ (x : State). (x.inst t.inst).status) (sym same) ∙ down.2 in absurd (cc)
+    undo-fails w w' m' down (Fails.falls j between number may is before after) =
+        equal-paid m (fall j m) m' is
+        (subst (λ (i : ℕ). entries_owed (fall i m) + 1 ≤ entries_owed m) (sym may) (fall-paid m t.inst down.0 down.1 up))
+
+    module _ (w w' : Pages) (n : Refusal) (m' : State) (next : goal to < length (live (m.part t).acts)
+        → owns (w.entry (undo_page m t)) t.inst ≡ true) (fell : HasFallen (Undo t) (reply.Refused n) m') where
+      -- whoever has something to undo has it as far as its goal
+      owned : HasPage m (Undo t) → owns (w.entry (undo_page m t)) t.inst ≡ true
+      owned has = next (subst (λ (o : Option ℕ). goal o < length (live (m.part t).acts)) (same-goal to has.0 (sym rolls ∙ has.1)) has.2)
+        where
+          same-goal : (x y : Option ℕ) → Life.Rolling x ≡ Life.Rolling y → y ≡ x
+          same-goal x y e = cc
+
+      -- so it is refused only where a device fails
+      undo-refused : (c : Cause) → Names c n → First m (Undo t) c → PagesAgree m w (Undo t) c → Leaves m w (Undo t) n m' w'
+          → entries_owed m' + 1 ≤ entries_owed m
+      undo-refused Cause.Rig names f agree leaves =
+          let failed = rig-failed n names in
+          undo-fails w w' m' (fell t refl (ap reply.Refused failed))
+          (subst (λ (x : Refusal). Leaves m w (Undo t) x m' w') failed leaves)
+      undo-refused Cause.Shut names f agree leaves = absurd (opened f.2)
+      undo-refused Cause.NoTxn names f agree leaves = let clash : Life.Rolling to ≡ Life.Gone = sym rolls ∙ f.2 in absurd (cc)
+      undo-refused Cause.Down names f agree leaves = absurd (f.2 up)
+      undo-refused Cause.Lost names f agree leaves =
+          let says = agree refl in absurd (owned-there (w.entry (undo_page m t)) t.inst (owned says.0) says.1)
+      undo-refused Cause.Away names f agree leaves =
+          let says = agree refl in let clash : true ≡ false = sym (owned says.0) ∙ says.1 in absurd (cc)
+      undo-refused c names f agree leaves = let clash = f.0 in absurd (cc)
 
 -- an event that is owed owes no more
-pub owed-none : (m : State) (e : Event) (r : Reply) → IsOwed m e → owed_more e r ≡ 0
-owed-none m (Commit t) r owed = refl
-owed-none m (Fail i) r owed = refl
-owed-none m e r owed = absurd owed
+pub owed-none : (w : Core) (e : Event) (r : Reply) → IsOwed w e → owed_more e r ≡ 0
+owed-none w (Commit t) r owed = refl
+owed-none w (Undo t) r owed = refl
+owed-none w (Fail i) r owed = refl
+owed-none w e r owed = absurd owed
+
+module _ (w w' : Core) (l : Listed w.scene.state) (placed : Placed w.scene.state) (opened : (w.scene.state.inst 1).status ≢ S.Closed) where
+  abbrev m : State
+  m = w.scene.state
+
+  abbrev m' : State
+  m' = w'.scene.state
+
+  -- an entry that was owed is owed no more
+  step-paid : (e : Event) (r : Reply) → IsOwed w e → HasFallen e r m' → Step m e r m' → Moves m w.pages e r m' w'.pages
+      → entries_owed m' + 1 ≤ entries_owed m
+  step-paid (Commit t) reply.Did owed fell h moves = equal-paid m (committed t m) m' h.1.1 (commit-paid m t l owed)
+  step-paid (Commit t) (reply.Refused n) owed fell h moves = commit-refused m l placed opened t h.0 m' owed h.3 h.4
+  step-paid (Commit t) r owed fell h moves = absurd h.1
+  step-paid (Undo t) (reply.Refused n) owed fell h moves =
+      undo-refused m l placed opened t owed.0 owed.1 w.pages w'.pages n m' owed.2 fell
+      moves.cause moves.names moves.first moves.says moves.leaves
+  step-paid (Undo t) r owed fell h moves = undo-paid m l placed opened t owed.0 owed.1 r m' h.1
+  step-paid (Fail i) reply.Did owed fell h moves = equal-paid m (fall i m) m' h.1 (fall-paid m i owed.0 owed.1 owed.2)
+  step-paid (Fail i) (reply.Refused n) owed fell h moves = absurd (fail-refused m l placed opened i h.0 owed.2 h.3)
+  step-paid (Fail i) r owed fell h moves = absurd h.1
+  step-paid e r owed fell h moves = absurd owed
+
+  pub turns-paid : (e : Event) (r : Reply) → IsOwed w e → HasFallen e r m' → Turns w e r w' → entries_owed m' + 1 ≤ entries_owed m
+  turns-paid e r owed fell turns = step-paid e r owed fell turns.plays.step turns.moves
 
 -- where an event is owed, so is an entry
-pub owed-some : (m : State) (e : Event) → Listed m → IsOwed m e → 1 ≤ entries_owed m
-owed-some m (Commit t) l owed = let paid = commit-paid m t l owed in omega (arith, paid)
-owed-some m (Fail i) l owed = let paid = fall-paid m i owed.0 owed.1 owed.2 in omega (arith, paid)
-owed-some m e l owed = absurd owed
+pub owed-some : (w : Core) (e : Event) → Listed w.scene.state → IsOwed w e → 1 ≤ entries_owed w.scene.state
+owed-some w (Commit t) l owed = let paid = commit-paid w.scene.state t l owed in omega (arith, paid)
+owed-some w (Undo t) l owed =
+    let m = w.scene.state in
+    let owes = rolls-owes m t l.once owed.0 owed.1 in
+    let paid = put-paid m t gone 1 l.once (rolls-there m t l owed.0 owed.1) (omega (arith, owes)) in omega (arith, paid)
+owed-some w (Fail i) l owed = let paid = fall-paid w.scene.state i owed.0 owed.1 owed.2 in omega (arith, paid)
+owed-some w e l owed = absurd owed

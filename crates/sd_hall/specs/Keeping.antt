@@ -18,7 +18,7 @@ pub record Keeps {G : Type 0} (tell : Telling G) (start : Core) (hall : Hall G) 
 
 -- The entry of the event takes the place that is owed for it.
 pub record TakesPlace {G : Type 0} (tell : Telling G) (e : Event) (old new : Hall G) : Type 0 where
-  pub owed : (w : Core) → fits_by tell.seen tell.leaves old.complex w → IsOwed w.scene.state e
+  pub owed : (w : Core) → fits_by tell.seen tell.leaves old.complex w → IsOwed w e
   pub less : new.owed + 1 ≡ old.owed
   pub room : old.owed ≤ new.book.spare
 

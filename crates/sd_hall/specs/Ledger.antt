@@ -1,17 +1,22 @@
 -- What the hall owes: the entries for which no memory may be wanting, as the state of the serial table is.
-use Rattle.std.specs.Prelude.{◌≡◌, ℕ, ◌+◌, ◌≤◌, length}
+use Rattle.std.specs.Prelude.{◌≡◌, ℕ, ◌+◌, ◌<◌, ◌≤◌, true, Option, length}
 use Rattle.std.specs.List.{sum_by}
+use Rattle.sd_base.specs.declared.ids.TxnId.{TxnId}
 use Rattle.sd_base.specs.declared.place.Status.{Status}
 use Rattle.sd_base.specs.declared.place.Status.TheVariants as S
 use Rattle.sd_model.specs.declared.act.Life.{Life}
 use Rattle.sd_model.specs.declared.act.Life.TheVariants.{Gone, Running, Retained, Rolling, Doubt}
 use Rattle.sd_model.specs.declared.event.Event.{Event}
-use Rattle.sd_model.specs.declared.event.Event.TheVariants.{Add, Begin, Commit, Delete, Fail, Insert, Join, Write}
+use Rattle.sd_model.specs.declared.event.Event.TheVariants.{Add, Back, Begin, Commit, Delete, Fail, Insert, Join, Undo, Write}
 use Rattle.sd_model.specs.declared.event.Reply.{Reply}
 use Rattle.sd_model.specs.declared.event.Reply.TheVariants.{At, Began, Did, Joined}
 use Rattle.sd_model.specs.Acts.{live}
+use Rattle.sd_model.specs.Changes.{goal}
 use Rattle.sd_model.specs.State.{Part, State}
+use Rattle.sd_pagelock.specs.Places.{owns}
 use Rattle.sd_state.specs.Sums.{sum_to}
+use Rattle.sd_world.specs.PageCauses.{undo_page}
+use Rattle.sd_world.specs.Serving.{Core}
 
 -- of a transaction with so many live puts: an undo of each; where it runs, its commit; where it rolls back, the end of that, and
 -- a commit behind it
@@ -37,18 +42,26 @@ entries_of_inst S.Closed = 0
 abbrev pub entries_owed : State → ℕ
 entries_owed m = sum_by (λ t. entries_of_part (m.part t)) m.begun + sum_to (λ i. entries_of_inst (m.inst i).status) 8
 
--- how many entries more are owed after the reply, at most: for a begin its commit, for a change its undo, for a join the failure
+-- how many entries more are owed after the reply, at most: for a begin its commit, for a change its undo, for the begin of a rollback
+-- its end, for a join the failure
 abbrev pub owed_more : Event → Reply → ℕ
 owed_more (Begin i) (Began t) = 1
 owed_more (Write t r v) Did = 1
 owed_more (Add t r by) Did = 1
 owed_more (Insert t p v n) (At r) = 1
 owed_more (Delete t r) Did = 1
+owed_more (Back t mark) Did = 1
 owed_more (Join i) (Joined epoch) = 1
 owed_more e r = 0
 
--- an entry is owed for the event: a transaction that runs commits, or an instance that is up fails
-abbrev pub IsOwed : State → Event → Type 0
-IsOwed m (Commit t) = (m.part t).life ≡ Running
-IsOwed m (Fail i) = (1 ≤ i) × (i ≤ 8) × ((m.inst i).status ≡ S.Up)
-IsOwed m e = ⊥
+-- The transaction rolls back, and either has nothing left to undo, or its instance has the page of its next undo alone.
+abbrev pub IsUndoable : Core → TxnId → Type 0
+IsUndoable w t = (to : Option ℕ) × ((w.scene.state.part t).life ≡ Rolling to)
+    × (goal to < length (live (w.scene.state.part t).acts) → owns (w.pages.entry (undo_page w.scene.state t)) t.inst ≡ true)
+
+-- an entry is owed for the event: a transaction that runs commits, an undo finds its page, or an instance that is up fails
+abbrev pub IsOwed : Core → Event → Type 0
+IsOwed w (Commit t) = (w.scene.state.part t).life ≡ Running
+IsOwed w (Undo t) = IsUndoable w t
+IsOwed w (Fail i) = (1 ≤ i) × (i ≤ 8) × ((w.scene.state.inst i).status ≡ S.Up)
+IsOwed w e = ⊥

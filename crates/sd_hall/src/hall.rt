@@ -20,7 +20,7 @@ use sd_state::{Complex, Shape};
 use std::alloc::Global;
 
 /// A complex, the book of what happened in it, and how many entries more the book has to have room for: those for which no memory
-/// may be wanting, as the commit of a transaction that runs.
+/// may be wanting, as the commit of a transaction that runs, or each step of one that rolls back.
 #[derive(Drop)]
 pub struct Hall<G> {
     complex: Complex<G>,
@@ -49,8 +49,9 @@ impl<G: Rig> Hall<G> {
     }
 
     /// Does the event, and notes it with its reply under this session and line. `Memory` comes where there is none: nothing is noted
-    /// then, and the complex fits the world that it fitted. It never comes for the commit of a transaction that runs, nor for the
-    /// failure of an instance that is up. Each image that a crash leaves meanwhile stands for the state before or after.
+    /// then, and the complex fits the world that it fitted. It never comes for the commit of a transaction that runs, nor for an undo
+    /// of one that rolls back, where nothing is left to undo or the page of the next undo is its instance's alone, nor for the failure
+    /// of an instance that is up. Each image that a crash leaves meanwhile stands for the state before or after.
     pub fn call(&mut self, session: u8, line: u32, e: Event) -> Result<(), Memory>
         requires served { IsServed e }
         requires kept { (start : Core) × Keeps (telling G.seen G.leaves G.moment G.since G.faults) start self.old }
@@ -59,7 +60,7 @@ impl<G: Rig> Hall<G> {
             × Serving (telling G.seen G.leaves G.moment G.since G.faults) e (Some r) self.old.complex self.new.complex) }
         ensures same { OnErr result (self.new.book.entries ≡ self.old.book.entries) }
         ensures spared { OnErr result (Serving (telling G.seen G.leaves G.moment G.since G.faults) e None self.old.complex self.new.complex) }
-        ensures there { OnErr result ((w : Core) → fits_by G.seen G.leaves self.old.complex w → IsOwed w.scene.state e → ⊥) }
+        ensures there { OnErr result ((w : Core) → fits_by G.seen G.leaves self.old.complex w → IsOwed w e → ⊥) }
         ensures opening { self.new.book.opening ≡ self.old.book.opening }
         ensures keeps { (start : Core) → Keeps (telling G.seen G.leaves G.moment G.since G.faults) start self.old
             → Keeps (telling G.seen G.leaves G.moment G.since G.faults) start self.new }
@@ -81,7 +82,7 @@ impl<G: Rig> Hall<G> {
         requires kept { (start : Core) × Keeps (telling G.seen G.leaves G.moment G.since G.faults) start self.old }
         ensures place { OnOk result (HasPlace (telling G.seen G.leaves G.moment G.since G.faults) e.now self.old self.new) }
         ensures fits { OnOk result (self.new.owed + 1 ≤ usize.MAX) }
-        ensures free { OnErr result ((w : Core) → fits_by G.seen G.leaves self.old.complex w → IsOwed w.scene.state e.now → ⊥) }
+        ensures free { OnErr result ((w : Core) → fits_by G.seen G.leaves self.old.complex w → IsOwed w e.now → ⊥) }
         ensures owed { OnErr result (self.new.owed ≡ self.old.owed) }
         ensures spare { self.old.book.spare ≤ self.new.book.spare }
         ensures entries { self.new.book.entries ≡ self.old.book.entries }
@@ -110,6 +111,17 @@ impl<G: Rig> Hall<G> {
         };
         self.book.reserve(room)?;
         Ok(())
+    }
+
+    /// Takes room in the book for so many entries more at once, where there is memory for it, so that the book grows less often.
+    pub fn expect(&mut self, entries: usize)
+        ensures entries { self.new.book.entries ≡ self.old.book.entries }
+        ensures opening { self.new.book.opening ≡ self.old.book.opening }
+        ensures complex { self.new.complex ≡ self.old.complex }
+        ensures keeps { (start : Core) → Keeps (telling G.seen G.leaves G.moment G.since G.faults) start self.old
+            → Keeps (telling G.seen G.leaves G.moment G.since G.faults) start self.new }
+    {
+        let _ = self.book.reserve(entries);
     }
 
     /// The reply of the last entry.

@@ -1,28 +1,35 @@
 //! What the hall owes: the entries for which no memory may be wanting.
 
-ghost use Rattle.std.specs.Prelude.{◌≡◌, ◌≤◌, ◌↔◌, Some, IsTrue};
+ghost use Rattle.std.specs.Prelude.{◌≡◌, ◌<◌, ◌≤◌, ◌↔◌, ℕ, Option, Some, IsTrue, true};
 ghost use Rattle.sd_base.specs.declared.place.Status.TheVariants as S;
+ghost use Rattle.sd_model.specs.Changes.{goal};
+ghost use Rattle.sd_pagelock.specs.Directory.{entry_at};
+ghost use Rattle.sd_pagelock.specs.Places.{owns};
 ghost use Rattle.sd_state.specs.Complexes.{parts};
 ghost use Rattle.sd_state.specs.Parts.{status_at, txns_at, IsShape};
-ghost use Rattle.sd_txn.specs.Transactions.{state_at};
-ghost use Rattle.sd_txn.specs.declared.state.TxnState.TheVariants.{Running};
+ghost use Rattle.sd_txn.specs.Transactions.{depth_at, state_at, top_at};
+ghost use Rattle.sd_txn.specs.declared.state.OpenRec.{OpenRec};
+ghost use Rattle.sd_txn.specs.declared.state.TxnState.TheVariants.{Rolling, Running};
 ghost use Rattle.sd_world.specs.Serving.{Core};
 ghost use Rattle.sd_fits.specs.Fits.{Fits};
 ghost use Rattle.sd_hall.specs.Ledger.{owed_more, IsOwed};
 
 use sd_base::{InstNo, Status, TxnId};
 use sd_model::{Event, Reply};
+use sd_pagelock::rows;
 use sd_rig::Rig;
 use sd_state::Complex;
 use sd_txn::TxnState;
 
-/// Whether an entry is owed for the event: a transaction that runs commits, or an instance that is up fails.
+/// Whether an entry is owed for the event: a transaction that runs commits, one that rolls back has nothing left to undo or finds the
+/// page of its next undo, or an instance that is up fails.
 pub(crate) fn is_owed<G: Rig>(c: &Complex<G>, e: &Event) -> bool
     requires fits { (w : Core) × Fits (G.seen c.now.rig) (G.leaves c.now.rig) (parts c.now) w }
-    ensures { (w : Core) → Fits (G.seen c.now.rig) (G.leaves c.now.rig) (parts c.now) w → IsTrue result ↔ IsOwed w.scene.state e.now }
+    ensures { (w : Core) → Fits (G.seen c.now.rig) (G.leaves c.now.rig) (parts c.now) w → IsTrue result ↔ IsOwed w e.now }
 {
     match e {
         Event::Commit { txn } => is_running(c, txn),
+        Event::Undo { txn } => is_undoable(c, txn),
         Event::Fail { inst } => is_up(c, *inst),
         _ => false,
     }
@@ -40,6 +47,36 @@ fn is_running<G>(c: &Complex<G>, t: &TxnId) -> bool
         return false;
     };
     matches!(state, TxnState::Running)
+}
+
+// Whether the transaction rolls back, and either has no open record above its target, or its instance has the page of the last alone.
+fn is_undoable<G>(c: &Complex<G>, t: &TxnId) -> bool
+    requires { IsShape (parts c.now) }
+    ensures low { 1 ≤ t.now.inst }
+    ensures high { t.now.inst ≤ 8 }
+    ensures rolls { IsTrue result ↔ ((to : Option ℕ) × (state_at (txns_at (parts c.now) t.now.inst) t.now ≡ Some (Rolling to))
+        × (goal to < depth_at (txns_at (parts c.now) t.now.inst) t.now
+        → (o : OpenRec) → top_at (txns_at (parts c.now) t.now.inst) t.now ≡ Some o
+        → owns (entry_at (parts c.now).directory o.rid.page) t.now.inst ≡ true)) }
+{
+    let _number = t.inst.get();
+    let table = c.txns(t.inst);
+    let Some(TxnState::Rolling { target }) = table.state(t) else {
+        return false;
+    };
+    table.depth(t) <= target.unwrap_or(0) || has_next(c, t)
+}
+
+// Whether the transaction's instance has the page of the transaction's last open record alone, where there is one.
+fn has_next<G>(c: &Complex<G>, t: &TxnId) -> bool
+    requires { IsShape (parts c.now) }
+    ensures { IsTrue result ↔ ((o : OpenRec) → top_at (txns_at (parts c.now) t.now.inst) t.now ≡ Some o
+        → owns (entry_at (parts c.now).directory o.rid.page) t.now.inst ≡ true) }
+{
+    match c.txns(t.inst).top(t) {
+        Some(top) => rows::owns(&c.entry(top.rid.page), t.inst),
+        None => true,
+    }
 }
 
 // Whether the instance is up.
@@ -63,6 +100,7 @@ pub(crate) fn more(e: &Event, reply: &Reply) -> usize
         (Event::Add { .. }, Reply::Did) => 1,
         (Event::Insert { .. }, Reply::At(_)) => 1,
         (Event::Delete { .. }, Reply::Did) => 1,
+        (Event::Back { .. }, Reply::Did) => 1,
         (Event::Join { .. }, Reply::Joined { .. }) => 1,
         _ => 0,
     }

@@ -3,25 +3,27 @@
 ghost use Rattle.std.specs.Prelude.{◌≡◌, ◌≢◌, ℕ, None, Some};
 ghost use Rattle.sd_model.specs.declared.event.Reply.{Reply};
 ghost use Rattle.sd_model.specs.declared.event.Reply.TheVariants as reply;
-ghost use Rattle.sd_model.specs.State.{State};
 ghost use Rattle.sd_state.specs.Complexes.{parts};
-ghost use Rattle.sd_world.specs.Serving.{Core, answered, began, did, found, had_or_asked, joined, listed, placed_at, refused, telling};
+ghost use Rattle.sd_world.specs.Serving.{Core, answered, began, did, found, gave, had_or_asked, joined, listed, placed_at, refused};
+ghost use Rattle.sd_world.specs.Serving.{step_or_finished, telling};
 ghost use Rattle.sd_fits.specs.Fits.{Fits};
 ghost use Rattle.sd_fits.specs.Serving.{Serving};
 ghost use Rattle.sd_hall.specs.Ledger.{IsOwed};
-ghost use Rattle.sd_hall.specs.Served.{told, IsServed};
+ghost use Rattle.sd_hall.specs.Served.{told, IsDownThen, IsServed};
 
 use sd_base::{Bytes, InstNo, Lsn, Memory, Place, Refusal, Rid, TxnId};
 use sd_model::{Event, Reply, Rows};
 use sd_rig::Rig;
 use sd_state::Complex;
 
-/// Does the event on the complex, and tells its reply. Where an entry is owed for it there is memory.
+/// Does the event on the complex, and tells its reply. Where an entry is owed for it there is memory. An undo that a device fails takes
+/// its instance down.
 pub(crate) fn serve<G: Rig>(c: &mut Complex<G>, e: &Event) -> Result<Reply, Memory>
     requires served { IsServed e.now }
     requires fits { (w : Core) × Fits (G.seen c.old.rig) (G.leaves c.old.rig) (parts c.old) w }
     ensures served { Serving (telling G.seen G.leaves G.moment G.since G.faults) e.now (told result) c.old c.new }
-    ensures there { (m : State) → IsOwed m e.now → told result ≢ None }
+    ensures there { (w : Core) → IsOwed w e.now → told result ≢ None }
+    ensures down { IsDownThen e.now (told result) (parts c.new) }
 {
     match e {
         Event::Begin { inst } => as_began(sd_ops::begin(c, *inst)),
@@ -35,9 +37,14 @@ pub(crate) fn serve<G: Rig>(c: &mut Complex<G>, e: &Event) -> Result<Reply, Memo
             capacity,
         } => as_placed(sd_ops::insert(c, txn, *page, value.items(), *capacity)),
         Event::Delete { txn, rid } => as_did(sd_ops::delete(c, txn, rid)),
+        Event::Save { txn, mark } => as_did(sd_ops::save(c, txn, mark)),
+        Event::Back { txn, mark } => as_did(sd_rollback::back_to(c, txn, mark)),
+        Event::Undo { txn } => as_step(sd_rollback::undo(c, txn)),
         Event::Commit { txn } => as_did(sd_ops::commit(c, txn)),
         Event::List { inst, page } => as_listed(sd_ops::list_page(c, *inst, *page)),
         Event::Ask { inst, page, mode } => as_asked(sd_transfer::ask(c, *inst, *page, *mode)),
+        Event::Give { inst, page } => as_gave(sd_transfer::give(c, *inst, *page)),
+        Event::Take { inst, page } => as_did(sd_transfer::take(c, *inst, *page)),
         Event::Evict { inst, page } => as_did(sd_transfer::evict(c, *inst, *page)),
         Event::Flush { inst, page } => as_did(sd_writer::write_page(c, *inst, *page)),
         Event::Force { inst } => as_did(sd_writer::force(c, *inst)),
@@ -107,12 +114,33 @@ fn as_asked(done: Result<Option<InstNo>, Refusal>) -> Result<Reply, Memory>
     }
 }
 
+// The reply to a give.
+fn as_gave(done: Result<InstNo, Refusal>) -> Result<Reply, Memory>
+    ensures { told result ≡ gave done }
+{
+    match done {
+        Ok(to) => Ok(Reply::Gave { to }),
+        Err(n) => as_refused(n),
+    }
+}
+
 // The reply to a join.
 fn as_joined(done: Result<u32, Refusal>) -> Result<Reply, Memory>
     ensures { told result ≡ joined done }
 {
     match done {
         Ok(epoch) => Ok(Reply::Joined { epoch }),
+        Err(n) => as_refused(n),
+    }
+}
+
+// The reply to a step, which tells whether it was the last.
+fn as_step(done: Result<bool, Refusal>) -> Result<Reply, Memory>
+    ensures { told result ≡ answered step_or_finished done }
+{
+    match done {
+        Ok(false) => Ok(Reply::Step),
+        Ok(true) => Ok(Reply::Finished),
         Err(n) => as_refused(n),
     }
 }

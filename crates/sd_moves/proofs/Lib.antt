@@ -1,3 +1,5 @@
+pub mod Copies
+pub mod Passed
 pub mod Placed
 pub mod PutPages
 pub mod PutDevice

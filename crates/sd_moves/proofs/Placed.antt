@@ -1,10 +1,11 @@
 -- How a complex stays good while pools and directory change: for the moves of a page.
 use Rattle.std.proofs.Common.{◌≡◌, ◌≢◌, ◌⊎◌, ℕ, ◌-◌, ◌≤◌, Bool, true, false, cond, eqb, List, [], ◌∷◌, length, refl, sym, ap}
 use Rattle.std.proofs.Common.{◌∙◌, subst, ⊎_elim, eqb-true}
-use Rattle.std.specs.Prelude.{None, Some, is_some, not, slice_set, ◌&&◌}
+use Rattle.std.specs.Prelude.{Option, None, Some, is_some, not, slice_set, ◌&&◌}
 use Rattle.std.proofs.lemmas.Bool.{cases_eq}
 use Rattle.std.proofs.lemmas.List.{length-set}
 use Rattle.std.specs.Global.{Box}
+use Rattle.std.specs.Option.{option_map_or}
 use Rattle.sd_base.specs.Sets.{has}
 use Rattle.sd_base.specs.declared.place.Mode.{Mode}
 use Rattle.sd_base.specs.declared.place.Mode.TheVariants as modes
@@ -27,15 +28,16 @@ use Rattle.sd_chain.specs.Laws.{May}
 use Rattle.sd_chain.specs.Records.{Each}
 use Rattle.sd_coherent.specs.Changes as changes_law
 use Rattle.sd_coherent.specs.Coherent.{Coherent, Quiet, Sits}
+use Rattle.sd_coherent.specs.Moves.{OneCopy}
 use Rattle.sd_coherent.specs.World.{Base, Dir, now}
 use Rattle.sd_coherent.proofs.Changes.{rest-keeps}
 use Rattle.sd_coherent.proofs.Moves.{drop-keeps, raise-keeps, row_keeps-rec}
 use Rattle.sd_sound.specs.Logs.{Outcomes, may_of}
 use Rattle.sd_state.specs.Complexes.{unboxed}
 use Rattle.sd_state.specs.Good.{Good, Half, IsUnderWay, base_of, dir_of}
-use Rattle.sd_state.specs.Images.{leaves_by, log_by}
+use Rattle.sd_state.specs.Images.{begun_at, leaves_by, log_by}
 use Rattle.sd_state.specs.Locking.{IsSet, with_place}
-use Rattle.sd_state.specs.Parts.{Parts, is_active, no_pool, pool_at}
+use Rattle.sd_state.specs.Parts.{Parts, is_active, log_at, no_pool, other_at, pool_at}
 use Rattle.sd_state.specs.Values.{Pending}
 use Rattle.sd_state.proofs.ChangedLists.{each-first, each-left}
 use Rattle.sd_state.proofs.UndoneCalls.{image-unboxed}
@@ -45,6 +47,16 @@ use Rattle.sd_moves.specs.Places.{IsAsked, with_directory}
 -- the ask's instance is active, and the place leaves the ask open
 abbrev pub IsLiveAsk : (ℕ → Bool) → Entry → Ask → Type 0
 IsLiveAsk active e ask = (active ask.by ≡ true) × (is_open e ask ≡ true)
+
+-- the tail of a log is the same, wherever the log begins
+pub tail-same : (c : Parts) (moved : Keeps) (j : ℕ) → (log_by c moved j).tail ≡ (log_at c j).tail
+tail-same c moved j = by (moved j) (other_at c j)
+  where
+    by : (b : Bool) (o : Option ℕ)
+        → (cond b (option_map_or (λ place. begun_at place (log_at c j)) o (log_at c j)) (log_at c j)).tail ≡ (log_at c j).tail
+    by true None = refl
+    by true (Some place) = refl
+    by false o = refl
 
 -- ---- pools and directory are others, and each page keeps its RecLSN
 
@@ -265,6 +277,34 @@ evicts-clean i e may j excl =
     let b : (eqb j i && false) ≡ true = subst (λ (x : Entry). may_evict i x ≡ true) excl may in
     let f : false ≡ true = both_second (eqb j i) false b in cc
 
+-- one pool is another, which differs in page p at most, and the directory is another
+module _ (p i : ℕ) (pool : Buffers) (places : DirectoryState Page) (c : Parts) (low : 1 ≤ i) (high : i ≤ 8)
+    (eight : length c.pools ≡ 8)
+    (else : (q : ℕ) → q ≢ p → buffers.image_at pool q ≡ buffers.image_at (pool_at c i) q) where
+  abbrev placed : Parts
+  placed = with_place i pool places c
+
+  pub pool-here : pool_at placed i ≡ pool
+  pool-here = item-set no_pool c.pools i pool low high eight
+
+  pub only-here : (k q : ℕ) → k ≢ i → (dir_of placed).pool k q ≡ (dir_of c).pool k q
+  only-here k q ne = ap (λ (b : Buffers). buffers.image_at b q) (item-kept no_pool c.pools i pool low k ne)
+
+  -- other pages stay in each pool
+  pub elsewhere : (k q : ℕ) → q ≢ p → (dir_of placed).pool k q ≡ (dir_of c).pool k q
+  elsewhere k q ne = ⊎_elim
+      (λ e. subst (λ (j : ℕ). (dir_of placed).pool j q ≡ (dir_of c).pool j q) (sym e)
+      (ap (λ (b : Buffers). buffers.image_at b q) pool-here ∙ else q ne))
+      (λ k_ne. only-here k q k_ne)
+      (cases_eq k i)
+
+  -- and the copies of the page stay in the others
+  pub one-copy : (copy : Option Page) → buffers.image_at pool p ≡ copy → OneCopy p i copy (dir_of c) (dir_of placed)
+  one-copy copy is = record {
+    here = ap (λ (b : Buffers). buffers.image_at b p) pool-here ∙ is;
+    others = λ k ne. only-here k p ne;
+  }
+
 module _ (p i : ℕ) (pool : Buffers) (seen : rig.Image) (leaves : Outcomes) (pend : Pending) (c : Parts) (m : State)
     (low : 1 ≤ i) (high : i ≤ 8) (g : Good seen leaves pend c m)
     (gone : buffers.image_at pool p ≡ None)
@@ -278,20 +318,6 @@ module _ (p i : ℕ) (pool : Buffers) (seen : rig.Image) (leaves : Outcomes) (pe
   abbrev fall_to : Entry
   fall_to = fallen i (entry_at c.directory p)
 
-  pool-here : pool_at left i ≡ pool
-  pool-here = item-set no_pool c.pools i pool low high g.shape.pools
-
-  only-here : (k q : ℕ) → k ≢ i → (dir_of left).pool k q ≡ (dir_of c).pool k q
-  only-here k q ne = ap (λ (b : Buffers). buffers.image_at b q) (item-kept no_pool c.pools i pool low k ne)
-
-  -- other pages stay in each pool
-  elsewhere : (k q : ℕ) → q ≢ p → (dir_of left).pool k q ≡ (dir_of c).pool k q
-  elsewhere k q ne = ⊎_elim
-      (λ e. subst (λ (j : ℕ). (dir_of left).pool j q ≡ (dir_of c).pool j q) (sym e)
-      (ap (λ (b : Buffers). buffers.image_at b q) pool-here ∙ else q ne))
-      (λ k_ne. only-here k q k_ne)
-      (cases_eq k i)
-
   drop-coherent : (moved : Keeps) → Coherent (base_of seen (leaves_by c moved leaves) (log_by c moved) c) (dir_of left)
   drop-coherent moved =
       let leaves' : Outcomes = leaves_by c moved leaves in
@@ -300,13 +326,14 @@ module _ (p i : ℕ) (pool : Buffers) (seen : rig.Image) (leaves : Outcomes) (pe
         coherent = (g.half moved).coherent;
         idle = idle;
         forced = λ j excl loose. absurd (evicts-clean i (entry_at c.directory p) spare j excl);
-        others = record { entries = set.others; pools = elsewhere; moving = λ q ne. moving q };
+        others = record {
+          entries = set.others;
+          pools = elsewhere p i pool places c low high g.shape.pools else;
+          moving = λ q ne. moving q;
+        };
       })
       formed (evicts-held i (entry_at c.directory p) spare) set.entry
-      (record {
-        here = ap (λ (b : Buffers). buffers.image_at b p) pool-here ∙ gone;
-        others = λ k ne. only-here k p ne;
-      })
+      (one-copy p i pool places c low high g.shape.pools else None gone)
       (moving p)
 
   pub dropped-good : Good seen leaves pend left m

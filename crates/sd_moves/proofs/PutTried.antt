@@ -1,11 +1,10 @@
 -- The newest version of a page is put by who has the write of it, or the put fails: what held of the complex holds of it
 -- then, and each image since then stands. For the goals of `write_copy`.
-use Rattle.std.proofs.Common.{◌≡◌, ◌≢◌, inl, inr, ⊎_elim, ℕ, zero, suc, ◌+◌, ◌^◌, ◌<◌, ◌≤◌, Bool, true, false, cond, List, [], ◌∷◌, ◌++◌, Option, None, Some, length, get_or, map, refl, sym, ap, ap₂, ◌∙◌, subst, arith, append-nil, eqb-true, slice_set, ◌||◌}
+use Rattle.std.proofs.Common.{◌≡◌, ◌≢◌, inl, inr, ⊎_elim, ℕ, zero, suc, ◌+◌, ◌^◌, ◌<◌, ◌≤◌, Bool, true, false, List, [], ◌∷◌, ◌++◌, Option, None, Some, length, get_or, map, refl, sym, ap, ap₂, ◌∙◌, subst, arith, append-nil, eqb-true, slice_set, ◌||◌}
 use Rattle.std.specs.Prelude.{IfSome}
 use Rattle.std.proofs.lemmas.Bool.{cases_lt, le-leb}
 use Rattle.std.proofs.lemmas.List.{get_or-set_other, get_or-set_same, length-set}
 use Rattle.std.specs.List.{list_any}
-use Rattle.std.specs.Option.{option_map_or}
 use Rattle.sd_base.specs.Twin.{chosen_body, number_of}
 use Rattle.sd_logrec.specs.View.{Rec, flat}
 use Rattle.sd_page.specs.Page.{Fits, Page}
@@ -43,14 +42,15 @@ use Rattle.sd_sound.specs.Soundly.{IsSoundly}
 use Rattle.sd_sound.proofs.Lsns.{newest-has_lsns, newest-low}
 use Rattle.sd_sound.proofs.Puts.{puts-disk, puts-twins}
 use Rattle.sd_state.specs.Good.{Good, Half, IsKnownLsn, base_of, dir_of, reaches}
-use Rattle.sd_state.specs.Images.{Stands, begun_at, leaves_by, log_by}
+use Rattle.sd_state.specs.Images.{Stands, leaves_by, log_by}
 use Rattle.sd_state.specs.Laws.{newest_of}
-use Rattle.sd_state.specs.Parts.{Parts, is_loose, log_at, other_at, pool_at}
+use Rattle.sd_state.specs.Parts.{Parts, is_loose, log_at, pool_at}
 use Rattle.sd_state.specs.Values.{Pending}
 use Rattle.sd_state.proofs.LockReads.{named-well}
 use Rattle.sd_state.proofs.Standing.{left-stands}
 use Rattle.sd_world.specs.Pages.{is_duty}
 use Rattle.sd_moves.specs.Putting.{MayPut}
+use Rattle.sd_moves.proofs.Placed.{tail-same}
 use Rattle.sd_moves.proofs.PutDevice.{device-good, with_marks}
 use Rattle.sd_moves.proofs.PutPages.{body-lsn, body-number, newest-number, newest-rises, number-spelled}
 
@@ -122,20 +122,11 @@ module _ (p i : ℕ) (im : Page) (seen : rig.Image) (leaves : Outcomes) (pend : 
     pub is-now : im ≡ now base p
     is-now = ((each-newest (may_of wide) base (dir_of c) half.coherent p i).1 im held).1
 
-    tail-same : (j : ℕ) → (logs j).tail ≡ (log_at c j).tail
-    tail-same j = by (moved j) (other_at c j)
-      where
-        by : (b : Bool) (o : Option ℕ)
-            → (cond b (option_map_or (λ place. begun_at place (log_at c j)) o (log_at c j)) (log_at c j)).tail ≡ (log_at c j).tail
-        by true None = refl
-        by true (Some place) = refl
-        by false o = refl
-
     -- no tail has a record of the page
     pub none : puts_law.NoneUnforced base p
     none = forced-none (may_of wide) base (dir_of c) p half.coherent idle (write-found (entry_at c.directory p) can.changed)
         (λ j is settled. let own = duty-alone i j true (entry_at c.directory p) can.duty is in
-        ap (map flat) (tail-same j ∙ ap (λ (k : ℕ). (log_at c k).tail) own
+        ap (map flat) (tail-same c moved j ∙ ap (λ (k : ℕ). (log_at c k).tail) own
         ∙ can.forced (subst (λ (k : ℕ). is_loose c k ≡ false) own settled)))
 
     -- so its newest version is the same whatever tails are kept

@@ -1,3 +1,4 @@
+pub mod Falling
+pub mod Passing
 pub mod Places
 pub mod Putting
-pub mod Falling

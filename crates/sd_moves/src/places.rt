@@ -14,6 +14,7 @@ ghost use Rattle.sd_state.specs.Parts.{is_active, pool_at};
 ghost use Rattle.sd_state.specs.Values.{Pending};
 
 use sd_base::{InstNo, Memory, Mode, PageNo};
+use sd_page::Image;
 use sd_pagelock::rows;
 use sd_rig::Rig;
 use sd_state::Complex;
@@ -66,7 +67,8 @@ pub fn touch<G: Rig>(c: &mut Complex<G>, p: PageNo, i: InstNo)
 }
 
 /// An active instance asks for a page that it hasn't so: its ask is the last for the page, or the stronger of both where it asks
-/// already. After `Memory` each page has the asks that it had.
+/// already. It takes memory for the ask, and for room in which a copy of the page can set out. After `Memory` each page has the
+/// asks that it had.
 pub fn queue_ask<G: Rig>(c: &mut Complex<G>, i: InstNo, p: PageNo, mode: Mode) -> Result<(), Memory>
     requires good { (pend : Pending) × (m : State) × Good (G.seen c.old.rig) (G.leaves c.old.rig) pend (parts c.old) m }
     requires active { is_active (parts c.old) i ≡ true }
@@ -80,5 +82,6 @@ pub fn queue_ask<G: Rig>(c: &mut Complex<G>, i: InstNo, p: PageNo, mode: Mode) -
         (parts c.old).directory (parts c.new).directory) }
     ensures rig { c.new.rig ≡ c.old.rig }
 {
-    c.directory.ask(i, p, mode)
+    let room = Box::new(*c.logs.allocator(), Image::empty(p))?;
+    c.directory.ask(i, p, mode, room)
 }

@@ -1,5 +1,5 @@
 -- A transaction begins: what it makes of the world. For `begin` of transactions.rt.
-use Rattle.std.proofs.Common.{◌≡◌, ◌≢◌, ◌⊎◌, ⊎_elim, ℕ, ◌+◌, ◌<◌, ◌≤◌, ◌^◌, Bool, true, false, cond, max, length, refl, sym, ap, ◌∙◌, subst, arith}
+use Rattle.std.proofs.Common.{◌≡◌, ◌≢◌, ◌⊎◌, ⊎_elim, ℕ, ◌+◌, ◌<◌, ◌≤◌, ◌^◌, Bool, false, cond, max, length, refl, sym, ap, ◌∙◌, subst, arith}
 use Rattle.std.specs.Prelude.{Option, None, Some, IsSome}
 use Rattle.std.proofs.lemmas.Bool.{cases_Bool, cases_eq}
 use Rattle.std.specs.List.{IsDistinct}
@@ -50,6 +50,7 @@ use Rattle.sd_fits.specs.Fits.{Fits, FitsBounds, FitsDoubts, FitsPages}
 use Rattle.sd_fits.specs.Serving.{Serving}
 use Rattle.sd_fits.proofs.Doubts.{doubts-kept, part-stays}
 use Rattle.sd_fits.proofs.Heads.{count-is, is-up, not-up}
+use Rattle.sd_fits.proofs.Known.{none-waits}
 use Rattle.sd_fits.proofs.Served.{bounds-stay, none-ended, passed, still-serves, turns-on}
 use Rattle.sd_fits.proofs.Still.{kept-serves, kept-spares, moved-fits}
 use Rattle.sd_fits.proofs.Worked.{worked-bounds, worked-pages}
@@ -176,10 +177,6 @@ module _ (i : ℕ) (t : TxnId) (seen : Image) (leaves : Outcomes) (c new : Parts
       (f.good.listed.there t (λ gone. let clash = sym (ap is_running gone) ∙ runs in absurd (cc))))))
       (λ rests. rests)
       (cases_Bool (is_running (state.part t).life))
-
-  none-waits : (x : Bool) (wait : Option Wait) → wait ≡ None → cond {A = Option Wait} x None wait ≡ None
-  none-waits true wait e = refl
-  none-waits false wait e = e
 
   begun-waits : (u : TxnId) → waits new.locks u ≡ waits_after later (Begin i) None (reply.Began t) w.scene.waits u
   begun-waits u = b.waits u ∙ ap (λ (o : Option Wait). cond {A = Option Wait} (same_txn t u) None o) (f.waits u)

@@ -12,7 +12,7 @@ use Rattle.sd_base.specs.declared.refusal.Refusal.TheVariants as R
 use Rattle.sd_base.proofs.SameIds.{ne-same}
 use Rattle.sd_log.specs.Logs.{forced}
 use Rattle.sd_reclock.specs.Locks.{waits}
-use Rattle.sd_rig.specs.Devices.{Elapses, Image, Leaves, LeavesSame, Span}
+use Rattle.sd_rig.specs.Devices.{Elapses, Image, Leaves, Span}
 use Rattle.sd_model.specs.Applies.{HasPut}
 use Rattle.sd_model.specs.Listed.{IsAtWork}
 use Rattle.sd_model.specs.Scenes.{of_running}
@@ -40,6 +40,7 @@ use Rattle.sd_moves.specs.Falling.{IsFallen, with_fallen}
 use Rattle.sd_moves.proofs.FallCuts.{cut-falls}
 use Rattle.sd_fits.specs.Fits.{Fits, FitsBounds, FitsDoubts, FitsPages}
 use Rattle.sd_fits.specs.Serving.{Serving, fits_by, stands_for}
+use Rattle.sd_fits.proofs.Disk.{other-device}
 use Rattle.sd_fits.proofs.Falling.{IsElsewhere, fallen-fits, fell-waits, fell_core, fell_waits, numbers_of, turns-fell}
 use Rattle.sd_fits.proofs.Forcing.{failed-bounds, failed-doubts, failed-pages}
 use Rattle.sd_fits.proofs.Heads.{is-ready}
@@ -71,11 +72,6 @@ commit-work t = record {
 -- there is always memory to refuse it
 pub off-there : (t : TxnId) (c : Parts) (n : Refusal) → IsOff t c n → n ≢ R.Memory
 off-there t c n off e = subst (IsOff t c) e off
-
--- devices that stay leave what they left
-pub leaves-same : {G : Type 0} (tell : Telling G) (old new : G) → new ≡ old → LeavesSame (tell.leaves old 0) (tell.leaves new 0)
-leaves-same {G} tell old new same = subst (λ (d : G). LeavesSame (tell.leaves old 0) (tell.leaves d 0)) (sym same)
-    (λ b. ((λ left. left), (λ left. left)))
 
 module _ {G : Type 0} (tell : Telling G) (t : TxnId) (old new : Complex G) (same : new.rig ≡ old.rig)
     (now : (img : Image) → tell.since old.rig (tell.moment old.rig) img → Leaves (tell.leaves old.rig) img)
@@ -140,9 +136,6 @@ pub record IsForcing {G : Type 0} (tell : Telling G) (t : TxnId) (old sealed the
   pub time : Elapses (tell.moment sealed.rig) (tell.moment then.rig) (tell.since sealed.rig) (tell.since then.rig)
   pub others : (d : ℕ) → d ≢ home t → tell.seen then.rig d ≡ tell.seen sealed.rig d
 
-other-device : (i : ℕ) → 1 ≤ i → 0 ≢ i
-other-device i low e = omega (arith, low, e)
-
 -- by what each call tells
 pub forcing : {G : Type 0} (tell : Telling G) (t : TxnId) (old sealed then : Complex G) → 1 ≤ home t → home t ≤ 8
     → status_at (parts old) (home t) ≡ S.Up → state_at (txns_at (parts old) (home t)) t ≡ Some TxnState.Running
@@ -172,17 +165,6 @@ forcing tell t old sealed then low high up runs there reads rig ends seals good 
   time = time;
   others = others;
 }
-
--- the data device is as it was
-module _ {G : Type 0} (tell : Telling G) (i : ℕ) (low : 1 ≤ i) (old sealed then new : Complex G) (first : sealed.rig ≡ old.rig)
-    (last : new.rig ≡ then.rig) where
-  pub disk-same : ((d : ℕ) → d ≢ i → tell.seen then.rig d ≡ tell.seen sealed.rig d) → tell.seen new.rig 0 ≡ tell.seen old.rig 0
-  disk-same others = ap (λ (d : G). tell.seen d 0) last ∙ others 0 (other-device i low) ∙ ap (λ (d : G). tell.seen d 0) first
-
-  pub disk-leaves : ((d : ℕ) → d ≢ i → LeavesSame (tell.leaves sealed.rig d) (tell.leaves then.rig d))
-      → LeavesSame (tell.leaves old.rig 0) (tell.leaves new.rig 0)
-  disk-leaves others = subst (λ (d : G). LeavesSame (tell.leaves old.rig 0) (tell.leaves d 0)) (sym last)
-      (subst (λ (d : G). LeavesSame (tell.leaves d 0) (tell.leaves then.rig 0)) first (others 0 (other-device i low)))
 
 module _ {G : Type 0} (tell : Telling G) (t : TxnId) (old sealed then : Complex G) (k : IsForcing tell t old sealed then) where
   abbrev i : ℕ

@@ -1,5 +1,5 @@
 -- A call whose wait is ended is served. For the calls on records.
-use Rattle.std.proofs.Common.{◌≡◌, ℕ, Bool, true, false, cond, refl, sym, ap, ◌∙◌, subst, arith}
+use Rattle.std.proofs.Common.{◌≡◌, ℕ, Bool, cond, refl, sym, ap, ◌∙◌, subst, arith}
 use Rattle.std.specs.Prelude.{Option, None, Result, Ok, Err}
 use Rattle.sd_base.specs.Ids.{same_txn}
 use Rattle.sd_base.specs.Waits.{Wait, Waits, with_wait}
@@ -23,6 +23,7 @@ use Rattle.sd_state.specs.Values.{Pending}
 use Rattle.sd_state.specs.declared.complex.Complex.{Complex}
 use Rattle.sd_fits.specs.Fits.{Fits}
 use Rattle.sd_fits.specs.Serving.{Serving, fits_by, stands_for}
+use Rattle.sd_fits.proofs.Known.{none-waits}
 use Rattle.sd_fits.proofs.Served.{ended-wait, fits-left, relocked-good, running-wait, still-passes, still-serves}
 use Rattle.sd_fits.proofs.Taking.{same-on, taken-fits}
 use Rattle.sd_ops.specs.Halves.{EndsWait, HalfServed, HalfTurns, IsRewaited, noted, refusal_of}
@@ -59,10 +60,6 @@ without_wait t w = record {
   pages = w.pages;
   bounds = w.bounds;
 }
-
-none-waits : (b : Bool) (wait : Option Wait) → wait ≡ None → cond {A = Option Wait} b None wait ≡ None
-none-waits true wait e = refl
-none-waits false wait e = e
 
 module _ (wanted : Option Rid) (e : Event) (r : Reply) (seen : Image) (leaves : Outcomes) (mid new : Parts) (w w' : Core)
     (h : HalfTurns wanted w e r w') (f : Fits seen leaves mid w') where

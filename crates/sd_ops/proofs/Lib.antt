@@ -6,6 +6,7 @@ pub mod Work
 pub mod Ending
 pub mod Commits
 pub mod Underway
+pub mod Used
 pub mod Committing
 pub mod Planning
 pub mod Setting
@@ -19,3 +20,4 @@ pub mod Edited
 pub mod Vacating
 pub mod Filling
 pub mod Filled
+mod Marking

@@ -218,7 +218,7 @@ pub record Lists {G : Type 0} (tell : Telling G) (i : ℕ) (c : Complex G) : Typ
   pub now : (img : Image) → tell.since c.rig (tell.moment c.rig) img → Leaves (tell.leaves c.rig) img
 
 -- a pool that is used has its frames
-used-frames : (pool : Buffers) (p : ℕ) (copy : Option Page) → (option_map_or (with_page pool p) copy pool).frames ≡ pool.frames
+pub used-frames : (pool : Buffers) (p : ℕ) (copy : Option Page) → (option_map_or (with_page pool p) copy pool).frames ≡ pool.frames
 used-frames pool p None = refl
 used-frames pool p (Some image) = refl
 

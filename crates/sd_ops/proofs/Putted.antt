@@ -33,7 +33,7 @@ use Rattle.sd_world.specs.Pages.{Pages, numbered, placed}
 use Rattle.sd_world.specs.Serving.{Core}
 use Rattle.sd_state.specs.Changing.{Change, change_of, changed_log, flat_of, image_for, putting, with_changed}
 use Rattle.sd_state.specs.Good.{Good}
-use Rattle.sd_state.specs.Parts.{Parts, pool_at, status_at}
+use Rattle.sd_state.specs.Parts.{Parts, status_at}
 use Rattle.sd_state.specs.Values.{Pending}
 use Rattle.sd_fits.specs.Fits.{AreWithin, Fits, FitsBounds, capacities}
 use Rattle.sd_fits.proofs.Changing.{changed-fits, slots-kept, slots-new}
@@ -95,9 +95,6 @@ module _ (t : TxnId) (r : Rid) (capacity : ℕ) (after : Content) (seen_by : Ima
   has-put : HasPut (put_state.part t).acts
   has-put = subst (λ p. HasPut p.acts) (sym (part-here m t _)) (put-last (m.part t).acts r (view m t r) after)
 
-  frames-mid : (pool_at new (home t)).frames ≡ (pool_at mid (home t)).frames
-  frames-mid = there.frames ∙ sym (ap (λ (x : Parts). (pool_at x (home t)).frames) there.granted.rest)
-
   -- the pages, with the record's LSN
   abbrev pages_then : Pages
   pages_then = numbered r.page k.lsn (placed r.page (dirtied (home t)) w.pages)
@@ -124,7 +121,7 @@ module _ (t : TxnId) (r : Rid) (capacity : ℕ) (after : Content) (seen_by : Ima
       → Fits seen_by leaves new (turned_to w put_state w.scene.waits pages_then e reply_is)
   put-fits e reply_is whose costs before_small after_small slots =
       changed-fits k seen_by leaves mid new put_state mid_core mid-fits there.made good-changed e reply_is whose costs before_small after_small
-      slots frames-mid goes-on has-put
+      slots goes-on has-put
 
   pub slots-stay : (e : Event) (reply_is : Reply) → r.slot < length (image_for t r.page mid).slots
       → AreWithin (capacities (redo (image_for t r.page mid) (flat_of k))) ((bounds_after w.bounds e reply_is).slots r.page)

@@ -31,7 +31,8 @@ use Rattle.sd_world.specs.PageCauses.{NoneSays, PagesAgree}
 use Rattle.sd_world.specs.Serving.{AsksNear, Core, IsFault, answered, refused}
 use Rattle.sd_state.specs.Parts.{Parts, status_at, txns_at}
 use Rattle.sd_fits.specs.Fits.{Fits}
-use Rattle.sd_fits.proofs.Heads.{is-up, none-gone, not-up, some-there, stands-as, up-works}
+use Rattle.sd_fits.proofs.Heads.{is-up, none-gone, not-up, stands-as, up-works}
+use Rattle.sd_fits.proofs.Known.{known-there}
 use Rattle.sd_fits.proofs.Served.{nothing-fits}
 use Rattle.sd_fits.proofs.Taking.{turned_to}
 use Rattle.sd_ops.specs.Halves.{HalfServed, HalfTurns, IsOff, noted}
@@ -132,19 +133,13 @@ passes-of : (w : Core) (e : Event) (t : TxnId) (cause : Cause) (k : IsWork e t)
     → NoneSays w.scene.state w.pages e (before cause (order e))
 passes-of w e t cause k h = subst (λ (os : List Cause). NoneSays w.scene.state w.pages e (before cause os)) (sym k.order) h
 
-the-unresolved : (o : Option Transaction) → IsSome o → (x : Transaction) × (o ≡ Some x)
-the-unresolved None some = absurd (cc)
-the-unresolved (Some x) some = (x, refl)
-
 module _ (e : Event) (t : TxnId) (k : IsWork e t) (seen : Image) (leaves : Outcomes) (c : Parts) (low : 1 ≤ home t) (high : home t ≤ 8)
     (w : Core) (f : Fits seen leaves c w) where
   abbrev m : State
   m = w.scene.state
 
   at-one : IsUnresolved (txns_at c (home t)) t → (m.part (txn_of e)).life ≡ Life.Gone → ⊥
-  at-one there gone = let x = the-unresolved (txn_at (txns_at c (home t)) t) there in
-      some-there seen leaves _ c m f.good t x.0.state low high (ap (λ (o : Option Transaction). option_map (λ (y : Transaction). y.state) o) x.1)
-      (ap (λ (u : TxnId). (m.part u).life) (sym k.txn) ∙ gone)
+  at-one there gone = known-there seen leaves c w f t low high there (ap (λ (u : TxnId). (m.part u).life) (sym k.txn) ∙ gone)
 
   pub unknown-for : state_at (txns_at c (home t)) t ≡ None → IsFor None w e R.NoTxn Cause.NoTxn m
   unknown-for none = record {

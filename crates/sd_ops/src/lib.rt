@@ -1,4 +1,4 @@
-//! Transactions and their records: begun, read, changed, committed.
+//! Transactions and their records: begun, marked, read, changed, committed.
 //!
 //! Meaning: a call of an event promises `Serving` of sd_fits: from each world that the complex fits, it turns to one that it fits then,
 //! as the reply says. `HalfServed` says the same of a call before it ends the transaction's wait (`specs/Halves.antt`).
@@ -30,4 +30,4 @@ mod waiting;
 pub use inserting::insert;
 pub use listing::list_page;
 pub use records::{add, delete, read, write};
-pub use transactions::{begin, commit};
+pub use transactions::{begin, commit, save};

@@ -14,14 +14,28 @@ use crate::edits::{Edit, Plan, planned};
 use crate::putting::put;
 use crate::waiting::{ask, at_work, end_wait};
 use sd_base::{Bytes, Mode, Refusal, Rid, TxnId};
+use sd_moves::touch;
 use sd_rig::Rig;
 use sd_state::Complex;
 
-/// Reads a record: its value, or none, as the transaction finds it, which has the record's `Shared` lock then.
+/// Reads a record: its value, or none, as the transaction finds it, which has the record's `Shared` lock then. The page is used: it
+/// is the last that will be evicted.
 ///
 /// Refused, the first that applies: `NoTxn`; `Down` where the instance isn't up; `Busy` where the transaction rolls back; `Blocked`
 /// and `Deadlock` by another's lock; `Lost` and `NeedPage` where the instance hasn't the page. `Memory` comes wherever there is none.
 pub fn read<G: Rig>(c: &mut Complex<G>, t: &TxnId, r: &Rid) -> Result<Option<Bytes>, Refusal>
+    requires fits { (w : Core) × Fits (G.seen c.old.rig) (G.leaves c.old.rig) (parts c.old) w }
+    ensures served { Serving (telling G.seen G.leaves G.moment G.since G.faults) (event.Read t.now r.now) (found result) c.old c.new }
+    ensures rig { c.new.rig ≡ c.old.rig }
+{
+    let _number = t.inst.get();
+    let content = value_for(c, t, r)?;
+    touch(c, r.page, t.inst);
+    Ok(content)
+}
+
+// Reads a record, and ends the reader's wait. No page is used by it.
+fn value_for<G: Rig>(c: &mut Complex<G>, t: &TxnId, r: &Rid) -> Result<Option<Bytes>, Refusal>
     requires fits { (w : Core) × Fits (G.seen c.old.rig) (G.leaves c.old.rig) (parts c.old) w }
     ensures served { Serving (telling G.seen G.leaves G.moment G.since G.faults) (event.Read t.now r.now) (found result) c.old c.new }
     ensures rig { c.new.rig ≡ c.old.rig }

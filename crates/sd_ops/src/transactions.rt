@@ -1,6 +1,6 @@
-//! Transactions: begun, committed.
+//! Transactions: begun, marked, committed.
 
-ghost use Rattle.std.specs.Prelude.{◌≡◌, ◌≢◌, ◌^◌, ◌<◌, ◌≤◌, Err, IsSome, None, Some};
+ghost use Rattle.std.specs.Prelude.{◌≡◌, ◌≢◌, ◌^◌, ◌<◌, ◌≤◌, Err, IfOk, IsSome, None, Some};
 ghost use Rattle.sd_base.specs.declared.place.Status.TheVariants as S;
 ghost use Rattle.sd_base.specs.declared.refusal.Refusal.TheVariants as R;
 ghost use Rattle.sd_model.specs.declared.event.Event.TheVariants as event;
@@ -12,13 +12,15 @@ ghost use Rattle.sd_txn.specs.declared.state.TxnState.TheVariants.{Running};
 ghost use Rattle.sd_world.specs.Serving.{Core, began, did, telling};
 ghost use Rattle.sd_fits.specs.Fits.{Fits};
 ghost use Rattle.sd_fits.specs.Serving.{Serving};
+ghost use Rattle.sd_ops.specs.Halves.{HalfServed};
 
 use crate::standing::is_up;
-use crate::waiting::{at_work, refuse};
-use sd_base::{InstNo, Refusal, TxnId};
+use crate::waiting::{at_work, end_wait, refuse};
+use sd_base::{InstNo, Memory, Refusal, TxnId, Word};
 use sd_moves::cut;
 use sd_rig::Rig;
 use sd_state::Complex;
+use std::alloc::Global;
 
 /// Begins a transaction on an instance: the next one of its epoch.
 ///
@@ -36,6 +38,39 @@ pub fn begin<G: Rig>(c: &mut Complex<G>, i: InstNo) -> Result<TxnId, Refusal>
     let t = c.begin(i)?;
     let _number = number(&t);
     Ok(t)
+}
+
+/// Sets a mark of this name where a transaction stands, behind its last change. One of the name that it has moves there.
+///
+/// Refused, the first that applies: `NoTxn`; `Down` where its instance isn't up; `Busy` where it rolls back. Each of these, and its
+/// success, ends its wait. `Memory` comes where there is none, and changes nothing. No device is called.
+pub fn save<G: Rig>(c: &mut Complex<G>, t: &TxnId, mark: &Word) -> Result<(), Refusal>
+    requires fits { (w : Core) × Fits (G.seen c.old.rig) (G.leaves c.old.rig) (parts c.old) w }
+    ensures served { Serving (telling G.seen G.leaves G.moment G.since G.faults) (event.Save t.now mark.now) (did result) c.old c.new }
+    ensures rig { c.new.rig ≡ c.old.rig }
+{
+    let done = set_mark(c, t, mark);
+    end_wait(c, t, &done);
+    done
+}
+
+// A mark is set before the transaction's wait is ended.
+fn set_mark<G: Rig>(c: &mut Complex<G>, t: &TxnId, mark: &Word) -> Result<(), Refusal>
+    requires fits { (w : Core) × Fits (G.seen c.old.rig) (G.leaves c.old.rig) (parts c.old) w }
+    ensures half { HalfServed (G.seen c.old.rig) (G.leaves c.old.rig) None (event.Save t.now mark.now) (did result) (parts c.old) (parts c.new) }
+    ensures rig { c.new.rig ≡ c.old.rig }
+{
+    at_work(c, t)?;
+    let name = copy_of(*c.logs.allocator(), mark)?;
+    c.save(t, name)?;
+    Ok(())
+}
+
+// A copy of a word.
+fn copy_of(alloc: Global, word: &Word) -> Result<Word, Memory>
+    ensures { IfOk result (λ copied. copied ≡ word.now) }
+{
+    Ok(Word::of(word.items().to_vec(alloc)?))
 }
 
 /// Commits a transaction: it is among the committed, and its locks go, once its Commit is forced. One without a record has none

@@ -10,5 +10,6 @@ pub mod Kept
 pub mod Lookups
 pub mod Losses
 pub mod Queues
+pub mod Raised
 pub mod Rowwise
 pub mod Uses

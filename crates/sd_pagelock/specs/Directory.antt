@@ -1,5 +1,5 @@
 -- What the directory says of each page.
-use Rattle.std.specs.Prelude.{◌≡◌, ℕ, Bool, List, Option, None, is_some, get_or, length, ◌&&◌, cond}
+use Rattle.std.specs.Prelude.{◌≡◌, ℕ, ◌<◌, Bool, List, [], Option, None, is_some, get_or, length, ◌&&◌, cond}
 use Rattle.std.specs.List.{count_by}
 use Rattle.sd_base.specs.declared.place.Place as coded
 use Rattle.sd_pagelock.specs.declared.queue.Ask.{Ask}
@@ -56,3 +56,8 @@ pub record IsKept (places : List coded.Place) (rec_lsns : List (Option ℕ)) (im
   pub formed : (p : ℕ) → Formed (place_at places p)
   pub in_range : (p : ℕ) → InRange (place_at places p)
   pub marked : (p : ℕ) → is_some (get_or rec_lsns p None) ≡ changed (place_at places p)
+
+-- For each page that is asked for there is what its image can set out in: its room, or what is on its way already.
+pub record HaveRoom {I : Type 0} (queues : Queues) (images rooms : List (Option I)) : Type 0 where
+  pub count : length rooms ≡ 1024
+  pub unasked : (p : ℕ) → p < 1024 → get_or rooms p None ≡ None → get_or images p None ≡ None → asks_for queues p ≡ []

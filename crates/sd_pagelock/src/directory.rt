@@ -17,6 +17,8 @@ pub struct Directory<I> {
     places: Vec<Place>,
     rec_lsns: Vec<Option<Lsn>>,
     images: Vec<Option<I>>,
+    // what an image of the page can set out in, of each page that is asked for and isn't on its way
+    rooms: Vec<Option<I>>,
     asks: Asks,
     // how many of the places are lost
     lost: usize,
@@ -24,7 +26,7 @@ pub struct Directory<I> {
 
 impl<I> Model for Directory<I> {
     ghost use Rattle.std.specs.Prelude.{length};
-    ghost use Rattle.sd_pagelock.specs.Directory.{DirectoryState, IsKept};
+    ghost use Rattle.sd_pagelock.specs.Directory.{DirectoryState, HaveRoom, IsKept};
 
     ghost Value = { DirectoryState I };
 
@@ -35,7 +37,8 @@ impl<I> Model for Directory<I> {
       queues = d.asks;
     } };
 
-    ghost invariant = { λ d. IsKept d.places.items d.rec_lsns.items (length d.images.items) d.lost };
+    ghost invariant = { λ d. IsKept d.places.items d.rec_lsns.items (length d.images.items) d.lost
+        × HaveRoom d.asks d.images.items d.rooms.items };
 }
 
 impl<I: Drop> Directory<I> {
@@ -58,6 +61,7 @@ impl<I: Drop> Directory<I> {
             places: repeated(alloc, Place::Free)?,
             rec_lsns: repeated(alloc, None)?,
             images: nothing(alloc)?,
+            rooms: nothing(alloc)?,
             asks: Asks::new(alloc),
             lost: 0,
         })
@@ -165,8 +169,9 @@ impl<I: Drop> Directory<I> {
         self.images[p.get() as usize].as_ref()
     }
 
-    /// The page's image arrives; `None` exactly where none was on its way. It takes no memory.
-    pub fn arrive(&mut self, p: PageNo) -> Option<I>
+    /// The page's image arrives; `None` exactly where none was on its way. What takes it leaves room for the next that sets
+    /// out. It takes no memory.
+    pub fn arrive(&mut self, p: PageNo, room: I) -> Option<I>
         ensures value { result ≡ image_at self.old p }
         ensures here { image_at self.new p ≡ None }
         ensures others { (q : ℕ) → q ≢ p → image_at self.new q ≡ image_at self.old q }
@@ -174,7 +179,9 @@ impl<I: Drop> Directory<I> {
         ensures rec_lsns { (q : ℕ) → rec_lsn_at self.new q ≡ rec_lsn_at self.old q }
         ensures asks { (q : ℕ) → asks_at self.new q ≡ asks_at self.old q }
     {
-        self.images[p.get() as usize].take()
+        let at = p.get() as usize;
+        self.rooms[at] = Some(room);
+        self.images[at].take()
     }
 }
 
@@ -190,8 +197,8 @@ impl<I: Drop> Directory<I> {
     ghost use Rattle.sd_pagelock.specs.Directory.{entry_at, rec_lsn_at, image_at, asks_at, can_give, is_wanted, kept_rec};
 
     /// `i` asks for the page: at the end of its asks, or in the place of its older ask, which becomes the stronger of
-    /// both. After `Memory` all is as before.
-    pub fn ask(&mut self, i: InstNo, p: PageNo, mode: Mode) -> Result<(), Memory>
+    /// both. It brings room, in which a copy of the page's image can set out. After `Memory` all is as before.
+    pub fn ask(&mut self, i: InstNo, p: PageNo, mode: Mode, room: I) -> Result<(), Memory>
         ensures here { OnOk result (asks_at self.new p ≡ queued i mode (asks_at self.old p)) }
         ensures others { (q : ℕ) → q ≢ p → asks_at self.new q ≡ asks_at self.old q }
         ensures err { OnErr result (asks_at self.new p ≡ asks_at self.old p) }
@@ -199,7 +206,9 @@ impl<I: Drop> Directory<I> {
         ensures rec_lsns { (q : ℕ) → rec_lsn_at self.new q ≡ rec_lsn_at self.old q }
         ensures images { (q : ℕ) → image_at self.new q ≡ image_at self.old q }
     {
-        self.asks.add(*self.places.allocator(), p, i, mode)
+        self.asks.add(*self.places.allocator(), p, i, mode)?;
+        self.rooms[p.get() as usize] = Some(room);
+        Ok(())
     }
 
     /// The oldest ask for the page of another instance than `not`; `None` exactly where there is none.
@@ -291,7 +300,21 @@ impl<I: Drop> Directory<I> {
         let rec = self.rec_lsn(p);
         self.write(p, fallen(i, &place), rec);
         if receives(&place, i) {
-            self.images[p.get() as usize] = None;
+            self.keep_room(p);
+        }
+    }
+
+    // What is on its way of the page goes no further, and is room for the next that sets out.
+    fn keep_room(&mut self, p: PageNo)
+        ensures here { image_at self.new p ≡ None }
+        ensures others { (q : ℕ) → q ≢ p → image_at self.new q ≡ image_at self.old q }
+        ensures places { self.new.places ≡ self.old.places }
+        ensures rec_lsns { self.new.rec_lsns ≡ self.old.rec_lsns }
+        ensures asks { self.new.queues ≡ self.old.queues }
+    {
+        let at = p.get() as usize;
+        if let Some(image) = self.images[at].take() {
+            self.rooms[at] = Some(image);
         }
     }
 
@@ -311,6 +334,32 @@ impl<I: Drop> Directory<I> {
         self.lost = recounted(self.lost, &self.places[at], &to);
         self.places[at] = to;
         self.rec_lsns[at] = rec;
+    }
+}
+
+impl<T: Copy + Drop> Directory<Box<T>> {
+    ghost use Rattle.std.specs.Prelude.{◌≡◌, ◌≢◌, ℕ, [], Some, option_map};
+    ghost use Rattle.std.specs.Box.{box_value};
+    ghost use Rattle.sd_pagelock.specs.Directory.{entry_at, rec_lsn_at, image_at, asks_at};
+
+    /// A copy of the image of a page that is asked for sets out, in the room that an ask brought. It takes no memory.
+    pub fn send_copy(&mut self, p: PageNo, image: &T)
+        requires { asks_at self.old p ≢ [] }
+        ensures here { option_map box_value (image_at self.new p) ≡ Some image.now }
+        ensures others { (q : ℕ) → q ≢ p → image_at self.new q ≡ image_at self.old q }
+        ensures places { (q : ℕ) → entry_at self.new q ≡ entry_at self.old q }
+        ensures rec_lsns { (q : ℕ) → rec_lsn_at self.new q ≡ rec_lsn_at self.old q }
+        ensures asks { (q : ℕ) → asks_at self.new q ≡ asks_at self.old q }
+    {
+        let at = p.get() as usize;
+        let room = match self.rooms[at].take() {
+            Some(room) => Some(room),
+            None => self.images[at].take(),
+        };
+        if let Some(mut room) = room {
+            *room = *image;
+            self.images[at] = Some(room);
+        }
     }
 }
 

@@ -3,7 +3,8 @@
 //! Meaning: `Place`, a page's place as laws see it (`specs/Places.antt`), and `DirectoryState`, what the directory
 //! says of each page (`specs/Directory.antt`).
 //! Keeps: a shared page has a holder, and its writer is one; the receiver of a page holds no copy of it; a page has a
-//! RecLSN exactly where its place is changed; an instance asks once for a page.
+//! RecLSN exactly where its place is changed; an instance asks once for a page; a copy of a page that is asked for has room in
+//! which it can set out.
 //! Promises: a page's place changes by a row of the table (`set`, `lawful`; `rows`, `specs/Moves.antt`), which never loses
 //! it (`laws::only_copy`), or by a fall (`fall`); a changed page keeps its RecLSN (`set`, `rec_lsn`); `oldest_ask`,
 //! `first_for` and `first_lost` answer exactly (`value`; `found`, `lowest`, `none`).

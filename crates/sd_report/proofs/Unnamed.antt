@@ -1,5 +1,5 @@
 -- A report in which no refusal tells a transaction needs no names. It serves the goals of names_for.
-use Rattle.std.proofs.Common.{◌≡◌, ℕ, zero, suc, ◌-◌, Bool, true, false, ◌||◌, cond, List, [], ◌∷◌, length, refl, sym, ap, ◌∙◌}
+use Rattle.std.proofs.Common.{◌≡◌, ℕ, zero, suc, ◌-◌, Bool, true, false, ◌||◌, cond, List, [], ◌∷◌, ◌++◌, length, refl, sym, ap, ◌∙◌}
 use Rattle.std.specs.Prelude.{Option, None, Some, slice_get, filter, codes, eqb}
 use Rattle.std.specs.Fmt.{decimal}
 use Rattle.std.specs.List.{flat_map, list_any}
@@ -14,8 +14,8 @@ use Rattle.sd_script.specs.declared.line.Form.TheVariants as form
 use Rattle.sd_script.specs.declared.line.Line.{Line}
 use Rattle.sd_report.specs.Words.{line_of, NamesOf}
 use Rattle.sd_report.specs.Refusals.{refusal_text, tells_txn}
-use Rattle.sd_report.specs.Replies.{no_reply, pulled_text, reply_text, last_text, words_of}
-use Rattle.sd_report.specs.Report.{last_entry, txn_line, page_line, listed, table_lines}
+use Rattle.sd_report.specs.Replies.{no_reply, pulled_text, reply_text, last_text, words_of, behind_words, last_behind_words}
+use Rattle.sd_report.specs.Report.{last_entry, txn_line, page_line, fail_line, listed, table_lines}
 use Rattle.sd_report.specs.Report.{reported, gathered, entries_of, reply_tells_txn, tell_txns}
 
 neither : (a b : Bool) → (a || b) ≡ false → (a ≡ false) × (b ≡ false)
@@ -71,6 +71,16 @@ same_listed : (f g : NamesOf) (own : List Entry) (e : Event) (r : Reply) → rep
 same_listed f g own e (reply.Refused n) plain = ap (λ (l : List ℕ). line_of (l ∷ [])) (same_pulled f g e n plain)
 same_listed f g own e r plain = refl
 
+same_behind : (f g : NamesOf) (e : Event) (r : Reply) → reply_tells_txn r ≡ false → behind_words f e r ≡ behind_words g e r
+same_behind f g e (reply.Refused n) plain = ap (λ (l : List ℕ). 32 ∷ l) (same_refusal f g e n plain)
+same_behind f g e r plain = refl
+
+same_last_behind : (f g : NamesOf) (last : Option Entry) → ((entry : Entry) → last ≡ Some entry
+    → reply_tells_txn entry.reply ≡ false)
+    → last_behind_words f last ≡ last_behind_words g last
+same_last_behind f g None plain = refl
+same_last_behind f g (Some entry) plain = same_behind f g entry.event entry.reply (plain entry refl)
+
 same_table : (f g : NamesOf) (own : List Entry) (last : Option Entry) → ((entry : Entry) → last ≡ Some entry
     → reply_tells_txn entry.reply ≡ false)
     → table_lines f own last ≡ table_lines g own last
@@ -90,6 +100,11 @@ module _ (f g : NamesOf) (own : List Entry) (none : tell_txns own ≡ false) whe
       (same_last (refusal_text f) (refusal_text g) (same_refusal f g) (words_of of) no_reply
       (last_entry own) (last_plain own none))
 
+  same_fail_line : (inst : ℕ) → fail_line f inst own ≡ fail_line g inst own
+  same_fail_line inst =
+      ap (λ (l : List ℕ). line_of ((codes "fail " ++ decimal inst ++ l) ∷ []))
+      (same_last_behind f g (last_entry own) (last_plain own none))
+
   same_line : (of : Form) → reported f of own ≡ reported g of own
   same_line (form.Complex insts pages frames) = refl
   same_line (form.Begin inst name) = same_txn_line name (form.Begin inst name)
@@ -98,11 +113,17 @@ module _ (f g : NamesOf) (own : List Entry) (none : tell_txns own ≡ false) whe
   same_line (form.Add name ordinal rid by) = same_txn_line name (form.Add name ordinal rid by)
   same_line (form.Insert name ordinal page value capacity) = same_txn_line name (form.Insert name ordinal page value capacity)
   same_line (form.Delete name ordinal rid) = same_txn_line name (form.Delete name ordinal rid)
+  same_line (form.Save name ordinal mark) = same_txn_line name (form.Save name ordinal mark)
+  same_line (form.Back name ordinal mark) = same_txn_line name (form.Back name ordinal mark)
+  same_line (form.Rollback name ordinal) = same_txn_line name (form.Rollback name ordinal)
   same_line (form.Commit name ordinal) = same_txn_line name (form.Commit name ordinal)
   same_line (form.Ask inst page mode) = same_page_line inst (form.Ask inst page mode)
+  same_line (form.Give inst page) = same_page_line inst (form.Give inst page)
+  same_line (form.Take inst page) = same_page_line inst (form.Take inst page)
   same_line (form.Evict inst page) = same_page_line inst (form.Evict inst page)
   same_line (form.Flush inst page) = same_page_line inst (form.Flush inst page)
   same_line (form.Force inst) = same_page_line inst (form.Force inst)
+  same_line (form.Fail inst) = same_fail_line inst
   same_line (form.Where page) = same_page_line page (form.Where page)
   same_line form.Table = same_table f g own (last_entry own) (last_plain own none)
 

@@ -1,5 +1,5 @@
 -- What stands behind the name, the instance or the page of a line: the words of its reply.
-use Rattle.std.specs.Prelude.{ℕ, List, ◌++◌, Option, None, Some, codes}
+use Rattle.std.specs.Prelude.{ℕ, List, [], ◌∷◌, ◌++◌, Option, None, Some, codes}
 use Rattle.std.specs.Fmt.{decimal}
 use Rattle.sd_base.specs.declared.ids.Rid.{Rid}
 use Rattle.sd_base.specs.declared.refusal.Refusal.{Refusal}
@@ -38,10 +38,15 @@ abbrev pub placed : Reply → List ℕ
 placed (reply.At rid) = codes "insert " ++ rid_word rid
 placed r = no_reply
 
--- what was done on a record, on a page, or on neither
+-- what was done on a record, on a page, on a mark, or on none of these
 abbrev pub done : List ℕ → Reply → List ℕ
 done words reply.Did = words
 done words r = no_reply
+
+-- what was rolled back, once nothing is left to undo
+abbrev pub rolled_back : List ℕ → Reply → List ℕ
+rolled_back words reply.Finished = words
+rolled_back words r = no_reply
 
 -- an ask tells that the instance has the page, or who was asked for it
 abbrev pub asked : ℕ → Reply → List ℕ
@@ -49,12 +54,17 @@ asked page reply.Have = codes "have " ++ decimal page
 asked page (reply.Asked of) = codes "asked " ++ decimal page ++ codes " of " ++ decimal of
 asked page r = no_reply
 
+-- a give tells to whom the page moves
+abbrev pub gave : ℕ → Reply → List ℕ
+gave page (reply.Gave to) = codes "gave " ++ decimal page ++ codes " to " ++ decimal to
+gave page r = no_reply
+
 -- where a page is
 abbrev pub shown : Reply → List ℕ
 shown (reply.Shown place lsn) = place_text place lsn
 shown r = no_reply
 
--- the words of a reply that is no refusal, form by form; the first line and a table have no such words
+-- the words of a reply that is no refusal, form by form; the first line, a failure and a table have no such words
 abbrev pub words_of : Form → Reply → List ℕ
 words_of (form.Complex insts pages frames) r = no_reply
 words_of (form.Begin inst name) r = began r
@@ -63,11 +73,17 @@ words_of (form.Write name ordinal rid value) r = done (codes "write " ++ rid_wor
 words_of (form.Add name ordinal rid by) r = done (codes "add " ++ rid_word rid) r
 words_of (form.Insert name ordinal page value capacity) r = placed r
 words_of (form.Delete name ordinal rid) r = done (codes "delete " ++ rid_word rid) r
+words_of (form.Save name ordinal mark) r = done (codes "save " ++ mark) r
+words_of (form.Back name ordinal mark) r = rolled_back (codes "back " ++ mark) r
+words_of (form.Rollback name ordinal) r = rolled_back (codes "rollback") r
 words_of (form.Commit name ordinal) r = done (codes "commit") r
 words_of (form.Ask inst page mode) r = asked page r
+words_of (form.Give inst page) r = gave page r
+words_of (form.Take inst page) r = done (codes "took " ++ decimal page) r
 words_of (form.Evict inst page) r = done (codes "evicted " ++ decimal page) r
 words_of (form.Flush inst page) r = done (codes "flushed " ++ decimal page) r
 words_of (form.Force inst) r = done (codes "forced") r
+words_of (form.Fail inst) r = no_reply
 words_of (form.Where page) r = shown r
 words_of form.Table r = no_reply
 
@@ -86,3 +102,13 @@ reply_text refused words e r = words r
 abbrev pub last_text : (Event → Refusal → List ℕ) → (Reply → List ℕ) → List ℕ → Option Entry → List ℕ
 last_text refused words none None = none
 last_text refused words none (Some entry) = reply_text refused words entry.event entry.reply
+
+-- what stands behind the own words of a line, by its last reply: nothing where it is done
+abbrev pub behind_words : NamesOf → Event → Reply → List ℕ
+behind_words names e reply.Did = []
+behind_words names e (reply.Refused n) = 32 ∷ refusal_text names e n
+behind_words names e r = 32 ∷ no_reply
+
+abbrev pub last_behind_words : NamesOf → Option Entry → List ℕ
+last_behind_words names None = 32 ∷ no_reply
+last_behind_words names (Some entry) = behind_words names entry.event entry.reply

@@ -18,7 +18,7 @@ use Rattle.sd_script.specs.declared.line.Line.{Line}
 use Rattle.sd_script.specs.Forms.{form_words, rid_word}
 use Rattle.sd_report.specs.Words.{line_of, NamesOf, no_names}
 use Rattle.sd_report.specs.Refusals.{refusal_text, cause_word, tells_txn}
-use Rattle.sd_report.specs.Replies.{no_reply, pulled_text, last_text, words_of}
+use Rattle.sd_report.specs.Replies.{no_reply, pulled_text, last_text, words_of, last_behind_words}
 
 -- the entries of a line are those that carry its number; those of line 0 are of no line
 abbrev pub entries_of : ℕ → List Entry → List Entry
@@ -37,6 +37,10 @@ txn_line names name of entries =
 abbrev pub page_line : NamesOf → ℕ → Form → List Entry → List ℕ
 page_line names number of entries =
     line_of (decimal number ∷ last_text (refusal_text names) (words_of of) no_reply (last_entry entries) ∷ [])
+
+-- a line of a failure: its own words, and behind them why the instance didn't fail
+abbrev pub fail_line : NamesOf → ℕ → List Entry → List ℕ
+fail_line names inst entries = line_of ((codes "fail " ++ decimal inst ++ last_behind_words names (last_entry entries)) ∷ [])
 
 -- the rows of a reply to a list
 abbrev pub rows_in : Reply → List (Rid × List ℕ)
@@ -73,11 +77,17 @@ reported names (form.Add name ordinal rid by) entries = txn_line names name (for
 reported names (form.Insert name ordinal page value capacity) entries =
     txn_line names name (form.Insert name ordinal page value capacity) entries
 reported names (form.Delete name ordinal rid) entries = txn_line names name (form.Delete name ordinal rid) entries
+reported names (form.Save name ordinal mark) entries = txn_line names name (form.Save name ordinal mark) entries
+reported names (form.Back name ordinal mark) entries = txn_line names name (form.Back name ordinal mark) entries
+reported names (form.Rollback name ordinal) entries = txn_line names name (form.Rollback name ordinal) entries
 reported names (form.Commit name ordinal) entries = txn_line names name (form.Commit name ordinal) entries
 reported names (form.Ask inst page mode) entries = page_line names inst (form.Ask inst page mode) entries
+reported names (form.Give inst page) entries = page_line names inst (form.Give inst page) entries
+reported names (form.Take inst page) entries = page_line names inst (form.Take inst page) entries
 reported names (form.Evict inst page) entries = page_line names inst (form.Evict inst page) entries
 reported names (form.Flush inst page) entries = page_line names inst (form.Flush inst page) entries
 reported names (form.Force inst) entries = page_line names inst (form.Force inst) entries
+reported names (form.Fail inst) entries = fail_line names inst entries
 reported names (form.Where page) entries = page_line names page (form.Where page) entries
 reported names form.Table entries = table_lines names entries (last_entry entries)
 

@@ -1,19 +1,19 @@
 //! The words of each reply, put behind the name, the instance or the page of its line.
 
-ghost use Rattle.std.specs.Prelude.{◌≡◌, ◌++◌, codes, OnOk};
+ghost use Rattle.std.specs.Prelude.{◌≡◌, ◌∷◌, ◌++◌, codes, OnOk};
 ghost use Rattle.std.specs.Fmt.{decimal};
 ghost use Rattle.std.specs.Option.{option_copied};
 ghost use Rattle.sd_script.specs.Forms.{rid_word};
 ghost use Rattle.sd_report.specs.Names.{name_in};
 ghost use Rattle.sd_report.specs.Refusals.{refusal_text};
-ghost use Rattle.sd_report.specs.Replies.{no_reply, began, value_text, found, placed, done, asked, shown, words_of};
-ghost use Rattle.sd_report.specs.Replies.{pulled_text, last_text};
+ghost use Rattle.sd_report.specs.Replies.{no_reply, began, value_text, found, placed, done, rolled_back, asked, gave, shown, words_of};
+ghost use Rattle.sd_report.specs.Replies.{pulled_text, last_text, last_behind_words};
 
 use crate::places::push_place;
 use crate::refusals::push_refusal;
 use crate::txn_names::TxnNames;
-use crate::words::{push_digits, push_number, push_rid, push_txn_numbers, push_word};
-use sd_base::{Bytes, Memory, PageNo, Refusal, Rid};
+use crate::words::{push_digits, push_next, push_number, push_rid, push_txn_numbers, push_word};
+use sd_base::{Bytes, Memory, PageNo, Refusal, Rid, Word};
 use sd_model::{Entry, Event, Reply};
 use sd_script::Form;
 
@@ -107,6 +107,39 @@ fn push_done(out: &mut Vec<u8>, word: &[u8], reply: &Reply) -> Result<(), Memory
     }
 }
 
+fn push_saved(out: &mut Vec<u8>, mark: &Word, reply: &Reply) -> Result<(), Memory>
+    ensures { OnOk result (out.new.items ≡ out.old.items ++ done (codes "save " ++ mark.now) reply.now) }
+{
+    match reply {
+        Reply::Did => {
+            push_word(out, b"save ")?;
+            push_word(out, mark.items())
+        }
+        _ => push_no_reply(out),
+    }
+}
+
+fn push_back(out: &mut Vec<u8>, mark: &Word, reply: &Reply) -> Result<(), Memory>
+    ensures { OnOk result (out.new.items ≡ out.old.items ++ rolled_back (codes "back " ++ mark.now) reply.now) }
+{
+    match reply {
+        Reply::Finished => {
+            push_word(out, b"back ")?;
+            push_word(out, mark.items())
+        }
+        _ => push_no_reply(out),
+    }
+}
+
+fn push_rollback(out: &mut Vec<u8>, reply: &Reply) -> Result<(), Memory>
+    ensures { OnOk result (out.new.items ≡ out.old.items ++ rolled_back (codes "rollback") reply.now) }
+{
+    match reply {
+        Reply::Finished => push_word(out, b"rollback"),
+        _ => push_no_reply(out),
+    }
+}
+
 fn push_asked(out: &mut Vec<u8>, page: PageNo, reply: &Reply) -> Result<(), Memory>
     ensures { OnOk result (out.new.items ≡ out.old.items ++ asked page reply.now) }
 {
@@ -120,6 +153,20 @@ fn push_asked(out: &mut Vec<u8>, page: PageNo, reply: &Reply) -> Result<(), Memo
             push_number(out, u64::from(page.get()))?;
             push_word(out, b" of")?;
             push_number(out, u64::from(of.get()))
+        }
+        _ => push_no_reply(out),
+    }
+}
+
+fn push_gave(out: &mut Vec<u8>, page: PageNo, reply: &Reply) -> Result<(), Memory>
+    ensures { OnOk result (out.new.items ≡ out.old.items ++ gave page reply.now) }
+{
+    match reply {
+        Reply::Gave { to } => {
+            push_word(out, b"gave")?;
+            push_number(out, u64::from(page.get()))?;
+            push_word(out, b" to")?;
+            push_number(out, u64::from(to.get()))
         }
         _ => push_no_reply(out),
     }
@@ -139,15 +186,20 @@ fn push_words(out: &mut Vec<u8>, form: &Form, reply: &Reply) -> Result<(), Memor
     ensures { OnOk result (out.new.items ≡ out.old.items ++ words_of form.now reply.now) }
 {
     match form {
-        Form::Complex { .. } | Form::Table => push_no_reply(out),
+        Form::Complex { .. } | Form::Fail { .. } | Form::Table => push_no_reply(out),
         Form::Begin { .. } => push_began(out, reply),
         Form::Read { rid, .. } => push_found(out, *rid, reply),
         Form::Write { rid, .. } => push_on_record(out, b"write ", *rid, reply),
         Form::Add { rid, .. } => push_on_record(out, b"add ", *rid, reply),
         Form::Insert { .. } => push_placed(out, reply),
         Form::Delete { rid, .. } => push_on_record(out, b"delete ", *rid, reply),
+        Form::Save { mark, .. } => push_saved(out, mark, reply),
+        Form::Back { mark, .. } => push_back(out, mark, reply),
+        Form::Rollback { .. } => push_rollback(out, reply),
         Form::Commit { .. } => push_done(out, b"commit", reply),
         Form::Ask { page, .. } => push_asked(out, *page, reply),
+        Form::Give { page, .. } => push_gave(out, *page, reply),
+        Form::Take { page, .. } => push_on_page(out, b"took ", *page, reply),
         Form::Evict { page, .. } => push_on_page(out, b"evicted ", *page, reply),
         Form::Flush { page, .. } => push_on_page(out, b"flushed ", *page, reply),
         Form::Force { .. } => push_done(out, b"forced", reply),
@@ -205,5 +257,27 @@ pub fn push_page_reply(
     match &entry.reply {
         Reply::Refused(refusal) => push_refusal(out, names, &entry.event, refusal),
         reply => push_words(out, form, reply),
+    }
+}
+
+/// Appends what stands behind the own words of a line: nothing where it is done.
+pub fn push_behind_words(
+    out: &mut Vec<u8>,
+    names: &TxnNames,
+    last: Option<&Entry>,
+) -> Result<(), Memory>
+    ensures { OnOk result (out.new.items ≡ out.old.items
+        ++ last_behind_words (name_in names.now) (option_copied last.entry)) }
+{
+    let Some(entry) = last else {
+        return push_next(out, b"no reply");
+    };
+    match &entry.reply {
+        Reply::Did => Ok(()),
+        Reply::Refused(refusal) => {
+            push_word(out, b" ")?;
+            push_refusal(out, names, &entry.event, refusal)
+        }
+        _ => push_next(out, b"no reply"),
     }
 }

@@ -9,14 +9,14 @@ ghost use Rattle.sd_script.specs.Forms.{rid_word};
 ghost use Rattle.sd_report.specs.Names.{name_in};
 ghost use Rattle.sd_report.specs.Words.{line_of, no_names};
 ghost use Rattle.sd_report.specs.Refusals.{refusal_text};
-ghost use Rattle.sd_report.specs.Replies.{no_reply, pulled_text, last_text, words_of};
+ghost use Rattle.sd_report.specs.Replies.{no_reply, pulled_text, last_text, words_of, last_behind_words};
 ghost use Rattle.sd_report.specs.Report.{entries_of, reported, report, bad_text};
 ghost use Rattle.sd_report.specs.Report.{gathered, reply_tells_txn, tell_txns, AreFrom, AreAbove};
 ghost use Rattle.sd_report.specs.Report.{row_line, rows_in, table_text, table_rows};
 
 use crate::parting::{last_of, part_at};
 use crate::refusals::{cause_name, push_refusal};
-use crate::replies::{push_page_reply, push_pulled, push_txn_reply};
+use crate::replies::{push_behind_words, push_page_reply, push_pulled, push_txn_reply};
 use crate::txn_names::TxnNames;
 use crate::words::{push_digits, push_end, push_next, push_number, push_rid, push_word};
 use sd_base::{Bytes, Cause, InstNo, Memory, Refusal, Rid, Word};
@@ -65,6 +65,22 @@ fn push_page_line(
     push_digits(out, number)?;
     push_word(out, b" ")?;
     push_page_reply(out, names, form, last)?;
+    push_end(out)
+}
+
+// A line of the instance's failure.
+fn push_fail_line(
+    out: &mut Vec<u8>,
+    names: &TxnNames,
+    inst: InstNo,
+    last: Option<&Entry>,
+) -> Result<(), Memory>
+    ensures { OnOk result (out.new.items ≡ out.old.items ++ line_of ((codes "fail " ++ decimal inst
+        ++ last_behind_words (name_in names.now) (option_copied last.entry)) ∷ [])) }
+{
+    push_word(out, b"fail ")?;
+    push_digits(out, u64::from(inst.get()))?;
+    push_behind_words(out, names, last)?;
     push_end(out)
 }
 
@@ -166,11 +182,17 @@ fn push_line(
         | Form::Add { name, .. }
         | Form::Insert { name, .. }
         | Form::Delete { name, .. }
+        | Form::Save { name, .. }
+        | Form::Back { name, .. }
+        | Form::Rollback { name, .. }
         | Form::Commit { name, .. } => push_txn_line(out, names, name, form, last),
         Form::Ask { inst, .. }
+        | Form::Give { inst, .. }
+        | Form::Take { inst, .. }
         | Form::Evict { inst, .. }
         | Form::Flush { inst, .. }
         | Form::Force { inst } => push_page_line(out, names, u64::from(inst.get()), form, last),
+        Form::Fail { inst } => push_fail_line(out, names, *inst, last),
         Form::Where { page } => push_page_line(out, names, u64::from(page.get()), form, last),
         Form::Table => push_table(out, names, line.number, entries),
     }

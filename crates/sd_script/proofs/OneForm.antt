@@ -8,10 +8,10 @@ use Rattle.sd_base.specs.declared.ids.Rid.{Rid}
 use Rattle.sd_base.specs.declared.place.Mode.{Mode}
 use Rattle.sd_base.specs.declared.place.Mode.TheVariants.{Shared, Excl}
 use Rattle.sd_script.specs.declared.line.Form.{Form}
-use Rattle.sd_script.specs.declared.line.Form.TheVariants.{Complex, Begin, Read, Write, Add, Insert, Delete, Commit, Ask, Evict, Flush, Force, Where, Table}
+use Rattle.sd_script.specs.declared.line.Form.TheVariants.{Complex, Begin, Read, Write, Add, Insert, Delete, Save, Back, Rollback, Commit, Ask, Give, Take, Evict, Flush, Force, Fail, Where, Table}
 use Rattle.sd_script.specs.Forms.{form_words, rid_word, mode_word, capacity_words, IsForm, IsKnownBy, IsAmount, HasRoom}
 use Rattle.sd_script.proofs.Spellings.{same_number, same_rid}
-use Rattle.sd_script.proofs.Shapes.{begin_is, ask_is, evict_is, flush_is, force_is, complex_is, read_is, delete_is, write_is, add_is, insert_is, commit_is, where_is}
+use Rattle.sd_script.proofs.Shapes.{begin_is, ask_is, give_is, take_is, evict_is, flush_is, force_is, complex_is, read_is, delete_is, write_is, add_is, insert_is, save_is, back_is, rollback_is, commit_is, fail_is, where_is}
 
 same_ordinal : (m n : ℕ) (o : Option ℕ) → o ≡ Some m → o ≡ Some n → m ≡ n
 same_ordinal m n o a b = let both : Some m ≡ Some n = sym a ∙ b in cc
@@ -40,7 +40,7 @@ pub one_form : (known : List ℕ → Option ℕ) (f g : Form) → IsForm f → I
 one_form known (Complex i p k) g a b c d e =
     let at = complex_is g (decimal i) (decimal p) (decimal k) b (sym e) in
     let parts = subst IsForm at.3 b in
-    let insts : i ≡ at.0 = a.0 ∙ sym parts.0 in
+    let insts : i ≡ at.0 = same_number i at.0 (omega (arith, a.0)) (omega (arith, parts.0)) (sym at.4) in
     let pages : p ≡ at.1 = same_number p at.1 (omega (arith, a.1)) (omega (arith, parts.1)) (sym at.5) in
     let frames : k ≡ at.2 = same_number k at.2 (omega (arith, a.2)) (omega (arith, parts.2)) (sym at.6) in
     ap (λ (n : ℕ). Complex n p k) insts ∙ ap (λ (n : ℕ). Complex at.0 n k) pages ∙ ap (λ (n : ℕ). Complex at.0 at.1 n) frames
@@ -80,6 +80,18 @@ one_form known (Delete x m r) g a b c d e =
     let ordinal : m ≡ at.0 = same_ordinal m at.0 (known x) c (subst (IsKnownBy known) at.2 d) in
     let rid : r ≡ at.1 = same_rid r at.1 a.1 parts.1 (sym at.3) in
     ap (λ (n : ℕ). Delete x n r) ordinal ∙ ap (λ (q : Rid). Delete x at.0 q) rid ∙ sym at.2
+one_form known (Save x m s) g a b c d e =
+    let at = save_is g x s b (sym e) in
+    let ordinal : m ≡ at.0 = same_ordinal m at.0 (known x) c (subst (IsKnownBy known) at.1 d) in
+    ap (λ (n : ℕ). Save x n s) ordinal ∙ sym at.1
+one_form known (Back x m s) g a b c d e =
+    let at = back_is g x s b (sym e) in
+    let ordinal : m ≡ at.0 = same_ordinal m at.0 (known x) c (subst (IsKnownBy known) at.1 d) in
+    ap (λ (n : ℕ). Back x n s) ordinal ∙ sym at.1
+one_form known (Rollback x m) g a b c d e =
+    let at = rollback_is g x b (sym e) in
+    let ordinal : m ≡ at.0 = same_ordinal m at.0 (known x) c (subst (IsKnownBy known) at.1 d) in
+    ap (λ (n : ℕ). Rollback x n) ordinal ∙ sym at.1
 one_form known (Commit x m) g a b c d e =
     let at = commit_is g x b (sym e) in
     let ordinal : m ≡ at.0 = same_ordinal m at.0 (known x) c (subst (IsKnownBy known) at.1 d) in
@@ -90,6 +102,16 @@ one_form known (Ask i p m) g a b c d e =
     let page : p ≡ at.0 = same_number p at.0 (omega (arith, a.1)) (omega (arith, parts.1)) (sym at.3) in
     let mode : m ≡ at.1 = same_mode m at.1 (sym at.4) in
     ap (λ (n : ℕ). Ask i n m) page ∙ ap (λ (k : Mode). Ask i at.0 k) mode ∙ sym at.2
+one_form known (Give i p) g a b c d e =
+    let at = give_is g i (decimal p) b a.0 (sym e) in
+    let parts = subst IsForm at.1 b in
+    let page : p ≡ at.0 = same_number p at.0 (omega (arith, a.1)) (omega (arith, parts.1)) (sym at.2) in
+    ap (λ (n : ℕ). Give i n) page ∙ sym at.1
+one_form known (Take i p) g a b c d e =
+    let at = take_is g i (decimal p) b a.0 (sym e) in
+    let parts = subst IsForm at.1 b in
+    let page : p ≡ at.0 = same_number p at.0 (omega (arith, a.1)) (omega (arith, parts.1)) (sym at.2) in
+    ap (λ (n : ℕ). Take i n) page ∙ sym at.1
 one_form known (Evict i p) g a b c d e =
     let at = evict_is g i (decimal p) b a.0 (sym e) in
     let parts = subst IsForm at.1 b in
@@ -101,6 +123,11 @@ one_form known (Flush i p) g a b c d e =
     let page : p ≡ at.0 = same_number p at.0 (omega (arith, a.1)) (omega (arith, parts.1)) (sym at.2) in
     ap (λ (n : ℕ). Flush i n) page ∙ sym at.1
 one_form known (Force i) g a b c d e = sym (force_is g i b a (sym e))
+one_form known (Fail i) g a b c d e =
+    let at = fail_is g (decimal i) b (sym e) in
+    let parts = subst IsForm at.1 b in
+    let inst : i ≡ at.0 = same_number i at.0 (omega (arith, a)) (omega (arith, parts)) (sym at.2) in
+    ap (λ (n : ℕ). Fail n) inst ∙ sym at.1
 one_form known (Where p) g a b c d e =
     let at = where_is g (decimal p) b (sym e) in
     let parts = subst IsForm at.1 b in

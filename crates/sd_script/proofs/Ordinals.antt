@@ -25,12 +25,6 @@ has_place (other ∷ names) name = ⊎_elim
 ordinal_is : (names : List (List ℕ)) (name : List ℕ) → ordinal_of names name ≡ cond (has names name) (Some (place name names)) None
 ordinal_is names name = ap (λ (b : Bool). cond b (Some (place name names)) None) (sym (has_place names name))
 
-pub has_from_ordinal : (names : List (List ℕ)) (name : List ℕ) (o : ℕ) → ordinal_of names name ≡ Some o → has names name ≡ true
-has_from_ordinal names name o is = ⊎_elim
-    (λ had. had)
-    (λ (lack : has names name ≡ false). let none : None ≡ Some o = sym (ordinal_is names name ∙ ap (λ (b : Bool). cond b (Some (place name names)) None) lack) ∙ is in absurd (cc))
-    (cases_Bool (has names name))
-
 pub no_ordinal : (names : List (List ℕ)) (name : List ℕ) → has names name ≡ false → ordinal_of names name ≡ None
 no_ordinal names name lack = ordinal_is names name ∙ ap (λ (b : Bool). cond b (Some (place name names)) None) lack
 
@@ -45,9 +39,6 @@ pub named_at : (names : List (List ℕ)) (name : List ℕ) (o : ℕ) → ordinal
 named_at names name o is =
     let found = position-Some (bytes_eq name) names o [] is in
     slice_get-get_or names o [] found.0 ∙ ap (λ (x : List ℕ). Some x) (sym ((bytes_decides name (get_or names o [])).0 found.1))
-
-pub one_ordinal : (names : List (List ℕ)) (name other : List ℕ) (o : ℕ) → ordinal_of names name ≡ Some o → ordinal_of names other ≡ Some o → name ≡ other
-one_ordinal names name other o a b = let both : Some name ≡ Some other = sym (named_at names name o a) ∙ named_at names other o b in cc
 
 most : (name : List ℕ) (names : List (List ℕ)) → place name names ≤ length names
 most name [] = omega arith

@@ -5,7 +5,7 @@ use Rattle.std.proofs.lemmas.List.{take_all}
 use Rattle.std.proofs.lemmas.Option.{slice_get_within}
 use Rattle.std.specs.Prelude.{slice_get}
 use Rattle.sd_script.specs.declared.line.Form.{Form}
-use Rattle.sd_script.specs.declared.line.Form.TheVariants.{Read, Write, Add, Insert, Delete, Commit}
+use Rattle.sd_script.specs.declared.line.Form.TheVariants.{Read, Write, Add, Insert, Delete, Save, Back, Rollback, Commit}
 use Rattle.sd_script.specs.declared.line.Line.{Line}
 use Rattle.sd_script.specs.Forms.{form_words, IsForm, IsKnownBy}
 use Rattle.sd_script.specs.Order.{Follows, begun, ordinal_of}
@@ -21,6 +21,9 @@ ordinal_known before (Write name ordinal rid value) follows = follows.0
 ordinal_known before (Add name ordinal rid by) follows = follows.0
 ordinal_known before (Insert name ordinal page value capacity) follows = follows.0
 ordinal_known before (Delete name ordinal rid) follows = follows.0
+ordinal_known before (Save name ordinal mark) follows = follows
+ordinal_known before (Back name ordinal mark) follows = follows
+ordinal_known before (Rollback name ordinal) follows = follows
 ordinal_known before (Commit name ordinal) follows = follows
 ordinal_known before _ follows = tt
 

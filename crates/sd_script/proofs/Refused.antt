@@ -7,9 +7,9 @@ use Rattle.std.specs.Str.{bytes_eq}
 use Rattle.sd_base.specs.declared.ids.Rid.{Rid}
 use Rattle.sd_base.specs.declared.place.Mode.{Mode}
 use Rattle.sd_script.specs.declared.line.Form.{Form}
-use Rattle.sd_script.specs.declared.line.Form.TheVariants.{Complex, Begin, Read, Write, Add, Insert, Delete, Commit, Ask, Evict, Flush, Force, Where, Table}
+use Rattle.sd_script.specs.declared.line.Form.TheVariants.{Complex, Begin, Read, Write, Add, Insert, Delete, Save, Back, Rollback, Commit, Ask, Give, Take, Evict, Flush, Force, Fail, Where, Table}
 use Rattle.sd_script.specs.Forms.{form_words, rid_word, mode_word, capacity_words, IsForm, IsKnownBy, IsName, IsValue, IsRid, IsAmount, IsCount, IsInst, IsNoInst, HasRoom}
-use Rattle.sd_script.proofs.Shapes.{verb_in, inst_led, begin_is, ask_is, evict_is, flush_is, complex_is, read_is, delete_is, write_is, add_is, insert_is, commit_is, where_is}
+use Rattle.sd_script.proofs.Shapes.{verb_in, inst_led, begin_is, ask_is, give_is, take_is, evict_is, flush_is, complex_is, read_is, delete_is, write_is, add_is, insert_is, save_is, back_is, rollback_is, commit_is, fail_is, where_is}
 
 -- what a comparison of words tells
 pub is_word : (word bytes due : List ℕ) → bytes ≡ due → true ≡ bytes_eq word bytes → word ≡ due
@@ -43,11 +43,13 @@ no_force known i verb at force form is knows e = led form (inst_led form i (verb
   led _ first e = absurd (cc)
 
 pub no_three : (known : List ℕ → Option ℕ) (i : ℕ) (verb word : List ℕ) → IsInst i → verb ≢ codes "begin"
-    → verb ≢ codes "evict" → verb ≢ codes "flush" → (form : Form) → IsForm form → IsKnownBy known form
-    → form_words form ≡ decimal i ∷ verb ∷ word ∷ [] → ⊥
-no_three known i verb word at begin evict flush form is knows e = led form (inst_led form i (verb ∷ word ∷ []) at e) e where
+    → verb ≢ codes "give" → verb ≢ codes "take" → verb ≢ codes "evict" → verb ≢ codes "flush" → (form : Form) → IsForm form
+    → IsKnownBy known form → form_words form ≡ decimal i ∷ verb ∷ word ∷ [] → ⊥
+no_three known i verb word at begin give take evict flush form is knows e = led form (inst_led form i (verb ∷ word ∷ []) at e) e where
   led : (f : Form) → verb_in f ≡ [] → form_words f ≡ decimal i ∷ verb ∷ word ∷ [] → ⊥
   led (Begin j name) first e = begin (cc)
+  led (Give j page) first e = give (cc)
+  led (Take j page) first e = take (cc)
   led (Evict j page) first e = evict (cc)
   led (Flush j page) first e = flush (cc)
   led _ first e = absurd (cc)
@@ -65,22 +67,29 @@ pub no_table : (known : List ℕ → Option ℕ) (verb : List ℕ) → verb ≢ 
 no_table known verb table Table is knows e = table (cc)
 no_table known verb table _ is knows e = absurd (cc)
 
-pub no_two : (known : List ℕ → Option ℕ) (verb word : List ℕ) → IsNoInst verb → verb ≢ codes "commit" → verb ≢ codes "where"
-    → (form : Form) → IsForm form → IsKnownBy known form → form_words form ≡ verb ∷ word ∷ [] → ⊥
-no_two known verb word none commit where_ (Commit name ordinal) is knows e = commit (cc)
-no_two known verb word none commit where_ (Where page) is knows e = where_ (cc)
-no_two known verb word none commit where_ (Force i) is knows e = none i is (cc)
-no_two known verb word none commit where_ _ is knows e = absurd (cc)
+pub no_two : (known : List ℕ → Option ℕ) (verb word : List ℕ) → IsNoInst verb → verb ≢ codes "commit"
+    → verb ≢ codes "rollback" → verb ≢ codes "where" → verb ≢ codes "fail" → (form : Form) → IsForm form
+    → IsKnownBy known form → form_words form ≡ verb ∷ word ∷ [] → ⊥
+no_two known verb word none commit rollback where_ fail (Commit name ordinal) is knows e = commit (cc)
+no_two known verb word none commit rollback where_ fail (Rollback name ordinal) is knows e = rollback (cc)
+no_two known verb word none commit rollback where_ fail (Where page) is knows e = where_ (cc)
+no_two known verb word none commit rollback where_ fail (Fail i) is knows e = fail (cc)
+no_two known verb word none commit rollback where_ fail (Force i) is knows e = none i is (cc)
+no_two known verb word none commit rollback where_ fail _ is knows e = absurd (cc)
 
 pub no_three_of : (known : List ℕ → Option ℕ) (verb second third : List ℕ) → IsNoInst verb → verb ≢ codes "read"
-    → verb ≢ codes "delete" → (form : Form) → IsForm form → IsKnownBy known form
+    → verb ≢ codes "delete" → verb ≢ codes "save" → verb ≢ codes "back" → (form : Form) → IsForm form → IsKnownBy known form
     → form_words form ≡ verb ∷ second ∷ third ∷ [] → ⊥
-no_three_of known verb second third none read delete (Read name ordinal rid) is knows e = read (cc)
-no_three_of known verb second third none read delete (Delete name ordinal rid) is knows e = delete (cc)
-no_three_of known verb second third none read delete (Begin i name) is knows e = none i is.0 (cc)
-no_three_of known verb second third none read delete (Evict i page) is knows e = none i is.0 (cc)
-no_three_of known verb second third none read delete (Flush i page) is knows e = none i is.0 (cc)
-no_three_of known verb second third none read delete _ is knows e = absurd (cc)
+no_three_of known verb second third none read delete save back (Read name ordinal rid) is knows e = read (cc)
+no_three_of known verb second third none read delete save back (Delete name ordinal rid) is knows e = delete (cc)
+no_three_of known verb second third none read delete save back (Save name ordinal mark) is knows e = save (cc)
+no_three_of known verb second third none read delete save back (Back name ordinal mark) is knows e = back (cc)
+no_three_of known verb second third none read delete save back (Begin i name) is knows e = none i is.0 (cc)
+no_three_of known verb second third none read delete save back (Give i page) is knows e = none i is.0 (cc)
+no_three_of known verb second third none read delete save back (Take i page) is knows e = none i is.0 (cc)
+no_three_of known verb second third none read delete save back (Evict i page) is knows e = none i is.0 (cc)
+no_three_of known verb second third none read delete save back (Flush i page) is knows e = none i is.0 (cc)
+no_three_of known verb second third none read delete save back _ is knows e = absurd (cc)
 
 pub no_four : (known : List ℕ → Option ℕ) (verb second third fourth : List ℕ) → IsNoInst verb → verb ≢ codes "insert"
     → verb ≢ codes "write" → verb ≢ codes "add" → verb ≢ codes "complex" → (form : Form) → IsForm form → IsKnownBy known form
@@ -117,6 +126,20 @@ ask_none known i page mode at bad form is knows e =
     let parts = subst IsForm words.2 is in
     bad words.0 words.1 parts.1 words.3 words.4
 
+pub give_none : (known : List ℕ → Option ℕ) (i : ℕ) (page : List ℕ) → IsInst i → ((p : ℕ) → p < 1024 → decimal p ≢ page)
+    → (form : Form) → IsForm form → IsKnownBy known form → form_words form ≡ decimal i ∷ codes "give" ∷ page ∷ [] → ⊥
+give_none known i page at bad form is knows e =
+    let words = give_is form i page is at e in
+    let parts = subst IsForm words.1 is in
+    bad words.0 parts.1 words.2
+
+pub take_none : (known : List ℕ → Option ℕ) (i : ℕ) (page : List ℕ) → IsInst i → ((p : ℕ) → p < 1024 → decimal p ≢ page)
+    → (form : Form) → IsForm form → IsKnownBy known form → form_words form ≡ decimal i ∷ codes "take" ∷ page ∷ [] → ⊥
+take_none known i page at bad form is knows e =
+    let words = take_is form i page is at e in
+    let parts = subst IsForm words.1 is in
+    bad words.0 parts.1 words.2
+
 pub evict_none : (known : List ℕ → Option ℕ) (i : ℕ) (page : List ℕ) → IsInst i → ((p : ℕ) → p < 1024 → decimal p ≢ page)
     → (form : Form) → IsForm form → IsKnownBy known form → form_words form ≡ decimal i ∷ codes "evict" ∷ page ∷ [] → ⊥
 evict_none known i page at bad form is knows e =
@@ -132,7 +155,7 @@ flush_none known i page at bad form is knows e =
     bad words.0 parts.1 words.2
 
 -- a verb's line whose parts are none
-pub complex_none : (known : List ℕ → Option ℕ) (insts pages frames : List ℕ) → ((i p f : ℕ) → i ≡ 1 → IsCount p → IsCount f
+pub complex_none : (known : List ℕ → Option ℕ) (insts pages frames : List ℕ) → ((i p f : ℕ) → IsInst i → IsCount p → IsCount f
     → decimal i ≡ insts → decimal p ≡ pages → decimal f ≡ frames → ⊥) → (form : Form) → IsForm form → IsKnownBy known form
     → form_words form ≡ codes "complex" ∷ insts ∷ pages ∷ frames ∷ [] → ⊥
 complex_none known insts pages frames bad form is knows e =
@@ -192,6 +215,30 @@ pub no_room : (value word : List ℕ) → ((c : ℕ) → length value ≤ c → 
 no_room value word bad None room e = absurd (cc)
 no_room value word bad (Some c) room e = bad c room.0 room.1 (cc)
 
+pub save_none : (known : List ℕ → Option ℕ) (name mark : List ℕ) → (IsName mark → (o : ℕ) → IsName name → known name ≢ Some o)
+    → (form : Form) → IsForm form → IsKnownBy known form → form_words form ≡ codes "save" ∷ name ∷ mark ∷ [] → ⊥
+save_none known name mark bad form is knows e =
+    let words = save_is form name mark is e in
+    let parts = subst IsForm words.1 is in
+    let known_is = subst (IsKnownBy known) words.1 knows in
+    bad parts.1 words.0 parts.0 known_is
+
+pub back_none : (known : List ℕ → Option ℕ) (name mark : List ℕ) → (IsName mark → (o : ℕ) → IsName name → known name ≢ Some o)
+    → (form : Form) → IsForm form → IsKnownBy known form → form_words form ≡ codes "back" ∷ name ∷ mark ∷ [] → ⊥
+back_none known name mark bad form is knows e =
+    let words = back_is form name mark is e in
+    let parts = subst IsForm words.1 is in
+    let known_is = subst (IsKnownBy known) words.1 knows in
+    bad parts.1 words.0 parts.0 known_is
+
+pub rollback_none : (known : List ℕ → Option ℕ) (name : List ℕ) → ((o : ℕ) → IsName name → known name ≢ Some o)
+    → (form : Form) → IsForm form → IsKnownBy known form → form_words form ≡ codes "rollback" ∷ name ∷ [] → ⊥
+rollback_none known name bad form is knows e =
+    let words = rollback_is form name is e in
+    let parts = subst IsForm words.1 is in
+    let known_is = subst (IsKnownBy known) words.1 knows in
+    bad words.0 parts known_is
+
 pub commit_none : (known : List ℕ → Option ℕ) (name : List ℕ) → ((o : ℕ) → IsName name → known name ≢ Some o) → (form : Form)
     → IsForm form → IsKnownBy known form → form_words form ≡ codes "commit" ∷ name ∷ [] → ⊥
 commit_none known name bad form is knows e =
@@ -199,6 +246,13 @@ commit_none known name bad form is knows e =
     let parts = subst IsForm words.1 is in
     let known_is = subst (IsKnownBy known) words.1 knows in
     bad words.0 parts known_is
+
+pub fail_none : (known : List ℕ → Option ℕ) (inst : List ℕ) → IsNoInst inst → (form : Form) → IsForm form
+    → IsKnownBy known form → form_words form ≡ codes "fail" ∷ inst ∷ [] → ⊥
+fail_none known inst bad form is knows e =
+    let words = fail_is form inst is e in
+    let parts = subst IsForm words.1 is in
+    bad words.0 parts words.2
 
 pub where_none : (known : List ℕ → Option ℕ) (page : List ℕ) → ((p : ℕ) → p < 1024 → decimal p ≢ page) → (form : Form)
     → IsForm form → IsKnownBy known form → form_words form ≡ codes "where" ∷ page ∷ [] → ⊥

@@ -6,7 +6,7 @@ use Rattle.std.proofs.lemmas.Fmt.{decimal_digit}
 use Rattle.sd_base.specs.declared.ids.Rid.{Rid}
 use Rattle.sd_base.specs.declared.place.Mode.{Mode}
 use Rattle.sd_script.specs.declared.line.Form.{Form}
-use Rattle.sd_script.specs.declared.line.Form.TheVariants.{Complex, Begin, Read, Write, Add, Insert, Delete, Commit, Ask, Evict, Flush, Force, Where, Table}
+use Rattle.sd_script.specs.declared.line.Form.TheVariants.{Complex, Begin, Read, Write, Add, Insert, Delete, Save, Back, Rollback, Commit, Ask, Give, Take, Evict, Flush, Force, Fail, Where, Table}
 use Rattle.sd_script.specs.Forms.{form_words, rid_word, mode_word, capacity_words, IsForm, IsInst, IsNoInst}
 
 -- the first word of a form, where it is a verb
@@ -17,7 +17,11 @@ verb_in (Write name ordinal rid value) = codes "write"
 verb_in (Add name ordinal rid by) = codes "add"
 verb_in (Insert name ordinal page value capacity) = codes "insert"
 verb_in (Delete name ordinal rid) = codes "delete"
+verb_in (Save name ordinal mark) = codes "save"
+verb_in (Back name ordinal mark) = codes "back"
+verb_in (Rollback name ordinal) = codes "rollback"
 verb_in (Commit name ordinal) = codes "commit"
+verb_in (Fail inst) = codes "fail"
 verb_in (Where page) = codes "where"
 verb_in Table = codes "table"
 verb_in _ = []
@@ -26,6 +30,8 @@ verb_in _ = []
 abbrev pub order_in : Form → List ℕ
 order_in (Begin inst name) = codes "begin"
 order_in (Ask inst page mode) = codes "ask"
+order_in (Give inst page) = codes "give"
+order_in (Take inst page) = codes "take"
 order_in (Evict inst page) = codes "evict"
 order_in (Flush inst page) = codes "flush"
 order_in (Force inst) = codes "force"
@@ -48,6 +54,8 @@ pub verb_is : (form : Form) (verb : List ℕ) (rest : List (List ℕ)) → IsFor
     → form_words form ≡ verb ∷ rest → verb_in form ≡ verb
 verb_is (Begin i name) verb rest is none e = absurd (none i is.0 (head_is (decimal i) verb _ rest e))
 verb_is (Ask i page mode) verb rest is none e = absurd (none i is.0 (head_is (decimal i) verb _ rest e))
+verb_is (Give i page) verb rest is none e = absurd (none i is.0 (head_is (decimal i) verb _ rest e))
+verb_is (Take i page) verb rest is none e = absurd (none i is.0 (head_is (decimal i) verb _ rest e))
 verb_is (Evict i page) verb rest is none e = absurd (none i is.0 (head_is (decimal i) verb _ rest e))
 verb_is (Flush i page) verb rest is none e = absurd (none i is.0 (head_is (decimal i) verb _ rest e))
 verb_is (Force i) verb rest is none e = absurd (none i is (head_is (decimal i) verb _ rest e))
@@ -60,6 +68,8 @@ pub order_is : (form : Form) (i : ℕ) (order : List ℕ) (rest : List (List ℕ
     → form_words form ≡ decimal i ∷ order ∷ rest → order_in form ≡ order
 order_is (Begin j name) i order rest is e = cc
 order_is (Ask j page mode) i order rest is e = cc
+order_is (Give j page) i order rest is e = cc
+order_is (Take j page) i order rest is e = cc
 order_is (Evict j page) i order rest is e = cc
 order_is (Flush j page) i order rest is e = cc
 order_is (Force j) i order rest is e = cc
@@ -68,6 +78,8 @@ order_is form i order rest is e = absurd (long_verb i is (verb_in form) _ (order
 pub inst_led : (form : Form) (i : ℕ) (rest : List (List ℕ)) → IsInst i → form_words form ≡ decimal i ∷ rest → verb_in form ≡ []
 inst_led (Begin j name) i rest is e = refl
 inst_led (Ask j page mode) i rest is e = refl
+inst_led (Give j page) i rest is e = refl
+inst_led (Take j page) i rest is e = refl
 inst_led (Evict j page) i rest is e = refl
 inst_led (Flush j page) i rest is e = refl
 inst_led (Force j) i rest is e = refl
@@ -102,6 +114,22 @@ ask_is form i page mode is at e = with_order form is (order_is form i (codes "as
     cc,
     cc,
   )
+  with_order _ is order e = absurd (omega (arith, ap (λ (l : List ℕ). get_or l 1 0) order))
+
+pub give_is : (form : Form) (i : ℕ) (page : List ℕ) → IsForm form → IsInst i
+    → form_words form ≡ decimal i ∷ codes "give" ∷ page ∷ [] → (p : ℕ) × (form ≡ Give i p) × (decimal p ≡ page)
+give_is form i page is at e = with_order form is (order_is form i (codes "give") (page ∷ []) at e) e where
+  with_order : (f : Form) → IsForm f → order_in f ≡ codes "give" → form_words f ≡ decimal i ∷ codes "give" ∷ page ∷ []
+      → (p : ℕ) × (f ≡ Give i p) × (decimal p ≡ page)
+  with_order (Give j p) is order e = let inst : j ≡ i = inst_is j i _ _ is.0 at e in (p, ap (λ (x : ℕ). Give x p) inst, cc)
+  with_order _ is order e = absurd (omega (arith, ap (λ (l : List ℕ). get_or l 1 0) order))
+
+pub take_is : (form : Form) (i : ℕ) (page : List ℕ) → IsForm form → IsInst i
+    → form_words form ≡ decimal i ∷ codes "take" ∷ page ∷ [] → (p : ℕ) × (form ≡ Take i p) × (decimal p ≡ page)
+take_is form i page is at e = with_order form is (order_is form i (codes "take") (page ∷ []) at e) e where
+  with_order : (f : Form) → IsForm f → order_in f ≡ codes "take" → form_words f ≡ decimal i ∷ codes "take" ∷ page ∷ []
+      → (p : ℕ) × (f ≡ Take i p) × (decimal p ≡ page)
+  with_order (Take j p) is order e = let inst : j ≡ i = inst_is j i _ _ is.0 at e in (p, ap (λ (x : ℕ). Take x p) inst, cc)
   with_order _ is order e = absurd (omega (arith, ap (λ (l : List ℕ). get_or l 1 0) order))
 
 pub evict_is : (form : Form) (i : ℕ) (page : List ℕ) → IsForm form → IsInst i
@@ -147,7 +175,7 @@ read_is form name rid is e = with_verb form (verb_found form (codes "read") (nam
   with_verb : (f : Form) → verb_in f ≡ codes "read" → form_words f ≡ codes "read" ∷ name ∷ rid ∷ []
       → (o : ℕ) × (r : Rid) × (f ≡ Read name o r) × (rid_word r ≡ rid)
   with_verb (Read n o r) verb e = let same : n ≡ name = cc in (o, r, ap (λ (x : List ℕ). Read x o r) same, cc)
-  with_verb _ verb e = absurd (cc)
+  with_verb _ verb e = absurd (omega (arith, ap (λ (l : List ℕ). get_or l 2 0) verb))
 
 pub delete_is : (form : Form) (name rid : List ℕ) → IsForm form → form_words form ≡ codes "delete" ∷ name ∷ rid ∷ []
     → (o : ℕ) × (r : Rid) × (form ≡ Delete name o r) × (rid_word r ≡ rid)
@@ -199,11 +227,45 @@ insert_is form name page value more is e = with_verb form (verb_found form (code
       )
       with_verb _ verb e = absurd (cc)
 
+pub save_is : (form : Form) (name mark : List ℕ) → IsForm form → form_words form ≡ codes "save" ∷ name ∷ mark ∷ []
+    → (o : ℕ) × (form ≡ Save name o mark)
+save_is form name mark is e = with_verb form (verb_found form (codes "save") (name ∷ mark ∷ []) (lit< tt) is e) e where
+  with_verb : (f : Form) → verb_in f ≡ codes "save" → form_words f ≡ codes "save" ∷ name ∷ mark ∷ []
+      → (o : ℕ) × (f ≡ Save name o mark)
+  with_verb (Save n o m) verb e = let same : n ≡ name = cc in let set : m ≡ mark = cc in
+      (o, ap (λ (x : List ℕ). Save x o m) same ∙ ap (λ (x : List ℕ). Save name o x) set)
+  with_verb _ verb e = absurd (omega (arith, ap (λ (l : List ℕ). get_or l 2 0) verb))
+
+pub back_is : (form : Form) (name mark : List ℕ) → IsForm form → form_words form ≡ codes "back" ∷ name ∷ mark ∷ []
+    → (o : ℕ) × (form ≡ Back name o mark)
+back_is form name mark is e = with_verb form (verb_found form (codes "back") (name ∷ mark ∷ []) (lit< tt) is e) e where
+  with_verb : (f : Form) → verb_in f ≡ codes "back" → form_words f ≡ codes "back" ∷ name ∷ mark ∷ []
+      → (o : ℕ) × (f ≡ Back name o mark)
+  with_verb (Back n o m) verb e = let same : n ≡ name = cc in let set : m ≡ mark = cc in
+      (o, ap (λ (x : List ℕ). Back x o m) same ∙ ap (λ (x : List ℕ). Back name o x) set)
+  with_verb _ verb e = absurd (omega (arith, ap (λ (l : List ℕ). get_or l 2 0) verb))
+
+pub rollback_is : (form : Form) (name : List ℕ) → IsForm form → form_words form ≡ codes "rollback" ∷ name ∷ []
+    → (o : ℕ) × (form ≡ Rollback name o)
+rollback_is form name is e = with_verb form (verb_found form (codes "rollback") (name ∷ []) (lit< tt) is e) e where
+  with_verb : (f : Form) → verb_in f ≡ codes "rollback" → form_words f ≡ codes "rollback" ∷ name ∷ []
+      → (o : ℕ) × (f ≡ Rollback name o)
+  with_verb (Rollback n o) verb e = let same : n ≡ name = cc in (o, ap (λ (x : List ℕ). Rollback x o) same)
+  with_verb _ verb e = absurd (cc)
+
 pub commit_is : (form : Form) (name : List ℕ) → IsForm form → form_words form ≡ codes "commit" ∷ name ∷ []
     → (o : ℕ) × (form ≡ Commit name o)
 commit_is form name is e = with_verb form (verb_found form (codes "commit") (name ∷ []) (lit< tt) is e) e where
   with_verb : (f : Form) → verb_in f ≡ codes "commit" → form_words f ≡ codes "commit" ∷ name ∷ [] → (o : ℕ) × (f ≡ Commit name o)
   with_verb (Commit n o) verb e = let same : n ≡ name = cc in (o, ap (λ (x : List ℕ). Commit x o) same)
+  with_verb _ verb e = absurd (cc)
+
+pub fail_is : (form : Form) (inst : List ℕ) → IsForm form → form_words form ≡ codes "fail" ∷ inst ∷ []
+    → (i : ℕ) × (form ≡ Fail i) × (decimal i ≡ inst)
+fail_is form inst is e = with_verb form (verb_found form (codes "fail") (inst ∷ []) (lit< tt) is e) e where
+  with_verb : (f : Form) → verb_in f ≡ codes "fail" → form_words f ≡ codes "fail" ∷ inst ∷ []
+      → (i : ℕ) × (f ≡ Fail i) × (decimal i ≡ inst)
+  with_verb (Fail i) verb e = (i, refl, cc)
   with_verb _ verb e = absurd (cc)
 
 pub where_is : (form : Form) (page : List ℕ) → IsForm form → form_words form ≡ codes "where" ∷ page ∷ []

@@ -5,7 +5,7 @@ use Rattle.sd_base.specs.declared.ids.Rid.{Rid}
 use Rattle.sd_base.specs.declared.place.Mode.{Mode}
 use Rattle.sd_base.specs.declared.place.Mode.TheVariants.{Shared, Excl}
 use Rattle.sd_script.specs.declared.line.Form.{Form}
-use Rattle.sd_script.specs.declared.line.Form.TheVariants.{Complex, Begin, Read, Write, Add, Insert, Delete, Commit, Ask, Evict, Flush, Force, Where, Table}
+use Rattle.sd_script.specs.declared.line.Form.TheVariants.{Complex, Begin, Read, Write, Add, Insert, Delete, Save, Back, Rollback, Commit, Ask, Give, Take, Evict, Flush, Force, Fail, Where, Table}
 
 -- the word of a record: its page, a dot, its slot
 abbrev pub rid_word : Rid → List ℕ
@@ -30,11 +30,17 @@ form_words (Write name ordinal rid value) = codes "write" ∷ name ∷ rid_word 
 form_words (Add name ordinal rid by) = codes "add" ∷ name ∷ rid_word rid ∷ signed_decimal by ∷ []
 form_words (Insert name ordinal page value capacity) = codes "insert" ∷ name ∷ decimal page ∷ value ∷ capacity_words capacity
 form_words (Delete name ordinal rid) = codes "delete" ∷ name ∷ rid_word rid ∷ []
+form_words (Save name ordinal mark) = codes "save" ∷ name ∷ mark ∷ []
+form_words (Back name ordinal mark) = codes "back" ∷ name ∷ mark ∷ []
+form_words (Rollback name ordinal) = codes "rollback" ∷ name ∷ []
 form_words (Commit name ordinal) = codes "commit" ∷ name ∷ []
 form_words (Ask inst page mode) = decimal inst ∷ codes "ask" ∷ decimal page ∷ mode_word mode ∷ []
+form_words (Give inst page) = decimal inst ∷ codes "give" ∷ decimal page ∷ []
+form_words (Take inst page) = decimal inst ∷ codes "take" ∷ decimal page ∷ []
 form_words (Evict inst page) = decimal inst ∷ codes "evict" ∷ decimal page ∷ []
 form_words (Flush inst page) = decimal inst ∷ codes "flush" ∷ decimal page ∷ []
 form_words (Force inst) = decimal inst ∷ codes "force" ∷ []
+form_words (Fail inst) = codes "fail" ∷ decimal inst ∷ []
 form_words (Where page) = codes "where" ∷ decimal page ∷ []
 form_words Table = codes "table" ∷ []
 
@@ -46,7 +52,7 @@ IsLetter b = (97 ≤ b) × (b ≤ 122)
 abbrev pub IsDigit : ℕ → Type 0
 IsDigit b = (48 ≤ b) × (b ≤ 57)
 
--- a name: 1 to 16 letters and digits, the first a letter
+-- a name, of a transaction or of a mark: 1 to 16 letters and digits, the first a letter
 pub record IsName (name : List ℕ) : Type 0 where
   pub length : length name ≤ 16
   pub first : IsLetter (slice_index name 0)
@@ -83,18 +89,24 @@ HasRoom value capacity = IfSome capacity (λ c. (length value ≤ c) × (c ≤ 6
 
 -- what the parts of a form may be, wherever its line stands
 abbrev pub IsForm : Form → Type 0
-IsForm (Complex insts pages frames) = (insts ≡ 1) × IsCount pages × IsCount frames
+IsForm (Complex insts pages frames) = IsInst insts × IsCount pages × IsCount frames
 IsForm (Begin inst name) = IsInst inst × IsName name
 IsForm (Read name ordinal rid) = IsName name × IsRid rid
 IsForm (Write name ordinal rid value) = IsName name × IsRid rid × IsValue value
 IsForm (Add name ordinal rid by) = IsName name × IsRid rid × IsAmount by
 IsForm (Insert name ordinal page value capacity) = IsName name × (page < 1024) × IsValue value × HasRoom value capacity
 IsForm (Delete name ordinal rid) = IsName name × IsRid rid
+IsForm (Save name ordinal mark) = IsName name × IsName mark
+IsForm (Back name ordinal mark) = IsName name × IsName mark
+IsForm (Rollback name ordinal) = IsName name
 IsForm (Commit name ordinal) = IsName name
 IsForm (Ask inst page mode) = IsInst inst × (page < 1024)
+IsForm (Give inst page) = IsInst inst × (page < 1024)
+IsForm (Take inst page) = IsInst inst × (page < 1024)
 IsForm (Evict inst page) = IsInst inst × (page < 1024)
 IsForm (Flush inst page) = IsInst inst × (page < 1024)
 IsForm (Force inst) = IsInst inst
+IsForm (Fail inst) = IsInst inst
 IsForm (Where page) = page < 1024
 IsForm Table = Unit {0}
 
@@ -105,6 +117,9 @@ IsKnownBy known (Write name ordinal rid value) = known name ≡ Some ordinal
 IsKnownBy known (Add name ordinal rid by) = known name ≡ Some ordinal
 IsKnownBy known (Insert name ordinal page value capacity) = known name ≡ Some ordinal
 IsKnownBy known (Delete name ordinal rid) = known name ≡ Some ordinal
+IsKnownBy known (Save name ordinal mark) = known name ≡ Some ordinal
+IsKnownBy known (Back name ordinal mark) = known name ≡ Some ordinal
+IsKnownBy known (Rollback name ordinal) = known name ≡ Some ordinal
 IsKnownBy known (Commit name ordinal) = known name ≡ Some ordinal
 IsKnownBy known _ = Unit {0}
 

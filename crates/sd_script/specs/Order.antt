@@ -1,26 +1,19 @@
 -- Which form may stand behind which lines.
-use Rattle.std.specs.Prelude.{◌≡◌, ◌≢◌, ℕ, ◌<◌, ◌≤◌, Bool, true, false, not, IsTrue, List, [], ◌∷◌, filter, position, count_by, Option, Some}
+use Rattle.std.specs.Prelude.{◌≡◌, ◌≢◌, ℕ, ◌<◌, ◌≤◌, Bool, true, false, IsTrue, List, [], ◌∷◌, position, count_by, Option, Some}
 use Rattle.std.specs.List.{list_any, flat_map}
 use Rattle.std.specs.Str.{bytes_eq}
 use Rattle.sd_script.specs.declared.line.Form.{Form}
-use Rattle.sd_script.specs.declared.line.Form.TheVariants.{Complex, Begin, Read, Write, Add, Insert, Delete, Commit, Ask, Evict, Flush, Force, Where, Table}
+use Rattle.sd_script.specs.declared.line.Form.TheVariants.{Complex, Begin, Read, Write, Add, Insert, Delete, Save, Back, Rollback, Commit, Ask, Give, Take, Evict, Flush, Force, Fail, Where, Table}
 use Rattle.sd_script.specs.declared.line.Line.{Line}
 
--- the name that a form begins, and the name that it ends
+-- the name that a form begins
 abbrev pub begun_by : Form → List (List ℕ)
 begun_by (Begin inst name) = name ∷ []
 begun_by _ = []
 
-abbrev pub ended_by : Form → List (List ℕ)
-ended_by (Commit name ordinal) = name ∷ []
-ended_by _ = []
-
--- the names of the begin lines, and of the commit lines
+-- the names of the begin lines
 abbrev pub begun : List Line → List (List ℕ)
 begun lines = flat_map (λ line. begun_by line.form) lines
-
-abbrev pub ended : List Line → List (List ℕ)
-ended lines = flat_map (λ line. ended_by line.form) lines
 
 -- the place of the name among these, counted from 0
 abbrev pub ordinal_of : List (List ℕ) → List ℕ → Option ℕ
@@ -29,10 +22,6 @@ ordinal_of names name = position (bytes_eq name) names
 -- whether the name is one of these
 abbrev pub has : List (List ℕ) → List ℕ → Bool
 has names name = list_any (bytes_eq name) names
-
--- the names that are begun and have no commit line yet
-abbrev pub open_names : List Line → List (List ℕ)
-open_names lines = filter (λ name. not (has (ended lines) name)) (begun lines)
 
 -- the name was begun on one of these lines
 abbrev pub IsBegun : List ℕ → List Line → Type 0
@@ -69,19 +58,25 @@ IsOfBegun before name ordinal = ordinal_of (begun before) name ≡ Some ordinal
 
 -- A line of this form may stand behind these lines. The first line alone is a complex line. An instance and a page
 -- are of those that it gives. A name is begun once, and used behind its begin line, which the line tells by its
--- ordinal among the begin lines. No name is open at a begin or a table line, and 64 table lines are the most.
+-- ordinal among the begin lines. A table line isn't the first, and 64 of them are the most.
 abbrev pub Follows : List Line → Form → Type 0
 Follows before (Complex insts pages frames) = before ≡ []
-Follows before (Begin inst name) = (inst ≤ insts_of before) × ¬ IsBegun name before × (open_names before ≡ [])
+Follows before (Begin inst name) = (inst ≤ insts_of before) × ¬ IsBegun name before
 Follows before (Read name ordinal rid) = IsOfBegun before name ordinal × (rid.page < pages_of before)
 Follows before (Write name ordinal rid value) = IsOfBegun before name ordinal × (rid.page < pages_of before)
 Follows before (Add name ordinal rid by) = IsOfBegun before name ordinal × (rid.page < pages_of before)
 Follows before (Insert name ordinal page value capacity) = IsOfBegun before name ordinal × (page < pages_of before)
 Follows before (Delete name ordinal rid) = IsOfBegun before name ordinal × (rid.page < pages_of before)
+Follows before (Save name ordinal mark) = IsOfBegun before name ordinal
+Follows before (Back name ordinal mark) = IsOfBegun before name ordinal
+Follows before (Rollback name ordinal) = IsOfBegun before name ordinal
 Follows before (Commit name ordinal) = IsOfBegun before name ordinal
 Follows before (Ask inst page mode) = (inst ≤ insts_of before) × (page < pages_of before)
+Follows before (Give inst page) = (inst ≤ insts_of before) × (page < pages_of before)
+Follows before (Take inst page) = (inst ≤ insts_of before) × (page < pages_of before)
 Follows before (Evict inst page) = (inst ≤ insts_of before) × (page < pages_of before)
 Follows before (Flush inst page) = (inst ≤ insts_of before) × (page < pages_of before)
 Follows before (Force inst) = inst ≤ insts_of before
+Follows before (Fail inst) = inst ≤ insts_of before
 Follows before (Where page) = page < pages_of before
-Follows before Table = (before ≢ []) × (open_names before ≡ []) × (table_count before < 64)
+Follows before Table = (before ≢ []) × (table_count before < 64)

@@ -1,15 +1,15 @@
 -- What the reader remembers of the lines so far, and what it answers at the next.
-use Rattle.std.specs.Prelude.{◌≡◌, ◌≢◌, ℕ, ◌+◌, ◌≤◌, ◌<◌, true, eqb, cond, List, [], ◌∷◌, ◌++◌, length, Option, None, Some}
+use Rattle.std.specs.Prelude.{◌≡◌, ◌≢◌, ℕ, ◌+◌, ◌≤◌, ◌<◌, List, [], ◌∷◌, ◌++◌, length, Option, None, Some}
 use Rattle.std.specs.Map.{update}
 use Rattle.std.specs.Str.{bytes_eq}
 use Rattle.sd_base.specs.declared.refusal.Refusal.{Refusal}
 use Rattle.sd_base.specs.declared.refusal.Refusal.TheVariants as refusal
 use Rattle.sd_base.specs.declared.refusal.Cause.TheVariants.{Word}
 use Rattle.sd_script.specs.declared.line.Form.{Form}
-use Rattle.sd_script.specs.declared.line.Form.TheVariants.{Complex, Begin, Read, Write, Add, Insert, Delete, Commit, Ask, Evict, Flush, Force, Where, Table}
+use Rattle.sd_script.specs.declared.line.Form.TheVariants.{Complex, Begin, Read, Write, Add, Insert, Delete, Save, Back, Rollback, Commit, Ask, Give, Take, Evict, Flush, Force, Fail, Where, Table}
 use Rattle.sd_script.specs.declared.line.Line.{Line}
 use Rattle.sd_script.specs.Forms.{IsForm, IsName}
-use Rattle.sd_script.specs.Order.{begun, ended, has, ordinal_of, IsBegun, open_names, insts_of, pages_of, table_count}
+use Rattle.sd_script.specs.Order.{begun, ordinal_of, IsBegun, insts_of, pages_of, table_count}
 use Rattle.sd_script.specs.Reading.{ReadsAs}
 
 -- the ordinals that are known behind a line of this form, where so many names were begun before it
@@ -21,17 +21,6 @@ known_after known begins _ = known
 abbrev pub begins_after : ℕ → Form → ℕ
 begins_after before (Begin inst name) = before + 1
 begins_after before _ = before
-
--- an ordinal, unless it is this one
-abbrev pub less : ℕ → Option ℕ → Option ℕ
-less ordinal None = None
-less ordinal (Some opened) = cond {A = Option ℕ} (eqb opened ordinal) None (Some opened)
-
--- the ordinal of the open name behind it
-abbrev pub open_after : Option ℕ → ℕ → Form → Option ℕ
-open_after before begins (Begin inst name) = Some begins
-open_after before begins (Commit name ordinal) = less ordinal before
-open_after before begins _ = before
 
 -- the instances, the pages and the number of tables behind it
 abbrev pub insts_after : ℕ → Form → ℕ
@@ -46,22 +35,14 @@ abbrev pub tables_after : ℕ → Form → ℕ
 tables_after before Table = before + 1
 tables_after before _ = before
 
--- the open name has this ordinal among the names, or none is open
-abbrev pub IsOpened : List (List ℕ) → List (List ℕ) → Option ℕ → Type 0
-IsOpened opens names None = opens ≡ []
-IsOpened opens names (Some ordinal) = (name : List ℕ) × (opens ≡ name ∷ []) × (ordinal_of names name ≡ Some ordinal)
-
 -- what is known is the ordinal of each name among those begun
 abbrev pub AreOrdinals : List Line → (List ℕ → Option ℕ) → Type 0
 AreOrdinals lines known = (name : List ℕ) → IsName name → known name ≡ ordinal_of (begun lines) name
 
--- these are the ordinals of the names begun, their number, the ordinal of the open name, the instances, the pages and the
--- number of tables of the lines
-pub record Remembers (lines : List Line) (known : List ℕ → Option ℕ) (begins : ℕ) (opened : Option ℕ) (insts pages tables : ℕ) : Type 0 where
+-- these are the ordinals of the names begun, their number, the instances, the pages and the number of tables of the lines
+pub record Remembers (lines : List Line) (known : List ℕ → Option ℕ) (begins insts pages tables : ℕ) : Type 0 where
   pub names : AreOrdinals lines known
   pub begins_are : begins ≡ length (begun lines)
-  pub ended_names : (name : List ℕ) → has (ended lines) name ≡ true → has (begun lines) name ≡ true
-  pub opened_is : IsOpened (open_names lines) (begun lines) opened
   pub insts_are : insts ≡ insts_of lines
   pub pages_are : pages ≡ pages_of lines
   pub tables_are : tables ≡ table_count lines
@@ -79,19 +60,25 @@ IsUnknown known _ = Unit {0}
 -- a line of this form may stand behind these lines, if it begins no name again and has its ordinal
 abbrev pub Fits : List Line → Form → Type 0
 Fits before (Complex insts pages frames) = before ≡ []
-Fits before (Begin inst name) = (inst ≤ insts_of before) × (open_names before ≡ [])
+Fits before (Begin inst name) = inst ≤ insts_of before
 Fits before (Read name ordinal rid) = rid.page < pages_of before
 Fits before (Write name ordinal rid value) = rid.page < pages_of before
 Fits before (Add name ordinal rid by) = rid.page < pages_of before
 Fits before (Insert name ordinal page value capacity) = page < pages_of before
 Fits before (Delete name ordinal rid) = rid.page < pages_of before
+Fits before (Save name ordinal mark) = Unit {0}
+Fits before (Back name ordinal mark) = Unit {0}
+Fits before (Rollback name ordinal) = Unit {0}
 Fits before (Commit name ordinal) = Unit {0}
 Fits before (Ask inst page mode) = (inst ≤ insts_of before) × (page < pages_of before)
+Fits before (Give inst page) = (inst ≤ insts_of before) × (page < pages_of before)
+Fits before (Take inst page) = (inst ≤ insts_of before) × (page < pages_of before)
 Fits before (Evict inst page) = (inst ≤ insts_of before) × (page < pages_of before)
 Fits before (Flush inst page) = (inst ≤ insts_of before) × (page < pages_of before)
 Fits before (Force inst) = inst ≤ insts_of before
+Fits before (Fail inst) = inst ≤ insts_of before
 Fits before (Where page) = page < pages_of before
-Fits before Table = (before ≢ []) × (open_names before ≡ []) × (table_count before < 64)
+Fits before Table = (before ≢ []) × (table_count before < 64)
 
 -- the line as which these bytes read, if there is one
 abbrev pub IsNextLine : List Line → List ℕ → ℕ → Option Line → Type 0

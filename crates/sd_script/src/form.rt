@@ -8,11 +8,12 @@ ghost use Rattle.sd_script.specs.Known.{known};
 ghost use Rattle.sd_script.specs.Text.{words_of, words_behind};
 
 use crate::Form;
-use crate::inst_forms::{ask_of, begin_of, evict_of, flush_of, force_of};
+use crate::inst_forms::{ask_of, begin_of, evict_of, flush_of, force_of, give_of, take_of};
 use crate::names::Names;
 use crate::parts::{capacity_of, inst_of};
 use crate::verb_forms::{
-    add_of, commit_of, complex_of, delete_of, insert_of, read_of, table_of, where_of, write_of,
+    add_of, back_of, commit_of, complex_of, delete_of, fail_of, insert_of, read_of, rollback_of,
+    save_of, table_of, where_of, write_of,
 };
 use crate::word::first_word;
 use sd_base::{InstNo, Memory};
@@ -23,7 +24,7 @@ pub(crate) fn form_of(alloc: Global, line: &[u8], begun: &Names) -> Result<Optio
     ensures { IfOk result (IsFormOf (known begun.now) (words_of line.now)) }
 {
     let (first, rest) = first_word(line);
-    match inst_of(first, 8) {
+    match inst_of(first) {
         Some(inst) => inst_form_of(alloc, inst, rest),
         None => verb_form_of(alloc, first, rest, begun),
     }
@@ -63,6 +64,10 @@ fn three_of_inst(
 {
     if verb == b"begin".as_slice() {
         begin_of(alloc, inst, word)
+    } else if verb == b"give".as_slice() {
+        Ok(give_of(inst, word))
+    } else if verb == b"take".as_slice() {
+        Ok(take_of(inst, word))
     } else if verb == b"evict".as_slice() {
         Ok(evict_of(inst, word))
     } else if verb == b"flush".as_slice() {
@@ -114,8 +119,12 @@ fn two_of_verb(
 {
     if verb == b"commit".as_slice() {
         commit_of(alloc, word, begun)
+    } else if verb == b"rollback".as_slice() {
+        rollback_of(alloc, word, begun)
     } else if verb == b"where".as_slice() {
         Ok(where_of(word))
+    } else if verb == b"fail".as_slice() {
+        Ok(fail_of(word))
     } else {
         Ok(None)
     }
@@ -135,6 +144,10 @@ fn three_of_verb(
         read_of(alloc, name, word, begun)
     } else if verb == b"delete".as_slice() {
         delete_of(alloc, name, word, begun)
+    } else if verb == b"save".as_slice() {
+        save_of(alloc, name, word, begun)
+    } else if verb == b"back".as_slice() {
+        back_of(alloc, name, word, begun)
     } else {
         Ok(None)
     }

@@ -45,6 +45,26 @@ fn asked(inst: InstNo, page: &[u8], mode: &[u8]) -> Option<Form>
     Some(Form::Ask { inst, page, mode })
 }
 
+pub(crate) fn give_of(inst: InstNo, page: &[u8]) -> Option<Form>
+    requires { IsInst inst }
+    ensures { (known : List ℕ → Option ℕ) → IsFormOf known (decimal inst ∷ codes "give" ∷ page.now ∷ []) result }
+{
+    let Some(page) = page_of(page) else {
+        return None;
+    };
+    Some(Form::Give { inst, page })
+}
+
+pub(crate) fn take_of(inst: InstNo, page: &[u8]) -> Option<Form>
+    requires { IsInst inst }
+    ensures { (known : List ℕ → Option ℕ) → IsFormOf known (decimal inst ∷ codes "take" ∷ page.now ∷ []) result }
+{
+    let Some(page) = page_of(page) else {
+        return None;
+    };
+    Some(Form::Take { inst, page })
+}
+
 pub(crate) fn evict_of(inst: InstNo, page: &[u8]) -> Option<Form>
     requires { IsInst inst }
     ensures { (known : List ℕ → Option ℕ) → IsFormOf known (decimal inst ∷ codes "evict" ∷ page.now ∷ []) result }

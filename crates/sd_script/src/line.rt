@@ -30,7 +30,7 @@ pub enum Form {
         rid: Rid,
         value: Bytes,
     },
-    /// `add T R N`: the transaction adds the number to the record's.
+    /// `add T R M`: the transaction adds the number to the record's.
     Add {
         name: Word,
         ordinal: u32,
@@ -52,6 +52,23 @@ pub enum Form {
         ordinal: u32,
         rid: Rid,
     },
+    /// `save T S`: the transaction sets a mark.
+    Save {
+        name: Word,
+        ordinal: u32,
+        mark: Word,
+    },
+    /// `back T S`: the transaction rolls back to the mark.
+    Back {
+        name: Word,
+        ordinal: u32,
+        mark: Word,
+    },
+    /// `rollback T`: the transaction rolls back wholly.
+    Rollback {
+        name: Word,
+        ordinal: u32,
+    },
     /// `commit T`: the transaction commits.
     Commit {
         name: Word,
@@ -62,6 +79,16 @@ pub enum Form {
         inst: InstNo,
         page: PageNo,
         mode: Mode,
+    },
+    /// `I give P`: the instance gives the page to the one that asked for it first.
+    Give {
+        inst: InstNo,
+        page: PageNo,
+    },
+    /// `I take P`: the instance takes the page that is on its way to it.
+    Take {
+        inst: InstNo,
+        page: PageNo,
     },
     /// `I evict P`: the instance drops its copy of the page.
     Evict {
@@ -75,6 +102,10 @@ pub enum Form {
     },
     /// `I force`: the instance forces its log.
     Force {
+        inst: InstNo,
+    },
+    /// `fail I`: the instance fails.
+    Fail {
         inst: InstNo,
     },
     /// `where P`: it is shown where the page is.

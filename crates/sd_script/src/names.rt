@@ -12,7 +12,7 @@ use sd_base::Memory;
 use std::alloc::Global;
 use std::collections::BTreeMap;
 
-/// A map from names to ordinals, whose keys are the names' numbers. The newest is kept beside it: most lines speak of
+/// A map from names to ordinals, whose keys are the names' numbers. The newest is kept beside it: many lines speak of
 /// the name that was begun last.
 #[derive(Drop)]
 pub(crate) struct Names {

@@ -4,7 +4,7 @@ ghost use Rattle.std.specs.Prelude.{◌≡◌, ◌≢◌, ◌==◌, ℕ, ℤ, �
 ghost use Rattle.std.specs.Fmt.{decimal, signed_decimal};
 ghost use Rattle.sd_base.specs.declared.ids.Rid.{Rid};
 ghost use Rattle.sd_base.specs.declared.place.Mode.{Mode};
-ghost use Rattle.sd_script.specs.Forms.{rid_word, mode_word, IsName, IsRid, IsAmount};
+ghost use Rattle.sd_script.specs.Forms.{rid_word, mode_word, IsInst, IsNoInst, IsName, IsRid, IsAmount};
 ghost use Rattle.sd_script.specs.Known.{known};
 
 use crate::names::Names;
@@ -12,15 +12,13 @@ use crate::word::{is_name, number_of, number_within};
 use sd_base::{InstNo, Memory, Mode, PageNo, Rid, Sequence, Word};
 use std::alloc::Global;
 
-/// The instance that the word names, up to this number.
-pub(crate) fn inst_of(word: &[u8], most: u8) -> Option<InstNo>
-    requires { most ≤ 8 }
+/// The instance that the word names.
+pub(crate) fn inst_of(word: &[u8]) -> Option<InstNo>
     ensures found { IfSome result (λ i. decimal i ≡ word.now) }
-    ensures low { IfSome result (λ i. 1 ≤ i) }
-    ensures high { IfSome result (λ i. i ≤ most) }
-    ensures none { IfNone result ((i : ℕ) → 1 ≤ i → i ≤ most → decimal i ≢ word.now) }
+    ensures range { IfSome result IsInst }
+    ensures none { IfNone result (IsNoInst word.now) }
 {
-    InstNo::new(number_within(word, 1, u64::from(most))? as u8)
+    InstNo::new(number_within(word, 1, 8)? as u8)
 }
 
 /// The page that the word names.

@@ -4,7 +4,7 @@ ghost use Rattle.std.specs.Prelude.{◌≡◌, ℕ, ◌<◌, ◌≤◌, ◌∷�
 ghost use Rattle.sd_script.specs.Forms.{IsForm, IsName};
 ghost use Rattle.sd_script.specs.Known.{known};
 ghost use Rattle.sd_script.specs.Order.{is_table, insts_of, pages_of, Follows};
-ghost use Rattle.sd_script.specs.Remembered.{known_after, begins_after, open_after, insts_after, pages_after, tables_after};
+ghost use Rattle.sd_script.specs.Remembered.{known_after, begins_after, insts_after, pages_after, tables_after};
 ghost use Rattle.sd_script.specs.Remembered.{Fits, IsUnknown, IsFresh, IsWith, IsLikelyLine, GoesOn, IsLineRefusedWith};
 
 use crate::form::form_of;
@@ -16,20 +16,18 @@ use std::marker::Model;
 
 const LINE_BYTES: usize = 1_024;
 
-const LINES: usize = 100_000;
+pub(crate) const LINES: usize = 100_000;
 
 const TEXT_BYTES: usize = 4_194_304;
 
 const TABLES: u8 = 64;
 
-/// The lines so far, the ordinals of the names that they began, and how many. At most one name is open, so its ordinal
-/// is enough.
+/// The lines so far, the ordinals of the names that they began, and how many.
 #[derive(Drop)]
 pub(crate) struct Reader {
     lines: Vec<Line>,
     begun: Names,
     begins: u32,
-    opened: Option<u32>,
     insts: u8,
     pages: u16,
     tables: u8,
@@ -45,18 +43,22 @@ impl Model for Reader {
 
     ghost view = { λ r. r.lines.items };
 
-    ghost invariant = { λ r. Remembers r.lines.items (known r.begun) r.begins r.opened r.insts r.pages r.tables };
+    ghost invariant = { λ r. Remembers r.lines.items (known r.begun) r.begins r.insts r.pages r.tables };
 }
 
 impl Reader {
-    pub(crate) fn new(alloc: Global) -> Reader
+    /// No lines, with room for so many, where there is memory for it.
+    pub(crate) fn new(alloc: Global, room: usize) -> Reader
         ensures { result ≡ [] }
     {
+        let lines = match Vec::with_capacity(alloc, room) {
+            Ok(lines) => lines,
+            Err(_) => Vec::new(alloc),
+        };
         Reader {
-            lines: Vec::new(alloc),
+            lines,
             begun: Names::new(alloc),
             begins: 0,
-            opened: None,
             insts: 0,
             pages: 0,
             tables: 0,
@@ -118,20 +120,21 @@ impl Reader {
     {
         match form {
             Form::Complex { .. } => self.lines.is_empty(),
-            Form::Begin { inst, .. } => self.has_inst(*inst) && self.opened.is_none(),
+            Form::Begin { inst, .. } => self.has_inst(*inst),
             Form::Read { rid, .. }
             | Form::Write { rid, .. }
             | Form::Add { rid, .. }
             | Form::Delete { rid, .. } => self.has_page(rid.page),
             Form::Insert { page, .. } | Form::Where { page } => self.has_page(*page),
-            Form::Commit { .. } => true,
+            Form::Save { .. } | Form::Back { .. } | Form::Rollback { .. } | Form::Commit { .. } =>
+                true,
             Form::Ask { inst, page, .. }
+            | Form::Give { inst, page }
+            | Form::Take { inst, page }
             | Form::Evict { inst, page }
             | Form::Flush { inst, page } => self.has_inst(*inst) && self.has_page(*page),
-            Form::Force { inst } => self.has_inst(*inst),
-            Form::Table => {
-                !self.lines.is_empty() && self.opened.is_none() && self.tables < TABLES
-            }
+            Form::Force { inst } | Form::Fail { inst } => self.has_inst(*inst),
+            Form::Table => !self.lines.is_empty() && self.tables < TABLES,
         }
     }
 
@@ -158,7 +161,6 @@ impl Reader {
             mut lines,
             begun,
             begins,
-            opened,
             insts,
             pages,
             tables,
@@ -166,7 +168,6 @@ impl Reader {
         let Some(begun) = begun_behind(begun, begins, &line.form)? else {
             return Ok(None);
         };
-        let opened = opened_behind(opened, begins, &line.form);
         let begins = begins_behind(begins, &line.form);
         let insts = insts_behind(insts, &line.form);
         let pages = pages_behind(pages, &line.form);
@@ -176,7 +177,6 @@ impl Reader {
             lines,
             begun,
             begins,
-            opened,
             insts,
             pages,
             tables,
@@ -207,16 +207,6 @@ fn begins_behind(before: u32, form: &Form) -> u32
     match form {
         Form::Begin { .. } => before + 1,
         _ => before,
-    }
-}
-
-fn opened_behind(before: Option<u32>, begins: u32, form: &Form) -> Option<u32>
-    ensures { result ≡ open_after before begins form.now }
-{
-    match (before, form) {
-        (_, Form::Begin { .. }) => Some(begins),
-        (Some(opened), Form::Commit { ordinal, .. }) if opened == *ordinal => None,
-        (before, _) => before,
     }
 }
 

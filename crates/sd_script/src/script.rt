@@ -8,10 +8,11 @@ ghost use Rattle.sd_script.specs.Text.{lines_of};
 ghost use Rattle.sd_script.specs.Reading.{IsRead, IsScript, IsBadAt, IsRefusedWith, UnlessMemory};
 
 use crate::Line;
-use crate::reader::Reader;
+use crate::reader::{LINES, Reader};
 use crate::text::first_line;
 use sd_base::{Cause, Refusal};
 use std::alloc::Global;
+use std::cmp;
 use std::marker::Model;
 
 /// What a script is read for.
@@ -76,7 +77,7 @@ fn read_lines(alloc: Global, text: &[u8]) -> Result<Vec<Line>, Refusal>
     ensures whole { IfOk result (λ lines. length lines.items ≡ length (lines_of text.now)) }
     ensures refused { IfErr result (IsRefusedWith text.now) }
 {
-    let mut reader = Reader::new(alloc);
+    let mut reader = Reader::new(alloc, room_for(text));
     let mut rest = text;
     while !rest.is_empty() {
         let (line, after) = first_line(rest);
@@ -84,4 +85,10 @@ fn read_lines(alloc: Global, text: &[u8]) -> Result<Vec<Line>, Refusal>
         rest = after;
     }
     Ok(reader.into_lines())
+}
+
+// How many lines a reader is to have room for: as many as the text may have, so that the list doesn't grow.
+fn room_for(text: &[u8]) -> usize {
+    let feeds = text.iter().filter(|b| **b == b'\n').count();
+    cmp::min(feeds, LINES - 1) + 1
 }

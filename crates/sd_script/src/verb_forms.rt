@@ -7,14 +7,14 @@ ghost use Rattle.sd_script.specs.Known.{known};
 use crate::Form;
 use crate::names::Names;
 use crate::parts::{amount_of, inst_of, ordinal_of, own, page_of, record_of};
-use crate::word::{is_value, number_within};
+use crate::word::{is_name, is_value, number_within};
 use sd_base::{Memory, PAGES};
 use std::alloc::Global;
 
 pub(crate) fn complex_of(insts: &[u8], pages: &[u8], frames: &[u8]) -> Option<Form>
     ensures { (known : List ℕ → Option ℕ) → IsFormOf known (codes "complex" ∷ insts.now ∷ pages.now ∷ frames.now ∷ []) result }
 {
-    let Some(insts) = inst_of(insts, 1) else {
+    let Some(insts) = inst_of(insts) else {
         return None;
     };
     let Some(pages) = number_within(pages, 1, PAGES as u64) else {
@@ -142,6 +142,62 @@ pub(crate) fn delete_of(
     Ok(Some(Form::Delete { name, ordinal, rid }))
 }
 
+pub(crate) fn save_of(
+    alloc: Global,
+    name: &[u8],
+    mark: &[u8],
+    begun: &Names,
+) -> Result<Option<Form>, Memory>
+    ensures { IfOk result (IsFormOf (known begun.now) (codes "save" ∷ name.now ∷ mark.now ∷ [])) }
+{
+    if !is_name(mark) {
+        return Ok(None);
+    }
+    let Some(ordinal) = ordinal_of(name, begun) else {
+        return Ok(None);
+    };
+    let name = own(alloc, name)?;
+    let mark = own(alloc, mark)?;
+    Ok(Some(Form::Save {
+        name,
+        ordinal,
+        mark,
+    }))
+}
+
+pub(crate) fn back_of(
+    alloc: Global,
+    name: &[u8],
+    mark: &[u8],
+    begun: &Names,
+) -> Result<Option<Form>, Memory>
+    ensures { IfOk result (IsFormOf (known begun.now) (codes "back" ∷ name.now ∷ mark.now ∷ [])) }
+{
+    if !is_name(mark) {
+        return Ok(None);
+    }
+    let Some(ordinal) = ordinal_of(name, begun) else {
+        return Ok(None);
+    };
+    let name = own(alloc, name)?;
+    let mark = own(alloc, mark)?;
+    Ok(Some(Form::Back {
+        name,
+        ordinal,
+        mark,
+    }))
+}
+
+pub(crate) fn rollback_of(alloc: Global, name: &[u8], begun: &Names) -> Result<Option<Form>, Memory>
+    ensures { IfOk result (IsFormOf (known begun.now) (codes "rollback" ∷ name.now ∷ [])) }
+{
+    let Some(ordinal) = ordinal_of(name, begun) else {
+        return Ok(None);
+    };
+    let name = own(alloc, name)?;
+    Ok(Some(Form::Rollback { name, ordinal }))
+}
+
 pub(crate) fn commit_of(alloc: Global, name: &[u8], begun: &Names) -> Result<Option<Form>, Memory>
     ensures { IfOk result (IsFormOf (known begun.now) (codes "commit" ∷ name.now ∷ [])) }
 {
@@ -150,6 +206,15 @@ pub(crate) fn commit_of(alloc: Global, name: &[u8], begun: &Names) -> Result<Opt
     };
     let name = own(alloc, name)?;
     Ok(Some(Form::Commit { name, ordinal }))
+}
+
+pub(crate) fn fail_of(inst: &[u8]) -> Option<Form>
+    ensures { (known : List ℕ → Option ℕ) → IsFormOf known (codes "fail" ∷ inst.now ∷ []) result }
+{
+    let Some(inst) = inst_of(inst) else {
+        return None;
+    };
+    Some(Form::Fail { inst })
 }
 
 pub(crate) fn where_of(page: &[u8]) -> Option<Form>

@@ -73,7 +73,7 @@ pub(crate) fn number_within(word: &[u8], low: u64, high: u64) -> Option<u64>
     Some(number)
 }
 
-/// Whether a transaction may have this name.
+/// Whether a transaction or a mark may have this name.
 pub(crate) fn is_name(word: &[u8]) -> bool
     ensures { IsTrue result ↔ IsName word.now }
 {

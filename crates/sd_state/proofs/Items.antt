@@ -1,6 +1,6 @@
 -- The items of instances in lists: what holds of each, and of none. For all that reads or writes a part of a complex.
 use Rattle.std.proofs.Common.{◌≡◌, ◌≢◌, ℕ, zero, suc, ◌-◌, ◌≤◌, List, length, get_or, slice_set, refl, sym, ap, ◌∙◌, arith}
-use Rattle.std.proofs.lemmas.List.{get_or-set_other, get_or-set_same, get_or_read}
+use Rattle.std.proofs.lemmas.List.{get_or-set_other, get_or-set_same, get_or_read, set-get_or}
 use Rattle.sd_state.specs.Fresh.{for_each}
 use Rattle.sd_state.specs.Parts.{among}
 
@@ -52,3 +52,10 @@ pub item-kept : {A : Type 0} (none : A) (items : List A) (i : ℕ) (x : A) → 1
     → among none (slice_set items (i - 1) x) j ≡ among none items j
 item-kept none items i x low zero ne = refl
 item-kept none items i x low (suc j) ne = get_or-set_other items (i - 1) j x none (λ e. ne (omega (arith, low, e)))
+
+-- one that is written as it was leaves all as it was
+pub item-same : {A : Type 0} (none : A) (items : List A) (i : ℕ) → 1 ≤ i → slice_set items (i - 1) (among none items i) ≡ items
+item-same none items zero low = absurd (omega (arith, low))
+item-same none items (suc j) low =
+    let k : suc j - 1 ≡ j = omega arith in
+    ap (λ n. slice_set items n (get_or items j none)) k ∙ set-get_or items j none

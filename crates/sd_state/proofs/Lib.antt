@@ -53,4 +53,5 @@ pub mod WorkingTakes
 pub mod EndingGood
 pub mod EndingValues
 pub mod EndingLeaves
+pub mod WorkingMarks
 pub mod WorkingTurns

@@ -121,7 +121,8 @@ rising-within test n (x ∷ marks) rising = go (rising-within test n marks risin
     go later false is true hit = rw (is, hit) (rw (none-low n x.1 marks is rising.0, is) refl)
     go later false is false hit = rw (is, hit) later
 
-word-is : (a b : List ℕ) → same_word a b ≡ true → a ≡ b
+-- words that are told to be the same are
+pub word-is : (a b : List ℕ) → same_word a b ≡ true → a ≡ b
 word-is [] [] e = refl
 word-is [] (y ∷ ys) e = absurd (cc)
 word-is (x ∷ xs) [] e = absurd (cc)

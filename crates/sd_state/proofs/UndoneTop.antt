@@ -1,6 +1,6 @@
 -- The last open record of a transaction that rolls back, in its row and in its log, and what its undo finds: for the laws on
 -- undo.
-use Rattle.std.proofs.Common.{◌≡◌, ◌≢◌, ⊎_elim, ℕ, ◌+◌, ◌^◌, ◌<◌, ◌≤◌, false, List, [], ◌∷◌, ◌++◌, length, length-append, refl, sym, ap, ap₂, ◌∙◌, subst, arith}
+use Rattle.std.proofs.Common.{◌≡◌, ◌≢◌, ⊎_elim, ℕ, ◌+◌, ◌^◌, ◌<◌, ◌≤◌, false, suc, List, [], ◌∷◌, ◌++◌, length, length-append, refl, sym, ap, ap₂, ◌∙◌, subst, arith}
 use Rattle.std.specs.Prelude.{Option, None, Some, reverse}
 use Rattle.std.specs.Option.{option_map_or}
 use Rattle.std.proofs.lemmas.List.{reverse-append}
@@ -21,7 +21,7 @@ use Rattle.sd_txn.specs.Transactions.{Transaction}
 use Rattle.sd_txn.specs.declared.state.OpenRec.{OpenRec}
 use Rattle.sd_txn.proofs.Stacks.{split-top}
 use Rattle.sd_chain.specs.Bytes.{disk_page}
-use Rattle.sd_chain.specs.Checks.{owed}
+use Rattle.sd_chain.specs.Checks.{owed, reserve}
 use Rattle.sd_chain.specs.Images.{all_kept}
 use Rattle.sd_chain.specs.Order.{UndoesTop}
 use Rattle.sd_chain.specs.Image.{HasPlace}
@@ -150,6 +150,10 @@ module _ (a : ℕ) (t : TxnId) (x : Transaction) (o : OpenRec) (image : Page) (s
     below = top.below;
     stack = u.stack;
   }
+
+  -- with the record the log owes less, by its bytes and a group's head, and by a record
+  pub clr-falls : (reserve (all ++ y ∷ []) + length (spelling r) + 5 ≤ reserve all) × (suc (owed (all ++ y ∷ [])) ≤ owed all)
+  clr-falls = undo-falls (log_at c i) r (takes (tops split.0 split.1))
 
   finds : (top : IsTop o (reverse split.0) (stack t all)) → FindsPlace r image (lsn_for t image c) (log_at c i)
   finds top =

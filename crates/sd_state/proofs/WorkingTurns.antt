@@ -1,4 +1,4 @@
--- A transaction turns: it rolls back, or runs again. For the calls of working.rt.
+-- A transaction turns: it rolls back, runs again, or sets a mark. For the calls of working.rt.
 use Rattle.sd_state.proofs.SealedLaws.{there-of}
 use Rattle.std.proofs.Common.{◌≡◌, ◌≢◌, ◌⊎◌, inl, inr, ⊎_elim, ℕ, ◌-◌, ◌≤◌, false, if◌then◌else◌, ◌==◌, ◌++◌, cond, List, [], length, slice_set, refl, sym, ap, ap₂, ◌∙◌, subst, arith}
 use Rattle.std.specs.Prelude.{Option, None, Some, option_and_then, option_map}
@@ -9,17 +9,17 @@ use Rattle.sd_base.specs.declared.ids.TxnId.{TxnId}
 use Rattle.sd_base.specs.declared.place.Status.TheVariants as S
 use Rattle.sd_base.specs.Ids.{same_txn}
 use Rattle.sd_logrec.specs.View.{Rec}
-use Rattle.sd_model.specs.State.{Part, State, turned, with_life}
+use Rattle.sd_model.specs.State.{Part, State, put_part, turned}
 use Rattle.sd_model.specs.declared.act.Claim.{Claim}
 use Rattle.sd_model.specs.declared.act.Life.{Life}
 use Rattle.sd_model.specs.Acts.{live}
-use Rattle.sd_model.specs.Changes.{mark_of}
-use Rattle.sd_model.specs.declared.event.Event.TheVariants.{Back, Undo}
+use Rattle.sd_model.specs.Changes.{mark_of, marked, with_mark}
+use Rattle.sd_model.specs.declared.event.Event.TheVariants.{Back, Save, Undo}
 use Rattle.sd_model.specs.declared.event.Reply.TheVariants.{Did, Finished}
 use Rattle.sd_model.proofs.Views.{part-elsewhere, part-here}
 use Rattle.sd_rig.specs.Devices as rig
 use Rattle.sd_txn.specs.Owing.{bytes_owed, owed_of, records_owed, reserve_of}
-use Rattle.sd_txn.specs.Transactions.{OthersStay, Replaces, SameOrder, Transaction, Transactions, begins_in, depth_at, ids, mark_at, state_at, txn_at, with_state}
+use Rattle.sd_txn.specs.Transactions.{OthersStay, Replaces, SameOrder, Transaction, Transactions, begins_in, depth_at, ids, mark_at, state_at, saved, txn_at, with_state}
 use Rattle.sd_txn.specs.Transactions as txns
 use Rattle.sd_txn.specs.declared.state.TxnState.{TxnState}
 use Rattle.sd_txn.proofs.Owing.{total-replaced}
@@ -29,41 +29,62 @@ use Rattle.sd_sound.specs.Logs.{Outcomes, all_at, base_at, kept_logs, tail_at, t
 use Rattle.sd_state.specs.Good.{Good, Half}
 use Rattle.sd_state.specs.Images.{leaves_by, log_by}
 use Rattle.sd_state.specs.Parts.{Parts, among, log_at, no_txns, status_at, txns_at}
-use Rattle.sd_state.specs.Tables.{GoesOn, IsLogged, NamedOnce, NamesLife, RowIsLive, RowIsLogged, StandsAs, goes_on_as, lock_of, tells_log}
+use Rattle.sd_state.specs.Tables.{GoesOn, IsLive, IsLogged, NamedOnce, NamesLife, RowIsLive, RowIsLogged, StandsAs, goes_on_as, lock_of, tells_log}
 use Rattle.sd_state.specs.Values.{Pending, is_doubt, open_of, put_of, rid_of}
 use Rattle.sd_state.specs.Working.{with_txns}
 use Rattle.sd_state.proofs.Items.{item-kept, item-set}
+use Rattle.sd_state.proofs.WorkingMarks.{Marks, once-marked, same-marks}
 use Rattle.sd_state.proofs.WorkingGood.{ItsWork, Lasts, OthersWork, working-good, working-settled}
 use Rattle.sd_state.proofs.EndingLeaves.{known-row, rolling-there, step-lasts}
 use Rattle.sd_state.proofs.Recovers.{up-there}
 use Rattle.sd_state.proofs.WorkingTakes.{lasts-there, running-goes, running-there}
 use Rattle.sd_state.proofs.WorkingValues.{values-other}
 
--- t, of which x is known, stands elsewhere in its table, and in the serial table.
-pub record Turns (t : TxnId) (x : Transaction) (state : TxnState) (life : Life) (table : Transactions) (c : Parts) (m : State) : Type 0 where
+-- a row that stands so and has these marks, and a part
+abbrev pub row_as : TxnState → Marks → Transaction → Transaction
+row_as state set x = record x { state = state; marks = set }
+
+abbrev pub part_as : Life → Marks → Part → Part
+part_as life marks p = record p { life = life; marks = marks }
+
+-- who is open has as many open records as live puts
+pub as-many : (x : Transaction) (t : TxnId) (p : Part) (log : List Rec) → IsLogged x t log → IsLive x t p log
+    → length x.stack ≡ length (live p.acts)
+as-many x t p log l lively = sym (length-reverse x.stack) ∙ ap length l.open_ones ∙ length-map (stack t log) open_of
+    ∙ sym (length-map (stack t log) put_of) ∙ sym (ap length lively.puts)
+
+-- t, of which x is known, stands so in its table and has these marks there, and so in the serial table.
+pub record Turns (t : TxnId) (x : Transaction) (state : TxnState) (set : Marks) (life : Life) (marks : Marks) (table : Transactions) (c : Parts)
+    (m : State) : Type 0 where
   pub low : 1 ≤ home t
   pub high : home t ≤ 8
   pub idle : c.due ≡ None
   pub up : status_at c (home t) ≡ S.Up
   pub once : IsDistinct same_txn (ids (txns_at c (home t)))
-  pub row : Replaces (txns_at c (home t)) table t x (with_state state x)
+  pub row : Replaces (txns_at c (home t)) table t x (row_as state set x)
   pub stands : (f w : Fate) → StandsAs state life f w
   pub there : life ≢ Life.Gone
   pub before : is_doubt (m.part t).life ≡ false
   pub after : is_doubt life ≡ false
-  pub goes : GoesOn Pending.Idle t (with_life life (m.part t)) → IsOpen t (all_at (log_at c (home t)))
-  pub lasts : Lasts (turned t life m)
+  pub goes : GoesOn Pending.Idle t (part_as life marks (m.part t)) → IsOpen t (all_at (log_at c (home t)))
+  pub same_marks : IsLive x t (m.part t) (all_at (log_at c (home t)))
+      → (name : List ℕ) → txns.mark_of name (row_as state set x) ≡ mark_of name marks
+  pub named : NamedOnce marks
+  pub lasts : Lasts (put_part t (part_as life marks (m.part t)) m)
 
-module _ (t : TxnId) (x : Transaction) (state : TxnState) (life : Life) (table : Transactions) (seen : rig.Image) (leaves : Outcomes) (c : Parts)
-    (m : State) (g : Good seen leaves Pending.Idle c m) (w : Turns t x state life table c m) where
+module _ (t : TxnId) (x : Transaction) (state : TxnState) (set : Marks) (life : Life) (marks : Marks) (table : Transactions) (seen : rig.Image)
+    (leaves : Outcomes) (c : Parts) (m : State) (g : Good seen leaves Pending.Idle c m) (w : Turns t x state set life marks table c m) where
   abbrev i : ℕ
   i = home t
 
   abbrev m' : State
-  m' = turned t life m
+  m' = put_part t (part_as life marks (m.part t)) m
 
   abbrev part : Part
-  part = with_life life (m.part t)
+  part = part_as life marks (m.part t)
+
+  abbrev row : Transaction
+  row = row_as state set x
 
   abbrev tables : List Transactions
   tables = slice_set c.txns (i - 1) table
@@ -84,9 +105,9 @@ module _ (t : TxnId) (x : Transaction) (state : TxnState) (life : Life) (table :
   part-else u ne = part-elsewhere m t u part (λ e. ne (sym e))
 
   -- what is said of the row and of the part, once they are these
-  by-row : (P : Option Transaction → Part → Type 0) → P (Some (with_state state x)) part → P (txn_at (among no_txns tables i) t) (m'.part t)
+  by-row : (P : Option Transaction → Part → Type 0) → P (Some row) part → P (txn_at (among no_txns tables i) t) (m'.part t)
   by-row P said = subst (λ (tb : Transactions). P (txn_at tb t) (m'.part t)) (sym table-here)
-      (subst (λ (o : Option Transaction). P o (m'.part t)) (sym w.row.now) (subst (P (Some (with_state state x))) (sym here) said))
+      (subst (λ (o : Option Transaction). P o (m'.part t)) (sym w.row.now) (subst (P (Some row)) (sym here) said))
 
   its-own : ItsWork t tables c.locks Pending.Idle c m m'
   its-own = record {
@@ -105,9 +126,9 @@ module _ (t : TxnId) (x : Transaction) (state : TxnState) (life : Life) (table :
         (subst (λ (o : Option Transaction). RowIsLogged o t all) w.row.was
         ((g.told i w.low w.high (ap tells_log w.up) (working-settled seen leaves Pending.Idle c m i g w.idle w.low w.up)).rows t refl)));
     live = by-row (λ (o : Option Transaction) (q : Part). RowIsLive o t q all) (let old = was-live in
-        record { puts = old.puts; marks = old.marks });
+        record { puts = old.puts; marks = w.same_marks old });
     going = λ goes. w.goes (subst (GoesOn Pending.Idle t) here goes);
-    named = subst (λ (q : Part). NamedOnce q.marks) (sym here) (g.named t);
+    named = subst (λ (q : Part). NamedOnce q.marks) (sym here) w.named;
     number = λ there. g.numbered t was-there;
     gone = λ it r. absurd (w.there (sym (ap (λ (q : Part). q.life) here) ∙ it));
     its_locks = λ r. g.locks t r ∙ ap (λ (q : Part). lock_of (q.claims r)) (sym here);
@@ -134,8 +155,8 @@ module _ (t : TxnId) (x : Transaction) (state : TxnState) (life : Life) (table :
         omega (arith, a, e);
     tables = λ j ne. item-kept no_txns c.txns i table w.low j ne;
     rows = λ u ne. ap (λ (tb : Transactions). txn_at tb u) table-here ∙ w.row.others u ne;
-    owes = ap owed_of table-here ∙ (let sum = total-replaced records_owed (txns_at c i) table t x (with_state state x) w.once w.row in omega (arith, sum));
-    reserves = ap reserve_of table-here ∙ (let sum = total-replaced bytes_owed (txns_at c i) table t x (with_state state x) w.once w.row in omega (arith, sum));
+    owes = ap owed_of table-here ∙ (let sum = total-replaced records_owed (txns_at c i) table t x row w.once w.row in omega (arith, sum));
+    reserves = ap reserve_of table-here ∙ (let sum = total-replaced bytes_owed (txns_at c i) table t x row w.once w.row in omega (arith, sum));
     others_held = λ u ne r. refl;
     parts = part-else;
     begins = (m.inst i).begins;
@@ -209,7 +230,7 @@ module _ (t : TxnId) (table : Transactions) (seen : rig.Image) (leaves : Outcome
       let s = TxnState.Rolling None in
       let which = works _ _ _ state (names-at s d) in
       let it = known-row _ _ _ _ (not-gone which) (names-at s d) in
-      turns-good t it.0 s (Life.Rolling None) table seen leaves c m g (record {
+      turns-good t it.0 s it.0.marks (Life.Rolling None) (m.part t).marks table seen leaves c m g (record {
         low = (places s d).0;
         high = (places s d).1;
         idle = d.idle;
@@ -221,6 +242,8 @@ module _ (t : TxnId) (table : Transactions) (seen : rig.Image) (leaves : Outcome
         before = undoubted which;
         after = refl;
         goes = λ some. g.going t (places s d).0 (places s d).1 (goes-still which some);
+        same_marks = λ l. l.marks;
+        named = g.named t;
         lasts = step-lasts m (Back t None) Did (turned t (Life.Rolling None) m)
             ((g.not_closed, (not-gone which, ((λ n. n (m-up s d)), tt))), (which, refl)) (lasts-there seen leaves Pending.Idle c m g);
       })
@@ -237,7 +260,7 @@ module _ (t : TxnId) (table : Transactions) (seen : rig.Image) (leaves : Outcome
       (g.at_work (home t) (places s d).0 (places s d).1 d.up t refl (λ e. let f = e in absurd (cc))) in
       let at_mark : mark_of name (m.part t).marks ≡ Some n = sym (lively.marks name)
       ∙ subst (λ (o : Option Transaction). option_and_then (txns.mark_of name) o ≡ Some n) it.1 mark in
-      turns-good t it.0 s (Life.Rolling (Some n)) table seen leaves c m g (record {
+      turns-good t it.0 s it.0.marks (Life.Rolling (Some n)) (m.part t).marks table seen leaves c m g (record {
         low = (places s d).0;
         high = (places s d).1;
         idle = d.idle;
@@ -249,6 +272,8 @@ module _ (t : TxnId) (table : Transactions) (seen : rig.Image) (leaves : Outcome
         before = ap is_doubt runs;
         after = refl;
         goes = λ _. g.going t (places s d).0 (places s d).1 (running-goes t (m.part t) runs);
+        same_marks = λ l. l.marks;
+        named = g.named t;
         lasts = step-lasts m (Back t (Some name)) Did (turned t (Life.Rolling (Some n)) m) (
           (
             g.not_closed,
@@ -282,9 +307,8 @@ module _ (t : TxnId) (table : Transactions) (seen : rig.Image) (leaves : Outcome
       ((g.told (home t) (places s d).0 (places s d).1 (ap tells_log d.up)
       (working-settled seen leaves Pending.Idle c m (home t) g d.idle (places s d).0 d.up)).rows t refl)) in
       let deep : length it.0.stack ≡ n = subst (λ (o : Option Transaction). option_map_or (λ (y : Transaction). length y.stack) o 0 ≡ n) it.1 depth in
-      let many : n ≡ length (live (m.part t).acts) = sym deep ∙ sym (length-reverse it.0.stack) ∙ ap length l.open_ones
-      ∙ length-map (stack t (all_at log)) open_of ∙ sym (length-map (stack t (all_at log)) put_of) ∙ sym (ap length lively.puts) in
-      turns-good t it.0 s Life.Running table seen leaves c m g (record {
+      let many : n ≡ length (live (m.part t).acts) = sym deep ∙ as-many it.0 t (m.part t) (all_at log) l lively in
+      turns-good t it.0 s it.0.marks Life.Running (m.part t).marks table seen leaves c m g (record {
         low = (places s d).0;
         high = (places s d).1;
         idle = d.idle;
@@ -296,7 +320,74 @@ module _ (t : TxnId) (table : Transactions) (seen : rig.Image) (leaves : Outcome
         before = ap is_doubt rolls;
         after = refl;
         goes = λ _. alive;
+        same_marks = λ l. l.marks;
+        named = g.named t;
         lasts = step-lasts m (Undo t) Finished (turned t Life.Running m)
             ((g.not_closed, (not-gone (inr (Some n, rolls)), ((λ no. no (m-up s d)), (tt, (tt, (tt, tt)))))), inr (inl (n, rolls, many, refl)))
             (lasts-there seen leaves Pending.Idle c m g);
       })
+
+-- What the code tells of the table in which t has set a mark.
+pub record IsMarked (t : TxnId) (name : List ℕ) (table : Transactions) (c : Parts) : Type 0 where
+  pub idle : c.due ≡ None
+  pub up : status_at c (home t) ≡ S.Up
+  pub once : IsDistinct same_txn (ids (txns_at c (home t)))
+  pub changed : txn_at table t ≡ option_map (saved name) (txn_at (txns_at c (home t)) t)
+  pub number : mark_at table t name ≡ Some (depth_at (txns_at c (home t)) t)
+  pub others : OthersStay (txns_at c (home t)) table t
+  pub order : SameOrder (txns_at c (home t)) table
+
+pub save-good : (t : TxnId) (name : List ℕ) (table : Transactions) (seen : rig.Image) (leaves : Outcomes) (c : Parts) (m : State)
+    → Good seen leaves Pending.Idle c m → IsMarked t name table c → state_at (txns_at c (home t)) t ≡ Some TxnState.Running
+    → Good seen leaves Pending.Idle (with_txns (home t) table c) (marked t name m)
+save-good t name table seen leaves c m g d state =
+    let i : ℕ = home t in
+    let log = log_at c i in
+    let place = up-there c g.shape.statuses i d.up in
+    let names = (g.instances i place.0 place.1).names t refl in
+    let runs : (m.part t).life ≡ Life.Running = running-there _ _ _ _ state names in
+    let alive : IsOpen t (all_at log) = g.going t place.0 place.1 (running-goes t (m.part t) runs) in
+    let it = known-row _ _ _ _ (λ e. let f = sym runs ∙ e in absurd (cc)) names in
+    let x : Transaction = it.0 in
+    let l : IsLogged x t (all_at log) = ⊎_elim (λ l. l) (λ s. absurd (s.ended alive))
+    (subst (λ (o : Option Transaction). RowIsLogged o t (all_at log)) it.1
+    ((g.told i place.0 place.1 (ap tells_log d.up) (working-settled seen leaves Pending.Idle c m i g d.idle place.0 d.up)).rows t refl)) in
+    let so : x.state ≡ TxnState.Running = let e = sym (ap (option_map (λ (y : Transaction). y.state)) it.1) ∙ state in the-state _ _ e in
+    let here : txns.mark_of name (saved name x) ≡ Some (length x.stack) =
+    sym (ap (option_and_then (txns.mark_of name)) (d.changed ∙ ap (option_map (saved name)) it.1)) ∙ d.number
+    ∙ ap (λ (o : Option Transaction). Some (option_map_or txns.depth o 0)) it.1 in
+    let many = λ (lively : IsLive x t (m.part t) (all_at log)). as-many x t (m.part t) (all_at log) l lively in
+    turns-good t x x.state (txns.with_mark name (length x.stack) x.marks) (m.part t).life
+    (with_mark name (length (live (m.part t).acts)) (m.part t).marks) table seen leaves c m g (record {
+      low = place.0;
+      high = place.1;
+      idle = d.idle;
+      up = d.up;
+      once = d.once;
+      row = record { was = it.1; now = d.changed ∙ ap (option_map (saved name)) it.1; others = d.others; order = d.order };
+      stands = λ f w. subst (λ (s : TxnState). StandsAs s (m.part t).life f w) (sym so) runs;
+      there = λ e. let f = sym runs ∙ e in absurd (cc);
+      before = ap is_doubt runs;
+      after = ap is_doubt runs;
+      goes = λ _. alive;
+      same_marks = λ lively name'. subst (λ (n : ℕ). txns.mark_of name' (saved name x) ≡ mark_of name' (with_mark name n (m.part t).marks))
+          (many lively) (same-marks name (length x.stack) x.marks (m.part t).marks lively.marks here name');
+      named = once-marked name (length (live (m.part t).acts)) (m.part t).marks (g.named t);
+      lasts = step-lasts m (Save t name) Did (marked t name m) (
+        (
+          g.not_closed,
+          (
+            (λ e. let f = sym runs ∙ e in absurd (cc)),
+            (
+              (λ no. no (sym (g.instances i place.0 place.1).status ∙ d.up)),
+              ((λ rolls. let f = sym runs ∙ rolls.1 in absurd (cc)), tt),
+            ),
+          ),
+        ),
+        (runs, refl),
+      )
+          (lasts-there seen leaves Pending.Idle c m g);
+    })
+  where
+    the-state : (a b : TxnState) → Some a ≡ Some b → a ≡ b
+    the-state a b e = cc

@@ -101,6 +101,7 @@ pub record IsUndone (a : ℕ) (t : TxnId) (x : Transaction) (o : OpenRec) (image
   pub row : Replaces (txns_at c (home t)) table t x (noted (lsn_for t image c) (popped x))
   pub page : buffers.image_at pool o.rid.page ≡ Some (redo image (flat (clr_at t x o image c)))
   pub other_pages : (q : ℕ) → q ≢ o.rid.page → buffers.image_at pool q ≡ buffers.image_at (pool_at c a) q
+  pub frames : pool.frames ≡ (pool_at c a).frames
   pub entry : entry_at places o.rid.page ≡ dirtied a
   pub rec_lsn : rec_lsn_at places o.rid.page
       ≡ kept_rec (changed (entry_at c.directory o.rid.page)) true (rec_lsn_at c.directory o.rid.page) (Some (lsn_for t image c))

@@ -120,6 +120,7 @@ pub(crate) fn take_back(
         → image_at pool.new o.rid.page ≡ Some (redo image (flat result)) }
     ensures others { (o : OpenRec) → top_at table.old t.now ≡ Some o
         → (q : ℕ) → q ≢ o.rid.page → image_at pool.new q ≡ image_at pool.old q }
+    ensures frames { pool.new.frames ≡ pool.old.frames }
 {
     let last = take_top(table, t, lsn);
     put_before(last, prev, t, lsn, pool)
@@ -145,6 +146,7 @@ fn put_before(last: OpenRec, prev: Lsn, t: &TxnId, lsn: Lsn, pool: &mut Pool) ->
     ensures page { (image : Page) → image_at pool.old last.rid.page ≡ Some image
         → image_at pool.new last.rid.page ≡ Some (redo image (flat result)) }
     ensures others { (q : ℕ) → q ≢ last.rid.page → image_at pool.new q ≡ image_at pool.old q }
+    ensures frames { pool.new.frames ≡ pool.old.frames }
 {
     let rid = last.rid;
     let undo_next = last.prev;
@@ -171,6 +173,7 @@ fn rewrite(pool: &mut Pool, page: PageNo, op: &Op, lsn: Lsn)
         × CanTake image.slots op.now.slot op.now.capacity (size op.now.after)) }
     ensures page { (image : Page) → image_at pool.old page ≡ Some image → image_at pool.new page ≡ Some (applied op.now lsn image) }
     ensures others { (q : ℕ) → q ≢ page → image_at pool.new q ≡ image_at pool.old q }
+    ensures frames { pool.new.frames ≡ pool.old.frames }
 {
     sd_pool::laws::rewritten();
     pool.get(page).unwrap().apply(op, lsn).unwrap();

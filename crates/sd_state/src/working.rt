@@ -1,4 +1,4 @@
-//! Transactions at work: they begin, take locks, roll back and run again. No device is called, and no log grows.
+//! Transactions at work: they begin, take locks, set marks, roll back and run again. No device is called, and no log grows.
 
 ghost use Rattle.std.specs.Prelude.{cond, ◌&&◌, ◌≡◌, ◌↔◌, ◌<◌, ◌≤◌, ◌⊎◌, ℕ, List, [], length, Err, option_map, IfErr, IfOk, None, OnErr, OnOk, Option, Some};
 ghost use Rattle.sd_base.specs.Ids.{same_rid, same_txn};
@@ -7,6 +7,7 @@ ghost use Rattle.sd_base.specs.declared.ids.Rid.{Rid};
 ghost use Rattle.sd_base.specs.declared.ids.TxnId.{TxnId};
 ghost use Rattle.sd_base.specs.declared.place.Status.TheVariants as S;
 ghost use Rattle.sd_base.specs.declared.refusal.Refusal.TheVariants as R;
+ghost use Rattle.sd_model.specs.Changes.{marked};
 ghost use Rattle.sd_model.specs.State.{State, began, took, turned};
 ghost use Rattle.sd_model.specs.declared.act.Life.{Life};
 ghost use Rattle.std.specs.List.{IsDistinct};
@@ -18,11 +19,11 @@ ghost use Rattle.sd_state.specs.Good.{Good};
 ghost use Rattle.sd_state.specs.Parts.{epoch_at, status_at, txns_at, IsShape};
 ghost use Rattle.sd_state.specs.Values.{Pending};
 ghost use Rattle.sd_state.specs.Working.{with_locks, with_txns, with_working};
-ghost use Rattle.sd_txn.specs.Transactions.{begins_in, depth_at, ids, mark_at, started, state_at, txn_at, with_state, IsUnresolved, OthersStay, SameOrder};
+ghost use Rattle.sd_txn.specs.Transactions.{begins_in, depth_at, ids, mark_at, saved, started, state_at, txn_at, with_state, IsUnresolved, OthersStay, SameOrder};
 ghost use Rattle.sd_txn.specs.declared.state.TxnState.TheVariants.{Rolling, Running};
 
 use crate::complex::Complex;
-use sd_base::{InstNo, Memory, Mode, Refusal, Rid, TxnId};
+use sd_base::{InstNo, Memory, Mode, Refusal, Rid, TxnId, Word};
 use sd_rig::Rig;
 use sd_txn::TxnState;
 
@@ -85,6 +86,27 @@ impl<G: Rig> Complex<G> {
         ensures rig { self.new.rig ≡ self.old.rig }
     {
         self.locks.grant(t, r, mode)
+    }
+
+    /// A transaction that runs gets a mark of this name where it stands: at the number of its open records. One of the name that it
+    /// has moves there. After `Memory` nothing has changed.
+    pub fn save(&mut self, t: &TxnId, mark: Word) -> Result<(), Memory>
+        requires good { (m : State) × Good (G.seen self.old.rig) (G.leaves self.old.rig) Pending.Idle (parts self.old) m }
+        requires idle { (parts self.old).due ≡ None }
+        requires up { status_at (parts self.old) t.now.inst ≡ S.Up }
+        requires runs { state_at (txns_at (parts self.old) t.now.inst) t.now ≡ Some Running }
+
+        ensures good { OnOk result ((m : State) → Good (G.seen self.old.rig) (G.leaves self.old.rig) Pending.Idle (parts self.old) m
+            → Good (G.seen self.new.rig) (G.leaves self.new.rig) Pending.Idle (parts self.new) (marked t.now mark m)) }
+        ensures parts { parts self.new ≡ with_txns t.now.inst (txns_at (parts self.new) t.now.inst) (parts self.old) }
+        ensures row { OnOk result (txn_at (txns_at (parts self.new) t.now.inst) t.now
+            ≡ option_map (saved mark) (txn_at (txns_at (parts self.old) t.now.inst) t.now)) }
+        ensures others { OthersStay (txns_at (parts self.old) t.now.inst) (txns_at (parts self.new) t.now.inst) t.now }
+        ensures order { SameOrder (txns_at (parts self.old) t.now.inst) (txns_at (parts self.new) t.now.inst) }
+        ensures err { OnErr result (parts self.new ≡ parts self.old) }
+        ensures rig { self.new.rig ≡ self.old.rig }
+    {
+        self.set_mark(t, mark)
     }
 
     /// A transaction that runs or rolls back rolls back wholly from now on. It takes no memory.
@@ -168,5 +190,25 @@ impl<G: Rig> Complex<G> {
         let at = t.inst.get() as usize - 1;
         self.txns[at].keeps();
         self.txns[at].set(t, state);
+    }
+
+    // The transaction has a mark where it stands. `Memory` changes nothing.
+    fn set_mark(&mut self, t: &TxnId, mark: Word) -> Result<(), Memory>
+        requires shape { IsShape (parts self.old) }
+        requires known { IsUnresolved (txns_at (parts self.old) t.now.inst) t.now }
+        ensures parts { parts self.new ≡ with_txns t.now.inst (txns_at (parts self.new) t.now.inst) (parts self.old) }
+        ensures once { IsDistinct same_txn (ids (txns_at (parts self.old) t.now.inst)) }
+        ensures row { OnOk result (txn_at (txns_at (parts self.new) t.now.inst) t.now
+            ≡ option_map (saved mark) (txn_at (txns_at (parts self.old) t.now.inst) t.now)) }
+        ensures number { OnOk result (mark_at (txns_at (parts self.new) t.now.inst) t.now mark
+            ≡ Some (depth_at (txns_at (parts self.old) t.now.inst) t.now)) }
+        ensures stays { OnErr result (txn_at (txns_at (parts self.new) t.now.inst) t.now ≡ txn_at (txns_at (parts self.old) t.now.inst) t.now) }
+        ensures others { OthersStay (txns_at (parts self.old) t.now.inst) (txns_at (parts self.new) t.now.inst) t.now }
+        ensures order { SameOrder (txns_at (parts self.old) t.now.inst) (txns_at (parts self.new) t.now.inst) }
+        ensures rig { self.new.rig ≡ self.old.rig }
+    {
+        let at = t.inst.get() as usize - 1;
+        self.txns[at].keeps();
+        self.txns[at].save(t, mark)
     }
 }

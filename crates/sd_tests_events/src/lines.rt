@@ -3,7 +3,9 @@
 ghost use Rattle.std.specs.Prelude.{IfOk, IfSome};
 ghost use Rattle.sd_hall.specs.Served.{IsServed};
 
-use sd_base::{Bytes, InstNo, InstSet, Memory, Mode, PageNo, Place, Refusal, Rid, Status, TxnId};
+use sd_base::{
+    Bytes, InstNo, InstSet, Memory, Mode, PageNo, Place, Refusal, Rid, Status, TxnId, Word,
+};
 use sd_model::{Event, Reply};
 use std::alloc::Global;
 
@@ -41,6 +43,13 @@ pub enum Ask {
     /// A value into the page, in a slot of this capacity in bytes.
     Insert(u16, &'static [u8], u16),
     Delete(u16),
+    /// A mark of this name is set.
+    Save(&'static [u8]),
+    /// It begins to roll back to the mark.
+    Back(&'static [u8]),
+    /// It begins to roll back wholly.
+    Rollback,
+    Undo,
     Commit,
     List(u16),
     Show(u16),
@@ -48,6 +57,8 @@ pub enum Ask {
     Alone(u16),
     /// The page is asked for, to be read.
     Share(u16),
+    Give(u16),
+    Take(u16),
     Evict(u16),
     Flush(u16),
     Force,
@@ -67,6 +78,9 @@ pub enum Say {
     Rows(&'static [Row]),
     Have,
     Asked(Who),
+    Gave(Who),
+    Step,
+    Finished,
     Joined(u32),
     /// Where the page is, and the LSN of its newest version.
     Shown(Spot, u64),
@@ -83,6 +97,12 @@ pub enum Spot {
     Clean(Who),
     /// The same, and not as on disk.
     Changed(Who),
+    /// In both pools, to be read; this one is its writer.
+    Both(Who),
+    /// On its way to this instance.
+    Moving(Who),
+    /// Its changes aren't in any pool.
+    Lost,
 }
 
 /// Why it is refused.
@@ -97,6 +117,10 @@ pub enum Why {
     /// The first waits for the second, and that for the first.
     Deadlock(Who, Who),
     NeedPage(Spot),
+    Lost,
+    MovingTo(Who),
+    NotAsked,
+    NoSavepoint,
     Down,
     Busy(Who),
     Dirty,
@@ -120,6 +144,9 @@ pub fn event(alloc: Global, who: Who, ask: Ask) -> Result<Option<Event>, Memory>
     match ask {
         Ask::Write(slot, bytes) => Ok(written(who, slot, text(alloc, bytes)?)),
         Ask::Insert(p, bytes, capacity) => Ok(inserted(who, p, text(alloc, bytes)?, capacity)),
+        Ask::Save(name) => Ok(saved(who, text(alloc, name)?)),
+        Ask::Back(name) => Ok(back(who, Some(text(alloc, name)?))),
+        Ask::Rollback => Ok(back(who, None)),
         _ => Ok(call(who, ask)),
     }
 }
@@ -154,6 +181,22 @@ fn inserted(who: Who, p: u16, value: Bytes, capacity: u16) -> Option<Event>
     })
 }
 
+// The event of a mark that is set.
+fn saved(who: Who, mark: Word) -> Option<Event>
+    ensures { IfSome result (λ e. IsServed e) }
+{
+    let txn = txn(who)?;
+    Some(Event::Save { txn, mark })
+}
+
+// The event that begins a rollback.
+fn back(who: Who, mark: Option<Word>) -> Option<Event>
+    ensures { IfSome result (λ e. IsServed e) }
+{
+    let txn = txn(who)?;
+    Some(Event::Back { txn, mark })
+}
+
 // The event of a call that carries no text.
 fn call(who: Who, ask: Ask) -> Option<Event>
     ensures { IfSome result (λ e. IsServed e) }
@@ -174,6 +217,7 @@ fn call(who: Who, ask: Ask) -> Option<Event>
             txn,
             rid: Rid { page, slot },
         }),
+        Ask::Undo => Some(Event::Undo { txn }),
         Ask::Commit => Some(Event::Commit { txn }),
         other => deed(txn.inst, other),
     }
@@ -189,6 +233,14 @@ fn deed(inst: InstNo, ask: Ask) -> Option<Event>
         Ask::Fail => Some(Event::Fail { inst }),
         Ask::Join => Some(Event::Join { inst }),
         Ask::List(p) => Some(Event::List {
+            inst,
+            page: PageNo::new(p)?,
+        }),
+        Ask::Give(p) => Some(Event::Give {
+            inst,
+            page: PageNo::new(p)?,
+        }),
+        Ask::Take(p) => Some(Event::Take {
             inst,
             page: PageNo::new(p)?,
         }),
@@ -228,6 +280,9 @@ pub fn is_said(reply: &Reply, say: Say) -> bool {
         (Reply::Rows(rows), Say::Rows(said)) => are_rows(rows.items(), said),
         (Reply::Have, Say::Have) => true,
         (Reply::Asked { of }, Say::Asked(who)) => of.get() == who.0,
+        (Reply::Gave { to }, Say::Gave(who)) => to.get() == who.0,
+        (Reply::Step, Say::Step) => true,
+        (Reply::Finished, Say::Finished) => true,
         (Reply::Joined { epoch }, Say::Joined(number)) => *epoch == number,
         (Reply::Shown { place, lsn }, Say::Shown(spot, number)) => is_spot(place, spot)
             && *lsn == number,
@@ -256,6 +311,15 @@ fn is_spot(place: &Place, spot: Spot) -> bool {
     match (place, spot) {
         (Place::Free, Spot::Free) => true,
         (Place::Shared { set, writer: None }, Spot::Shared(who)) => is_alone(*set, who),
+        (
+            Place::Shared {
+                set,
+                writer: Some(writer),
+            },
+            Spot::Both(who),
+        ) => { writer.get() == who.0 && !is_alone(*set, who) }
+        (Place::Moving { to, .. }, Spot::Moving(who)) => to.get() == who.0,
+        (Place::Lost, Spot::Lost) => true,
         (Place::Excl { holder, dirty }, Spot::Clean(who)) => holder.get() == who.0 && !*dirty,
         (Place::Excl { holder, dirty }, Spot::Changed(who)) => holder.get() == who.0 && *dirty,
         _ => false,
@@ -280,6 +344,10 @@ fn is_why(refusal: &Refusal, why: Why) -> bool {
         (Refusal::PoolFull, Why::PoolFull) => true,
         (Refusal::Down, Why::Down) => true,
         (Refusal::Dirty, Why::Dirty) => true,
+        (Refusal::Lost, Why::Lost) => true,
+        (Refusal::NotAsked, Why::NotAsked) => true,
+        (Refusal::NoSavepoint, Why::NoSavepoint) => true,
+        (Refusal::MovingTo { to }, Why::MovingTo(who)) => to.get() == who.0,
         (Refusal::NoTxn, Why::NoTxn) => true,
         (Refusal::Blocked { by }, Why::Blocked(who)) => is_txn(by, who),
         (Refusal::Busy { by }, Why::Busy(who)) => is_txn(by, who),

@@ -4,14 +4,16 @@ ghost use Rattle.std.specs.Prelude.{◌≤◌};
 ghost use Rattle.sd_state.specs.Fresh.{AreBlank};
 
 use crate::lines::Ask::{
-    Add, Alone, Begin, Commit, Delete, Evict, Fail as Falls, Flush, Force, Insert, Join, List,
-    Read, Share, Show, Write,
+    Add, Alone, Back, Begin, Commit, Delete, Evict, Fail as Falls, Flush, Force, Give, Insert,
+    Join, List, Read, Rollback, Save, Share, Show, Take, Undo, Write,
 };
-use crate::lines::Say::{Absent, Asked, At, Began, Did, Have, Joined, No, Rows, Shown, Value};
-use crate::lines::Spot::{Changed, Clean, Free, Shared};
+use crate::lines::Say::{
+    Absent, Asked, At, Began, Did, Finished, Gave, Have, Joined, No, Rows, Shown, Step, Value,
+};
+use crate::lines::Spot::{Both, Changed, Clean, Free, Lost, Moving, Shared};
 use crate::lines::Why::{
-    Blocked, Busy, Deadlock, Dirty, Down, NeedPage, NoRecord, NoTxn, NotNumber, NotRecovered,
-    PageFull, PoolFull, TooLong, Up,
+    Blocked, Busy, Deadlock, Dirty, Down, MovingTo, NeedPage, NoRecord, NoSavepoint, NoTxn,
+    NotAsked, NotNumber, NotRecovered, PageFull, PoolFull, TooLong, Up,
 };
 use crate::lines::{FAR, FIRST, LAST, Line, NEXT, ONE, TWO, event, is_said};
 use sd_hall::Hall;
@@ -202,6 +204,81 @@ static UNCOMMITTED: &[Line] = &[
     (TWO, Share(0), Asked(ONE)),
 ];
 
+/// Marks, rollbacks to them and whole ones.
+static MARKS: &[Line] = &[
+    (ONE, Join, Joined(1)),
+    (ONE, Begin, Began(FIRST)),
+    (ONE, Begin, Began(NEXT)),
+    (ONE, Alone(0), Have),
+    (FIRST, Back(b"low"), No(NoSavepoint)),
+    (FIRST, Insert(0, b"red", 4), At(0)),
+    (FIRST, Save(b"low"), Did),
+    (FIRST, Write(0, b"blue"), Did),
+    (FIRST, Save(b"high"), Did),
+    (FIRST, Delete(0), Did),
+    (FIRST, Undo, Finished),
+    (NEXT, Read(0), No(Blocked(FIRST))),
+    (FIRST, Back(b"low"), Did),
+    (FIRST, Back(b"high"), No(Busy(FIRST))),
+    (FIRST, Save(b"top"), No(Busy(FIRST))),
+    (FIRST, Commit, No(Busy(FIRST))),
+    (FIRST, Undo, Step),
+    (FIRST, Undo, Step),
+    (FIRST, Undo, Finished),
+    // A mark above the one that it went back to is no more; that one is, at the same place.
+    (FIRST, Back(b"high"), No(NoSavepoint)),
+    (FIRST, Back(b"low"), Did),
+    (FIRST, Undo, Finished),
+    (FIRST, Read(0), Value(b"red")),
+    // The join, the insert, two changes and two undos.
+    (ONE, Show(0), Shown(Changed(ONE), 6)),
+    (FIRST, Rollback, Did),
+    (FIRST, Rollback, Did),
+    (FIRST, Undo, Step),
+    (NEXT, Read(0), No(Blocked(FIRST))),
+    (FIRST, Undo, Finished),
+    (FIRST, Undo, No(NoTxn)),
+    (NEXT, Read(0), Absent),
+    (NEXT, Rollback, Did),
+    (NEXT, Undo, Finished),
+    (ONE, List(0), Rows(&[])),
+];
+
+/// A page that passes between two pools, and is lost with the one that changed it last.
+static TRANSFERS: &[Line] = &[
+    (ONE, Join, Joined(1)),
+    (TWO, Join, Joined(1)),
+    (ONE, Begin, Began(FIRST)),
+    (TWO, Begin, Began(FAR)),
+    (ONE, Give(0), No(NeedPage(Free))),
+    (ONE, Alone(0), Have),
+    (ONE, Give(0), No(NotAsked)),
+    (FIRST, Insert(0, b"red", 3), At(0)),
+    (FIRST, Commit, Did),
+    (TWO, Share(0), Asked(ONE)),
+    (ONE, Give(0), Gave(TWO)),
+    (ONE, Show(0), Shown(Moving(TWO), 2)),
+    (ONE, Give(0), No(MovingTo(TWO))),
+    (ONE, Take(0), No(NeedPage(Moving(TWO)))),
+    (TWO, Take(0), Did),
+    (ONE, Show(0), Shown(Both(ONE), 2)),
+    (FAR, Read(0), Value(b"red")),
+    (TWO, Alone(0), Asked(ONE)),
+    // Its copy goes, and the other has the page alone.
+    (ONE, Give(0), Gave(TWO)),
+    (ONE, Show(0), Shown(Changed(TWO), 2)),
+    (FAR, Write(0, b"tan"), Did),
+    (ONE, Alone(0), Asked(TWO)),
+    (TWO, Give(0), Gave(ONE)),
+    (ONE, Show(0), Shown(Moving(ONE), 3)),
+    (ONE, Take(0), Did),
+    (TWO, Falls, Did),
+    // What the one that fell had changed is in the other's pool.
+    (ONE, Show(0), Shown(Changed(ONE), 3)),
+    (ONE, Falls, Did),
+    (ONE, Show(0), Shown(Lost, 0)),
+];
+
 // The number of lines that are answered as they say, up to one that isn't, in a hall of two instances over these devices, with so
 // many frames in each pool.
 fn agreeing<G: Rig + Drop>(
@@ -279,6 +356,18 @@ fn a_page_goes_to_disk_and_comes_back(rt: HostRuntime) -> Result<(), Fail> {
 #[test]
 fn a_page_fills_to_its_last_byte(rt: HostRuntime) -> Result<(), Fail> {
     assert_eq!(rt; agreed(rt.alloc(), 2, FULL)?, FULL.len());
+    Ok(())
+}
+
+#[test]
+fn what_is_rolled_back_is_as_it_was(rt: HostRuntime) -> Result<(), Fail> {
+    assert_eq!(rt; agreed(rt.alloc(), 2, MARKS)?, MARKS.len());
+    Ok(())
+}
+
+#[test]
+fn a_page_passes_between_pools(rt: HostRuntime) -> Result<(), Fail> {
+    assert_eq!(rt; agreed(rt.alloc(), 2, TRANSFERS)?, TRANSFERS.len());
     Ok(())
 }
 

@@ -44,19 +44,35 @@ fn a_page_passes_on_and_is_lost(rt: HostRuntime) -> Result<(), Fail> {
         (Place::Lost, None, false, Some(5)),
     ];
     for (place, rec, moves, rec_lsn) in places {
-        directory.ask(two, p, Mode::Excl)?;
+        directory.ask(two, p, Mode::Excl, 0)?;
         assert_eq!(rt; moved(&mut directory, p, &place, rec), moves);
         assert_eq!(rt; directory.rec_lsn(p), rec_lsn);
     }
-    directory.ask(one, p, Mode::Shared)?;
+    directory.ask(one, p, Mode::Shared, 0)?;
     assert_eq!(rt; directory.oldest_ask(p, two), Some((one, Mode::Shared)));
     assert_eq!(rt; directory.first_for(two), Some(p));
     directory.send(p, 40);
     assert_eq!(rt; directory.under_way(p), Some(&40));
-    assert_eq!(rt; directory.arrive(p), Some(40));
+    assert_eq!(rt; directory.arrive(p, 0), Some(40));
     directory.forget(one);
     assert_eq!(rt; directory.oldest_ask(p, two), None);
     directory.fall(two);
     assert_eq!(rt; directory.first_lost(), Some(p));
+    Ok(())
+}
+
+#[test]
+fn a_copy_sets_out_in_the_room_of_an_ask(rt: HostRuntime) -> Result<(), Fail> {
+    let (Some(one), Some(p)) = (InstNo::new(1), PageNo::new(7)) else {
+        return Err("names")?;
+    };
+    let mut directory: Directory<Box<u32>> = Directory::new(rt.alloc())?;
+    directory.ask(one, p, Mode::Shared, Box::new(rt.alloc(), 0)?)?;
+    directory.send_copy(p, &40);
+    let room = Box::new(rt.alloc(), 0)?;
+    let Some(image) = directory.arrive(p, room) else {
+        return Err("no image")?;
+    };
+    assert_eq!(rt; *image, 40);
     Ok(())
 }

@@ -1,7 +1,8 @@
 //! A report by hand: each form with its replies, and the text of each refusal.
 
 use crate::entries::Say::{
-    Absent, Asked, At, Began, Did, Have, Joined, No, Rows as Listed, Shown, Value,
+    Absent, Asked, At, Began, Did, Finished, Gave, Have, Joined, No, Rows as Listed, Shown,
+    Step as Undone, Value,
 };
 use crate::entries::Spot::{Excl, Free, Lost as Nowhere, Moving, Shared};
 use crate::entries::Why::{
@@ -34,8 +35,12 @@ const FIVE: Who = Who(5, 0, 0);
 const EIGHT: Who = Who(8, 0, 0);
 
 /// What is done.
-static REPLIES: [Told; 26] = [
-    (b"complex 1 2 1\n", &[Help(Joined(1))], b"complex 1 2 1\n"),
+static REPLIES: [Told; 29] = [
+    (
+        b"complex 8 2 1\n",
+        &[Help(Joined(1)), Help(Joined(1))],
+        b"complex 8 2 1\n",
+    ),
     (b"1 begin a\n", &[Own(Began(MAKER))], b"a begin 1.1.1\n"),
     (
         b"insert a 0 red 5\n",
@@ -55,9 +60,12 @@ static REPLIES: [Told; 26] = [
     (b"commit a\n", &[Own(Did)], b"a commit\n"),
     (b"1 ask 1 s\n", &[Own(Have)], b"1 have 1\n"),
     (b"1 ask 1 x\n", &[Own(Asked(TWO))], b"1 asked 1 of 2\n"),
+    (b"1 give 1\n", &[Own(Gave(TWO))], b"1 gave 1 to 2\n"),
+    (b"2 take 1\n", &[Own(Did)], b"2 took 1\n"),
     (b"1 evict 1\n", &[Own(Did)], b"1 evicted 1\n"),
     (b"1 flush 0\n", &[Own(Did)], b"1 flushed 0\n"),
     (b"1 force\n", &[Own(Did)], b"1 forced\n"),
+    (b"fail 8\n", &[Own(Did)], b"fail 8\n"),
     (b"where 1\n", &[Own(Shown(Free, 0))], b"1 free\n"),
     (
         b"where 1\n",
@@ -113,7 +121,7 @@ static REPLIES: [Told; 26] = [
 ];
 
 /// What is refused, behind the lines of the other table.
-static REFUSALS: [Told; 35] = [
+static REFUSALS: [Told; 38] = [
     (b"commit a\n", &[Own(No(NoTxn))], b"a ended\n"),
     (b"1 begin b\n", &[Own(No(TooManyTxns))], b"b too many\n"),
     (b"read b 0.0\n", &[], b"b ended\n"),
@@ -162,9 +170,12 @@ static REFUSALS: [Told; 35] = [
         b"1 moving 1 to 5\n",
     ),
     (b"1 evict 1\n", &[Own(No(Dirty))], b"1 dirty 1\n"),
-    (b"1 evict 1\n", &[Own(No(NotAsked))], b"1 not asked 1\n"),
+    (b"1 give 1\n", &[Own(No(NotAsked))], b"1 not asked 1\n"),
+    (b"1 give 1\n", &[Own(No(NeedPage))], b"1 need 1\n"),
+    (b"2 take 1\n", &[Own(No(PoolFull))], b"2 pool full\n"),
     (b"1 flush 1\n", &[Own(No(NeedPage))], b"1 need 1\n"),
     (b"1 flush 1\n", &[Own(No(NoCheck))], b"1 no check\n"),
+    (b"fail 8\n", &[Own(No(Down))], b"fail 8 down\n"),
     (b"1 force\n", &[Own(No(Up))], b"1 not down\n"),
     (b"1 force\n", &[Own(No(NotRecovered))], b"1 not recovered\n"),
     (
@@ -185,6 +196,62 @@ static REFUSALS: [Told; 35] = [
         &[Own(Listed(&[])), Own(No(Lost)), Help(Have)],
         b"lost 0\n",
     ),
+];
+
+/// Two transactions side by side: each waits for the other, one rolls back, and one can't.
+static SIDE_BY_SIDE: [Told; 17] = [
+    (b"complex 1 2 2\n", &[Help(Joined(1))], b"complex 1 2 2\n"),
+    (b"1 begin a\n", &[Own(Began(MAKER))], b"a begin 1.1.1\n"),
+    (b"1 begin b\n", &[Own(Began(NEAR))], b"b begin 1.1.2\n"),
+    (b"save a s\n", &[Own(Did)], b"a save s\n"),
+    (b"write a 0.0 x1\n", &[Own(Did)], b"a write 0.0\n"),
+    (b"write b 0.1 y1\n", &[Own(Did)], b"b write 0.1\n"),
+    (
+        b"write b 0.0 x2\n",
+        &[Own(No(Blocked(MAKER)))],
+        b"b wait for a\n",
+    ),
+    (
+        b"write a 0.1 y2\n",
+        &[Own(No(Blocked(NEAR)))],
+        b"a wait for b\n",
+    ),
+    (
+        b"write a 0.1 y2\n",
+        &[Own(No(Deadlock(MAKER, NEAR)))],
+        b"a deadlock a b\n",
+    ),
+    (b"table\n", &[Own(No(Busy(MAKER)))], b"busy a\n"),
+    (b"back a t\n", &[Own(No(NoSavepoint))], b"a no savepoint\n"),
+    (
+        b"back a s\n",
+        &[Own(Did), Own(Undone), Own(Finished)],
+        b"a back s\n",
+    ),
+    (b"back a s\n", &[Own(Did), Own(Finished)], b"a back s\n"),
+    (
+        b"rollback a\n",
+        &[
+            Own(Did),
+            Own(No(NeedPage)),
+            Help(Have),
+            Own(Undone),
+            Own(Finished),
+        ],
+        b"a rollback\n",
+    ),
+    (b"save a s\n", &[Own(No(NoTxn))], b"a ended\n"),
+    (
+        b"rollback b\n",
+        &[
+            Own(Did),
+            Own(No(NeedPage)),
+            Help(No(Failed)),
+            Own(No(NeedPage)),
+        ],
+        b"b fault\n",
+    ),
+    (b"commit b\n", &[Own(No(Busy(NEAR)))], b"b busy b\n"),
 ];
 
 // An event of the line, all the same of which transaction.
@@ -211,6 +278,11 @@ fn asked(rt: &(impl Abort + AllocGlobal), form: &Form) -> Result<Event, Memory> 
             capacity: 5,
         },
         Form::Delete { rid, .. } => Event::Delete { txn, rid: *rid },
+        Form::Save { mark, .. } => Event::Save {
+            txn,
+            mark: mark.copy()?,
+        },
+        Form::Back { .. } | Form::Rollback { .. } => Event::Undo { txn },
         Form::Commit { .. } => Event::Commit { txn },
         other => page_event(rt, other),
     })
@@ -224,6 +296,14 @@ fn page_event(rt: &impl Abort, form: &Form) -> Event {
             page: *page,
             mode: *mode,
         },
+        Form::Give { inst, page } => Event::Give {
+            inst: *inst,
+            page: *page,
+        },
+        Form::Take { inst, page } => Event::Take {
+            inst: *inst,
+            page: *page,
+        },
         Form::Evict { inst, page } => Event::Evict {
             inst: *inst,
             page: *page,
@@ -233,6 +313,7 @@ fn page_event(rt: &impl Abort, form: &Form) -> Event {
             page: *page,
         },
         Form::Force { inst } => Event::Force { inst: *inst },
+        Form::Fail { inst } => Event::Fail { inst: *inst },
         Form::Where { page } => Event::Show { page: *page },
         _ => Event::List {
             inst: txn(rt, ONE).inst,
@@ -263,24 +344,34 @@ fn note(
     Ok(())
 }
 
-#[test]
-fn each_line_is_reported(rt: HostRuntime) -> Result<(), Fail> {
+// Whether each line of the tables, one after another, is reported so.
+fn tells(rt: &(impl Abort + AllocGlobal), first: &[Told], rest: &[Told]) -> Result<(), Fail> {
     let mut text = Vec::new(rt.alloc());
     let mut due = Vec::new(rt.alloc());
-    for (line, _, reported) in REPLIES.iter().chain(&REFUSALS) {
+    for (line, _, reported) in first.iter().chain(rest) {
         text.extend_from_slice(line)?;
         due.extend_from_slice(reported)?;
     }
     let script = Script::read(rt.alloc(), &text, Kind::Replay)?;
     let lines = script.lines();
     let mut entries = Vec::new(rt.alloc());
-    for (line, (_, steps, _)) in lines.iter().zip(REPLIES.iter().chain(&REFUSALS)) {
-        note(&rt, &mut entries, line, steps)?;
+    for (line, (_, steps, _)) in lines.iter().zip(first.iter().chain(rest)) {
+        note(rt, &mut entries, line, steps)?;
     }
     assert!(rt; in_order(lines, &entries));
     let report = render(rt.alloc(), lines, &entries)?;
     assert_eq!(rt; report.as_slice(), due.as_slice());
     Ok(())
+}
+
+#[test]
+fn each_line_is_reported(rt: HostRuntime) -> Result<(), Fail> {
+    tells(&rt, &REPLIES, &REFUSALS)
+}
+
+#[test]
+fn transactions_side_by_side_are_reported_by_their_names(rt: HostRuntime) -> Result<(), Fail> {
+    tells(&rt, &SIDE_BY_SIDE, &[])
 }
 
 #[test]

@@ -1,7 +1,6 @@
 -- An ask serves its event: for the goals of asking.rt.
-use Rattle.std.proofs.Common.{◌≡◌, ◌⊎◌, ⊎_elim, ℕ, ◌-◌, ◌≤◌, true, false, cond, List, refl, sym, ap, ◌∙◌, subst, slice_set}
+use Rattle.std.proofs.Common.{◌≡◌, ◌⊎◌, ⊎_elim, ℕ, ◌-◌, ◌≤◌, Bool, true, false, cond, List, refl, sym, ap, ◌∙◌, subst, slice_set}
 use Rattle.std.specs.Prelude.{Option, None, Some}
-use Rattle.std.proofs.lemmas.Bool.{cases_eq}
 use Rattle.sd_base.specs.Streams.{Rises}
 use Rattle.sd_base.specs.declared.place.Mode.{Mode}
 use Rattle.sd_base.specs.declared.refusal.Refusal.{Refusal}
@@ -33,7 +32,8 @@ use Rattle.sd_state.specs.declared.complex.Complex.{Complex}
 use Rattle.sd_fits.specs.Fits.{Fits}
 use Rattle.sd_fits.specs.Serving.{Serving, fits_by, stands_for}
 use Rattle.sd_fits.proofs.Frames.{frames-held, frames-left}
-use Rattle.sd_fits.proofs.Places.{asked-pages, frames-kept, kept-pages, moved-fits, placed-pages, read-fits, read-serves}
+use Rattle.sd_fits.proofs.Passing.{kept-spared}
+use Rattle.sd_fits.proofs.Places.{asked-pages, frames-kept, moved-fits, placed-pages, read-fits, read-serves}
 use Rattle.sd_fits.proofs.Places.{read-spares, repaged}
 use Rattle.sd_fits.proofs.Served.{bounds-stay, nothing-fits, passed, still-serves}
 use Rattle.sd_moves.specs.Places.{IsAsked, with_directory}
@@ -61,8 +61,9 @@ unchanged-here tell d = record {
   past = λ t img. ((λ s. s), (λ s. s));
 }
 
-not-copied : (x : Page) (o : Option Page) (i : ℕ) (e : Entry) → o ≡ cond (holds e i) (Some x) None → e ≡ Entry.Free → o ≡ None
-not-copied x o i e is free = is ∙ ap (λ (k : Entry). cond {A = Option Page} (holds k i) (Some x) None) free
+-- who doesn't hold a page has no copy of it
+pub not-copied : (x : Page) (o : Option Page) (b : Bool) → o ≡ cond b (Some x) None → b ≡ false → o ≡ None
+not-copied x o b is lacks = is ∙ ap (λ (k : Bool). cond {A = Option Page} k (Some x) None) lacks
 
 module _ {G : Type 0} (tell : Telling G) (c : Complex G) (i p : ℕ) (mode : Mode) (low : 1 ≤ i) (high : i ≤ 8)
     (now : (img : Image) → tell.since c.rig (tell.moment c.rig) img → Leaves (tell.leaves c.rig) img) where
@@ -138,7 +139,8 @@ module _ {G : Type 0} (tell : Telling G) (c : Complex G) (i p : ℕ) (mode : Mod
       module _ (room : buffers.LacksFrame (pool_at (parts c) i) p → ⊥) where
         -- no pool has the page, so this one has no copy of it
         no-copy : (w : Core) (f : fits_by tell.seen tell.leaves c w) → buffers.image_at (pool_at (parts c) i) p ≡ None
-        no-copy w f = not-copied _ _ i here ((f.good.half (λ j. false)).coherent.copies i p) free
+        no-copy w f = not-copied _ _ (holds here i) ((f.good.half (λ j. false)).coherent.copies i p)
+            (ap (λ (e : Entry). holds e i) free)
 
         roomy : (w : Core) (f : fits_by tell.seen tell.leaves c w) → LacksFrame w.pages event → ⊥
         roomy w f lacks = frames-left (tell.seen c.rig) (tell.leaves c.rig) Pending.Idle
@@ -292,20 +294,5 @@ module _ {G : Type 0} (tell : Telling G) (c : Complex G) (i p : ℕ) (mode : Mod
 
         -- there was no memory for the ask
         module _ (asks : IsAsked p (asks_at (parts c).directory p) (parts c).directory (parts new).directory) where
-          same-asks : (q : ℕ) → asks_at (parts new).directory q ≡ asks_at (parts c).directory q
-          same-asks q = ⊎_elim
-              (λ e. subst (λ (k : ℕ). asks_at (parts new).directory k ≡ asks_at (parts c).directory k) (sym e) asks.here)
-              (λ ne. asks.others q ne)
-              (cases_eq q p)
-
           pub ask-spared : Serving tell event None c new
-          ask-spared = (
-            (λ w f. read-spares tell c new w
-                (unchanged-to tell c.rig c.rig new.rig same (unchanged-here tell c.rig)) now f
-                (moved-fits tell c new w f (parts c).pools (parts new).directory same is (good Pending.Idle w.scene.state f.good)
-                w.pages w.bounds
-                (kept-pages (parts c).pools (parts new).directory (tell.seen c.rig) (tell.leaves c.rig) (parts c) w f (λ j. refl)
-                asks.in_place.entries same-asks)
-                f.bounds)),
-            ap tell.faults same,
-          )
+          ask-spared = kept-spared tell c new p same is good asks now event

@@ -1,4 +1,7 @@
 pub mod Evicted
 pub mod Asked
+pub mod Dropped
 pub mod Fetched
+pub mod Given
 pub mod Shown
+pub mod Taken

@@ -1,2 +1,4 @@
 pub mod Asking
 pub mod Evicting
+pub mod Giving
+pub mod Taking

@@ -104,8 +104,8 @@ fn fetch<G: Rig>(c: &mut Complex<G>, i: InstNo, p: PageNo, mode: Mode) -> Result
     Ok(())
 }
 
-// Whether the pool of an instance has no frame for the page.
-fn lacks_frame<G: Rig>(c: &Complex<G>, i: InstNo, p: PageNo) -> bool
+/// Whether the pool of an instance has no frame for the page.
+pub(crate) fn lacks_frame<G: Rig>(c: &Complex<G>, i: InstNo, p: PageNo) -> bool
     requires { IsShape (parts c.now) }
     ensures full { IsTrue result ↔ LacksFrame (pool_at (parts c.now) i) p }
     ensures pool { IsPool (pool_at (parts c.now) i) }

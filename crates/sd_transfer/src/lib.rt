@@ -2,12 +2,15 @@
 //!
 //! Meaning: each call is an event of the serial table, and serves it as `Serving` of sd_fits says.
 //! Keeps: nothing.
-//! Promises: from each world that the complex fits, the answer leads to one that it fits then (`evicting.rt`, `asking.rt`,
-//! `showing.rt`). An eviction calls no device, and an ask reads alone; to show a page changes nothing.
-//! Refuses: what the order of the event's causes says, the first that applies; `Memory` changes nothing that a world tells.
+//! Promises: from each world that the complex fits, the answer leads to one that it fits then (`asking.rt`, `giving.rt`,
+//! `taking.rt`, `evicting.rt`, `showing.rt`). An ask reads alone; a give forces the log of an instance that has the page alone, where
+//! that is settled, before the page leaves it (`give`, `forced`), and leaves the data device (`disk`); a take and an eviction call
+//! none; to show a page changes nothing.
+//! Refuses: what the order of the event's causes says, the first that applies; `Memory`, by `ask` and `take` alone, changes nothing
+//! that a world tells.
 //! Knows nothing of: whose turn it is, what is noted of an answer.
 //! Stands on: sd_base, sd_model, sd_page, sd_rig, sd_pagelock, sd_pool, sd_chain, sd_coherent, sd_sound,
-//! sd_world, sd_state, sd_fits, sd_moves.
+//! sd_world, sd_state, sd_fits, sd_moves, sd_writer.
 //! Lends: nothing.
 //! Held by the caller: that no fall is due, which `Fits` says.
 //!
@@ -19,8 +22,12 @@
 
 mod asking;
 mod evicting;
+mod giving;
 mod showing;
+mod taking;
 
 pub use asking::ask;
 pub use evicting::evict;
+pub use giving::give;
 pub use showing::show;
+pub use taking::take;

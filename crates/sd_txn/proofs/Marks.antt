@@ -3,6 +3,7 @@ use Rattle.std.proofs.Common.{◌≡◌, inl, inr, Bool, true, false, cond, ℕ,
 use Rattle.std.proofs.lemmas.Bool.{leb-true, le-leb}
 use Rattle.std.proofs.lemmas.Bool.Decides.{leb_tells}
 use Rattle.std.proofs.lemmas.List.{map-append}
+use Rattle.std.proofs.lemmas.Slice.Eq.{bytes_eq-Decides}
 use Rattle.std.specs.List.{AllByRecursion}
 use Rattle.std.specs.Map.{lookup, remove_entry}
 use Rattle.std.specs.Option.{option_map_or, option_to_list}
@@ -167,6 +168,18 @@ module _ (left : ℕ) where
 
 -- ---- marks under the keys of a map
 
+-- the last of a list is found, where no other has its key
+lookup-push : {K X : Type 0} (test : K → Bool) (es : List (K × X)) (k : K) (x : X) → lookup test es ≡ None → test k ≡ true
+    → lookup test (es ++ (k, x) ∷ []) ≡ Some x
+lookup-push test [] k x none here = rw here refl
+lookup-push {K} {X} test (e ∷ es) k x none here = by (test e.0) (lookup-push test es k x) none
+  where
+    by : (b : Bool) → (lookup test es ≡ None → test k ≡ true → lookup test (es ++ (k, x) ∷ []) ≡ Some x)
+        → cond {A = Option X} b (Some e.1) (lookup test es) ≡ None
+        → cond {A = Option X} b (Some e.1) (lookup test (es ++ (k, x) ∷ [])) ≡ Some x
+    by true later off = absurd (cc)
+    by false later off = later off here
+
 module _ {K : Type 0} (bytes : K → List ℕ) where
   module _ (left : ℕ) where
     abbrev pub kept : List (K × ℕ) → List Mark
@@ -219,3 +232,11 @@ module _ {K : Type 0} (bytes : K → List ℕ) where
   pub named-with_mark : (old out new : List (K × ℕ)) (k : K) (n : ℕ) → out ≡ remove_entry (is_named (bytes k)) old → new ≡ out ++ (k, n) ∷ []
       → named bytes new ≡ with_mark (bytes k) n (named bytes old)
   named-with_mark old out new k n o e = ap (named bytes) e ∙ named-push out k n ∙ ap (λ l. l ++ (bytes k, n) ∷ []) (ap (named bytes) o ∙ named-remove_entry (bytes k) old)
+
+  -- under a name that stood there no more the new mark is found
+  pub number-pushed : (out new : List (K × ℕ)) (k : K) (n : ℕ) → lookup (is_named (bytes k)) out ≡ None → new ≡ out ++ (k, n) ∷ []
+      → lookup (bytes_eq (bytes k)) (named bytes new) ≡ Some n
+  number-pushed out new k n absent e = ap (λ (es : List (K × ℕ)). lookup (bytes_eq (bytes k)) (named bytes es)) e
+      ∙ ap (lookup (bytes_eq (bytes k))) (named-push out k n)
+      ∙ lookup-push (bytes_eq (bytes k)) (named bytes out) (bytes k) n (sym (lookup-named (bytes k) out) ∙ absent)
+      ((bytes_eq-Decides (bytes k) (bytes k)).1 refl)

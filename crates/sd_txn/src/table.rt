@@ -256,11 +256,12 @@ impl TxnTable {
         txn.shut();
     }
 
-    /// Marks the place that an unresolved transaction has reached, in place of an older mark of the name. `Memory`
-    /// changes nothing.
+    /// Marks the place that an unresolved transaction has reached, which is the number of its open records, in place of an
+    /// older mark of the name. `Memory` changes nothing.
     pub fn save(&mut self, t: &TxnId, mark: Word) -> Result<(), Memory>
         requires { IsUnresolved self.old t.now }
         ensures changed { OnOk result (txn_at self.new t.now ≡ option_map (saved mark) (txn_at self.old t.now)) }
+        ensures number { OnOk result (mark_at self.new t.now mark ≡ Some (depth_at self.old t.now)) }
         ensures err { OnErr result (txn_at self.new t.now ≡ txn_at self.old t.now) }
         ensures others { OthersStay self.old self.new t.now }
         ensures order { SameOrder self.old self.new }

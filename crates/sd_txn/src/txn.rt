@@ -1,6 +1,8 @@
 //! One transaction: its undo stack, and the marks in it.
 
-ghost use Rattle.std.specs.Prelude.{◌≡◌, OnErr, OnOk, filter, leb, option_copied, vec_items};
+ghost use Rattle.std.specs.Prelude.{◌≡◌, OnErr, OnOk, Some, filter, leb, option_copied, vec_items};
+ghost use Rattle.std.specs.Map.{lookup};
+ghost use Rattle.std.specs.Str.{bytes_eq};
 ghost use Rattle.sd_txn.specs.Kept.{undo_of};
 ghost use Rattle.sd_txn.specs.Marked.{ends_above as is_above, named, AreRising};
 ghost use Rattle.sd_txn.specs.Transactions.{depth, mark_of, noted, popped, pushed, saved, shut, started, top, with_mark, with_state};
@@ -85,6 +87,7 @@ impl Txn {
     /// Marks this place, in place of an older mark of the name. `Memory` changes nothing.
     pub(crate) fn save(&mut self, mark: Word) -> Result<(), Memory>
         ensures ok { OnOk result (self.new ≡ saved mark self.old) }
+        ensures number { OnOk result (mark_of mark self.new ≡ Some (depth self.old)) }
         ensures err { OnErr result (self.new ≡ self.old) }
     {
         put_mark(&mut self.marks, mark.into_items(), self.stack.len())?;
@@ -159,6 +162,7 @@ fn put_mark(
     number: usize,
 ) -> Result<(), Memory>
     ensures ok { OnOk result (named vec_items marks.new.entries ≡ with_mark name.items number (named vec_items marks.old.entries)) }
+    ensures number { OnOk result (lookup (bytes_eq name.items) (named vec_items marks.new.entries) ≡ Some number) }
     ensures err { OnErr result (named vec_items marks.new.entries ≡ named vec_items marks.old.entries) }
 {
     marks.reserve(1)?;

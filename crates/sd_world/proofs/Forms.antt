@@ -41,7 +41,7 @@ open-queued place i mode (a ∷ tail) new h = go (eqb a.by i) refl (open-queued 
     go true is ih = (stays_open place a.by a.mode mode h.0 (subst (λ (k : ℕ). is_open place (record { by = k; mode = mode }) ≡ true) (sym (eqb-true a.by i is)) new), h.1)
     go false is ih = (h.0, ih)
 
-not_had : (place : Entry) (ask : Ask) → is_open place ask ≡ true → holds_as ask.mode place ask.by ≡ false
+pub not_had : (place : Entry) (ask : Ask) → is_open place ask ≡ true → holds_as ask.mode place ask.by ≡ false
 not_had place ask h = go (is_lost place) (holds_as ask.mode place ask.by) h
   where
     go : (a b : Bool) → not (a || b) ≡ true → b ≡ false

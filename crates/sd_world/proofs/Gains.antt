@@ -96,7 +96,7 @@ and_true true h = refl
 and_true false h = none_left h
 
 -- a holder of a page at rest who doesn't give it alone shares it
-drops : (j to : ℕ) (e : Entry) → to ≢ j → holds e j ≡ true → passes e ≡ false → may_yield to e ≡ false → may_drop j e ≡ true
+pub drops : (j to : ℕ) (e : Entry) → to ≢ j → holds e j ≡ true → passes e ≡ false → may_yield to e ≡ false → may_drop j e ≡ true
 drops j to Entry.Free ne h p y = none_left h
 drops j to Entry.Lost ne h p y = none_left h
 drops j to (Entry.Moving k mode rest dirty) ne h p y = still p

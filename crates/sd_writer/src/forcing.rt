@@ -7,6 +7,7 @@ ghost use Rattle.sd_fits.specs.Serving.{Serving};
 ghost use Rattle.sd_model.specs.declared.event.Event.{Event};
 ghost use Rattle.sd_model.specs.declared.event.Event.TheVariants as event;
 ghost use Rattle.sd_model.specs.declared.event.Reply.TheVariants as reply;
+ghost use Rattle.sd_rig.specs.Devices.{LeavesSame};
 ghost use Rattle.sd_state.specs.Complexes.{parts};
 ghost use Rattle.sd_state.specs.Parts.{is_active, is_loose, log_at};
 ghost use Rattle.sd_world.specs.Serving.{Core, did, telling};
@@ -36,8 +37,11 @@ pub fn force<G: Rig>(c: &mut Complex<G>, i: InstNo) -> Result<(), Refusal>
     force_or_fall(c, i)
 }
 
-/// Forces the log of an instance that is active, or makes it fall where the device fails.
-pub(crate) fn force_or_fall<G: Rig>(c: &mut Complex<G>, i: InstNo) -> Result<(), Refusal>
+/// Forces the log of an instance that is active, or makes the instance fall where the device fails: for an event that wants the log
+/// forced before it goes on. A log that isn't settled takes no call. It takes no memory, and leaves the data device as it was.
+///
+/// `Failed` comes where the device failed; the event is then served so.
+pub fn force_or_fall<G: Rig>(c: &mut Complex<G>, i: InstNo) -> Result<(), Refusal>
     requires fits { (w : Core) × Fits (G.seen c.old.rig) (G.leaves c.old.rig) (parts c.old) w }
     requires active { is_active (parts c.old) i ≡ true }
 
@@ -49,6 +53,9 @@ pub(crate) fn force_or_fall<G: Rig>(c: &mut Complex<G>, i: InstNo) -> Result<(),
         → ((w : Core) → Fits (G.seen c.old.rig) (G.leaves c.old.rig) (parts c.old) w → BreaksBy i e w)
         → Serving (telling G.seen G.leaves G.moment G.since G.faults) e (Some (reply.Refused R.Failed)) c.old c.new) }
     ensures only { IfErr result (λ n. n ≡ R.Failed) }
+
+    ensures disk { G.seen c.new.rig 0 ≡ G.seen c.old.rig 0 }
+    ensures disk_leaves { LeavesSame (G.leaves c.old.rig 0) (G.leaves c.new.rig 0) }
 {
     laws::instances(i);
     if c.force_log(i).is_err() {

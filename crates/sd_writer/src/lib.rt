@@ -3,7 +3,8 @@
 //! Meaning: each call is an event of the serial table, and serves it as `Serving` of sd_fits says.
 //! Keeps: nothing.
 //! Promises: from each world that the complex fits, the answer leads to one that it fits then (`forcing.rt`, `writing.rt`). A
-//! page is on the data device only once the records that changed it are forced.
+//! page is on the data device only once the records that changed it are forced. `force_or_fall` is for any event that wants a log
+//! forced before it goes on: it spares the event's worlds, or serves it as `Failed`.
 //! Refuses: what the order of the event's causes says, the first that applies; never `Memory`. Once the device of a log fails,
 //! or a write of the data device, the instance has fallen.
 //! Knows nothing of: whose turn it is, what is noted of an answer.
@@ -21,5 +22,5 @@
 mod forcing;
 mod writing;
 
-pub use forcing::force;
+pub use forcing::{force, force_or_fall};
 pub use writing::write_page;

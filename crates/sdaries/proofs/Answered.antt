@@ -1,5 +1,5 @@
 -- What the calls of top.rt answer. It serves the goals of top.rt.
-use Rattle.std.proofs.Common.{◌≡◌, ◌⊎◌, ℕ, ◌<◌, ◌≤◌, ◌+◌, Bool, true, List, [], ◌∷◌, ◌++◌, length, map, drop, get_or, inl, inr, ⊎_elim, refl, sym, ap, ◌∙◌, subst, arith, length-append}
+use Rattle.std.proofs.Common.{◌≡◌, ◌⊎◌, ℕ, ◌<◌, ◌≤◌, ◌+◌, Bool, true, List, [], ◌∷◌, ◌++◌, length, map, drop, get_or, inl, inr, ⊎_elim, refl, sym, ap, ap₂, ◌∙◌, subst, arith, length-append}
 use Rattle.std.specs.Prelude.{Option, None, Some}
 use Rattle.std.specs.Str.{bytes_eq}
 use Rattle.std.specs.Cmp.Lexicographic.{bytes_decides}
@@ -11,7 +11,7 @@ use Rattle.sd_model.specs.History.{History}
 use Rattle.sd_model.specs.declared.event.Entry.{Entry}
 use Rattle.sd_model.specs.SerialLaws.{RunIsSerial, FreshIsOpening}
 use Rattle.sd_script.specs.declared.line.Line.{Line}
-use Rattle.sd_script.specs.Order.{pages_of}
+use Rattle.sd_script.specs.Order.{insts_of, pages_of}
 use Rattle.sd_fits.specs.Fits.{fresh_core}
 use Rattle.sd_script.specs.Reading.{IsScript, IsBadAt}
 use Rattle.sd_script.proofs.Readings.{no_bad_script}
@@ -75,10 +75,11 @@ module _ (serial : RunIsSerial) (fresh : FreshIsOpening) {G : Type 0} (tell : Te
       → Answers tell status.NoMemory text (record { sink = sink; rig = rig }) (record { sink = sink'; rig = rig' }) (Some book)
   answers_partial text lines book world sink sink' script blank led kept = ((lines, world, replayed text lines book world script blank led), kept)
 
--- the start that a driver of so many pages has
-pub opens_as : {G : Type 0} (pages : ℕ) (lines : List Line) (rig : G) → pages ≡ pages_of lines
-    → record { world = before pages lines (fresh_core (frames_of lines)); rig = rig } ≡ opening lines rig
-opens_as pages lines rig is = ap (λ n. record { world = before n lines (fresh_core (frames_of lines)); rig = rig }) is
+-- the start that a driver of so many instances and pages has
+pub opens_as : {G : Type 0} (insts pages : ℕ) (lines : List Line) (rig : G) → insts ≡ insts_of lines → pages ≡ pages_of lines
+    → record { world = before insts pages lines (fresh_core (frames_of lines)); rig = rig } ≡ opening lines rig
+opens_as insts pages lines rig insts_are is =
+    ap₂ (λ k n. record { world = before k n lines (fresh_core (frames_of lines)); rig = rig }) insts_are is
 
 -- the complex wasn't opened
 pub answers_unopened : {G : Type 0} (tell : Telling G) (n : Refusal) (s : Status) (text : List ℕ) (lines : List Line) (sink sink' : SinkSide) (rig rig' : G)

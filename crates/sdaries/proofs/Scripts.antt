@@ -12,7 +12,7 @@ use Rattle.sd_script.specs.declared.line.Form.{Form}
 use Rattle.sd_script.specs.declared.line.Form.TheVariants as form
 use Rattle.sd_script.specs.declared.line.Line.{Line}
 use Rattle.sd_script.specs.Text.{lines_of, words_of, end_of, less_empty_last}
-use Rattle.sd_script.specs.Forms.{IsCount, IsForm, capacity_words, form_words}
+use Rattle.sd_script.specs.Forms.{IsCount, IsForm, IsInst, capacity_words, form_words}
 use Rattle.sd_script.specs.Order.{Follows, insts_in, insts_of, pages_in, pages_of}
 use Rattle.sd_script.specs.Reading.{Reads, IsScript}
 use Rattle.sd_drive.specs.Reaching.{AreDriven, IsShort, MayStand}
@@ -43,19 +43,7 @@ line_length bytes f words = ap (λ (l : List (List ℕ)). length (join_with_byte
 short_form : (f : Form) → length (join_with_byte 32 (form_words f)) ≤ 1024 → IsShort f
 short_form (form.Insert name ordinal page value capacity) most =
     omega (arith, most, value_within name value (decimal page) (capacity_words capacity))
-short_form (form.Complex insts pages frames) most = tt
-short_form (form.Begin inst name) most = tt
-short_form (form.Read name ordinal rid) most = tt
-short_form (form.Write name ordinal rid value) most = tt
-short_form (form.Add name ordinal rid by) most = tt
-short_form (form.Delete name ordinal rid) most = tt
-short_form (form.Commit name ordinal) most = tt
-short_form (form.Ask inst page mode) most = tt
-short_form (form.Evict inst page) most = tt
-short_form (form.Flush inst page) most = tt
-short_form (form.Force inst) most = tt
-short_form (form.Where page) most = tt
-short_form form.Table most = tt
+short_form f most = tt
 
 length_front : (lines : List Line) (k : ℕ) → k ≤ length lines → length (take k lines) ≡ k
 length_front lines zero le = refl
@@ -63,7 +51,7 @@ length_front [] (suc k) le = absurd (omega (arith, le))
 length_front (line ∷ lines) (suc k) le = ap suc (length_front lines k (omega (arith, le)))
 
 -- the first line is the one that gives the complex
-behind_none : (f : Form) → Follows [] f → IsForm f → (insts_in f ≡ 1) × IsCount (pages_in f) × IsCount (frames_in f)
+behind_none : (f : Form) → Follows [] f → IsForm f → IsInst (insts_in f) × IsCount (pages_in f) × IsCount (frames_in f)
 behind_none (form.Complex insts pages frames) follows is = is
 behind_none (form.Begin inst name) follows is = absurd (omega (arith, follows.0, is.0))
 behind_none (form.Read name ordinal rid) follows is = absurd (omega (arith, follows.1))
@@ -71,16 +59,22 @@ behind_none (form.Write name ordinal rid value) follows is = absurd (omega (arit
 behind_none (form.Add name ordinal rid by) follows is = absurd (omega (arith, follows.1))
 behind_none (form.Insert name ordinal page value capacity) follows is = absurd (omega (arith, follows.1))
 behind_none (form.Delete name ordinal rid) follows is = absurd (omega (arith, follows.1))
+behind_none (form.Save name ordinal mark) follows is = absurd (cc)
+behind_none (form.Back name ordinal mark) follows is = absurd (cc)
+behind_none (form.Rollback name ordinal) follows is = absurd (cc)
 behind_none (form.Commit name ordinal) follows is = absurd (cc)
 behind_none (form.Ask inst page mode) follows is = absurd (omega (arith, follows.1))
+behind_none (form.Give inst page) follows is = absurd (omega (arith, follows.1))
+behind_none (form.Take inst page) follows is = absurd (omega (arith, follows.1))
 behind_none (form.Evict inst page) follows is = absurd (omega (arith, follows.1))
 behind_none (form.Flush inst page) follows is = absurd (omega (arith, follows.1))
 behind_none (form.Force inst) follows is = absurd (omega (arith, follows, is.0))
+behind_none (form.Fail inst) follows is = absurd (omega (arith, follows, is.0))
 behind_none (form.Where page) follows is = absurd (omega (arith, follows))
 behind_none form.Table follows is = absurd (follows.0 refl)
 
 pub script_complex : (text : List ℕ) (lines : List Line) → IsScript text lines
-    → (insts_of lines ≡ 1) × IsCount (pages_of lines) × IsCount (frames_of lines)
+    → IsInst (insts_of lines) × IsCount (pages_of lines) × IsCount (frames_of lines)
 script_complex text [] script = absurd (omega (arith, script.some))
 script_complex text (line ∷ lines) script =
     let reads : Reads text [] line = script.read 0 line refl in
@@ -96,13 +90,17 @@ may_stand text lines script n line is =
       short = short_form line.form (omega (arith, line_length reads.bytes line.form reads.reads.words, reads.reads.bytes_most));
     }
 
-pub script_driven : (text : List ℕ) (lines : List Line) (pages : ℕ) → IsScript text lines → pages ≡ pages_of lines → AreDriven lines pages
-script_driven text lines pages script is =
+pub script_driven : (text : List ℕ) (lines : List Line) (insts pages : ℕ) → IsScript text lines → insts ≡ insts_of lines → pages ≡ pages_of lines
+    → AreDriven lines insts pages
+script_driven text lines insts pages script insts_are is =
     let first = script_complex text lines script in
+    let range = first.0 in
     let count = first.1 in
     record {
       each = may_stand text lines script;
-      insts = first.0;
+      insts = sym insts_are;
+      insts_some = omega (arith, range.0, insts_are);
+      insts_most = omega (arith, range.1, insts_are);
       pages = sym is;
       some = omega (arith, count.0, is);
       most = omega (arith, count.1, is);

@@ -3,7 +3,7 @@ use Rattle.std.specs.Prelude.{ℕ, List, [], ◌∷◌}
 use Rattle.sd_script.specs.declared.line.Form.{Form}
 use Rattle.sd_script.specs.declared.line.Form.TheVariants.{Complex}
 use Rattle.sd_script.specs.declared.line.Line.{Line}
-use Rattle.sd_script.specs.Order.{pages_of}
+use Rattle.sd_script.specs.Order.{insts_of, pages_of}
 use Rattle.sd_fits.specs.Fits.{fresh_core}
 use Rattle.sd_drive.specs.Reaching.{before}
 use Rattle.sd_drive.specs.Running.{Start}
@@ -19,4 +19,4 @@ frames_of (line ∷ lines) = frames_in line.form
 
 -- the start of a script's run on the devices: a complex in which nothing has happened
 abbrev pub opening : {G : Type 0} → List Line → G → Start G
-opening lines rig = record { world = before (pages_of lines) lines (fresh_core (frames_of lines)); rig = rig }
+opening lines rig = record { world = before (insts_of lines) (pages_of lines) lines (fresh_core (frames_of lines)); rig = rig }

@@ -89,8 +89,8 @@ fn texts_have_their_reports(rt: HostRuntime) -> Result<(), Fail> {
         (b"", Status::BadLine, b"bad line 1 word\n"),
         (
             b"complex 1 1 2\n1 begin a\ntable\n",
-            Status::BadLine,
-            b"bad line 3 word\n",
+            Status::Done,
+            b"complex 1 1 2\na begin 1.1.1\ntable 0\n",
         ),
         (
             b"complex 1 1 2\n1 ask 1 s\n",

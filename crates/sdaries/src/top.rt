@@ -163,7 +163,12 @@ fn replay_lines<K: Sink, G: Rig>(alloc: Global, lines: &[Line], sink: &mut K, ri
 {
     let shape = shape(lines);
     match Hall::fresh(alloc, rig, shape) {
-        Ok(hall) => open(alloc, lines, sink, Driver::new(alloc, hall, shape.pages)),
+        Ok(mut hall) => {
+            // An entry a line, with those of pulls and those that are owed.
+            hall.expect(lines.len().saturating_mul(2));
+            let driver = Driver::new(alloc, hall, shape.insts, shape.pages);
+            open(alloc, lines, sink, driver)
+        }
         Err((Memory, rig)) => without_book(Status::NoMemory, rig),
     }
 }
@@ -211,6 +216,7 @@ fn run_lines<K: Sink, G: Rig>(
     mut driver: Driver<G>,
 ) -> Done<G>
     requires script { (text : List ℕ) × IsScript text lines.now }
+    requires insts { driver.insts ≡ insts_of lines.now }
     requires pages { driver.pages ≡ pages_of lines.now }
     requires reached { (rig : G) × (w : World) × Reached (telling G.seen G.leaves G.moment G.since G.faults) (opening lines.now rig) lines.now 0 driver w }
     ensures { (text : List ℕ) (rig : G) (w : World) → IsScript text lines.now

@@ -1,5 +1,5 @@
 use Rattle.std.proofs.Common.{◌≡◌, ℕ, sym, ap, ◌∙◌, subst}
-use Rattle.std.specs.Prelude.{Some}
+use Rattle.std.specs.Prelude.{None, Some}
 use Rattle.std.proofs.lemmas.Result.{err_from_is_err_and}
 use Rattle.sd_base.specs.declared.place.Mode.{Mode}
 use Rattle.sd_model.specs.declared.event.Entry.{Entry}
@@ -7,9 +7,11 @@ use Rattle.sd_model.specs.declared.event.Event.{Event}
 use Rattle.sd_model.specs.declared.event.Reply.{Reply}
 use Rattle.sd_world.specs.Serving.{Telling, telling}
 use Rattle.sd_hall.specs.Served.{IsServed}
-use Rattle.sd_drive.specs.Standing.{wanted_of}
+use Rattle.sd_state.specs.Complexes.{parts}
+use Rattle.sd_state.specs.Parts.{IsShape}
+use Rattle.sd_drive.specs.Standing.{Wants}
 use Rattle.sd_drive.proofs.Helps.{on-err-both, on-err-then, on-ok-then}
-use Rattle.sd_drive.proofs.Operating.{again-all, first-some, once-all, pull-in, pulled-some, somewhere, stays-some, then-some}
+use Rattle.sd_drive.proofs.Operating.{again-all, first-some, once-all, pull-in, pulled-some, shape-mid, somewhere, stays-some, then-some, wants-as}
 use Rattle.sd_drive.proofs.Steps.{Noted, stays-in}
 use Rattle.sd_drive.proofs.operate.operate.Goals as goal
 
@@ -29,8 +31,22 @@ returns-in-None-clause-done g c =
     let entry : Entry = record { session = c.args.session; line = c.args.line; event = c.args.e; reply = n.0 } in
     let noted : Noted tell old mid entry = record { entries = n.1; serves = n.2; keeps = c.call.ensures.keeps; opening = c.call.ensures.opening; earlier = λ t u img le s. g.met.G.Rig.earlier c.call.new.self.complex.rig t u img le s } in
     let last : c.last_entry-last.result.now ≡ entry = c.last_entry-last.ensures old.book.entries entry n.1 in
-    let told = sym (c.wanted.ensures ∙ ap (λ (x : Entry). wanted_of x.event x.reply) last) in
-    once-all tell c.args.session c.args.line c.args.e c.requires.one old mid n.0 noted (told ∙ c.in-None.is)
+    once-all tell c.args.session c.args.line c.args.e c.requires.served old mid n.0 noted
+    (wants-as tell c.args.session c.args.line c.args.e c.requires.served old mid n.0 noted
+    c.complex.result.now c.last_entry-last.result.now c.wanted.result None c.complex.ensures last c.in-None.is c.wanted.ensures)
+
+pub wanted-requires : goal.wanted-requires
+wanted-requires g c =
+    let tell : Telling _ = telling g.G.Rig.seen g.G.Rig.leaves g.G.Rig.moment g.G.Rig.since g.G.Rig.faults in
+    let old = c.args.hall.now in
+    let mid = c.call.new.self in
+    let n = c.in_ok-call.ensures.noted in
+    let entry : Entry = record { session = c.args.session; line = c.args.line; event = c.args.e; reply = n.0 } in
+    let noted : Noted tell old mid entry = record { entries = n.1; serves = n.2; keeps = c.call.ensures.keeps; opening = c.call.ensures.opening; earlier = λ t u img le s. g.met.G.Rig.earlier c.call.new.self.complex.rig t u img le s } in
+    record {
+      shape = subst (λ d. IsShape (parts d)) (sym c.complex.ensures)
+          (shape-mid tell c.args.session c.args.line c.args.e c.requires.served old mid n.0 noted c.requires.due);
+    }
 
 pub returns-in_err-again-in-Some-clause-memory : goal.returns-in_err-again-in-Some-clause-memory
 returns-in_err-again-in-Some-clause-memory g c =
@@ -41,11 +57,11 @@ returns-in_err-again-in-Some-clause-memory g c =
     let entry : Entry = record { session = c.args.session; line = c.args.line; event = c.args.e; reply = n.0 } in
     let noted : Noted tell old mid entry = record { entries = n.1; serves = n.2; keeps = c.call.ensures.keeps; opening = c.call.ensures.opening; earlier = λ t u img le s. g.met.G.Rig.earlier c.call.new.self.complex.rig t u img le s } in
     let last : c.last_entry-last.result.now ≡ entry = c.last_entry-last.ensures old.book.entries entry n.1 in
-    let told = sym (c.wanted.ensures ∙ ap (λ (x : Entry). wanted_of x.event x.reply) last) in
-    let x : ℕ × Mode = c.in-Some.need in
-    let wants : wanted_of c.args.e n.0 ≡ Some x = told ∙ c.in-Some.is in
+    let x : ℕ × ℕ × Mode = c.in-Some.need in
+    let wants : Wants tell mid.complex c.args.e n.0 (Some x) = wants-as tell c.args.session c.args.line c.args.e c.requires.served old mid n.0 noted
+    c.complex.result.now c.last_entry-last.result.now c.wanted.result (Some x) c.complex.ensures last c.in-Some.is c.wanted.ensures in
     let p = err_from_is_err_and c.from_residual-in_err-again-in-Some.result c.from_residual-in_err-again-in-Some.ensures.1 in
-    rw p.1 (first-some tell c.args.session c.args.line c.args.e c.requires.one old mid n.0 noted x wants)
+    rw p.1 (first-some tell c.args.session c.args.line c.args.e c.requires.served old mid n.0 noted x wants)
 
 pub pull-requires : goal.pull-requires
 pull-requires g c =
@@ -56,10 +72,10 @@ pull-requires g c =
     let entry : Entry = record { session = c.args.session; line = c.args.line; event = c.args.e; reply = n.0 } in
     let noted : Noted tell old mid entry = record { entries = n.1; serves = n.2; keeps = c.call.ensures.keeps; opening = c.call.ensures.opening; earlier = λ t u img le s. g.met.G.Rig.earlier c.call.new.self.complex.rig t u img le s } in
     let last : c.last_entry-last.result.now ≡ entry = c.last_entry-last.ensures old.book.entries entry n.1 in
-    let told = sym (c.wanted.ensures ∙ ap (λ (x : Entry). wanted_of x.event x.reply) last) in
-    let x : ℕ × Mode = c.in-Some.need in
-    let wants : wanted_of c.args.e n.0 ≡ Some x = told ∙ c.in-Some.is in
-    record { at = pull-in tell c.args.session c.args.line c.args.e c.requires.one old mid n.0 noted x wants c.requires.due }
+    let x : ℕ × ℕ × Mode = c.in-Some.need in
+    let wants : Wants tell mid.complex c.args.e n.0 (Some x) = wants-as tell c.args.session c.args.line c.args.e c.requires.served old mid n.0 noted
+    c.complex.result.now c.last_entry-last.result.now c.wanted.result (Some x) c.complex.ensures last c.in-Some.is c.wanted.ensures in
+    record { at = pull-in tell c.args.session c.args.line c.args.e c.requires.served old mid n.0 noted x wants c.requires.due }
 
 pub returns-in_err-pull-in-Some-clause-memory : goal.returns-in_err-pull-in-Some-clause-memory
 returns-in_err-pull-in-Some-clause-memory g c =
@@ -70,11 +86,11 @@ returns-in_err-pull-in-Some-clause-memory g c =
     let entry : Entry = record { session = c.args.session; line = c.args.line; event = c.args.e; reply = n.0 } in
     let noted : Noted tell old mid entry = record { entries = n.1; serves = n.2; keeps = c.call.ensures.keeps; opening = c.call.ensures.opening; earlier = λ t u img le s. g.met.G.Rig.earlier c.call.new.self.complex.rig t u img le s } in
     let last : c.last_entry-last.result.now ≡ entry = c.last_entry-last.ensures old.book.entries entry n.1 in
-    let told = sym (c.wanted.ensures ∙ ap (λ (x : Entry). wanted_of x.event x.reply) last) in
-    let x : ℕ × Mode = c.in-Some.need in
-    let wants : wanted_of c.args.e n.0 ≡ Some x = told ∙ c.in-Some.is in
+    let x : ℕ × ℕ × Mode = c.in-Some.need in
+    let wants : Wants tell mid.complex c.args.e n.0 (Some x) = wants-as tell c.args.session c.args.line c.args.e c.requires.served old mid n.0 noted
+    c.complex.result.now c.last_entry-last.result.now c.wanted.result (Some x) c.complex.ensures last c.in-Some.is c.wanted.ensures in
     let p = err_from_is_err_and c.from_residual-in_err-pull-in-Some.result c.from_residual-in_err-pull-in-Some.ensures.1 in
-    rw p.1 (pulled-some tell c.args.session c.args.line c.args.e c.requires.one old mid n.0 noted x wants c.pull.new.hall c.in_err-pull-in-Some.ensures.memory)
+    rw p.1 (pulled-some tell c.args.session c.args.line c.args.e c.requires.served old mid n.0 noted x wants c.pull.new.hall c.in_err-pull-in-Some.ensures.memory)
 
 pub call-requires-in-Some-clause-served : goal.call-requires-in-Some-clause-served
 call-requires-in-Some-clause-served g c =
@@ -85,9 +101,9 @@ call-requires-in-Some-clause-served g c =
     let entry : Entry = record { session = c.args.session; line = c.args.line; event = c.args.e; reply = n.0 } in
     let noted : Noted tell old mid entry = record { entries = n.1; serves = n.2; keeps = c.call.ensures.keeps; opening = c.call.ensures.opening; earlier = λ t u img le s. g.met.G.Rig.earlier c.call.new.self.complex.rig t u img le s } in
     let last : c.last_entry-last.result.now ≡ entry = c.last_entry-last.ensures old.book.entries entry n.1 in
-    let told = sym (c.wanted.ensures ∙ ap (λ (x : Entry). wanted_of x.event x.reply) last) in
-    let x : ℕ × Mode = c.in-Some.need in
-    let wants : wanted_of c.args.e n.0 ≡ Some x = told ∙ c.in-Some.is in
+    let x : ℕ × ℕ × Mode = c.in-Some.need in
+    let wants : Wants tell mid.complex c.args.e n.0 (Some x) = wants-as tell c.args.session c.args.line c.args.e c.requires.served old mid n.0 noted
+    c.complex.result.now c.last_entry-last.result.now c.wanted.result (Some x) c.complex.ensures last c.in-Some.is c.wanted.ensures in
     let same : c.in_ok-again-in-Some.again ≡ c.args.e = c.in_ok-again-in-Some.ensures.same ∙ ap (λ (y : Entry). y.event) last in
     subst IsServed (sym same) c.requires.served
 
@@ -100,10 +116,10 @@ call-requires-in-Some-clause-kept g c =
     let entry : Entry = record { session = c.args.session; line = c.args.line; event = c.args.e; reply = n.0 } in
     let noted : Noted tell old mid entry = record { entries = n.1; serves = n.2; keeps = c.call.ensures.keeps; opening = c.call.ensures.opening; earlier = λ t u img le s. g.met.G.Rig.earlier c.call.new.self.complex.rig t u img le s } in
     let last : c.last_entry-last.result.now ≡ entry = c.last_entry-last.ensures old.book.entries entry n.1 in
-    let told = sym (c.wanted.ensures ∙ ap (λ (x : Entry). wanted_of x.event x.reply) last) in
-    let x : ℕ × Mode = c.in-Some.need in
-    let wants : wanted_of c.args.e n.0 ≡ Some x = told ∙ c.in-Some.is in
-    let at = somewhere tell c.args.session c.args.line c.args.e c.requires.one old mid n.0 noted x wants c.pull.new.hall c.in_ok-pull-in-Some.ensures.pulled c.requires.due in
+    let x : ℕ × ℕ × Mode = c.in-Some.need in
+    let wants : Wants tell mid.complex c.args.e n.0 (Some x) = wants-as tell c.args.session c.args.line c.args.e c.requires.served old mid n.0 noted
+    c.complex.result.now c.last_entry-last.result.now c.wanted.result (Some x) c.complex.ensures last c.in-Some.is c.wanted.ensures in
+    let at = somewhere tell c.args.session c.args.line c.args.e c.requires.served old mid n.0 noted x wants c.pull.new.hall c.in_ok-pull-in-Some.ensures.pulled c.requires.due in
     (at.0.world.core, at.2.keeps)
 
 pub returns-in_ok-pull-in-Some-clause-done : goal.returns-in_ok-pull-in-Some-clause-done
@@ -115,12 +131,12 @@ returns-in_ok-pull-in-Some-clause-done g c =
     let entry : Entry = record { session = c.args.session; line = c.args.line; event = c.args.e; reply = n.0 } in
     let noted : Noted tell old mid entry = record { entries = n.1; serves = n.2; keeps = c.call.ensures.keeps; opening = c.call.ensures.opening; earlier = λ t u img le s. g.met.G.Rig.earlier c.call.new.self.complex.rig t u img le s } in
     let last : c.last_entry-last.result.now ≡ entry = c.last_entry-last.ensures old.book.entries entry n.1 in
-    let told = sym (c.wanted.ensures ∙ ap (λ (x : Entry). wanted_of x.event x.reply) last) in
-    let x : ℕ × Mode = c.in-Some.need in
-    let wants : wanted_of c.args.e n.0 ≡ Some x = told ∙ c.in-Some.is in
+    let x : ℕ × ℕ × Mode = c.in-Some.need in
+    let wants : Wants tell mid.complex c.args.e n.0 (Some x) = wants-as tell c.args.session c.args.line c.args.e c.requires.served old mid n.0 noted
+    c.complex.result.now c.last_entry-last.result.now c.wanted.result (Some x) c.complex.ensures last c.in-Some.is c.wanted.ensures in
     let same : c.in_ok-again-in-Some.again ≡ c.args.e = c.in_ok-again-in-Some.ensures.same ∙ ap (λ (y : Entry). y.event) last in
     let noted_as : Event → Reply → Type 0 = λ y q. Noted tell c.pull.new.hall c.call-in-Some.new.self (record { session = c.args.session; line = c.args.line; event = y; reply = q }) in
-    on-ok-then c.call-in-Some.result _ _ (λ m. again-all tell c.args.session c.args.line c.args.e c.requires.one old mid n.0 noted x wants c.pull.new.hall
+    on-ok-then c.call-in-Some.result _ _ (λ m. again-all tell c.args.session c.args.line c.args.e c.requires.served old mid n.0 noted x wants c.pull.new.hall
     c.in_ok-pull-in-Some.ensures.pulled c.call-in-Some.new.self m.0
     (subst (λ (y : Event). noted_as y m.0) same (record { entries = m.1; serves = m.2; keeps = c.call-in-Some.ensures.keeps; opening = c.call-in-Some.ensures.opening; earlier = λ t u img le s. g.met.G.Rig.earlier c.call-in-Some.new.self.complex.rig t u img le s }))) c.call-in-Some.ensures.noted
 
@@ -133,11 +149,11 @@ returns-in_ok-pull-in-Some-clause-memory g c =
     let entry : Entry = record { session = c.args.session; line = c.args.line; event = c.args.e; reply = n.0 } in
     let noted : Noted tell old mid entry = record { entries = n.1; serves = n.2; keeps = c.call.ensures.keeps; opening = c.call.ensures.opening; earlier = λ t u img le s. g.met.G.Rig.earlier c.call.new.self.complex.rig t u img le s } in
     let last : c.last_entry-last.result.now ≡ entry = c.last_entry-last.ensures old.book.entries entry n.1 in
-    let told = sym (c.wanted.ensures ∙ ap (λ (x : Entry). wanted_of x.event x.reply) last) in
-    let x : ℕ × Mode = c.in-Some.need in
-    let wants : wanted_of c.args.e n.0 ≡ Some x = told ∙ c.in-Some.is in
+    let x : ℕ × ℕ × Mode = c.in-Some.need in
+    let wants : Wants tell mid.complex c.args.e n.0 (Some x) = wants-as tell c.args.session c.args.line c.args.e c.requires.served old mid n.0 noted
+    c.complex.result.now c.last_entry-last.result.now c.wanted.result (Some x) c.complex.ensures last c.in-Some.is c.wanted.ensures in
     let same : c.in_ok-again-in-Some.again ≡ c.args.e = c.in_ok-again-in-Some.ensures.same ∙ ap (λ (y : Entry). y.event) last in
-    on-err-then c.call-in-Some.result _ _ (λ m. then-some tell c.args.session c.args.line c.args.e c.requires.one old mid n.0 noted x wants c.pull.new.hall
+    on-err-then c.call-in-Some.result _ _ (λ m. then-some tell c.args.session c.args.line c.args.e c.requires.served old mid n.0 noted x wants c.pull.new.hall
     c.in_ok-pull-in-Some.ensures.pulled c.call-in-Some.new.self
     (stays-in tell c.pull.new.hall c.call-in-Some.new.self c.in_ok-again-in-Some.again m.0 m.1 c.call-in-Some.ensures.keeps c.call-in-Some.ensures.opening (λ t u img le s. g.met.G.Rig.earlier c.call-in-Some.new.self.complex.rig t u img le s)))
     (on-err-both c.call-in-Some.result _ _ c.call-in-Some.ensures.same c.call-in-Some.ensures.spared)

@@ -2,7 +2,7 @@ use Rattle.std.proofs.Common.{sym, ap, ◌∙◌}
 use Rattle.std.proofs.lemmas.Result.{err_from_is_err_and}
 use Rattle.sd_model.specs.declared.event.Entry.{Entry}
 use Rattle.sd_world.specs.Serving.{Telling, telling}
-use Rattle.sd_drive.specs.Driven.{is_did}
+use Rattle.sd_drive.specs.Driven.{answer_as}
 use Rattle.sd_drive.proofs.Steps.{helped-on, stays-in}
 use Rattle.sd_drive.proofs.pull.help.Goals as goal
 
@@ -22,7 +22,7 @@ returns-clause-helped g c =
     let entry : Entry = record { session = 0; line = 0; event = c.args.e; reply = n.0 } in
     let last = c.last.ensures c.args.hall.now.book.entries entry n.1 in (
       n.0,
-      sym (c.is_did.ensures ∙ ap is_did last),
+      sym (c.answer_of.ensures ∙ ap answer_as last),
       helped-on tell c.args.hall.now c.call.new.self c.args.e n.0
-          (record { entries = n.1; serves = n.2; keeps = c.call.ensures.keeps; opening = c.call.ensures.opening; earlier = λ t u img le s. g.met.G.Rig.earlier c.call.new.self.complex.rig t u img le s }) c.requires.one,
+          (record { entries = n.1; serves = n.2; keeps = c.call.ensures.keeps; opening = c.call.ensures.opening; earlier = λ t u img le s. g.met.G.Rig.earlier c.call.new.self.complex.rig t u img le s }),
     )

@@ -1,16 +1,43 @@
-use Rattle.std.proofs.Common.{ℤ, ℕ, List, of_z, to_z, rules, w64, ◌≡◌, sym, ◌∙◌, subst}
+use Rattle.std.proofs.Common.{ℤ, ℕ, List, of_z, to_z, rules, w64, ◌≡◌, refl, sym, ◌∙◌, subst}
 use Rattle.std.proofs.lemmas.Int.{to_z-of_z}
+use Rattle.sd_base.specs.declared.ids.TxnId.{TxnId}
+use Rattle.sd_base.specs.declared.place.Status.TheVariants as S
+use Rattle.sd_model.specs.declared.event.Event.{Event}
+use Rattle.sd_model.specs.declared.event.Event.TheVariants as event
 use Rattle.sd_model.specs.declared.event.Event.TheVariants.{Add, Insert, Write}
+use Rattle.sd_state.specs.Complexes.{parts}
+use Rattle.sd_state.specs.Parts.{status_at}
 use Rattle.sd_world.specs.Serving.{Telling, did, placed_at, telling}
 use Rattle.sd_fits.specs.Serving.{Serving}
-use Rattle.sd_hall.proofs.Keeping.{did-some, none-else, served-as}
+use Rattle.sd_hall.specs.Served.{IsServed}
+use Rattle.sd_hall.proofs.Keeping.{answered-some, failed-so, same-undo, served-as}
 use Rattle.sd_hall.proofs.serving.serve.Goals as goal
 
 pub unreachable-requires : goal.unreachable-requires
-unreachable-requires g c =
-    let not = c.in_default in
-    none-else c.args.e.now c.requires.served not.not-Begin not.not-Read not.not-Write not.not-Add not.not-Insert not.not-Delete not.not-Commit
-    not.not-List not.not-Ask not.not-Evict not.not-Flush not.not-Force not.not-Fail not.not-Join not.not-Show
+unreachable-requires g c = none c.args.e.now c.requires.served refl
+  where
+    none : (e : Event) → IsServed e → c.args.e.now ≡ e → ⊥
+    none (event.Begin i) served is = c.in_default.not-Begin i is
+    none (event.Read t r) served is = c.in_default.not-Read t r is
+    none (event.Write t r v) served is = c.in_default.not-Write t r v is
+    none (event.Add t r by) served is = c.in_default.not-Add t r by is
+    none (event.Insert t p v n) served is = c.in_default.not-Insert t p v n is
+    none (event.Delete t r) served is = c.in_default.not-Delete t r is
+    none (event.Save t k) served is = c.in_default.not-Save t k is
+    none (event.Back t k) served is = c.in_default.not-Back t k is
+    none (event.Undo t) served is = c.in_default.not-Undo t is
+    none (event.Commit t) served is = c.in_default.not-Commit t is
+    none (event.List i p) served is = c.in_default.not-List i p is
+    none (event.Ask i p mode) served is = c.in_default.not-Ask i p mode is
+    none (event.Give i p) served is = c.in_default.not-Give i p is
+    none (event.Take i p) served is = c.in_default.not-Take i p is
+    none (event.Evict i p) served is = c.in_default.not-Evict i p is
+    none (event.Flush i p) served is = c.in_default.not-Flush i p is
+    none (event.Force i) served is = c.in_default.not-Force i is
+    none (event.Fail i) served is = c.in_default.not-Fail i is
+    none (event.Join i) served is = c.in_default.not-Join i is
+    none (event.Show p) served is = c.in_default.not-Show p is
+    none e served is = served
 
 pub returns-in-Begin-clause-served : goal.returns-in-Begin-clause-served
 returns-in-Begin-clause-served g c =
@@ -50,13 +77,37 @@ returns-in-Delete-clause-served g c =
     let tell : Telling _ = telling g.G.Rig.seen g.G.Rig.leaves g.G.Rig.moment g.G.Rig.since g.G.Rig.faults in
     served-as tell c.args.c.now c.delete.new.c _ _ _ _ c.in-Delete.is c.as_did-in-Delete.ensures c.delete.ensures.served
 
+pub returns-in-Save-clause-served : goal.returns-in-Save-clause-served
+returns-in-Save-clause-served g c =
+    let tell : Telling _ = telling g.G.Rig.seen g.G.Rig.leaves g.G.Rig.moment g.G.Rig.since g.G.Rig.faults in
+    served-as tell c.args.c.now c.save.new.c _ _ _ _ c.in-Save.is c.as_did-in-Save.ensures c.save.ensures.served
+
+pub returns-in-Back-clause-served : goal.returns-in-Back-clause-served
+returns-in-Back-clause-served g c =
+    let tell : Telling _ = telling g.G.Rig.seen g.G.Rig.leaves g.G.Rig.moment g.G.Rig.since g.G.Rig.faults in
+    served-as tell c.args.c.now c.back_to.new.c _ _ _ _ c.in-Back.is c.as_did-in-Back.ensures c.back_to.ensures.served
+
+pub returns-in-Undo-clause-served : goal.returns-in-Undo-clause-served
+returns-in-Undo-clause-served g c =
+    let tell : Telling _ = telling g.G.Rig.seen g.G.Rig.leaves g.G.Rig.moment g.G.Rig.since g.G.Rig.faults in
+    served-as tell c.args.c.now c.undo.new.c _ _ _ _ c.in-Undo.is c.as_step.ensures c.undo.ensures.served
+
+pub returns-in-Undo-clause-there : goal.returns-in-Undo-clause-there
+returns-in-Undo-clause-there g c = λ w owed none. answered-some _ c.undo.result c.undo.ensures.there (sym c.as_step.ensures ∙ none)
+
+pub returns-in-Undo-clause-down : goal.returns-in-Undo-clause-down
+returns-in-Undo-clause-down g c = λ t is failed.
+    let same : c.in-Undo.txn ≡ t = same-undo c.in-Undo.txn t (sym c.in-Undo.is ∙ is) in
+    subst (λ (u : TxnId). status_at (parts c.undo.new.c) u.inst ≡ S.Down) same
+    (c.undo.ensures.down (failed-so c.undo.result (sym c.as_step.ensures ∙ failed)))
+
 pub returns-in-Commit-clause-served : goal.returns-in-Commit-clause-served
 returns-in-Commit-clause-served g c =
     let tell : Telling _ = telling g.G.Rig.seen g.G.Rig.leaves g.G.Rig.moment g.G.Rig.since g.G.Rig.faults in
     served-as tell c.args.c.now c.commit.new.c _ _ _ _ c.in-Commit.is c.as_did-in-Commit.ensures c.commit.ensures.served
 
 pub returns-in-Commit-clause-there : goal.returns-in-Commit-clause-there
-returns-in-Commit-clause-there g c = λ m owed none. did-some c.commit.result c.commit.ensures.there (sym c.as_did-in-Commit.ensures ∙ none)
+returns-in-Commit-clause-there g c = λ m owed none. answered-some _ c.commit.result c.commit.ensures.there (sym c.as_did-in-Commit.ensures ∙ none)
 
 pub returns-in-List-clause-served : goal.returns-in-List-clause-served
 returns-in-List-clause-served g c =
@@ -67,6 +118,16 @@ pub returns-in-Ask-clause-served : goal.returns-in-Ask-clause-served
 returns-in-Ask-clause-served g c =
     let tell : Telling _ = telling g.G.Rig.seen g.G.Rig.leaves g.G.Rig.moment g.G.Rig.since g.G.Rig.faults in
     served-as tell c.args.c.now c.ask.new.c _ _ _ _ c.in-Ask.is c.as_asked.ensures c.ask.ensures.served
+
+pub returns-in-Give-clause-served : goal.returns-in-Give-clause-served
+returns-in-Give-clause-served g c =
+    let tell : Telling _ = telling g.G.Rig.seen g.G.Rig.leaves g.G.Rig.moment g.G.Rig.since g.G.Rig.faults in
+    served-as tell c.args.c.now c.give.new.c _ _ _ _ c.in-Give.is c.as_gave.ensures c.give.ensures.served
+
+pub returns-in-Take-clause-served : goal.returns-in-Take-clause-served
+returns-in-Take-clause-served g c =
+    let tell : Telling _ = telling g.G.Rig.seen g.G.Rig.leaves g.G.Rig.moment g.G.Rig.since g.G.Rig.faults in
+    served-as tell c.args.c.now c.take.new.c _ _ _ _ c.in-Take.is c.as_did-in-Take.ensures c.take.ensures.served
 
 pub returns-in-Evict-clause-served : goal.returns-in-Evict-clause-served
 returns-in-Evict-clause-served g c =
@@ -89,7 +150,7 @@ returns-in-Fail-clause-served g c =
     served-as tell c.args.c.now c.fail.new.c _ _ _ _ c.in-Fail.is c.as_did-in-Fail.ensures c.fail.ensures.served
 
 pub returns-in-Fail-clause-there : goal.returns-in-Fail-clause-there
-returns-in-Fail-clause-there g c = λ m owed none. did-some c.fail.result c.fail.ensures.there (sym c.as_did-in-Fail.ensures ∙ none)
+returns-in-Fail-clause-there g c = λ m owed none. answered-some _ c.fail.result c.fail.ensures.there (sym c.as_did-in-Fail.ensures ∙ none)
 
 pub returns-in-Join-clause-served : goal.returns-in-Join-clause-served
 returns-in-Join-clause-served g c =

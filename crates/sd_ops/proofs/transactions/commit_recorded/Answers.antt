@@ -4,7 +4,8 @@ use Rattle.sd_state.specs.Values.{Pending}
 use Rattle.sd_txn.specs.declared.state.TxnState.{TxnState}
 use Rattle.sd_world.specs.Serving.{Telling, telling}
 use Rattle.sd_fits.proofs.Heads.{some-there}
-use Rattle.sd_ops.proofs.Committing.{cut-served, disk-leaves, disk-same, failed-due, forced-idle, forced-served, forced-tail, forcing}
+use Rattle.sd_fits.proofs.Disk.{disk-leaves, disk-same}
+use Rattle.sd_ops.proofs.Committing.{cut-served, failed-due, forced-idle, forced-served, forced-tail, forcing}
 use Rattle.sd_ops.proofs.transactions.commit_recorded.Goals as goal
 
 pub seal_commit-requires-clause-numbered : goal.seal_commit-requires-clause-numbered

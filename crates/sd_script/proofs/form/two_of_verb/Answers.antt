@@ -4,6 +4,10 @@ use Rattle.sd_script.specs.Known.{known}
 use Rattle.sd_script.proofs.Refused.{is_word}
 use Rattle.sd_script.proofs.form.two_of_verb.Goals as goal
 
-pub returns-then-eq-2 : goal.returns-then-eq-2
-returns-then-eq-2 c = subst (λ (v : List ℕ). IsFormOf (known c.args.begun.now) (v ∷ c.args.word.now ∷ []) c.where_of.result)
-    (sym (is_word c.args.verb.now _ _ c.as_slice-else-eq.ensures c.if-eq-2.ensures)) (c.where_of.ensures (known c.args.begun.now))
+pub returns-then-eq-3 : goal.returns-then-eq-3
+returns-then-eq-3 c = subst (λ (v : List ℕ). IsFormOf (known c.args.begun.now) (v ∷ c.args.word.now ∷ []) c.where_of.result)
+    (sym (is_word c.args.verb.now _ _ c.as_slice-else-eq-2.ensures c.if-eq-3.ensures)) (c.where_of.ensures (known c.args.begun.now))
+
+pub returns-then-eq-4 : goal.returns-then-eq-4
+returns-then-eq-4 c = subst (λ (v : List ℕ). IsFormOf (known c.args.begun.now) (v ∷ c.args.word.now ∷ []) c.fail_of.result)
+    (sym (is_word c.args.verb.now _ _ c.as_slice-else-eq-3.ensures c.if-eq-4.ensures)) (c.fail_of.ensures (known c.args.begun.now))

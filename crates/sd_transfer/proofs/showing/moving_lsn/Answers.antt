@@ -3,7 +3,7 @@ use Rattle.std.specs.Global.{Box}
 use Rattle.sd_page.specs.Page.{Page}
 use Rattle.sd_pagelock.specs.Directory.{DirectoryState, image_at}
 use Rattle.sd_state.specs.Values.{Pending}
-use Rattle.sd_transfer.proofs.Shown.{moving-is, moving-there}
+use Rattle.sd_moves.proofs.Copies.{moving-is, moving-there}
 use Rattle.sd_transfer.proofs.showing.moving_lsn.Goals as goal
 
 pub unwrap-requires : goal.unwrap-requires

@@ -2,7 +2,7 @@ use Rattle.std.proofs.Common.{◌∙◌, ◌-◌, ℕ, ap, arith}
 use Rattle.sd_page.specs.Page.{Page}
 use Rattle.sd_state.specs.Complexes.{parts}
 use Rattle.sd_state.specs.Values.{Pending}
-use Rattle.sd_transfer.proofs.Shown.{pooled-newest, pooled-there}
+use Rattle.sd_moves.proofs.Copies.{pooled-newest, pooled-there}
 use Rattle.sd_transfer.proofs.showing.pooled_lsn.Goals as goal
 
 pub unwrap-requires : goal.unwrap-requires

@@ -1,5 +1,6 @@
-use Rattle.std.proofs.Common.{◌≡◌, inr, Bool, true, false, refl, ap, ◌∙◌}
+use Rattle.std.proofs.Common.{◌≡◌, inr, Bool, true, false, refl, sym, ap, ◌∙◌, subst, arith}
 use Rattle.sd_log.specs.Logs.{LogState, forced}
+use Rattle.sd_rig.specs.Devices.{LeavesSame}
 use Rattle.sd_sound.proofs.Kept.{forced-tail}
 use Rattle.sd_state.specs.Complexes.{parts}
 use Rattle.sd_state.specs.Parts.{Parts, is_loose, log_at, no_log, owed_at}
@@ -75,3 +76,15 @@ returns-clause-stays g c = go (is_loose (parts c.args.c.now) c.args.i) refl
         (owed_at (parts c.force_log.new.self) c.args.i)
         (parts c.args.c.now) (parts c.force_log.new.self)
         (not-err c.force_log.result _ c.if-is_err.ensures.value (c.force_log.ensures.forced is))
+
+pub returns-clause-disk_leaves : goal.returns-clause-disk_leaves
+returns-clause-disk_leaves g c = c.force_log.ensures.others_leave 0 (omega (arith, c.instances.ensures.low))
+
+pub returns-then-is_err-clause-disk : goal.returns-then-is_err-clause-disk
+returns-then-is_err-clause-disk g c = ap (λ (d : g.row.G.Denot). g.G.Rig.seen d 0) c.down.ensures.rig
+    ∙ c.force_log.ensures.others 0 (omega (arith, c.instances.ensures.low))
+
+pub returns-then-is_err-clause-disk_leaves : goal.returns-then-is_err-clause-disk_leaves
+returns-then-is_err-clause-disk_leaves g c =
+    subst (λ (d : g.row.G.Denot). LeavesSame (g.G.Rig.leaves c.args.c.now.rig 0) (g.G.Rig.leaves d 0)) (sym c.down.ensures.rig)
+    (c.force_log.ensures.others_leave 0 (omega (arith, c.instances.ensures.low)))

@@ -15,7 +15,8 @@ use Rattle.sdaries.proofs.top.run_lines.Goals as goal
 use Rattle.sdaries.proofs.top.run_lines.Goals.{in-Ok, in-Err}
 
 pub replay-requires-clause-script : goal.replay-requires-clause-script
-replay-requires-clause-script g c = script_driven c.requires.script.0 c.args.lines.now c.args.driver.pages c.requires.script.1 c.requires.pages
+replay-requires-clause-script g c = script_driven c.requires.script.0 c.args.lines.now c.args.driver.insts c.args.driver.pages c.requires.script.1
+    c.requires.insts c.requires.pages
 
 pub replay-requires-clause-at : goal.replay-requires-clause-at
 replay-requires-clause-at g c = let h = c.requires.reached in (opening c.args.lines.now h.0, h.1, h.2)

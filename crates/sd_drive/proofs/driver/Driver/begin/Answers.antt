@@ -12,9 +12,6 @@ use Rattle.sd_drive.proofs.driver.Driver.begin.Goals as goal
 pub operate-requires-clause-served : goal.operate-requires-clause-served
 operate-requires-clause-served g c = tt
 
-pub operate-requires-clause-one : goal.operate-requires-clause-one
-operate-requires-clause-one g c = tt
-
 pub operate-requires-clause-due : goal.operate-requires-clause-due
 operate-requires-clause-due g c =
     let tell : Telling _ = telling g.G.Rig.seen g.G.Rig.leaves g.G.Rig.moment g.G.Rig.since g.G.Rig.faults in
@@ -35,7 +32,7 @@ returns-in_err-push-clause-memory g c =
     let b = c.requires.begins in
     let mid = record c.args.self.now { hall = c.operate.new.hall } in
     rw p.1 (begin-lost tell c.args.self.now c.args.line.now c.args.inst b.0 b.1 mid
-    (record { hall = c.operate.new.hall; pages = c.args.self.now.pages; txns = c.push.new.self }) refl c.in_ok-operate.ensures.done)
+    (record c.args.self.now { hall = c.operate.new.hall; txns = c.push.new.self }) refl c.in_ok-operate.ensures.done)
 
 pub last-requires : goal.last-requires
 last-requires g c =
@@ -49,6 +46,6 @@ returns-clause-driven g c =
     let tell : Telling _ = telling g.G.Rig.seen g.G.Rig.leaves g.G.Rig.moment g.G.Rig.since g.G.Rig.faults in
     let b = c.requires.begins in
     begin-came tell c.args.self.now c.args.line.now c.args.inst b.0 b.1 (record c.args.self.now { hall = c.operate.new.hall })
-    (record { hall = c.operate.new.hall; pages = c.args.self.now.pages; txns = c.push.new.self }) refl refl c.in_ok-operate.ensures.done
+    (record c.args.self.now { hall = c.operate.new.hall; txns = c.push.new.self }) (refl, refl) refl c.in_ok-operate.ensures.done
     (λ before r noted. c.in_ok-push.ensures.items
     ∙ ap (λ (o : Option TxnId). c.args.self.now.txns.items ++ o ∷ []) (c.began-txn.ensures ∙ ap began_by (c.last.ensures before _ noted)))

@@ -1,22 +1,34 @@
-use Rattle.std.proofs.Common.{◌≡◌, ℕ, refl, sym, ap, ap₂, ◌∙◌, subst, arith}
+use Rattle.std.proofs.Common.{◌≡◌, ℕ, refl, sym, ap, ◌∙◌, subst, arith}
 use Rattle.std.proofs.lemmas.Result.{err_from_is_err_and}
 use Rattle.sd_model.specs.declared.event.Event.{Event}
 use Rattle.sd_model.specs.declared.event.Event.TheVariants as event
 use Rattle.sd_world.specs.Serving.{Telling, telling}
+use Rattle.sd_state.specs.Complexes.{parts}
+use Rattle.sd_state.specs.Parts.{IsShape, status_at}
+use Rattle.sd_drive.specs.Driving.{lister_by}
 use Rattle.sd_drive.specs.Operating.{DueIn, Operates, OperatesSome}
 use Rattle.sd_drive.specs.Reaching.{is_rows}
 use Rattle.sd_drive.proofs.Operating.{came-some}
-use Rattle.sd_drive.proofs.Tables.{table-due, table-first, table-last, table-next, table-refused, table-some}
+use Rattle.sd_drive.proofs.Tables.{table-due, table-first, table-last, table-next, table-refused, table-shape, table-some}
 use Rattle.sd_drive.proofs.driver.Driver.table.Goals as goal
+
+pub lister-inst-requires-clause-shape : goal.lister-inst-requires-clause-shape
+lister-inst-requires-clause-shape g c =
+    let tell : Telling _ = telling g.G.Rig.seen g.G.Rig.leaves g.G.Rig.moment g.G.Rig.since g.G.Rig.faults in
+    subst (λ d. IsShape (parts d)) (sym c.complex.ensures) (table-shape tell c.args.self.now c.args.line.now c.requires.table 1 c.requires.at)
+
+pub lister-inst-requires-clause-most : goal.lister-inst-requires-clause-most
+lister-inst-requires-clause-most g c = c.requires.at.driven.insts_most
 
 pub loop-number-init : goal.loop-number-init
 loop-number-init g c =
     let tell : Telling _ = telling g.G.Rig.seen g.G.Rig.leaves g.G.Rig.moment g.G.Rig.since g.G.Rig.faults in
     let some = c.requires.at.driven.some in
     record {
-      more = λ lt. table-first tell c.args.self.now c.args.line.now c.requires.table;
+      more = λ lt. table-first tell c.args.self.now c.args.line.now c.requires.table c.lister-inst.result
+          (c.lister-inst.ensures ∙ ap (λ d. lister_by (status_at (parts d)) c.args.self.now.insts) c.complex.ensures);
       last = λ none. absurd (omega (arith, none, some));
-      pages = refl;
+      same = (refl, refl);
       txns = refl;
     }
 
@@ -25,26 +37,23 @@ page_no-page-requires g c =
     let lt = c.loop-number-test.true in
     let most = c.requires.at.driven.most in omega (arith, lt, most)
 
-pub operate-requires-clause-one : goal.operate-requires-clause-one
-operate-requires-clause-one g c = c.only_instance-inst.ensures
-
 pub operate-requires-clause-due : goal.operate-requires-clause-due
 operate-requires-clause-due g c =
     let tell : Telling _ = telling g.G.Rig.seen g.G.Rig.leaves g.G.Rig.moment g.G.Rig.since g.G.Rig.faults in
-    let same : event.List 1 c.loop-number.number ≡ event.List c.only_instance-inst.result c.page_no-page.result =
-    ap₂ (λ (i p : ℕ). event.List i p) (sym c.only_instance-inst.ensures) (sym c.page_no-page.ensures) in
+    let same : event.List c.lister-inst.result c.loop-number.number ≡ event.List c.lister-inst.result c.page_no-page.result =
+    ap (λ (p : ℕ). event.List c.lister-inst.result p) (sym c.page_no-page.ensures) in
     subst (λ (e : Event). DueIn tell c.loop-number.self.hall c.args.line.now.session c.args.line.now.number e) same
-    (table-due tell c.args.self.now c.args.line.now c.requires.table c.loop-number.self c.loop-number.number
+    (table-due tell c.args.self.now c.args.line.now c.requires.table c.lister-inst.result c.loop-number.self c.loop-number.number
     (c.loop-number.invariant.more c.loop-number-test.true) c.requires.at)
 
 pub returns-in_err-operate-clause-memory : goal.returns-in_err-operate-clause-memory
 returns-in_err-operate-clause-memory g c =
     let tell : Telling _ = telling g.G.Rig.seen g.G.Rig.leaves g.G.Rig.moment g.G.Rig.since g.G.Rig.faults in
-    let same : event.List c.only_instance-inst.result c.page_no-page.result ≡ event.List 1 c.loop-number.number =
-    ap₂ (λ (i p : ℕ). event.List i p) c.only_instance-inst.ensures c.page_no-page.ensures in
+    let same : event.List c.lister-inst.result c.page_no-page.result ≡ event.List c.lister-inst.result c.loop-number.number =
+    ap (λ (p : ℕ). event.List c.lister-inst.result p) c.page_no-page.ensures in
     let new = record c.loop-number.self { hall = c.operate.new.hall } in
     let p = err_from_is_err_and c.from_residual.result c.from_residual.ensures.1 in
-    rw p.1 (table-some tell c.args.self.now c.args.line.now c.requires.table c.loop-number.self c.loop-number.number
+    rw p.1 (table-some tell c.args.self.now c.args.line.now c.requires.table c.lister-inst.result c.loop-number.self c.loop-number.number
     (c.loop-number.invariant.more c.loop-number-test.true) new
     (subst (λ (e : Event). OperatesSome tell c.loop-number.self.hall c.operate.new.hall c.args.line.now.session c.args.line.now.number e) same
     c.in_err-operate.ensures.memory))
@@ -52,32 +61,32 @@ returns-in_err-operate-clause-memory g c =
 pub returns-then-not-is_rows-clause-driven : goal.returns-then-not-is_rows-clause-driven
 returns-then-not-is_rows-clause-driven g c =
     let tell : Telling _ = telling g.G.Rig.seen g.G.Rig.leaves g.G.Rig.moment g.G.Rig.since g.G.Rig.faults in
-    let same : event.List c.only_instance-inst.result c.page_no-page.result ≡ event.List 1 c.loop-number.number =
-    ap₂ (λ (i p : ℕ). event.List i p) c.only_instance-inst.ensures c.page_no-page.ensures in
+    let same : event.List c.lister-inst.result c.page_no-page.result ≡ event.List c.lister-inst.result c.loop-number.number =
+    ap (λ (p : ℕ). event.List c.lister-inst.result p) c.page_no-page.ensures in
     let new = record c.loop-number.self { hall = c.operate.new.hall } in
     let came = subst (λ (e : Event). Operates tell c.loop-number.self.hall c.operate.new.hall c.args.line.now.session c.args.line.now.number e) same
     c.in_ok-operate.ensures.done in
-    table-refused tell c.args.self.now c.args.line.now c.requires.table c.loop-number.self c.loop-number.number
+    table-refused tell c.args.self.now c.args.line.now c.requires.table c.lister-inst.result c.loop-number.self c.loop-number.number
     (c.loop-number.invariant.more c.loop-number-test.true) new came
     (λ before r noted. sym (ap is_rows (c.last.ensures before _ noted)) ∙ sym c.is_rows.ensures ∙ c.if-not-is_rows.true)
-    c.loop-number.invariant.pages c.loop-number.invariant.txns
+    c.loop-number.invariant.same c.loop-number.invariant.txns
 
 pub loop-number-preserved : goal.loop-number-preserved
 loop-number-preserved g c =
     let tell : Telling _ = telling g.G.Rig.seen g.G.Rig.leaves g.G.Rig.moment g.G.Rig.since g.G.Rig.faults in
-    let same : event.List c.only_instance-inst.result c.page_no-page.result ≡ event.List 1 c.loop-number.number =
-    ap₂ (λ (i p : ℕ). event.List i p) c.only_instance-inst.ensures c.page_no-page.ensures in
+    let same : event.List c.lister-inst.result c.page_no-page.result ≡ event.List c.lister-inst.result c.loop-number.number =
+    ap (λ (p : ℕ). event.List c.lister-inst.result p) c.page_no-page.ensures in
     let new = record c.loop-number.self { hall = c.operate.new.hall } in
     let came = subst (λ (e : Event). Operates tell c.loop-number.self.hall c.operate.new.hall c.args.line.now.session c.args.line.now.number e) same
     c.in_ok-operate.ensures.done in
     let on = c.loop-number.invariant.more c.loop-number-test.true in
     record {
-      more = λ lt. table-next tell c.args.self.now c.args.line.now c.requires.table c.loop-number.self c.loop-number.number on new came
+      more = λ lt. table-next tell c.args.self.now c.args.line.now c.requires.table c.lister-inst.result c.loop-number.self c.loop-number.number on new came
           (λ before r noted. sym (ap is_rows (c.last.ensures before _ noted)) ∙ sym c.is_rows.ensures ∙ c.if-not-is_rows.false) lt;
-      last = λ is. table-last tell c.args.self.now c.args.line.now c.requires.table c.loop-number.self c.loop-number.number on new came
+      last = λ is. table-last tell c.args.self.now c.args.line.now c.requires.table c.lister-inst.result c.loop-number.self c.loop-number.number on new came
           (λ before r noted. sym (ap is_rows (c.last.ensures before _ noted)) ∙ sym c.is_rows.ensures ∙ c.if-not-is_rows.false) (omega (arith, is))
-          c.loop-number.invariant.pages c.loop-number.invariant.txns;
-      pages = c.loop-number.invariant.pages;
+          c.loop-number.invariant.same c.loop-number.invariant.txns;
+      same = c.loop-number.invariant.same;
       txns = c.loop-number.invariant.txns;
     }
 
@@ -87,10 +96,10 @@ returns-clause-driven g c = c.loop-number.invariant.last (omega arith)
 pub last-requires : goal.last-requires
 last-requires g c =
     let tell : Telling _ = telling g.G.Rig.seen g.G.Rig.leaves g.G.Rig.moment g.G.Rig.since g.G.Rig.faults in
-    let same : event.List c.only_instance-inst.result c.page_no-page.result ≡ event.List 1 c.loop-number.number =
-    ap₂ (λ (i p : ℕ). event.List i p) c.only_instance-inst.ensures c.page_no-page.ensures in
-    came-some tell c.loop-number.self.hall c.operate.new.hall c.args.line.now.session c.args.line.now.number (event.List 1 c.loop-number.number)
+    let same : event.List c.lister-inst.result c.page_no-page.result ≡ event.List c.lister-inst.result c.loop-number.number =
+    ap (λ (p : ℕ). event.List c.lister-inst.result p) c.page_no-page.ensures in
+    came-some tell c.loop-number.self.hall c.operate.new.hall c.args.line.now.session c.args.line.now.number (event.List c.lister-inst.result c.loop-number.number)
     (subst (λ (e : Event). Operates tell c.loop-number.self.hall c.operate.new.hall c.args.line.now.session c.args.line.now.number e) same
     c.in_ok-operate.ensures.done)
-    (table-due tell c.args.self.now c.args.line.now c.requires.table c.loop-number.self c.loop-number.number
+    (table-due tell c.args.self.now c.args.line.now c.requires.table c.lister-inst.result c.loop-number.self c.loop-number.number
     (c.loop-number.invariant.more c.loop-number-test.true) c.requires.at)

@@ -30,7 +30,7 @@ returns-in_err-take_place-clause-keeps g c =
 pub returns-in_err-reply-clause-there : goal.returns-in_err-reply-clause-there
 returns-in_err-reply-clause-there g c =
     let p = err_from_is_err_and c.from_residual-in_err-reply.result c.from_residual-in_err-reply.ensures.1 in
-    rw p.1 (λ w f owed. c.in_err-reply.ensures.there w.scene.state owed refl)
+    rw p.1 (λ w f owed. c.in_err-reply.ensures.there w owed refl)
 
 pub returns-in_err-reply-clause-keeps : goal.returns-in_err-reply-clause-keeps
 returns-in_err-reply-clause-keeps g c =
@@ -38,7 +38,7 @@ returns-in_err-reply-clause-keeps g c =
     let place = c.take_place.ensures in
     λ start k.
     let made = no-place tell start c.args.e c.args.self.now c.take_place.new.self k
-    (λ m owed. c.in_err-reply.ensures.there m owed refl) c.in_ok-take_place.ensures.place in
+    (λ w owed. c.in_err-reply.ensures.there w owed refl) c.in_ok-take_place.ensures.place in
     keeps-same tell start c.args.self.now
     (record {
       complex = c.serve.new.c;
@@ -87,4 +87,5 @@ returns-clause-keeps g c =
     (c.note.ensures.entries ∙ ap (λ (es : List Entry). es ++ entry ∷ []) c.take_place.ensures.entries)
     (subst (λ d. Serving tell c.args.e
     (Some c.in_ok-reply.reply) d c.serve.new.c) c.take_place.ensures.complex c.in_ok-reply.ensures.served)
+    c.in_ok-reply.ensures.down
     (ap (λ n. c.take_place.new.self.owed + n) more) c.note.ensures.spare

@@ -39,3 +39,10 @@ returns-clause-places g c = λ p. ap (λ (s : DirectoryState g.row.I.Denot). ent
     (λ lt. c.loop-n.invariant.places p (omega (arith, lt, c.loop-n-test.false)))
     (λ past. c.loop-n.invariant.later p (omega (arith, past, c.loop-n.auto.n-end)) ∙ c.keeps.ensures.past p past ∙ ap (fallen c.args.i) (sym (c.keeps.ensures.past p past)))
     (cases_lt p 1024)
+
+pub returns-clause-images : goal.returns-clause-images
+returns-clause-images g c = λ p. ap (λ (s : DirectoryState g.row.I.Denot). image_at s p) c.self-2.view_is ∙ ⊎_elim
+    (λ lt. c.loop-n.invariant.images p (omega (arith, lt, c.loop-n-test.false)))
+    (λ past. c.loop-n.invariant.later_images p (omega (arith, past, c.loop-n.auto.n-end))
+    ∙ ap (λ (x : Entry). cond {A = Option g.row.I.Denot} (receives x c.args.i) None (image_at c.args.self.now p)) (sym (c.keeps.ensures.past p past)))
+    (cases_lt p 1024)

@@ -1,12 +1,20 @@
 use Rattle.std.proofs.Common.{◌∙◌, ap, length, None, Option}
 use Rattle.std.proofs.lemmas.List.{length-replicate}
 use Rattle.sd_base.specs.declared.place.Place.TheVariants as variants
+use Rattle.sd_pagelock.specs.Asks.{Queues, asks_for}
 use Rattle.sd_pagelock.specs.Places.{seen}
 use Rattle.sd_pagelock.proofs.Kept.{kept-new, blank}
 use Rattle.sd_pagelock.proofs.directory.Directory.new.Goals as goal
 
 pub invariant_of-result : goal.invariant_of-result
-invariant_of-result g c = kept-new _ _ _ c.in_ok-repeated.ensures c.in_ok-repeated-2.ensures (ap length c.in_ok-nothing.ensures ∙ length-replicate {A = Option g.row.I.Denot} 1024 None)
+invariant_of-result g c = (
+  kept-new _ _ _ c.in_ok-repeated.ensures c.in_ok-repeated-2.ensures
+      (ap length c.in_ok-nothing.ensures ∙ length-replicate {A = Option g.row.I.Denot} 1024 None),
+  record {
+    count = ap length c.in_ok-nothing-2.ensures ∙ length-replicate {A = Option g.row.I.Denot} 1024 None;
+    unasked = λ p lt none still. ap (λ (q : Queues). asks_for q p) c.new.ensures;
+  },
+)
 
 pub returns-clause-free : goal.returns-clause-free
 returns-clause-free g c = λ p. ap seen (blank c.in_ok-repeated.field-0.items variants.Free c.in_ok-repeated.ensures p)

@@ -7,17 +7,19 @@ use Rattle.sd_pagelock.proofs.directory.Directory.write.Goals as goal
 pub recounted-self-inside-requires-clause-low : goal.recounted-self-inside-requires-clause-low
 recounted-self-inside-requires-clause-low g c = λ lost.
     let d = c.self.inside in
-    let within : c.get-at.result < length d.places.items = omega (arith, c.get-at.ensures.range, c.self.invariant.pages) in
-    omega (arith, some_lost d.places.items c.get-at.result c.index.result.now within c.index.ensures lost, c.self.invariant.counted)
+    let within : c.get-at.result < length d.places.items = omega (arith, c.get-at.ensures.range, c.self.invariant.0.pages) in
+    omega (arith, some_lost d.places.items c.get-at.result c.index.result.now within c.index.ensures lost, c.self.invariant.0.counted)
 
 pub recounted-self-inside-requires-clause-high : goal.recounted-self-inside-requires-clause-high
-recounted-self-inside-requires-clause-high g c = omega (arith, few_lost c.self.inside.places.items, c.self.invariant.counted, c.self.invariant.pages)
+recounted-self-inside-requires-clause-high g c = omega (arith, few_lost c.self.inside.places.items, c.self.invariant.0.counted, c.self.invariant.0.pages)
 
 pub invariant_of-self : goal.invariant_of-self
 invariant_of-self g c =
     let d = c.self.inside in
-    let within : c.get-at.result < length d.places.items = omega (arith, c.get-at.ensures.range, c.self.invariant.pages) in
-    let lost = is_lost (seen c.args.to) in
-    kept-write d.places.items d.rec_lsns.items (length d.images.items) d.lost c.recounted-self-inside.result c.get-at.result c.args.to c.args.rec c.self.invariant
-    (put_counts d.places.items c.get-at.result c.index.result.now c.args.to c.recounted-self-inside.result (is_lost (seen c.index.result.now)) lost within c.index.ensures refl refl (c.recounted-self-inside.ensures ∙ ap (λ (n : ℕ). n + cond lost 1 0) c.self.invariant.counted))
-    c.get-at.ensures.range c.requires.formed c.users_are_instances.ensures c.requires.marked
+    let within : c.get-at.result < length d.places.items = omega (arith, c.get-at.ensures.range, c.self.invariant.0.pages) in
+    let lost = is_lost (seen c.args.to) in (
+      kept-write d.places.items d.rec_lsns.items (length d.images.items) d.lost c.recounted-self-inside.result c.get-at.result c.args.to c.args.rec c.self.invariant.0
+          (put_counts d.places.items c.get-at.result c.index.result.now c.args.to c.recounted-self-inside.result (is_lost (seen c.index.result.now)) lost within c.index.ensures refl refl (c.recounted-self-inside.ensures ∙ ap (λ (n : ℕ). n + cond lost 1 0) c.self.invariant.0.counted))
+          c.get-at.ensures.range c.requires.formed c.users_are_instances.ensures c.requires.marked,
+      c.self.invariant.1,
+    )

@@ -36,5 +36,5 @@ invariant_of-result c =
     let lines : List Line = inside.lines.items in
     let follows : Follows lines c.args.line.form = subst (λ (l : List Line). IsFresh l c.args.line.form → Follows l c.args.line.form) (sym c.self.view_is) c.requires.follows (fresh c) in
     let names = subst (λ (o : Option Names). IfSome o (λ (names : Names). (name : List ℕ) → IsName name → known names name ≡ known_after (known inside.begun) inside.begins c.args.line.form name)) c.in-Some.is c.in_ok-begun.ensures.names in
-    let next = remembers_push lines c.args.line (known inside.begun) (known c.in-Some.begun) inside.begins inside.opened inside.insts inside.pages inside.tables c.self.invariant follows names in
-    rw (c.in_ok-push.ensures.items, c.begins_behind-begins.ensures, c.opened_behind-opened.ensures, c.insts_behind-insts.ensures, c.pages_behind-pages.ensures, c.tables_behind-tables.ensures) next
+    let next = remembers_push lines c.args.line (known inside.begun) (known c.in-Some.begun) inside.begins inside.insts inside.pages inside.tables c.self.invariant follows names in
+    rw (c.in_ok-push.ensures.items, c.begins_behind-begins.ensures, c.insts_behind-insts.ensures, c.pages_behind-pages.ensures, c.tables_behind-tables.ensures) next

@@ -95,6 +95,7 @@ returns-clause-made g c =
       page = c.take_back-undone.ensures.page o image top (ap (λ (b : Buffers). image_at b o.rid.page) (sym pool_is) ∙ can.copy)
           ∙ ap (λ (r : Record). Some (redo image (flat r))) taken;
       other_pages = λ q ne. c.take_back-undone.ensures.others o top q ne ∙ ap (λ (b : Buffers). image_at b q) (sym pool_is);
+      frames = c.take_back-undone.ensures.frames ∙ ap (λ (b : Buffers). b.frames) (sym pool_is);
       entry = subst (λ (k : ℕ). entry_at places k ≡ dirtied a) page_is c.set.ensures.here;
       rec_lsn = subst (λ (k : ℕ). rec_lsn_at places o.rid.page
           ≡ kept_rec (changed (entry_at p.directory o.rid.page)) true (rec_lsn_at p.directory o.rid.page) (Some k)) lsn_is

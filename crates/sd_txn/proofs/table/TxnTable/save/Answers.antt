@@ -1,9 +1,10 @@
 use Rattle.std.proofs.Common.{sym, ap, subst, ◌∙◌}
 use Rattle.std.specs.Map.{set_value}
-use Rattle.std.specs.Option.{option_copied_mut}
+use Rattle.std.specs.Prelude.{Some}
+use Rattle.std.specs.Option.{option_and_then, option_copied_mut, option_map_or}
 use Rattle.sd_base.specs.Ids.{same_txn}
 use Rattle.sd_txn.specs.Kept.{IsTable}
-use Rattle.sd_txn.specs.Transactions.{Transaction, saved}
+use Rattle.sd_txn.specs.Transactions.{Transaction, depth, mark_of, saved}
 use Rattle.sd_txn.specs.contracts.table.TxnTable.{the_view}
 use Rattle.sd_txn.proofs.Keyed.{changed, same, sets}
 use Rattle.sd_txn.proofs.Marks.{either_way, err_so, ok_so}
@@ -28,6 +29,9 @@ returns c =
     let s = sets (the_view c.self.inside) c.args.self.now c.self.view_is (c.get_mut.follows.lender c.save.new.self) c.args.t.now c.unwrap.result.now c.save.new.self (c.get_mut.follows.holds c.save.new.self) at in
     record {
       changed = ok_so c.save.result (changed (saved c.args.mark) _ _ _ _ _ s) c.save.ensures.ok;
+      number = ok_so c.save.result
+          (λ n. ap (option_and_then (mark_of c.args.mark)) s.now ∙ n ∙ ap (λ k. Some k) (sym (ap (λ o. option_map_or depth o 0) s.was)))
+          c.save.ensures.number;
       err = err_so c.save.result (same _ _ _ _ _ s) c.save.ensures.err;
       others = s.others;
       order = s.order;

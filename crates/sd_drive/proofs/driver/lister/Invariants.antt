@@ -1,0 +1,13 @@
+use Rattle.std.proofs.Common.{◌≡◌, ℕ, ◌+◌, ◌-◌}
+use Rattle.sd_state.specs.Complexes.{parts}
+use Rattle.sd_state.specs.Parts.{status_at}
+use Rattle.sd_drive.specs.Driving.{first_from, is_up}
+use Rattle.sd_drive.proofs.driver.lister.Given as goal
+
+-- none of those before is up
+abbrev pub invariant-loop-number : goal.invariant-loop-number
+invariant-loop-number g l =
+    record {
+      rest : first_from (λ (i : ℕ). is_up (status_at (parts l.c) i)) 1 l.insts
+          ≡ first_from (λ (i : ℕ). is_up (status_at (parts l.c) i)) (l.number + 1) (l.insts - l.number);
+    }

@@ -1,0 +1,101 @@
+use Rattle.std.proofs.Common.{◌∙◌}
+use Rattle.std.proofs.lemmas.Result.{err_from_is_err_and}
+use Rattle.sd_world.specs.Serving.{Telling, telling}
+use Rattle.sd_drive.specs.Pulls.{Pull, Puller}
+use Rattle.sd_drive.proofs.Helps.{if-ok-then, on-err-then}
+use Rattle.sd_drive.proofs.Pulled.{asked-all, asked-on, full-in, full-inst, full-on, gave-round, moving-on, pulled-on, room-round, stays-some, then-some, then-stays, took-round}
+use Rattle.sd_drive.proofs.pull.round.Goals as goal
+
+pub help-requires-clause-at : goal.help-requires-clause-at
+help-requires-clause-at g c = let at = c.requires.at in (at.start, at.world, at.there)
+
+pub returns-in_err-answer-clause-memory : goal.returns-in_err-answer-clause-memory
+returns-in_err-answer-clause-memory g c =
+    let tell : Telling _ = telling g.G.Rig.seen g.G.Rig.leaves g.G.Rig.moment g.G.Rig.since g.G.Rig.faults in
+    let p = err_from_is_err_and c.from_residual.result c.from_residual.ensures.1 in
+    rw p.1 (stays-some tell (record { inst = c.args.inst; mode = c.args.mode }) c.args.hall.now c.help.new.hall (Pull.Asks c.args.page) c.in_err-answer.ensures.memory)
+
+pub give-requires : goal.give-requires
+give-requires g c =
+    let tell : Telling _ = telling g.G.Rig.seen g.G.Rig.leaves g.G.Rig.moment g.G.Rig.since g.G.Rig.faults in
+    let h = c.in_ok-answer.ensures.helped in
+    let k = pulled-on tell (record { inst = c.args.inst; mode = c.args.mode }) c.args.hall.now c.help.new.hall (Pull.Asks c.args.page) (Pull.Gives c.args.page c.in-Asked.of) _
+    (asked-on tell c.args.inst c.args.page c.args.mode c.args.hall.now c.help.new.hall h.0 h.2 c.in-Asked.of (h.1 ∙ c.in-Asked.is)) c.requires.at in
+    record { at = (k.start, k.world, k.there) }
+
+pub take-requires : goal.take-requires
+take-requires g c =
+    let tell : Telling _ = telling g.G.Rig.seen g.G.Rig.leaves g.G.Rig.moment g.G.Rig.since g.G.Rig.faults in
+    let h = c.in_ok-answer.ensures.helped in
+    let for : Puller = record { inst = c.args.inst; mode = c.args.mode } in
+    let k = pulled-on tell for c.args.hall.now c.help.new.hall (Pull.Asks c.args.page) (Pull.Takes c.args.page c.in-MovingTo.to) _
+    (moving-on tell c.args.inst c.args.page c.args.mode c.args.hall.now c.help.new.hall h.0 h.2 c.in-MovingTo.to (h.1 ∙ c.in-MovingTo.is)) c.requires.at in
+    record { at = (for, k) }
+
+pub make_room-requires : goal.make_room-requires
+make_room-requires g c =
+    let tell : Telling _ = telling g.G.Rig.seen g.G.Rig.leaves g.G.Rig.moment g.G.Rig.since g.G.Rig.faults in
+    let h = c.in_ok-answer.ensures.helped in
+    let for : Puller = record { inst = c.args.inst; mode = c.args.mode } in
+    let k = full-in tell for c.args.hall.now c.help.new.hall (Pull.Asks c.args.page) c.args.page c.args.inst _
+    (full-on tell c.args.inst c.args.page c.args.mode c.args.hall.now c.help.new.hall h.0 h.2 (h.1 ∙ c.in-NoFrame.is))
+    (λ a b full. full-inst c.args.inst c.args.page c.args.mode a b full) c.requires.at in
+    record { at = (for, c.args.page, k.0, k.1) }
+
+pub returns-in-Asked-clause-rounds : goal.returns-in-Asked-clause-rounds
+returns-in-Asked-clause-rounds g c =
+    let tell : Telling _ = telling g.G.Rig.seen g.G.Rig.leaves g.G.Rig.moment g.G.Rig.since g.G.Rig.faults in
+    let h = c.in_ok-answer.ensures.helped in
+    let for : Puller = record { inst = c.args.inst; mode = c.args.mode } in
+    if-ok-then c.give.result _ _ (λ given on. gave-round tell c.args.inst c.args.page c.args.mode c.args.hall.now c.help.new.hall c.give.new.hall c.in-Asked.of given
+    (asked-on tell c.args.inst c.args.page c.args.mode c.args.hall.now c.help.new.hall h.0 h.2 c.in-Asked.of (h.1 ∙ c.in-Asked.is)) (on for)) c.give.ensures.given
+
+pub returns-in-Asked-clause-memory : goal.returns-in-Asked-clause-memory
+returns-in-Asked-clause-memory g c =
+    let tell : Telling _ = telling g.G.Rig.seen g.G.Rig.leaves g.G.Rig.moment g.G.Rig.since g.G.Rig.faults in
+    let h = c.in_ok-answer.ensures.helped in
+    let for : Puller = record { inst = c.args.inst; mode = c.args.mode } in
+    on-err-then c.give.result _ _ (λ stays. then-stays tell for c.args.hall.now c.help.new.hall c.give.new.hall (Pull.Asks c.args.page) (Pull.Gives c.args.page c.in-Asked.of) _
+    (asked-on tell c.args.inst c.args.page c.args.mode c.args.hall.now c.help.new.hall h.0 h.2 c.in-Asked.of (h.1 ∙ c.in-Asked.is)) stays) c.give.ensures.memory
+
+pub returns-in-MovingTo-clause-rounds : goal.returns-in-MovingTo-clause-rounds
+returns-in-MovingTo-clause-rounds g c =
+    let tell : Telling _ = telling g.G.Rig.seen g.G.Rig.leaves g.G.Rig.moment g.G.Rig.since g.G.Rig.faults in
+    let h = c.in_ok-answer.ensures.helped in
+    let for : Puller = record { inst = c.args.inst; mode = c.args.mode } in
+    if-ok-then c.take.result _ _ (λ taken on. took-round tell c.args.inst c.args.page c.args.mode c.args.hall.now c.help.new.hall c.take.new.hall c.in-MovingTo.to taken
+    (moving-on tell c.args.inst c.args.page c.args.mode c.args.hall.now c.help.new.hall h.0 h.2 c.in-MovingTo.to (h.1 ∙ c.in-MovingTo.is)) (on for)) c.take.ensures.taken
+
+pub returns-in-MovingTo-clause-memory : goal.returns-in-MovingTo-clause-memory
+returns-in-MovingTo-clause-memory g c =
+    let tell : Telling _ = telling g.G.Rig.seen g.G.Rig.leaves g.G.Rig.moment g.G.Rig.since g.G.Rig.faults in
+    let h = c.in_ok-answer.ensures.helped in
+    let for : Puller = record { inst = c.args.inst; mode = c.args.mode } in
+    on-err-then c.take.result _ _ (λ some. then-some tell for c.args.hall.now c.help.new.hall c.take.new.hall (Pull.Asks c.args.page) (Pull.Takes c.args.page c.in-MovingTo.to) _
+    (moving-on tell c.args.inst c.args.page c.args.mode c.args.hall.now c.help.new.hall h.0 h.2 c.in-MovingTo.to (h.1 ∙ c.in-MovingTo.is)) (some for)) c.take.ensures.memory
+
+pub returns-in-NoFrame-clause-rounds : goal.returns-in-NoFrame-clause-rounds
+returns-in-NoFrame-clause-rounds g c =
+    let tell : Telling _ = telling g.G.Rig.seen g.G.Rig.leaves g.G.Rig.moment g.G.Rig.since g.G.Rig.faults in
+    let h = c.in_ok-answer.ensures.helped in
+    let for : Puller = record { inst = c.args.inst; mode = c.args.mode } in
+    if-ok-then c.make_room.result _ _ (λ room on. room-round tell c.args.inst c.args.page c.args.mode c.args.hall.now c.help.new.hall c.make_room.new.hall room
+    (full-on tell c.args.inst c.args.page c.args.mode c.args.hall.now c.help.new.hall h.0 h.2 (h.1 ∙ c.in-NoFrame.is)) (on for c.args.page)) c.make_room.ensures.room
+
+pub returns-in-NoFrame-clause-memory : goal.returns-in-NoFrame-clause-memory
+returns-in-NoFrame-clause-memory g c =
+    let tell : Telling _ = telling g.G.Rig.seen g.G.Rig.leaves g.G.Rig.moment g.G.Rig.since g.G.Rig.faults in
+    let h = c.in_ok-answer.ensures.helped in
+    let for : Puller = record { inst = c.args.inst; mode = c.args.mode } in
+    on-err-then c.make_room.result _ _ (λ some. then-some tell for c.args.hall.now c.help.new.hall c.make_room.new.hall (Pull.Asks c.args.page) (Pull.Room c.args.page c.args.inst) _
+    (full-on tell c.args.inst c.args.page c.args.mode c.args.hall.now c.help.new.hall h.0 h.2 (h.1 ∙ c.in-NoFrame.is)) (some for c.args.page)) c.make_room.ensures.memory
+
+pub returns-in_default : goal.returns-in_default
+returns-in_default g c =
+    let tell : Telling _ = telling g.G.Rig.seen g.G.Rig.leaves g.G.Rig.moment g.G.Rig.since g.G.Rig.faults in
+    let h = c.in_ok-answer.ensures.helped in
+    record {
+      rounds = asked-all tell c.args.inst c.args.page c.args.mode c.args.hall.now c.help.new.hall h.0 h.2 c.in_ok-answer.answer h.1
+          c.in_default.not-Asked c.in_default.not-MovingTo c.in_default.not-NoFrame;
+      memory = tt;
+    }

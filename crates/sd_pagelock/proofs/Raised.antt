@@ -1,0 +1,61 @@
+-- A page that is raised behind another row: what is left of its asks, and its RecLSN. For calls that make two moves of one event.
+use Rattle.std.proofs.Common.{◌≡◌, ℕ, Bool, true, false, cond, eqb, List, [], ◌∷◌, Option, None, refl, sym, ap, ◌∙◌, subst, eqb-true}
+use Rattle.std.specs.Prelude.{filter, is_some, not}
+use Rattle.sd_base.specs.declared.place.Mode.{Mode}
+use Rattle.sd_base.specs.declared.place.Mode.TheVariants as modes
+use Rattle.sd_pagelock.specs.declared.queue.Ask.{Ask}
+use Rattle.sd_pagelock.specs.Asks.{is_open, open_asks}
+use Rattle.sd_pagelock.specs.Directory.{kept_rec}
+use Rattle.sd_pagelock.specs.Places.{Entry, holds_as}
+use Rattle.sd_pagelock.specs.Rows.{may_raise, raised}
+
+-- an ask that the raised page leaves open was open
+pub open-raised : (i : ℕ) (e : Entry) → may_raise i e ≡ true → (ask : Ask) → is_open (raised i e) ask ≡ true → is_open e ask ≡ true
+open-raised i Entry.Free may ask left = absurd (cc)
+open-raised i Entry.Lost may ask left = absurd (cc)
+open-raised i (Entry.Excl holder dirty) may ask left = absurd (cc)
+open-raised i (Entry.Moving to mode rest dirty) may ask left = absurd (cc)
+open-raised i (Entry.Shared [] writer) may ask left = absurd (cc)
+open-raised i (Entry.Shared (x ∷ y ∷ xs) writer) may ask left = absurd (cc)
+open-raised i (Entry.Shared (x ∷ []) writer) may ask left = subst
+    (λ (k : ℕ). is_open (Entry.Shared (k ∷ []) writer) ask ≡ true) (sym (eqb-true x i may)) (by ask.mode left)
+  where
+    one : (b : Bool) → not b ≡ true → not (cond b true false) ≡ true
+    one true h = absurd (cc)
+    one false h = refl
+
+    by : (mode : Mode) → not (holds_as mode (Entry.Excl i (is_some writer)) ask.by) ≡ true
+        → not (holds_as mode (Entry.Shared (i ∷ []) writer) ask.by) ≡ true
+    by modes.Shared h = one (eqb i ask.by) h
+    by modes.Excl h = refl
+
+-- what a test lets through that lets nothing through which the other stops
+filter-again : (f g : Ask → Bool) → ((ask : Ask) → f ask ≡ true → g ask ≡ true) → (asks : List Ask)
+    → filter f (filter g asks) ≡ filter f asks
+filter-again f g less [] = refl
+filter-again f g less (a ∷ asks) = go (g a) refl (f a) refl (filter-again f g less asks)
+  where
+    go : (b : Bool) → g a ≡ b → (d : Bool) → f a ≡ d → filter f (filter g asks) ≡ filter f asks
+        → filter f (cond b (a ∷ filter g asks) (filter g asks)) ≡ cond d (a ∷ filter f asks) (filter f asks)
+    go true let_by true passes same = ap (λ (t : Bool). cond t (a ∷ filter f (filter g asks)) (filter f (filter g asks))) passes
+        ∙ ap (λ (l : List Ask). a ∷ l) same
+    go true let_by false passes same = ap (λ (t : Bool). cond t (a ∷ filter f (filter g asks)) (filter f (filter g asks))) passes ∙ same
+    go false stopped true passes same = absurd (let clash : false ≡ true = sym stopped ∙ less a passes in absurd (cc))
+    go false stopped false passes same = same
+
+-- so the asks that are left are those that it would have left alone
+pub open_asks-raised : (i : ℕ) (e : Entry) → may_raise i e ≡ true → (asks : List Ask)
+    → open_asks (raised i e) (open_asks e asks) ≡ open_asks (raised i e) asks
+open_asks-raised i e may asks = filter-again (is_open (raised i e)) (is_open e) (open-raised i e may) asks
+
+-- a page that stays changed, or unchanged, keeps its RecLSN in two moves as in one
+pub kept_rec-twice : (a b c : Bool) → b ≡ a → c ≡ b → (rec : Option ℕ)
+    → kept_rec b c (kept_rec a b rec None) None ≡ kept_rec a c rec None
+kept_rec-twice true true true e f rec = refl
+kept_rec-twice true true false e f rec = refl
+kept_rec-twice true false true e f rec = absurd (cc)
+kept_rec-twice true false false e f rec = refl
+kept_rec-twice false true true e f rec = absurd (cc)
+kept_rec-twice false true false e f rec = refl
+kept_rec-twice false false true e f rec = refl
+kept_rec-twice false false false e f rec = refl

@@ -1,0 +1,6 @@
+mod Calms
+mod Outs
+mod Turned
+mod Undone
+mod Ends
+mod Finishing

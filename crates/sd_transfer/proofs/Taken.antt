@@ -1,0 +1,213 @@
+-- A take serves its event: for the goals of taking.rt.
+use Rattle.std.proofs.Common.{◌≡◌, ℕ, ◌≤◌, true, false, refl, sym, ap, ◌∙◌, eqb-true}
+use Rattle.std.specs.Prelude.{None, Some}
+use Rattle.sd_base.specs.Sets.{has}
+use Rattle.sd_base.specs.declared.place.Place.{Place}
+use Rattle.sd_base.specs.declared.refusal.Refusal.{Refusal}
+use Rattle.sd_base.specs.declared.refusal.Refusal.TheVariants as R
+use Rattle.sd_page.specs.Page.{Page}
+use Rattle.sd_rig.specs.Devices.{Image, Leaves}
+use Rattle.sd_model.specs.Applies.{Serves as Standing}
+use Rattle.sd_model.specs.Causes.{order}
+use Rattle.sd_model.specs.State.{State}
+use Rattle.sd_model.specs.declared.cause.Cause.{Cause}
+use Rattle.sd_model.specs.declared.event.Event.{Event}
+use Rattle.sd_model.specs.declared.event.Event.TheVariants.{Take}
+use Rattle.sd_model.specs.declared.event.Reply.TheVariants as reply
+use Rattle.sd_pagelock.specs.Directory.{asks_at, entry_at}
+use Rattle.sd_pagelock.specs.Places.{Entry, Formed, holds, is_lost, receives, seen}
+use Rattle.sd_pagelock.specs.Rows.{taken}
+use Rattle.sd_pool.specs.Buffers as buffers
+use Rattle.sd_pool.specs.Buffers.{Buffers, IsPool, with_page}
+use Rattle.sd_world.specs.PageCauses.{IsAway, IsLostFor, LacksFrame, NoneSays}
+use Rattle.sd_world.specs.Pages.{held, placed}
+use Rattle.sd_world.specs.Serving.{Core, Serves, Telling, refused}
+use Rattle.sd_state.specs.Complexes.{parts}
+use Rattle.sd_state.specs.Good.{Good}
+use Rattle.sd_state.specs.Locking.{IsSet, with_place}
+use Rattle.sd_state.specs.Parts.{Parts, is_active, pool_at}
+use Rattle.sd_state.specs.Values.{Pending}
+use Rattle.sd_state.specs.declared.complex.Complex.{Complex}
+use Rattle.sd_fits.specs.Serving.{Serving, fits_by, stands_for}
+use Rattle.sd_fits.proofs.Frames.{frames-held, frames-left}
+use Rattle.sd_fits.proofs.Passing.{kept-spared, passed-served}
+use Rattle.sd_fits.proofs.Places.{frames-kept, turns-repaged}
+use Rattle.sd_fits.proofs.Refused.{IsFor, active-serves, idle-refuses, refused-serves, unlike}
+use Rattle.sd_fits.proofs.Served.{none-ended}
+use Rattle.sd_moves.specs.Places.{IsAsked, with_directory}
+use Rattle.sd_transfer.specs.Giving.{OnlyPages}
+use Rattle.sd_transfer.specs.Taking.{IsUntaken, MayTake}
+use Rattle.sd_transfer.proofs.Fetched.{not-copied}
+
+-- the receiver of a page has no copy of it
+receiver-lacks : (i : ℕ) (e : Entry) → Formed e → receives e i ≡ true → holds e i ≡ false
+receiver-lacks i Entry.Free formed comes = absurd (cc)
+receiver-lacks i (Entry.Shared set writer) formed comes = absurd (cc)
+receiver-lacks i (Entry.Excl holder dirty) formed comes = absurd (cc)
+receiver-lacks i (Entry.Moving to mode rest dirty) formed comes = ap (λ (k : ℕ). has k rest) (sym (eqb-true to i comes)) ∙ formed.1
+receiver-lacks i Entry.Lost formed comes = absurd (cc)
+
+-- but for pools and directory a complex stays that is given both
+pub only-pages : (old new : Parts) (i : ℕ) (pool : Buffers) → new ≡ with_place i pool new.directory old → OnlyPages old new
+only-pages old new i pool is = is ∙ ap (λ (k : Parts). record old { pools = k.pools; directory = new.directory }) (sym is)
+
+module _ {G : Type 0} (tell : Telling G) (c : Complex G) (i p : ℕ) (low : 1 ≤ i) (high : i ≤ 8)
+    (now : (img : Image) → tell.since c.rig (tell.moment c.rig) img → Leaves (tell.leaves c.rig) img) where
+  abbrev here : Entry
+  here = entry_at (parts c).directory p
+
+  abbrev event : Event
+  event = Take i p
+
+  -- ---- what the world says of it
+
+  module _ (w : Core) (f : fits_by tell.seen tell.leaves c w) where
+    abbrev m : State
+    m = w.scene.state
+
+    stands : is_active (parts c) i ≡ true → (Standing m event → ⊥) → ⊥
+    stands active none = none (active-serves (tell.seen c.rig) (tell.leaves c.rig) (parts c) w f i low high active)
+
+    falls : is_active (parts c) i ≡ false → Standing m event → ⊥
+    falls idle is = idle-refuses (tell.seen c.rig) (tell.leaves c.rig) (parts c) w f i low high idle is
+
+    found : is_lost here ≡ false → IsLostFor m w.pages event → ⊥
+    found is lost = unlike is (sym (ap is_lost (f.pages.entry p)) ∙ lost)
+
+    comes : receives here i ≡ true → IsAway m w.pages event → ⊥
+    comes is away = unlike away (ap (λ (e : Entry). receives e i) (f.pages.entry p) ∙ is)
+
+    -- ---- a refusal
+
+    abbrev Refuses : Refusal → Type 0
+    Refuses n = (w' : Core) × Serves {C = Complex G} tell stands_for (λ k. k.rig) (fits_by tell.seen tell.leaves) event
+        (reply.Refused n) c c w w'
+
+    refused-so : (n : Refusal) (cause : Cause) → IsFor m w event n cause → Refuses n
+    refused-so n cause is = refused-serves tell c now w f event n cause is
+
+    down : is_active (parts c) i ≡ false → IsFor m w event R.Down Cause.Down
+    down idle = record {
+      waits = refl;
+      whom = tt;
+      unused = tt;
+      allowed = tt;
+      names = refl;
+      tells = tt;
+      first = (refl, (f.good.not_closed, tt), falls idle);
+      refuses = refl;
+      passes = (tt, tt);
+      says = λ never. absurd (cc);
+      place = tt;
+      left = refl;
+    }
+
+    lost : is_active (parts c) i ≡ true → is_lost here ≡ true → IsFor m w event R.Lost Cause.Lost
+    lost active is = record {
+      waits = refl;
+      whom = tt;
+      unused = tt;
+      allowed = tt;
+      names = refl;
+      tells = tt;
+      first = (refl, (f.good.not_closed, (stands active, tt)), tt);
+      refuses = refl;
+      passes = (tt, (tt, tt));
+      says = λ yes. ap is_lost (f.pages.entry p) ∙ is;
+      place = tt;
+      left = refl;
+    }
+
+    away : (place : Place) → is_active (parts c) i ≡ true → is_lost here ≡ false → receives here i ≡ false → seen place ≡ here
+        → IsFor m w event (R.NeedPage place) Cause.Away
+    away place active not_lost lacks is = record {
+      waits = refl;
+      whom = tt;
+      unused = tt;
+      allowed = tt;
+      names = refl;
+      tells = tt;
+      first = (refl, (f.good.not_closed, (stands active, (tt, tt))), tt);
+      refuses = refl;
+      passes = (tt, (tt, (found not_lost, tt)));
+      says = λ yes. ap (λ (e : Entry). receives e i) (f.pages.entry p) ∙ lacks;
+      place = is ∙ sym (f.pages.entry p);
+      left = refl;
+    }
+
+    full : MayTake (parts c) i p → w.pages.frames ≤ held w.pages.entry i 1024 → IsFor m w event R.PoolFull Cause.Frame
+    full may all = record {
+      waits = refl;
+      whom = tt;
+      unused = tt;
+      allowed = tt;
+      names = refl;
+      tells = tt;
+      first = (refl, (f.good.not_closed, (stands may.active, (tt, (tt, tt)))), tt);
+      refuses = refl;
+      passes = (tt, (tt, (found may.found, (comes may.receiver, tt))));
+      says = λ yes. all;
+      place = tt;
+      left = refl;
+    }
+
+  pub take-refused : (n : Refusal) → IsUntaken (parts c) i p n → Serving tell event (refused n) c c
+  take-refused R.Down why = ((λ w f. refused-so w f R.Down Cause.Down (down w f why)), refl)
+  take-refused R.Lost why = ((λ w f. refused-so w f R.Lost Cause.Lost (lost w f why.0 why.1)), refl)
+  take-refused (R.NeedPage place) why =
+      ((λ w f. refused-so w f (R.NeedPage place) Cause.Away (away w f place why.0 why.1 why.2 why.3)), refl)
+  take-refused n why = absurd why
+
+  -- ---- the page moves to the instance
+
+  module _ (may : MayTake (parts c) i p) (pool : IsPool (pool_at (parts c) i))
+      (past : (q : ℕ) → 1024 ≤ q → entry_at (parts c).directory q ≡ Entry.Free) where
+    -- its pool has no frame for it
+    pub full-served : buffers.LacksFrame (pool_at (parts c) i) p → Serving tell event (Some (reply.Refused R.PoolFull)) c c
+    full-served lacks = (
+      (λ w f. refused-so w f R.PoolFull Cause.Frame
+          (full w f may
+          (frames-held (tell.seen c.rig) (tell.leaves c.rig) Pending.Idle (parts c) w.scene.state f.good w.pages f.pages i 1024 low high
+          pool past lacks.1))),
+      refl,
+    )
+
+    module _ (formed : Formed here) (room : buffers.LacksFrame (pool_at (parts c) i) p → ⊥) where
+      -- the pool has no copy of the page
+      no-copy : (w : Core) (f : fits_by tell.seen tell.leaves c w) → buffers.image_at (pool_at (parts c) i) p ≡ None
+      no-copy w f = not-copied _ _ (holds here i) ((f.good.half (λ j. false)).coherent.copies i p)
+          (receiver-lacks i here formed may.receiver)
+
+      roomy : (w : Core) (f : fits_by tell.seen tell.leaves c w) → LacksFrame w.pages event → ⊥
+      roomy w f lacks = frames-left (tell.seen c.rig) (tell.leaves c.rig) Pending.Idle
+          (parts c) w.scene.state f.good w.pages f.pages
+          i 1024 low high pool past (λ all. room (no-copy w f, all)) lacks
+
+      none : (w : Core) (f : fits_by tell.seen tell.leaves c w) → NoneSays (m w f) w.pages event (order event)
+      none w f = (tt, (tt, (found w f may.found, (comes w f may.receiver, (roomy w f, tt)))))
+
+      module _ (new : Complex G) (same : new.rig ≡ c.rig)
+          (good : (pend : Pending) (m : State) → Good (tell.seen c.rig) (tell.leaves c.rig) pend (parts c) m
+          → Good (tell.seen new.rig) (tell.leaves new.rig) pend (parts new) m) where
+        pub taken-served : (image : Page)
+            → parts new ≡ with_place i (with_page (pool_at (parts c) i) p image) (parts new).directory (parts c)
+            → IsSet p (taken here) None (parts c).directory (parts new).directory → (w : Core) → fits_by tell.seen tell.leaves c w
+            → Serving tell event (Some reply.Did) c new
+        taken-served image is set w f =
+            passed-served tell c new p taken same
+            (only-pages (parts c) (parts new) i (with_page (pool_at (parts c) i) p image) is)
+            (λ j. ap (λ (k : Parts). (pool_at k j).frames) is
+            ∙ frames-kept (parts c) i (with_page (pool_at (parts c) i) p image) (parts new).directory low high f.good.shape.pools refl j)
+            good set may.found now event reply.Did (ap tell.faults same)
+            (λ w f. turns-repaged w (placed p (taken (w.pages.entry p)) w.pages) event reply.Did
+            ((f.good.not_closed, (stands w f may.active, (tt, (tt, (tt, tt))))), refl)
+            (λ t. sym (none-ended (tell.seen c.rig) (tell.leaves c.rig) (parts c) w f t))
+            tt tt (none w f, refl) tt)
+
+  -- ---- there was no memory
+
+  pub take-spared : (new : Complex G) → new.rig ≡ c.rig → parts new ≡ with_directory (parts new).directory (parts c)
+      → ((pend : Pending) (m : State) → Good (tell.seen c.rig) (tell.leaves c.rig) pend (parts c) m
+      → Good (tell.seen new.rig) (tell.leaves new.rig) pend (parts new) m)
+      → IsAsked p (asks_at (parts c).directory p) (parts c).directory (parts new).directory → Serving tell event None c new
+  take-spared new same is good asks = kept-spared tell c new p same is good asks now event

@@ -1,0 +1,42 @@
+use Rattle.std.proofs.Common.{◌≡◌, ℕ, ◌≤◌, length, refl, ◌∙◌, ap, sym, subst}
+use Rattle.std.specs.Prelude.{None}
+use Rattle.sd_base.specs.declared.place.Mode.{Mode}
+use Rattle.sd_base.specs.declared.place.Mode.TheVariants as modes
+use Rattle.sd_page.specs.Page.{Page}
+use Rattle.sd_pagelock.specs.Directory.{DirectoryState, entry_at}
+use Rattle.sd_pagelock.specs.Places.{Entry}
+use Rattle.sd_pool.specs.Buffers.{without}
+use Rattle.sd_state.specs.Complexes.{parts}
+use Rattle.sd_state.specs.Locking.{IsSet}
+use Rattle.sd_state.specs.Parts.{Parts, pool_at}
+use Rattle.sd_fits.proofs.Places.{frames-kept}
+use Rattle.sd_moves.specs.Passing.{may_set_out, with_sent}
+use Rattle.sd_transfer.proofs.Dropped.{given-dropped, stays-alone, stays-shared}
+use Rattle.sd_transfer.proofs.giving.hand_over.Goals as goal
+
+pub drop_for-requires-clause-spare : goal.drop_for-requires-clause-spare
+drop_for-requires-clause-spare g c = stays-shared (parts c.args.c.now) c.args.j c.args.p c.args.to c.args.mode
+    (c.requires.good.2.asks c.args.p) c.requires.may
+    (ap (may_set_out c.args.mode c.args.to) (sym c.entry.ensures) ∙ sym c.may_set_out.ensures ∙ c.if-may_set_out.false)
+
+-- the pools have as many frames as they had
+sent-frames : (old : Parts) (mode : Mode) (p j : ℕ) (places : DirectoryState Page) → 1 ≤ j → j ≤ 8 → length old.pools ≡ 8 → (k : ℕ)
+    → (pool_at (with_sent mode p j places old) k).frames ≡ (pool_at old k).frames
+sent-frames old modes.Shared p j places low high eight k = refl
+sent-frames old modes.Excl p j places low high eight k =
+    frames-kept old j (without (pool_at old j) p) places low high eight refl k
+
+pub returns-then-may_set_out-clause-frames : goal.returns-then-may_set_out-clause-frames
+returns-then-may_set_out-clause-frames g c k =
+    ap (λ (x : Parts). (pool_at x k).frames) c.move_copy.ensures.parts
+    ∙ sent-frames (parts c.args.c.now) c.args.mode c.args.p c.args.j (parts c.move_copy.new.c).directory c.instances.ensures.low
+    c.instances.ensures.high c.requires.good.2.shape.pools k
+
+pub returns-else-may_set_out-clause-place : goal.returns-else-may_set_out-clause-place
+returns-else-may_set_out-clause-place g c =
+    let old : Parts = parts c.args.c.now in
+    let stays = ap (may_set_out c.args.mode c.args.to) (sym c.entry.ensures) ∙ sym c.may_set_out.ensures ∙ c.if-may_set_out.false in
+    subst (λ (e : Entry). IsSet c.args.p e None old.directory (parts c.drop_for.new.c).directory)
+    (given-dropped c.args.j c.args.to c.args.mode (entry_at old.directory c.args.p)
+    (stays-alone old c.args.j c.args.p c.args.to c.args.mode (c.requires.good.2.asks c.args.p) c.requires.may stays) stays)
+    c.drop_for.ensures.place
