@@ -3,21 +3,20 @@ use Rattle.std.proofs.Common.{◌≡◌, ◌⊎◌, ⊎_elim, ℕ, ◌+◌, ◌�
 use Rattle.std.specs.Prelude.{None, Some, min}
 use Rattle.sd_base.specs.Streams.{Rises}
 use Rattle.sd_base.specs.declared.refusal.Refusal.TheVariants as R
-use Rattle.sd_rig.specs.Devices.{Elapses, Image, Leaves, Span}
+use Rattle.sd_rig.specs.Devices.{Image, Leaves}
 use Rattle.sd_rig.specs.Spans.{span-then, span-weaker, elapses-then}
 use Rattle.sd_model.specs.declared.event.Entry.{Entry}
 use Rattle.sd_model.specs.declared.event.Event.{Event}
 use Rattle.sd_model.specs.declared.event.Event.TheVariants.{Arm, FailAll, Join}
 use Rattle.sd_model.specs.declared.event.Reply.{Reply}
 use Rattle.sd_model.specs.declared.event.Reply.TheVariants.{Refused}
-use Rattle.sd_model.specs.State.{State}
 use Rattle.sd_world.specs.Leading.{Leads}
 use Rattle.sd_world.specs.Serving.{Core, FaultsAre, FewFaults, KeepsEarlier, Passes, Telling}
 use Rattle.sd_state.specs.Complexes.{parts}
 use Rattle.sd_state.specs.declared.complex.Complex.{Complex}
 use Rattle.sd_fits.specs.Serving.{Serving, fits_by, stands_for}
 use Rattle.sd_fits.proofs.Served.{fits-left}
-use Rattle.sd_drive.specs.Driving.{Advances, Drives, Progress, Tells, World}
+use Rattle.sd_drive.specs.Driving.{Advances, Drives, World}
 use Rattle.sd_drive.specs.Running.{AllStand, Breaks, FaultsOf, Led, Ran, RunsOn, StandsOnWay, Start}
 
 -- ---- runs put together

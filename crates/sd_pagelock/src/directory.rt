@@ -49,8 +49,8 @@ impl<I: Drop> Directory<I> {
     ghost use Rattle.sd_pagelock.specs.Asks.{queued, oldest, open_asks, asks_without, IsOneEach};
     ghost use Rattle.sd_pagelock.specs.Directory.{entry_at, rec_lsn_at, image_at, asks_at, can_give, is_wanted, kept_rec};
 
-    /// The directory of 1,024 free pages, with no asks and nothing on its way. It takes all memory that places and
-    /// images need.
+    /// The directory of 1,024 free pages, with no asks and nothing on its way. It takes all memory that places need;
+    /// room for an image comes with an ask.
     pub fn new(alloc: Global) -> Result<Directory<I>, Memory>
         ensures free { IfOk result (λ d. (p : ℕ) → entry_at d p ≡ Entry.Free) }
         ensures clean { IfOk result (λ d. (p : ℕ) → rec_lsn_at d p ≡ None) }

@@ -154,3 +154,34 @@ fn a_device_that_fails_in_the_opening_is_told_once(rt: HostRuntime) -> Result<()
     );
     Ok(())
 }
+
+// A page is changed on one instance, changed and rolled back on another, written there, and read on the first again. Its device calls are
+// 4 for each join, a read of the page, 4 for the commit, 4 for the end of the rollback, and 5 for the page write.
+const PASSED_ON: &[u8] =
+    b"complex 2 1 2\n1 begin a\ninsert a 0 red\ncommit a\n2 begin b\nwrite b 0.0 tan\nsave b s\nwrite b 0.0 sky\nback b s\nrollback b\n2 flush 0\n1 begin c\nread c 0.0\ncommit c\ntable\n";
+
+const PASSED_REPORT: &[u8] =
+    b"complex 2 1 2\na begin 1.1.1\na insert 0.0\na commit\nb begin 2.1.1\nb write 0.0\nb save s\nb write 0.0\nb back s\nb rollback\n2 flushed 0\nc begin 1.1.2\nc read 0.0 = red\nc commit\n0.0 red\ntable 1\n";
+
+#[test]
+fn a_device_that_fails_at_any_call_is_told(rt: HostRuntime) -> Result<(), Fail> {
+    for call in 1..24u64 {
+        let (ended, written) = ran(
+            rt.alloc(),
+            b"replay",
+            PASSED_ON,
+            &[],
+            &[],
+            Trouble::Fault(call),
+        )?;
+        let opened = call > 8;
+        let untold = &written[..] == PASSED_REPORT;
+        assert_eq!(rt;
+            ended,
+            if opened { Status::Done } else { Status::Device },
+            "call {call}"
+        );
+        assert_eq!(rt; untold, call == 23, "call {call}");
+    }
+    Ok(())
+}

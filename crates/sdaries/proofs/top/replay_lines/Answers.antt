@@ -16,7 +16,7 @@ open-requires-clause-fresh g c =
     let is = c.«new-driver».ensures.hall in
     record {
       keeps = subst (λ (h : Hall g.row.G.Denot). Keeps tell (fresh_core count) h) (sym is) (c.expect.ensures.keeps (fresh_core count)
-      (subst (λ (n : ℕ). Keeps tell (fresh_core n) c.in-Ok.hall) c.shape-shape.ensures.frames c.in-Ok.ensures.keeps));
+          (subst (λ (n : ℕ). Keeps tell (fresh_core n) c.in-Ok.hall) c.shape-shape.ensures.frames c.in-Ok.ensures.keeps));
       entries = ap (λ (h : Hall g.row.G.Denot). h.book.entries) is ∙ c.expect.ensures.entries ∙ c.in-Ok.ensures.entries;
       blank = ap (λ (h : Hall g.row.G.Denot). h.book.opening) is ∙ c.expect.ensures.opening ∙ c.in-Ok.ensures.opening;
       insts = c.«new-driver».ensures.insts ∙ c.shape-shape.ensures.insts;
