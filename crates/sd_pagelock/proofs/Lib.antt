@@ -2,6 +2,7 @@ pub mod Alone
 pub mod Counts
 pub mod Drops
 pub mod Members
+pub mod Groups
 pub mod Fallen
 pub mod Falls
 pub mod Finds

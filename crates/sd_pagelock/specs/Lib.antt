@@ -3,3 +3,4 @@ pub mod Rows
 pub mod Moves
 pub mod Asks
 pub mod Directory
+pub mod Noted

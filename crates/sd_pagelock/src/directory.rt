@@ -5,6 +5,7 @@ ghost use Rattle.sd_pagelock.specs.Places.{seen, is_lost};
 
 use crate::asks::Asks;
 use crate::laws;
+use crate::noted::{GROUP, GROUPS, Noted};
 use crate::queue::Queue;
 use crate::rows::{changed, fallen, holds, is_lost, receives, rests};
 use sd_base::{InstNo, Lsn, Memory, Mode, PAGES, PageNo, Place};
@@ -22,11 +23,14 @@ pub struct Directory<I> {
     asks: Asks,
     // how many of the places are lost
     lost: usize,
+    // who may use pages of a group
+    noted: Noted,
 }
 
 impl<I> Model for Directory<I> {
     ghost use Rattle.std.specs.Prelude.{length};
     ghost use Rattle.sd_pagelock.specs.Directory.{DirectoryState, HaveRoom, IsKept};
+    ghost use Rattle.sd_pagelock.specs.Noted.{AreNoted};
 
     ghost Value = { DirectoryState I };
 
@@ -38,7 +42,8 @@ impl<I> Model for Directory<I> {
     } };
 
     ghost invariant = { λ d. IsKept d.places.items d.rec_lsns.items (length d.images.items) d.lost
-        × HaveRoom d.asks d.images.items d.rooms.items };
+        × HaveRoom d.asks d.images.items d.rooms.items
+        × AreNoted d.places.items d.noted };
 }
 
 impl<I: Drop> Directory<I> {
@@ -64,6 +69,7 @@ impl<I: Drop> Directory<I> {
             rooms: nothing(alloc)?,
             asks: Asks::new(alloc),
             lost: 0,
+            noted: Noted::new(alloc)?,
         })
     }
 
@@ -117,7 +123,7 @@ impl<I: Drop> Directory<I> {
 
     /// The instance goes down: of each page its copy goes, and what moved to it. Its asks go, and those that the places
     /// that are left fulfil, all of them where a page is lost; the others keep their order. Each page keeps its RecLSN. It
-    /// takes no memory.
+    /// takes no memory, and looks at the pages of groups in which the instance had one.
     pub fn fall(&mut self, i: InstNo)
         ensures places { (p : ℕ) → entry_at self.new p ≡ fallen i (entry_at self.old p) }
         ensures rec_lsns { (p : ℕ) → rec_lsn_at self.new p ≡ rec_lsn_at self.old p }
@@ -127,10 +133,9 @@ impl<I: Drop> Directory<I> {
             ≡ cond {A = Option I} (receives (entry_at self.old p) i) None (image_at self.old p) }
     {
         self.keeps();
-        for n in 0..PAGES {
-            match PageNo::new(n) {
-                Some(p) => self.fall_at(p, i),
-                None => {}
+        for group in 0..GROUPS {
+            if self.noted.has(group, i) {
+                self.fall_in(group, i);
             }
         }
         self.asks.fall(i, &self.places);
@@ -186,7 +191,7 @@ impl<I: Drop> Directory<I> {
 }
 
 impl<I: Drop> Directory<I> {
-    ghost use Rattle.std.specs.Prelude.{◌≡◌, ◌≢◌, ◌<◌, ℕ, None, Option, IfSome, IfNone, OnOk, OnErr, find, is_some, cond, true, false};
+    ghost use Rattle.std.specs.Prelude.{◌≡◌, ◌≢◌, ◌<◌, ◌≤◌, ◌+◌, ◌*◌, ℕ, None, Option, IfSome, IfNone, OnOk, OnErr, find, is_some, cond, true, false};
     ghost use Rattle.std.specs.Option.{option_map};
     ghost use Rattle.std.specs.Ordering.{nat_cmp};
     ghost use Rattle.std.specs.Map.{keys_of};
@@ -284,6 +289,29 @@ impl<I: Drop> Directory<I> {
         }
     }
 
+    // What the fall of `i` leaves of the pages of a group, without their asks.
+    fn fall_in(&mut self, group: u16, i: InstNo)
+        requires { group < 32 }
+        ensures here { (p : ℕ) → 32 * group ≤ p → p < 32 * group + 32 → entry_at self.new p ≡ fallen i (entry_at self.old p) }
+        ensures images { (p : ℕ) → 32 * group ≤ p → p < 32 * group + 32 → image_at self.new p
+            ≡ cond {A = Option I} (receives (entry_at self.old p) i) None (image_at self.old p) }
+        ensures below { (q : ℕ) → q < 32 * group → entry_at self.new q ≡ entry_at self.old q }
+        ensures above { (q : ℕ) → 32 * group + 32 ≤ q → entry_at self.new q ≡ entry_at self.old q }
+        ensures images_below { (q : ℕ) → q < 32 * group → image_at self.new q ≡ image_at self.old q }
+        ensures images_above { (q : ℕ) → 32 * group + 32 ≤ q → image_at self.new q ≡ image_at self.old q }
+        ensures rec_lsns { (q : ℕ) → rec_lsn_at self.new q ≡ rec_lsn_at self.old q }
+        ensures asks { (q : ℕ) → asks_at self.new q ≡ asks_at self.old q }
+    {
+        let first = GROUP * group;
+        for n in first..first + GROUP {
+            match PageNo::new(n) {
+                Some(p) => self.fall_at(p, i),
+                None => {}
+            }
+        }
+        self.noted.forget(group, i);
+    }
+
     // What the fall of `i` leaves of the page, without its asks.
     fn fall_at(&mut self, p: PageNo, i: InstNo)
         ensures here { entry_at self.new p ≡ fallen i (entry_at self.old p) }
@@ -332,6 +360,7 @@ impl<I: Drop> Directory<I> {
         laws::users_are_instances(&to);
         let at = p.get() as usize;
         self.lost = recounted(self.lost, &self.places[at], &to);
+        self.noted.note(p, &to);
         self.places[at] = to;
         self.rec_lsns[at] = rec;
     }

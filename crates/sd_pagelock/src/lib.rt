@@ -22,6 +22,7 @@ mod asks;
 mod directory;
 mod lawful;
 pub mod laws;
+mod noted;
 mod queue;
 pub mod rows;
 

@@ -1,48 +1,76 @@
-use Rattle.std.proofs.Common.{◌≡◌, ⊎_elim, ℕ, cond, None, Option, sym, ap, ◌∙◌, arith}
+use Rattle.std.proofs.Common.{⊎_elim, ℕ, ◌*◌, ◌+◌, ◌<◌, ◌≤◌, cond, None, Option, sym, ap, ◌∙◌, arith}
 use Rattle.std.proofs.lemmas.Bool.{cases_lt}
-use Rattle.sd_pagelock.specs.Places.{Entry, receives}
+use Rattle.sd_pagelock.specs.Places.{Entry, place_at, receives, uses}
 use Rattle.sd_pagelock.specs.Rows.{fallen}
 use Rattle.sd_pagelock.specs.Directory.{DirectoryState, entry_at, rec_lsn_at, image_at, asks_at}
-use Rattle.sd_pagelock.proofs.Fallen.{one_more, still_later, everywhere}
-use Rattle.sd_pagelock.proofs.directory.Directory.fall.Goals.{in-Some, in-None}
+use Rattle.sd_pagelock.proofs.Groups.{fallen-unused, receives-unused, unused}
+use Rattle.sd_pagelock.proofs.directory.Directory.fall.Goals.{then-has, else-has}
 use Rattle.sd_pagelock.proofs.directory.Directory.fall.Goals as goal
 
-pub loop-n-preserved : goal.loop-n-preserved
-loop-n-preserved g c =
+pub loop-group-preserved : goal.loop-group-preserved
+loop-group-preserved g c =
     let was = c.args.self.now in
-    let now = c.loop-n.self in
-    let after = c.match-new.self in
-    let inv = c.loop-n.invariant in
-    let falls = λ (q : ℕ) (x : Entry). fallen c.args.i x in
-    let goes = λ (q : ℕ) (x : Option g.row.I.Denot). cond {A = Option g.row.I.Denot} (receives (entry_at was q) c.args.i) None x in
-    elim c.match-new.branch [
-      | in-Some w ↦
-          let p = w.in-Some.p in
-          let e = w.fall_at.ensures in
-          let at = w.in-Some.ensures.value in
-          let here : entry_at after p ≡ falls p (entry_at now p) = ap (λ (s : DirectoryState g.row.I.Denot). entry_at s p) w.self-is ∙ e.here in
-          let image : image_at after p ≡ goes p (image_at now p) = ap (λ (s : DirectoryState g.row.I.Denot). image_at s p) w.self-is ∙ e.image
-          ∙ ap (λ (x : Entry). cond {A = Option g.row.I.Denot} (receives x c.args.i) None (image_at now p)) (inv.later p (omega (arith, at))) in
+    let now = c.loop-group.self in
+    let after = c.if-has.self in
+    let inv = c.loop-group.invariant in
+    let n = c.loop-group.group in
+    let i = c.args.i in
+    let goes = λ (q : ℕ) (x : Entry). cond {A = Option g.row.I.Denot} (receives x i) None (image_at was q) in
+    elim c.if-has.branch [
+      | then-has w ↦
+          let e = w.fall_in.ensures in
+          let entry = λ (q : ℕ). ap (λ (s : DirectoryState g.row.I.Denot). entry_at s q) w.self-is in
+          let image = λ (q : ℕ). ap (λ (s : DirectoryState g.row.I.Denot). image_at s q) w.self-is in
           record {
-            places = one_more (entry_at was) (entry_at now) (entry_at after) falls c.loop-n.n p at here (λ q ne. ap (λ (s : DirectoryState g.row.I.Denot). entry_at s q) w.self-is ∙ e.others q ne) inv.later inv.places;
-            later = still_later (entry_at was) (entry_at now) (entry_at after) falls c.loop-n.n p at here (λ q ne. ap (λ (s : DirectoryState g.row.I.Denot). entry_at s q) w.self-is ∙ e.others q ne) inv.later;
-            images = one_more (image_at was) (image_at now) (image_at after) goes c.loop-n.n p at image (λ q ne. ap (λ (s : DirectoryState g.row.I.Denot). image_at s q) w.self-is ∙ e.other_images q ne) inv.later_images inv.images;
-            later_images = still_later (image_at was) (image_at now) (image_at after) goes c.loop-n.n p at image (λ q ne. ap (λ (s : DirectoryState g.row.I.Denot). image_at s q) w.self-is ∙ e.other_images q ne) inv.later_images;
-            rec_lsns = λ q. ap (λ (s : DirectoryState g.row.I.Denot). rec_lsn_at s q) w.self-is ∙ everywhere (rec_lsn_at w.fall_at.new.self) (rec_lsn_at now) p e.rec_lsn e.other_rec_lsns q ∙ inv.rec_lsns q;
+            places = λ q lt. ⊎_elim
+                (λ low. entry q ∙ e.below q low ∙ inv.places q low)
+                (λ high. entry q ∙ e.here q high (omega (arith, lt)) ∙ ap (fallen i) (inv.later q high))
+                (cases_lt q (32 * n));
+            later = λ q le. entry q ∙ e.above q (omega (arith, le)) ∙ inv.later q (omega (arith, le));
+            images = λ q lt. ⊎_elim
+                (λ low. image q ∙ e.images_below q low ∙ inv.images q low)
+                (λ high. image q ∙ e.images q high (omega (arith, lt))
+                ∙ ap (λ (x : Entry). cond {A = Option g.row.I.Denot} (receives x i) None (image_at now q)) (inv.later q high)
+                ∙ ap (λ (y : Option g.row.I.Denot). cond {A = Option g.row.I.Denot} (receives (entry_at was q) i) None y) (inv.later_images q high))
+                (cases_lt q (32 * n));
+            later_images = λ q le. image q ∙ e.images_above q (omega (arith, le)) ∙ inv.later_images q (omega (arith, le));
+            rec_lsns = λ q. ap (λ (s : DirectoryState g.row.I.Denot). rec_lsn_at s q) w.self-is ∙ e.rec_lsns q ∙ inv.rec_lsns q;
             asks = λ q. ap (λ (s : DirectoryState g.row.I.Denot). asks_at s q) w.self-is ∙ e.asks q ∙ inv.asks q;
           }
-      | in-None w ↦ absurd (let there = w.in-None.ensures.valid.1 c.loop-n-test.true in absurd (cc))
+      | else-has w ↦
+          let d = c.self-in-loop-group.inside in
+          let entry = λ (q : ℕ). ap (λ (s : DirectoryState g.row.I.Denot). entry_at s q) w.self-is in
+          let image = λ (q : ℕ). ap (λ (s : DirectoryState g.row.I.Denot). image_at s q) w.self-is in
+          let seen_in = λ (q : ℕ). ap (λ (s : DirectoryState g.row.I.Denot). entry_at s q) c.self-in-loop-group.view_is in
+          let un = λ (q : ℕ) (low : 32 * n ≤ q) (high : q < 32 * n + 32).
+          sym (ap (λ (x : Entry). uses x i) (seen_in q ∙ inv.later q low))
+          ∙ unused (place_at d.places.items) d.noted n i q c.self-in-loop-group.invariant.2 (sym c.has.ensures ∙ w.if-has.false) low high in
+          record {
+            places = λ q lt. ⊎_elim
+                (λ low. entry q ∙ inv.places q low)
+                (λ high. entry q ∙ inv.later q high ∙ sym (fallen-unused i (entry_at was q) (c.keeps.ensures.formed q) (un q high (omega (arith, lt)))))
+                (cases_lt q (32 * n));
+            later = λ q le. entry q ∙ inv.later q (omega (arith, le));
+            images = λ q lt. ⊎_elim
+                (λ low. image q ∙ inv.images q low)
+                (λ high. image q ∙ inv.later_images q high
+                ∙ sym (ap (λ b. cond {A = Option g.row.I.Denot} b None (image_at was q)) (receives-unused i (entry_at was q) (un q high (omega (arith, lt))))))
+                (cases_lt q (32 * n));
+            later_images = λ q le. image q ∙ inv.later_images q (omega (arith, le));
+            rec_lsns = λ q. ap (λ (s : DirectoryState g.row.I.Denot). rec_lsn_at s q) w.self-is ∙ inv.rec_lsns q;
+            asks = λ q. ap (λ (s : DirectoryState g.row.I.Denot). asks_at s q) w.self-is ∙ inv.asks q;
+          }
     ]
 
 pub returns-clause-places : goal.returns-clause-places
 returns-clause-places g c = λ p. ap (λ (s : DirectoryState g.row.I.Denot). entry_at s p) c.self-2.view_is ∙ ⊎_elim
-    (λ lt. c.loop-n.invariant.places p (omega (arith, lt, c.loop-n-test.false)))
-    (λ past. c.loop-n.invariant.later p (omega (arith, past, c.loop-n.auto.n-end)) ∙ c.keeps.ensures.past p past ∙ ap (fallen c.args.i) (sym (c.keeps.ensures.past p past)))
+    (λ lt. c.loop-group.invariant.places p (omega (arith, lt, c.loop-group-test.false)))
+    (λ past. c.loop-group.invariant.later p (omega (arith, past, c.loop-group.auto.group-end)) ∙ c.keeps.ensures.past p past ∙ ap (fallen c.args.i) (sym (c.keeps.ensures.past p past)))
     (cases_lt p 1024)
 
 pub returns-clause-images : goal.returns-clause-images
 returns-clause-images g c = λ p. ap (λ (s : DirectoryState g.row.I.Denot). image_at s p) c.self-2.view_is ∙ ⊎_elim
-    (λ lt. c.loop-n.invariant.images p (omega (arith, lt, c.loop-n-test.false)))
-    (λ past. c.loop-n.invariant.later_images p (omega (arith, past, c.loop-n.auto.n-end))
+    (λ lt. c.loop-group.invariant.images p (omega (arith, lt, c.loop-group-test.false)))
+    (λ past. c.loop-group.invariant.later_images p (omega (arith, past, c.loop-group.auto.group-end))
     ∙ ap (λ (x : Entry). cond {A = Option g.row.I.Denot} (receives x c.args.i) None (image_at c.args.self.now p)) (sym (c.keeps.ensures.past p past)))
     (cases_lt p 1024)

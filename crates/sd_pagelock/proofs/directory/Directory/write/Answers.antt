@@ -1,5 +1,7 @@
 use Rattle.std.proofs.Common.{◌+◌, ◌<◌, ℕ, cond, length, refl, ap, ◌∙◌, arith}
 use Rattle.sd_pagelock.specs.Places.{seen, is_lost}
+use Rattle.sd_pagelock.specs.Noted.{is_noted}
+use Rattle.sd_pagelock.proofs.Groups.{noted-write}
 use Rattle.sd_pagelock.proofs.Kept.{kept-write}
 use Rattle.sd_pagelock.proofs.Counts.{put_counts, some_lost, few_lost}
 use Rattle.sd_pagelock.proofs.directory.Directory.write.Goals as goal
@@ -22,4 +24,6 @@ invariant_of-self g c =
           (put_counts d.places.items c.get-at.result c.index.result.now c.args.to c.recounted-self-inside.result (is_lost (seen c.index.result.now)) lost within c.index.ensures refl refl (c.recounted-self-inside.ensures ∙ ap (λ (n : ℕ). n + cond lost 1 0) c.self.invariant.0.counted))
           c.get-at.ensures.range c.requires.formed c.users_are_instances.ensures c.requires.marked,
       c.self.invariant.1,
+      noted-write d.places.items d.noted c.note.new.self c.get-at.result c.args.to within
+          (λ k used. ap (λ (z : ℕ). is_noted c.note.new.self z k) c.get-at.ensures.value ∙ c.note.ensures.users k used) c.note.ensures.stays c.self.invariant.2,
     )
