@@ -15,7 +15,7 @@ use Rattle.sd_script.specs.declared.line.Line.{Line}
 use Rattle.sd_report.specs.Words.{line_of, NamesOf}
 use Rattle.sd_report.specs.Refusals.{refusal_text, tells_txn}
 use Rattle.sd_report.specs.Replies.{no_reply, pulled_text, reply_text, last_text, words_of, behind_words, last_behind_words}
-use Rattle.sd_report.specs.Report.{last_entry, txn_line, page_line, fail_line, listed, table_lines}
+use Rattle.sd_report.specs.Report.{last_entry, txn_line, page_line, echo_line, listed, table_lines}
 use Rattle.sd_report.specs.Report.{reported, gathered, entries_of, reply_tells_txn, tell_txns}
 
 neither : (a b : Bool) → (a || b) ≡ false → (a ≡ false) × (b ≡ false)
@@ -100,9 +100,9 @@ module _ (f g : NamesOf) (own : List Entry) (none : tell_txns own ≡ false) whe
       (same_last (refusal_text f) (refusal_text g) (same_refusal f g) (words_of of) no_reply
       (last_entry own) (last_plain own none))
 
-  same_fail_line : (inst : ℕ) → fail_line f inst own ≡ fail_line g inst own
-  same_fail_line inst =
-      ap (λ (l : List ℕ). line_of ((codes "fail " ++ decimal inst ++ l) ∷ []))
+  same_echo_line : (words : List ℕ) → echo_line f words own ≡ echo_line g words own
+  same_echo_line words =
+      ap (λ (l : List ℕ). line_of ((words ++ l) ∷ []))
       (same_last_behind f g (last_entry own) (last_plain own none))
 
   same_line : (of : Form) → reported f of own ≡ reported g of own
@@ -123,7 +123,9 @@ module _ (f g : NamesOf) (own : List Entry) (none : tell_txns own ≡ false) whe
   same_line (form.Evict inst page) = same_page_line inst (form.Evict inst page)
   same_line (form.Flush inst page) = same_page_line inst (form.Flush inst page)
   same_line (form.Force inst) = same_page_line inst (form.Force inst)
-  same_line (form.Fail inst) = same_fail_line inst
+  same_line (form.Fail inst) = same_echo_line (codes "fail " ++ decimal inst)
+  same_line (form.Fuse calls) = same_echo_line (codes "fuse " ++ decimal calls)
+  same_line (form.Fault call) = same_echo_line (codes "fault " ++ decimal call)
   same_line (form.Where page) = same_page_line page (form.Where page)
   same_line form.Table = same_table f g own (last_entry own) (last_plain own none)
 

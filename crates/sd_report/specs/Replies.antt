@@ -64,7 +64,7 @@ abbrev pub shown : Reply → List ℕ
 shown (reply.Shown place lsn) = place_text place lsn
 shown r = no_reply
 
--- the words of a reply that is no refusal, form by form; the first line, a failure and a table have no such words
+-- the words of a reply that is no refusal, form by form; the first line, one that is echoed and a table have no such words
 abbrev pub words_of : Form → Reply → List ℕ
 words_of (form.Complex insts pages frames) r = no_reply
 words_of (form.Begin inst name) r = began r
@@ -84,6 +84,8 @@ words_of (form.Evict inst page) r = done (codes "evicted " ++ decimal page) r
 words_of (form.Flush inst page) r = done (codes "flushed " ++ decimal page) r
 words_of (form.Force inst) r = done (codes "forced") r
 words_of (form.Fail inst) r = no_reply
+words_of (form.Fuse calls) r = no_reply
+words_of (form.Fault call) r = no_reply
 words_of (form.Where page) r = shown r
 words_of form.Table r = no_reply
 

@@ -38,9 +38,9 @@ abbrev pub page_line : NamesOf → ℕ → Form → List Entry → List ℕ
 page_line names number of entries =
     line_of (decimal number ∷ last_text (refusal_text names) (words_of of) no_reply (last_entry entries) ∷ [])
 
--- a line of a failure: its own words, and behind them why the instance didn't fail
-abbrev pub fail_line : NamesOf → ℕ → List Entry → List ℕ
-fail_line names inst entries = line_of ((codes "fail " ++ decimal inst ++ last_behind_words names (last_entry entries)) ∷ [])
+-- a line that is echoed: its own words, and behind them why it wasn't done
+abbrev pub echo_line : NamesOf → List ℕ → List Entry → List ℕ
+echo_line names words entries = line_of ((words ++ last_behind_words names (last_entry entries)) ∷ [])
 
 -- the rows of a reply to a list
 abbrev pub rows_in : Reply → List (Rid × List ℕ)
@@ -87,7 +87,9 @@ reported names (form.Take inst page) entries = page_line names inst (form.Take i
 reported names (form.Evict inst page) entries = page_line names inst (form.Evict inst page) entries
 reported names (form.Flush inst page) entries = page_line names inst (form.Flush inst page) entries
 reported names (form.Force inst) entries = page_line names inst (form.Force inst) entries
-reported names (form.Fail inst) entries = fail_line names inst entries
+reported names (form.Fail inst) entries = echo_line names (codes "fail " ++ decimal inst) entries
+reported names (form.Fuse calls) entries = echo_line names (codes "fuse " ++ decimal calls) entries
+reported names (form.Fault call) entries = echo_line names (codes "fault " ++ decimal call) entries
 reported names (form.Where page) entries = page_line names page (form.Where page) entries
 reported names form.Table entries = table_lines names entries (last_entry entries)
 

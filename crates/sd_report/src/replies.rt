@@ -186,7 +186,11 @@ fn push_words(out: &mut Vec<u8>, form: &Form, reply: &Reply) -> Result<(), Memor
     ensures { OnOk result (out.new.items ≡ out.old.items ++ words_of form.now reply.now) }
 {
     match form {
-        Form::Complex { .. } | Form::Fail { .. } | Form::Table => push_no_reply(out),
+        Form::Complex { .. }
+        | Form::Fail { .. }
+        | Form::Fuse { .. }
+        | Form::Fault { .. }
+        | Form::Table => push_no_reply(out),
         Form::Begin { .. } => push_began(out, reply),
         Form::Read { rid, .. } => push_found(out, *rid, reply),
         Form::Write { rid, .. } => push_on_record(out, b"write ", *rid, reply),

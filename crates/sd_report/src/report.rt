@@ -68,18 +68,19 @@ fn push_page_line(
     push_end(out)
 }
 
-// A line of the instance's failure.
-fn push_fail_line(
+// A line that is echoed: a word with its space, and a number.
+fn push_echo_line(
     out: &mut Vec<u8>,
     names: &TxnNames,
-    inst: InstNo,
+    word: &[u8],
+    number: u64,
     last: Option<&Entry>,
 ) -> Result<(), Memory>
-    ensures { OnOk result (out.new.items ≡ out.old.items ++ line_of ((codes "fail " ++ decimal inst
+    ensures { OnOk result (out.new.items ≡ out.old.items ++ line_of ((word.now ++ decimal number
         ++ last_behind_words (name_in names.now) (option_copied last.entry)) ∷ [])) }
 {
-    push_word(out, b"fail ")?;
-    push_digits(out, u64::from(inst.get()))?;
+    push_word(out, word)?;
+    push_digits(out, number)?;
     push_behind_words(out, names, last)?;
     push_end(out)
 }
@@ -192,7 +193,9 @@ fn push_line(
         | Form::Evict { inst, .. }
         | Form::Flush { inst, .. }
         | Form::Force { inst } => push_page_line(out, names, u64::from(inst.get()), form, last),
-        Form::Fail { inst } => push_fail_line(out, names, *inst, last),
+        Form::Fail { inst } => push_echo_line(out, names, b"fail ", u64::from(inst.get()), last),
+        Form::Fuse { calls } => push_echo_line(out, names, b"fuse ", u64::from(*calls), last),
+        Form::Fault { call } => push_echo_line(out, names, b"fault ", u64::from(*call), last),
         Form::Where { page } => push_page_line(out, names, u64::from(page.get()), form, last),
         Form::Table => push_table(out, names, line.number, entries),
     }

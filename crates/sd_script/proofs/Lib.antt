@@ -10,3 +10,4 @@ pub mod Ordinals
 pub mod Readings
 pub mod Remembering
 pub mod Steps
+mod Rising

@@ -8,10 +8,10 @@ use Rattle.sd_base.specs.declared.ids.Rid.{Rid}
 use Rattle.sd_base.specs.declared.place.Mode.{Mode}
 use Rattle.sd_base.specs.declared.place.Mode.TheVariants.{Shared, Excl}
 use Rattle.sd_script.specs.declared.line.Form.{Form}
-use Rattle.sd_script.specs.declared.line.Form.TheVariants.{Complex, Begin, Read, Write, Add, Insert, Delete, Save, Back, Rollback, Commit, Ask, Give, Take, Evict, Flush, Force, Fail, Where, Table}
+use Rattle.sd_script.specs.declared.line.Form.TheVariants.{Complex, Begin, Read, Write, Add, Insert, Delete, Save, Back, Rollback, Commit, Ask, Give, Take, Evict, Flush, Force, Fail, Fuse, Fault, Where, Table}
 use Rattle.sd_script.specs.Forms.{form_words, rid_word, mode_word, capacity_words, IsForm, IsKnownBy, IsAmount, HasRoom}
 use Rattle.sd_script.proofs.Spellings.{same_number, same_rid}
-use Rattle.sd_script.proofs.Shapes.{begin_is, ask_is, give_is, take_is, evict_is, flush_is, force_is, complex_is, read_is, delete_is, write_is, add_is, insert_is, save_is, back_is, rollback_is, commit_is, fail_is, where_is}
+use Rattle.sd_script.proofs.Shapes.{begin_is, ask_is, give_is, take_is, evict_is, flush_is, force_is, complex_is, read_is, delete_is, write_is, add_is, insert_is, save_is, back_is, rollback_is, commit_is, fail_is, fuse_is, fault_is, where_is}
 
 same_ordinal : (m n : ℕ) (o : Option ℕ) → o ≡ Some m → o ≡ Some n → m ≡ n
 same_ordinal m n o a b = let both : Some m ≡ Some n = sym a ∙ b in cc
@@ -32,7 +32,7 @@ same_mode Excl Shared e = absurd (omega (arith, ap (λ (l : List ℕ). get_or l 
 same_capacity : (value : List ℕ) (c d : Option ℕ) → HasRoom value c → HasRoom value d → capacity_words c ≡ capacity_words d
     → c ≡ d
 same_capacity value None None a b e = refl
-same_capacity value (Some c) (Some d) a b e = ap (λ (n : ℕ). Some n) (same_number c d a.1 b.1 (cc))
+same_capacity value (Some c) (Some d) a b e = ap (λ (n : ℕ). Some n) (same_number c d (omega (arith, a.1)) (omega (arith, b.1)) (cc))
 same_capacity value c d a b e = absurd (cc)
 
 pub one_form : (known : List ℕ → Option ℕ) (f g : Form) → IsForm f → IsForm g → IsKnownBy known f → IsKnownBy known g
@@ -128,6 +128,16 @@ one_form known (Fail i) g a b c d e =
     let parts = subst IsForm at.1 b in
     let inst : i ≡ at.0 = same_number i at.0 (omega (arith, a)) (omega (arith, parts)) (sym at.2) in
     ap (λ (n : ℕ). Fail n) inst ∙ sym at.1
+one_form known (Fuse n) g a b c d e =
+    let at = fuse_is g (decimal n) b (sym e) in
+    let parts = subst IsForm at.1 b in
+    let calls : n ≡ at.0 = same_number n at.0 (omega (arith, a)) (omega (arith, parts)) (sym at.2) in
+    ap (λ (k : ℕ). Fuse k) calls ∙ sym at.1
+one_form known (Fault n) g a b c d e =
+    let at = fault_is g (decimal n) b (sym e) in
+    let parts = subst IsForm at.1 b in
+    let call : n ≡ at.0 = same_number n at.0 (omega (arith, a.1)) (omega (arith, parts.1)) (sym at.2) in
+    ap (λ (k : ℕ). Fault k) call ∙ sym at.1
 one_form known (Where p) g a b c d e =
     let at = where_is g (decimal p) b (sym e) in
     let parts = subst IsForm at.1 b in

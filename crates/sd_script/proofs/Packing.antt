@@ -1,7 +1,6 @@
 -- No two names have the same number, and each fits. It serves the goals of packed.rt and names.rt.
 use Rattle.std.proofs.Common.{◌≡◌, ◌≢◌, ℕ, suc, ◌+◌, ◌*◌, ◌^◌, ◌<◌, ◌≤◌, List, [], ◌∷◌, length, take, get_or, refl, sym, ap, ◌∙◌, subst, arith, lit<, inl, inr, ◌-◌, ⊎_elim, Bool, true, false, cond}
 use Rattle.std.specs.Prelude.{All, ◌⊎◌, reverse, Option}
-use Rattle.std.specs.BTreeMap.{BTreeMap, get, Updates}
 use Rattle.std.specs.Cmp.Lexicographic.{bytes_decides}
 use Rattle.std.specs.Ordering.{is_eq, nat_cmp}
 use Rattle.std.specs.Str.{bytes_eq}
@@ -59,10 +58,11 @@ tells name other a b = ⊎_elim
     apart ∙ sym differ)
     (cases_Bool (bytes_eq name other))
 
--- behind an insert the name has the ordinal, and the other names have those that they had
-pub known_added : (old new : BTreeMap ℕ ℕ) (key : ℕ) (name : List ℕ) (w : Option ℕ) → IsName name → key ≡ packed_of name → Updates nat_cmp old new key w
-    → (other : List ℕ) → IsName other → get nat_cmp new (packed_of other) ≡ cond (bytes_eq name other) w (get nat_cmp old (packed_of other))
+-- where one key gets an ordinal, the name has it, and the other names have those that they had
+pub known_added : (old new : ℕ → Option ℕ) (key : ℕ) (name : List ℕ) (w : Option ℕ) → IsName name → key ≡ packed_of name
+    → ((q : ℕ) → new q ≡ cond (is_eq (nat_cmp key q)) w (old q))
+    → (other : List ℕ) → IsName other → new (packed_of other) ≡ cond (bytes_eq name other) w (old (packed_of other))
 known_added old new key name w is at changed other is_other =
-    changed.0 (packed_of other)
-    ∙ ap (λ (k : ℕ). cond (is_eq (nat_cmp k (packed_of other))) w (get nat_cmp old (packed_of other))) at
-    ∙ ap (λ (b : Bool). cond b w (get nat_cmp old (packed_of other))) (tells name other is is_other)
+    changed (packed_of other)
+    ∙ ap (λ (k : ℕ). cond (is_eq (nat_cmp k (packed_of other))) w (old (packed_of other))) at
+    ∙ ap (λ (b : Bool). cond b w (old (packed_of other))) (tells name other is is_other)

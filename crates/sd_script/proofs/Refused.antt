@@ -1,5 +1,5 @@
 -- Which words have no form. It serves the goals of form.rt, inst_forms.rt and verb_forms.rt.
-use Rattle.std.proofs.Common.{◌≡◌, ◌≢◌, ℕ, ℤ, true, false, ◌<◌, ◌≤◌, List, [], ◌∷◌, length, Option, None, Some, sym, ap, ◌∙◌, subst}
+use Rattle.std.proofs.Common.{◌≡◌, ◌≢◌, ℕ, ℤ, true, false, ◌<◌, ◌≤◌, List, [], ◌∷◌, length, Option, None, Some, sym, ap, ◌∙◌, subst, arith}
 use Rattle.std.specs.Prelude.{codes}
 use Rattle.std.specs.Cmp.Lexicographic.{bytes_decides}
 use Rattle.std.specs.Fmt.{decimal, signed_decimal}
@@ -7,9 +7,9 @@ use Rattle.std.specs.Str.{bytes_eq}
 use Rattle.sd_base.specs.declared.ids.Rid.{Rid}
 use Rattle.sd_base.specs.declared.place.Mode.{Mode}
 use Rattle.sd_script.specs.declared.line.Form.{Form}
-use Rattle.sd_script.specs.declared.line.Form.TheVariants.{Complex, Begin, Read, Write, Add, Insert, Delete, Save, Back, Rollback, Commit, Ask, Give, Take, Evict, Flush, Force, Fail, Where, Table}
+use Rattle.sd_script.specs.declared.line.Form.TheVariants.{Complex, Begin, Read, Write, Add, Insert, Delete, Save, Back, Rollback, Commit, Ask, Give, Take, Evict, Flush, Force, Fail, Fuse, Fault, Where, Table}
 use Rattle.sd_script.specs.Forms.{form_words, rid_word, mode_word, capacity_words, IsForm, IsKnownBy, IsName, IsValue, IsRid, IsAmount, IsCount, IsInst, IsNoInst, HasRoom}
-use Rattle.sd_script.proofs.Shapes.{verb_in, inst_led, begin_is, ask_is, give_is, take_is, evict_is, flush_is, complex_is, read_is, delete_is, write_is, add_is, insert_is, save_is, back_is, rollback_is, commit_is, fail_is, where_is}
+use Rattle.sd_script.proofs.Shapes.{verb_in, inst_led, begin_is, ask_is, give_is, take_is, evict_is, flush_is, complex_is, read_is, delete_is, write_is, add_is, insert_is, save_is, back_is, rollback_is, commit_is, fail_is, fuse_is, fault_is, where_is}
 
 -- what a comparison of words tells
 pub is_word : (word bytes due : List ℕ) → bytes ≡ due → true ≡ bytes_eq word bytes → word ≡ due
@@ -68,14 +68,16 @@ no_table known verb table Table is knows e = table (cc)
 no_table known verb table _ is knows e = absurd (cc)
 
 pub no_two : (known : List ℕ → Option ℕ) (verb word : List ℕ) → IsNoInst verb → verb ≢ codes "commit"
-    → verb ≢ codes "rollback" → verb ≢ codes "where" → verb ≢ codes "fail" → (form : Form) → IsForm form
+    → verb ≢ codes "rollback" → verb ≢ codes "where" → verb ≢ codes "fail" → verb ≢ codes "fuse" → verb ≢ codes "fault" → (form : Form) → IsForm form
     → IsKnownBy known form → form_words form ≡ verb ∷ word ∷ [] → ⊥
-no_two known verb word none commit rollback where_ fail (Commit name ordinal) is knows e = commit (cc)
-no_two known verb word none commit rollback where_ fail (Rollback name ordinal) is knows e = rollback (cc)
-no_two known verb word none commit rollback where_ fail (Where page) is knows e = where_ (cc)
-no_two known verb word none commit rollback where_ fail (Fail i) is knows e = fail (cc)
-no_two known verb word none commit rollback where_ fail (Force i) is knows e = none i is (cc)
-no_two known verb word none commit rollback where_ fail _ is knows e = absurd (cc)
+no_two known verb word none commit rollback where_ fail fuse fault (Commit name ordinal) is knows e = commit (cc)
+no_two known verb word none commit rollback where_ fail fuse fault (Rollback name ordinal) is knows e = rollback (cc)
+no_two known verb word none commit rollback where_ fail fuse fault (Where page) is knows e = where_ (cc)
+no_two known verb word none commit rollback where_ fail fuse fault (Fail i) is knows e = fail (cc)
+no_two known verb word none commit rollback where_ fail fuse fault (Fuse n) is knows e = fuse (cc)
+no_two known verb word none commit rollback where_ fail fuse fault (Fault n) is knows e = fault (cc)
+no_two known verb word none commit rollback where_ fail fuse fault (Force i) is knows e = none i is (cc)
+no_two known verb word none commit rollback where_ fail fuse fault _ is knows e = absurd (cc)
 
 pub no_three_of : (known : List ℕ → Option ℕ) (verb second third : List ℕ) → IsNoInst verb → verb ≢ codes "read"
     → verb ≢ codes "delete" → verb ≢ codes "save" → verb ≢ codes "back" → (form : Form) → IsForm form → IsKnownBy known form
@@ -253,6 +255,20 @@ fail_none known inst bad form is knows e =
     let words = fail_is form inst is e in
     let parts = subst IsForm words.1 is in
     bad words.0 parts words.2
+
+pub fuse_none : (known : List ℕ → Option ℕ) (calls : List ℕ) → ((n : ℕ) → 0 ≤ n → n ≤ 1000000 → decimal n ≢ calls) → (form : Form)
+    → IsForm form → IsKnownBy known form → form_words form ≡ codes "fuse" ∷ calls ∷ [] → ⊥
+fuse_none known calls bad form is knows e =
+    let words = fuse_is form calls is e in
+    let parts = subst IsForm words.1 is in
+    bad words.0 (omega arith) parts words.2
+
+pub fault_none : (known : List ℕ → Option ℕ) (call : List ℕ) → ((n : ℕ) → 1 ≤ n → n ≤ 1000000 → decimal n ≢ call) → (form : Form)
+    → IsForm form → IsKnownBy known form → form_words form ≡ codes "fault" ∷ call ∷ [] → ⊥
+fault_none known call bad form is knows e =
+    let words = fault_is form call is e in
+    let parts = subst IsForm words.1 is in
+    bad words.0 parts.0 parts.1 words.2
 
 pub where_none : (known : List ℕ → Option ℕ) (page : List ℕ) → ((p : ℕ) → p < 1024 → decimal p ≢ page) → (form : Form)
     → IsForm form → IsKnownBy known form → form_words form ≡ codes "where" ∷ page ∷ [] → ⊥

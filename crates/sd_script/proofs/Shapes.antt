@@ -6,7 +6,7 @@ use Rattle.std.proofs.lemmas.Fmt.{decimal_digit}
 use Rattle.sd_base.specs.declared.ids.Rid.{Rid}
 use Rattle.sd_base.specs.declared.place.Mode.{Mode}
 use Rattle.sd_script.specs.declared.line.Form.{Form}
-use Rattle.sd_script.specs.declared.line.Form.TheVariants.{Complex, Begin, Read, Write, Add, Insert, Delete, Save, Back, Rollback, Commit, Ask, Give, Take, Evict, Flush, Force, Fail, Where, Table}
+use Rattle.sd_script.specs.declared.line.Form.TheVariants.{Complex, Begin, Read, Write, Add, Insert, Delete, Save, Back, Rollback, Commit, Ask, Give, Take, Evict, Flush, Force, Fail, Fuse, Fault, Where, Table}
 use Rattle.sd_script.specs.Forms.{form_words, rid_word, mode_word, capacity_words, IsForm, IsInst, IsNoInst}
 
 -- the first word of a form, where it is a verb
@@ -22,6 +22,8 @@ verb_in (Back name ordinal mark) = codes "back"
 verb_in (Rollback name ordinal) = codes "rollback"
 verb_in (Commit name ordinal) = codes "commit"
 verb_in (Fail inst) = codes "fail"
+verb_in (Fuse calls) = codes "fuse"
+verb_in (Fault call) = codes "fault"
 verb_in (Where page) = codes "where"
 verb_in Table = codes "table"
 verb_in _ = []
@@ -266,7 +268,23 @@ fail_is form inst is e = with_verb form (verb_found form (codes "fail") (inst �
   with_verb : (f : Form) → verb_in f ≡ codes "fail" → form_words f ≡ codes "fail" ∷ inst ∷ []
       → (i : ℕ) × (f ≡ Fail i) × (decimal i ≡ inst)
   with_verb (Fail i) verb e = (i, refl, cc)
-  with_verb _ verb e = absurd (cc)
+  with_verb _ verb e = absurd (omega (arith, ap (λ (l : List ℕ). get_or l 0 0) verb, ap (λ (l : List ℕ). get_or l 2 0) verb))
+
+pub fuse_is : (form : Form) (calls : List ℕ) → IsForm form → form_words form ≡ codes "fuse" ∷ calls ∷ []
+    → (n : ℕ) × (form ≡ Fuse n) × (decimal n ≡ calls)
+fuse_is form calls is e = with_verb form (verb_found form (codes "fuse") (calls ∷ []) (lit< tt) is e) e where
+  with_verb : (f : Form) → verb_in f ≡ codes "fuse" → form_words f ≡ codes "fuse" ∷ calls ∷ []
+      → (n : ℕ) × (f ≡ Fuse n) × (decimal n ≡ calls)
+  with_verb (Fuse n) verb e = (n, refl, cc)
+  with_verb _ verb e = absurd (omega (arith, ap (λ (l : List ℕ). get_or l 1 0) verb))
+
+pub fault_is : (form : Form) (call : List ℕ) → IsForm form → form_words form ≡ codes "fault" ∷ call ∷ []
+    → (n : ℕ) × (form ≡ Fault n) × (decimal n ≡ call)
+fault_is form call is e = with_verb form (verb_found form (codes "fault") (call ∷ []) (lit< tt) is e) e where
+  with_verb : (f : Form) → verb_in f ≡ codes "fault" → form_words f ≡ codes "fault" ∷ call ∷ []
+      → (n : ℕ) × (f ≡ Fault n) × (decimal n ≡ call)
+  with_verb (Fault n) verb e = (n, refl, cc)
+  with_verb _ verb e = absurd (omega (arith, ap (λ (l : List ℕ). get_or l 2 0) verb))
 
 pub where_is : (form : Form) (page : List ℕ) → IsForm form → form_words form ≡ codes "where" ∷ page ∷ []
     → (p : ℕ) × (form ≡ Where p) × (decimal p ≡ page)
@@ -274,4 +292,4 @@ where_is form page is e = with_verb form (verb_found form (codes "where") (page 
   with_verb : (f : Form) → verb_in f ≡ codes "where" → form_words f ≡ codes "where" ∷ page ∷ []
       → (p : ℕ) × (f ≡ Where p) × (decimal p ≡ page)
   with_verb (Where p) verb e = (p, refl, cc)
-  with_verb _ verb e = absurd (cc)
+  with_verb _ verb e = absurd (omega (arith, ap (λ (l : List ℕ). get_or l 1 0) verb))

@@ -76,7 +76,7 @@ has_dot word r is e none =
     ∙ ap (position is_dot) e ∙ none in
     absurd (cc)
 
-pub same_number : (m n : ℕ) → m ≤ 65535 → n ≤ 65535 → decimal m ≡ decimal n → m ≡ n
+pub same_number : (m n : ℕ) → m ≤ 1000000 → n ≤ 1000000 → decimal m ≡ decimal n → m ≡ n
 same_number m n below_m below_n e = decimal_injective m n (omega arith) (omega arith) e
 
 abbrev made : ℕ → ℕ → Rid

@@ -1,7 +1,8 @@
 -- From one line of a text to the next. It serves the goals of script.rt.
 use Rattle.std.proofs.Common.{◌≡◌, ℕ, zero, suc, ◌+◌, ◌-◌, ◌<◌, ◌≤◌, inl, inr, min, List, [], ◌∷◌, ◌++◌, length, take, drop, Some, Result, Ok, Err, refl, sym, ap, ◌∙◌, subst, arith, length-append}
 use Rattle.std.proofs.lemmas.List.Sums.{sum_by-append}
-use Rattle.std.specs.Prelude.{slice_get, sum_by, IfOk, IfErr}
+use Rattle.std.specs.Prelude.{slice_get, sum_by, Bool, false, ◌==◌, IfOk, IfErr}
+use Rattle.std.proofs.lemmas.Bool.Decides.{nat_tests}
 use Rattle.std.proofs.lemmas.Option.{slice_get_within}
 use Rattle.sd_base.specs.declared.refusal.Refusal.{Refusal}
 use Rattle.sd_base.specs.declared.refusal.Refusal.TheVariants as refusal
@@ -32,6 +33,9 @@ pub record IsCut (rest line after : List ℕ) : Type 0 where
   pub some : 0 < length rest
   pub lines : lines_of rest ≡ line ∷ lines_of after
   pub bytes : min (length rest) (length line + 1) + length after ≡ length rest
+
+pub some_left : (empty : Bool) (n : ℕ) → empty ≡ (n == 0) → empty ≡ false → 0 < n
+some_left empty n means isnt = grind (arith, nat_tests)
 
 ends : (t s r n a : ℕ) → min t s + r ≡ t → 0 < r → min r n + a ≡ r → min t (s + n) + a ≡ t
 ends t s r n a e some bytes = omega arith

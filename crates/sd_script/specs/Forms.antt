@@ -5,7 +5,7 @@ use Rattle.sd_base.specs.declared.ids.Rid.{Rid}
 use Rattle.sd_base.specs.declared.place.Mode.{Mode}
 use Rattle.sd_base.specs.declared.place.Mode.TheVariants.{Shared, Excl}
 use Rattle.sd_script.specs.declared.line.Form.{Form}
-use Rattle.sd_script.specs.declared.line.Form.TheVariants.{Complex, Begin, Read, Write, Add, Insert, Delete, Save, Back, Rollback, Commit, Ask, Give, Take, Evict, Flush, Force, Fail, Where, Table}
+use Rattle.sd_script.specs.declared.line.Form.TheVariants.{Complex, Begin, Read, Write, Add, Insert, Delete, Save, Back, Rollback, Commit, Ask, Give, Take, Evict, Flush, Force, Fail, Fuse, Fault, Where, Table}
 
 -- the word of a record: its page, a dot, its slot
 abbrev pub rid_word : Rid → List ℕ
@@ -41,6 +41,8 @@ form_words (Evict inst page) = decimal inst ∷ codes "evict" ∷ decimal page �
 form_words (Flush inst page) = decimal inst ∷ codes "flush" ∷ decimal page ∷ []
 form_words (Force inst) = decimal inst ∷ codes "force" ∷ []
 form_words (Fail inst) = codes "fail" ∷ decimal inst ∷ []
+form_words (Fuse calls) = codes "fuse" ∷ decimal calls ∷ []
+form_words (Fault call) = codes "fault" ∷ decimal call ∷ []
 form_words (Where page) = codes "where" ∷ decimal page ∷ []
 form_words Table = codes "table" ∷ []
 
@@ -107,6 +109,8 @@ IsForm (Evict inst page) = IsInst inst × (page < 1024)
 IsForm (Flush inst page) = IsInst inst × (page < 1024)
 IsForm (Force inst) = IsInst inst
 IsForm (Fail inst) = IsInst inst
+IsForm (Fuse calls) = calls ≤ 1000000
+IsForm (Fault call) = (1 ≤ call) × (call ≤ 1000000)
 IsForm (Where page) = page < 1024
 IsForm Table = Unit {0}
 

@@ -1,5 +1,6 @@
 pub mod Text
 pub mod Forms
+pub mod Ordinals
 pub mod Packed
 pub mod Known
 pub mod Order

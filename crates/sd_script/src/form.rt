@@ -12,8 +12,8 @@ use crate::inst_forms::{ask_of, begin_of, evict_of, flush_of, force_of, give_of,
 use crate::names::Names;
 use crate::parts::{capacity_of, inst_of};
 use crate::verb_forms::{
-    add_of, back_of, commit_of, complex_of, delete_of, fail_of, insert_of, read_of, rollback_of,
-    save_of, table_of, where_of, write_of,
+    add_of, back_of, commit_of, complex_of, delete_of, fail_of, fault_of, fuse_of, insert_of,
+    read_of, rollback_of, save_of, table_of, where_of, write_of,
 };
 use crate::word::first_word;
 use sd_base::{InstNo, Memory};
@@ -125,6 +125,10 @@ fn two_of_verb(
         Ok(where_of(word))
     } else if verb == b"fail".as_slice() {
         Ok(fail_of(word))
+    } else if verb == b"fuse".as_slice() {
+        Ok(fuse_of(word))
+    } else if verb == b"fault".as_slice() {
+        Ok(fault_of(word))
     } else {
         Ok(None)
     }

@@ -108,6 +108,14 @@ pub enum Form {
     Fail {
         inst: InstNo,
     },
+    /// `fuse K`: so many device calls pass, and every later one fails.
+    Fuse {
+        calls: u32,
+    },
+    /// `fault K`: the device call of this number alone fails, counted from the next.
+    Fault {
+        call: u32,
+    },
     /// `where P`: it is shown where the page is.
     Where {
         page: PageNo,

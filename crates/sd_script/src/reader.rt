@@ -134,6 +134,7 @@ impl Reader {
             | Form::Evict { inst, page }
             | Form::Flush { inst, page } => self.has_inst(*inst) && self.has_page(*page),
             Form::Force { inst } | Form::Fail { inst } => self.has_inst(*inst),
+            Form::Fuse { .. } | Form::Fault { .. } => !self.lines.is_empty(),
             Form::Table => !self.lines.is_empty() && self.tables < TABLES,
         }
     }

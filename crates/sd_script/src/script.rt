@@ -15,6 +15,9 @@ use std::alloc::Global;
 use std::cmp;
 use std::marker::Model;
 
+/// The bytes of a short line.
+const SHORT_LINE: usize = 8;
+
 /// What a script is read for.
 #[derive(Clone, Copy, Debug, PartialEq, Eq)]
 pub enum Kind {
@@ -87,8 +90,7 @@ fn read_lines(alloc: Global, text: &[u8]) -> Result<Vec<Line>, Refusal>
     Ok(reader.into_lines())
 }
 
-// How many lines a reader is to have room for: as many as the text may have, so that the list doesn't grow.
+// How many lines a reader is to have room for: as many as a text of this length mostly has, so that the list seldom grows.
 fn room_for(text: &[u8]) -> usize {
-    let feeds = text.iter().filter(|b| **b == b'\n').count();
-    cmp::min(feeds, LINES - 1) + 1
+    cmp::min(text.len() / SHORT_LINE, LINES - 1) + 1
 }

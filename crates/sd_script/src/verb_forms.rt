@@ -11,6 +11,9 @@ use crate::word::{is_name, is_value, number_within};
 use sd_base::{Memory, PAGES};
 use std::alloc::Global;
 
+// How far ahead a device call may lie that a line makes fail.
+const MOST_CALLS: u64 = 1_000_000;
+
 pub(crate) fn complex_of(insts: &[u8], pages: &[u8], frames: &[u8]) -> Option<Form>
     ensures { (known : List ℕ → Option ℕ) → IsFormOf known (codes "complex" ∷ insts.now ∷ pages.now ∷ frames.now ∷ []) result }
 {
@@ -215,6 +218,26 @@ pub(crate) fn fail_of(inst: &[u8]) -> Option<Form>
         return None;
     };
     Some(Form::Fail { inst })
+}
+
+pub(crate) fn fuse_of(calls: &[u8]) -> Option<Form>
+    ensures { (known : List ℕ → Option ℕ) → IsFormOf known (codes "fuse" ∷ calls.now ∷ []) result }
+{
+    let Some(calls) = number_within(calls, 0, MOST_CALLS) else {
+        return None;
+    };
+    Some(Form::Fuse {
+        calls: calls as u32,
+    })
+}
+
+pub(crate) fn fault_of(call: &[u8]) -> Option<Form>
+    ensures { (known : List ℕ → Option ℕ) → IsFormOf known (codes "fault" ∷ call.now ∷ []) result }
+{
+    let Some(call) = number_within(call, 1, MOST_CALLS) else {
+        return None;
+    };
+    Some(Form::Fault { call: call as u32 })
 }
 
 pub(crate) fn where_of(page: &[u8]) -> Option<Form>

@@ -11,7 +11,7 @@ use crate::entries::Why::{
     NotAsked, NotNumber, NotRecovered, PageFull, PoolFull, TooLong, TooManyTxns, Up,
 };
 use crate::entries::{FAR, MAKER, NEAR, ONE, Say, TWO, Who, reply, txn};
-use sd_base::{Cause, Duplicate, Memory, PageNo};
+use sd_base::{Cause, Duplicate, Memory, PageNo, Trouble};
 use sd_model::{Entry, Event};
 use sd_report::{bad_line, in_order, render};
 use sd_script::{Form, Kind, Line, Script};
@@ -35,7 +35,7 @@ const FIVE: Who = Who(5, 0, 0);
 const EIGHT: Who = Who(8, 0, 0);
 
 /// What is done.
-static REPLIES: [Told; 29] = [
+static REPLIES: [Told; 32] = [
     (
         b"complex 8 2 1\n",
         &[Help(Joined(1)), Help(Joined(1))],
@@ -66,6 +66,9 @@ static REPLIES: [Told; 29] = [
     (b"1 flush 0\n", &[Own(Did)], b"1 flushed 0\n"),
     (b"1 force\n", &[Own(Did)], b"1 forced\n"),
     (b"fail 8\n", &[Own(Did)], b"fail 8\n"),
+    (b"fuse 0\n", &[Own(Did)], b"fuse 0\n"),
+    (b"fuse 1000000\n", &[Own(Did)], b"fuse 1000000\n"),
+    (b"fault 1\n", &[Own(Did)], b"fault 1\n"),
     (b"where 1\n", &[Own(Shown(Free, 0))], b"1 free\n"),
     (
         b"where 1\n",
@@ -314,6 +317,12 @@ fn page_event(rt: &impl Abort, form: &Form) -> Event {
         },
         Form::Force { inst } => Event::Force { inst: *inst },
         Form::Fail { inst } => Event::Fail { inst: *inst },
+        Form::Fuse { calls } => Event::Arm {
+            trouble: Trouble::Fuse(u64::from(*calls)),
+        },
+        Form::Fault { call } => Event::Arm {
+            trouble: Trouble::Fault(u64::from(*call)),
+        },
         Form::Where { page } => Event::Show { page: *page },
         _ => Event::List {
             inst: txn(rt, ONE).inst,

@@ -1,8 +1,10 @@
 -- The transactions of a list by their numbers: for the goals of the calls of `TxnList` and `TxnTable`.
-use Rattle.std.proofs.Common.{◌≡◌, ◌≢◌, Bool, true, false, cond, ◌&&◌, eqb, List, [], ◌∷◌, ◌++◌, None, Some, IsSome, is_some, option_map, refl, sym, ap, subst, ◌∙◌}
+use Rattle.std.proofs.Common.{◌≡◌, ◌≢◌, ◌-◌, length, Bool, true, false, cond, ◌&&◌, eqb, List, [], ◌∷◌, ◌++◌, None, Some, IsSome, is_some, option_map, refl, sym, ap, subst, ◌∙◌}
 use Rattle.std.proofs.lemmas.Bool.{eqb-true}
 use Rattle.std.proofs.lemmas.List.{map-append}
-use Rattle.std.specs.Cmp.{nat_eq_equiv}
+use Rattle.std.specs.Cmp.{IsEquivalence, nat_eq_equiv}
+use Rattle.std.specs.List.{IsDistinct, slice_get}
+use Rattle.std.proofs.lemmas.Map.Entries.{lookup_from_place}
 use Rattle.std.specs.Map.{keys_of, lookup, remove_entry, set_value}
 use Rattle.indexmap.specs.IndexMap.{insert_entry}
 use Rattle.sd_base.specs.declared.ids.TxnId.{TxnId}
@@ -10,7 +12,7 @@ use Rattle.sd_base.specs.contracts.ids.TxnIdPartialEq.TheImpl.{eq-value}
 use Rattle.sd_base.specs.Ids.{same_txn}
 use Rattle.sd_txn.specs.Transactions.{Transaction, Transactions, txn_at, Replaces}
 
-same-eq : (t u : TxnId) → eq-value.it t u ≡ same_txn t u
+pub same-eq : (t u : TxnId) → eq-value.it t u ≡ same_txn t u
 unfolding same_txn
 same-eq t u = refl
 
@@ -44,6 +46,20 @@ same_txn-other t u apart = by (same_txn t u) refl
 pub same_txn-self : (t : TxnId) → same_txn t t ≡ true
 unfolding same_txn
 same_txn-self t = (λ i. nat_eq_equiv.refl t.inst i && (nat_eq_equiv.refl t.epoch i && nat_eq_equiv.refl t.seq i))
+
+txn_equiv : IsEquivalence same_txn
+unfolding same_txn
+txn_equiv = record {
+  refl = same_txn-self;
+  symm = λ t u i. nat_eq_equiv.symm t.inst u.inst i && (nat_eq_equiv.symm t.epoch u.epoch i && nat_eq_equiv.symm t.seq u.seq i);
+  congr = λ t u v e. ap (λ (x : TxnId). same_txn x v) (same_txn-is t u e);
+}
+
+-- the last one is found by its number
+pub lookup-last : {X : Type 0} (t last : TxnId) (x : X) (es : List (TxnId × X)) → IsDistinct same_txn (keys_of es)
+    → slice_get es (length es - 1) ≡ Some (last, x) → same_txn last t ≡ true → lookup (same_txn t) es ≡ Some x
+lookup-last {X} t last x es once at same =
+    ap (λ (u : TxnId). lookup (same_txn u) es) (sym (same_txn-is last t same)) ∙ lookup_from_place txn_equiv es (length es - 1) last x once at
 
 module _ {X : Type 0} (t : TxnId) (w : X) where
   -- what is set is found

@@ -1,6 +1,6 @@
 //! The unresolved transactions in order of begin, over the kit's `indexmap`. It sees no sums and no counts of begins.
 
-ghost use Rattle.std.specs.Prelude.{◌≡◌, ◌≢◌, ◌∷◌, ◌++◌, ◌^◌, ◌<◌, [], length, option_copied, IfOk, None, OnErr, OnOk, Some};
+ghost use Rattle.std.specs.Prelude.{◌≡◌, ◌≢◌, ◌∷◌, ◌++◌, ◌^◌, ◌<◌, [], length, option_copied, IfOk, IfSome, None, OnErr, OnOk, Some};
 ghost use Rattle.std.specs.List.{IsDistinct};
 ghost use Rattle.std.specs.Map.{keys_of, lookup, remove_entry};
 ghost use Rattle.indexmap.specs.IndexMap.{insert_entry};
@@ -65,7 +65,10 @@ impl TxnList {
     pub(crate) fn get(&self, t: &TxnId) -> Option<&Txn>
         ensures { option_copied result ≡ lookup (same_txn t.now) self.now }
     {
-        self.txns.get(t)
+        match newest(&self.txns, t) {
+            Some(txn) => Some(txn),
+            None => self.txns.get(t),
+        }
     }
 
     /// The same, to be changed.
@@ -95,5 +98,16 @@ impl TxnList {
         ensures gone { lookup (same_txn t.now) self.new ≡ None }
     {
         self.txns.shift_remove(t)
+    }
+}
+
+// What is known of the transaction, where it is the last in the order: of most the calls come while no other has begun.
+fn newest<'a>(txns: &'a IndexMap<TxnId, Txn>, t: &TxnId) -> Option<&'a Txn>
+    ensures { IfSome result (λ txn. lookup (same_txn t.now) txns.now.entries ≡ Some txn.now) }
+{
+    let _once = txns.len();
+    match txns.last() {
+        Some((last, txn)) if last == t => Some(txn),
+        _ => None,
     }
 }

@@ -11,3 +11,11 @@ returns-then-eq-3 c = subst (λ (v : List ℕ). IsFormOf (known c.args.begun.now
 pub returns-then-eq-4 : goal.returns-then-eq-4
 returns-then-eq-4 c = subst (λ (v : List ℕ). IsFormOf (known c.args.begun.now) (v ∷ c.args.word.now ∷ []) c.fail_of.result)
     (sym (is_word c.args.verb.now _ _ c.as_slice-else-eq-3.ensures c.if-eq-4.ensures)) (c.fail_of.ensures (known c.args.begun.now))
+
+pub returns-then-eq-5 : goal.returns-then-eq-5
+returns-then-eq-5 c = subst (λ (v : List ℕ). IsFormOf (known c.args.begun.now) (v ∷ c.args.word.now ∷ []) c.fuse_of.result)
+    (sym (is_word c.args.verb.now _ _ c.as_slice-else-eq-4.ensures c.if-eq-5.ensures)) (c.fuse_of.ensures (known c.args.begun.now))
+
+pub returns-then-eq-6 : goal.returns-then-eq-6
+returns-then-eq-6 c = subst (λ (v : List ℕ). IsFormOf (known c.args.begun.now) (v ∷ c.args.word.now ∷ []) c.fault_of.result)
+    (sym (is_word c.args.verb.now _ _ c.as_slice-else-eq-5.ensures c.if-eq-6.ensures)) (c.fault_of.ensures (known c.args.begun.now))
