@@ -3,3 +3,4 @@ pub mod Turns
 pub mod Ordered
 pub mod Gathered
 pub mod Merges
+pub mod Flats

@@ -1,3 +1,4 @@
 pub mod Stacked
 pub mod Walking
 pub mod Relisted
+pub mod Owing

@@ -38,7 +38,7 @@ earlier : (who : List Who) (j k : ℕ) (a b : Who) → AreRising (txns who) → 
     → IsBelow a.0 b.0
 earlier who j k a b rising lt at_j at_k = rises_at (λ (w : Who). w.0) who j k a b rising lt at_j at_k
 
-apart : (t u : TxnId) → IsBelow t u → t ≢ u
+pub apart : (t u : TxnId) → IsBelow t u → t ≢ u
 apart t u below e = not_below_itself u (subst (λ (x : TxnId). IsBelow x u) e below)
 
 -- ---- the next one isn't in the table yet
@@ -49,7 +49,7 @@ each_before P who zero f = tt
 each_before P [] (suc i) f = tt
 each_before P (x ∷ xs) (suc i) f = (f 0 x (omega arith) refl, each_before P xs i (λ k w lt there. f (suc k) w (omega arith) there))
 
-unknown : (t : TxnId) (rows : List (TxnId × Transaction)) → Each (λ u. u ≢ t) (keys_of rows) → lookup (same_txn t) rows ≡ None
+pub unknown : (t : TxnId) (rows : List (TxnId × Transaction)) → Each (λ u. u ≢ t) (keys_of rows) → lookup (same_txn t) rows ≡ None
 unknown t [] a = refl
 unknown t (row ∷ rows) a = let off = ne-same t row.0 (λ e. a.0 (sym e)) in rw off (unknown t rows a.1)
 

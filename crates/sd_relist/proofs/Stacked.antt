@@ -27,7 +27,7 @@ use Rattle.sd_relist.proofs.Walking.{each_at}
 turned : {X : Type 0} (x : X) (xs : List X) → reverse (x ∷ xs) ≡ reverse xs ++ x ∷ []
 turned x xs = reverse-append (x ∷ []) xs
 
-map-reverse : {A B : Type 0} (f : A → B) (xs : List A) → map f (reverse xs) ≡ reverse (map f xs)
+pub map-reverse : {A B : Type 0} (f : A → B) (xs : List A) → map f (reverse xs) ≡ reverse (map f xs)
 map-reverse f [] = refl
 map-reverse {A} {B} f (x ∷ xs) = ap (map f) (turned x xs) ∙ map-append f (reverse xs) (x ∷ [])
     ∙ ap (λ (l : List B). l ++ f x ∷ []) (map-reverse f xs) ∙ sym (turned (f x) (map f xs))

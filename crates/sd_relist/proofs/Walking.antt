@@ -84,7 +84,7 @@ rises_at {X} key (x ∷ xs) zero (suc k) a b rising lt at_j at_k =
     (each_at (IsBelow (key x)) (map key xs) k (key b) rising.0 (slice_get-map key xs k ∙ ap (option_map key) at_k))
 rises_at key (x ∷ xs) (suc j) (suc k) a b rising lt at_j at_k = rises_at key xs j k a b rising.1 (omega arith) at_j at_k
 
-rise-rising : (losers : List Loser) → Rise losers → AreRising (map (λ l. l.txn) losers)
+pub rise-rising : (losers : List Loser) → Rise losers → AreRising (map (λ l. l.txn) losers)
 rise-rising [] rise = tt
 rise-rising (l ∷ ls) rise = (each-map ls rise.0, rise-rising ls rise.1)
   where
@@ -93,23 +93,23 @@ rise-rising (l ∷ ls) rise = (each-map ls rise.0, rise-rising ls rise.1)
     each-map (m ∷ ms) a = (a.0, each-map ms a.1)
 
 -- a transaction among the losers
-record Place (losers : List Loser) (t : TxnId) : Type 0 where
+pub record Place (losers : List Loser) (t : TxnId) : Type 0 where
   pub index : ℕ
   pub loser : Loser
   pub there : slice_get losers index ≡ Some loser
   pub named : t ≡ loser.txn
 
-place_of : (t : TxnId) (losers : List Loser) → Member t (map (λ l. l.txn) losers) → Place losers t
+pub place_of : (t : TxnId) (losers : List Loser) → Member t (map (λ l. l.txn) losers) → Place losers t
 place_of t [] m = absurd m
 place_of t (l ∷ ls) m = ⊎_elim
     (λ e. record { index = 0; loser = l; there = refl; named = e })
     (λ rest. let p = place_of t ls rest in record { index = suc p.index; loser = p.loser; there = p.there; named = p.named }) m
 
-any-member : (t : TxnId) (ts : List TxnId) → list_any (same_txn t) ts ≡ true → Member t ts
+pub any-member : (t : TxnId) (ts : List TxnId) → list_any (same_txn t) ts ≡ true → Member t ts
 any-member t [] e = absurd (cc)
 any-member t (u ∷ us) e = ⊎_elim (λ is. inl (same-txn-is t u is)) (λ off. inr (any-member t us (rw off at e))) (cases_Bool (same_txn t u))
 
-member-any : (t : TxnId) (ts : List TxnId) → Member t ts → list_any (same_txn t) ts ≡ true
+pub member-any : (t : TxnId) (ts : List TxnId) → Member t ts → list_any (same_txn t) ts ≡ true
 member-any t [] m = absurd m
 member-any t (u ∷ us) m = ⊎_elim
     (λ e. let is = eq-same t u e in rw is refl)
@@ -120,7 +120,7 @@ member-any t (u ∷ us) m = ⊎_elim
     or_true false b e = e
 
 -- the transaction is the loser at this index
-left-by : (log : List Placed) (losers : List Loser) (next : ℕ) (t : TxnId) (l : Loser) → AreLosers log losers → slice_get losers next ≡ Some l
+pub left-by : (log : List Placed) (losers : List Loser) (next : ℕ) (t : TxnId) (l : Loser) → AreLosers log losers → slice_get losers next ≡ Some l
     → l.txn ≡ t → is_left_open (flats log) t ≡ true
 left-by log losers next t l are there named =
     let is = each_at (IsLoser log) losers next l are.each there in

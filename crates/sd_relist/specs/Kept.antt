@@ -10,6 +10,7 @@ use Rattle.sd_txn.specs.Transactions.{Transaction, started}
 use Rattle.sd_chain.specs.Records.{stack}
 use Rattle.sd_chain.specs.Order.{span_of}
 use Rattle.sd_chain.specs.Checks.{open_in}
+use Rattle.sd_chain.specs.Undoing.{Member}
 
 -- what a rollback knows of a record
 abbrev pub open_rec : Rec → OpenRec
@@ -26,3 +27,7 @@ left_open log t state = record { state = state; marks = []; stack = map open_rec
 -- a transaction as a log has it: one that the log doesn't leave open has nothing open, and no record of it is known
 abbrev pub as_kept : List Rec → TxnId → TxnState → Transaction
 as_kept log t state = if is_left_open log t then left_open log t state else started state
+
+-- whom the log leaves open is among these
+abbrev pub AreAmong : List Rec → List TxnId → Type 0
+AreAmong log ts = (t : TxnId) → Member t (open_in log) → Member t ts

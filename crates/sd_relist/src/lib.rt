@@ -4,7 +4,8 @@
 //! table is.
 //! Keeps: nothing.
 //! Promises: `relist` answers a table of the given transactions in their order (`order`), each in its state and as the log
-//! has it (`rows`), and of no begin (`fresh`).
+//! has it (`rows`), and of no begin (`fresh`); where it has each whom the log leaves open, it owes what the log does (`owes`,
+//! `reserves`).
 //! Refuses: want of memory.
 //! Knows nothing of: devices, pages, what a state means, where the log stands.
 //! Stands on: sd_base, sd_page, sd_logrec, sd_rig, sd_log, sd_chain, sd_analysis, sd_txn.

@@ -5,10 +5,12 @@ ghost use Rattle.sd_base.specs.declared.ids.TxnId.{TxnId};
 ghost use Rattle.sd_logrec.specs.View.{flat};
 ghost use Rattle.sd_logrec.specs.View.Kind.{Update};
 ghost use Rattle.sd_log.specs.Logs.{flats};
+ghost use Rattle.sd_chain.specs.Checks.{owed, reserve};
 ghost use Rattle.sd_analysis.specs.Losers.{AreLosers, IsLoser};
+ghost use Rattle.sd_txn.specs.Owing.{owed_of, reserve_of};
 ghost use Rattle.sd_txn.specs.Transactions.{ids, started, txn_at, IsUnresolved, OthersStay, SameOrder};
 ghost use Rattle.sd_txn.specs.declared.state.TxnState.{TxnState};
-ghost use Rattle.sd_relist.specs.Kept.{as_kept, left_open, open_rec as opened};
+ghost use Rattle.sd_relist.specs.Kept.{as_kept, left_open, open_rec as opened, AreAmong};
 ghost use Rattle.sd_relist.specs.Walks.{AreBelow, AreRising, IsNext};
 
 use sd_analysis::{Loser, Losers};
@@ -21,7 +23,7 @@ use std::alloc::Global;
 /// A transaction table of these transactions, each in its order and state, as a log has them: one that the log leaves
 /// unfinished has its open records, the oldest first, with the values before, and the LSNs of its first and last record; any
 /// other has no open record and no LSN known. Nobody has a mark, and no begin is counted. The transactions rise, as the losers
-/// do; a loser that isn't among them is passed over.
+/// do; a loser that isn't among them is passed over. Where each loser is among them, the table owes what the log does.
 ///
 /// `Memory` comes for want of memory, and where the bytes of all undo would pass 2^64.
 pub fn relist(
@@ -36,6 +38,10 @@ pub fn relist(
     ensures order { IfOk result (λ table. ids table ≡ map (λ w. w.0) who.now) }
     ensures rows { IfOk result (λ table. (t : TxnId) (state : TxnState) → Contains who.now (t, state)
         → txn_at table t ≡ Some (as_kept (flats log.now) t state)) }
+    ensures owes { IfOk result (λ table. AreAmong (flats log.now) (map (λ w. w.0) who.now)
+        → owed_of table ≡ owed (flats log.now)) }
+    ensures reserves { IfOk result (λ table. AreAmong (flats log.now) (map (λ w. w.0) who.now)
+        → reserve_of table ≡ reserve (flats log.now)) }
     ensures fresh { IfOk result (λ table. (table.inst ≡ inst) × (table.epoch ≡ 0) × (table.begins ≡ 0)) }
 {
     let losers = losers.items();

@@ -1,6 +1,7 @@
 use Rattle.std.proofs.Common.{length, refl, arith}
-use Rattle.std.proofs.lemmas.Option.{slice_get_read}
+use Rattle.std.proofs.lemmas.Option.{slice_get_read, slice_get_within}
 use Rattle.sd_log.specs.Logs.{flats}
+use Rattle.sd_relist.proofs.Owing.{table-owes, table-reserves}
 use Rattle.sd_relist.proofs.Relisted.{absent, relisted_more, relisted_order, relisted_rows, relisted_start}
 use Rattle.sd_relist.proofs.relisting.relist.Goals as goal
 
@@ -44,6 +45,22 @@ pub returns-clause-rows : goal.returns-clause-rows
 returns-clause-rows c =
     relisted_rows c.args.inst c.args.who.now (flats c.args.log.now) c.items-losers.result.now c.loop-txn.table c.loop-txn.next
     c.loop-txn.txn-index c.loop-txn.invariant c.loop-txn-test.false
+
+pub returns-clause-owes : goal.returns-clause-owes
+returns-clause-owes c among =
+    table-owes c.args.log.now c.args.losers.now c.args.who.now c.loop-txn.table c.requires.losers c.requires.rising
+    (relisted_order c.args.inst c.args.who.now (flats c.args.log.now) c.items-losers.result.now c.loop-txn.table c.loop-txn.next
+    c.loop-txn.txn-index c.loop-txn.invariant c.loop-txn.auto.txn-index-end c.loop-txn-test.false)
+    (λ k w there. c.loop-txn.invariant.rows k w
+    (let within = slice_get_within c.args.who.now k w there in omega (arith, within, c.loop-txn-test.false)) there) among
+
+pub returns-clause-reserves : goal.returns-clause-reserves
+returns-clause-reserves c among =
+    table-reserves c.args.log.now c.args.losers.now c.args.who.now c.loop-txn.table c.requires.losers c.requires.rising
+    (relisted_order c.args.inst c.args.who.now (flats c.args.log.now) c.items-losers.result.now c.loop-txn.table c.loop-txn.next
+    c.loop-txn.txn-index c.loop-txn.invariant c.loop-txn.auto.txn-index-end c.loop-txn-test.false)
+    (λ k w there. c.loop-txn.invariant.rows k w
+    (let within = slice_get_within c.args.who.now k w there in omega (arith, within, c.loop-txn-test.false)) there) among
 
 pub returns-clause-fresh : goal.returns-clause-fresh
 returns-clause-fresh c = c.loop-txn.invariant.counts
