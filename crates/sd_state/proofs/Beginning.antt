@@ -298,8 +298,8 @@ module _ (seen : rig.Image) (leaves : Outcomes) (frames : ℕ) (c : Parts) (devi
     spare = λ up. let e = ap reserve (all-none i) in omega (arith, e);
   }
 
-  known-lsn : (p : ℕ) (x : Page) → may_of leaves p x → IsKnownLsn c x.lsn
-  known-lsn p x m =
+  known-lsn : (moved : Keeps) (p : ℕ) (x : Page) → may_of leaves p x → IsKnownLsn c (log_by c moved) x.lsn
+  known-lsn moved p x m =
       let e = ap (λ (y : Page). y.lsn) (sym m.2 ∙ page-none m.0 (left-blank 0 (omega arith) m.0 m.1) p) in inl (omega (arith, e))
 
   owes-little : (moved : Keeps) (j : ℕ) → OwesAtMost (owed_at c j) (log_by c moved j)
@@ -326,6 +326,7 @@ module _ (seen : rig.Image) (leaves : Outcomes) (frames : ℕ) (c : Parts) (devi
     };
     half = half;
     places = λ j place is. let e = sym (no-other j) ∙ is in absurd (cc);
+    others = λ i place low high is. let e = sym (no-other i) ∙ is in absurd (cc);
     settled = λ j low high e. settled j low high;
     disk_settled = λ e. devices.only 0 (omega arith);
     disk_lsns = known-lsn;

@@ -1,5 +1,5 @@
 -- No page that a pool has, and none that a crash may leave, has an LSN above the greatest. For `change` and its law.
-use Rattle.std.proofs.Common.{◌≡◌, ⊎_elim, ℕ, zero, suc, ◌≤◌, List, [], ◌++◌, sym, ap₂, subst, arith}
+use Rattle.std.proofs.Common.{◌≡◌, ⊎_elim, ℕ, zero, suc, ◌≤◌, List, [], ◌++◌, sym, ap₂, subst, arith, false}
 use Rattle.std.specs.Prelude.{Some}
 use Rattle.std.proofs.lemmas.Bool.{cases_lt}
 use Rattle.sd_logrec.specs.View.{Rec}
@@ -37,7 +37,7 @@ module _ (seen : rig.Image) (leaves : Outcomes) (pend : Pending) (c : Parts) (m 
   known-low p z may = ⊎_elim (λ le. omega (arith, le, disk))
       (λ r. reached z.lsn great (base_at (log_at c r.0)) r.3
       (each-front (λ q. q.lsn ≤ great) (base_at (log_at c r.0)) (tail_at (log_at c r.0)) (logs r.0 r.1 r.2)))
-      (g.disk_lsns p z (may.0, may.1.0, may.2))
+      (g.disk_lsns (λ j. false) p z (may.0, may.1.0, may.2))
 
   none : (j : ℕ) → base_at (there j) ++ tail_at (there j) ≡ [] → Each (λ q. q.lsn ≤ great) (all_at (there j))
   none j e = subst (Each (λ (q : Rec). q.lsn ≤ great)) (sym e) tt

@@ -81,7 +81,7 @@ use Rattle.sd_state.proofs.Items.{item-kept, item-set}
 use Rattle.sd_state.proofs.Lasts.{last-grows, last-more}
 use Rattle.sd_state.proofs.Owing.{most-in-all, owes-at-most, settled-owes}
 use Rattle.sd_state.proofs.Begun.{began-there, begun-more}
-use Rattle.sd_state.proofs.Standing.{no-place, one-place}
+use Rattle.sd_state.proofs.Standing.{no-place, one-place, bases-by, known-still, others-still}
 
 -- ---- what a crash may leave, with logs that begin somewhere: outcomes and logs stand for any that have the record
 
@@ -733,7 +733,7 @@ module _ (i : ℕ) (k : Change) (x : Transaction) (image : Page) (spare great : 
 
   checking-there : (q : ℕ) (b : Begun) → check_at c q ≡ Some b → IsChecking new q b
   checking-there q b is = let old = g.checking q b is in record {
-    active = old.active;
+    up = old.up;
     low = old.low;
     begun = ⊎_elim
         (λ e. let own = subst (λ (n : ℕ). b.begin ≤ last_lsn (scanned (log_at c n))) e old.begun in
@@ -764,10 +764,11 @@ module _ (i : ℕ) (k : Change) (x : Transaction) (image : Page) (spare great : 
     half = half-there;
     places = λ j place is bytes left. subst (λ (n : ℕ). ((master bytes).start ≡ place) ⊎ ((master bytes).start ≡ n))
         (sym (each-log (λ l. l.start) refl j)) (g.places j place is bytes left);
+    others = others-still seen leaves Pending.Idle c m g new i settled table-else;
     settled = settled-there;
     disk_settled = g.disk_settled;
-    disk_lsns = λ p z may. ⊎_elim (λ le. inl le)
-        (λ r. inr (r.0, r.1, r.2, ap (list_any (reaches z.lsn)) (base-same r.0) ∙ r.3)) (g.disk_lsns p z may);
+    disk_lsns = λ moved p z may. known-still c new (log_by c moved) (log_by new moved) z.lsn refl
+        (bases-by c new i at-i.one_place (λ j. refl) (base-same i) log-else moved) (g.disk_lsns moved p z may);
     last = last-there;
     owed = λ j lo hi e. g.owed j lo hi e ∙ ap owed (sym (base-same j));
     owed_loose = owed-loose-there;

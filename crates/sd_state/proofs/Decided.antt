@@ -26,11 +26,12 @@ use Rattle.sd_chain.proofs.Fates.{committed-fate, fate-committed}
 use Rattle.sd_sound.specs.Logs.{Outcomes, all_at, base_at}
 use Rattle.sd_state.specs.Good.{Good, Half, IsInstance, IsTold}
 use Rattle.sd_state.specs.Images.{leaves_by, log_by}
-use Rattle.sd_state.specs.Parts.{Parts, log_at, no_txns, status_at, txns_at}
+use Rattle.sd_state.specs.Parts.{Parts, is_loose, log_at, no_txns, status_at, txns_at}
 use Rattle.sd_state.specs.Recovering.{decided_as, with_table}
 use Rattle.sd_state.specs.Tables.{IsInDoubt, NamesLife, RowIsLive, RowIsLogged, StandsAs}
 use Rattle.sd_state.specs.Values.{Pending}
 use Rattle.sd_state.proofs.Items.{item-kept, item-set}
+use Rattle.sd_state.proofs.Standing.{others-still}
 
 -- the row of a transaction that stands so
 pub record HasRow (table : Transactions) (t : TxnId) (s : TxnState) : Type 0 where
@@ -78,7 +79,8 @@ logged-as s x t log r = ⊎_elim
 module _ (t : TxnId) (x : Transaction) (committed : Bool) (table : Transactions) (seen : rig.Image) (leaves : Outcomes)
     (c : Parts) (m : State)
     (low : 1 ≤ home t) (high : home t ≤ 8) (g : Good seen leaves Pending.Idle c m) (by : ℕ)
-    (recovering : status_at c (home t) ≡ S.Recovering by) (empty : (log_at c (home t)).tail ≡ [])
+    (recovering : status_at c (home t) ≡ S.Recovering by) (settled : is_loose c (home t) ≡ false)
+    (empty : (log_at c (home t)).tail ≡ [])
     (kept : committed ≡ list_any (commits t) (base_at (log_at c (home t)))) (doubt : x.state ≡ TxnState.Doubt)
     (once : IsDistinct same_txn (ids (txns_at c (home t))))
     (row : Replaces (txns_at c (home t)) table t x (with_state (decided_as committed) x)) where
@@ -210,6 +212,7 @@ module _ (t : TxnId) (x : Transaction) (committed : Bool) (table : Transactions)
     };
     half = half-there;
     places = g.places;
+    others = others-still seen leaves Pending.Idle c m g new i settled table-else;
     settled = λ j lo hi e. let s = g.settled j lo hi e in
         record { only = s.only; stands = s.stands; one_place = s.one_place; counted = s.counted; epoch = s.epoch };
     disk_settled = g.disk_settled;
@@ -236,5 +239,5 @@ module _ (t : TxnId) (x : Transaction) (committed : Bool) (table : Transactions)
     locks = g.locks;
     gone = g.gone;
     asks = g.asks;
-    checking = λ k b is. let old = g.checking k b is in record { active = old.active; low = old.low; begun = old.begun };
+    checking = λ k b is. let old = g.checking k b is in record { up = old.up; low = old.low; begun = old.begun };
   }

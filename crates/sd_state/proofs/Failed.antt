@@ -244,12 +244,13 @@ module _ (i : ℕ) (seen seen' : rig.Image) (leaves leaves' : Outcomes) (pend : 
     };
     half = half-there;
     places = places-there;
+    others = g.others;
     settled = settled-there;
     disk_settled = λ e bytes. let w = was-settled 0 e in (
       (λ l. (g.disk_settled w.1 bytes).0 ((f.others_leave 0 w.0 bytes).0 l) ∙ sym (f.others 0 w.0)),
       (λ is. (f.others_leave 0 w.0 bytes).1 ((g.disk_settled w.1 bytes).1 (is ∙ f.others 0 w.0))),
     );
-    disk_lsns = λ p x may. g.disk_lsns p x (may-less i leaves leaves' low (less-same i leaves leaves' f.others_leave) p x may);
+    disk_lsns = λ moved p x may. g.disk_lsns moved p x (may-less i leaves leaves' low (less-same i leaves leaves' f.others_leave) p x may);
     last = g.last;
     owed = λ j lo hi e. let w = was-settled j e in item-kept 0 c.owed i (owed_either c i) low j w.0 ∙ g.owed j lo hi w.1;
     owed_loose = owed-loose;
@@ -273,7 +274,7 @@ module _ (i : ℕ) (seen seen' : rig.Image) (leaves leaves' : Outcomes) (pend : 
     locks = g.locks;
     gone = g.gone;
     asks = g.asks;
-    checking = λ k b is. let old = g.checking k b is in record { active = old.active; low = old.low; begun = old.begun };
+    checking = λ k b is. let old = g.checking k b is in record { up = old.up; low = old.low; begun = old.begun };
   }
     where
       pending-there : (q : Pending) → IsUnderWay c m q → IsUnderWay failed_parts m q

@@ -353,17 +353,24 @@ module _ (i : ℕ) (seen seen' : rig.Image) (leaves leaves' : Outcomes) (pend : 
       chosen = chosen_same 0 64 (seen i) (seen' i)
           (part_before (forced_at (log_at c i)) (forced_len (log_at c i)) 0 130 (seen i) (seen' i) f.outside (omega arith))
 
-  known-there : (p : ℕ) (x : Page) → may_of leaves' p x → IsKnownLsn new x.lsn
-  known-there p x may = ⊎_elim (λ low. inl low)
+  known-there : (moved : Keeps) (p : ℕ) (x : Page) → may_of leaves' p x → IsKnownLsn new (log_by new moved) x.lsn
+  known-there moved p x may = ⊎_elim (λ low. inl low)
       (λ r. inr (r.0, r.1, r.2, grown r.0 r.3))
-      (g.disk_lsns p x (may-less i leaves leaves' low (less-same i leaves leaves' f.others_leave) p x may))
+      (g.disk_lsns moved p x (may-less i leaves leaves' low (less-same i leaves leaves' f.others_leave) p x may))
     where
-      grown : (j : ℕ) → list_any (reaches x.lsn) (base_at (log_at c j)) ≡ true → list_any (reaches x.lsn) (base_at (log_at new j)) ≡ true
+      Reached : Parts → ℕ → Type 0
+      Reached d j = list_any (reaches x.lsn) (base_at (log_by d moved j)) ≡ true
+
+      was : Reached c i → list_any (reaches x.lsn) (base_at (log_at c i)) ≡ true
+      was e = ap (λ (l : LogState). list_any (reaches x.lsn) (base_at l)) (sym (one-place c moved i at-i.one_place)) ∙ e
+
+      grown : (j : ℕ) → Reached c j → Reached new j
       grown j e = ⊎_elim
-          (λ same. subst (λ (k : ℕ). list_any (reaches x.lsn) (base_at (log_at new k)) ≡ true) (sym same)
-          (ap (list_any (reaches x.lsn)) base-here
-          ∙ still-reaches x.lsn (base_at (log_at c i)) (tail_at (log_at c i)) (subst (λ (k : ℕ). list_any (reaches x.lsn) (base_at (log_at c k)) ≡ true) same e)))
-          (λ ne. ap (λ (l : LogState). list_any (reaches x.lsn) (base_at l)) (log-else j ne) ∙ e)
+          (λ same. subst (Reached new) (sym same)
+          (ap (λ (l : LogState). list_any (reaches x.lsn) (base_at l)) (one-place new moved i at-i.one_place)
+          ∙ ap (list_any (reaches x.lsn)) base-here
+          ∙ still-reaches x.lsn (base_at (log_at c i)) (tail_at (log_at c i)) (was (subst (Reached c) same e))))
+          (λ ne. ap (λ (l : LogState). list_any (reaches x.lsn) (base_at l)) (by-else moved j ne) ∙ e)
           (cases_eq j i)
 
   last-same : (j : ℕ) → last_lsn (scanned (log_at new j)) ≡ last_lsn (scanned (log_at c j))
@@ -472,6 +479,7 @@ module _ (i : ℕ) (seen seen' : rig.Image) (leaves leaves' : Outcomes) (pend : 
     };
     half = half-there;
     places = places-there;
+    others = g.others;
     settled = settled-there;
     disk_settled = λ e bytes. (
       (λ l. (g.disk_settled e bytes).0 ((f.others_leave 0 (λ z. omega (arith, low, z)) bytes).0 l) ∙ sym (f.others 0 (λ z. omega (arith, low, z)))),
@@ -501,7 +509,7 @@ module _ (i : ℕ) (seen seen' : rig.Image) (leaves leaves' : Outcomes) (pend : 
     gone = g.gone;
     asks = g.asks;
     checking = λ k b is. let old = g.checking k b is in record {
-      active = old.active;
+      up = old.up;
       low = old.low;
       begun = subst (λ (n : ℕ). b.begin ≤ n) (sym (last-same k)) old.begun;
     };

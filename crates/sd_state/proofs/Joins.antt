@@ -330,6 +330,7 @@ module _ (i : ℕ) (seen : rig.Image) (leaves : Outcomes) (c : Parts) (m : State
     };
     half = half-there;
     places = g.places;
+    others = g.others;
     settled = λ j lo hi e. let s = g.settled j lo hi e in
         record { only = s.only; stands = s.stands; one_place = s.one_place; counted = s.counted; epoch = s.epoch };
     disk_settled = g.disk_settled;
@@ -359,5 +360,9 @@ module _ (i : ℕ) (seen : rig.Image) (leaves : Outcomes) (c : Parts) (m : State
     gone = g.gone;
     asks = λ p. Each-weaker _ _ (λ ask a. (still-active ask.by a.0, a.1)) (asks_at c.directory p) (g.asks p);
     checking = λ k b is. let old = g.checking k b is in
-        record { active = still-active k old.active; low = old.low; begun = old.begun };
+        record {
+          up = ⊎_elim (λ e. ap (status_at new) e ∙ status-here) (λ ne. status-else k ne ∙ old.up) (cases_eq k i);
+          low = old.low;
+          begun = old.begun;
+        };
   }

@@ -10,6 +10,7 @@ pub mod OpenedHalf
 pub mod OpenedGood
 pub mod OpenedFresh
 pub mod Forced
+pub mod Masters
 pub mod Owed
 pub mod Failed
 pub mod Owing

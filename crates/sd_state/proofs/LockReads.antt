@@ -121,10 +121,11 @@ module _ (seen : rig.Image) (leaves leaves' : Outcomes) (pend : Pending) (c : Pa
     shape = g.shape;
     half = half-less;
     places = λ j place is bytes left. g.places j place is bytes (less j bytes left);
+    others = g.others;
     settled = λ j lo hi e. let s = g.settled j lo hi e in
         record { only = only-less j hi s.only; stands = s.stands; one_place = s.one_place; counted = s.counted; epoch = s.epoch };
     disk_settled = λ e. only-less 0 (omega arith) (g.disk_settled e);
-    disk_lsns = λ p x may. g.disk_lsns p x (may.0, less 0 may.0 may.1, may.2);
+    disk_lsns = λ moved p x may. g.disk_lsns moved p x (may.0, less 0 may.0 may.1, may.2);
     last = g.last;
     owed = g.owed;
     owed_loose = g.owed_loose;

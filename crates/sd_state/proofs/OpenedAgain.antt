@@ -42,7 +42,7 @@ use Rattle.sd_state.proofs.OpenedImage.{left-open}
 use Rattle.sd_state.proofs.RecoverDone.{values-standing}
 
 -- what each element gives that passes, one that passes gives
-any-gives : {A : Type 0} (P : Type 0) (test : A → Bool) (xs : List A) → Each (λ x. test x ≡ true → P) xs
+pub any-gives : {A : Type 0} (P : Type 0) (test : A → Bool) (xs : List A) → Each (λ x. test x ≡ true → P) xs
     → list_any test xs ≡ true → P
 any-gives P test [] each some = absurd (cc)
 any-gives P test (x ∷ xs) each some = ⊎_elim
@@ -59,7 +59,7 @@ rid-is r x is =
     made : ℕ → ℕ → Rid
     made p s = record { page = p; slot = s }
 
-some-any : (t : TxnId) (ts : List TxnId) → Member t ts → is_any ts ≡ true
+pub some-any : (t : TxnId) (ts : List TxnId) → Member t ts → is_any ts ≡ true
 some-any t [] m = absurd m
 some-any t (u ∷ us) m = refl
 
@@ -77,6 +77,30 @@ left-claims false has p r = refl
 left-marks : (b : Bool) (holds : Rid → Bool) (p : Part) → (left_part b holds p).marks ≡ []
 left-marks true holds p = refl
 left-marks false holds p = refl
+
+-- ---- whom a log leaves open
+
+module _ (img : Image) (own : OwnLogs img) where
+  -- it is of the log's instance
+  pub of-log : (i : ℕ) (t : TxnId) → Member t (open_in (img.logs i)) → home t ≡ i
+  of-log i t member = any-gives (home t ≡ i) (of_txn t) (img.logs i)
+      (Each-weaker (λ x. speaks x.kind ≡ true → home x.txn ≡ i) (λ x. of_txn t x ≡ true → home t ≡ i)
+      (λ x h is. subst (λ (u : TxnId). home u ≡ i) (own_is t x is) (h (both (speaks x.kind) _ is).0)) (img.logs i) (own.own i))
+      (open_in-is t (img.logs i) member).1
+
+  none-left : (i : ℕ) (ts : List TxnId) → open_in (img.logs i) ≡ ts → ((t : TxnId) → t.inst ≡ i → is_loser img t ≡ true → ⊥)
+      → (is_any ts || some_lost img 1024) ≡ some_lost img 1024
+  none-left i [] is none = refl
+  none-left i (t ∷ ts) is none =
+      let member : Member t (open_in (img.logs i)) = subst (Member t) (sym is) (inl refl) in
+      let there = of-log i t member in
+      let left = open_in-is t (img.logs i) member in
+      absurd (none t there (ap is_left (subst (λ (k : ℕ). fate t (img.logs k) ≡ Fate.Open) (sym there)
+      (open-fate t (img.logs i) left.0 left.1))))
+
+  -- an instance without any is down exactly where a page is lost
+  pub down-lost : (i : ℕ) → ((t : TxnId) → t.inst ≡ i → is_loser img t ≡ true → ⊥) → is_down_in img i ≡ some_lost img 1024
+  down-lost i none = none-left i (open_in (img.logs i)) refl none
 
 module _ (devices : rig.Image) (m : State) (placed : Placed m) (listed : Listed m) (shut : (i : ℕ) → (m.inst i).status ≡ S.Closed)
     (s : Stands m Pending.Idle devices) where
@@ -109,23 +133,6 @@ module _ (devices : rig.Image) (m : State) (placed : Placed m) (listed : Listed 
       (λ x e is. sym (ap (m.part t).claims (rid-is r x is)) ∙ e) (opens img t) (s.claimed t (alive t stays)).claims)
       (both (is_loser img t) (list_any (at r.page r.slot) (opens img t)) has).1
 
-  -- whom a log leaves open is of its instance
-  of-log : (i : ℕ) (t : TxnId) → Member t (open_in (img.logs i)) → home t ≡ i
-  of-log i t member = any-gives (home t ≡ i) (of_txn t) (img.logs i)
-      (Each-weaker (λ x. speaks x.kind ≡ true → home x.txn ≡ i) (λ x. of_txn t x ≡ true → home t ≡ i)
-      (λ x h is. subst (λ (u : TxnId). home u ≡ i) (own_is t x is) (h (both (speaks x.kind) _ is).0)) (img.logs i) (own.own i))
-      (open_in-is t (img.logs i) member).1
-
-  nobody : (i : ℕ) (ts : List TxnId) → open_in (img.logs i) ≡ ts → ((t : TxnId) → t.inst ≡ i → is_loser img t ≡ true → ⊥)
-      → (is_any ts || some_lost img 1024) ≡ some_lost img 1024
-  nobody i [] is none = refl
-  nobody i (t ∷ ts) is none =
-      let member : Member t (open_in (img.logs i)) = subst (Member t) (sym is) (inl refl) in
-      let there = of-log i t member in
-      let left = open_in-is t (img.logs i) member in
-      absurd (none t there (ap is_left (subst (λ (k : ℕ). fate t (img.logs k) ≡ Fate.Open) (sym there)
-      (open-fate t (img.logs i) left.0 left.1))))
-
   finds : Finds kept (is_loser img) (has_open img) (some_lost img 1024) (is_down_in img) m
   finds = record {
     there = λ t stays. (s.claimed t (alive t stays)).there;
@@ -134,7 +141,7 @@ module _ (devices : rig.Image) (m : State) (placed : Placed m) (listed : Listed 
     down = λ t stays. let left = fate-open t (img.logs (home t)) (alive t stays) in
         ap (λ (b : Bool). b || some_lost img 1024)
         (some-any t (open_in (img.logs (home t))) (is-open_in t (img.logs (home t)) left.0 left.1));
-    others = λ i none. nobody i (open_in (img.logs i)) refl none;
+    others = down-lost img own;
   }
 
   reopens : Reopened m then

@@ -1,5 +1,5 @@
 -- Blank devices open to the fresh state, and a fresh complex is what is opened from them: so what `opened` asks for can be met.
-use Rattle.std.proofs.Common.{◌≡◌, ℕ, zero, suc, ◌≤◌, Bool, true, false, ltb, ◌&&◌, ◌||◌, cond, List, [], refl, sym, ap, ap₂, ◌∙◌, subst, arith, ⊎_elim}
+use Rattle.std.proofs.Common.{◌≡◌, ℕ, zero, suc, ◌≤◌, Bool, true, false, ltb, ◌&&◌, ◌||◌, cond, List, [], refl, sym, ap, ap₂, ◌∙◌, subst, arith, ⊎_elim, inl}
 use Rattle.std.specs.Prelude.{is_some}
 use Rattle.std.specs.List.{list_any}
 use Rattle.std.proofs.lemmas.Bool.{cases_lt, le-ltb}
@@ -42,6 +42,8 @@ use Rattle.sd_state.proofs.OpenedHalf.{nine-settled}
 use Rattle.sd_state.proofs.OpenedImage.{values-now}
 use Rattle.sd_state.proofs.OpenedPages.{unchanged-same}
 use Rattle.sd_state.proofs.Standing.{left-stands}
+use Rattle.sd_reclock.specs.Locks.{waits_in}
+use Rattle.sd_reclock.specs.declared.wait.Asked.{Asked}
 
 none-of-both : (b : Bool) → (b && false) ≡ false
 none-of-both true = refl
@@ -136,6 +138,7 @@ module _ (seen : rig.Image) (leaves : Outcomes) (frames : ℕ) (c : Parts) (devi
         let first : epoch_at c j ≡ 0 = ap (λ (epochs : List ℕ). among 0 epochs j) f.epochs ∙ at-each 0 (λ k. 0) j low high in
         omega (arith, first, high_is);
     master = (settled j low high).counted;
+    uncounted = λ none. ap (λ (masters : List ℕ). among 0 masters j) f.masters ∙ at-each 0 (λ k. 0) j low high;
     owed = owes-none seen leaves frames c devices f j low high ∙ sym (ap owed (none-kept j));
   }
 
@@ -145,11 +148,13 @@ module _ (seen : rig.Image) (leaves : Outcomes) (frames : ℕ) (c : Parts) (devi
     shape = good.shape;
     insts = found;
     locks = λ t r. good.locks t r ∙ ap lock_of (claim-none t r);
+    unwaited = λ t. ap (λ (waiting : List (TxnId × Asked)). waits_in waiting t) f.unwaited;
     pages = page-found;
     disk_lsns = λ p lt.
         let none = ap (λ (x : Page). x.lsn)
         (ap (page_in p) (body_blank (twin_at p) 1024 (seen 0) (devices.blank 0 (omega arith)))) in
         omega (arith, none);
+    disk_lsn = inl f.disk_lsn;
     pools = f.pools;
     checks = f.checks;
     others = f.others;

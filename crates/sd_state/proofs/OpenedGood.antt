@@ -48,6 +48,7 @@ use Rattle.sd_state.proofs.Lasts.{last-sound}
 use Rattle.sd_state.proofs.OpenedHalf.{all-is, base-is, epoch-is, half, is-settled, left-is, no-check, no-other, soundly}
 use Rattle.sd_state.proofs.OpenedImage.{names-left, none-left, not-closed, not-up, rows-left, told-none}
 use Rattle.sd_state.proofs.Standing.{no-place, one-place}
+use Rattle.sd_state.specs.Images.{log_by}
 
 -- nobody works whom the image leaves open, or doesn't know
 none-goes : (life : Life) (b : Bool) (runs rolls : Type 0) → life ≡ cond {A = Life} b Life.Retained Life.Gone
@@ -129,8 +130,8 @@ module _ (seen : rig.Image) (leaves : Outcomes) (frames : ℕ) (c : Parts) (m : 
   }
 
   -- a page's LSN is known; there are no more than 1,024
-  known : (p : ℕ) (x : Page) → may_of leaves p x → IsKnownLsn c x.lsn
-  known p x may =
+  known : (moved : Keeps) (p : ℕ) (x : Page) → may_of leaves p x → IsKnownLsn c (log_by c moved) x.lsn
+  known moved p x may =
       let left : may.0 ≡ seen 0 = left-is seen leaves frames c m only size a o 0 (omega arith) may.0 may.1 in
       let is = ap (λ (y : Page). y.lsn) (sym may.2 ∙ ap (λ (bytes : List ℕ). disk_page bytes p) left) in
       ⊎_elim
@@ -221,6 +222,7 @@ module _ (seen : rig.Image) (leaves : Outcomes) (frames : ℕ) (c : Parts) (m : 
     shape = a.shape;
     half = half seen leaves frames c m only size a o;
     places = λ j place is. let e = sym (no_other j) ∙ is in absurd (cc);
+    others = λ i place low high is. let e = sym (no_other i) ∙ is in absurd (cc);
     settled = λ j low high e. settled j low high;
     disk_settled = λ e. only 0 (omega arith);
     disk_lsns = known;

@@ -208,7 +208,7 @@ module _ (seen : rig.Image) (leaves : Outcomes) (frames : ℕ) (c : Parts) (m : 
     named = may_be-named (as_read img) (may_of leaves') (tails_of logs) (λ keeps. newest img) (disk_page (seen 0))
         safe0 narrows allowed
 
-    now-same : (keeps : Keeps) (p : ℕ) → version_of (tails_of logs) (disk_page (seen 0)) keeps p ≡ newest img p
+    pub now-same : (keeps : Keeps) (p : ℕ) → version_of (tails_of logs) (disk_page (seen 0)) keeps p ≡ newest img p
     now-same keeps p = named.same keeps p
 
     -- as the law has it of what an opening reads

@@ -60,7 +60,7 @@ use Rattle.sd_state.proofs.Decided.{has-row}
 use Rattle.sd_state.proofs.Items.{item-kept, item-set}
 use Rattle.sd_state.proofs.RecoverDone.{TakesOne, doubt-cut, each-taken, found-among, found-is, mid-else, mid-swept, no-bytes}
 use Rattle.sd_state.proofs.RecoverDone.{no-records, none-passes, swept-life, takes-one, values-standing}
-use Rattle.sd_state.proofs.Standing.{one-place}
+use Rattle.sd_state.proofs.Standing.{one-place, others-still}
 
 -- what was read before its recovery began is told, and it isn't up
 ended-told : (b : Bool) → tells_log (cond {A = Status} b S.Restarting S.Clean) ≡ true
@@ -177,15 +177,15 @@ module _ (i : ℕ) (locks : LockTable) (seen : rig.Image) (leaves : Outcomes) (c
   few : length kept ≤ 1
   few = ⊎_elim (λ e. let n = ap length e in omega (arith, n)) (λ r. let n = ap length r.1 in omega (arith, n)) only
 
-  step : Step m (RecoverStep i) Finished then
+  pub step : Step m (RecoverStep i) Finished then
   step = ((λ shut. g.not_closed shut, (λ never. never (may.by, by-is), (tt, (tt, tt)))), (kept, few, of-i, in-doubt, refl))
 
-  part-here : (t : TxnId) → home t ≡ i → then.part t ≡ gone
+  pub part-here : (t : TxnId) → home t ≡ i → then.part t ≡ gone
   part-here t own = ap (λ (b : Bool). cond {A = Part} b (swept_part (mid.part t)) (mid.part t)) (eq-eqb i t.inst (sym own))
       ∙ ap (λ (b : Bool). cond {A = Part} b gone (mid.part t)) (mid-swept kept m t (swept-life (m.part t).life may.by
       (subst (λ (s : Status). Stands (m.part t).life s) (ap (λ (k : ℕ). (m.inst k).status) own ∙ by-is) (g.placed.stands t))))
 
-  part-else : (t : TxnId) → home t ≢ i → then.part t ≡ m.part t
+  pub part-else : (t : TxnId) → home t ≢ i → then.part t ≡ m.part t
   part-else t ne = ap (λ (b : Bool). cond {A = Part} b (swept_part (mid.part t)) (mid.part t)) (ne_eqb i t.inst (λ e. ne (sym e)))
       ∙ mid-else i kept m of-i t ne
 
@@ -216,16 +216,16 @@ module _ (i : ℕ) (locks : LockTable) (seen : rig.Image) (leaves : Outcomes) (c
   status-here = item-set S.Closed c.statuses i (after_recovery i (status_at c i)) low high g.shape.statuses
       ∙ ap (after_recovery i) may.recovering
 
-  status-else : (j : ℕ) → j ≢ i → status_at new j ≡ status_at c j
+  pub status-else : (j : ℕ) → j ≢ i → status_at new j ≡ status_at c j
   status-else = item-kept S.Closed c.statuses i (after_recovery i (status_at c i)) low
 
   not-up : (k : ℕ) → status_at new k ≡ S.Up → k ≢ i
   not-up k up e = ended-rests (eqb i may.by) (sym status-here ∙ ap (status_at new) (sym e) ∙ up)
 
-  table-here : txns_at new i ≡ without_rows table
+  pub table-here : txns_at new i ≡ without_rows table
   table-here = item-set no_txns c.txns i (without_rows table) low high g.shape.txns
 
-  table-else : (k : ℕ) → k ≢ i → txns_at new k ≡ txns_at c k
+  pub table-else : (k : ℕ) → k ≢ i → txns_at new k ≡ txns_at c k
   table-else = item-kept no_txns c.txns i (without_rows table) low
 
   still-active : (j : ℕ) → is_active c j ≡ true → is_active new j ≡ true
@@ -459,6 +459,7 @@ module _ (i : ℕ) (locks : LockTable) (seen : rig.Image) (leaves : Outcomes) (c
     };
     half = half-there;
     places = g.places;
+    others = others-still seen leaves Pending.Idle c m g new i may.settled table-else;
     settled = λ j lo hi e. let s = g.settled j lo hi e in
         record { only = s.only; stands = s.stands; one_place = s.one_place; counted = s.counted; epoch = s.epoch };
     disk_settled = g.disk_settled;
@@ -500,5 +501,9 @@ module _ (i : ℕ) (locks : LockTable) (seen : rig.Image) (leaves : Outcomes) (c
     locks = locks-there;
     asks = λ p. Each-weaker _ _ (λ ask a. (still-active ask.by a.0, a.1)) (asks_at c.directory p) (g.asks p);
     checking = λ k b is. let old = g.checking k b is in
-        record { active = still-active k old.active; low = old.low; begun = old.begun };
+        record {
+          up = status-else k (λ e. let clash = sym may.recovering ∙ ap (status_at c) (sym e) ∙ old.up in absurd (cc)) ∙ old.up;
+          low = old.low;
+          begun = old.begun;
+        };
   }

@@ -242,6 +242,7 @@ module _ (i by : ℕ) (seen : rig.Image) (leaves : Outcomes) (c : Parts) (m : St
     };
     half = half-there;
     places = g.places;
+    others = g.others;
     settled = λ j lo hi e. let s = g.settled j lo hi (was-settled j lo e).1 in
         record { only = s.only; stands = s.stands; one_place = s.one_place; counted = s.counted; epoch = s.epoch };
     disk_settled = λ e. let clash = sym loose-disk ∙ e in absurd (cc);
@@ -274,7 +275,11 @@ module _ (i by : ℕ) (seen : rig.Image) (leaves : Outcomes) (c : Parts) (m : St
     gone = g.gone;
     asks = λ p. Each-weaker _ _ (λ ask a. (still-active ask.by a.0, a.1)) (asks_at c.directory p) (g.asks p);
     checking = λ k b is. let old = g.checking k b is in
-        record { active = still-active k old.active; low = old.low; begun = old.begun };
+        record {
+          up = status-else k (λ e. let clash = sym down ∙ ap (status_at c) (sym e) ∙ old.up in absurd (cc)) ∙ old.up;
+          low = old.low;
+          begun = old.begun;
+        };
   }
 
 -- an instance that is up is one of the eight

@@ -43,7 +43,8 @@ use Rattle.sd_state.proofs.Items.{item-kept, item-set}
 use Rattle.sd_state.proofs.Lasts.{last-grows, last-more}
 use Rattle.sd_state.proofs.Sealed.{commits-same, half-sealed, stack-same, with_came}
 use Rattle.sd_state.proofs.Begun.{began-there, begun-more, older-more}
-use Rattle.sd_state.proofs.Standing.{no-place, one-place}
+use Rattle.sd_state.proofs.Standing.{no-place, one-place, bases-by, known-still, others-still}
+use Rattle.sd_page.specs.Page.{Page}
 
 -- who stands so in a table stands so by other records, if they don't commit one in doubt
 stands-sealed : (s : TxnState) (life : Life) (f w w' : Fate) → (IsInDoubt life → w ≢ Fate.Committed → w' ≢ Fate.Committed)
@@ -272,7 +273,7 @@ module _ (i spare : ℕ) (y : Record) (table : Transactions) (epochs : List ℕ)
 
   checks-there : (j : ℕ) (k : Begun) → check_at c j ≡ Some k → IsChecking new j k
   checks-there j k is = let old = g.checking j k is in record {
-    active = old.active;
+    up = old.up;
     low = old.low;
     begun = ⊎_elim
         (λ e. subst (λ (n : ℕ). k.begin ≤ last_lsn (scanned (log_at new n))) (sym e)
@@ -295,9 +296,9 @@ module _ (i spare : ℕ) (y : Record) (table : Transactions) (epochs : List ℕ)
       (λ ne. subst (λ (l : LogState). IsOpen t (all_at l)) (sym (log-else (home t) ne)) old)
       (cases_eq (home t) i)
 
-  known-there : (lsn : ℕ) → IsKnownLsn c lsn → IsKnownLsn new lsn
-  known-there lsn = ⊎_elim (λ low. inl low)
-      (λ r. inr (r.0, r.1, r.2, ap (list_any (reaches lsn)) (base-same r.0) ∙ r.3))
+  known-there : (moved : Keeps) (p : ℕ) (x : Page) → may_of leaves p x → IsKnownLsn new (log_by new moved) x.lsn
+  known-there moved p x left = known-still c new (log_by c moved) (log_by new moved) x.lsn refl
+      (bases-by c new i at-i.one_place (λ j. refl) (base-same i) log-else moved) (g.disk_lsns moved p x left)
 
   -- ---- instances
 
@@ -438,9 +439,10 @@ module _ (i spare : ℕ) (y : Record) (table : Transactions) (epochs : List ℕ)
     half = half;
     places = λ j place other bytes left. subst (λ (start : ℕ). ((master bytes).start ≡ place) ⊎ ((master bytes).start ≡ start))
         (sym (start-same j)) (g.places j place other bytes left);
+    others = others-still seen leaves pend c m g new i may.settled txns-else;
     settled = settled-there;
     disk_settled = g.disk_settled;
-    disk_lsns = λ p x left. known-there x.lsn (g.disk_lsns p x left);
+    disk_lsns = known-there;
     last = last-there;
     owed = λ j lo hi settled. g.owed j lo hi settled ∙ ap owed (sym (base-same j));
     owed_loose = owes-there;

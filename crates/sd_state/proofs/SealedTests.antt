@@ -109,7 +109,7 @@ module _ (i : ℕ) (y : Record) (spare : ℕ) (seen : rig.Image) (leaves : Outco
   great-page p z may = ⊎_elim (λ le. omega (arith, le))
       (λ r. reached z.lsn (great_of c) (base_at (log_at c r.0)) r.3
       (Each-front (λ q. q.lsn ≤ great_of c) (base_at (log_at c r.0)) (tail_at (log_at c r.0)) (great-log r.0 r.1 r.2)))
-      (g.disk_lsns p z may)
+      (g.disk_lsns (λ j. false) p z may)
 
   abbrev new : Parts
   new = with_more i y spare c

@@ -1,6 +1,7 @@
 -- Whatever a crash leaves stands for the serial table's state, and who may update a page is alone with it: for the laws.
-use Rattle.std.proofs.Common.{◌≡◌, ◌≢◌, ◌⊎◌, ℕ, ◌≤◌, Bool, true, false, cond, eqb, List, map, refl, sym, ap, ◌∙◌, subst, arith, eq-eqb, ne_eqb, ⊎_elim}
+use Rattle.std.proofs.Common.{◌≡◌, ◌≢◌, ◌⊎◌, ℕ, ◌≤◌, Bool, true, false, cond, eqb, inl, inr, List, map, refl, sym, ap, ap₂, ◌∙◌, subst, arith, eq-eqb, ne_eqb, ⊎_elim}
 use Rattle.std.specs.Prelude.{Option, Some, None, IfSome}
+use Rattle.std.specs.List.{list_any}
 use Rattle.std.specs.Option.{option_map_or}
 use Rattle.std.proofs.lemmas.Bool.{cases_eq}
 use mathlib.Core.Path.{fun_ext}
@@ -20,16 +21,17 @@ use Rattle.sd_chain.specs.Images.{Keeps}
 use Rattle.sd_chain.specs.Records.{Val, home}
 use Rattle.sd_coherent.proofs.Crashes as crashes
 use Rattle.sd_coherent.proofs.Newest as newest
-use Rattle.sd_sound.specs.Logs.{Logs, Outcomes, after_records, kept_logs, may_of, past_at, tails_of}
+use Rattle.sd_txn.specs.Transactions.{Transactions, state_at}
+use Rattle.sd_sound.specs.Logs.{Logs, Outcomes, after_records, base_at, kept_logs, may_of, past_at, tails_of}
 use Rattle.sd_sound.specs.Soundly.{IsReady}
 use Rattle.sd_sound.proofs.Forces.{force-left}
 use Rattle.sd_sound.proofs.Kept.{forced-start, kept-is, master-same}
 use Rattle.sd_sound.proofs.Ready.{forced-ready}
 use Rattle.sd_sound.proofs.Soundly.{between-left, logs-ready}
-use Rattle.sd_state.specs.Good.{Good, Half, base_of, dir_of}
+use Rattle.sd_state.specs.Good.{Good, Half, IsKnownLsn, NoneIsFound, base_of, dir_of, reaches}
 use Rattle.sd_state.specs.Images.{IsClaimed, IsEpochOf, Stands, begun_at, kept_epoch, leaves_by, log_by}
 use Rattle.sd_state.specs.Laws.{EachCopyIsNewest, ForceLeftStands, LeftStands, OneMayUpdate}
-use Rattle.sd_state.specs.Parts.{Parts, log_at, other_at}
+use Rattle.sd_state.specs.Parts.{Parts, is_loose, log_at, other_at, txns_at}
 use Rattle.sd_state.specs.Values.{Pending, values}
 
 -- the log begins at one place, so it is the same wherever logs begin
@@ -42,16 +44,47 @@ one-place c moved j none =
     both true = refl
     both false = refl
 
+-- a log that is as it was begins as it did
+log-still : (c new : Parts) (moved : Keeps) (j : ℕ) → other_at new j ≡ other_at c j → log_at new j ≡ log_at c j
+    → log_by new moved j ≡ log_by c moved j
+log-still c new moved j place same =
+    ap₂ (λ (o : Option ℕ) (l : LogState). cond (moved j) (option_map_or (λ place. begun_at place l) o l) l) place same
+
+-- Where one log, which begins at one place, and the others are as they were, their forced records are so wherever logs begin.
+pub bases-by : (c new : Parts) (i : ℕ) → other_at c i ≡ None → ((j : ℕ) → other_at new j ≡ other_at c j)
+    → base_at (log_at new i) ≡ base_at (log_at c i) → ((j : ℕ) → j ≢ i → log_at new j ≡ log_at c j) → (moved : Keeps) (j : ℕ)
+    → base_at (log_by new moved j) ≡ base_at (log_by c moved j)
+bases-by c new i one places here elsewhere moved j = ⊎_elim
+    (λ e. subst (λ (k : ℕ). base_at (log_by new moved k) ≡ base_at (log_by c moved k)) (sym e)
+    (ap base_at (one-place new moved i (places i ∙ one)) ∙ here ∙ ap base_at (sym (one-place c moved i one))))
+    (λ ne. ap base_at (log-still c new moved j (places j) (elsewhere j ne)))
+    (cases_eq j i)
+
+-- an LSN that is known stays so, where the forced records do
+pub known-still : (c new : Parts) (logs logs' : Logs) (lsn : ℕ) → c.disk_lsn ≡ new.disk_lsn
+    → ((j : ℕ) → base_at (logs' j) ≡ base_at (logs j)) → IsKnownLsn c logs lsn → IsKnownLsn new logs' lsn
+known-still c new logs logs' lsn great same = ⊎_elim (λ low. inl (omega (arith, low, great)))
+    (λ r. inr (r.0, r.1, r.2, ap (list_any (reaches lsn)) (same r.0) ∙ r.3))
+
+-- who was found committed is so in a log that begins at one place still, where all tables but that of a settled log stay
+pub others-still : (seen : rig.Image) (leaves : Outcomes) (pend : Pending) (c : Parts) (m : State) → Good seen leaves pend c m
+    → (new : Parts) (i : ℕ) → is_loose c i ≡ false → ((j : ℕ) → j ≢ i → txns_at new j ≡ txns_at c j)
+    → (j place : ℕ) → 1 ≤ j → j ≤ 8 → other_at c j ≡ Some place → NoneIsFound new j
+others-still seen leaves pend c m g new i settled elsewhere j place low high other t own is = ⊎_elim
+    (λ e. let one = (g.settled j low high (ap (is_loose c) e ∙ settled)).one_place in let clash = sym one ∙ other in absurd (cc))
+    (λ ne. g.others j place low high other t own (sym (ap (λ (table : Transactions). state_at table t) (elsewhere j ne)) ∙ is))
+    (cases_eq j i)
+
 -- what is said of another place is said of none
 pub no-place : (o : Option ℕ) (P : ℕ → Type 0) → o ≡ None → IfSome o P
 no-place o P none = subst (λ (x : Option ℕ). IfSome x P) (sym none) tt
 
 -- where the log of an image begins at the other place
-abbrev moved_to : List ℕ → Option ℕ → Bool
+abbrev pub moved_to : List ℕ → Option ℕ → Bool
 moved_to bytes place = option_map_or (λ (p : ℕ). eqb (master bytes).start p) place false
 
 -- the image tells of each log where it begins
-abbrev which : Parts → rig.Image → Keeps
+abbrev pub which : Parts → rig.Image → Keeps
 which c img j = moved_to (img j) (other_at c j)
 
 place-is : (bytes : List ℕ) (other : Option ℕ) (start : ℕ)
@@ -64,7 +97,7 @@ place-is bytes (Some place) start either = ⊎_elim
     (cases_eq (master bytes).start place)
 
 -- the image is left with the logs beginning so
-left-by : (seen : rig.Image) (leaves : Outcomes) (pend : Pending) (c : Parts) (m : State) (img : rig.Image)
+pub left-by : (seen : rig.Image) (leaves : Outcomes) (pend : Pending) (c : Parts) (m : State) (img : rig.Image)
     → Good seen leaves pend c m → rig.Leaves leaves img → rig.Leaves (leaves_by c (which c img) leaves) img
 left-by seen leaves pend c m img g left d le =
     (left d le, place-is (img d) (other_at c d) (log_at c d).start (λ place e. g.places d place e (img d) (left d le)))

@@ -60,7 +60,7 @@ use Rattle.sd_state.specs.Values.{Pending, is_committed, open_of, put_of, values
 use Rattle.sd_state.proofs.Items.{item-kept, item-set}
 use Rattle.sd_state.proofs.Lasts.{last-grows, last-more}
 use Rattle.sd_state.proofs.Begun.{began-there, begun-more}
-use Rattle.sd_state.proofs.Standing.{no-place, one-place}
+use Rattle.sd_state.proofs.Standing.{no-place, one-place, bases-by, known-still, others-still}
 use Rattle.sd_state.proofs.UndoneHalf.{acting_base, half-undone}
 use Rattle.sd_state.proofs.UndoneTop as top-of-all
 use Rattle.sd_state.proofs.UndoneRows.{IsTop, span-push, span-there}
@@ -345,10 +345,9 @@ module _ (a : ℕ) (t : TxnId) (x : Transaction) (o : OpenRec) (image : Page) (l
         (cases_eq j i) ∙ s.epoch;
   }
 
-  known-there : (p : ℕ) (v : Page) → may_of leaves p v → IsKnownLsn new v.lsn
-  known-there p v may = ⊎_elim (λ low. inl low)
-      (λ k. inr (k.0, k.1, k.2, ap (list_any (reaches v.lsn)) (base-same k.0) ∙ k.3))
-      (g.disk_lsns p v may)
+  known-there : (moved : Keeps) (p : ℕ) (v : Page) → may_of leaves p v → IsKnownLsn new (log_by new moved) v.lsn
+  known-there moved p v may = known-still c new (log_by c moved) (log_by new moved) v.lsn refl
+      (bases-by c new i at-i.one_place (λ j. refl) (base-same i) log-else moved) (g.disk_lsns moved p v may)
 
   -- ---- instances
 
@@ -474,7 +473,7 @@ module _ (a : ℕ) (t : TxnId) (x : Transaction) (o : OpenRec) (image : Page) (l
 
   checking-there : (k : ℕ) (b : Begun) → check_at c k ≡ Some b → IsChecking new k b
   checking-there k b is = let old = g.checking k b is in record {
-    active = old.active;
+    up = old.up;
     low = old.low;
     begun = ⊎_elim
         (λ e.
@@ -551,6 +550,7 @@ module _ (a : ℕ) (t : TxnId) (x : Transaction) (o : OpenRec) (image : Page) (l
     };
     half = half-there;
     places = λ j place other bytes l. ⊎_elim (λ e. inl e) (λ e. inr (e ∙ sym (start-same j))) (g.places j place other bytes l);
+    others = others-still seen leaves Pending.Idle c m g new i w.settled table-else;
     settled = settled-there;
     disk_settled = g.disk_settled;
     disk_lsns = known-there;

@@ -1,5 +1,5 @@
 -- When a loser's last open record may be undone by the instance that recovers, and what holds then: for the call `undo_forced`.
-use Rattle.std.proofs.Common.{◌≡◌, ℕ, ◌≤◌, true, [], sym, ap, ◌∙◌, subst}
+use Rattle.std.proofs.Common.{◌≡◌, ℕ, ◌≤◌, true, false, [], sym, ap, ◌∙◌, subst}
 use Rattle.std.specs.Prelude.{Some, Result, Ok, Err, OnOk}
 use Rattle.std.specs.List.{IsDistinct}
 use Rattle.sd_base.specs.Ids.{same_txn}
@@ -12,12 +12,13 @@ use Rattle.sd_pagelock.specs.Directory.{entry_at}
 use Rattle.sd_pagelock.specs.Places.{owns}
 use Rattle.sd_txn.specs.Transactions.{Transaction, ids, top}
 use Rattle.sd_txn.specs.declared.state.OpenRec.{OpenRec}
+use Rattle.sd_chain.specs.Checks.{owed}
 use Rattle.sd_chain.specs.Records.{home}
-use Rattle.sd_sound.specs.Logs.{Outcomes}
-use Rattle.sd_sound.proofs.Kept.{forced-tail}
+use Rattle.sd_sound.specs.Logs.{Outcomes, all_at, base_at}
+use Rattle.sd_sound.proofs.Kept.{forced-base, forced-tail}
 use Rattle.sd_state.specs.Forcing.{with_forced}
 use Rattle.sd_state.specs.Good.{Good}
-use Rattle.sd_state.specs.Parts.{IsShape, Parts, log_at, no_log, pool_at, txns_at}
+use Rattle.sd_state.specs.Parts.{IsShape, Parts, is_loose, log_at, no_log, owed_at, pool_at, txns_at}
 use Rattle.sd_state.specs.Tables.{tells_log}
 use Rattle.sd_state.specs.Undoing.{CanUndo, HasTop, HasUndone}
 use Rattle.sd_state.specs.UndoingFor.{MayUndoLoser}
@@ -48,6 +49,16 @@ pub own-forced : (a : ℕ) (owes : ℕ) (c new : Parts) → IsShape c → 1 ≤ 
     → (log_at new a).tail ≡ []
 own-forced a owes c new s low high is = ap (λ (q : Parts). (log_at q a).tail) is
     ∙ ap (λ (l : LogState). l.tail) (item-set no_log c.logs a (forced (log_at c a)) low high s.logs) ∙ forced-tail (log_at c a)
+
+-- a log that is forced owes what all of its records owe
+pub own-owes : (a : ℕ) (seen : rig.Image) (leaves : Outcomes) (c new : Parts) (m : State) → Good seen leaves Pending.Idle new m → IsShape c
+    → 1 ≤ a → a ≤ 8 → is_loose c a ≡ false → new ≡ with_forced a (forced (log_at c a)) (owed_at new a) c
+    → owed_at new a ≡ owed (all_at (log_at c a))
+own-owes a seen leaves c new m good s low high settled is =
+    good.owed a low high (ap (λ (q : Parts). is_loose q a) is ∙ settled)
+    ∙ ap (λ (q : Parts). owed (base_at (log_at q a))) is
+    ∙ ap (λ (l : LogState). owed (base_at l)) (item-set no_log c.logs a (forced (log_at c a)) low high s.logs)
+    ∙ ap owed (forced-base (log_at c a))
 
 module _ (a : ℕ) (t : TxnId) (seen : rig.Image) (leaves : Outcomes) (c : Parts) (m : State) (g : Good seen leaves Pending.Idle c m)
     (w : MayUndoLoser a t c) (low : 1 ≤ home t) (high : home t ≤ 8) (a_low : 1 ≤ a) (a_high : a ≤ 8)

@@ -32,7 +32,7 @@ use Rattle.sd_state.specs.Images.{IsClaimed, IsEpochOf, IsOpenIn, leaves_by, log
 use Rattle.sd_state.specs.Parts.{Parts, is_loose, log_at, no_txns, among, status_at, txns_at, up_as}
 use Rattle.sd_state.specs.Tables.{GoesOn, NamedOnce, NamesLife, RowIsLive, RowIsLogged, goes_on_as, lock_of}
 use Rattle.sd_state.specs.Values.{Pending, rid_of, starts_of, values}
-use Rattle.sd_state.proofs.Standing.{one-place}
+use Rattle.sd_state.proofs.Standing.{one-place, others-still}
 
 -- what holds of each state that a run leads to
 pub record Lasts (m : State) : Type 0 where
@@ -295,6 +295,7 @@ module _ (t : TxnId) (txns : List Transactions) (locks : LockTable) (seen : rig.
     };
     half = half-there;
     places = g.places;
+    others = others-still seen leaves pend c m g new i settled-here o.tables;
     settled = λ j lo hi e. let s = g.settled j lo hi e in
         record { only = s.only; stands = s.stands; one_place = s.one_place; counted = s.counted; epoch = s.epoch };
     disk_settled = g.disk_settled;
@@ -327,5 +328,5 @@ module _ (t : TxnId) (txns : List Transactions) (locks : LockTable) (seen : rig.
         (cases_txn u t);
     locks = locks-there;
     asks = g.asks;
-    checking = λ k b is. let old = g.checking k b is in record { active = old.active; low = old.low; begun = old.begun };
+    checking = λ k b is. let old = g.checking k b is in record { up = old.up; low = old.low; begun = old.begun };
   }

@@ -1,5 +1,6 @@
 -- A log that is forced, and one whose force failed.
-use Rattle.std.specs.Prelude.{◌≡◌, ◌≢◌, ℕ, ◌-◌, ◌^◌, max, min, true, List, Some, slice_set, ◌⊎◌, None}
+use Rattle.std.specs.Prelude.{◌≡◌, ◌≢◌, ℕ, ◌-◌, ◌^◌, ◌≤◌, max, min, true, List, Some, slice_set, ◌⊎◌, None}
+use Rattle.sd_logrec.specs.Kept.{master}
 use Rattle.sd_log.specs.Logs.{LogState, StandsOn, forced}
 use Rattle.sd_log.specs.Forces.{StandsEither, forced_at, forced_len}
 use Rattle.sd_rig.specs.Devices as rig
@@ -57,3 +58,7 @@ pub record IsHalfForced (i : ℕ) (log : LogState) (seen seen' : rig.Image) (lea
   pub either : (bytes : List ℕ) → leaves' i bytes → StandsEither log bytes
   pub others : (d : ℕ) → d ≢ i → seen' d ≡ seen d
   pub others_leave : (d : ℕ) → d ≢ i → LeavesSame (leaves d) (leaves' d)
+
+-- Each log's master that may be left is one that might be left before.
+abbrev pub KeepMasters : Outcomes → Outcomes → Type 0
+KeepMasters old new = (j : ℕ) → 1 ≤ j → (bytes : List ℕ) → new j bytes → (was : List ℕ) × old j was × (master bytes ≡ master was)

@@ -26,7 +26,8 @@ use Rattle.sd_reclock.specs.Locks.{held}
 use Rattle.sd_rig.specs.Devices as rig
 use Rattle.sd_rig.specs.Devices.{LeavesOnly}
 use Rattle.sd_txn.specs.Owing.{owed_of, reserve_of}
-use Rattle.sd_txn.specs.Transactions.{begins_in, txn_at}
+use Rattle.sd_txn.specs.Transactions.{begins_in, state_at, txn_at}
+use Rattle.sd_txn.specs.declared.state.TxnState.{TxnState}
 use Rattle.sd_chain.specs.Bytes.{disk_page}
 use Rattle.sd_chain.specs.Checks.{owed, reserve}
 use Rattle.sd_chain.specs.Fates.{fate}
@@ -99,9 +100,9 @@ pub record IsSettledAt (seen : rig.Image) (leaves : Outcomes) (c : Parts) (j : �
 abbrev pub reaches : ℕ → Rec → Bool
 reaches lsn x = leb lsn x.lsn
 
--- No page had a greater LSN when the complex was opened, or a forced record has this one or a greater.
-abbrev pub IsKnownLsn : Parts → ℕ → Type 0
-IsKnownLsn c lsn = (lsn ≤ c.disk_lsn) ⊎ ((j : ℕ) × (1 ≤ j) × (j ≤ 8) × (list_any (reaches lsn) (base_at (log_at c j)) ≡ true))
+-- No page had a greater LSN when the complex was opened, or a forced record of these logs has this one or a greater.
+abbrev pub IsKnownLsn : Parts → Logs → ℕ → Type 0
+IsKnownLsn c logs lsn = (lsn ≤ c.disk_lsn) ⊎ ((j : ℕ) × (1 ≤ j) × (j ≤ 8) × (list_any (reaches lsn) (base_at (logs j)) ≡ true))
 
 -- ---- instances
 
@@ -156,9 +157,9 @@ IsUnderWay c m Pending.Idle = Unit {0}
 IsUnderWay c m (Pending.Commits t) = IsPending c m t
 IsUnderWay c m (Pending.Starts i) = IsStarting c m i
 
--- A checkpoint that is begun: its instance is active, its low isn't above its begin, and that was put into the log.
+-- A checkpoint that is begun: its instance is up, its low isn't above its begin, and that was put into the log.
 pub record IsChecking (c : Parts) (i : ℕ) (k : Begun) : Type 0 where
-  pub active : is_active c i ≡ true
+  pub up : status_at c i ≡ S.Up
   pub low : k.low ≤ k.begin
   pub begun : k.begin ≤ last_lsn (scanned (log_at c i))
 
@@ -170,6 +171,10 @@ OwesAtMost n log = (owed (base_at log) ≤ n) × (owed (all_at log) ≤ n)
 abbrev pub HasNumber : TxnId → Type 0
 HasNumber t = (1 ≤ t.epoch) × (1 ≤ t.seq)
 
+-- Whoever was found committed is so in a log that begins at one place.
+abbrev pub NoneIsFound : Parts → ℕ → Type 0
+NoneIsFound c i = (t : TxnId) → home t ≡ i → state_at (txns_at c i) t ≢ Some TxnState.Committed
+
 -- ---- the whole
 
 -- The complex is as m says, with what is under way, and each image that a crash may leave stands for that.
@@ -180,9 +185,10 @@ pub record Good (seen : rig.Image) (leaves : Outcomes) (pend : Pending) (c : Par
   pub half : (moved : Keeps) → Half seen (leaves_by c moved leaves) (log_by c moved) pend c m
   pub places : (j place : ℕ) → other_at c j ≡ Some place → (bytes : List ℕ) → leaves j bytes
       → ((master bytes).start ≡ place) ⊎ ((master bytes).start ≡ (log_at c j).start)
+  pub others : (i place : ℕ) → 1 ≤ i → i ≤ 8 → other_at c i ≡ Some place → NoneIsFound c i
   pub settled : (j : ℕ) → 1 ≤ j → j ≤ 8 → is_loose c j ≡ false → IsSettledAt seen leaves c j
   pub disk_settled : is_loose c 0 ≡ false → LeavesOnly (seen 0) (leaves 0)
-  pub disk_lsns : (p : ℕ) (x : Page) → may_of leaves p x → IsKnownLsn c x.lsn
+  pub disk_lsns : (moved : Keeps) (p : ℕ) (x : Page) → may_of leaves p x → IsKnownLsn c (log_by c moved) x.lsn
   pub last : (j : ℕ) → 1 ≤ j → j ≤ 8 → Each (λ x. x.lsn ≤ last_lsn (scanned (log_at c j))) (all_at (log_at c j))
   pub owed : (j : ℕ) → 1 ≤ j → j ≤ 8 → is_loose c j ≡ false → owed_at c j ≡ owed (base_at (log_at c j))
   pub owed_loose : (moved : Keeps) (j : ℕ) → 1 ≤ j → j ≤ 8 → is_loose c j ≡ true → OwesAtMost (owed_at c j) (log_by c moved j)

@@ -1,5 +1,5 @@
 -- A complex that is opened from devices: the state of the serial table for which they stand, and what a reading finds on them.
-use Rattle.std.specs.Prelude.{◌≡◌, ℕ, zero, suc, ◌<◌, ◌≤◌, Bool, true, false, ◌&&◌, ◌||◌, cond, ltb, List, [], ◌∷◌, Option, None, Some, IfSome, is_some}
+use Rattle.std.specs.Prelude.{◌≡◌, ◌⊎◌, ℕ, zero, suc, ◌<◌, ◌≤◌, Bool, true, false, ◌&&◌, ◌||◌, cond, ltb, List, [], ◌∷◌, Option, None, Some, IfSome, is_some}
 use Rattle.std.specs.List.{list_any}
 use Rattle.sd_base.specs.Twin.{chosen_body, number_of}
 use Rattle.sd_base.specs.declared.ids.TxnId.{TxnId}
@@ -22,7 +22,7 @@ use Rattle.sd_model.specs.declared.act.Life.{Life}
 use Rattle.sd_pagelock.specs.Directory as directory
 use Rattle.sd_pagelock.specs.Directory.{asks_at, entry_at, rec_lsn_at}
 use Rattle.sd_pagelock.specs.Rows.{nowhere}
-use Rattle.sd_reclock.specs.Locks.{held}
+use Rattle.sd_reclock.specs.Locks.{held, waits}
 use Rattle.sd_rig.specs.Devices as rig
 use Rattle.sd_txn.specs.Transactions.{Transaction, txn_at}
 use Rattle.sd_txn.specs.declared.state.TxnState.{TxnState}
@@ -140,7 +140,7 @@ pub record IsFoundPage (img : Image) (c : Parts) (p : ℕ) : Type 0 where
   pub unasked : asks_at c.directory p ≡ []
 
 -- Of instance j: its log as the device has it, with records of the grammar; a row of whom that leaves open; its status, epoch
--- and the count of its master; and what the log owes.
+-- and the count of its master, 0 where none counts; and what the log owes.
 pub record IsFoundInst (devices : rig.Image) (c : Parts) (j : ℕ) : Type 0 where
   pub log : IsRead (devices j) (log_at c j)
   pub spelled : AreSpelled (scanned (log_at c j))
@@ -149,17 +149,24 @@ pub record IsFoundInst (devices : rig.Image) (c : Parts) (j : ℕ) : Type 0 wher
   pub status : status_at c j ≡ status_in (stable devices) j
   pub epoch : epoch_at c j ≡ kept_epoch (devices j)
   pub master : IfSome (chosen_body 0 64 (devices j)) (λ body. number_of body ≡ count_at c j)
+  pub uncounted : chosen_body 0 64 (devices j) ≡ None → count_at c j ≡ 0
   pub owed : owed_at c j ≡ owed (log_of devices j)
 
--- The parts of a complex that is opened from these devices, with so many frames in each pool: pools have nothing, all is
--- settled, no checkpoint is begun and no fall is due.
+-- a page of the data device has this LSN
+abbrev pub IsLsnOfPage : rig.Image → ℕ → Type 0
+IsLsnOfPage devices lsn = (p : ℕ) × (p < 1024) × ((disk_page (devices 0) p).lsn ≡ lsn)
+
+-- The parts of a complex that is opened from these devices, with so many frames in each pool: nobody waits, pools have nothing,
+-- all is settled, no checkpoint is begun and no fall is due.
 pub record AreOpened (frames : ℕ) (devices : rig.Image) (c : Parts) : Type 0 where
   pub sound : DevicesAreSound devices
   pub shape : IsShape c
   pub insts : (j : ℕ) → 1 ≤ j → j ≤ 8 → IsFoundInst devices c j
   pub locks : (t : TxnId) (r : Rid) → held c.locks t r ≡ lock_of (claim_in (stable devices) t r)
+  pub unwaited : (t : TxnId) → waits c.locks t ≡ None
   pub pages : (p : ℕ) → IsFoundPage (stable devices) c p
   pub disk_lsns : (p : ℕ) → p < 1024 → (disk_page (devices 0) p).lsn ≤ c.disk_lsn
+  pub disk_lsn : (c.disk_lsn ≡ 0) ⊎ IsLsnOfPage devices c.disk_lsn
   pub pools : c.pools ≡ for_each (λ i. empty_pool frames) 8
   pub checks : c.checks ≡ for_each {A = Option Begun} (λ i. None) 8
   pub others : c.others ≡ for_each {A = Option ℕ} (λ i. None) 8

@@ -10,11 +10,12 @@ use Rattle.sd_pagelock.specs.Directory.{DirectoryState, entry_at}
 use Rattle.sd_pagelock.specs.Places.{owns}
 use Rattle.sd_pool.specs.Buffers.{Buffers}
 use Rattle.sd_rig.specs.Devices as rig
-use Rattle.sd_txn.specs.Transactions.{Transaction, Transactions, noted, popped, top, txn_at}
+use Rattle.sd_txn.specs.Transactions.{Transaction, Transactions, top, txn_at}
 use Rattle.sd_txn.specs.declared.state.OpenRec.{OpenRec}
 use Rattle.sd_txn.specs.declared.state.TxnState.{TxnState}
+use Rattle.sd_chain.specs.Checks.{owed}
 use Rattle.sd_chain.specs.Records.{home}
-use Rattle.sd_sound.specs.Logs.{Outcomes}
+use Rattle.sd_sound.specs.Logs.{Outcomes, all_at}
 use Rattle.sd_state.specs.Good.{Good}
 use Rattle.sd_state.specs.Parts.{Parts, is_loose, log_at, status_at, txns_at, actor, owed_at}
 use Rattle.sd_state.specs.Undoing.{HasTop, IsUndone, with_undone_by, HasUndone}
@@ -62,6 +63,7 @@ own_forced a owes c = with_forced a (forced (log_at c a)) owes c
 -- With its own log forced, instance a has undone the last open record of the transaction; then the loser's log was forced, too.
 pub record HasUndoneFor (a : ℕ) (t : TxnId) (old new : Parts) : Type 0 where
   pub owes : ℕ
+  pub owes_is : owes ≡ owed (all_at (log_at old a))
   pub between : Parts
   pub undone : HasUndone a (Some (a, home t)) t (own_forced a owes old) between
   pub forced : new ≡ with_settled (home t) (forced (log_at between (home t))) (owed_at new (home t)) between
@@ -69,6 +71,7 @@ pub record HasUndoneFor (a : ℕ) (t : TxnId) (old new : Parts) : Type 0 where
 -- Or the loser's log was not forced: instance a is to fall by it.
 pub record HasFailedFor (a : ℕ) (t : TxnId) (old new : Parts) : Type 0 where
   pub owes : ℕ
+  pub owes_is : owes ≡ owed (all_at (log_at old a))
   pub between : Parts
   pub undone : HasUndone a (Some (a, home t)) t (own_forced a owes old) between
   pub failed : new ≡ with_failed (actor between (home t)) (home t) between

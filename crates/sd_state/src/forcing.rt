@@ -6,7 +6,7 @@ ghost use Rattle.sd_log.specs.Logs.{forced};
 ghost use Rattle.sd_model.specs.State.{State};
 ghost use Rattle.sd_rig.specs.Devices.{Elapses, LeavesSame, Span};
 ghost use Rattle.sd_state.specs.Complexes.{parts};
-ghost use Rattle.sd_state.specs.Forcing.{ForcesNow, owed_by, with_failed, with_forced, with_settled};
+ghost use Rattle.sd_state.specs.Forcing.{ForcesNow, KeepMasters, owed_by, with_failed, with_forced, with_settled};
 ghost use Rattle.sd_state.specs.Good.{Good};
 ghost use Rattle.sd_state.specs.Images.{Stands};
 ghost use Rattle.sd_state.specs.Values.{Pending};
@@ -20,7 +20,7 @@ use std::cmp;
 impl<G: Rig> Complex<G> {
     /// Forces the log of an instance. Where its device isn't settled no call is made: the tail stays, until it is known what the
     /// device has of it. After `Failed`, which comes only where the rig's count of faults rose, the device isn't settled, and a
-    /// fall is due: that of the instance, or of the one that recovers it. It takes no memory.
+    /// fall is due: that of the instance, or of the one that recovers it. It takes no memory. Masters stay as they were.
     pub fn force_log(&mut self, i: InstNo) -> Result<(), Failed>
         requires good { (pend : Pending) × (m : State) × Good (G.seen self.old.rig) (G.leaves self.old.rig) pend (parts self.old) m }
         requires idle { (parts self.old).due ≡ None }
@@ -32,6 +32,7 @@ impl<G: Rig> Complex<G> {
         ensures time { Elapses (G.moment self.old.rig) (G.moment self.new.rig) (G.since self.old.rig) (G.since self.new.rig) }
         ensures others { (d : ℕ) → d ≢ i → G.seen self.new.rig d ≡ G.seen self.old.rig d }
         ensures others_leave { (d : ℕ) → d ≢ i → LeavesSame (G.leaves self.old.rig d) (G.leaves self.new.rig d) }
+        ensures masters { KeepMasters (G.leaves self.old.rig) (G.leaves self.new.rig) }
 
         ensures loose { is_loose (parts self.old) i ≡ true → (parts self.new ≡ parts self.old) × (self.new.rig ≡ self.old.rig) × (result ≡ Ok tt) }
         ensures forced { is_loose (parts self.old) i ≡ false → OnOk result
@@ -62,6 +63,7 @@ impl<G: Rig> Complex<G> {
         ensures time { Elapses (G.moment self.old.rig) (G.moment self.new.rig) (G.since self.old.rig) (G.since self.new.rig) }
         ensures others { (d : ℕ) → d ≢ i → G.seen self.new.rig d ≡ G.seen self.old.rig d }
         ensures others_leave { (d : ℕ) → d ≢ i → LeavesSame (G.leaves self.old.rig d) (G.leaves self.new.rig d) }
+        ensures masters { KeepMasters (G.leaves self.old.rig) (G.leaves self.new.rig) }
 
         ensures forced { OnOk result
             (parts self.new ≡ with_settled i (forced (log_at (parts self.old) i)) (owed_at (parts self.new) i) (parts self.old)) }

@@ -25,7 +25,7 @@ pub struct Found {
     pub logs: Vec<Log>,
     /// The transactions that each log leaves open, each to be undone.
     pub txns: Vec<TxnTable>,
-    /// An exclusive lock of each of these on each record that it has open.
+    /// An exclusive lock of each of these on each record that it has open, and no wait.
     pub locks: RecordLocks,
     /// Each page free, or lost where the disk hasn't its newest version.
     pub directory: Directory<Box<Image>>,
@@ -33,11 +33,11 @@ pub struct Found {
     pub statuses: Vec<Status>,
     /// The epoch of each log's last Start, or of its master.
     pub epochs: Vec<u32>,
-    /// The count of each log's master that counts.
+    /// The count of each log's master that counts, 0 where none does.
     pub masters: Vec<u64>,
     /// How many records each log owes.
     pub owed: Vec<u64>,
-    /// The greatest LSN of a page on device 0, or a greater one.
+    /// The greatest LSN of a page on device 0.
     pub disk_lsn: Lsn,
 }
 

@@ -12,7 +12,7 @@ ghost use Rattle.sd_txn.specs.declared.state.OpenRec.{OpenRec};
 ghost use Rattle.sd_model.specs.State.{State};
 ghost use Rattle.sd_rig.specs.Devices.{Elapses, Span};
 ghost use Rattle.sd_state.specs.Complexes.{parts};
-ghost use Rattle.sd_state.specs.Forcing.{with_failed};
+ghost use Rattle.sd_state.specs.Forcing.{KeepMasters, with_failed};
 ghost use Rattle.sd_state.specs.Good.{Good};
 ghost use Rattle.sd_state.specs.Images.{Stands};
 ghost use Rattle.sd_state.specs.Parts.{actor, log_at, owed_at};
@@ -34,7 +34,7 @@ impl<G: Rig> Complex<G> {
     /// loser's log.
     ///
     /// `Failed` comes only where the rig's count of faults rose; then a fall is due, by the log whose force failed. `Memory` comes
-    /// before anything is undone. The state of the serial table is the same throughout.
+    /// before anything is undone. The state of the serial table is the same throughout, and the data device reads as before.
     pub fn undo_forced(&mut self, t: &TxnId, by: InstNo) -> Result<(), Refusal>
         requires good { (m : State) × Good (G.seen self.old.rig) (G.leaves self.old.rig) Pending.Idle (parts self.old) m }
         requires may { MayUndoLoser by t.now (parts self.old) }
@@ -44,6 +44,8 @@ impl<G: Rig> Complex<G> {
         ensures images { (m : State) → Good (G.seen self.old.rig) (G.leaves self.old.rig) Pending.Idle (parts self.old) m
             → Span (G.moment self.old.rig) (G.since self.new.rig) (Stands m Pending.Idle) }
         ensures time { Elapses (G.moment self.old.rig) (G.moment self.new.rig) (G.since self.old.rig) (G.since self.new.rig) }
+        ensures disk { G.seen self.new.rig 0 ≡ G.seen self.old.rig 0 }
+        ensures masters { KeepMasters (G.leaves self.old.rig) (G.leaves self.new.rig) }
 
         ensures undone { OnOk result (HasUndoneFor by t.now (parts self.old) (parts self.new)) }
         ensures idle { OnOk result ((parts self.new).due ≡ None) }
@@ -57,9 +59,11 @@ impl<G: Rig> Complex<G> {
 
         ensures cause { result ≡ Err R.Failed → Rises (G.faults self.old.rig) (G.faults self.new.rig) }
         ensures quiet { OnOk result (G.faults self.new.rig ≡ G.faults self.old.rig) }
+        ensures short { result ≡ Err R.Memory → G.faults self.new.rig ≡ G.faults self.old.rig }
         ensures count { G.faults self.old.rig ≤ G.faults self.new.rig }
     {
         let _own = by.get();
+        let _home = t.inst.get();
         self.force_log(by)?;
         self.undo_due(t, by)?;
         self.force_settled(t.inst)?;

@@ -33,7 +33,7 @@ returns-clause-good g c m good =
     (sym read) c.keeps.ensures.once in
     subst (λ (n : ℕ). Good seen leaves Pending.Idle (record p { txns = slice_set p.txns n table }) m) (sym place)
     (decided-good t row.x c.args.committed table seen leaves p m low high good c.requires.recovering.0 c.requires.recovering.1
-    c.requires.no_tail c.requires.kept row.state once
+    c.requires.settled c.requires.no_tail c.requires.kept row.state once
     (replaces-state (txns_at p i) c.index_mut.result.now table t row.x c.decided_state.result
     (decided_as c.args.committed) lent row.row
     c.set.ensures.changed c.decided_state.ensures c.set.ensures.others c.set.ensures.order))

@@ -1,4 +1,4 @@
-use Rattle.std.proofs.Common.{◌≡◌, ◌≢◌, ⊎_elim, ℕ, ◌-◌, ◌≤◌, List, [], sym, ap, ◌∙◌, subst, arith, slice_set}
+use Rattle.std.proofs.Common.{◌≡◌, ◌≢◌, ⊎_elim, ℕ, ◌-◌, ◌≤◌, List, [], refl, sym, ap, ◌∙◌, subst, arith, slice_set}
 use Rattle.std.specs.Prelude.{None}
 use Rattle.sd_log.specs.Logs.{LogState, StandsOn, forced}
 use Rattle.sd_log.specs.Forces.{Forces, forced_at, forced_len}
@@ -8,13 +8,14 @@ use Rattle.sd_sound.specs.Laws.{MayForce}
 use Rattle.sd_sound.proofs.Kept.{forced-idle}
 use Rattle.sd_sound.proofs.Outcomes.{failed-outcomes}
 use Rattle.sd_state.specs.Complexes.{parts}
-use Rattle.sd_state.specs.Forcing.{IsForced, IsHalfForced, with_failed}
+use Rattle.sd_state.specs.Forcing.{IsForced, IsHalfForced, KeepMasters, with_failed}
 use Rattle.sd_state.specs.Good.{Good, IsSettledAt}
 use Rattle.sd_state.specs.Images.{Stands}
 use Rattle.sd_state.specs.Parts.{IsShape, Parts, actor, log_at}
 use Rattle.sd_state.proofs.Answered.{forced-parts, log-lent, nil-or, not-ok, on-ok, same-set, shape-log}
 use Rattle.sd_state.proofs.Failed.{failed-good}
 use Rattle.sd_state.proofs.Forced.{forced-good, forced-inst}
+use Rattle.sd_state.proofs.Masters.{masters-outside}
 use Rattle.sd_state.proofs.Owed.{owed-forced}
 use Rattle.sd_state.proofs.Standing.{left-stands, force-left-stands}
 use Rattle.sd_state.proofs.complex.Complex.force_settled.Goals as goal
@@ -241,3 +242,50 @@ returns-in-Err-clause-others_leave g c d ne =
     let inst : log.inst ≡ i = sym (ap (λ (x : LogState). x.inst) is) ∙ good.shape.own_log i low high in
     subst (λ rig. LeavesSame (g.G.Rig.leaves c.args.self.now.rig d) (g.G.Rig.leaves rig d)) (sym c.fails.ensures.rig)
     (c.force-done.ensures.others_leave d (λ e. ne (e ∙ inst)))
+
+pub returns-in-Ok-clause-masters : goal.returns-in-Ok-clause-masters
+returns-in-Ok-clause-masters g c =
+    let r = g.G.Rig in
+    let laws = g.met.G.Rig in
+    let old = c.args.self.now.rig in
+    let new = c.force-done.new.rig in
+    let p : Parts = parts c.args.self.now in
+    let i : ℕ = c.args.i in
+    let low : 1 ≤ i = omega (arith, c.get.ensures.value, c.get.ensures.low) in
+    let high : i ≤ 8 = omega (arith, c.get.ensures.value, c.get.ensures.high) in
+    let log : LogState = c.index_mut.result.now in
+    let good = c.requires.good.2 in
+    let is : log_at p i ≡ log = log-lent p i (c.get.result - 1) log low high good.shape.logs (ap (λ n. n - 1) c.get.ensures.value) c.index_mut.ensures.value in
+    let inst : log.inst ≡ i = sym (ap (λ (x : LogState). x.inst) is) ∙ good.shape.own_log i low high in
+    let there : r.leaves old log.inst (r.seen old log.inst) = laws.leaves_seen old log.inst (omega (arith, inst, high)) in
+    ⊎_elim
+    (λ none. subst (λ x. KeepMasters (r.leaves old) (r.leaves x)) (sym (c.in-Ok.ensures.idle none).1)
+    (λ j lo bytes left. (bytes, left, refl)))
+    (λ some. masters-outside (forced_at log) (forced_len log) log.inst (r.seen old log.inst) (r.leaves old) (r.leaves new) (omega arith) there
+    (λ bytes left. subst (λ (b : List ℕ). AgreesOutside (forced_at log) (forced_len log) (r.seen old log.inst) b)
+    (sym ((c.in-Ok.ensures.durable some bytes).0 left)) c.in-Ok.ensures.outside)
+    (λ k ne. c.in-Ok.ensures.others_leave k ne))
+    (nil-or log.tail)
+
+pub returns-in-Err-clause-masters : goal.returns-in-Err-clause-masters
+returns-in-Err-clause-masters g c =
+    let r = g.G.Rig in
+    let laws = g.met.G.Rig in
+    let old = c.args.self.now.rig in
+    let new = c.force-done.new.rig in
+    let p : Parts = parts c.args.self.now in
+    let i : ℕ = c.args.i in
+    let low : 1 ≤ i = omega (arith, c.get.ensures.value, c.get.ensures.low) in
+    let high : i ≤ 8 = omega (arith, c.get.ensures.value, c.get.ensures.high) in
+    let log : LogState = c.index_mut.result.now in
+    let good = c.requires.good.2 in
+    let is : log_at p i ≡ log = log-lent p i (c.get.result - 1) log low high good.shape.logs (ap (λ n. n - 1) c.get.ensures.value) c.index_mut.ensures.value in
+    let inst : log.inst ≡ i = sym (ap (λ (x : LogState). x.inst) is) ∙ good.shape.own_log i low high in
+    let there : r.leaves old log.inst (r.seen old log.inst) = laws.leaves_seen old log.inst (omega (arith, inst, high)) in
+    let some : log.tail ≢ [] = λ e. not-ok tt c.in-Err.field-0 (c.in-Err.ensures.idle e).0 in
+    let may : (bytes : List ℕ) → r.leaves new log.inst bytes → MayForce log (r.seen old log.inst) bytes =
+    failed-outcomes (r.leaves old) (r.leaves new) log.inst log (r.seen old) (r.seen new) refl (λ k le. laws.leaves_seen new k le)
+    (λ img left. (c.in-Err.ensures.any_moment some).each img (laws.counts_now new (r.moment old) img c.in-Err.ensures.time.later left)) in
+    subst (λ x. KeepMasters (r.leaves old) (r.leaves x)) (sym c.fails.ensures.rig)
+    (masters-outside (forced_at log) (forced_len log) log.inst (r.seen old log.inst) (r.leaves old) (r.leaves new) (omega arith) there
+    (λ bytes left. (may bytes left).0) (λ k ne. c.in-Err.ensures.others_leave k ne))
