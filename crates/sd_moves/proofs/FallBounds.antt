@@ -48,7 +48,7 @@ sum-less f g (suc n) less =
     let rest = sum-less f g n (λ j lo hi. less j lo (omega (arith, hi))) in
     let here = less (suc n) (omega arith) (omega arith) in omega (arith, rest, here)
 
-most-less : (f g : ℕ → ℕ) (n : ℕ) → ((j : ℕ) → 1 ≤ j → j ≤ n → f j ≤ g j) → most_to f n ≤ most_to g n
+pub most-less : (f g : ℕ → ℕ) (n : ℕ) → ((j : ℕ) → 1 ≤ j → j ≤ n → f j ≤ g j) → most_to f n ≤ most_to g n
 most-less f g zero less = omega arith
 most-less f g (suc n) less =
     let rest = most-less f g n (λ j lo hi. less j lo (omega (arith, hi))) in

@@ -48,7 +48,7 @@ use Rattle.sd_state.specs.Tables.{GoesOn, NamesLife, RowIsLive, RowIsLogged, Sta
 use Rattle.sd_state.specs.Values.{Pending, rid_of, values}
 use Rattle.sd_state.proofs.Items.{item-kept, item-set}
 use Rattle.sd_state.proofs.Lasts.{last-sound}
-use Rattle.sd_state.proofs.Standing.{no-place, one-place}
+use Rattle.sd_state.proofs.Standing.{no-place, one-place, bases-by, known-still}
 use Rattle.sd_moves.specs.Falling.{with_dropped}
 
 -- a log without its tail is as sound as with it
@@ -366,11 +366,11 @@ module _ (i owes : ℕ) (seen : rig.Image) (leaves : Outcomes) (c : Parts) (m : 
     half = half-there;
     places = λ j place other bytes left. ⊎_elim (λ e. inl e) (λ e. inr (e ∙ sym (forced-same (λ l. l.start) refl j)))
         (g.places j place other bytes left);
+    others = g.others;
     settled = settled-there;
     disk_settled = λ e. g.disk_settled (was-settled 0 (λ z. omega (arith, low, z)) e);
-    disk_lsns = λ p x may. ⊎_elim (λ le. inl le)
-        (λ at. inr (at.0, at.1, at.2, ap (list_any (reaches x.lsn)) (forced-same base_at refl at.0) ∙ at.3))
-        (g.disk_lsns p x may);
+    disk_lsns = λ moved p x may. known-still c dropped (log_by c moved) (log_by dropped moved) x.lsn refl
+        (bases-by c dropped i one (λ j. refl) (forced-same base_at refl i) log-else moved) (g.disk_lsns moved p x may);
     last = last-there;
     owed = λ j lo hi e. ⊎_elim
         (λ same. subst (λ (k : ℕ). owed_at dropped k ≡ owed (base_at (log_at dropped k))) (sym same)
@@ -404,8 +404,8 @@ module _ (i owes : ℕ) (seen : rig.Image) (leaves : Outcomes) (c : Parts) (m : 
     locks = g.locks;
     asks = g.asks;
     checking = λ k b is. let old = g.checking k b is in record {
-      active = old.active;
+      up = old.up;
       low = old.low;
-      begun = subst (λ (l : LogState). b.begin ≤ last_lsn (scanned l)) (sym (log-else k (active-other k old.active))) old.begun;
+      begun = subst (λ (l : LogState). b.begin ≤ last_lsn (scanned l)) (sym (log-else k (up-other k old.up))) old.begun;
     };
   }

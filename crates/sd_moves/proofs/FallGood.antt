@@ -21,7 +21,7 @@ use Rattle.sd_pool.specs.Buffers as buffers
 use Rattle.sd_pool.specs.Buffers.{Buffers}
 use Rattle.sd_rig.specs.Devices as rig
 use Rattle.sd_txn.specs.Owing.{owed_of, reserve_of}
-use Rattle.sd_txn.specs.Transactions.{Transactions, begins_in, txn_at}
+use Rattle.sd_txn.specs.Transactions.{Transactions, begins_in, txn_at, state_at}
 use Rattle.sd_chain.specs.Cuts.{cut}
 use Rattle.sd_chain.specs.Fates.{fate}
 use Rattle.sd_chain.specs.Image.{Recovered}
@@ -37,9 +37,9 @@ use Rattle.sd_coherent.proofs.Changes.{rest-keeps}
 use Rattle.sd_coherent.proofs.Falls.{fall-keeps}
 use Rattle.sd_sound.specs.Logs.{Outcomes, all_at, base_at, kept_logs, may_of, tails_of}
 use Rattle.sd_state.specs.Forcing.{owed_either}
-use Rattle.sd_state.specs.Good.{Good, Half, IsInstance, IsOfBegun, IsTold, OwesAtMost, base_of, dir_of}
+use Rattle.sd_state.specs.Good.{Good, Half, IsInstance, IsOfBegun, IsTold, OwesAtMost, base_of, dir_of, NoneIsFound}
 use Rattle.sd_state.specs.Images.{IsEpochOf, leaves_by, log_by}
-use Rattle.sd_state.specs.Parts.{Begun, Parts, active_as, check_at, is_active, is_loose, is_up, log_at, no_pool, no_txns, owed_at, pool_at, status_at, txns_at, up_as}
+use Rattle.sd_state.specs.Parts.{Begun, Parts, active_as, check_at, is_active, is_loose, is_up, log_at, no_pool, no_txns, owed_at, pool_at, status_at, txns_at, up_as, other_at}
 use Rattle.sd_state.specs.Tables.{GoesOn, NamedOnce, NamesLife, RowIsLive, RowIsLogged, lock_of, tells_log}
 use Rattle.sd_state.specs.Values.{Pending, rid_of, values}
 use Rattle.sd_state.proofs.Items.{item-kept, item-set}
@@ -48,6 +48,7 @@ use Rattle.sd_moves.proofs.FallCoherent.{IsLoosened, loosened, loosened-keeps}
 use Rattle.sd_moves.proofs.FallModel.{IsFall}
 use Rattle.sd_moves.proofs.FallOwed.{owes-either}
 use Rattle.sd_moves.proofs.FallStatus.{active-fallen, asks-left, closed-then, falls-itself, falls-recovered, settled-then, status-fallen, up-fallen, up-then}
+use Rattle.sd_txn.specs.declared.state.TxnState.{TxnState}
 
 -- who is at work no more has no further records
 rests-still : (t : TxnId) (p : Part) → (IsAtWork p.life → ⊥) → GoesOn Pending.Idle t p → ⊥
@@ -78,6 +79,7 @@ module _ (i : ℕ) (table : Transactions) (n c : Parts) (seen : rig.Image) (leav
     (whose : (t : TxnId) → pend ≡ Pending.Commits t → home t ≡ i) (f : IsLeft i c n) (s : IsFall i pend m m')
     (same_inst : table.inst ≡ (txns_at c i).inst) (same_epoch : table.epoch ≡ (txns_at c i).epoch)
     (own : (t : TxnId) → home t ≢ i → txn_at table t ≡ None)
+    (found : (t : TxnId) → state_at table t ≡ Some TxnState.Committed → state_at (txns_at c i) t ≡ Some TxnState.Committed)
     (names : (t : TxnId) → home t ≡ i
     → NamesLife (txn_at table t) (m'.part t).life (fate t (base_at (log_at c i))) (fate t (all_at (log_at c i)))) where
   abbrev new : Parts
@@ -119,6 +121,18 @@ module _ (i : ℕ) (table : Transactions) (n c : Parts) (seen : rig.Image) (leav
 
   active-there : (j : ℕ) → is_active new j ≡ cond (eqb j i) false (is_active c j)
   active-there j = ap (active_as j) (status-there j) ∙ active-fallen i j (status_at c j)
+
+  up-still : (j : ℕ) → j ≢ i → status_at c j ≡ S.Up → status_at new j ≡ S.Up
+  up-still j ne up = status-still j (ap (λ (s : Status). falls_with i j s) up
+      ∙ ap (λ (b : Bool). cond b true false) (ne_eqb i j (λ e. ne (sym e)))) ∙ up
+
+  -- whoever is found committed was
+  none-found : (j place : ℕ) → 1 ≤ j → j ≤ 8 → other_at c j ≡ Some place → NoneIsFound new j
+  none-found j place lo hi other t own is = g.others j place lo hi other t own (⊎_elim
+      (λ e. subst (λ (k : ℕ). state_at (txns_at c k) t ≡ Some TxnState.Committed) (sym e)
+      (found t (sym (ap (λ (tb : Transactions). state_at tb t) (ap (txns_at new) e ∙ table-here)) ∙ is)))
+      (λ ne. sym (ap (λ (tb : Transactions). state_at tb t) (table-else j ne)) ∙ is)
+      (cases_eq j i))
 
   still-active : (j : ℕ) → j ≢ i → is_active c j ≡ true → is_active new j ≡ true
   still-active j ne active = active-there j ∙ ap (λ (b : Bool). cond b false (is_active c j)) (ne_eqb j i ne) ∙ active
@@ -311,6 +325,7 @@ module _ (i : ℕ) (table : Transactions) (n c : Parts) (seen : rig.Image) (leav
     };
     half = half-there;
     places = g.places;
+    others = none-found;
     settled = λ j lo hi e. let was = g.settled j lo hi (was-settled j e).1 in
         record { only = was.only; stands = was.stands; one_place = was.one_place; counted = was.counted; epoch = was.epoch };
     disk_settled = λ e. g.disk_settled (sym disk-same ∙ e);
@@ -348,5 +363,5 @@ module _ (i : ℕ) (table : Transactions) (n c : Parts) (seen : rig.Image) (leav
     locks = λ t r. f.locks t r ∙ g.locks t r ∙ sym (ap (λ (q : Claims). lock_of (q r)) (s.claims t));
     asks = asks-there;
     checking = λ k b is. let w = check-there k b is in let was = g.checking k b w.1 in
-        record { active = still-active k w.0 was.active; low = was.low; begun = was.begun };
+        record { up = up-still k w.0 was.up; low = was.low; begun = was.begun };
   }

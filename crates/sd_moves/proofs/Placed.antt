@@ -128,6 +128,7 @@ module _ (pools : List Buffers) (places : DirectoryState Page) (seen : rig.Image
     };
     half = λ moved. half-turned moved (there moved);
     places = g.places;
+    others = g.others;
     settled = λ j lo hi e. let s = g.settled j lo hi e in
         record { only = s.only; stands = s.stands; one_place = s.one_place; counted = s.counted; epoch = s.epoch };
     disk_settled = g.disk_settled;
@@ -163,7 +164,7 @@ module _ (pools : List Buffers) (places : DirectoryState Page) (seen : rig.Image
     locks = g.locks;
     gone = g.gone;
     asks = asks;
-    checking = λ k b is. let old = g.checking k b is in record { active = old.active; low = old.low; begun = old.begun };
+    checking = λ k b is. let old = g.checking k b is in record { up = old.up; low = old.low; begun = old.begun };
   }
     where
       underway : (u : Pending) → IsUnderWay c m u → IsUnderWay turned m u

@@ -1,6 +1,6 @@
 -- What the answers of a put say of the complex, and of calls one after another. For the goals of putting.rt.
-use Rattle.std.proofs.Common.{◌≡◌, ◌≢◌, inl, ℕ, zero, suc, ◌<◌, ◌≤◌, Bool, true, false, List, [], ◌∷◌, Option, None, Some, get_or, refl, sym, ap, ◌∙◌, subst, arith, slice_set}
-use Rattle.std.specs.Prelude.{Result, Ok, Err, OnOk}
+use Rattle.std.proofs.Common.{◌≡◌, ◌≢◌, inl, ℕ, zero, suc, ◌<◌, ◌≤◌, Bool, true, false, List, [], ◌∷◌, Option, None, Some, get_or, refl, sym, ap, ◌∙◌, subst, arith, slice_set, ◌||◌}
+use Rattle.std.specs.Prelude.{Result, Ok, Err, IfErr, OnOk}
 use Rattle.std.specs.Result.{is_err}
 use Rattle.std.specs.Option.{option_map_or}
 use Rattle.std.proofs.lemmas.List.{get_or-set_other, get_or-set_same, length-set}
@@ -11,7 +11,7 @@ use Rattle.sd_page.proofs.Told.{told}
 use Rattle.sd_model.specs.State.{State}
 use Rattle.sd_pagelock.specs.Directory as directory
 use Rattle.sd_pagelock.specs.Directory.{DirectoryState, entry_at}
-use Rattle.sd_pagelock.specs.Places.{Formed}
+use Rattle.sd_pagelock.specs.Places.{Formed, is_lost}
 use Rattle.sd_pagelock.specs.Rows.{written}
 use Rattle.sd_pool.specs.Buffers as buffers
 use Rattle.sd_gate.specs.Slots.{named_body}
@@ -35,11 +35,12 @@ use Rattle.sd_state.specs.Values.{Pending}
 use Rattle.sd_state.proofs.LockReads.{named-well}
 use Rattle.sd_state.proofs.Standing.{each-copy-is-newest}
 use Rattle.sd_world.specs.Pages.{is_duty}
-use Rattle.sd_moves.specs.Putting.{MayPut, SameVersions, left_after, with_loose_disk, with_written}
+use Rattle.sd_moves.specs.Putting.{MayBePut, MayPut, SameVersions, left_after, put_parts, with_loose_disk, with_written}
 use Rattle.sd_moves.specs.declared.putting.Unput.{Unput}
 use Rattle.sd_moves.specs.declared.putting.Unput.TheVariants as U
 use Rattle.sd_moves.proofs.PutCleaned.{cleaned-good}
 use Rattle.sd_moves.proofs.PutPages.{lsn-counted}
+use Rattle.sd_moves.proofs.PutMay.{duty-holds, held-may}
 use Rattle.sd_moves.proofs.PutTried as tried
 
 -- ---- the mark of device 0
@@ -64,14 +65,26 @@ pub left-again : (e : Unput) (c : Parts) → left_after e (with_loose_disk false
 left-again U.Unread c = disk-again c false false
 left-again U.Unwritten c = disk-again c false true
 
+-- what a put leaves of the parts: all, once it is Ok,
+pub put-stays : (r : Result (Unit {0}) Unput) (c new : Parts) → new ≡ put_parts r c → OnOk r (new ≡ c)
+put-stays (Ok x) c new is = is
+put-stays (Err e) c new is = tt
+
+-- and all but the mark of device 0 else
+pub put-errors : (r : Result (Unit {0}) Unput) (c new : Parts) → is_loose c 0 ≡ false → new ≡ put_parts r c
+    → IfErr r (λ (e : Unput). new ≡ left_after e c)
+put-errors (Ok x) c new settled is = tt
+put-errors (Err U.Unread) c new settled is = is ∙ sym (disk-same c false settled)
+put-errors (Err U.Unwritten) c new settled is = is
+
 -- ---- a put, as it answers
 
 abbrev pub twin_there : ℕ → Twin
 twin_there p = record { dev = 0; at = twin_at p; body = 1024 }
 
-module _ (p i : ℕ) (im : Page) (seen seen' : rig.Image) (leaves leaves' : Outcomes) (pend : Pending) (c : Parts) (m : State)
-    (g : Good seen leaves pend c m) (left : leaves 0 (seen 0)) (held : buffers.image_at (pool_at c i) p ≡ Some im)
-    (idle : c.due ≡ None) (can : MayPut p i c) (small : p < 1024) (fits : Fits im) (t : Twin) (is : t ≡ twin_there p)
+module _ (p : ℕ) (im : Page) (seen seen' : rig.Image) (leaves leaves' : Outcomes) (pend : Pending) (c : Parts) (m : State)
+    (g : Good seen leaves pend c m) (left : leaves 0 (seen 0)) (can : MayBePut p im seen leaves c)
+    (small : p < 1024) (fits : Fits im) (t : Twin) (is : t ≡ twin_there p)
     (body : List ℕ) (spelled : body ≡ spelling im) (now : ℕ) (since : ℕ → rig.Image → Type 0)
     (moments : Span now since (Puts t.dev t.at t.body body seen leaves)) where
   during : Span now since (Puts 0 (twin_at p) 1024 (spelling im) seen leaves)
@@ -81,7 +94,7 @@ module _ (p i : ℕ) (im : Page) (seen seen' : rig.Image) (leaves leaves' : Outc
   -- each image since it began stands
   pub put-images : Span now since (Stands m pend)
   put-images = span-weaker now since (Puts 0 (twin_at p) 1024 (spelling im) seen leaves) (Stands m pend)
-      (λ img f. tried.put-stands p i im seen leaves pend c m g left held idle can small fits img f) during
+      (λ img f. tried.put-stands p im seen leaves pend c m g left can small fits img f) during
 
   module _ (others : (d : ℕ) → d ≢ t.dev → seen' d ≡ seen d)
       (others_leave : (d : ℕ) → d ≢ t.dev → LeavesSame (leaves d) (leaves' d)) (reads : (d : ℕ) → d ≤ 8 → leaves' d (seen' d))
@@ -94,14 +107,14 @@ module _ (p i : ℕ) (im : Page) (seen seen' : rig.Image) (leaves leaves' : Outc
 
     -- once it is Ok
     pub put-ok : LeavesOnly (seen' t.dev) (leaves' t.dev) → Good seen' leaves' pend c m
-    put-ok only = tried.put-good p i im seen leaves pend c m g left held idle can small fits c.loose seen' leaves' g.shape.loose
+    put-ok only = tried.put-good p im seen leaves pend c m g left can small fits c.loose seen' leaves' g.shape.loose
         (λ d ne. refl) (λ d ne. others d (elsewhere d ne)) (λ d ne. others_leave d (elsewhere d ne)) (reads 0 (omega arith))
         (λ e. subst (λ (u : Twin). LeavesOnly (seen' u.dev) (leaves' u.dev)) is only) puts
 
     pub put-newest : chosen_body t.at t.body (seen' t.dev) ≡ Some body → disk_page (seen' 0) p ≡ newest_of seen leaves c p
     put-newest there = ap (page_in p) (subst (λ (u : Twin). chosen_body u.at u.body (seen' u.dev) ≡ Some (spelling im)) is
         (there ∙ ap (λ (b : List ℕ). Some b) spelled)) ∙ told im fits
-        ∙ tried.im-newest p i im seen leaves pend c m g left held idle can
+        ∙ tried.im-newest p im seen leaves pend c m g left can
 
     loose_there : get_or (slice_set c.loose 0 true) 0 true ≡ true
     loose_there = get_or-set_same c.loose 0 true true (omega (arith, g.shape.loose))
@@ -111,13 +124,13 @@ module _ (p i : ℕ) (im : Page) (seen seen' : rig.Image) (leaves leaves' : Outc
 
     -- and once it failed
     pub put-failed : Good seen' leaves' pend (with_loose_disk true c) m
-    put-failed = tried.put-good p i im seen leaves pend c m g left held idle can small fits (slice_set c.loose 0 true) seen'
+    put-failed = tried.put-good p im seen leaves pend c m g left can small fits (slice_set c.loose 0 true) seen'
         leaves'
         (length-set c.loose 0 true ∙ g.shape.loose) (λ d ne. get_or-set_other c.loose 0 d true true ne)
         (λ d ne. others d (elsewhere d ne)) (λ d ne. others_leave d (elsewhere d ne)) (reads 0 (omega arith)) only_there puts
 
     pub put-same : SameVersions seen seen' c
-    put-same = tried.put-versions p i im seen leaves pend c m g left held idle can small fits (slice_set c.loose 0 true) seen'
+    put-same = tried.put-versions p im seen leaves pend c m g left can small fits (slice_set c.loose 0 true) seen'
         leaves' (length-set c.loose 0 true ∙ g.shape.loose) (λ d ne. get_or-set_other c.loose 0 d true true ne)
         (λ d ne. others d (elsewhere d ne)) (λ d ne. others_leave d (elsewhere d ne)) (reads 0 (omega arith)) only_there puts
 
@@ -160,7 +173,7 @@ pub duty-copy : (p i : ℕ) (seen : rig.Image) (leaves : Outcomes) (pend : Pendi
     → Good seen leaves pend c m → Formed (entry_at c.directory p) → is_duty i (entry_at c.directory p) ≡ true
     → buffers.image_at (pool_at c i) p ≡ Some (newest_of seen leaves c p)
 duty-copy p i seen leaves pend c m g formed duty =
-    (each-copy-is-newest leaves seen pend c m g p i).0 (tried.duty-holds i (entry_at c.directory p) formed duty)
+    (each-copy-is-newest leaves seen pend c m g p i).0 (duty-holds i (entry_at c.directory p) formed duty)
 
 -- whether device 0 is settled makes no difference to a log
 pub forced-still : (i : ℕ) (b : Bool) (c : Parts) → (is_loose c i ≡ false → (log_at c i).tail ≡ [])
@@ -178,7 +191,9 @@ pub clean-good : (p i : ℕ) (places : DirectoryState Page) (seen : rig.Image) (
 clean-good p i places seen leaves pend c m g left formed idle can there set moving =
     let size = length-set c.loose 0 false in
     let nine = g.shape.loose in
-    cleaned-good p i (newest_of seen leaves c p) places seen leaves pend (with_loose_disk false c) m g left
+    cleaned-good p (newest_of seen leaves c p) places seen leaves pend (with_loose_disk false c) m g left
+    (held-may p i (newest_of seen leaves c p) seen leaves pend (with_loose_disk false c) m g
     (duty-copy p i seen leaves pend (with_loose_disk false c) m g formed can.duty) idle
-    (record { changed = can.changed; duty = can.duty; forced = forced-still i false c can.forced })
+    (record { changed = can.changed; duty = can.duty; forced = forced-still i false c can.forced }))
+    (ap (λ (b : Bool). b || is_lost (entry_at c.directory p)) can.changed)
     (get_or-set_same c.loose 0 false true (omega (arith, size, nine))) there set moving

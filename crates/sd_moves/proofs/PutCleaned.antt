@@ -1,6 +1,6 @@
 -- A page that device 0, settled, has in its newest version is called clean: what held of the complex holds of it then. For the
 -- goals of `put_page`.
-use Rattle.std.proofs.Common.{◌≡◌, ⊎_elim, ℕ, Bool, true, false, ◌||◌, None, Some, refl, sym, ap, ◌∙◌, subst}
+use Rattle.std.proofs.Common.{◌≡◌, ⊎_elim, ℕ, Bool, true, false, ◌||◌, None, refl, sym, ap, ◌∙◌, subst}
 use Rattle.std.proofs.lemmas.Bool.{cases_eq}
 use Rattle.sd_page.specs.Page.{Page}
 use Rattle.sd_model.specs.State.{State}
@@ -11,7 +11,6 @@ use Rattle.sd_pagelock.specs.Directory.{DirectoryState, asks_at, entry_at, kept_
 use Rattle.sd_pagelock.specs.Places.{Entry, changed, is_lost}
 use Rattle.sd_pagelock.specs.Rows.{may_write, written}
 use Rattle.sd_pagelock.proofs.Uses.{clean-written}
-use Rattle.sd_pool.specs.Buffers as buffers
 use Rattle.sd_rig.specs.Devices as rig
 use Rattle.sd_chain.specs.Bytes.{disk_page}
 use Rattle.sd_chain.specs.Images.{Keeps}
@@ -22,16 +21,16 @@ use Rattle.sd_sound.specs.Logs.{Outcomes, may_of}
 use Rattle.sd_state.specs.Good.{Good, Half, dir_of}
 use Rattle.sd_state.specs.Images.{log_by}
 use Rattle.sd_state.specs.Locking.{IsSet}
-use Rattle.sd_state.specs.Parts.{Parts, is_active, is_loose, pool_at}
+use Rattle.sd_state.specs.Parts.{Parts, is_active, is_loose}
 use Rattle.sd_state.specs.Values.{Pending}
 use Rattle.sd_state.proofs.ChangedLists.{each-first, each-left}
-use Rattle.sd_moves.specs.Putting.{MayPut}
+use Rattle.sd_moves.specs.Putting.{MayBePut}
 use Rattle.sd_moves.proofs.PutDevice.{device-good, with_marks}
 use Rattle.sd_moves.proofs.PutTried as tried
 
-module _ (p i : ℕ) (im : Page) (places : DirectoryState Page) (seen : rig.Image) (leaves : Outcomes) (pend : Pending) (c : Parts)
-    (m : State) (g : Good seen leaves pend c m) (left : leaves 0 (seen 0)) (held : buffers.image_at (pool_at c i) p ≡ Some im)
-    (idle : c.due ≡ None) (can : MayPut p i c) (settled : is_loose c 0 ≡ false)
+module _ (p : ℕ) (im : Page) (places : DirectoryState Page) (seen : rig.Image) (leaves : Outcomes) (pend : Pending) (c : Parts)
+    (m : State) (g : Good seen leaves pend c m) (left : leaves 0 (seen 0)) (can : MayBePut p im seen leaves c)
+    (writes : (may_write (entry_at c.directory p) || is_lost (entry_at c.directory p)) ≡ true) (settled : is_loose c 0 ≡ false)
     (there : disk_page (seen 0) p ≡ im) (set : IsSet p (written (entry_at c.directory p)) None c.directory places)
     (moving : (q : ℕ) → directory.image_at places q ≡ directory.image_at c.directory q) where
   abbrev new : Parts
@@ -40,33 +39,30 @@ module _ (p i : ℕ) (im : Page) (places : DirectoryState Page) (seen : rig.Imag
   abbrev place : Entry
   place = entry_at c.directory p
 
-  may_write-or : (may_write place || is_lost place) ≡ true
-  may_write-or = ap (λ (b : Bool). b || is_lost place) can.changed
-
   module _ (moved : Keeps) where
-    h : Half seen (tried.wide p i im seen leaves pend c m g left held idle can moved) (log_by c moved) pend c m
+    h : Half seen (tried.wide p im seen leaves pend c m g left can moved) (log_by c moved) pend c m
     h = g.half moved
 
-    cleaned : puts_law.Cleaned p (tried.base p i im seen leaves pend c m g left held idle can moved) (rec_lsn_at places)
+    cleaned : puts_law.Cleaned p (tried.base p im seen leaves pend c m g left can moved) (rec_lsn_at places)
         (dir_of c) (dir_of new)
     cleaned = record {
-      there = may_write-or;
+      there = writes;
       here = set.entry;
       others = set.others;
       no_rec = set.rec_lsn
-          ∙ ap (λ (b : Bool). kept_rec (changed place) b (rec_lsn_at c.directory p) None) (clean-written place may_write-or);
+          ∙ ap (λ (b : Bool). kept_rec (changed place) b (rec_lsn_at c.directory p) None) (clean-written place writes);
       other_rec = set.other_rec_lsns;
       pool = λ k q. refl;
       moving = moving;
     }
 
-    half-there : Half seen (tried.wide p i im seen leaves pend c m g left held idle can moved) (log_by c moved) pend new m
+    half-there : Half seen (tried.wide p im seen leaves pend c m g left can moved) (log_by c moved) pend new m
     half-there = record {
-      coherent = unput-keeps (may_of (tried.wide p i im seen leaves pend c m g left held idle can moved)) p
-          (tried.base p i im seen leaves pend c m g left held idle can moved) (dir_of c) (dir_of new) (rec_lsn_at places)
-          h.coherent (tried.none p i im seen leaves pend c m g left held idle can moved) settled
+      coherent = unput-keeps (may_of (tried.wide p im seen leaves pend c m g left can moved)) p
+          (tried.base p im seen leaves pend c m g left can moved) (dir_of c) (dir_of new) (rec_lsn_at places)
+          h.coherent (tried.none p im seen leaves pend c m g left can moved) settled
           (ap (λ (x : Page). x.lsn)
-          (sym (tried.is-now p i im seen leaves pend c m g left held idle can moved) ∙ sym there))
+          (sym (tried.is-now p im seen leaves pend c m g left can moved) ∙ sym there))
           cleaned;
       soundly = h.soundly;
       gives = h.gives;

@@ -60,7 +60,7 @@ module _ (marks : List Bool) (places : DirectoryState Page) (seen seen' : rig.Im
 
   pub device-good : ((moved : Keeps) → Half seen' (leaves_by c moved leaves') (log_by c moved) pend new m)
       → (get_or marks 0 true ≡ false → LeavesOnly (seen' 0) (leaves' 0))
-      → ((q : ℕ) (x : Page) → may_of leaves' q x → IsKnownLsn c x.lsn)
+      → ((moved : Keeps) (q : ℕ) (x : Page) → may_of leaves' q x → IsKnownLsn c (log_by c moved) x.lsn)
       → ((q : ℕ) → Each (λ ask. (is_active c ask.by ≡ true) × (is_open (entry_at places q) ask ≡ true)) (asks_at places q))
       → Good seen' leaves' pend new m
   device-good half only lsns asks = record {
@@ -80,6 +80,7 @@ module _ (marks : List Bool) (places : DirectoryState Page) (seen seen' : rig.Im
     };
     half = half;
     places = places-there;
+    others = g.others;
     settled = settled-there;
     disk_settled = only;
     disk_lsns = lsns;
@@ -114,7 +115,7 @@ module _ (marks : List Bool) (places : DirectoryState Page) (seen seen' : rig.Im
     locks = g.locks;
     gone = g.gone;
     asks = asks;
-    checking = λ k b is. let old = g.checking k b is in record { active = old.active; low = old.low; begun = old.begun };
+    checking = λ k b is. let old = g.checking k b is in record { up = old.up; low = old.low; begun = old.begun };
   }
     where
       places-there : (j place : ℕ) → other_at new j ≡ Some place → (bytes : List ℕ) → leaves' j bytes

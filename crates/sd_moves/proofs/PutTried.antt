@@ -1,19 +1,15 @@
--- The newest version of a page is put by who has the write of it, or the put fails: what held of the complex holds of it
--- then, and each image since then stands. For the goals of `write_copy`.
-use Rattle.std.proofs.Common.{◌≡◌, ◌≢◌, inl, inr, ⊎_elim, ℕ, zero, suc, ◌+◌, ◌^◌, ◌<◌, ◌≤◌, Bool, true, false, List, [], ◌∷◌, ◌++◌, Option, None, Some, length, get_or, map, refl, sym, ap, ap₂, ◌∙◌, subst, arith, append-nil, eqb-true, slice_set, ◌||◌}
+-- The newest version of a page is put, or the put fails: what held of the complex holds of it then, and each image since then
+-- stands. For the goals of `put_over`.
+use Rattle.std.proofs.Common.{◌≡◌, ◌≢◌, inl, inr, ⊎_elim, ℕ, zero, suc, ◌+◌, ◌^◌, ◌<◌, ◌≤◌, Bool, true, false, List, [], ◌∷◌, ◌++◌, Option, None, Some, length, get_or, refl, sym, ap, ap₂, ◌∙◌, subst, arith, append-nil, slice_set, ◌||◌}
 use Rattle.std.specs.Prelude.{IfSome}
 use Rattle.std.proofs.lemmas.Bool.{cases_lt, le-leb}
 use Rattle.std.proofs.lemmas.List.{get_or-set_other, get_or-set_same, length-set}
 use Rattle.std.specs.List.{list_any}
 use Rattle.sd_base.specs.Twin.{chosen_body, number_of}
-use Rattle.sd_logrec.specs.View.{Rec, flat}
+use Rattle.sd_logrec.specs.View.{Rec}
 use Rattle.sd_page.specs.Page.{Fits, Page}
 use Rattle.sd_page.specs.Spelling.{WellFormed, spelling}
 use Rattle.sd_model.specs.State.{State}
-use Rattle.sd_pagelock.specs.Directory.{entry_at}
-use Rattle.sd_pagelock.specs.Places.{Entry, Formed, changed, holds}
-use Rattle.sd_pagelock.specs.Rows.{may_write}
-use Rattle.sd_pool.specs.Buffers as buffers
 use Rattle.sd_rig.specs.Devices as rig
 use Rattle.sd_rig.specs.Devices.{LeavesOnly, LeavesSame}
 use Rattle.sd_twin.specs.Puts.{Puts}
@@ -33,8 +29,7 @@ use Rattle.sd_coherent.proofs.Changes.{rest-keeps}
 use Rattle.sd_coherent.proofs.Checkpoints.{cover-puts}
 use Rattle.sd_coherent.proofs.Crashes.{put-gives}
 use Rattle.sd_coherent.proofs.Named.{may_be-named}
-use Rattle.sd_coherent.proofs.Newest.{each-newest}
-use Rattle.sd_coherent.proofs.Puts.{forced-none, put-is_safe, same-lsn, try-keeps}
+use Rattle.sd_coherent.proofs.Puts.{put-is_safe, same-lsn, try-keeps}
 use Rattle.sd_coherent.proofs.Versions
 use Rattle.sd_sound.specs.Laws.{HasLsnsAbove, IsPut}
 use Rattle.sd_sound.specs.Logs.{Logs, Outcomes, base_at, may_of, owed_with, tail_at, tails_of}
@@ -44,42 +39,13 @@ use Rattle.sd_sound.proofs.Puts.{puts-disk, puts-twins}
 use Rattle.sd_state.specs.Good.{Good, Half, IsKnownLsn, base_of, dir_of, reaches}
 use Rattle.sd_state.specs.Images.{Stands, leaves_by, log_by}
 use Rattle.sd_state.specs.Laws.{newest_of}
-use Rattle.sd_state.specs.Parts.{Parts, is_loose, log_at, pool_at}
+use Rattle.sd_state.specs.Parts.{Parts, is_loose, log_at}
 use Rattle.sd_state.specs.Values.{Pending}
 use Rattle.sd_state.proofs.LockReads.{named-well}
 use Rattle.sd_state.proofs.Standing.{left-stands}
-use Rattle.sd_world.specs.Pages.{is_duty}
-use Rattle.sd_moves.specs.Putting.{MayPut}
-use Rattle.sd_moves.proofs.Placed.{tail-same}
+use Rattle.sd_moves.specs.Putting.{MayBePut}
 use Rattle.sd_moves.proofs.PutDevice.{device-good, with_marks}
 use Rattle.sd_moves.proofs.PutPages.{body-lsn, body-number, newest-number, newest-rises, number-spelled}
-
--- ---- who has the write of a page
-
--- it is changed
-pub write-changed : (e : Entry) → may_write e ≡ true → changed e ≡ true
-write-changed Entry.Free w = absurd (cc)
-write-changed (Entry.Shared set writer) w = w
-write-changed (Entry.Excl holder dirty) w = w
-write-changed (Entry.Moving to mode rest dirty) w = absurd (cc)
-write-changed Entry.Lost w = absurd (cc)
-
--- it isn't lost
-pub write-found : (e : Entry) → may_write e ≡ true → e ≢ Entry.Lost
-write-found e w lost = let clash = sym w ∙ ap may_write lost in absurd (cc)
-
--- its pool has the page
-pub duty-holds : (i : ℕ) (e : Entry) → Formed e → is_duty i e ≡ true → holds e i ≡ true
-duty-holds i Entry.Free f d = absurd (cc)
-duty-holds i (Entry.Shared set None) f d = absurd (cc)
-duty-holds i (Entry.Shared set (Some w)) f d = f.1 i (ap (λ (k : ℕ). Some k) (eqb-true w i d))
-duty-holds i (Entry.Excl holder dirty) f d = d
-duty-holds i (Entry.Moving to mode rest dirty) f d = absurd (cc)
-duty-holds i Entry.Lost f d = absurd (cc)
-
--- and who else has it alone is nobody
-duty-alone : (i j : ℕ) (x : Bool) (e : Entry) → is_duty i e ≡ true → e ≡ Entry.Excl j x → j ≡ i
-duty-alone i j x e d is = eqb-true j i (sym (ap (is_duty i) is) ∙ d)
 
 -- ---- records and LSNs
 
@@ -102,9 +68,8 @@ some-mapped (Some x) P Q f h = f x h
 
 -- ---- the put
 
-module _ (p i : ℕ) (im : Page) (seen : rig.Image) (leaves : Outcomes) (pend : Pending) (c : Parts) (m : State)
-    (g : Good seen leaves pend c m) (left : leaves 0 (seen 0)) (held : buffers.image_at (pool_at c i) p ≡ Some im)
-    (idle : c.due ≡ None) (can : MayPut p i c) where
+module _ (p : ℕ) (im : Page) (seen : rig.Image) (leaves : Outcomes) (pend : Pending) (c : Parts) (m : State)
+    (g : Good seen leaves pend c m) (left : leaves 0 (seen 0)) (can : MayBePut p im seen leaves c) where
   module _ (moved : Keeps) where
     abbrev pub wide : Outcomes
     wide = leaves_by c moved leaves
@@ -118,16 +83,11 @@ module _ (p i : ℕ) (im : Page) (seen : rig.Image) (leaves : Outcomes) (pend : 
     half : Half seen wide logs pend c m
     half = g.half moved
 
-    -- the copy in the pool is the newest version
     pub is-now : im ≡ now base p
-    is-now = ((each-newest (may_of wide) base (dir_of c) half.coherent p i).1 im held).1
+    is-now = can.newest moved
 
-    -- no tail has a record of the page
     pub none : puts_law.NoneUnforced base p
-    none = forced-none (may_of wide) base (dir_of c) p half.coherent idle (write-found (entry_at c.directory p) can.changed)
-        (λ j is settled. let own = duty-alone i j true (entry_at c.directory p) can.duty is in
-        ap (map flat) (tail-same c moved j ∙ ap (λ (k : ℕ). (log_at c k).tail) own
-        ∙ can.forced (subst (λ (k : ℕ). is_loose c k ≡ false) own settled)))
+    none = can.none moved
 
     -- so its newest version is the same whatever tails are kept
     version-same : (keeps : Keeps) → base.version keeps p ≡ now base p
@@ -144,30 +104,32 @@ module _ (p i : ℕ) (im : Page) (seen : rig.Image) (leaves : Outcomes) (pend : 
   abbrev none_kept : Keeps
   none_kept j = false
 
-  known-record : (j : ℕ) → Each (λ x. IsKnownLsn c x.lsn) (base_at (log_at c j))
-  known-record zero = subst (Each (λ x. IsKnownLsn c x.lsn)) (sym (half none_kept).coherent.eight.0) tt
-  known-record (suc j) = ⊎_elim
-      (λ low. Each-weaker (λ x. list_any (reaches x.lsn) (base_at (log_at c (suc j))) ≡ true) (λ x. IsKnownLsn c x.lsn)
-      (λ x there. inr (suc j, omega arith, omega (arith, low), there)) (base_at (log_at c (suc j)))
-      (reached-each (base_at (log_at c (suc j)))))
-      (λ high. subst (Each (λ x. IsKnownLsn c x.lsn))
-      (sym (front_none (base_at (log_at c (suc j))) (tail_at (log_at c (suc j)))
-      ((half none_kept).coherent.safe.eight (suc j) high))) tt)
+  known-record : (moved : Keeps) (j : ℕ) → Each (λ x. IsKnownLsn c (log_by c moved) x.lsn) (base_at (log_by c moved j))
+  known-record moved zero = subst (Each (λ x. IsKnownLsn c (log_by c moved) x.lsn)) (sym (half moved).coherent.eight.0) tt
+  known-record moved (suc j) = ⊎_elim
+      (λ low. Each-weaker (λ x. list_any (reaches x.lsn) (base_at (log_by c moved (suc j))) ≡ true)
+      (λ x. IsKnownLsn c (log_by c moved) x.lsn)
+      (λ x there. inr (suc j, omega arith, omega (arith, low), there)) (base_at (log_by c moved (suc j)))
+      (reached-each (base_at (log_by c moved (suc j)))))
+      (λ high. subst (Each (λ x. IsKnownLsn c (log_by c moved) x.lsn))
+      (sym (front_none (base_at (log_by c moved (suc j))) (tail_at (log_by c moved (suc j)))
+      ((half moved).coherent.safe.eight (suc j) high))) tt)
       (cases_lt (suc j) 9)
     where
       front_none : (xs ys : List Rec) → xs ++ ys ≡ [] → xs ≡ []
       front_none [] ys e = refl
       front_none (x ∷ xs) ys e = absurd (cc)
 
-  lsn-known : IsKnownLsn c im.lsn
-  lsn-known =
-      let b = base none_kept in
-      let h = (half none_kept).coherent in
-      subst (λ (x : Page). IsKnownLsn c x.lsn)
-      (h.safe.same b.disk h.reads none_kept p ∙ version-same none_kept none_kept ∙ sym (is-now none_kept))
-      (newest-low (IsKnownLsn c) (cut none_kept (with_disk b.tails b.disk)) p
-      (g.disk_lsns p (disk_page (seen 0) p) (seen 0, left, refl))
-      (λ j. subst (Each (λ x. IsKnownLsn c x.lsn)) (sym (append-nil (base_at (log_at c j)))) (known-record j)))
+  lsn-known : (moved : Keeps) → IsKnownLsn c (log_by c moved) im.lsn
+  lsn-known moved =
+      let b = base moved in
+      let h = (half moved).coherent in
+      subst (λ (x : Page). IsKnownLsn c (log_by c moved) x.lsn)
+      (h.safe.same b.disk h.reads none_kept p ∙ version-same moved none_kept ∙ sym (is-now moved))
+      (newest-low (IsKnownLsn c (log_by c moved)) (cut none_kept (with_disk b.tails b.disk)) p
+      (g.disk_lsns moved p (disk_page (seen 0) p) (seen 0, left, refl))
+      (λ j. subst (Each (λ x. IsKnownLsn c (log_by c moved) x.lsn)) (sym (append-nil (base_at (log_by c moved j))))
+      (known-record moved j)))
 
   -- what the bytes of its twin say
   sound-twin : p < 1024 → IfSome (chosen_body (twin_at p) 1024 (seen 0)) (λ body. WellFormed body p)
@@ -272,7 +234,7 @@ module _ (p i : ℕ) (im : Page) (seen : rig.Image) (leaves : Outcomes) (pend : 
       coherent-there : Coherent (base_of seen' narrow (logs moved) put_parts) (dir_of put_parts)
       coherent-there = rest-keeps (may_of narrow) (may_of narrow) tried (base_of seen' narrow (logs moved) put_parts) (dir_of c)
           (try-keeps (may_of (wide moved)) (may_of narrow) p (base moved) (dir_of c) (disk_page (seen' 0)) (get_or marks 0 true)
-          (half moved).coherent (none moved) device (write-changed (entry_at c.directory p) can.changed)) rests
+          (half moved).coherent (none moved) device can.changed) rests
 
       soundly-there : IsSoundly narrow (logs moved)
       soundly-there = record {
@@ -307,10 +269,10 @@ module _ (p i : ℕ) (im : Page) (seen : rig.Image) (leaves : Outcomes) (pend : 
         );
       }
 
-    known-there : (q : ℕ) (x : Page) → may_of leaves' q x → IsKnownLsn c x.lsn
-    known-there q x may = ⊎_elim
-        (λ old. g.disk_lsns q x (old.0, old.1.0, old.2))
-        (λ new. subst (λ (y : Page). IsKnownLsn c y.lsn) (is-now none_kept ∙ sym new.1) lsn-known)
+    known-there : (moved : Keeps) (q : ℕ) (x : Page) → may_of leaves' q x → IsKnownLsn c (log_by c moved) x.lsn
+    known-there moved q x may = ⊎_elim
+        (λ old. g.disk_lsns moved q x (old.0, old.1.0, old.2))
+        (λ new. subst (λ (y : Page). IsKnownLsn c (log_by c moved) y.lsn) (is-now none_kept ∙ sym new.1) (lsn-known moved))
         (or-put none_kept q x (may.0, (may.1, tt), may.2))
 
     pub put-good : Good seen' leaves' pend put_parts m

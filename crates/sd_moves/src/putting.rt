@@ -1,6 +1,7 @@
 //! A page that is put onto the data device.
 
-ghost use Rattle.std.specs.Prelude.{◌≡◌, ◌≢◌, ℕ, ◌<◌, ◌≤◌, Some, None, [], true, false, length, IfErr, IfSome, IsSome, OnErr, OnOk};
+ghost use Rattle.std.specs.Prelude.{◌≡◌, ◌≢◌, ℕ, ◌<◌, ◌≤◌, Some, None, [], true, false, length, IfErr, IfSome, IsSome};
+ghost use Rattle.std.specs.Prelude.{OnErr, OnOk};
 ghost use Rattle.std.specs.Option.{option_map_or};
 ghost use Rattle.sd_base.specs.Streams.{Rises};
 ghost use Rattle.sd_base.specs.Twin as twin_bytes;
@@ -16,10 +17,11 @@ ghost use Rattle.sd_state.specs.Good.{Good};
 ghost use Rattle.sd_state.specs.Images.{Stands};
 ghost use Rattle.sd_state.specs.Laws.{newest_of};
 ghost use Rattle.sd_state.specs.Locking.{IsSet};
-ghost use Rattle.sd_state.specs.Parts.{among, is_loose, log_at, no_pool, pool_at};
+ghost use Rattle.sd_state.specs.Parts.{among, is_loose, log_at, no_pool, pool_at, Parts};
 ghost use Rattle.sd_state.specs.Values.{Pending};
 ghost use Rattle.sd_world.specs.Pages.{is_duty};
-ghost use Rattle.sd_moves.specs.Putting.{MayPut, ReadsAfter, SameVersions, left_after, with_loose_disk, with_written};
+ghost use Rattle.sd_moves.specs.Putting.{MayPut, MayPutImage, ReadsAfter, SameVersions, left_after, marks_after, put_parts};
+ghost use Rattle.sd_moves.specs.Putting.{with_loose_disk, with_written};
 
 use sd_base::{Failed, InstNo, Lsn, PageNo};
 use sd_gate::number_of;
@@ -150,55 +152,90 @@ fn write_newest<G: Rig>(c: &mut Complex<G>, p: PageNo, i: InstNo) -> Result<(), 
     ensures quiet { OnOk result (G.faults c.new.rig ≡ G.faults c.old.rig) }
     ensures count { G.faults c.old.rig ≤ G.faults c.new.rig }
 {
+    put_image(&mut c.rig, &mut c.loose, p, copy_in(&c.pools, p, i))
+}
+
+// Puts an image of a page, its newest version, onto the data device where that has one of another LSN. Where a write fails, the
+// data device is marked as unsettled.
+pub(crate) fn put_image<G: Rig>(
+    rig: &mut G,
+    loose: &mut Vec<bool>,
+    p: PageNo,
+    im: &Image,
+) -> Result<(), Unput>
+    requires may { (c : Parts) × (pend : Pending) × (m : State)
+        × MayPutImage p im.now (G.seen rig.old) (G.leaves rig.old) pend c m }
+    requires nine { length loose.old.items ≡ 9 }
+
+    ensures good { (c : Parts) (pend : Pending) (m : State) → MayPutImage p im.now (G.seen rig.old) (G.leaves rig.old) pend c m
+        → Good (G.seen rig.new) (G.leaves rig.new) pend (put_parts result c) m }
+    ensures images { (c : Parts) (pend : Pending) (m : State) → MayPutImage p im.now (G.seen rig.old) (G.leaves rig.old) pend c m
+        → Span (G.moment rig.old) (G.since rig.new) (Stands m pend) }
+    ensures time { Elapses (G.moment rig.old) (G.moment rig.new) (G.since rig.old) (G.since rig.new) }
+
+    ensures there { OnOk result (disk_page (G.seen rig.new 0) p ≡ im.now) }
+    ensures marks { loose.new.items ≡ marks_after result loose.old.items }
+
+    ensures unread { IfErr result (λ e. ReadsAfter e (G.seen rig.old) (G.seen rig.new)) }
+    ensures outside { AgreesOutside (twin_at p) 2050 (G.seen rig.old 0) (G.seen rig.new 0) }
+    ensures versions { (c : Parts) (pend : Pending) (m : State)
+        → MayPutImage p im.now (G.seen rig.old) (G.leaves rig.old) pend c m → SameVersions (G.seen rig.old) (G.seen rig.new) c }
+    ensures others { (d : ℕ) → d ≢ 0 → G.seen rig.new d ≡ G.seen rig.old d }
+    ensures others_leave { (d : ℕ) → d ≢ 0 → LeavesSame (G.leaves rig.old d) (G.leaves rig.new d) }
+
+    ensures cause { OnErr result (Rises (G.faults rig.old) (G.faults rig.new)) }
+    ensures quiet { OnOk result (G.faults rig.new ≡ G.faults rig.old) }
+    ensures count { G.faults rig.old ≤ G.faults rig.new }
+{
     let mut slots = [0u8; TWIN_BYTES];
-    let chosen = match choose(&mut c.rig, twin_of(p), &mut slots) {
+    let chosen = match choose(rig, twin_of(p), &mut slots) {
         Ok(chosen) => chosen,
         Err(_) => return Err(Unput::Unread),
     };
-    if copy_in(&c.pools, p, i).lsn() == lsn_of(chosen, &slots) {
+    if im.lsn() == lsn_of(chosen, &slots) {
         return Ok(());
     }
-    write_copy(c, p, i, chosen)
+    put_over(rig, loose, p, im, chosen)
 }
 
-// Writes the copy of a page that the instance has, whose LSN isn't that of the slot that counts, over the other slot.
-fn write_copy<G: Rig>(c: &mut Complex<G>, p: PageNo, i: InstNo, chosen: Chosen) -> Result<(), Unput>
-    requires good { (pend : Pending) × (m : State) × Good (G.seen c.old.rig) (G.leaves c.old.rig) pend (parts c.old) m }
-    requires idle { (parts c.old).due ≡ None }
-    requires may { MayPut p i (parts c.old) }
-    requires settled { is_loose (parts c.old) 0 ≡ false }
-    requires held { IsSome (buffers.image_at (pool_at (parts c.old) i) p) }
-    requires chosen { twin_bytes.chosen_slot (twin_at p) 1024 (G.seen c.old.rig 0) ≡ slot chosen }
-    requires differs { IfSome (buffers.image_at (pool_at (parts c.old) i) p)
-        (λ im. (disk_page (G.seen c.old.rig 0) p).lsn ≢ im.lsn) }
+// Writes it over the slot that doesn't count: that which counts has another LSN.
+fn put_over<G: Rig>(
+    rig: &mut G,
+    loose: &mut Vec<bool>,
+    p: PageNo,
+    im: &Image,
+    chosen: Chosen,
+) -> Result<(), Unput>
+    requires may { (c : Parts) × (pend : Pending) × (m : State)
+        × MayPutImage p im.now (G.seen rig.old) (G.leaves rig.old) pend c m }
+    requires nine { length loose.old.items ≡ 9 }
+    requires chosen { twin_bytes.chosen_slot (twin_at p) 1024 (G.seen rig.old 0) ≡ slot chosen }
+    requires differs { (disk_page (G.seen rig.old 0) p).lsn ≢ im.now.lsn }
 
-    ensures good { (pend : Pending) (m : State) → Good (G.seen c.old.rig) (G.leaves c.old.rig) pend (parts c.old) m
-        → Good (G.seen c.new.rig) (G.leaves c.new.rig) pend (parts c.new) m }
-    ensures images { (pend : Pending) (m : State) → Good (G.seen c.old.rig) (G.leaves c.old.rig) pend (parts c.old) m
-        → Span (G.moment c.old.rig) (G.since c.new.rig) (Stands m pend) }
-    ensures time { Elapses (G.moment c.old.rig) (G.moment c.new.rig) (G.since c.old.rig) (G.since c.new.rig) }
+    ensures good { (c : Parts) (pend : Pending) (m : State) → MayPutImage p im.now (G.seen rig.old) (G.leaves rig.old) pend c m
+        → Good (G.seen rig.new) (G.leaves rig.new) pend (put_parts result c) m }
+    ensures images { (c : Parts) (pend : Pending) (m : State) → MayPutImage p im.now (G.seen rig.old) (G.leaves rig.old) pend c m
+        → Span (G.moment rig.old) (G.since rig.new) (Stands m pend) }
+    ensures time { Elapses (G.moment rig.old) (G.moment rig.new) (G.since rig.old) (G.since rig.new) }
 
-    ensures stays { OnOk result (parts c.new ≡ parts c.old) }
-    ensures errors { IfErr result (λ e. parts c.new ≡ left_after e (parts c.old)) }
-    ensures directory { c.new.directory ≡ c.old.directory }
-    ensures there { OnOk result (disk_page (G.seen c.new.rig 0) p
-        ≡ newest_of (G.seen c.old.rig) (G.leaves c.old.rig) (parts c.old) p) }
+    ensures there { OnOk result (disk_page (G.seen rig.new 0) p ≡ im.now) }
+    ensures marks { loose.new.items ≡ marks_after result loose.old.items }
 
-    ensures unread { IfErr result (λ e. ReadsAfter e (G.seen c.old.rig) (G.seen c.new.rig)) }
-    ensures outside { AgreesOutside (twin_at p) 2050 (G.seen c.old.rig 0) (G.seen c.new.rig 0) }
-    ensures versions { SameVersions (G.seen c.old.rig) (G.seen c.new.rig) (parts c.old) }
-    ensures others { (d : ℕ) → d ≢ 0 → G.seen c.new.rig d ≡ G.seen c.old.rig d }
-    ensures others_leave { (d : ℕ) → d ≢ 0 → LeavesSame (G.leaves c.old.rig d) (G.leaves c.new.rig d) }
+    ensures unread { IfErr result (λ e. ReadsAfter e (G.seen rig.old) (G.seen rig.new)) }
+    ensures outside { AgreesOutside (twin_at p) 2050 (G.seen rig.old 0) (G.seen rig.new 0) }
+    ensures versions { (c : Parts) (pend : Pending) (m : State)
+        → MayPutImage p im.now (G.seen rig.old) (G.leaves rig.old) pend c m → SameVersions (G.seen rig.old) (G.seen rig.new) c }
+    ensures others { (d : ℕ) → d ≢ 0 → G.seen rig.new d ≡ G.seen rig.old d }
+    ensures others_leave { (d : ℕ) → d ≢ 0 → LeavesSame (G.leaves rig.old d) (G.leaves rig.new d) }
 
-    ensures cause { OnErr result (Rises (G.faults c.old.rig) (G.faults c.new.rig)) }
-    ensures quiet { OnOk result (G.faults c.new.rig ≡ G.faults c.old.rig) }
-    ensures count { G.faults c.old.rig ≤ G.faults c.new.rig }
+    ensures cause { OnErr result (Rises (G.faults rig.old) (G.faults rig.new)) }
+    ensures quiet { OnOk result (G.faults rig.new ≡ G.faults rig.old) }
+    ensures count { G.faults rig.old ≤ G.faults rig.new }
 {
-    let image = copy_in(&c.pools, p, i);
-    match put(&mut c.rig, twin_of(p), chosen, image.bytes()) {
+    match put(rig, twin_of(p), chosen, im.bytes()) {
         Ok(()) => Ok(()),
         Err(_) => {
-            c.loose[0] = true;
+            loose[0] = true;
             Err(Unput::Unwritten)
         }
     }
