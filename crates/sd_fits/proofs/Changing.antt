@@ -187,7 +187,7 @@ module _ (k : Change) (seen : Image) (leaves : Outcomes) (c after : Parts) (m' :
       bounds_then = bounds_after w.bounds e r
 
       -- what was within the sums
-      old : FitsBounds seen c bounds_then
+      old : FitsBounds seen leaves c bounds_then
       old = bounds-stay seen c w.bounds e r f.bounds
 
       reach-more : bounds_then.reach i ≡ 900 + w.bounds.reach i

@@ -7,6 +7,8 @@ use Rattle.std.proofs.lemmas.Bool.{cases_eq}
 use mathlib.Core.Path.{fun_ext}
 use Rattle.sd_base.specs.Waits.{Wait, Waits}
 use Rattle.sd_base.specs.declared.ids.TxnId.{TxnId}
+use Rattle.sd_base.specs.declared.place.Status.{Status}
+use Rattle.sd_base.specs.declared.place.Status.TheVariants as S
 use Rattle.sd_model.specs.Acts.{live}
 use Rattle.sd_model.specs.Applies.{HasPut}
 use Rattle.sd_model.specs.Exact.{IsExact, IsOfFreeSlot}
@@ -40,11 +42,11 @@ use Rattle.sd_world.specs.Serving.{Core, Turns}
 use Rattle.sd_state.specs.Good.{Good}
 use Rattle.sd_state.specs.Images.{begun_at, log_by}
 use Rattle.sd_state.specs.Laws.{newest_of}
-use Rattle.sd_state.specs.Parts.{Begun, Parts, check_at, count_at, log_at, no_log, no_pool, no_txns, other_at, pool_at, txns_at}
+use Rattle.sd_state.specs.Parts.{Begun, Parts, check_at, count_at, log_at, no_log, no_pool, no_txns, other_at, pool_at, status_at, txns_at}
 use Rattle.sd_state.specs.Values.{Pending, is_doubt}
 use Rattle.sd_state.proofs.Items.{item-kept, item-set}
 use Rattle.sd_state.proofs.Standing.{one-place}
-use Rattle.sd_moves.specs.Falling.{IsFallen, emptied, logs_by, owed_dropped, with_fallen}
+use Rattle.sd_moves.specs.Falling.{IsFallen, emptied, is_recovered_by, logs_by, owed_dropped, with_fallen}
 use Rattle.sd_moves.proofs.FallBounds.{fallen-great, fallen-log, fallen-owes, fallen-versions, kept_by}
 use Rattle.sd_moves.proofs.FallDropped.{kept-all}
 use Rattle.sd_moves.proofs.FallFinal.{when-dropped}
@@ -66,6 +68,11 @@ fell_core i before number sums w = record {
 -- the numbers that pages have in a complex
 abbrev pub numbers_of : rig.Image → Outcomes → Parts → ℕ → ℕ
 numbers_of seen leaves c p = (newest_of seen leaves c p).lsn
+
+-- who fell is down
+pub fallen-down : (i : ℕ) (c new : Parts) → IsFallen i c new → status_at new i ≡ S.Down
+fallen-down i c new fallen = fallen.status i
+    ∙ ap (λ (b : Bool). cond {A = Status} (cond b true (is_recovered_by i (status_at c i))) S.Down (status_at c i)) (eq-eqb i i refl)
 
 -- whoever is in doubt behind a fall was so before it
 fall-stays : (i : ℕ) (before : State) → DoubtsStay before (fall i before)
@@ -140,7 +147,7 @@ module _ (i : ℕ) (seen : rig.Image) (leaves : Outcomes) (pend : Pending) (c ne
       ∙ sym (ap without_tail (one-place c moved i one)))))
       (fallen-log i seen leaves pend c new m low high g is f j)
 
-  pub fallen-bounds : (b : Bounds) → FitsBounds seen c b → FitsBounds seen new b
+  pub fallen-bounds : (b : Bounds) → FitsBounds seen leaves c b → FitsBounds seen leaves new b
   fallen-bounds b fits = record {
     slots = λ moved keeps p. subst (λ (x : Page). AreWithin (capacities x) (b.slots p))
         (sym (fallen-versions i seen leaves pend c new m low high g is f moved keeps (disk_page (seen 0)) p))
@@ -154,6 +161,7 @@ module _ (i : ℕ) (seen : rig.Image) (leaves : Outcomes) (pend : Pending) (c ne
         let was = fits.lsns in
         omega (arith, great, owes, was);
     masters = λ j lo hi. subst (λ (k : Parts). count_at k j ≤ b.masters j) (sym is) (fits.masters j lo hi);
+    left_masters = fits.left_masters;
   }
 
   -- what is kept of the logs is what was kept of them without the tail that is dropped
@@ -219,7 +227,7 @@ module _ (i : ℕ) (seen seen' : rig.Image) (leaves leaves' : Outcomes) (pend : 
   txns-else : (j : ℕ) → j ≢ i → txns_at new j ≡ txns_at old j
   txns-else j ne = ap (λ (k : Parts). txns_at k j) is ∙ item-kept no_txns mid.txns i (txns_at new i) low j ne ∙ else.txns j ne
 
-  pub fallen-fits : (sums : Bounds) → FitsPages seen' leaves' mid w.pages → FitsBounds seen' mid sums
+  pub fallen-fits : (sums : Bounds) → FitsPages seen' leaves' mid w.pages → FitsBounds seen' leaves' mid sums
       → FitsDoubts seen' mid before
       → Good seen' leaves' Pending.Idle new (fall i before)
       → Fits seen' leaves' new (fell_core i before (numbers_of seen' leaves' new) sums w)

@@ -2,13 +2,15 @@
 use Rattle.std.proofs.Common.{◌≡◌, ℕ, ◌≤◌, Bool, true, false, cond, List, [], max, refl, sym, ap, ap₂, ◌∙◌, subst, arith}
 use Rattle.std.specs.Prelude.{is_some}
 use Rattle.sd_log.specs.Logs.{LogState, last_lsn, scanned}
+use Rattle.sd_logrec.specs.Kept.{Master}
 use Rattle.sd_page.specs.Page.{Page}
 use Rattle.sd_pool.specs.Buffers.{Buffers}
 use Rattle.sd_reclock.specs.Locks.{waits_in}
 use Rattle.sd_rig.specs.Devices as rig
 use Rattle.sd_txn.specs.Owing.{owed_of}
 use Rattle.sd_chain.specs.Images.{all_kept}
-use Rattle.sd_sound.specs.Logs.{Outcomes}
+use Rattle.sd_sound.specs.Logs.{IsBlank, Outcomes}
+use Rattle.sd_sound.proofs.Blank.{master_blank}
 use Rattle.sd_fits.specs.Fits.{AreWithin, Fits, FitsBounds, FitsPages, FitsStands, FreshFits, ReachesAtMost, capacities, fresh_core}
 use Rattle.sd_state.specs.Fresh.{AreBlank, IsFresh, empty_pool}
 use Rattle.sd_state.specs.Parts.{Parts, among, is_loose, log_at, no_pool, status_at}
@@ -75,7 +77,7 @@ module _ (leaves : Outcomes) (seen : rig.Image) (frames : ℕ) (c : Parts) (devi
     begun = λ i. sym (ap is_some (no-check seen leaves frames c devices f i));
   }
 
-  bounds-there : FitsBounds seen c (fresh_core frames).bounds
+  bounds-there : FitsBounds seen leaves c (fresh_core frames).bounds
   bounds-there = record {
     slots = λ moved keeps p. subst (λ (x : Page). AreWithin (capacities x) [])
         (sym (now-empty seen leaves frames c devices f moved keeps p)) tt;
@@ -86,6 +88,10 @@ module _ (leaves : Outcomes) (seen : rig.Image) (frames : ℕ) (c : Parts) (devi
         let b = sum-none (owes_most c) owes-zero in omega (arith, d, a, b);
     masters = λ i low high. let e = ap (λ (masters : List ℕ). among 0 masters i) f.masters ∙ at-each 0 (λ k. 0) i low high in
         omega (arith, e);
+    left_masters = λ i low high bytes left.
+        let none = ap (λ (m : Master). m.count)
+        (master_blank bytes (subst IsBlank (sym ((devices.only i high bytes).0 left)) (devices.blank i high))) in
+        omega (arith, none);
   }
 
   pub fits-there : Fits seen leaves c (fresh_core frames)

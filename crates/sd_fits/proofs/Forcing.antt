@@ -6,6 +6,7 @@ use Rattle.std.proofs.lemmas.Bool.{cases_eq}
 use Rattle.std.proofs.lemmas.List.{get_or-set_other, get_or-set_same}
 use mathlib.Core.Path.{fun_ext}
 use Rattle.sd_log.specs.Logs.{LogState, forced, last_lsn, scanned}
+use Rattle.sd_logrec.specs.Kept.{Master, master}
 use Rattle.sd_logrec.specs.View.{Rec, flat}
 use Rattle.sd_logrec.specs.declared.record.Record.{Record}
 use Rattle.sd_page.specs.Page.{Page}
@@ -19,7 +20,7 @@ use Rattle.sd_chain.specs.Images.{Keeps, Tails, all_kept, kept_at}
 use Rattle.sd_coherent.specs.Named.{version_of}
 use Rattle.sd_sound.specs.Logs.{Logs, Outcomes, all_at, base_at, kept_logs, tail_at, tails_of}
 use Rattle.sd_sound.proofs.Kept.{forced-base, forced-idle, forced-tail, no-tail}
-use Rattle.sd_state.specs.Forcing.{owed_either, with_failed, with_forced}
+use Rattle.sd_state.specs.Forcing.{KeepMasters, owed_either, with_failed, with_forced}
 use Rattle.sd_state.specs.Good.{Good}
 use Rattle.sd_state.specs.Images.{begun_at, log_by}
 use Rattle.sd_state.specs.Laws.{newest_of}
@@ -51,6 +52,14 @@ most-same f g (suc n) same = ap₂ max (most-same f g n (λ j low high. same j l
 
 pub no-more : (g a o n : ℕ) → a ≤ o → g + o ≤ n → g + a ≤ n
 no-more g a o n le was = omega arith
+
+-- no master has a greater count than one that might be left before
+pub masters-left : (leaves leaves' : Outcomes) → KeepMasters leaves leaves' → (most : ℕ → ℕ)
+    → ((i : ℕ) → 1 ≤ i → i ≤ 8 → (bytes : List ℕ) → leaves i bytes → (master bytes).count ≤ most i)
+    → (i : ℕ) → 1 ≤ i → i ≤ 8 → (bytes : List ℕ) → leaves' i bytes → (master bytes).count ≤ most i
+masters-left leaves leaves' kept most was i low high bytes left =
+    let k = kept i low bytes left in
+    subst (λ (m : Master). m.count ≤ most i) (sym k.2) (was i low high k.0 k.1)
 
 -- ---- forced
 
@@ -169,8 +178,8 @@ module _ (i owes : ℕ) (seen seen' : rig.Image) (leaves leaves' : Outcomes) (pe
       (sym (item-kept 0 c.owed i owes low j ne)) (omega arith))
       (cases_eq j i)
 
-  pub forced-bounds : (b : Bounds) → FitsBounds seen c b → FitsBounds seen' new b
-  forced-bounds b f = record {
+  pub forced-bounds : KeepMasters leaves leaves' → (b : Bounds) → FitsBounds seen leaves c b → FitsBounds seen' leaves' new b
+  forced-bounds kept b f = record {
     slots = λ moved keeps p. subst (λ (x : Page). AreWithin (capacities x) (b.slots p))
         (sym (versions-same (tails_of (log_by c moved)) (tails_of (log_by new moved)) (disk_page (seen 0)) (disk_page (seen' 0))
         (kept_at i true keeps) keeps p (kept-by (log_by c moved) (log_by new moved) (here-by moved) (else-by moved) keeps) page-same))
@@ -179,6 +188,7 @@ module _ (i owes : ℕ) (seen seen' : rig.Image) (leaves leaves' : Outcomes) (pe
     lsns = subst (λ (n : ℕ). n + owed_in_all new ≤ b.lsns) (sym great-same)
         (no-more (great_of c) (owed_in_all new) (owed_in_all c) b.lsns (sum-less (owes_most new) (owes_most c) 8 (λ j lo hi. owes-most j)) f.lsns);
     masters = f.masters;
+    left_masters = masters-left leaves leaves' kept b.masters f.left_masters;
   }
 
   pub forced-doubts : (s : State) → FitsDoubts seen c s → FitsDoubts seen' new s
@@ -226,14 +236,15 @@ module _ (a i : ℕ) (seen seen' : rig.Image) (leaves leaves' : Outcomes) (pend 
       (sym (item-kept 0 c.owed i (owed_either c i) low j ne)) (omega arith)))
       (cases_eq j i)
 
-  pub failed-bounds : (b : Bounds) → FitsBounds seen c b → FitsBounds seen' failed b
-  failed-bounds b f = record {
+  pub failed-bounds : KeepMasters leaves leaves' → (b : Bounds) → FitsBounds seen leaves c b → FitsBounds seen' leaves' failed b
+  failed-bounds kept b f = record {
     slots = λ moved keeps p. subst (λ (bytes : List ℕ). AreWithin (capacities (version_of (tails_of (log_by c moved)) (disk_page bytes) keeps p)) (b.slots p))
         (sym disk) (f.slots moved keeps p);
     reach = f.reach;
     lsns = no-more (great_of c) (owed_in_all failed) (owed_in_all c) b.lsns
         (sum-less (owes_most failed) (owes_most c) 8 (λ j lo hi. owes-failed j lo)) f.lsns;
     masters = f.masters;
+    left_masters = masters-left leaves leaves' kept b.masters f.left_masters;
   }
 
   pub failed-doubts : (s : State) → FitsDoubts seen c s → FitsDoubts seen' failed s

@@ -84,7 +84,7 @@ pub record Leaves (t : TxnId) (seen : Image) (leaves : Outcomes) (pend : Pending
 
 module _ (t : TxnId) (seen seen' : Image) (leaves leaves' : Outcomes) (pend : Pending) (c mid new : Parts) (w : Core) (m' : State) (b' : Bounds)
     (f : Fits seen leaves c w) (l : Leaves t seen' leaves' pend c mid new w.scene.state m')
-    (pages : FitsPages seen' leaves' mid w.pages) (bounds : FitsBounds seen' mid b')
+    (pages : FitsPages seen' leaves' mid w.pages) (bounds : FitsBounds seen' leaves' mid b')
     (doubts : FitsDoubts seen' mid w.scene.state) where
   abbrev m : State
   m = w.scene.state
@@ -157,7 +157,7 @@ module _ (t : TxnId) (seen seen' : Image) (leaves leaves' : Outcomes) (pend : Pe
     put = λ u work some. has-put u work (subst (λ (p : Parts). IsSome (span_at (txns_at p (home u)) u)) l.is some);
     pages = subst (λ (p : Parts). FitsPages seen' leaves' p w.pages) (sym l.is)
         (worked-pages made.txns new.locks seen' leaves' mid w.pages pages);
-    bounds = subst (λ (p : Parts). FitsBounds seen' p b') (sym l.is)
+    bounds = subst (λ (p : Parts). FitsBounds seen' leaves' p b') (sym l.is)
         (worked-bounds made.txns new.locks seen' leaves' mid b' owes bounds);
     doubts = subst (λ (p : Parts). FitsDoubts seen' p m') (sym l.is)
         (doubts-kept seen' seen' mid made m m' doubts (part-stays t gone m m' refl l.part) (λ keeps. keeps)

@@ -24,3 +24,11 @@ pub mod Putting
 pub mod Room
 pub mod Disk
 pub mod Known
+pub mod Rebuilding
+pub mod Recovering
+pub mod Sums
+pub mod Closing
+pub mod Opening
+pub mod Reopening
+pub mod Opened
+pub mod Settling

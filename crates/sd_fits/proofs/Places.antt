@@ -45,7 +45,7 @@ abbrev pub repaged : Core → Pages → Event → Reply → Core
 repaged w pages e r = record { scene = w.scene; pages = pages; bounds = bounds_after w.bounds e r }
 
 -- what is put at one place, and the others
-put-case : {X : Type 0} (P : ℕ → X → Type 0) (p : ℕ) (x : X) (f : ℕ → X) → P p x → ((q : ℕ) → q ≢ p → P q (f q)) → (q : ℕ)
+pub put-case : {X : Type 0} (P : ℕ → X → Type 0) (p : ℕ) (x : X) (f : ℕ → X) → P p x → ((q : ℕ) → q ≢ p → P q (f q)) → (q : ℕ)
     → P q (put p x f q)
 put-case {X} P p x f here others q = ⊎_elim
     (λ e. subst (λ (b : Bool). P q (cond {A = X} b x (f q))) (sym (eq-eqb p q (sym e))) (subst (λ (k : ℕ). P k x) (sym e) here))
@@ -70,7 +70,7 @@ module _ (pools : List Buffers) (places : DirectoryState Page) (seen : rig.Image
 
   -- Where the complex is good then, and fits these pages and sums, it fits the world that has them.
   pub turned-fits : (pages : Pages) (sums : Bounds) → Good seen leaves Pending.Idle turned w.scene.state
-      → FitsPages seen leaves turned pages → FitsBounds seen c sums
+      → FitsPages seen leaves turned pages → FitsBounds seen leaves c sums
       → Fits seen leaves turned (record { scene = w.scene; pages = pages; bounds = sums })
   turned-fits pages sums good there b = record {
     good = good;
@@ -80,7 +80,7 @@ module _ (pools : List Buffers) (places : DirectoryState Page) (seen : rig.Image
     waiting = f.waiting;
     put = f.put;
     pages = there;
-    bounds = record { slots = b.slots; reach = b.reach; lsns = b.lsns; masters = b.masters };
+    bounds = record { slots = b.slots; reach = b.reach; lsns = b.lsns; masters = b.masters; left_masters = b.left_masters };
     doubts = f.doubts;
   }
 
@@ -170,6 +170,7 @@ module _ {G : Type 0} (tell : Telling G) (old new : G)
           reach = b.reach;
           lsns = b.lsns;
           masters = b.masters;
+          left_masters = λ i low high bytes left. b.left_masters i low high bytes ((u.outcomes i bytes).0 left);
         };
     doubts = doubts-kept (tell.seen old) (tell.seen new) c c w.scene.state w.scene.state f.doubts (same-doubts w.scene.state)
         (λ keeps. keeps)
@@ -213,7 +214,7 @@ pub moved-fits : {G : Type 0} (tell : Telling G) (old new : Complex G) (w : Core
     → Good (tell.seen new.rig) (tell.leaves new.rig) Pending.Idle (parts new) w.scene.state
     → (pages : Pages) (sums : Bounds)
     → FitsPages (tell.seen old.rig) (tell.leaves old.rig) (record (parts old) { pools = pools; directory = places }) pages
-    → FitsBounds (tell.seen old.rig) (parts old) sums
+    → FitsBounds (tell.seen old.rig) (tell.leaves old.rig) (parts old) sums
     → fits_by tell.seen tell.leaves new (record { scene = w.scene; pages = pages; bounds = sums })
 moved-fits {G} tell old new w f pools places same is good pages sums there b =
     let turned : Parts = record (parts old) { pools = pools; directory = places } in

@@ -13,6 +13,7 @@ use Rattle.sd_world.specs.Bounds.{Bounds}
 use Rattle.sd_world.specs.Pages.{Pages}
 use Rattle.sd_world.specs.Serving.{Core}
 use Rattle.sd_model.specs.State.{State}
+use Rattle.sd_state.specs.Forcing.{KeepMasters}
 use Rattle.sd_state.specs.Good.{Good}
 use Rattle.sd_state.specs.Parts.{Parts, owed_at, status_at, txns_at}
 use Rattle.sd_state.specs.Sums.{great_of, owed_in_all, owes_most}
@@ -20,7 +21,7 @@ use Rattle.sd_state.specs.Tables.{tells_log}
 use Rattle.sd_state.specs.Values.{Pending}
 use Rattle.sd_fits.specs.Fits.{AreWithin, Fits, FitsBounds, FitsDoubts, FitsPages, capacities}
 use Rattle.sd_fits.proofs.Doubts.{doubts-kept, same-doubts}
-use Rattle.sd_fits.proofs.Forcing.{no-more}
+use Rattle.sd_fits.proofs.Forcing.{masters-left, no-more}
 
 -- Device 0 reads otherwise, with the same newest versions, and is settled or not; the directory is this one.
 module _ (loose : Bool) (places : DirectoryState Page) (seen seen' : rig.Image) (leaves leaves' : Outcomes) (c : Parts)
@@ -47,25 +48,26 @@ module _ (loose : Bool) (places : DirectoryState Page) (seen seen' : rig.Image) 
       (sym (get_or-set_other c.loose 0 j loose true (omega (arith, low)))) (omega arith)
 
   -- no sum grows
-  pub put-bounds : (b : Bounds) → FitsBounds seen c b → FitsBounds seen' there b
-  put-bounds b f = record {
+  pub put-bounds : KeepMasters leaves leaves' → (b : Bounds) → FitsBounds seen leaves c b → FitsBounds seen' leaves' there b
+  put-bounds kept b f = record {
     slots = λ moved keeps p. subst (λ (x : Page). AreWithin (capacities x) (b.slots p)) (sym (versions moved keeps p))
         (f.slots moved keeps p);
     reach = f.reach;
     lsns = no-more (great_of c) (owed_in_all there) (owed_in_all c) b.lsns
         (sum-less (owes_most there) (owes_most c) 8 (λ j lo hi. owes-same j lo)) f.lsns;
     masters = f.masters;
+    left_masters = masters-left leaves leaves' kept b.masters f.left_masters;
   }
 
   pub put-doubts : (s : State) → FitsDoubts seen c s → FitsDoubts seen' there s
   put-doubts s d = doubts-kept seen seen' c there s s d (same-doubts s) (λ keeps. keeps) (λ moved keeps j. refl) versions
 
   -- where it is good then, it fits the world with these pages and sums
-  pub put-fits : (w : Core) → Fits seen leaves c w → (pages : Pages) (sums : Bounds)
+  pub put-fits : KeepMasters leaves leaves' → (w : Core) → Fits seen leaves c w → (pages : Pages) (sums : Bounds)
       → Good seen' leaves' Pending.Idle there w.scene.state
-      → FitsPages seen leaves (record c { pools = c.pools; directory = places }) pages → FitsBounds seen c sums
+      → FitsPages seen leaves (record c { pools = c.pools; directory = places }) pages → FitsBounds seen leaves c sums
       → Fits seen' leaves' there (record { scene = w.scene; pages = pages; bounds = sums })
-  put-fits w f pages sums good fit b = record {
+  put-fits kept w f pages sums good fit b = record {
     good = good;
     idle = f.idle;
     rolling = f.rolling;
@@ -73,6 +75,6 @@ module _ (loose : Bool) (places : DirectoryState Page) (seen seen' : rig.Image) 
     waiting = f.waiting;
     put = f.put;
     pages = put-pages pages fit;
-    bounds = put-bounds sums b;
+    bounds = put-bounds kept sums b;
     doubts = put-doubts w.scene.state f.doubts;
   }

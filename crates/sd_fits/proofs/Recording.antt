@@ -70,7 +70,7 @@ front-commits u base tail false has = list_any-append (commits u) base tail
     front true b e = refl
     front false b e = absurd (cc)
 
-most-within : (f : ℕ → ℕ) (n top : ℕ) → ((j : ℕ) → 1 ≤ j → j ≤ n → f j ≤ top) → most_to f n ≤ top
+pub most-within : (f : ℕ → ℕ) (n top : ℕ) → ((j : ℕ) → 1 ≤ j → j ≤ n → f j ≤ top) → most_to f n ≤ top
 most-within f zero top le = omega arith
 most-within f (suc n) top le =
     let ih = most-within f n top (λ j low high. le j low (omega (arith, high))) in
@@ -370,13 +370,14 @@ module _ (i : ℕ) (rec : Record) (spare : ℕ) (image : Page) (table : Transact
             (cases_eq j i)
 
     -- sums that were above all before are, where they are above what the record adds
-    pub bounds-fit : (b : Bounds) → FitsBounds seen c b → AreWithin (capacities (redo image y)) (b.slots p) → ReachesAtMost (b.reach i) log
-        → great_of new + owed_in_all new ≤ b.lsns → FitsBounds seen new b
+    pub bounds-fit : (b : Bounds) → FitsBounds seen leaves c b → AreWithin (capacities (redo image y)) (b.slots p) → ReachesAtMost (b.reach i) log
+        → great_of new + owed_in_all new ≤ b.lsns → FitsBounds seen leaves new b
     bounds-fit b old slots reach lsns = record {
       slots = slots-then b.slots old.slots slots;
       reach = reach-then b.reach old.reach reach;
       lsns = lsns;
       masters = old.masters;
+      left_masters = old.left_masters;
     }
 
     -- ---- the others

@@ -195,7 +195,7 @@ module _ (i spare extra : ℕ) (y : Record) (txns : List Transactions) (epochs :
       greatest : (d x z : ℕ) → x ≤ z + 1 → max d x ≤ max d z + 1
       greatest d x z more = omega arith
 
-  pub sealed-bounds : (b b' : Bounds) → AreMore i extra b b' → FitsBounds seen c b → FitsBounds seen new b'
+  pub sealed-bounds : (b b' : Bounds) → AreMore i extra b b' → FitsBounds seen leaves c b → FitsBounds seen leaves new b'
   sealed-bounds b b' a f = record {
     slots = λ moved keeps p. subst (AreWithin _) (sym (a.slots p))
         (subst (λ (x : Page). AreWithin (capacities x) (b.slots p))
@@ -207,6 +207,7 @@ module _ (i spare extra : ℕ) (y : Record) (txns : List Transactions) (epochs :
         (λ j lo hi. owes-less (is_loose c j) (tells_log (status_at c j)) (owed_at c j) (owed_of (txns_at c j)) (owed_of (among no_txns txns j)) (owes j lo hi)) in
         all-more (great_of new) (great_of c) (owed_in_all new) (owed_in_all c) b.lsns b'.lsns great owed was more;
     masters = λ j lo hi. up-to _ _ _ (f.masters j lo hi) (a.masters j);
+    left_masters = λ j lo hi bytes left. up-to _ _ _ (f.left_masters j lo hi bytes left) (a.masters j);
   }
     where
       all-more : (x g o p n k : ℕ) → x ≤ g + 1 → o ≤ p → g + p ≤ n → n + 1 ≤ k → x + o ≤ k

@@ -45,7 +45,7 @@ within-more (x ∷ xs) (y ∷ ys) zero capacity w = (raised-most x y capacity w.
     raised-most a b c f = omega arith
 within-more (x ∷ xs) (y ∷ ys) (suc slot) capacity w = (w.0, within-more xs ys slot capacity w.1)
 
-slots-within : (xs : List ℕ) (old : ℕ → List ℕ) (e : Event) (r : Reply) (q : ℕ) → AreWithin xs (old q)
+pub slots-within : (xs : List ℕ) (old : ℕ → List ℕ) (e : Event) (r : Reply) (q : ℕ) → AreWithin xs (old q)
     → AreWithin xs (slots_after old e r q)
 slots-within xs old (Insert t p v capacity) (reply.At r) q w = go (eqb p q)
   where
@@ -54,7 +54,7 @@ slots-within xs old (Insert t p v capacity) (reply.At r) q w = go (eqb p q)
     go false = w
 slots-within xs old e r q w = w
 
-masters-most : (old : ℕ → ℕ) (e : Event) (i n : ℕ) → n ≤ old i → n ≤ masters_after old e i
+pub masters-most : (old : ℕ → ℕ) (e : Event) (i n : ℕ) → n ≤ old i → n ≤ masters_after old e i
 masters-most old (CheckEnd j) i n f = go (cond (eqb j i) 1 0)
   where
     go : (k : ℕ) → n ≤ k + old i
@@ -62,7 +62,8 @@ masters-most old (CheckEnd j) i n f = go (cond (eqb j i) 1 0)
 masters-most old e i n f = f
 
 -- what was within the sums is within those after any event
-pub bounds-stay : (seen : Image) (c : Parts) (b : Bounds) (e : Event) (r : Reply) → FitsBounds seen c b → FitsBounds seen c (bounds_after b e r)
+pub bounds-stay : (seen : Image) {leaves : Outcomes} (c : Parts) (b : Bounds) (e : Event) (r : Reply) → FitsBounds seen leaves c b
+    → FitsBounds seen leaves c (bounds_after b e r)
 bounds-stay seen c b e r f = record {
   slots = λ moved keeps p. slots-within _ b.slots e r p (f.slots moved keeps p);
   reach = λ moved i low high.
@@ -71,6 +72,7 @@ bounds-stay seen c b e r f = record {
       (at-most _ _ _ f.0 more, at-most _ _ _ f.1 more);
   lsns = let f = f.lsns in omega (arith, f);
   masters = λ i low high. masters-most b.masters e i _ (f.masters i low high);
+  left_masters = λ i low high bytes left. masters-most b.masters e i _ (f.left_masters i low high bytes left);
 }
   where
     go : (x y : ℕ) → y ≤ x + y
@@ -169,6 +171,7 @@ module _ (locks : LockTable) (seen : Image) (leaves : Outcomes) (pend : Pending)
           checks = h.checks;
         };
     places = g.places;
+    others = g.others;
     settled = λ j lo hi e. let s = g.settled j lo hi e in
         record { only = s.only; stands = s.stands; one_place = s.one_place; counted = s.counted; epoch = s.epoch };
     disk_settled = g.disk_settled;
@@ -204,7 +207,7 @@ module _ (locks : LockTable) (seen : Image) (leaves : Outcomes) (pend : Pending)
     locks = λ t r. same t r ∙ g.locks t r;
     gone = g.gone;
     asks = g.asks;
-    checking = λ k b is. let old = g.checking k b is in record { active = old.active; low = old.low; begun = old.begun };
+    checking = λ k b is. let old = g.checking k b is in record { up = old.up; low = old.low; begun = old.begun };
   }
     where
       underway : (u : Pending) → IsUnderWay c m u → IsUnderWay relocked m u
@@ -246,8 +249,8 @@ module _ (locks : LockTable) (asks : Waits) (e : Event) (r : Reply) (seen : Imag
     doubts = f.doubts;
   }
     where
-      relock-bounds : FitsBounds seen c (bounds_after w.bounds e r) → FitsBounds seen (with_locks locks c) (bounds_after w.bounds e r)
-      relock-bounds b = record { slots = b.slots; reach = b.reach; lsns = b.lsns; masters = b.masters }
+      relock-bounds : FitsBounds seen leaves c (bounds_after w.bounds e r) → FitsBounds seen leaves (with_locks locks c) (bounds_after w.bounds e r)
+      relock-bounds b = record { slots = b.slots; reach = b.reach; lsns = b.lsns; masters = b.masters; left_masters = b.left_masters }
 
   -- One that changes nothing at all, of an event that sets no wait.
   pub nothing-fits : Fits seen leaves c (passed w w.scene.waits e r)

@@ -143,7 +143,7 @@ module _ (table : LockTable) (asks : Waits) (m' : State) (b : Bounds) (seen : Im
   then_core = record { scene = record { state = m'; waits = asks }; pages = w.pages; bounds = b }
 
   -- A call that changes locks and waits alone, and notes reads in the serial table: the complex fits on.
-  pub taken-fits : Good seen leaves Pending.Idle (with_locks table c) m' → GoesOnAs w.scene.state m' → FitsBounds seen c b
+  pub taken-fits : Good seen leaves Pending.Idle (with_locks table c) m' → GoesOnAs w.scene.state m' → FitsBounds seen leaves c b
       → ((t : TxnId) → waits table t ≡ asks t)
       → ((t : TxnId) → is_running (w.scene.state.part t).life ≡ false → asks t ≡ None)
       → Fits seen leaves (with_locks table c) then_core
@@ -161,7 +161,13 @@ module _ (table : LockTable) (asks : Waits) (m' : State) (b : Bounds) (seen : Im
       number = f.pages.number;
       begun = f.pages.begun;
     };
-    bounds = record { slots = bounds.slots; reach = bounds.reach; lsns = bounds.lsns; masters = bounds.masters };
+    bounds = record {
+      slots = bounds.slots;
+      reach = bounds.reach;
+      lsns = bounds.lsns;
+      masters = bounds.masters;
+      left_masters = bounds.left_masters;
+    };
     doubts = doubts-kept seen seen c (with_locks table c) w.scene.state m' f.doubts (on-stays w.scene.state m' on)
         (λ keeps. keeps)
         (λ moved keeps j. refl) (λ moved keeps p. refl);

@@ -116,7 +116,7 @@ module _ (t : TxnId) (p : Part) (table : Transactions) (locks : LockTable) (asks
         (λ ne. ap owed_of (elsewhere j ne))
         (cases_eq j i)))
 
-    pub turned-fits : FitsBounds seen c b → Fits seen leaves made (turned_core t p asks b w)
+    pub turned-fits : FitsBounds seen leaves c b → Fits seen leaves made (turned_core t p asks b w)
     turned-fits bounds = record {
       good = good;
       idle = f.idle;

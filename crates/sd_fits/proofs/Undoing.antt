@@ -256,7 +256,7 @@ module _ (t : TxnId) (to : Option ℕ) (seen : Image) (leaves : Outcomes) (c new
   abbrev sums : Bounds
   sums = bounds_after w.bounds (Undo t) reply.Step
 
-  old : FitsBounds seen c sums
+  old : FitsBounds seen leaves c sums
   old = bounds-stay seen c w.bounds (Undo t) reply.Step f.bounds
 
   abbrev still : Keeps

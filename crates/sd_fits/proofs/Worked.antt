@@ -20,8 +20,8 @@ module _ (txns : List Transactions) (locks : LockTable) (seen : rig.Image) (leav
   worked-pages w f = record { frames = f.frames; entry = f.entry; asks = f.asks; number = f.number; begun = f.begun }
 
   -- where no table owes more than it did
-  pub worked-bounds : (b : Bounds) → ((j : ℕ) → 1 ≤ j → j ≤ 8 → owes_most worked j ≤ owes_most c j) → FitsBounds seen c b
-      → FitsBounds seen worked b
+  pub worked-bounds : (b : Bounds) → ((j : ℕ) → 1 ≤ j → j ≤ 8 → owes_most worked j ≤ owes_most c j) → FitsBounds seen leaves c b
+      → FitsBounds seen leaves worked b
   worked-bounds b owes f = record {
     slots = f.slots;
     reach = f.reach;
@@ -29,6 +29,7 @@ module _ (txns : List Transactions) (locks : LockTable) (seen : rig.Image) (leav
         let was : great_of c + owed_in_all c ≤ b.lsns = f.lsns in
         least (great_of c) (owed_in_all worked) (owed_in_all c) b.lsns most was;
     masters = f.masters;
+    left_masters = f.left_masters;
   }
     where
       least : (g a o n : ℕ) → a ≤ o → g + o ≤ n → g + a ≤ n

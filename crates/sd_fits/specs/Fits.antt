@@ -5,6 +5,7 @@ use Rattle.std.specs.Prelude.{◌≡◌, ℕ, ◌+◌, ◌<◌, ◌≤◌, true,
 use Rattle.sd_base.specs.declared.ids.Rid.{Rid}
 use Rattle.sd_base.specs.declared.ids.TxnId.{TxnId}
 use Rattle.sd_log.specs.Logs.{LogState, forced}
+use Rattle.sd_logrec.specs.Kept.{master}
 use Rattle.sd_model.specs.Acts.{Puts, live}
 use Rattle.sd_model.specs.Applies.{HasPut}
 use Rattle.sd_model.specs.Listed.{IsAtWork}
@@ -57,12 +58,13 @@ abbrev pub ReachesAtMost : ℕ → LogState → Type 0
 ReachesAtMost n log = (log.gate + reserve (base_at log) ≤ n) × ((forced log).gate + reserve (all_at log) ≤ n)
 
 -- No real number is above the world's sums, whatever a crash leaves.
-pub record FitsBounds (seen : rig.Image) (c : Parts) (b : Bounds) : Type 0 where
+pub record FitsBounds (seen : rig.Image) (leaves : Outcomes) (c : Parts) (b : Bounds) : Type 0 where
   pub slots : (moved keeps : Keeps) (p : ℕ)
       → AreWithin (capacities (version_of (tails_of (log_by c moved)) (disk_page (seen 0)) keeps p)) (b.slots p)
   pub reach : (moved : Keeps) (i : ℕ) → 1 ≤ i → i ≤ 8 → ReachesAtMost (b.reach i) (log_by c moved i)
   pub lsns : great_of c + owed_in_all c ≤ b.lsns
   pub masters : (i : ℕ) → 1 ≤ i → i ≤ 8 → count_at c i ≤ b.masters i
+  pub left_masters : (i : ℕ) → 1 ≤ i → i ≤ 8 → (bytes : List ℕ) → leaves i bytes → (master bytes).count ≤ b.masters i
 
 -- each put is to a slot that its page has
 abbrev pub HaveSlots : (ℕ → Page) → Puts → Type 0
@@ -84,7 +86,7 @@ pub record Fits (seen : rig.Image) (leaves : Outcomes) (c : Parts) (w : Core) : 
   pub waiting : (t : TxnId) → is_running (w.scene.state.part t).life ≡ false → w.scene.waits t ≡ None
   pub put : (t : TxnId) → IsAtWork (w.scene.state.part t).life → IsSome (span_at (txns_at c (home t)) t) → HasPut (w.scene.state.part t).acts
   pub pages : FitsPages seen leaves c w.pages
-  pub bounds : FitsBounds seen c w.bounds
+  pub bounds : FitsBounds seen leaves c w.bounds
   pub doubts : FitsDoubts seen c w.scene.state
 
 -- Whatever a crash leaves of a complex that fits stands for the world's state.

@@ -1,2 +1,5 @@
+pub mod Closed
 pub mod Fits
+pub mod Opened
 pub mod Serving
+pub mod Sums

@@ -229,7 +229,7 @@ module _ (i : ℕ) (t : TxnId) (seen : Image) (leaves : Outcomes) (c new : Parts
     put = has-put;
     pages = subst (λ (p : Parts). FitsPages seen leaves p w.pages) (sym b.is)
         (worked-pages (with_working i (txns_at new i) new.locks c).txns new.locks seen leaves c w.pages f.pages);
-    bounds = subst (λ (p : Parts). FitsBounds seen p (bounds_after w.bounds (Begin i) (reply.Began t))) (sym b.is)
+    bounds = subst (λ (p : Parts). FitsBounds seen leaves p (bounds_after w.bounds (Begin i) (reply.Began t))) (sym b.is)
         (bounds-stay seen (with_working i (txns_at new i) new.locks c) w.bounds (Begin i) (reply.Began t)
         (worked-bounds (with_working i (txns_at new i) new.locks c).txns new.locks seen leaves c w.bounds owes f.bounds));
     doubts = subst (λ (p : Parts). FitsDoubts seen p later) (sym b.is)

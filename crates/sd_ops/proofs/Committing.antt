@@ -28,7 +28,7 @@ use Rattle.sd_txn.specs.declared.state.TxnState.{TxnState}
 use Rattle.sd_chain.specs.Records.{home}
 use Rattle.sd_world.specs.Serving.{Core, Passes, Telling, Turns, did}
 use Rattle.sd_state.specs.Complexes.{parts}
-use Rattle.sd_state.specs.Forcing.{with_failed, with_forced}
+use Rattle.sd_state.specs.Forcing.{KeepMasters, with_failed, with_forced}
 use Rattle.sd_state.specs.Good.{Good}
 use Rattle.sd_state.specs.Images.{Stands}
 use Rattle.sd_state.specs.Parts.{Parts, acting, actor, is_loose, log_at, owed_at, status_at, txns_at}
@@ -135,6 +135,7 @@ pub record IsForcing {G : Type 0} (tell : Telling G) (t : TxnId) (old sealed the
       → Span (tell.moment sealed.rig) (tell.since then.rig) (Stands m pend)
   pub time : Elapses (tell.moment sealed.rig) (tell.moment then.rig) (tell.since sealed.rig) (tell.since then.rig)
   pub others : (d : ℕ) → d ≢ home t → tell.seen then.rig d ≡ tell.seen sealed.rig d
+  pub masters : KeepMasters (tell.leaves sealed.rig) (tell.leaves then.rig)
 
 -- by what each call tells
 pub forcing : {G : Type 0} (tell : Telling G) (t : TxnId) (old sealed then : Complex G) → 1 ≤ home t → home t ≤ 8
@@ -149,8 +150,9 @@ pub forcing : {G : Type 0} (tell : Telling G) (t : TxnId) (old sealed then : Com
     → ((pend : Pending) (m : State) → Good (tell.seen sealed.rig) (tell.leaves sealed.rig) pend (parts sealed) m
     → Span (tell.moment sealed.rig) (tell.since then.rig) (Stands m pend))
     → Elapses (tell.moment sealed.rig) (tell.moment then.rig) (tell.since sealed.rig) (tell.since then.rig)
-    → ((d : ℕ) → d ≢ home t → tell.seen then.rig d ≡ tell.seen sealed.rig d) → IsForcing tell t old sealed then
-forcing tell t old sealed then low high up runs there reads rig ends seals good images time others = record {
+    → ((d : ℕ) → d ≢ home t → tell.seen then.rig d ≡ tell.seen sealed.rig d)
+    → KeepMasters (tell.leaves sealed.rig) (tell.leaves then.rig) → IsForcing tell t old sealed then
+forcing tell t old sealed then low high up runs there reads rig ends seals good images time others masters = record {
   low = low;
   high = high;
   up = up;
@@ -164,6 +166,7 @@ forcing tell t old sealed then low high up runs there reads rig ends seals good 
   images = images;
   time = time;
   others = others;
+  masters = masters;
 }
 
 module _ {G : Type 0} (tell : Telling G) (t : TxnId) (old sealed then : Complex G) (k : IsForcing tell t old sealed then) where
@@ -185,6 +188,9 @@ module _ {G : Type 0} (tell : Telling G) (t : TxnId) (old sealed then : Complex 
 
     disk : tell.seen then.rig 0 ≡ tell.seen old.rig 0
     disk = k.others 0 (other-device i k.low) ∙ ap (λ (d : G). tell.seen d 0) k.rig
+
+    kept : KeepMasters (tell.leaves old.rig) (tell.leaves then.rig)
+    kept = subst (λ (d : G). KeepMasters (tell.leaves d) (tell.leaves then.rig)) k.rig k.masters
 
     life : (m.part t).life ≡ Life.Running
     life = (is-ready (tell.seen old.rig) (tell.leaves old.rig) Pending.Idle (parts old) m f.good t k.low k.high k.up k.runs).runs
@@ -209,7 +215,7 @@ module _ {G : Type 0} (tell : Telling G) (t : TxnId) (old sealed then : Complex 
     pub forced-tail : (w : Core) → fits_by tell.seen tell.leaves old w → (log_at (parts then) i).tail ≡ []
     forced-tail w f = no-tail-left t (tell.seen old.rig) (tell.leaves old.rig) (parts old) w f k.low k.high k.up k.runs (parts sealed) k.reads
         k.ends (ending-good w f) (owed_at (parts then) i) (tell.seen then.rig) (tell.leaves then.rig) (parts then) (is_forced (settled w f))
-        (then-good w f) (disk w f)
+        (then-good w f) (disk w f) (kept w f)
 
     pub forced-idle : (w : Core) → fits_by tell.seen tell.leaves old w → (parts then).due ≡ None
     forced-idle w f = ap (λ (p : Parts). p.due) (is_forced (settled w f)) ∙ ap (λ (p : Parts). p.due) k.ends.is ∙ f.idle
@@ -225,7 +231,7 @@ module _ {G : Type 0} (tell : Telling G) (t : TxnId) (old sealed then : Complex 
           let m : State = w.scene.state in
           let fits = committed-fits t (tell.seen old.rig) (tell.leaves old.rig) (parts old) w f k.low k.high k.up k.runs (parts sealed) k.reads
           k.ends (ending-good w f) (owed_at (parts then) i) (tell.seen then.rig) (tell.leaves then.rig) (parts then) (is_forced (settled w f))
-          (then-good w f) (disk w f) (parts new) is unwaited
+          (then-good w f) (disk w f) (kept w f) (parts new) is unwaited
           (subst (λ (d : G). Good (tell.seen d) (tell.leaves d) Pending.Idle (parts new) (committed t m)) same (good m (then-good w f))) in (
             commit_core t w,
             record {
@@ -288,10 +294,10 @@ module _ {G : Type 0} (tell : Telling G) (t : TxnId) (old sealed then : Complex 
             (ending-pages t (tell.seen old.rig) (tell.leaves old.rig) (parts old) w f k.low k.high k.up k.runs (parts sealed) k.reads k.ends
             (ending-good w f)))
 
-        bounds-then : FitsBounds (tell.seen then.rig) (parts then) (commit_bounds t w)
-        bounds-then = subst (λ (p : Parts). FitsBounds (tell.seen then.rig) p (commit_bounds t w)) (sym is_failed)
+        bounds-then : FitsBounds (tell.seen then.rig) (tell.leaves then.rig) (parts then) (commit_bounds t w)
+        bounds-then = subst (λ (p : Parts). FitsBounds (tell.seen then.rig) (tell.leaves then.rig) p (commit_bounds t w)) (sym is_failed)
             (failed-bounds (actor (parts sealed) i) i (tell.seen old.rig) (tell.seen then.rig) (tell.leaves old.rig) (tell.leaves then.rig)
-            (Pending.Commits t) (parts sealed) w.scene.state (ending-good w f) k.low k.high (settled w f) (disk w f) (commit_bounds t w)
+            (Pending.Commits t) (parts sealed) w.scene.state (ending-good w f) k.low k.high (settled w f) (disk w f) (kept w f) (commit_bounds t w)
             (ending-bounds t (tell.seen old.rig) (tell.leaves old.rig) (parts old) w f k.low k.high k.up k.runs (parts sealed) k.reads k.ends
             (ending-good w f)))
 

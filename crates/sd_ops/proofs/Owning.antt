@@ -52,7 +52,7 @@ module _ (t : TxnId) (r : Rid) (seen_by : Image) (leaves : Outcomes) (c : Parts)
       by Entry.Lost h l = cc
 
   -- and once it has the lock, that is read.
-  pub looked-fits : (b : Bounds) → FitsBounds seen_by c b → (mid : Parts) → IsGranted t r modes.Excl c mid
+  pub looked-fits : (b : Bounds) → FitsBounds seen_by leaves c b → (mid : Parts) → IsGranted t r modes.Excl c mid
       → Fits seen_by leaves mid (record { scene = record { state = looked_at t r (view m t r) m; waits = w.scene.waits }; pages = w.pages; bounds = b })
   looked-fits b bounds mid g = subst (λ (x : Parts). Fits seen_by leaves x (record {
     scene = record { state = looked_at t r (view m t r) m; waits = w.scene.waits };

@@ -135,7 +135,7 @@ module _ (t : TxnId) (r : Rid) (capacity : ℕ) (after : Content) (seen_by : Ima
 -- ---- what is left by a refusal of the change
 
 module _ (seen_by : Image) (leaves : Outcomes) (c new : Parts) (low : IsLowered c new) (w : Core) (f : Fits seen_by leaves c w) where
-  pub lowered-fits : (b : Bounds) → FitsBounds seen_by c b
+  pub lowered-fits : (b : Bounds) → FitsBounds seen_by leaves c b
       → Fits seen_by leaves new (record { scene = w.scene; pages = w.pages; bounds = b })
   lowered-fits b bounds = subst (λ (x : Parts). Fits seen_by leaves x (record { scene = w.scene; pages = w.pages; bounds = b })) (sym low.rest)
       (taken-fits new.locks w.scene.waits w.scene.state b seen_by leaves c w f

@@ -37,7 +37,7 @@ use Rattle.sd_sound.proofs.Room.{end-len}
 use Rattle.sd_world.specs.Bounds.{Bounds, bounds_after}
 use Rattle.sd_world.specs.PageCauses.{NoneSays}
 use Rattle.sd_world.specs.Serving.{Core, Turns}
-use Rattle.sd_state.specs.Forcing.{with_forced}
+use Rattle.sd_state.specs.Forcing.{KeepMasters, with_forced}
 use Rattle.sd_state.specs.Good.{Good}
 use Rattle.sd_state.specs.Parts.{Parts, among, is_loose, log_at, no_log, no_txns, owed_at, status_at, txns_at}
 use Rattle.sd_state.specs.Sealing.{HasEnd, end_of}
@@ -195,8 +195,8 @@ module _ (t : TxnId) (seen : Image) (leaves : Outcomes) (c : Parts) (w : Core) (
         (sealed-pages i h.spare 0 y (slice_set c.txns (i - 1) h.table) c.epochs seen leaves Pending.Idle c m f.good low high settled
         refl refl takes owes w.pages f.pages)
 
-    pub ending-bounds : FitsBounds seen mid (end_bounds t w)
-    ending-bounds = subst (λ (p : Parts). FitsBounds seen p (end_bounds t w)) (sym h.is)
+    pub ending-bounds : FitsBounds seen leaves mid (end_bounds t w)
+    ending-bounds = subst (λ (p : Parts). FitsBounds seen leaves p (end_bounds t w)) (sym h.is)
         (sealed-bounds i h.spare 0 y (slice_set c.txns (i - 1) h.table) c.epochs seen leaves Pending.Idle c m f.good low high settled
         refl refl takes owes w.bounds (end_bounds t w) more f.bounds)
 
@@ -229,7 +229,7 @@ module _ (t : TxnId) (seen : Image) (leaves : Outcomes) (c : Parts) (w : Core) (
 
     module _ (owes_now : ℕ) (seen' : Image) (leaves' : Outcomes) (done : Parts)
         (is_forced : done ≡ with_forced i (forced (log_at mid i)) owes_now mid)
-        (forced_good : Good seen' leaves' (Pending.Idle) done m) (disk : seen' 0 ≡ seen 0) where
+        (forced_good : Good seen' leaves' (Pending.Idle) done m) (disk : seen' 0 ≡ seen 0) (kept : KeepMasters leaves leaves') where
       done-here : log_at done i ≡ forced (log_at mid i)
       done-here = ap (λ (p : Parts). log_at p i) is_forced ∙ item-set no_log mid.logs i (forced (log_at mid i)) low high good.shape.logs
 
@@ -249,10 +249,10 @@ module _ (t : TxnId) (seen : Image) (leaves : Outcomes) (c : Parts) (w : Core) (
       done-pages = subst (λ (p : Parts). FitsPages seen' leaves' p w.pages) (sym is_forced)
           (forced-pages i owes_now seen seen' leaves leaves' (Pending.Idle) mid m good low high ending-settled disk owes-is w.pages ending-pages)
 
-      pub done-bounds : FitsBounds seen' done (end_bounds t w)
-      done-bounds = subst (λ (p : Parts). FitsBounds seen' p (end_bounds t w)) (sym is_forced)
+      pub done-bounds : FitsBounds seen' leaves' done (end_bounds t w)
+      done-bounds = subst (λ (p : Parts). FitsBounds seen' leaves' p (end_bounds t w)) (sym is_forced)
           (forced-bounds i owes_now seen seen' leaves leaves' (Pending.Idle) mid m good low high ending-settled disk owes-is
-          (end_bounds t w) ending-bounds)
+          kept (end_bounds t w) ending-bounds)
 
       done-doubts : FitsDoubts seen' done m
       done-doubts = subst (λ (p : Parts). FitsDoubts seen' p m) (sym is_forced)

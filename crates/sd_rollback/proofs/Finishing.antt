@@ -1,5 +1,5 @@
 -- The end of a whole rollback is served: bare, once its End is forced, or by the fall of its instance where the force failed. For `finish`.
-use Rattle.std.proofs.Common.{◌≡◌, ◌≢◌, ◌⊎◌, inl, inr, ℕ, ◌≤◌, Bool, true, false, cond, List, [], ◌∷◌, length, eq-eqb, get_or, slice_set, refl, sym, ap, ◌∙◌, subst, arith}
+use Rattle.std.proofs.Common.{◌≡◌, ◌≢◌, ◌⊎◌, inl, inr, ℕ, ◌≤◌, Bool, true, false, cond, List, [], ◌∷◌, length, get_or, slice_set, refl, sym, ap, ◌∙◌, subst, arith}
 use Rattle.std.specs.Prelude.{Option, None, Some, IsSome, option_map}
 use Rattle.std.specs.Option.{option_and_then, option_map_or}
 use Rattle.std.proofs.lemmas.List.{get_or-set_same}
@@ -7,7 +7,6 @@ use Rattle.sd_base.specs.Ids.{same_txn}
 use Rattle.sd_base.specs.Streams.{Rises}
 use Rattle.sd_base.specs.Waits.{Wait, with_wait}
 use Rattle.sd_base.specs.declared.ids.TxnId.{TxnId}
-use Rattle.sd_base.specs.declared.place.Status.{Status}
 use Rattle.sd_base.specs.declared.place.Status.TheVariants as S
 use Rattle.sd_base.specs.declared.refusal.Refusal.TheVariants as R
 use Rattle.sd_base.proofs.SameIds.{ne-same}
@@ -28,7 +27,7 @@ use Rattle.sd_chain.specs.Records.{home}
 use Rattle.sd_world.specs.Answers.Fails.{falls}
 use Rattle.sd_world.specs.Serving.{Core, Passes, Telling, Turns}
 use Rattle.sd_state.specs.Complexes.{parts}
-use Rattle.sd_state.specs.Forcing.{with_failed, with_forced}
+use Rattle.sd_state.specs.Forcing.{KeepMasters, with_failed, with_forced}
 use Rattle.sd_state.specs.Good.{Good}
 use Rattle.sd_state.specs.Images.{Stands}
 use Rattle.sd_state.specs.Parts.{Parts, acting, actor, is_loose, log_at, no_txns, owed_at, status_at, txns_at}
@@ -36,7 +35,7 @@ use Rattle.sd_state.specs.Sealing.{HasEnd, MayEnd, end_of}
 use Rattle.sd_state.specs.Values.{Pending}
 use Rattle.sd_state.specs.Working.{with_working}
 use Rattle.sd_state.specs.declared.complex.Complex.{Complex}
-use Rattle.sd_moves.specs.Falling.{IsFallen, is_recovered_by, with_fallen}
+use Rattle.sd_moves.specs.Falling.{IsFallen, with_fallen}
 use Rattle.sd_state.proofs.Items.{item-set}
 use Rattle.sd_fits.specs.Fits.{Fits, FitsBounds, FitsDoubts, FitsPages}
 use Rattle.sd_fits.specs.Serving.{Serving, fits_by, stands_for}
@@ -72,11 +71,6 @@ may-end t c up rolls empty spoken =
       empty = none-open r.0.stack r.3;
       stands = inl (up, r.2);
     }
-
--- who fell is down
-pub fallen-down : (i : ℕ) (c new : Parts) → IsFallen i c new → status_at new i ≡ S.Down
-fallen-down i c new fallen = fallen.status i
-    ∙ ap (λ (b : Bool). cond {A = Status} (cond b true (is_recovered_by i (status_at c i))) S.Down (status_at c i)) (eq-eqb i i refl)
 
 -- ---- bare
 
@@ -138,6 +132,7 @@ pub record IsEnding {G : Type 0} (tell : Telling G) (t : TxnId) (old sealed then
       → Span (tell.moment sealed.rig) (tell.since then.rig) (Stands m pend)
   pub time : Elapses (tell.moment sealed.rig) (tell.moment then.rig) (tell.since sealed.rig) (tell.since then.rig)
   pub others : (d : ℕ) → d ≢ home t → tell.seen then.rig d ≡ tell.seen sealed.rig d
+  pub masters : KeepMasters (tell.leaves sealed.rig) (tell.leaves then.rig)
 
 -- by what each call tells
 pub ending : {G : Type 0} (tell : Telling G) (t : TxnId) (old sealed then : Complex G) → 1 ≤ home t → home t ≤ 8
@@ -152,8 +147,9 @@ pub ending : {G : Type 0} (tell : Telling G) (t : TxnId) (old sealed then : Comp
     → ((pend : Pending) (m : State) → Good (tell.seen sealed.rig) (tell.leaves sealed.rig) pend (parts sealed) m
     → Span (tell.moment sealed.rig) (tell.since then.rig) (Stands m pend))
     → Elapses (tell.moment sealed.rig) (tell.moment then.rig) (tell.since sealed.rig) (tell.since then.rig)
-    → ((d : ℕ) → d ≢ home t → tell.seen then.rig d ≡ tell.seen sealed.rig d) → IsEnding tell t old sealed then
-ending tell t old sealed then low high up rolls empty there reads rig ends seals good images time others = record {
+    → ((d : ℕ) → d ≢ home t → tell.seen then.rig d ≡ tell.seen sealed.rig d)
+    → KeepMasters (tell.leaves sealed.rig) (tell.leaves then.rig) → IsEnding tell t old sealed then
+ending tell t old sealed then low high up rolls empty there reads rig ends seals good images time others masters = record {
   low = low;
   high = high;
   up = up;
@@ -168,6 +164,7 @@ ending tell t old sealed then low high up rolls empty there reads rig ends seals
   images = images;
   time = time;
   others = others;
+  masters = masters;
 }
 
 module _ {G : Type 0} (tell : Telling G) (t : TxnId) (old sealed then : Complex G) (k : IsEnding tell t old sealed then) where
@@ -189,6 +186,9 @@ module _ {G : Type 0} (tell : Telling G) (t : TxnId) (old sealed then : Complex 
 
     disk : tell.seen then.rig 0 ≡ tell.seen old.rig 0
     disk = k.others 0 (other-device i k.low) ∙ ap (λ (d : G). tell.seen d 0) k.rig
+
+    kept : KeepMasters (tell.leaves old.rig) (tell.leaves then.rig)
+    kept = subst (λ (d : G). KeepMasters (tell.leaves d) (tell.leaves then.rig)) k.rig k.masters
 
     its-life : (m.part t).life ≡ Life.Rolling None
     its-life = life t (tell.seen old.rig) (tell.leaves old.rig) (parts old) w f k.low k.high k.up k.rolls k.empty
@@ -212,7 +212,7 @@ module _ {G : Type 0} (tell : Telling G) (t : TxnId) (old sealed then : Complex 
     pub forced-tail : (w : Core) → fits_by tell.seen tell.leaves old w → (log_at (parts then) i).tail ≡ []
     forced-tail w f = no-tail-left t (tell.seen old.rig) (tell.leaves old.rig) (parts old) w f k.low k.high k.up k.rolls k.empty (parts sealed) k.reads
         k.ends (ending-good w f) (owed_at (parts then) i) (tell.seen then.rig) (tell.leaves then.rig) (parts then) (is_forced (settled w f))
-        (then-good w f) (disk w f)
+        (then-good w f) (disk w f) (kept w f)
 
     pub forced-idle : (w : Core) → fits_by tell.seen tell.leaves old w → (parts then).due ≡ None
     forced-idle w f = ap (λ (p : Parts). p.due) (is_forced (settled w f)) ∙ ap (λ (p : Parts). p.due) k.ends.is ∙ f.idle
@@ -244,7 +244,7 @@ module _ {G : Type 0} (tell : Telling G) (t : TxnId) (old sealed then : Complex 
           let m : State = w.scene.state in
           let fits = ended-fits t (tell.seen old.rig) (tell.leaves old.rig) (parts old) w f k.low k.high k.up k.rolls k.empty (parts sealed) k.reads
           k.ends (ending-good w f) (owed_at (parts then) i) (tell.seen then.rig) (tell.leaves then.rig) (parts then) (is_forced (settled w f))
-          (then-good w f) (disk w f) (parts new) is unwaited
+          (then-good w f) (disk w f) (kept w f) (parts new) is unwaited
           (subst (λ (d : G). Good (tell.seen d) (tell.leaves d) Pending.Idle (parts new) (put_part t gone m)) same (good m (then-good w f))) in (
             end_core t w,
             record {
@@ -303,10 +303,10 @@ module _ {G : Type 0} (tell : Telling G) (t : TxnId) (old sealed then : Complex 
             (ending-pages t (tell.seen old.rig) (tell.leaves old.rig) (parts old) w f k.low k.high k.up k.rolls k.empty (parts sealed) k.reads k.ends
             (ending-good w f)))
 
-        bounds-then : FitsBounds (tell.seen then.rig) (parts then) (end_bounds t w)
-        bounds-then = subst (λ (p : Parts). FitsBounds (tell.seen then.rig) p (end_bounds t w)) (sym is_failed)
+        bounds-then : FitsBounds (tell.seen then.rig) (tell.leaves then.rig) (parts then) (end_bounds t w)
+        bounds-then = subst (λ (p : Parts). FitsBounds (tell.seen then.rig) (tell.leaves then.rig) p (end_bounds t w)) (sym is_failed)
             (failed-bounds (actor (parts sealed) i) i (tell.seen old.rig) (tell.seen then.rig) (tell.leaves old.rig) (tell.leaves then.rig)
-            Pending.Idle (parts sealed) w.scene.state (ending-good w f) k.low k.high (settled w f) (disk w f) (end_bounds t w)
+            Pending.Idle (parts sealed) w.scene.state (ending-good w f) k.low k.high (settled w f) (disk w f) (kept w f) (end_bounds t w)
             (ending-bounds t (tell.seen old.rig) (tell.leaves old.rig) (parts old) w f k.low k.high k.up k.rolls k.empty (parts sealed) k.reads k.ends
             (ending-good w f)))
 

@@ -34,7 +34,7 @@ module _ {G : Type 0} (tell : Telling G) (c mid new : Complex G) (i : ℕ) (low 
     (good : Good (tell.seen mid.rig) (tell.leaves mid.rig) Pending.Idle (parts mid) w.scene.state)
     (else : IsElsewhere i (parts c) (parts mid))
     (pages : FitsPages (tell.seen mid.rig) (tell.leaves mid.rig) (parts mid) w.pages)
-    (bounds : FitsBounds (tell.seen mid.rig) (parts mid) w.bounds)
+    (bounds : FitsBounds (tell.seen mid.rig) (tell.leaves mid.rig) (parts mid) w.bounds)
     (doubts : FitsDoubts (tell.seen mid.rig) (parts mid) w.scene.state)
     (same : new.rig ≡ mid.rig) (is : parts new ≡ with_fallen i (parts new) (parts mid))
     (fallen : IsFallen i (parts mid) (parts new))

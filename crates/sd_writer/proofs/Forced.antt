@@ -23,7 +23,7 @@ use Rattle.sd_sound.specs.Logs.{Outcomes, all_at, base_at}
 use Rattle.sd_sound.proofs.Kept.{forced-base, forced-tail}
 use Rattle.sd_world.specs.Serving.{Core, Spares, Telling}
 use Rattle.sd_state.specs.Complexes.{parts}
-use Rattle.sd_state.specs.Forcing.{with_failed, with_forced}
+use Rattle.sd_state.specs.Forcing.{KeepMasters, with_failed, with_forced}
 use Rattle.sd_state.specs.Good.{Good}
 use Rattle.sd_state.specs.Images.{Stands}
 use Rattle.sd_state.specs.Parts.{Parts, active_as, acting, actor, is_active, is_loose, log_at, no_log, owed_at, status_at}
@@ -55,7 +55,7 @@ forced-whole l = ap₂ (λ (b : List Rec) (t : List Record). b ++ map flat t) (f
 -- ---- Ok
 
 module _ (i owes : ℕ) (seen seen' : Image) (leaves leaves' : Outcomes) (c : Parts) (w : Core) (low : 1 ≤ i) (high : i ≤ 8)
-    (f : Fits seen leaves c w) (settled : is_loose c i ≡ false) (disk : seen' 0 ≡ seen 0) where
+    (f : Fits seen leaves c w) (settled : is_loose c i ≡ false) (disk : seen' 0 ≡ seen 0) (kept : KeepMasters leaves leaves') where
   abbrev then : Parts
   then = with_forced i (forced (log_at c i)) owes c
 
@@ -82,7 +82,7 @@ module _ (i owes : ℕ) (seen seen' : Image) (leaves leaves' : Outcomes) (c : Pa
     pages = forced-pages i owes seen seen' leaves leaves' Pending.Idle c w.scene.state f.good low high settled disk is w.pages
         f.pages;
     bounds = forced-bounds i owes seen seen' leaves leaves' Pending.Idle c w.scene.state f.good low high settled disk is
-        w.bounds f.bounds;
+        kept w.bounds f.bounds;
     doubts = forced-doubts i owes seen seen' leaves leaves' Pending.Idle c w.scene.state f.good low high settled disk is
         w.scene.state f.doubts;
   }
@@ -100,7 +100,8 @@ module _ {G : Type 0} (tell : Telling G) (c mid : Complex G) (i : ℕ) (low : 1 
     (images : (pend : Pending) (m : State) → Good (tell.seen c.rig) (tell.leaves c.rig) pend (parts c) m
     → Span (tell.moment c.rig) (tell.since mid.rig) (Stands m pend))
     (time : Elapses (tell.moment c.rig) (tell.moment mid.rig) (tell.since c.rig) (tell.since mid.rig))
-    (others : (d : ℕ) → d ≢ i → tell.seen mid.rig d ≡ tell.seen c.rig d) where
+    (others : (d : ℕ) → d ≢ i → tell.seen mid.rig d ≡ tell.seen c.rig d)
+    (kept : KeepMasters (tell.leaves c.rig) (tell.leaves mid.rig)) where
   disk : tell.seen mid.rig 0 ≡ tell.seen c.rig 0
   disk = others 0 (omega (arith, low))
 
@@ -122,7 +123,7 @@ module _ {G : Type 0} (tell : Telling G) (c mid : Complex G) (i : ℕ) (low : 1 
         ∙ item-set no_log (parts c).logs i (forced (log_at (parts c) i)) low high f.good.shape.logs in
         subst (λ (k : Parts). Fits (tell.seen mid.rig) (tell.leaves mid.rig) k w) (sym is)
         (forced-fits i owes (tell.seen c.rig) (tell.seen mid.rig) (tell.leaves c.rig) (tell.leaves mid.rig) (parts c) w low high
-        f settled disk
+        f settled disk kept
         (subst (λ (k : Parts). Good (tell.seen mid.rig) (tell.leaves mid.rig) Pending.Idle k w.scene.state) is good-then)
         (forced-owes i (tell.seen mid.rig) (tell.leaves mid.rig) Pending.Idle (parts c) (parts mid) w.scene.state low high
         good-then there
@@ -180,10 +181,10 @@ module _ {G : Type 0} (tell : Telling G) (c mid : Complex G) (i : ℕ) (low : 1 
           (failed-pages (actor (parts c) i) i (tell.seen c.rig) (tell.seen mid.rig) (tell.leaves c.rig) (tell.leaves mid.rig)
           Pending.Idle
           (parts c) w.scene.state f.good low high settled disk w.pages f.pages))
-          (subst (λ (k : Parts). FitsBounds (tell.seen mid.rig) k w.bounds) (sym is_failed)
+          (subst (λ (k : Parts). FitsBounds (tell.seen mid.rig) (tell.leaves mid.rig) k w.bounds) (sym is_failed)
           (failed-bounds (actor (parts c) i) i (tell.seen c.rig) (tell.seen mid.rig) (tell.leaves c.rig) (tell.leaves mid.rig)
           Pending.Idle
-          (parts c) w.scene.state f.good low high settled disk w.bounds f.bounds))
+          (parts c) w.scene.state f.good low high settled disk kept w.bounds f.bounds))
           (subst (λ (k : Parts). FitsDoubts (tell.seen mid.rig) k w.scene.state) (sym is_failed)
           (failed-doubts (actor (parts c) i) i (tell.seen c.rig) (tell.seen mid.rig) (tell.leaves c.rig) (tell.leaves mid.rig)
           Pending.Idle

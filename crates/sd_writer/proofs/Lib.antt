@@ -1,4 +1,5 @@
 pub mod Broken
+pub mod Unput
 pub mod Forced
 pub mod Forces
 pub mod Settled

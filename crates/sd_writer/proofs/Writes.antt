@@ -1,49 +1,46 @@
 -- A page write serves its event: for the goals of writing.rt.
-use Rattle.std.proofs.Common.{◌≡◌, inl, ⊎_elim, ℕ, ◌≤◌, Bool, true, false, cond, List, [], ◌∷◌, refl, sym, ap, ◌∙◌, subst, eq-eqb, ne_eqb}
+use Rattle.std.proofs.Common.{◌≡◌, ◌≢◌, inl, ⊎_elim, ℕ, ◌≤◌, Bool, true, false, cond, List, [], ◌∷◌, refl, sym, ap, ◌∙◌, subst, arith, eq-eqb, ne_eqb}
 use Rattle.std.specs.Prelude.{◌||◌, None, Some}
 use Rattle.std.proofs.lemmas.Bool.{cases_eq}
-use Rattle.sd_base.specs.Streams.{Rises}
 use Rattle.sd_base.specs.declared.place.Place.{Place}
 use Rattle.sd_base.specs.declared.refusal.Refusal.{Refusal}
 use Rattle.sd_base.specs.declared.refusal.Refusal.TheVariants as R
-use Rattle.sd_rig.specs.Devices.{Elapses, Image, Leaves, Span}
+use Rattle.sd_rig.specs.Devices.{Elapses, Image, Leaves, LeavesSame, Span}
 use Rattle.sd_chain.specs.Records.{Each}
 use Rattle.sd_model.specs.Applies.{First, Serves as Standing}
-use Rattle.sd_model.specs.State.{State, fall}
+use Rattle.sd_model.specs.State.{State}
 use Rattle.sd_model.specs.declared.cause.Cause.{Cause}
 use Rattle.sd_model.specs.declared.event.Event.{Event}
 use Rattle.sd_model.specs.declared.event.Event.TheVariants.{Flush}
 use Rattle.sd_model.specs.declared.event.Reply.TheVariants as reply
-use Rattle.sd_moves.specs.Falling.{IsFallen, with_fallen}
-use Rattle.sd_moves.specs.Putting.{SameVersions, with_loose_disk, with_written}
+use Rattle.sd_moves.specs.Putting.{SameVersions, with_written}
 use Rattle.sd_pagelock.specs.Asks.{is_open, open_asks}
 use Rattle.sd_pagelock.specs.Directory.{asks_at, entry_at}
 use Rattle.sd_pagelock.specs.Places.{Entry, changed, is_lost, seen}
 use Rattle.sd_pagelock.specs.Rows.{may_write, written}
 use Rattle.sd_pagelock.specs.declared.queue.Ask.{Ask}
 use Rattle.sd_pagelock.proofs.Uses.{clean-written}
-use Rattle.sd_world.specs.Answers.{Fails}
 use Rattle.sd_world.specs.Bounds.{bounds_after}
 use Rattle.sd_world.specs.PageCauses.{IsAway, IsLostFor}
 use Rattle.sd_world.specs.Pages.{Pages, is_duty, placed, put}
 use Rattle.sd_world.specs.Serving.{Core, Passes, Serves, Telling, Turns, refused}
 use Rattle.sd_state.specs.Complexes.{parts}
+use Rattle.sd_state.specs.Forcing.{KeepMasters}
 use Rattle.sd_state.specs.Good.{Good}
+use Rattle.sd_state.proofs.Masters.{masters-less}
 use Rattle.sd_state.specs.Images.{Stands}
 use Rattle.sd_state.specs.Locking.{IsSet}
 use Rattle.sd_state.specs.Parts.{Parts, is_active}
 use Rattle.sd_state.specs.Values.{Pending}
 use Rattle.sd_state.specs.declared.complex.Complex.{Complex}
-use Rattle.sd_fits.specs.Fits.{Fits, FitsBounds, FitsDoubts, FitsPages}
+use Rattle.sd_fits.specs.Fits.{Fits, FitsPages}
 use Rattle.sd_fits.specs.Serving.{Serving, fits_by, stands_for}
-use Rattle.sd_fits.proofs.Falling.{IsElsewhere}
 use Rattle.sd_fits.proofs.Places.{placed-pages, repaged, turns-repaged}
-use Rattle.sd_fits.proofs.Served.{bounds-stay, none-ended, passed, still-serves}
-use Rattle.sd_fits.proofs.Refused.{IsFor, active-serves, idle-refuses, refused-serves, refused-turns, unlike}
+use Rattle.sd_fits.proofs.Served.{bounds-stay, none-ended, still-serves}
+use Rattle.sd_fits.proofs.Refused.{IsFor, active-serves, idle-refuses, refused-serves, unlike}
 use Rattle.sd_writer.specs.Breaking.{BreaksBy}
 use Rattle.sd_writer.specs.Writing.{IsWriters, IsWritten, StaysUnwritten}
-use Rattle.sd_writer.proofs.Broken.{broken-serves}
-use Rattle.sd_fits.proofs.Putting.{put-bounds, put-doubts, put-fits, put-pages}
+use Rattle.sd_fits.proofs.Putting.{put-fits}
 use Rattle.sd_writer.proofs.Settled.{settled-page}
 
 -- ---- a page that isn't changed
@@ -167,22 +164,6 @@ module _ {G : Type 0} (tell : Telling G) (c : Complex G) (i p : ℕ) (low : 1 �
       unused = tt;
     }
 
-    broke : IsWriters (parts c) i p → IsFor m w event R.Failed Cause.Rig
-    broke may = record {
-      waits = refl;
-      whom = tt;
-      unused = tt;
-      allowed = tt;
-      names = refl;
-      tells = tt;
-      first = first-rig may.active;
-      refuses = inl refl;
-      passes = (tt, (tt, (found may.found, (there may.duty, tt))));
-      says = λ never. absurd (cc);
-      place = tt;
-      left = Fails.stays refl refl;
-    }
-
     abbrev pages : Pages
     pages = placed p (written (w.pages.entry p)) w.pages
 
@@ -265,7 +246,12 @@ module _ {G : Type 0} (tell : Telling G) (c : Complex G) (i p : ℕ) (low : 1 �
       (images : (pend : Pending) (m : State) → Good (tell.seen c.rig) (tell.leaves c.rig) pend (parts c) m
       → Span (tell.moment c.rig) (tell.since mid.rig) (Stands m pend))
       (time : Elapses (tell.moment c.rig) (tell.moment mid.rig) (tell.since c.rig) (tell.since mid.rig))
-      (versions : SameVersions (tell.seen c.rig) (tell.seen mid.rig) (parts c)) where
+      (versions : SameVersions (tell.seen c.rig) (tell.seen mid.rig) (parts c))
+      (others_leave : (d : ℕ) → d ≢ 0 → LeavesSame (tell.leaves c.rig d) (tell.leaves mid.rig d)) where
+    kept : KeepMasters (tell.leaves c.rig) (tell.leaves mid.rig)
+    kept = masters-less (tell.leaves c.rig) (tell.leaves mid.rig)
+        (λ j lo bytes left. (others_leave j (λ e. omega (arith, lo, e)) bytes).0 left)
+
     good-then : (w : Core) → fits_by tell.seen tell.leaves c w
         → Good (tell.seen mid.rig) (tell.leaves mid.rig) Pending.Idle (parts mid) w.scene.state
     good-then w f = good Pending.Idle w.scene.state f.good
@@ -274,17 +260,6 @@ module _ {G : Type 0} (tell : Telling G) (c : Complex G) (i p : ℕ) (low : 1 �
     passes-on w f = record {
       time = time;
       span = record { each = λ img s. inl ((images Pending.Idle w.scene.state f.good).each img s) };
-    }
-
-    same-pages : (w : Core) → fits_by tell.seen tell.leaves c w
-        → FitsPages (tell.seen c.rig) (tell.leaves c.rig)
-        (record (parts c) { pools = (parts c).pools; directory = (parts c).directory }) w.pages
-    same-pages w f = record {
-      frames = f.pages.frames;
-      entry = f.pages.entry;
-      asks = f.pages.asks;
-      number = f.pages.number;
-      begun = f.pages.begun;
     }
 
     module _ (is : parts mid ≡ with_written (parts mid).directory (parts c))
@@ -303,7 +278,7 @@ module _ {G : Type 0} (tell : Telling G) (c : Complex G) (i p : ℕ) (low : 1 �
           (repaged w (pages w f) event reply.Did)) (sym is)
           (put-fits false (parts mid).directory (tell.seen c.rig) (tell.seen mid.rig) (tell.leaves c.rig) (tell.leaves mid.rig)
           (parts c)
-          versions w f (pages w f) (bounds_after w.bounds event reply.Did)
+          versions kept w f (pages w f) (bounds_after w.bounds event reply.Did)
           (subst (λ (k : Parts). Good (tell.seen mid.rig) (tell.leaves mid.rig) Pending.Idle k w.scene.state) is (good-then w f))
           (done-pages w f) (bounds-stay (tell.seen c.rig) (parts c) w.bounds event reply.Did f.bounds))
 
@@ -322,56 +297,3 @@ module _ {G : Type 0} (tell : Telling G) (c : Complex G) (i p : ℕ) (low : 1 �
       put-stands any dirty = settled-page p (tell.seen mid.rig) (tell.leaves mid.rig) Pending.Idle (parts mid) any.0.scene.state
           (good-then any.0 any.1) (ap (λ (k : Parts). k.due) is ∙ any.1.idle)
           (ap changed set.entry ∙ clean-written here (ap (λ (b : Bool). b || is_lost here) dirty))
-
-    -- a read failed: nothing changes that the world tells
-    pub unread-served : parts mid ≡ with_loose_disk false (parts c) → Rises (tell.faults c.rig) (tell.faults mid.rig)
-        → Serving tell event (Some (reply.Refused R.Failed)) c mid
-    unread-served is rises = (
-      λ w f. (
-        passed w w.scene.waits event (reply.Refused R.Failed),
-        record {
-          turns = refused-turns (tell.seen c.rig) (tell.leaves c.rig) (parts c) w f event R.Failed Cause.Rig (broke w f may);
-          fits_then = subst (λ (k : Parts). Fits (tell.seen mid.rig) (tell.leaves mid.rig) k
-              (passed w w.scene.waits event (reply.Refused R.Failed)))
-              (sym is)
-              (put-fits false (parts c).directory (tell.seen c.rig) (tell.seen mid.rig) (tell.leaves c.rig)
-              (tell.leaves mid.rig) (parts c)
-              versions w f w.pages (bounds_after w.bounds event (reply.Refused R.Failed))
-              (subst (λ (k : Parts). Good (tell.seen mid.rig) (tell.leaves mid.rig) Pending.Idle k w.scene.state) is
-              (good-then w f))
-              (same-pages w f) (bounds-stay (tell.seen c.rig) (parts c) w.bounds event (reply.Refused R.Failed) f.bounds));
-          passes = passes-on w f;
-        },
-      ),
-      rises,
-    )
-
-    -- a write failed, and the instance fell
-    module _ (is_loose : parts mid ≡ with_loose_disk true (parts c)) where
-      else : IsElsewhere i (parts c) (parts mid)
-      else = subst (IsElsewhere i (parts c)) (sym is_loose)
-          (record { logs = λ j ne. refl; txns = λ j ne. refl; waits = λ t. refl })
-
-      pub unwritten-served : (new : Complex G) → new.rig ≡ mid.rig → parts new ≡ with_fallen i (parts new) (parts mid)
-          → IsFallen i (parts mid) (parts new)
-          → ((m : State) → Good (tell.seen mid.rig) (tell.leaves mid.rig) Pending.Idle (parts mid) m
-          → Good (tell.seen new.rig) (tell.leaves new.rig) Pending.Idle (parts new) (fall i m))
-          → Rises (tell.faults c.rig) (tell.faults mid.rig) → Serving tell event (Some (reply.Refused R.Failed)) c new
-      unwritten-served new same is fallen down rises = (
-        λ w f. broken-serves tell c mid new i low high w f (good-then w f) else
-            (subst (λ (k : Parts). FitsPages (tell.seen mid.rig) (tell.leaves mid.rig) k w.pages) (sym is_loose)
-            (put-pages true (parts c).directory (tell.seen c.rig) (tell.seen mid.rig) (tell.leaves c.rig) (tell.leaves mid.rig)
-            (parts c)
-            versions w.pages (same-pages w f)))
-            (subst (λ (k : Parts). FitsBounds (tell.seen mid.rig) k w.bounds) (sym is_loose)
-            (put-bounds true (parts c).directory (tell.seen c.rig) (tell.seen mid.rig) (tell.leaves c.rig) (tell.leaves mid.rig)
-            (parts c)
-            versions w.bounds f.bounds))
-            (subst (λ (k : Parts). FitsDoubts (tell.seen mid.rig) k w.scene.state) (sym is_loose)
-            (put-doubts true (parts c).directory (tell.seen c.rig) (tell.seen mid.rig) (tell.leaves c.rig) (tell.leaves mid.rig)
-            (parts c)
-            versions w.scene.state f.doubts))
-            same is fallen (down w.scene.state (good-then w f)) time (images Pending.Idle w.scene.state f.good) event
-            (flush-breaks w f may),
-        subst (λ (d : G). Rises (tell.faults c.rig) (tell.faults d)) (sym same) rises,
-      )

@@ -10,7 +10,8 @@
 //! Knows nothing of: whose turn it is, what is noted of an answer.
 //! Stands on: sd_base, sd_model, sd_page, sd_logrec, sd_rig, sd_log, sd_pool, sd_txn, sd_reclock, sd_pagelock, sd_chain,
 //! sd_coherent, sd_sound, sd_world, sd_state, sd_fits, sd_moves.
-//! Lends: in `proofs`, how an event by which a device failed and an instance fell is served (`Broken`).
+//! Lends: in `proofs`, how an event by which a device failed and an instance fell is served (`Broken`), and one whose put failed
+//! (`Unput`).
 //! Held by the caller: that no fall is due, which `Fits` says.
 //!
 //! To change:

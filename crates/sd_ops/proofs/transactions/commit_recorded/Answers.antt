@@ -45,7 +45,7 @@ committed-requires-clause-idle g c =
     let s = c.seal_commit.ensures in
     let e = c.in-Ok.ensures in
     let k = forcing tell t c.args.c.now c.seal_commit.new.self c.force_log.new.self n.low n.high r.up r.runs r.there
-    (λ dev few. g.met.G.Rig.leaves_seen c.args.c.now.rig dev few) s.rig s.parts s.good e.good e.images e.time e.others in
+    (λ dev few. g.met.G.Rig.leaves_seen c.args.c.now.rig dev few) s.rig s.parts s.good e.good e.images e.time e.others e.masters in
     forced-idle tell t c.args.c.now c.seal_commit.new.self c.force_log.new.self k e.forced r.fits.0 r.fits.1
 
 pub committed-requires-clause-forced : goal.committed-requires-clause-forced
@@ -57,7 +57,7 @@ committed-requires-clause-forced g c =
     let s = c.seal_commit.ensures in
     let e = c.in-Ok.ensures in
     let k = forcing tell t c.args.c.now c.seal_commit.new.self c.force_log.new.self n.low n.high r.up r.runs r.there
-    (λ dev few. g.met.G.Rig.leaves_seen c.args.c.now.rig dev few) s.rig s.parts s.good e.good e.images e.time e.others in
+    (λ dev few. g.met.G.Rig.leaves_seen c.args.c.now.rig dev few) s.rig s.parts s.good e.good e.images e.time e.others e.masters in
     forced-tail tell t c.args.c.now c.seal_commit.new.self c.force_log.new.self k e.forced r.fits.0 r.fits.1
 
 pub returns-in-Ok-clause-served : goal.returns-in-Ok-clause-served
@@ -69,7 +69,7 @@ returns-in-Ok-clause-served g c =
     let s = c.seal_commit.ensures in
     let e = c.in-Ok.ensures in
     let k = forcing tell t c.args.c.now c.seal_commit.new.self c.force_log.new.self n.low n.high r.up r.runs r.there
-    (λ dev few. g.met.G.Rig.leaves_seen c.args.c.now.rig dev few) s.rig s.parts s.good e.good e.images e.time e.others in
+    (λ dev few. g.met.G.Rig.leaves_seen c.args.c.now.rig dev few) s.rig s.parts s.good e.good e.images e.time e.others e.masters in
     let d = c.committed.ensures in
     forced-served tell t c.args.c.now c.seal_commit.new.self c.force_log.new.self k e.forced c.committed.new.self d.rig e.quiet d.parts
     d.waits d.good
@@ -83,7 +83,7 @@ cut-requires-clause-due g c =
     let s = c.seal_commit.ensures in
     let e = c.in-Err.ensures in
     let k = forcing tell t c.args.c.now c.seal_commit.new.self c.force_log.new.self n.low n.high r.up r.runs r.there
-    (λ dev few. g.met.G.Rig.leaves_seen c.args.c.now.rig dev few) s.rig s.parts s.good e.good e.images e.time e.others in
+    (λ dev few. g.met.G.Rig.leaves_seen c.args.c.now.rig dev few) s.rig s.parts s.good e.good e.images e.time e.others e.masters in
     failed-due tell t c.args.c.now c.seal_commit.new.self c.force_log.new.self k e.failed r.fits.0 r.fits.1
 
 pub returns-in-Err-clause-served : goal.returns-in-Err-clause-served
@@ -95,7 +95,7 @@ returns-in-Err-clause-served g c =
     let s = c.seal_commit.ensures in
     let e = c.in-Err.ensures in
     let k = forcing tell t c.args.c.now c.seal_commit.new.self c.force_log.new.self n.low n.high r.up r.runs r.there
-    (λ dev few. g.met.G.Rig.leaves_seen c.args.c.now.rig dev few) s.rig s.parts s.good e.good e.images e.time e.others in
+    (λ dev few. g.met.G.Rig.leaves_seen c.args.c.now.rig dev few) s.rig s.parts s.good e.good e.images e.time e.others e.masters in
     let d = c.cut.ensures in
     cut-served tell t c.args.c.now c.seal_commit.new.self c.force_log.new.self k e.failed c.cut.new.c d.rig d.parts d.fallen d.good e.cause
 

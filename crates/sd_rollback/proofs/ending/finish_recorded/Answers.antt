@@ -9,7 +9,8 @@ use Rattle.sd_world.specs.Serving.{Telling, telling}
 use Rattle.sd_fits.proofs.Disk.{disk-leaves, disk-same}
 use Rattle.sd_fits.proofs.Heads.{some-there}
 use Rattle.sd_rollback.proofs.Finishing.{ending, failed-due, failed-served, forced-bare, forced-idle, forced-rolls, forced-served, forced-tail}
-use Rattle.sd_rollback.proofs.Finishing.{fallen-down, forced-up, may-end}
+use Rattle.sd_fits.proofs.Falling.{fallen-down}
+use Rattle.sd_rollback.proofs.Finishing.{forced-up, may-end}
 use Rattle.sd_rollback.proofs.ending.finish_recorded.Goals as goal
 
 pub seal_end-requires-clause-numbered : goal.seal_end-requires-clause-numbered
@@ -53,7 +54,7 @@ rolled_back-requires-clause-idle g c =
     let e = c.in-Ok.ensures in
     let ends = when_ok c.seal_end.result tt _ (s.there r.up) s.parts in
     let k = ending tell t c.args.c.now c.seal_end.new.self c.force_log.new.self n.low n.high r.up r.rolls r.empty r.there
-    (λ dev few. g.met.G.Rig.leaves_seen c.args.c.now.rig dev few) s.rig ends s.good e.good e.images e.time e.others in
+    (λ dev few. g.met.G.Rig.leaves_seen c.args.c.now.rig dev few) s.rig ends s.good e.good e.images e.time e.others e.masters in
     forced-idle tell t c.args.c.now c.seal_end.new.self c.force_log.new.self k e.forced r.fits.0 r.fits.1
 
 pub rolled_back-requires-clause-up : goal.rolled_back-requires-clause-up
@@ -66,7 +67,7 @@ rolled_back-requires-clause-up g c =
     let e = c.in-Ok.ensures in
     let ends = when_ok c.seal_end.result tt _ (s.there r.up) s.parts in
     let k = ending tell t c.args.c.now c.seal_end.new.self c.force_log.new.self n.low n.high r.up r.rolls r.empty r.there
-    (λ dev few. g.met.G.Rig.leaves_seen c.args.c.now.rig dev few) s.rig ends s.good e.good e.images e.time e.others in
+    (λ dev few. g.met.G.Rig.leaves_seen c.args.c.now.rig dev few) s.rig ends s.good e.good e.images e.time e.others e.masters in
     forced-up tell t c.args.c.now c.seal_end.new.self c.force_log.new.self k e.forced r.fits.0 r.fits.1
 
 pub rolled_back-requires-clause-rolls : goal.rolled_back-requires-clause-rolls
@@ -79,7 +80,7 @@ rolled_back-requires-clause-rolls g c =
     let e = c.in-Ok.ensures in
     let ends = when_ok c.seal_end.result tt _ (s.there r.up) s.parts in
     let k = ending tell t c.args.c.now c.seal_end.new.self c.force_log.new.self n.low n.high r.up r.rolls r.empty r.there
-    (λ dev few. g.met.G.Rig.leaves_seen c.args.c.now.rig dev few) s.rig ends s.good e.good e.images e.time e.others in
+    (λ dev few. g.met.G.Rig.leaves_seen c.args.c.now.rig dev few) s.rig ends s.good e.good e.images e.time e.others e.masters in
     forced-rolls tell t c.args.c.now c.seal_end.new.self c.force_log.new.self k e.forced r.fits.0 r.fits.1
 
 pub rolled_back-requires-clause-bare : goal.rolled_back-requires-clause-bare
@@ -92,7 +93,7 @@ rolled_back-requires-clause-bare g c =
     let e = c.in-Ok.ensures in
     let ends = when_ok c.seal_end.result tt _ (s.there r.up) s.parts in
     let k = ending tell t c.args.c.now c.seal_end.new.self c.force_log.new.self n.low n.high r.up r.rolls r.empty r.there
-    (λ dev few. g.met.G.Rig.leaves_seen c.args.c.now.rig dev few) s.rig ends s.good e.good e.images e.time e.others in
+    (λ dev few. g.met.G.Rig.leaves_seen c.args.c.now.rig dev few) s.rig ends s.good e.good e.images e.time e.others e.masters in
     forced-bare tell t c.args.c.now c.seal_end.new.self c.force_log.new.self k e.forced r.fits.0 r.fits.1
 
 pub rolled_back-requires-clause-ended : goal.rolled_back-requires-clause-ended
@@ -105,7 +106,7 @@ rolled_back-requires-clause-ended g c =
     let e = c.in-Ok.ensures in
     let ends = when_ok c.seal_end.result tt _ (s.there r.up) s.parts in
     let k = ending tell t c.args.c.now c.seal_end.new.self c.force_log.new.self n.low n.high r.up r.rolls r.empty r.there
-    (λ dev few. g.met.G.Rig.leaves_seen c.args.c.now.rig dev few) s.rig ends s.good e.good e.images e.time e.others in
+    (λ dev few. g.met.G.Rig.leaves_seen c.args.c.now.rig dev few) s.rig ends s.good e.good e.images e.time e.others e.masters in
     inr (forced-tail tell t c.args.c.now c.seal_end.new.self c.force_log.new.self k e.forced r.fits.0 r.fits.1)
 
 pub returns-in-Ok-clause-served : goal.returns-in-Ok-clause-served
@@ -118,7 +119,7 @@ returns-in-Ok-clause-served g c =
     let e = c.in-Ok.ensures in
     let ends = when_ok c.seal_end.result tt _ (s.there r.up) s.parts in
     let k = ending tell t c.args.c.now c.seal_end.new.self c.force_log.new.self n.low n.high r.up r.rolls r.empty r.there
-    (λ dev few. g.met.G.Rig.leaves_seen c.args.c.now.rig dev few) s.rig ends s.good e.good e.images e.time e.others in
+    (λ dev few. g.met.G.Rig.leaves_seen c.args.c.now.rig dev few) s.rig ends s.good e.good e.images e.time e.others e.masters in
     let d = c.rolled_back.ensures in
     forced-served tell t c.args.c.now c.seal_end.new.self c.force_log.new.self k e.forced c.rolled_back.new.self d.rig e.quiet d.parts d.waits d.good
 
@@ -132,7 +133,7 @@ down-requires-clause-due g c =
     let e = c.in-Err.ensures in
     let ends = when_ok c.seal_end.result tt _ (s.there r.up) s.parts in
     let k = ending tell t c.args.c.now c.seal_end.new.self c.force_log.new.self n.low n.high r.up r.rolls r.empty r.there
-    (λ dev few. g.met.G.Rig.leaves_seen c.args.c.now.rig dev few) s.rig ends s.good e.good e.images e.time e.others in
+    (λ dev few. g.met.G.Rig.leaves_seen c.args.c.now.rig dev few) s.rig ends s.good e.good e.images e.time e.others e.masters in
     failed-due tell t c.args.c.now c.seal_end.new.self c.force_log.new.self k e.failed r.fits.0 r.fits.1
 
 pub returns-in-Err-clause-served : goal.returns-in-Err-clause-served
@@ -145,7 +146,7 @@ returns-in-Err-clause-served g c =
     let e = c.in-Err.ensures in
     let ends = when_ok c.seal_end.result tt _ (s.there r.up) s.parts in
     let k = ending tell t c.args.c.now c.seal_end.new.self c.force_log.new.self n.low n.high r.up r.rolls r.empty r.there
-    (λ dev few. g.met.G.Rig.leaves_seen c.args.c.now.rig dev few) s.rig ends s.good e.good e.images e.time e.others in
+    (λ dev few. g.met.G.Rig.leaves_seen c.args.c.now.rig dev few) s.rig ends s.good e.good e.images e.time e.others e.masters in
     let d = c.down.ensures in
     failed-served tell t c.args.c.now c.seal_end.new.self c.force_log.new.self k e.failed c.down.new.c d.rig d.parts d.fallen d.good e.cause
 

@@ -28,10 +28,10 @@ down-requires-clause-due g c =
       c.args.i,
       force-due tell c.args.c.now c.force_log.new.self c.args.i c.instances.ensures.low c.instances.ensures.high force.good
           force.images
-          force.time force.others failed settled c.requires.active,
+          force.time force.others force.masters failed settled c.requires.active,
       force-loose tell c.args.c.now c.force_log.new.self c.args.i c.instances.ensures.low c.instances.ensures.high force.good
           force.images
-          force.time force.others failed settled c.requires.fits.0 c.requires.fits.1,
+          force.time force.others force.masters failed settled c.requires.fits.0 c.requires.fits.1,
     )
 
 pub returns-then-is_err-clause-failed : goal.returns-then-is_err-clause-failed
@@ -44,7 +44,7 @@ returns-then-is_err-clause-failed g c =
     let down = c.down.ensures in
     force-fails tell c.args.c.now c.force_log.new.self c.args.i c.instances.ensures.low c.instances.ensures.high force.good
     force.images
-    force.time force.others failed settled c.down.new.c down.rig down.parts down.fallen down.good
+    force.time force.others force.masters failed settled c.down.new.c down.rig down.parts down.fallen down.good
     (was-err c.force_log.result _ erred force.cause)
 
 pub returns-clause-spared : goal.returns-clause-spared
@@ -54,7 +54,7 @@ returns-clause-spared g c =
     let ok = c.if-is_err.ensures.value in
     force-spares tell c.args.c.now c.force_log.new.self c.args.i c.instances.ensures.low c.instances.ensures.high force.good
     force.images
-    force.time force.others (λ loose. let same = force.loose loose in (same.0, same.1))
+    force.time force.others force.masters (λ loose. let same = force.loose loose in (same.0, same.1))
     (λ settled. not-err c.force_log.result _ ok (force.forced settled)) (not-err c.force_log.result _ ok force.quiet)
 
 pub returns-clause-forced : goal.returns-clause-forced

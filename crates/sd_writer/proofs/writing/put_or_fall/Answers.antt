@@ -1,11 +1,13 @@
 use Rattle.std.proofs.Common.{◌≡◌, inl, ap, ◌∙◌, subst}
+use Rattle.sd_model.specs.declared.event.Event.TheVariants.{Flush}
 use Rattle.sd_moves.specs.Putting.{left_after}
 use Rattle.sd_moves.specs.declared.putting.Unput.{Unput}
 use Rattle.sd_state.specs.Complexes.{parts}
 use Rattle.sd_state.specs.Parts.{Parts}
 use Rattle.sd_state.specs.Values.{Pending}
 use Rattle.sd_world.specs.Serving.{telling}
-use Rattle.sd_writer.proofs.Writes.{put-served, put-stands, unread-served, unwritten-served}
+use Rattle.sd_writer.proofs.Unput.{unread-served, unwritten-served}
+use Rattle.sd_writer.proofs.Writes.{flush-breaks, put-served, put-stands}
 use Rattle.sd_writer.proofs.writing.put_or_fall.Goals as goal
 
 pub put_page-requires-clause-good : goal.put_page-requires-clause-good
@@ -22,7 +24,7 @@ returns-in-Ok-clause-served g c =
     let put = c.in-Ok.ensures in
     put-served tell c.args.c.now c.args.i c.args.p c.instances.ensures.low c.instances.ensures.high c.put_page.new.c
     c.requires.may
-    put.good put.images put.time put.versions put.written put.place put.quiet
+    put.good put.images put.time put.versions put.others_leave put.written put.place put.quiet
 
 pub returns-in-Ok-clause-written : goal.returns-in-Ok-clause-written
 returns-in-Ok-clause-written g c =
@@ -30,17 +32,16 @@ returns-in-Ok-clause-written g c =
     let put = c.in-Ok.ensures in
     put-stands tell c.args.c.now c.args.i c.args.p c.instances.ensures.low c.instances.ensures.high c.put_page.new.c
     c.requires.may
-    put.good put.images put.time put.versions put.written put.place put.quiet c.requires.fits c.requires.changed
+    put.good put.images put.time put.versions put.others_leave put.written put.place put.quiet c.requires.fits c.requires.changed
 
 pub returns-in-Err-Unread-clause-served : goal.returns-in-Err-Unread-clause-served
 returns-in-Err-Unread-clause-served g c =
     let tell = telling g.G.Rig.seen g.G.Rig.leaves g.G.Rig.moment g.G.Rig.since g.G.Rig.faults in
     let put = c.in-Err-Unread.ensures in
-    unread-served tell c.args.c.now c.args.i c.args.p c.instances.ensures.low c.instances.ensures.high c.put_page.new.c
-    c.requires.may
-    put.good put.images put.time put.versions
+    unread-served tell c.args.c.now c.put_page.new.c c.args.i (Flush c.args.i c.args.p)
+    (λ w f. flush-breaks tell c.args.c.now c.args.i c.args.p c.instances.ensures.low c.instances.ensures.high w f c.requires.may)
+    put.good put.images put.time put.versions put.others_leave put.cause
     (subst (λ (e : Unput). parts c.put_page.new.c ≡ left_after e (parts c.args.c.now)) c.in-Err-Unread.field-0-is put.errors)
-    put.cause
 
 pub down-requires-clause-good : goal.down-requires-clause-good
 down-requires-clause-good g c =
@@ -59,8 +60,8 @@ returns-in-Err-Unwritten-clause-served g c =
     let tell = telling g.G.Rig.seen g.G.Rig.leaves g.G.Rig.moment g.G.Rig.since g.G.Rig.faults in
     let put = c.in-Err-Unwritten.ensures in
     let down = c.down.ensures in
-    unwritten-served tell c.args.c.now c.args.i c.args.p c.instances.ensures.low c.instances.ensures.high c.put_page.new.c
-    c.requires.may
-    put.good put.images put.time put.versions
+    unwritten-served tell c.args.c.now c.put_page.new.c c.args.i (Flush c.args.i c.args.p)
+    (λ w f. flush-breaks tell c.args.c.now c.args.i c.args.p c.instances.ensures.low c.instances.ensures.high w f c.requires.may)
+    put.good put.images put.time put.versions put.others_leave put.cause c.instances.ensures.low c.instances.ensures.high
     (subst (λ (e : Unput). parts c.put_page.new.c ≡ left_after e (parts c.args.c.now)) c.in-Err-Unwritten.field-0-is put.errors)
-    c.down.new.c down.rig down.parts down.fallen down.good put.cause
+    c.down.new.c down.rig down.parts down.fallen down.good
