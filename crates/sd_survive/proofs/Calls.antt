@@ -1,8 +1,7 @@
 -- What the calls of a join require, of what those before them left: for the goals of `join` of src/joining.rt.
-use Rattle.std.proofs.Common.{◌≡◌, ◌⊎◌, inr, ⊎_elim, ℕ, ◌≤◌, true, false, [], ap, ◌∙◌, subst, sym, arith}
-use Rattle.std.specs.Prelude.{None, Some, length}
+use Rattle.std.proofs.Common.{◌≡◌, ◌⊎◌, inr, ⊎_elim, ℕ, ◌≤◌, true, false, [], ap, ◌∙◌, arith}
+use Rattle.std.specs.Prelude.{None, Some}
 use Rattle.std.proofs.lemmas.List.{get_or-set_same}
-use Rattle.sd_base.specs.declared.place.Status.{Status}
 use Rattle.sd_log.specs.Logs.{LogState, forced}
 use Rattle.sd_rig.specs.Devices as rig
 use Rattle.sd_sound.specs.Logs.{Outcomes}

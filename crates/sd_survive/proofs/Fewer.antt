@@ -1,6 +1,6 @@
 -- The Start of an instance's epoch is under way: a complex that is good is good, too, where no more joins of the instance failed
 -- than that epoch tells. For what a crash leaves of `join` of src/joining.rt.
-use Rattle.std.proofs.Common.{◌≡◌, ◌≢◌, ◌⊎◌, inl, inr, ⊎_elim, ℕ, ◌+◌, ◌<◌, ◌≤◌, Bool, false, cond, List, [], ◌∷◌, ◌++◌}
+use Rattle.std.proofs.Common.{◌≡◌, ◌≢◌, inl, inr, ⊎_elim, ℕ, ◌+◌, ◌<◌, ◌≤◌, Bool, false, cond, List, [], ◌∷◌, ◌++◌}
 use Rattle.std.proofs.Common.{refl, sym, ap, ◌∙◌, subst, arith, eq-eqb, ne_eqb}
 use Rattle.std.specs.Prelude.{is_some}
 use Rattle.std.proofs.lemmas.Bool.{cases_eq}
@@ -190,6 +190,7 @@ module _ (i n : ℕ) (seen : rig.Image) (leaves : Outcomes) (c : Parts) (m : Sta
     shape = g.shape;
     half = few-half;
     places = g.places;
+    others = g.others;
     settled = g.settled;
     disk_settled = g.disk_settled;
     disk_lsns = g.disk_lsns;

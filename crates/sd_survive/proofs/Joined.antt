@@ -1,11 +1,11 @@
 -- A join that comes to the force of its Start serves its event: for the goals of `join`.
-use Rattle.std.proofs.Common.{◌≡◌, ◌≢◌, ◌⊎◌, inl, inr, ℕ, ◌+◌, ◌-◌, ◌<◌, ◌≤◌, false, refl, sym, ap, ◌∙◌, subst, arith, ⊎_elim}
-use Rattle.std.specs.Prelude.{None, Some}
+use Rattle.std.proofs.Common.{◌≡◌, ◌≢◌, inr, ℕ, ◌+◌, ◌-◌, ◌≤◌, false, refl, sym, ap, ◌∙◌, subst, arith}
+use Rattle.std.specs.Prelude.{None}
 use Rattle.sd_base.specs.Waits.{with_wait}
 use Rattle.sd_base.specs.declared.refusal.Refusal.TheVariants as R
 use Rattle.sd_log.specs.Logs.{forced, with_record}
 use Rattle.sd_logrec.specs.declared.record.Record.TheVariants as records
-use Rattle.sd_rig.specs.Devices.{Elapses, Image, Span}
+use Rattle.sd_rig.specs.Devices.{Elapses, Span}
 use Rattle.sd_model.specs.Applies.{First, IsNotDown, IsNotRecovered}
 use Rattle.sd_model.specs.Fields.{nobody}
 use Rattle.sd_model.specs.Refusing.{counted}
@@ -17,12 +17,12 @@ use Rattle.sd_model.specs.declared.event.Event.TheVariants.{Join}
 use Rattle.sd_model.specs.declared.event.Reply.{Reply}
 use Rattle.sd_model.specs.declared.event.Reply.TheVariants as reply
 use Rattle.sd_model.proofs.Steps.{join-step}
-use Rattle.sd_sound.specs.Logs.{Outcomes, next_lsn}
+use Rattle.sd_sound.specs.Logs.{next_lsn}
 use Rattle.sd_world.specs.Answers.Fails.{falls}
 use Rattle.sd_world.specs.Bounds.{bounds_after}
 use Rattle.sd_world.specs.Serving.{Core, Passes, Serves, Telling, Turns}
 use Rattle.sd_state.specs.Complexes.{parts}
-use Rattle.sd_state.specs.Forcing.{with_failed, with_forced}
+use Rattle.sd_state.specs.Forcing.{KeepMasters, with_failed, with_forced}
 use Rattle.sd_state.specs.Good.{Good}
 use Rattle.sd_state.specs.Images.{Stands}
 use Rattle.sd_state.specs.Joining.{with_joined}
@@ -62,6 +62,7 @@ pub record HasStarted {G : Type 0} (tell : Telling G) (i lsn epoch spare : ℕ) 
       → Span (tell.moment s.rig) (tell.since k.rig) (Stands m pend)
   pub time : Elapses (tell.moment s.rig) (tell.moment k.rig) (tell.since s.rig) (tell.since k.rig)
   pub others : (d : ℕ) → d ≢ i → tell.seen k.rig d ≡ tell.seen s.rig d
+  pub masters : KeepMasters (tell.leaves s.rig) (tell.leaves k.rig)
 
 module _ {G : Type 0} (tell : Telling G) (i lsn epoch spare : ℕ) (c s k : Complex G) (h : HasStarted tell i lsn epoch spare c s k)
     (w : Core) (f : fits_by tell.seen tell.leaves c w) where
@@ -83,6 +84,9 @@ module _ {G : Type 0} (tell : Telling G) (i lsn epoch spare : ℕ) (c s k : Comp
 
   disk : tell.seen k.rig 0 ≡ tell.seen c.rig 0
   disk = h.others 0 (let low = h.low in λ e. absurd (omega (arith, low, e))) ∙ ap (λ (d : G). tell.seen d 0) h.same
+
+  kept : KeepMasters (tell.leaves c.rig) (tell.leaves k.rig)
+  kept = subst (λ (d : G). KeepMasters (tell.leaves d) (tell.leaves k.rig)) h.same h.masters
 
   time : Elapses (tell.moment c.rig) (tell.moment k.rig) (tell.since c.rig) (tell.since k.rig)
   time = subst (λ (d : G). Elapses (tell.moment d) (tell.moment k.rig) (tell.since d) (tell.since k.rig)) h.same h.time
@@ -162,7 +166,7 @@ module _ {G : Type 0} (tell : Telling G) (i lsn epoch spare : ℕ) (c s k : Comp
         (subst (λ (p : Parts). Fits (tell.seen k.rig) (tell.leaves k.rig) p next) (sym new-is)
         (joined-fits i lsn epoch spare (tell.seen c.rig) (tell.leaves c.rig) (parts c) w f h.low h.high h.waits h.next
         (reply.Joined epoch)
-        (tell.seen k.rig) (tell.leaves k.rig) disk good-mid owes good-done
+        (tell.seen k.rig) (tell.leaves k.rig) disk kept good-mid owes good-done
         (subst (λ (p : Parts). Good (tell.seen k.rig) (tell.leaves k.rig) Pending.Idle p (joined i epoch m)) new-is
         (subst (λ (d : G). Good (tell.seen d) (tell.leaves d) Pending.Idle (parts n) (joined i epoch m)) rigs
         (subst (λ (e : ℕ). Good (tell.seen n.rig) (tell.leaves n.rig) Pending.Idle (parts n) (joined i e m)) epoch-is
@@ -220,15 +224,15 @@ module _ {G : Type 0} (tell : Telling G) (i lsn epoch spare : ℕ) (c s k : Comp
         (bounds_after w.bounds event answer)
         (subst (λ (p : Parts). FitsPages (tell.seen k.rig) (tell.leaves k.rig) p w.pages) (sym half-is)
         (failed-pages-fit i lsn epoch spare (tell.seen c.rig) (tell.leaves c.rig) (parts c) w f h.low h.high h.waits h.next answer
-        (tell.seen k.rig) (tell.leaves k.rig) disk good-mid a))
-        (subst (λ (p : Parts). FitsBounds (tell.seen k.rig) p (bounds_after w.bounds event answer)) (sym half-is)
+        (tell.seen k.rig) (tell.leaves k.rig) disk kept good-mid a))
+        (subst (λ (p : Parts). FitsBounds (tell.seen k.rig) (tell.leaves k.rig) p (bounds_after w.bounds event answer)) (sym half-is)
         (failed-bounds-fit i lsn epoch spare (tell.seen c.rig) (tell.leaves c.rig)
         (parts c) w f h.low h.high h.waits h.next answer
-        (tell.seen k.rig) (tell.leaves k.rig) disk good-mid a))
+        (tell.seen k.rig) (tell.leaves k.rig) disk kept good-mid a))
         (subst (λ (p : Parts). FitsDoubts (tell.seen k.rig) p m) (sym half-is)
         (failed-doubts-fit i lsn epoch spare (tell.seen c.rig) (tell.leaves c.rig)
         (parts c) w f h.low h.high h.waits h.next answer
-        (tell.seen k.rig) (tell.leaves k.rig) disk good-mid a))
+        (tell.seen k.rig) (tell.leaves k.rig) disk kept good-mid a))
         (subst (λ (d : G). Good (tell.seen d) (tell.leaves d) Pending.Idle (parts n) (fall i (counted event m))) rigs
         (good m good-k))
 

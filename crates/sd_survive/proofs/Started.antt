@@ -1,6 +1,6 @@
 -- The Start of an instance's epoch comes to its log, and is forced or not: how the complex fits the world then. For `join` of
 -- src/joining.rt.
-use Rattle.std.proofs.Common.{◌≡◌, ◌≢◌, ◌⊎◌, ⊎_elim, ℕ, ◌+◌, ◌≤◌, Bool, false, cond, List, [], ◌∷◌, ◌++◌, refl, sym, ap, ◌∙◌}
+use Rattle.std.proofs.Common.{◌≡◌, ◌≢◌, ⊎_elim, ℕ, ◌+◌, ◌≤◌, Bool, false, cond, List, [], ◌∷◌, ◌++◌, refl, sym, ap, ◌∙◌}
 use Rattle.std.proofs.Common.{true, subst, arith}
 use Rattle.std.proofs.Common.{eq-eqb}
 use Rattle.std.specs.Prelude.{None, eqb, length, max}
@@ -27,7 +27,7 @@ use Rattle.sd_chain.specs.Records.{IsOpen, home}
 use Rattle.sd_sound.specs.Logs.{Outcomes, all_at, base_at, next_lsn}
 use Rattle.sd_sound.proofs.Kept.{forced-base}
 use Rattle.sd_sound.proofs.Owing.{plain-owes}
-use Rattle.sd_state.specs.Forcing.{with_failed, with_forced}
+use Rattle.sd_state.specs.Forcing.{KeepMasters, with_failed, with_forced}
 use Rattle.sd_state.specs.Good.{Good}
 use Rattle.sd_state.specs.Joining.{with_joined}
 use Rattle.sd_state.specs.Parts.{Parts, is_loose, log_at, no_log, owed_at, status_at, txns_at, up_as}
@@ -114,7 +114,7 @@ module _ (i lsn epoch spare : ℕ) (seen : rig.Image) (leaves : Outcomes) (c : P
   mid-pages = sealed-pages i spare 900 start c.txns mid.epochs seen leaves Pending.Idle c m f.good low high settled refl next
       (start-takes (all_at (log_at c i)) lsn epoch) (λ j lo hi. omega arith) w.pages f.pages
 
-  pub mid-bounds : FitsBounds seen mid sums
+  pub mid-bounds : FitsBounds seen leaves mid sums
   mid-bounds = sealed-bounds i spare 900 start c.txns mid.epochs seen leaves Pending.Idle c m f.good low high settled refl next
       (start-takes (all_at (log_at c i)) lsn epoch) (λ j lo hi. omega arith) w.bounds sums (join-more w.bounds i r) f.bounds
 
@@ -125,15 +125,15 @@ module _ (i lsn epoch spare : ℕ) (seen : rig.Image) (leaves : Outcomes) (c : P
   -- ---- and is forced
 
   module _ (seen' : rig.Image) (leaves' : Outcomes) (disk : seen' 0 ≡ seen 0)
-      (g : Good seen leaves (Pending.Starts i) mid m) where
+      (kept : KeepMasters leaves leaves') (g : Good seen leaves (Pending.Starts i) mid m) where
     -- its force failed
     pub failed-pages-fit : (a : ℕ) → FitsPages seen' leaves' (with_failed a i mid) w.pages
     failed-pages-fit a = failed-pages a i seen seen' leaves leaves'
         (Pending.Starts i) mid m g low high settled disk w.pages mid-pages
 
-    pub failed-bounds-fit : (a : ℕ) → FitsBounds seen' (with_failed a i mid) sums
+    pub failed-bounds-fit : (a : ℕ) → FitsBounds seen' leaves' (with_failed a i mid) sums
     failed-bounds-fit a = failed-bounds a i seen seen' leaves leaves'
-        (Pending.Starts i) mid m g low high settled disk sums mid-bounds
+        (Pending.Starts i) mid m g low high settled disk kept sums mid-bounds
 
     pub failed-doubts-fit : (a : ℕ) → FitsDoubts seen' (with_failed a i mid) m
     failed-doubts-fit a = failed-doubts a i seen seen' leaves leaves'
@@ -158,9 +158,9 @@ module _ (i lsn epoch spare : ℕ) (seen : rig.Image) (leaves : Outcomes) (c : P
       done-pages = forced-pages i owes seen seen' leaves leaves'
           (Pending.Starts i) mid m g low high settled disk owes-is w.pages mid-pages
 
-      done-bounds : FitsBounds seen' done sums
+      done-bounds : FitsBounds seen' leaves' done sums
       done-bounds = forced-bounds i owes seen seen' leaves leaves'
-          (Pending.Starts i) mid m g low high settled disk owes-is sums mid-bounds
+          (Pending.Starts i) mid m g low high settled disk owes-is kept sums mid-bounds
 
       done-doubts : FitsDoubts seen' done m
       done-doubts = forced-doubts i owes seen seen' leaves leaves'
@@ -178,7 +178,7 @@ module _ (i lsn epoch spare : ℕ) (seen : rig.Image) (leaves : Outcomes) (c : P
       owes-same j = ap (λ (told : Bool). cond (is_loose c j) (owed_at done j)
           (cond told (max (owed_at done j) (owed_of (txns_at c j))) (owed_at done j))) (status-tells j)
 
-      joined-bounds : FitsBounds seen' new sums
+      joined-bounds : FitsBounds seen' leaves' new sums
       joined-bounds = let b = done-bounds in
           record {
             slots = b.slots;
@@ -186,6 +186,7 @@ module _ (i lsn epoch spare : ℕ) (seen : rig.Image) (leaves : Outcomes) (c : P
             lsns = no-more (great_of done) (owed_in_all new) (owed_in_all done) sums.lsns
                 (sum-less (owes_most new) (owes_most done) 8 (λ j lo hi. let same = owes-same j in omega (arith, same))) b.lsns;
             masters = b.masters;
+            left_masters = b.left_masters;
           }
 
       rests : (t : TxnId) → home t ≡ i → (IsAtWork (m.part t).life → ⊥) × (((m.part t).life ≡ Life.Rolling None) → ⊥)

@@ -1,18 +1,16 @@
-use Rattle.std.proofs.Common.{◌≡◌, ℕ, inl, inr, refl, sym, ap, ◌∙◌, subst}
+use Rattle.std.proofs.Common.{ℕ, refl, sym, ap, ◌∙◌, subst}
 use Rattle.std.specs.Prelude.{Result, Err}
 use Rattle.std.proofs.lemmas.Result.{err_from_is_err_and}
 use Rattle.sd_base.specs.Streams.{Rises}
 use Rattle.sd_base.specs.declared.refusal.Refusal.{Refusal}
-use Rattle.sd_base.specs.declared.refusal.Refusal.TheVariants as R
 use Rattle.sd_fits.specs.Serving.{Serving}
 use Rattle.sd_model.specs.declared.event.Event.TheVariants.{Join}
 use Rattle.sd_sound.specs.Logs.{next_lsn}
 use Rattle.sd_state.specs.Complexes.{parts}
 use Rattle.sd_state.specs.Parts.{Parts, actor, log_at}
 use Rattle.sd_state.specs.Values.{Pending}
-use Rattle.sd_state.specs.declared.complex.Complex.{Complex}
-use Rattle.sd_world.specs.Serving.{Telling, joined, telling}
-use Rattle.sd_survive.proofs.Calls.{failed-due, joined-bare, joined-settled, start-idle, start-settled}
+use Rattle.sd_world.specs.Serving.{joined, telling}
+use Rattle.sd_survive.proofs.Calls.{failed-due, joined-bare, joined-settled, start-settled}
 use Rattle.sd_survive.proofs.Joined.{HasStarted, fails-join, joins}
 use Rattle.sd_survive.proofs.Unjoined.{seal-refused, stays-out}
 use Rattle.sd_survive.proofs.joining.join.Goals as goal
@@ -136,6 +134,7 @@ returns-in-Ok g c =
       images = force.images;
       time = force.time;
       others = force.others;
+      masters = force.masters;
     } in
     let join = c.joined.ensures in
     record {
@@ -169,6 +168,7 @@ returns-in-Err g c =
       images = force.images;
       time = force.time;
       others = force.others;
+      masters = force.masters;
     } in
     let down = c.down.ensures in
     record {
