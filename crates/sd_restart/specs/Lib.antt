@@ -1,0 +1,4 @@
+pub mod Devices
+pub mod Reading
+pub mod Claims
+pub mod Made

@@ -1,0 +1,29 @@
+//! A complex opened again from nine devices.
+//!
+//! Meaning: `OpensTo` (sd_state) says to which states of the serial table devices open, and `Recovered` (sd_chain) what table
+//! they stand for; `Calms` (`specs/Devices.antt`) what syncs and reads do to them.
+//! Keeps: nothing.
+//! Promises: `restart` opens sound devices to a complex that is good for each state to which they open, with the table that they
+//! stand for; no image that a crash may leave meanwhile is one that it might not leave before.
+//! Refuses: `Failed` where a device fails, `Memory`, and `Damaged` exactly where the devices aren't sound, with the first place
+//! that fails.
+//! Knows nothing of: events, waits, the number of instances that are to join.
+//! Stands on: sd_base, sd_model, sd_page, sd_logrec, sd_rig, sd_log, sd_txn, sd_reclock, sd_pagelock, sd_chain, sd_scan,
+//! sd_analysis, sd_relist, sd_undone, sd_recovered, sd_newest, sd_coherent, sd_sound, sd_state.
+//! Lends: nothing.
+//! Held by the caller: that a pool has a frame, and at most 1,024.
+//!
+//! To change:
+//! - free: bodies, private helpers
+//! - dear: the clauses of `restart` and `reopen`
+//! - frozen: nothing
+#![tactic(auto)]
+
+mod claims;
+mod devices;
+mod finding;
+mod parts;
+mod restarting;
+
+pub use devices::{read_devices, settle_devices};
+pub use restarting::{reopen, restart};
