@@ -3,6 +3,7 @@ use Rattle.std.proofs.Common.{◌≡◌, ℕ, ◌+◌, ◌<◌, Bool, true, fals
 use Rattle.std.specs.Prelude.{Option, None, Some, is_some, option_map, slice_get}
 use Rattle.std.proofs.lemmas.List.{append-nil}
 use Rattle.sd_base.specs.declared.ids.TxnId.{TxnId}
+use Rattle.sd_base.specs.declared.trouble.Trouble.{Trouble}
 use Rattle.sd_model.specs.declared.event.Event.{Event}
 use Rattle.sd_model.specs.declared.event.Event.TheVariants as event
 use Rattle.sd_model.specs.declared.event.Reply.{Reply}
@@ -207,6 +208,8 @@ is-served names (form.Evict i p) e is = subst IsServed (this (event.Evict i p) e
 is-served names (form.Flush i p) e is = subst IsServed (this (event.Flush i p) e is) tt
 is-served names (form.Force i) e is = subst IsServed (this (event.Force i) e is) tt
 is-served names (form.Fail i) e is = subst IsServed (this (event.Fail i) e is) tt
+is-served names (form.Fuse k) e is = subst IsServed (this (event.Arm (Trouble.Fuse k)) e is) tt
+is-served names (form.Fault k) e is = subst IsServed (this (event.Arm (Trouble.Fault k)) e is) tt
 is-served names (form.Where p) e is = subst IsServed (this (event.Show p) e is) tt
 is-served names form.Table e is = absurd (cc)
 

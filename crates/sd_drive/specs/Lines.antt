@@ -3,6 +3,7 @@ use Rattle.std.specs.Prelude.{ℕ, Bool, true, false, List, Option, None, Some, 
 use Rattle.std.specs.Map.{update}
 use Rattle.std.specs.Str.{bytes_eq}
 use Rattle.sd_base.specs.declared.ids.TxnId.{TxnId}
+use Rattle.sd_base.specs.declared.trouble.Trouble.{Trouble}
 use Rattle.sd_model.specs.declared.event.Event.{Event}
 use Rattle.sd_model.specs.declared.event.Event.TheVariants as event
 use Rattle.sd_model.specs.declared.event.Reply.{Reply}
@@ -39,6 +40,8 @@ event_of names (form.Evict inst page) = Some (event.Evict inst page)
 event_of names (form.Flush inst page) = Some (event.Flush inst page)
 event_of names (form.Force inst) = Some (event.Force inst)
 event_of names (form.Fail inst) = Some (event.Fail inst)
+event_of names (form.Fuse calls) = Some (event.Arm (Trouble.Fuse calls))
+event_of names (form.Fault call) = Some (event.Arm (Trouble.Fault call))
 event_of names (form.Where page) = Some (event.Show page)
 event_of names form.Table = None
 

@@ -4,7 +4,7 @@ ghost use Rattle.std.specs.Prelude.{◌≡◌, ◌<◌, ◌^◌, ℕ, List, None
 ghost use Rattle.sd_drive.specs.Lines.{Names, capacity_of, event_of};
 ghost use Rattle.sd_drive.specs.Reaching.{IsShort, name_in, ordinal_in};
 
-use sd_base::{Bytes, Duplicate, Memory, TxnId};
+use sd_base::{Bytes, Duplicate, Memory, Trouble, TxnId};
 use sd_model::Event;
 use sd_script::Form;
 
@@ -56,6 +56,12 @@ pub(crate) fn lone_event(form: &Form) -> Option<Event>
         }),
         Form::Force { inst } => Some(Event::Force { inst: *inst }),
         Form::Fail { inst } => Some(Event::Fail { inst: *inst }),
+        Form::Fuse { calls } => Some(Event::Arm {
+            trouble: Trouble::Fuse(u64::from(*calls)),
+        }),
+        Form::Fault { call } => Some(Event::Arm {
+            trouble: Trouble::Fault(u64::from(*call)),
+        }),
         Form::Where { page } => Some(Event::Show { page: *page }),
         _ => None,
     }

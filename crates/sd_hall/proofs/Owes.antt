@@ -17,7 +17,7 @@ use Rattle.sd_model.specs.declared.act.Inst.{Inst}
 use Rattle.sd_model.specs.declared.act.Life.{Life}
 use Rattle.sd_model.specs.declared.cause.Cause.{Cause}
 use Rattle.sd_model.specs.declared.event.Event.{Event}
-use Rattle.sd_model.specs.declared.event.Event.TheVariants.{Add, Ask, Back, Begin, Commit, Delete, Evict, Fail, Flush, Force, Give, Insert, Join, List as Listing, Read, Save, Show, Take, Undo, Write}
+use Rattle.sd_model.specs.declared.event.Event.TheVariants.{Add, Arm, Ask, Back, Begin, Commit, Delete, Evict, Fail, Flush, Force, Give, Insert, Join, List as Listing, Read, Save, Show, Take, Undo, Write}
 use Rattle.sd_model.specs.declared.event.Reply.{Reply}
 use Rattle.sd_model.specs.declared.event.Reply.TheVariants as reply
 use Rattle.sd_model.specs.Acts.{Puts, live, live_from, undone}
@@ -365,6 +365,8 @@ row-owed m (Flush i p) r m' l s c h = absurd h
 row-owed m (Force i) r m' l s c h = absurd h
 row-owed m (Fail i) r m' l s c h = absurd h
 row-owed m (Join i) r m' l s c h = absurd h
+row-owed m (Arm trouble) reply.Did m' l s c h = stays-owed m m' h
+row-owed m (Arm trouble) r m' l s c h = absurd h
 row-owed m (Show p) (reply.Shown place lsn) m' l s c h = stays-owed m m' h
 row-owed m (Show p) r m' l s c h = absurd h
 row-owed m e r m' l s c h = absurd s

@@ -5,7 +5,7 @@ use Rattle.sd_base.specs.declared.place.Status.TheVariants as S
 use Rattle.sd_base.specs.declared.refusal.Memory.{Memory}
 use Rattle.sd_base.specs.declared.refusal.Refusal.TheVariants as R
 use Rattle.sd_model.specs.declared.event.Event.{Event}
-use Rattle.sd_model.specs.declared.event.Event.TheVariants.{Add, Ask, Back, Begin, Commit, Delete, Evict, Fail, Flush, Force, Give, Insert, Join, List as Listing, Read, Save, Show, Take, Undo, Write}
+use Rattle.sd_model.specs.declared.event.Event.TheVariants.{Add, Arm, Ask, Back, Begin, Commit, Delete, Evict, Fail, Flush, Force, Give, Insert, Join, List as Listing, Read, Save, Show, Take, Undo, Write}
 use Rattle.sd_model.specs.declared.event.Reply.{Reply}
 use Rattle.sd_model.specs.declared.event.Reply.TheVariants.{Refused}
 use Rattle.sd_state.specs.Parts.{Parts, status_at}
@@ -31,6 +31,7 @@ IsServed (Flush i p) = Unit {0}
 IsServed (Force i) = Unit {0}
 IsServed (Fail i) = Unit {0}
 IsServed (Join i) = Unit {0}
+IsServed (Arm trouble) = Unit {0}
 IsServed (Show p) = Unit {0}
 IsServed e = ⊥
 

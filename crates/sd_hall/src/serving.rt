@@ -50,6 +50,10 @@ pub(crate) fn serve<G: Rig>(c: &mut Complex<G>, e: &Event) -> Result<Reply, Memo
         Event::Force { inst } => as_did(sd_writer::force(c, *inst)),
         Event::Fail { inst } => as_did(sd_survive::fail(c, *inst)),
         Event::Join { inst } => as_joined(sd_survive::join(c, *inst)),
+        Event::Arm { trouble } => {
+            sd_survive::arm(c, *trouble);
+            Ok(Reply::Did)
+        }
         Event::Show { page } => as_shown(sd_transfer::show(c, *page)),
         _ => unreachable!(),
     }

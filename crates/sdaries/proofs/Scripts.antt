@@ -70,6 +70,8 @@ behind_none (form.Evict inst page) follows is = absurd (omega (arith, follows.1)
 behind_none (form.Flush inst page) follows is = absurd (omega (arith, follows.1))
 behind_none (form.Force inst) follows is = absurd (omega (arith, follows, is.0))
 behind_none (form.Fail inst) follows is = absurd (omega (arith, follows, is.0))
+behind_none (form.Fuse calls) follows is = absurd (follows refl)
+behind_none (form.Fault call) follows is = absurd (follows refl)
 behind_none (form.Where page) follows is = absurd (omega (arith, follows))
 behind_none form.Table follows is = absurd (follows.0 refl)
 

@@ -185,3 +185,45 @@ fn a_device_that_fails_at_any_call_is_told(rt: HostRuntime) -> Result<(), Fail> 
     }
     Ok(())
 }
+
+// These texts, one behind the other.
+fn joined(alloc: Global, parts: &[&[u8]]) -> Result<Vec<u8>, Fail> {
+    let mut text = Vec::new(alloc);
+    for part in parts {
+        text.extend_from_slice(part)?;
+    }
+    Ok(text)
+}
+
+// A transaction inserts a record, and then a line arms the devices. The commit takes four calls; the first page write begins with a read
+// and goes on with four calls, and the second one takes none.
+#[test]
+fn what_a_line_arms_fails(rt: HostRuntime) -> Result<(), Fail> {
+    let troubles: [(&[u8], &[u8]); 7] = [
+        (b"fault 4\n", b"a cut\n1 down\n1 down\n"),
+        (b"fault 5\n", b"a commit\n1 fault\n1 flushed 0\n"),
+        (b"fault 6\n", b"a commit\n1 fault\n1 down\n"),
+        (b"fuse 3\n", b"a cut\n1 down\n1 down\n"),
+        (b"fuse 4\n", b"a commit\n1 fault\n1 fault\n"),
+        (b"fuse 9\n", b"a commit\n1 flushed 0\n1 flushed 0\n"),
+        (b"fault 1000000\n", b"a commit\n1 flushed 0\n1 flushed 0\n"),
+    ];
+    for (armed, told) in troubles {
+        let script = joined(
+            rt.alloc(),
+            &[
+                b"complex 1 1 2\n1 begin a\ninsert a 0 red\n",
+                armed,
+                b"commit a\n1 flush 0\n1 flush 0\n",
+            ],
+        )?;
+        let due = joined(
+            rt.alloc(),
+            &[b"complex 1 1 2\na begin 1.1.1\na insert 0.0\n", armed, told],
+        )?;
+        let (ended, written) = ran(rt.alloc(), b"replay", &script, &[], &[], Trouble::Clear)?;
+        assert_eq!(rt; ended, Status::Done);
+        assert_eq!(rt; written.as_slice(), due.as_slice());
+    }
+    Ok(())
+}

@@ -1,10 +1,12 @@
 use Rattle.std.proofs.Common.{ℤ, ℕ, List, of_z, to_z, rules, w64, ◌≡◌, refl, sym, ◌∙◌, subst}
 use Rattle.std.proofs.lemmas.Int.{to_z-of_z}
+use Rattle.std.specs.Prelude.{Some}
 use Rattle.sd_base.specs.declared.ids.TxnId.{TxnId}
 use Rattle.sd_base.specs.declared.place.Status.TheVariants as S
 use Rattle.sd_model.specs.declared.event.Event.{Event}
 use Rattle.sd_model.specs.declared.event.Event.TheVariants as event
 use Rattle.sd_model.specs.declared.event.Event.TheVariants.{Add, Insert, Write}
+use Rattle.sd_model.specs.declared.event.Reply.TheVariants as reply
 use Rattle.sd_state.specs.Complexes.{parts}
 use Rattle.sd_state.specs.Parts.{status_at}
 use Rattle.sd_world.specs.Serving.{Telling, did, placed_at, telling}
@@ -36,6 +38,7 @@ unreachable-requires g c = none c.args.e.now c.requires.served refl
     none (event.Force i) served is = c.in_default.not-Force i is
     none (event.Fail i) served is = c.in_default.not-Fail i is
     none (event.Join i) served is = c.in_default.not-Join i is
+    none (event.Arm trouble) served is = c.in_default.not-Arm trouble is
     none (event.Show p) served is = c.in_default.not-Show p is
     none e served is = served
 
@@ -156,6 +159,11 @@ pub returns-in-Join-clause-served : goal.returns-in-Join-clause-served
 returns-in-Join-clause-served g c =
     let tell : Telling _ = telling g.G.Rig.seen g.G.Rig.leaves g.G.Rig.moment g.G.Rig.since g.G.Rig.faults in
     served-as tell c.args.c.now c.join.new.c _ _ _ _ c.in-Join.is c.as_joined.ensures c.join.ensures.served
+
+pub returns-in-Arm-clause-served : goal.returns-in-Arm-clause-served
+returns-in-Arm-clause-served g c =
+    let tell : Telling _ = telling g.G.Rig.seen g.G.Rig.leaves g.G.Rig.moment g.G.Rig.since g.G.Rig.faults in
+    served-as tell c.args.c.now c.arm.new.c _ (event.Arm c.in-Arm.trouble) (Some reply.Did) (Some reply.Did) c.in-Arm.is refl c.arm.ensures.served
 
 pub returns-in-Show-clause-served : goal.returns-in-Show-clause-served
 returns-in-Show-clause-served g c =
