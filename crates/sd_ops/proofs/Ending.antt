@@ -10,7 +10,7 @@ use Rattle.sd_base.specs.declared.refusal.Refusal.TheVariants as R
 use Rattle.sd_model.specs.Fields.{txn_of}
 use Rattle.sd_model.specs.Scenes.{asked_of, is_running, wait_after, waits_after}
 use Rattle.sd_model.specs.declared.event.Event.{Event}
-use Rattle.sd_model.specs.declared.event.Event.TheVariants.{Arm, FailAll}
+use Rattle.sd_model.specs.declared.event.Event.TheVariants.{FailAll}
 use Rattle.sd_model.specs.declared.event.Reply.{Reply}
 use Rattle.sd_model.specs.declared.event.Reply.TheVariants as reply
 use Rattle.sd_reclock.specs.Locks.{Held, held_in}
@@ -32,7 +32,6 @@ use Rattle.sd_ops.specs.Halves.{EndsWait, HalfServed, HalfTurns, IsRewaited, not
 
 few-none : (e : Event) (n : ℕ) → FewFaults e n n
 few-none (FailAll pick) n = omega arith
-few-none (Arm trouble) n = omega arith
 few-none e n = refl
 
 -- where the devices' count stays, a reply that tells no fault is right of it

@@ -1,6 +1,6 @@
 //! Devices in memory, whose calls fail where a test arms trouble, and whose crashes a test picks.
 
-ghost use Rattle.std.specs.Prelude.{◌≡◌, ◌≢◌, ◌+◌, ◌<◌, ◌≤◌, ◌⊎◌, ◌↔◌, [], ℕ, true, false, length, map, is_ok, slice_range, IfOk, IsErr, IsTrue, OnErr, OnOk, if◌then◌else◌};
+ghost use Rattle.std.specs.Prelude.{◌≡◌, ◌≢◌, ◌+◌, ◌<◌, ◌≤◌, ◌⊎◌, ◌↔◌, [], ℕ, true, false, List, length, map, is_ok, slice_range, IfOk, IsErr, IsTrue, OnErr, OnOk, if◌then◌else◌};
 ghost use Rattle.sd_base.specs.Streams.{Rises};
 ghost use Rattle.sd_base.specs.declared.trouble.Trouble.TheVariants.{Clear};
 ghost use Rattle.sd_rig.specs.Devices.{device_len};
@@ -250,6 +250,7 @@ impl Rig for MemRig {
         ensures short { short_count self.new ≡ short_count self.old }
 
         ensures left { Leaves (left_of (devices self.old)) (λ d. (device self.new d).seen) }
+        ensures none_more { (d : ℕ) → d ≤ 8 → (bytes : List ℕ) → left_of (devices self.new) d bytes → left_of (devices self.old) d bytes }
         ensures durable { (d : ℕ) → d ≤ 8 → LeavesOnly (device self.new d).seen (left_of (devices self.new) d) }
         ensures time { Elapses (length (done self.old)) (length (done self.new)) (LeftSince (done self.old)) (LeftSince (done self.new)) }
         ensures step { IsOneStep (length (done self.old)) (LeftSince (done self.new)) (left_of (devices self.old)) (left_of (devices self.new)) }

@@ -81,20 +81,21 @@ pub trait Rig {
         ensures quiet { OnOk result (faults self.new ≡ faults self.old) }
         ensures count { faults self.old ≤ faults self.new };
 
-    /// The devices become one of the images that a crash now may leave, and stable where the count of faults doesn't rise.
-    /// No trouble is armed any more.
+    /// The devices become one of the images that a crash now may leave, and stable where the count of faults doesn't rise; else a
+    /// crash leaves nothing that it might not leave before. No trouble is armed any more.
     fn crash(&mut self, pick: Pick)
         ensures left { Leaves (leaves self.old) (seen self.new) }
+        ensures none_more { (d : ℕ) → d ≤ 8 → (bytes : List ℕ) → leaves self.new d bytes → leaves self.old d bytes }
         ensures durable { Rises (faults self.old) (faults self.new) ⊎ ((d : ℕ) → d ≤ 8 → LeavesOnly (seen self.new d) (leaves self.new d)) }
         ensures time { Elapses (moment self.old) (moment self.new) (since self.old) (since self.new) }
         ensures step { IsOneStep (moment self.old) (since self.new) (leaves self.old) (leaves self.new) }
         ensures count { faults self.old ≤ faults self.new };
 
-    /// Sets which of the coming reads, writes and syncs fail. Contents stay.
+    /// Sets which of the coming reads, writes and syncs fail. Contents and the count of faults stay.
     fn arm(&mut self, trouble: Trouble)
         ensures stays { IsUnchanged (seen self.old) (seen self.new) (leaves self.old) (leaves self.new)
             (moment self.old) (moment self.new) (since self.old) (since self.new) }
-        ensures count { faults self.old ≤ faults self.new };
+        ensures quiet { faults self.new ≡ faults self.old };
 
     /// What may be left now is among what may have been left since each moment so far.
     ghost counts_now: { (rig : Self) (t : ℕ) (img : Image) → t ≤ moment rig → Leaves (leaves rig) img → since rig t img };

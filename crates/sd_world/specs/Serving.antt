@@ -7,7 +7,7 @@ use Rattle.sd_base.specs.declared.refusal.Refusal.TheVariants as R
 use Rattle.sd_base.specs.Streams.{Rises}
 use Rattle.sd_rig.specs.Devices.{Image, Elapses, Span}
 use Rattle.sd_model.specs.declared.event.Event.{Event}
-use Rattle.sd_model.specs.declared.event.Event.TheVariants.{FailAll, Arm}
+use Rattle.sd_model.specs.declared.event.Event.TheVariants.{FailAll}
 use Rattle.sd_model.specs.declared.event.Reply.{Reply}
 use Rattle.sd_model.specs.declared.event.Reply.TheVariants as reply
 use Rattle.sd_model.specs.Fields.{txn_of}
@@ -65,7 +65,6 @@ IsFault r = ⊥
 -- the faults of an event that no fault is told of: none, but for calls that may swallow one
 abbrev pub FewFaults : Event → ℕ → ℕ → Type 0
 FewFaults (FailAll pick) old new = old ≤ new
-FewFaults (Arm trouble) old new = old ≤ new
 FewFaults e old new = new ≡ old
 
 -- a fault came, and the reply tells it, or it tells none
