@@ -37,8 +37,8 @@ module _ {G : Type 0} (tell : Telling G) (c new : Complex G) (trouble : Trouble)
   turns w f = turns-on w w.scene.waits event reply.Did (tt, refl)
       (λ t. sym (none-ended (tell.seen c.rig) (tell.leaves c.rig) (parts c) w f t)) tt tt (tt, refl) tt
 
-  pub armed : tell.faults c.rig ≤ tell.faults new.rig → Serving tell event (Some reply.Did) c new
-  armed count = (
+  pub armed : tell.faults new.rig ≡ tell.faults c.rig → Serving tell event (Some reply.Did) c new
+  armed quiet = (
     (λ w f.
         let next : Core = passed w w.scene.waits event reply.Did in (
           next,
@@ -46,5 +46,5 @@ module _ {G : Type 0} (tell : Telling G) (c new : Complex G) (trouble : Trouble)
               (nothing-fits (parts new).locks w.scene.waits event reply.Did (tell.seen new.rig) (tell.leaves new.rig) (parts new) w
               (fits-then w f)),
         )),
-    count,
+    quiet,
   )

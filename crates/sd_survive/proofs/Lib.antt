@@ -8,7 +8,6 @@ mod Joined
 mod Left
 mod Calls
 mod Rebuilt
-mod Less
 mod Settled
 mod Begun
 mod Rows
@@ -27,3 +26,4 @@ mod UndoServed
 mod UndoSteps
 mod UndoBreaks
 mod UndoFails
+mod Wanting

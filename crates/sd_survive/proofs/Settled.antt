@@ -32,9 +32,8 @@ use Rattle.sd_fits.proofs.Putting.{put-fits}
 use Rattle.sd_fits.proofs.Recovering.{numbers-step, step-turns, step_core, step_sums}
 use Rattle.sd_fits.proofs.Refused.{IsFor, refused-turns}
 use Rattle.sd_fits.proofs.Served.{bounds-stay, nothing-fits, passed}
-use Rattle.sd_fits.proofs.Settling.{reread-fits}
+use Rattle.sd_fits.proofs.Settling.{less-fits, reread-fits}
 use Rattle.sd_survive.specs.Recovering.{SettlesOne}
-use Rattle.sd_survive.proofs.Less.{less-fits}
 use Rattle.sd_survive.proofs.Rebuilt.{step-breaks}
 use Rattle.sd_writer.specs.Breaking.{BreaksBy}
 use Rattle.sd_writer.proofs.Broken.{broken-serves}

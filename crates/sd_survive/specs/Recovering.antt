@@ -147,3 +147,12 @@ abbrev pub IsNext : Parts → ℕ → Task → Type 0
 IsNext c i (task.Settle dev) = IsLowestLoose c dev
 IsNext c i (task.Rebuild p) = AreSettled c × IsLowestLost (entry_at c.directory) p
 IsNext c i next = AreThere c × IsRowTask (txns_at c i) next
+
+-- the next task of the recovery of i is an undo
+abbrev pub AwaitsPage : Parts → ℕ → Type 0
+AwaitsPage c i = (t : TxnId) × (p : ℕ) × IsNext c i (task.Undo t p)
+
+-- the refusal wants no page
+abbrev pub WantsNone : Refusal → Type 0
+WantsNone (R.NeedPage place) = ⊥
+WantsNone n = Unit {0}

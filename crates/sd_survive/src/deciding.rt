@@ -1,6 +1,6 @@
 //! The transaction in doubt of a recovered instance is decided.
 
-ghost use Rattle.std.specs.Prelude.{◌≡◌, ◌≢◌, Err, None, OnErr, OnOk, Some, false, suc};
+ghost use Rattle.std.specs.Prelude.{◌≡◌, ◌≢◌, Err, IfErr, None, OnErr, OnOk, Some, false, suc};
 ghost use Rattle.std.specs.List.{list_any};
 ghost use Rattle.sd_base.specs.declared.place.Status.TheVariants as S;
 ghost use Rattle.sd_base.specs.declared.refusal.Refusal.TheVariants as R;
@@ -15,7 +15,7 @@ ghost use Rattle.sd_model.specs.declared.event.Reply.TheVariants as reply;
 ghost use Rattle.sd_state.specs.Complexes.{parts};
 ghost use Rattle.sd_state.specs.Forcing.{with_forced};
 ghost use Rattle.sd_state.specs.Parts.{is_loose, log_at, owed_at, status_at, txns_at};
-ghost use Rattle.sd_survive.specs.Recovering.{tasks_in};
+ghost use Rattle.sd_survive.specs.Recovering.{WantsNone, tasks_in};
 ghost use Rattle.sd_txn.specs.Transactions.{state_at};
 ghost use Rattle.sd_txn.specs.declared.state.TxnState.{TxnState};
 ghost use Rattle.sd_world.specs.Serving.{Core, answered, telling};
@@ -37,6 +37,7 @@ pub(crate) fn decide_next<G: Rig>(c: &mut Complex<G>, by: InstNo, t: &TxnId) -> 
     ensures served { Serving (telling G.seen G.leaves G.moment G.since G.faults) (event.RecoverStep (home t.now))
         (answered (λ _. reply.Step) result) c.old c.new }
     ensures there { result ≢ Err R.Memory }
+    ensures only { IfErr result WantsNone }
     ensures fewer { OnOk result
         (suc (tasks_in (txns_at (parts c.new) (home t.now))) ≡ tasks_in (txns_at (parts c.old) (home t.now))) }
 {

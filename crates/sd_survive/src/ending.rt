@@ -1,6 +1,6 @@
 //! A loser of a recovered instance gets its End, and the recovery ends.
 
-ghost use Rattle.std.specs.Prelude.{◌≡◌, ◌≢◌, ◌≤◌, ◌<◌, ◌^◌, Err, IsSome, None, OnOk, Some, false, suc};
+ghost use Rattle.std.specs.Prelude.{◌≡◌, ◌≢◌, ◌≤◌, ◌<◌, ◌^◌, Err, IfErr, IsSome, None, OnOk, Some, false, suc};
 ghost use Rattle.sd_base.specs.declared.place.Status.TheVariants as S;
 ghost use Rattle.sd_base.specs.declared.refusal.Refusal.TheVariants as R;
 ghost use Rattle.sd_chain.specs.Records.{home};
@@ -10,7 +10,7 @@ ghost use Rattle.sd_model.specs.declared.event.Event.TheVariants as event;
 ghost use Rattle.sd_model.specs.declared.event.Reply.TheVariants as reply;
 ghost use Rattle.sd_state.specs.Complexes.{parts};
 ghost use Rattle.sd_state.specs.Parts.{is_loose, status_at, txns_at};
-ghost use Rattle.sd_survive.specs.Recovering.{tasks_in, AreThere, IsRowTask};
+ghost use Rattle.sd_survive.specs.Recovering.{tasks_in, AreThere, IsRowTask, WantsNone};
 ghost use Rattle.sd_survive.specs.declared.tasks.Task.TheVariants as task;
 ghost use Rattle.sd_txn.specs.Transactions.{span_at, state_at, top_at};
 ghost use Rattle.sd_txn.specs.declared.state.TxnState.{TxnState};
@@ -33,6 +33,7 @@ pub(crate) fn end_next<G: Rig>(c: &mut Complex<G>, by: InstNo, t: &TxnId) -> Res
     requires there { IsSome (span_at (txns_at (parts c.old) (home t.now)) t.now) }
     ensures served { Serving (telling G.seen G.leaves G.moment G.since G.faults) (event.RecoverStep (home t.now))
         (answered (λ _. reply.Step) result) c.old c.new }
+    ensures only { IfErr result WantsNone }
     ensures fewer { OnOk result
         (suc (tasks_in (txns_at (parts c.new) (home t.now))) ≡ tasks_in (txns_at (parts c.old) (home t.now))) }
 {
@@ -70,6 +71,7 @@ pub(crate) fn finish<G: Rig>(c: &mut Complex<G>, i: InstNo, by: InstNo) -> Resul
     ensures served { Serving (telling G.seen G.leaves G.moment G.since G.faults) (event.RecoverStep i)
         (answered (λ _. reply.Finished) result) c.old c.new }
     ensures memory { result ≢ Err R.Memory }
+    ensures only { IfErr result WantsNone }
 {
     laws::instances(i);
     match at_rest(c, i, by) {

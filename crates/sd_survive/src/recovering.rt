@@ -1,7 +1,9 @@
 //! A step of the recovery of an instance.
 
 ghost use Rattle.std.specs.Prelude.{◌≡◌, ◌≢◌, Err, IfErr, IfOk, Ok};
+ghost use Rattle.sd_base.specs.declared.place.Place.{Place};
 ghost use Rattle.sd_base.specs.declared.place.Status.TheVariants as S;
+ghost use Rattle.sd_base.specs.declared.refusal.Refusal.{Refusal};
 ghost use Rattle.sd_base.specs.declared.refusal.Refusal.TheVariants as R;
 ghost use Rattle.sd_fits.specs.Fits.{Fits};
 ghost use Rattle.sd_fits.specs.Serving.{Serving};
@@ -9,7 +11,7 @@ ghost use Rattle.sd_model.specs.declared.event.Event.TheVariants as event;
 ghost use Rattle.sd_model.specs.declared.event.Reply.TheVariants as reply;
 ghost use Rattle.sd_state.specs.Complexes.{parts};
 ghost use Rattle.sd_state.specs.Parts.{status_at, IsShape};
-ghost use Rattle.sd_survive.specs.Recovering.{recovery, HasCleared, HasOneLess, HaveStayedOrFallen, IsNext, IsUnrecovering};
+ghost use Rattle.sd_survive.specs.Recovering.{recovery, AwaitsPage, HasCleared, HasOneLess, HaveStayedOrFallen, IsNext, IsUnrecovering};
 ghost use Rattle.sd_survive.specs.declared.recovering.Recovery.TheVariants as recoveries;
 ghost use Rattle.sd_world.specs.Serving.{Core, answered, telling};
 
@@ -45,6 +47,7 @@ pub fn recover_step<G: Rig>(c: &mut Complex<G>, i: InstNo) -> Result<Recovery, R
     ensures down { result ≡ Err R.Failed → HaveStayedOrFallen i (parts c.old) (parts c.new) }
     ensures cleared { result ≡ Ok recoveries.Step → HasCleared (parts c.old) (parts c.new) }
     ensures stepped { result ≡ Ok recoveries.Step → HasOneLess i (parts c.old) (parts c.new) }
+    ensures awaits { IfErr result (λ n. (place : Place) → n ≡ R.NeedPage place → AwaitsPage (parts c.old) i) }
 {
     laws::instances(i);
     let by = recoverer(c, i)?;
@@ -66,6 +69,7 @@ fn work_on<G: Rig>(
     ensures served { Serving (telling G.seen G.leaves G.moment G.since G.faults) (event.RecoverStep i) (answered recovery result) c.old c.new }
     ensures cleared { result ≡ Ok recoveries.Step → HasCleared (parts c.old) (parts c.new) }
     ensures stepped { result ≡ Ok recoveries.Step → HasOneLess i (parts c.old) (parts c.new) }
+    ensures awaits { IfErr result (λ n. (place : Place) → n ≡ R.NeedPage place → AwaitsPage (parts c.old) i) }
 {
     laws::instances(i);
     match task {
@@ -82,6 +86,7 @@ fn work_on<G: Rig>(
 fn stepped(done: Result<(), Refusal>) -> Result<Recovery, Refusal>
     ensures reply { answered recovery result ≡ answered (λ _. reply.Step) done }
     ensures fine { result ≡ Ok recoveries.Step → done ≡ Ok tt }
+    ensures same { (n : Refusal) → result ≡ Err n → done ≡ Err n }
 {
     match done {
         Ok(()) => Ok(Recovery::Step),
@@ -93,6 +98,7 @@ fn stepped(done: Result<(), Refusal>) -> Result<Recovery, Refusal>
 fn ended(done: Result<(), Refusal>) -> Result<Recovery, Refusal>
     ensures reply { answered recovery result ≡ answered (λ _. reply.Finished) done }
     ensures last { result ≢ Ok recoveries.Step }
+    ensures same { (n : Refusal) → result ≡ Err n → done ≡ Err n }
 {
     match done {
         Ok(()) => Ok(Recovery::Done),

@@ -2,8 +2,12 @@
 
 ghost use Rattle.std.specs.Prelude.{◌≡◌, IfNone, IfSome, IsSome, None, option_and_then, position, Some, ℕ};
 ghost use Rattle.sd_base.specs.declared.ids.TxnId.{TxnId};
+ghost use Rattle.sd_base.specs.declared.place.Status.TheVariants as S;
+ghost use Rattle.sd_fits.specs.Fits.{Fits};
 ghost use Rattle.sd_state.specs.Complexes.{parts};
-ghost use Rattle.sd_state.specs.Parts.{IsShape};
+ghost use Rattle.sd_state.specs.Parts.{status_at, IsShape};
+ghost use Rattle.sd_world.specs.PageCauses.{IsNeededPage};
+ghost use Rattle.sd_world.specs.Serving.{Core};
 ghost use Rattle.sd_survive.specs.Recovering.{in_doubt, is_doubt, is_later, is_loser, last_open, later, open_lsn, to_end};
 ghost use Rattle.sd_survive.specs.Recovering.{AreSettled, IsLowestLoose, IsNext, IsRowTask};
 ghost use Rattle.sd_survive.specs.declared.tasks.Task.TheVariants as task;
@@ -11,6 +15,8 @@ ghost use Rattle.sd_txn.specs.Transactions.{top_at};
 ghost use Rattle.sd_txn.specs.declared.state.OpenRec.{OpenRec};
 
 use sd_base::{InstNo, Lsn, PageNo, TxnId};
+use sd_moves::laws;
+use sd_rig::Rig;
 use sd_state::Complex;
 use sd_txn::{TxnState, TxnTable};
 
@@ -48,12 +54,15 @@ pub fn next_task<G>(c: &Complex<G>, i: InstNo) -> Task
 }
 
 /// The page that the recovery of an instance waits for next, or uses, and the loser whose record of it is undone; `None` exactly
-/// where the next task is no undo.
-pub fn needed<G>(c: &Complex<G>, i: InstNo) -> Option<(PageNo, TxnId)>
+/// where the next task is no undo. While the recovery runs, a loser has an exclusive claim on a record of the page.
+pub fn needed<G: Rig>(c: &Complex<G>, i: InstNo) -> Option<(PageNo, TxnId)>
     requires { IsShape (parts c.now) }
     ensures some { IfSome result (λ x. IsNext (parts c.now) i (task.Undo x.1 x.0)) }
     ensures none { IfNone result ((t : TxnId) (p : ℕ) → IsNext (parts c.now) i (task.Undo t p) → ⊥) }
+    ensures claimed { IfSome result (λ x. (w : Core) (by : ℕ) → Fits (G.seen c.now.rig) (G.leaves c.now.rig) (parts c.now) w
+        → status_at (parts c.now) i ≡ S.Recovering by → IsNeededPage w.scene.state i x.0) }
 {
+    laws::instances(i);
     match next_task(c, i) {
         Task::Undo { txn, page } => Some((page, txn)),
         _ => None,

@@ -9,4 +9,4 @@ returns-clause-served g c =
     let tell = telling g.G.Rig.seen g.G.Rig.leaves g.G.Rig.moment g.G.Rig.since g.G.Rig.faults in
     let new = record old { rig = c.arm.new.self } in
     armed tell old new c.args.trouble (λ img since. g.met.G.Rig.only_now old.rig img since)
-    (λ d le. g.met.G.Rig.leaves_seen new.rig d le) c.arm.ensures.stays refl c.arm.ensures.count
+    (λ d le. g.met.G.Rig.leaves_seen new.rig d le) c.arm.ensures.stays refl c.arm.ensures.quiet

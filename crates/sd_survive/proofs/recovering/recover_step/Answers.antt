@@ -1,15 +1,17 @@
 use Rattle.std.proofs.Common.{sym, ap, ◌∙◌, subst}
-use Rattle.std.specs.Prelude.{◌≡◌, Result, Err, Ok}
+use Rattle.std.specs.Prelude.{◌≡◌, IfErr, Result, Err, Ok}
 use Rattle.std.proofs.lemmas.Result.{err_from_is_err_and}
+use Rattle.sd_base.specs.declared.place.Place.{Place}
 use Rattle.sd_base.specs.declared.refusal.Refusal.{Refusal}
 use Rattle.sd_base.specs.declared.refusal.Refusal.TheVariants as R
 use Rattle.sd_fits.specs.Serving.{Serving}
 use Rattle.sd_model.specs.declared.event.Event.TheVariants.{RecoverStep}
 use Rattle.sd_state.specs.Complexes.{parts}
 use Rattle.sd_world.specs.Serving.{Telling, answered, telling}
-use Rattle.sd_survive.specs.Recovering.{recovery}
+use Rattle.sd_survive.specs.Recovering.{AwaitsPage, WantsNone, recovery}
 use Rattle.sd_survive.specs.declared.recovering.Recovery.{Recovery}
 use Rattle.sd_survive.specs.declared.recovering.Recovery.TheVariants as recoveries
+use Rattle.sd_survive.proofs.Wanting.{unrecovering-wants}
 use Rattle.sd_survive.proofs.Stepped.{none-failed, stayed-or-fell, step-refused}
 use Rattle.sd_survive.proofs.recovering.recover_step.Goals as goal
 
@@ -54,3 +56,11 @@ pub returns-in_err-by-clause-cleared : goal.returns-in_err-by-clause-cleared
 returns-in_err-by-clause-cleared g c = λ e.
     let p = err_from_is_err_and c.from_residual.result c.from_residual.ensures.1 in
     absurd (not-step c.in_err-by.field-0.0 (sym (p.1 ∙ ap (λ (k : Refusal). Err k) p.2) ∙ e))
+
+pub returns-in_err-by-clause-awaits : goal.returns-in_err-by-clause-awaits
+returns-in_err-by-clause-awaits g c =
+    let old = parts c.args.c.now in
+    let p = err_from_is_err_and c.from_residual.result c.from_residual.ensures.1 in
+    subst (λ (r : Result Recovery Refusal). IfErr r (λ n. (place : Place) → n ≡ R.NeedPage place → AwaitsPage old c.args.i))
+    (sym (p.1 ∙ ap (λ (k : Refusal). Err k) p.2))
+    (λ place is. absurd (subst WantsNone is (unrecovering-wants old c.args.i c.in_err-by.field-0.0 c.in_err-by.ensures.refused)))

@@ -15,8 +15,9 @@ use Rattle.sd_txn.specs.Transactions.{span_at, state_at, top_at}
 use Rattle.sd_txn.specs.declared.state.OpenRec.{OpenRec}
 use Rattle.sd_txn.specs.declared.state.TxnState.{TxnState}
 use Rattle.sd_world.specs.Serving.{Telling, answered, telling}
-use Rattle.sd_survive.specs.Recovering.{IsNext, tasks_in}
+use Rattle.sd_survive.specs.Recovering.{AwaitsPage, IsNext, tasks_in}
 use Rattle.sd_survive.specs.declared.tasks.Task.TheVariants as task
+use Rattle.sd_survive.proofs.Wanting.{lost-none, none-wanted, wanted-so}
 use Rattle.sd_survive.proofs.Nexts.{next-cleared, opposite, there-cleared}
 use Rattle.sd_survive.proofs.Owns.{bare, doubtful, ended-loser, open-loser, own-row, spoken}
 use Rattle.sd_survive.proofs.recovering.work_on.Goals as goal
@@ -329,3 +330,35 @@ returns-in-End-clause-cleared g c = λ fine.
 
 pub returns-in-Done-clause-cleared : goal.returns-in-Done-clause-cleared
 returns-in-Done-clause-cleared g c = λ fine. absurd (c.ended.ensures.last fine)
+
+pub returns-in-Settle-clause-awaits : goal.returns-in-Settle-clause-awaits
+returns-in-Settle-clause-awaits g c =
+    let old : Parts = parts c.args.c.now in
+    none-wanted c.stepped.result c.settle_next.result (AwaitsPage old c.args.i) c.stepped.ensures.same
+    (lost-none c.settle_next.result c.args.by old (parts c.settle_next.new.c) c.settle_next.ensures.left)
+
+pub returns-in-Rebuild-clause-awaits : goal.returns-in-Rebuild-clause-awaits
+returns-in-Rebuild-clause-awaits g c =
+    let old : Parts = parts c.args.c.now in
+    none-wanted c.stepped-in-Rebuild.result c.rebuild_next.result (AwaitsPage old c.args.i) c.stepped-in-Rebuild.ensures.same
+    (lost-none c.rebuild_next.result c.args.by old (parts c.rebuild_next.new.c) c.rebuild_next.ensures.left)
+
+pub returns-in-Decide-clause-awaits : goal.returns-in-Decide-clause-awaits
+returns-in-Decide-clause-awaits g c =
+    none-wanted c.stepped-in-Decide.result c.decide_next.result (AwaitsPage (parts c.args.c.now) c.args.i) c.stepped-in-Decide.ensures.same
+    c.decide_next.ensures.only
+
+pub returns-in-Undo-clause-awaits : goal.returns-in-Undo-clause-awaits
+returns-in-Undo-clause-awaits g c =
+    let old : Parts = parts c.args.c.now in
+    wanted-so c.stepped-in-Undo.result (AwaitsPage old c.args.i)
+    (c.in-Undo.txn, c.in-Undo.page, subst (IsNext old c.args.i) c.in-Undo.is c.requires.next)
+
+pub returns-in-End-clause-awaits : goal.returns-in-End-clause-awaits
+returns-in-End-clause-awaits g c =
+    none-wanted c.stepped-in-End.result c.end_next.result (AwaitsPage (parts c.args.c.now) c.args.i) c.stepped-in-End.ensures.same
+    c.end_next.ensures.only
+
+pub returns-in-Done-clause-awaits : goal.returns-in-Done-clause-awaits
+returns-in-Done-clause-awaits g c =
+    none-wanted c.ended.result c.finish.result (AwaitsPage (parts c.args.c.now) c.args.i) c.ended.ensures.same c.finish.ensures.only
