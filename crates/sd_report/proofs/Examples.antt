@@ -1,13 +1,16 @@
--- Two reports, computed from their scripts and books.
+-- Reports, computed from their scripts and books.
 use Rattle.std.proofs.Common.{◌≡◌, ℕ, true, List, [], ◌∷◌, ◌++◌, refl}
-use Rattle.std.specs.Prelude.{Some, codes}
+use Rattle.std.specs.Prelude.{None, Some, codes}
 use Rattle.std.specs.Fmt.{digits}
 use Rattle.sd_base.specs.Ids.{same_txn}
 use Rattle.sd_base.specs.declared.ids.Rid.{Rid}
 use Rattle.sd_base.specs.declared.ids.TxnId.{TxnId}
 use Rattle.sd_base.specs.declared.place.Mode.TheVariants as mode
 use Rattle.sd_base.specs.declared.place.Place.TheVariants as place
+use Rattle.sd_base.specs.declared.place.Status.TheVariants as status
 use Rattle.sd_base.specs.declared.refusal.Refusal.TheVariants as refusal
+use Rattle.sd_base.specs.declared.trouble.Pick.TheVariants as pick
+use Rattle.sd_base.specs.declared.trouble.Trouble.TheVariants as trouble
 use Rattle.sd_model.specs.declared.event.Event.{Event}
 use Rattle.sd_model.specs.declared.event.Event.TheVariants as event
 use Rattle.sd_model.specs.declared.event.Reply.{Reply}
@@ -78,3 +81,44 @@ refused_report : refused ≡ text (
     ∷ codes "b wait for a" ∷ codes "c ended" ∷ codes "1 need 0" ∷ codes "busy a" ∷ [])
 unfolding digits same_txn
 refused_report = refl
+
+-- a commit is cut, all instances fail, and the one that there is recovers and joins again
+abbrev restarted : List ℕ
+restarted =
+    report
+    (at 1 (form.Complex 1 1 2) ∷ at 2 (form.Begin 1 (codes "a")) ∷ at 3 (form.Insert (codes "a") 0 0 (codes "red") None)
+    ∷ at 4 (form.Fault 4) ∷ at 5 (form.Commit (codes "a") 0) ∷ at 6 (form.FailAll pick.Keep) ∷ at 7 form.Reopen
+    ∷ at 8 form.RecoverAll ∷ at 9 form.JoinAll ∷ at 10 form.Table ∷ [])
+    (noted 0 (event.Join 1) (reply.Joined 1) ∷ noted 2 (event.Begin 1) (reply.Began (txn 1))
+    ∷ noted 3 (event.Insert (txn 1) 0 (codes "red") 3) (reply.At (slot 0)) ∷ noted 4 (event.Arm (trouble.Fault 4)) reply.Did
+    ∷ noted 5 (event.Commit (txn 1)) (reply.Refused refusal.CutCommit) ∷ noted 6 (event.FailAll pick.Keep) reply.Did
+    ∷ noted 7 event.Reopen reply.Did ∷ noted 8 (event.RecoverBegin 1 1) reply.Did ∷ noted 8 (event.RecoverStep 1) reply.Step
+    ∷ noted 8 (event.RecoverStep 1) reply.Finished ∷ noted 9 (event.Join 1) (reply.Joined 2)
+    ∷ noted 10 (event.List 1 0) (reply.Refused (refusal.NeedPage place.Free)) ∷ noted 0 (event.Ask 1 0 mode.Shared) reply.Have
+    ∷ noted 10 (event.List 1 0) (reply.Rows ((slot 0, codes "red") ∷ [])) ∷ [])
+
+restarted_report : restarted ≡ text (
+    codes "complex 1 1 2" ∷ codes "a begin 1.1.1" ∷ codes "a insert 0.0" ∷ codes "fault 4" ∷ codes "a cut"
+    ∷ codes "fail all keep" ∷ codes "reopen" ∷ codes "recover all" ∷ codes "join all" ∷ codes "0.0 red" ∷ codes "table 1" ∷ [])
+unfolding digits
+restarted_report = refl
+
+-- a closed complex has nobody to recover, one that is open can't be opened, and a page that a recovery needs can't be pulled
+abbrev unrecovered : List ℕ
+unrecovered =
+    report
+    (at 1 (form.Complex 2 1 2) ∷ at 2 (form.FailAll pick.Tear) ∷ at 3 form.RecoverAll ∷ at 4 form.JoinAll ∷ at 5 form.Reopen
+    ∷ at 6 form.Reopen ∷ at 7 form.RecoverAll ∷ at 8 form.JoinAll ∷ [])
+    (noted 0 (event.Join 1) (reply.Joined 1) ∷ noted 0 (event.Join 2) (reply.Joined 1)
+    ∷ noted 2 (event.FailAll pick.Tear) reply.Did ∷ noted 4 (event.Join 1) (reply.Refused refusal.Down)
+    ∷ noted 5 event.Reopen reply.Did ∷ noted 6 event.Reopen (reply.Refused (refusal.NotDown status.Down))
+    ∷ noted 7 (event.RecoverBegin 1 1) reply.Did ∷ noted 7 (event.RecoverStep 1) (reply.Refused (refusal.NeedPage place.Free))
+    ∷ noted 0 (event.Ask 1 0 mode.Excl) (reply.Refused refusal.Failed)
+    ∷ noted 7 (event.RecoverStep 1) (reply.Refused (refusal.NeedPage place.Free))
+    ∷ noted 8 (event.Join 1) (reply.Refused (refusal.NotRecovered (status.Recovering 1))) ∷ [])
+
+unrecovered_report : unrecovered ≡ text (
+    codes "complex 2 1 2" ∷ codes "fail all tear" ∷ codes "recover all" ∷ codes "join all down" ∷ codes "reopen"
+    ∷ codes "reopen not down" ∷ codes "recover all fault" ∷ codes "join all not recovered" ∷ [])
+unfolding digits
+unrecovered_report = refl

@@ -12,10 +12,11 @@ use Rattle.sd_model.specs.declared.event.Entry.{Entry}
 use Rattle.sd_script.specs.declared.line.Form.{Form}
 use Rattle.sd_script.specs.declared.line.Form.TheVariants as form
 use Rattle.sd_script.specs.declared.line.Line.{Line}
+use Rattle.sd_script.specs.Forms.{pick_word}
 use Rattle.sd_report.specs.Words.{line_of, NamesOf}
 use Rattle.sd_report.specs.Refusals.{refusal_text, tells_txn}
-use Rattle.sd_report.specs.Replies.{no_reply, pulled_text, reply_text, last_text, words_of, behind_words, last_behind_words}
-use Rattle.sd_report.specs.Report.{last_entry, txn_line, page_line, echo_line, listed, table_lines}
+use Rattle.sd_report.specs.Replies.{no_reply, pulled_text, reply_text, last_text, words_of, behind_words, last_behind_words, behind_all, last_behind_all}
+use Rattle.sd_report.specs.Report.{last_entry, txn_line, page_line, echo_line, all_line, listed, table_lines}
 use Rattle.sd_report.specs.Report.{reported, gathered, entries_of, reply_tells_txn, tell_txns}
 
 neither : (a b : Bool) → (a || b) ≡ false → (a ≡ false) × (b ≡ false)
@@ -81,6 +82,18 @@ same_last_behind : (f g : NamesOf) (last : Option Entry) → ((entry : Entry) �
 same_last_behind f g None plain = refl
 same_last_behind f g (Some entry) plain = same_behind f g entry.event entry.reply (plain entry refl)
 
+same_all : (f g : NamesOf) (e : Event) (r : Reply) → reply_tells_txn r ≡ false → behind_all f e r ≡ behind_all g e r
+same_all f g e (reply.Refused n) plain = ap (λ (l : List ℕ). 32 ∷ l) (same_pulled f g e n plain)
+same_all f g e reply.Finished plain = refl
+same_all f g e (reply.Joined epoch) plain = refl
+same_all f g e r plain = refl
+
+same_last_all : (f g : NamesOf) (last : Option Entry) → ((entry : Entry) → last ≡ Some entry
+    → reply_tells_txn entry.reply ≡ false)
+    → last_behind_all f last ≡ last_behind_all g last
+same_last_all f g None plain = refl
+same_last_all f g (Some entry) plain = same_all f g entry.event entry.reply (plain entry refl)
+
 same_table : (f g : NamesOf) (own : List Entry) (last : Option Entry) → ((entry : Entry) → last ≡ Some entry
     → reply_tells_txn entry.reply ≡ false)
     → table_lines f own last ≡ table_lines g own last
@@ -105,6 +118,11 @@ module _ (f g : NamesOf) (own : List Entry) (none : tell_txns own ≡ false) whe
       ap (λ (l : List ℕ). line_of ((words ++ l) ∷ []))
       (same_last_behind f g (last_entry own) (last_plain own none))
 
+  same_all_line : (words : List ℕ) → all_line f words own ≡ all_line g words own
+  same_all_line words =
+      ap (λ (l : List ℕ). line_of ((words ++ l) ∷ []))
+      (same_last_all f g (last_entry own) (last_plain own none))
+
   same_line : (of : Form) → reported f of own ≡ reported g of own
   same_line (form.Complex insts pages frames) = refl
   same_line (form.Begin inst name) = same_txn_line name (form.Begin inst name)
@@ -126,6 +144,10 @@ module _ (f g : NamesOf) (own : List Entry) (none : tell_txns own ≡ false) whe
   same_line (form.Fail inst) = same_echo_line (codes "fail " ++ decimal inst)
   same_line (form.Fuse calls) = same_echo_line (codes "fuse " ++ decimal calls)
   same_line (form.Fault call) = same_echo_line (codes "fault " ++ decimal call)
+  same_line (form.FailAll pick) = same_echo_line (codes "fail all " ++ pick_word pick)
+  same_line form.Reopen = same_echo_line (codes "reopen")
+  same_line form.RecoverAll = same_all_line (codes "recover all")
+  same_line form.JoinAll = same_all_line (codes "join all")
   same_line (form.Where page) = same_page_line page (form.Where page)
   same_line form.Table = same_table f g own (last_entry own) (last_plain own none)
 

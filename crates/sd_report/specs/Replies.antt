@@ -86,11 +86,15 @@ words_of (form.Force inst) r = done (codes "forced") r
 words_of (form.Fail inst) r = no_reply
 words_of (form.Fuse calls) r = no_reply
 words_of (form.Fault call) r = no_reply
+words_of (form.FailAll pick) r = no_reply
+words_of form.Reopen r = no_reply
+words_of form.RecoverAll r = no_reply
+words_of form.JoinAll r = no_reply
 words_of (form.Where page) r = shown r
 words_of form.Table r = no_reply
 
--- A page that a line of a transaction or a table needs is pulled. Where the line needs it still behind the pull, that is told as
--- a fault.
+-- A page that a line of a transaction, a recovery or a table needs is pulled. Where the line needs it still behind the
+-- pull, that is told as a fault.
 abbrev pub pulled_text : NamesOf → Event → Refusal → List ℕ
 pulled_text names e (refusal.NeedPage place) = codes "fault"
 pulled_text names e n = refusal_text names e n
@@ -114,3 +118,16 @@ behind_words names e r = 32 ∷ no_reply
 abbrev pub last_behind_words : NamesOf → Option Entry → List ℕ
 last_behind_words names None = 32 ∷ no_reply
 last_behind_words names (Some entry) = behind_words names entry.event entry.reply
+
+-- What stands behind the own words of a line of all instances, by its last reply: nothing where the last of them has
+-- recovered or joined.
+abbrev pub behind_all : NamesOf → Event → Reply → List ℕ
+behind_all names e reply.Finished = []
+behind_all names e (reply.Joined epoch) = []
+behind_all names e (reply.Refused n) = 32 ∷ pulled_text names e n
+behind_all names e r = 32 ∷ no_reply
+
+-- where no instance was to recover or to join, the line had no event
+abbrev pub last_behind_all : NamesOf → Option Entry → List ℕ
+last_behind_all names None = []
+last_behind_all names (Some entry) = behind_all names entry.event entry.reply

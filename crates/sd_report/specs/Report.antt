@@ -15,10 +15,10 @@ use Rattle.sd_model.specs.declared.event.Entry.{Entry}
 use Rattle.sd_script.specs.declared.line.Form.{Form}
 use Rattle.sd_script.specs.declared.line.Form.TheVariants as form
 use Rattle.sd_script.specs.declared.line.Line.{Line}
-use Rattle.sd_script.specs.Forms.{form_words, rid_word}
+use Rattle.sd_script.specs.Forms.{form_words, pick_word, rid_word}
 use Rattle.sd_report.specs.Words.{line_of, NamesOf, no_names}
 use Rattle.sd_report.specs.Refusals.{refusal_text, cause_word, tells_txn}
-use Rattle.sd_report.specs.Replies.{no_reply, pulled_text, last_text, words_of, last_behind_words}
+use Rattle.sd_report.specs.Replies.{no_reply, pulled_text, last_text, words_of, last_behind_words, last_behind_all}
 
 -- the entries of a line are those that carry its number; those of line 0 are of no line
 abbrev pub entries_of : ℕ → List Entry → List Entry
@@ -67,6 +67,10 @@ abbrev pub table_lines : NamesOf → List Entry → Option Entry → List ℕ
 table_lines names entries None = line_of (no_reply ∷ [])
 table_lines names entries (Some entry) = listed names entries entry.event entry.reply
 
+-- a line of all instances: its own words, and behind them why one of them didn't recover or join
+abbrev pub all_line : NamesOf → List ℕ → List Entry → List ℕ
+all_line names words entries = line_of ((words ++ last_behind_all names (last_entry entries)) ∷ [])
+
 -- what is reported of a line with these entries
 abbrev pub reported : NamesOf → Form → List Entry → List ℕ
 reported names (form.Complex insts pages frames) entries = line_of (form_words (form.Complex insts pages frames))
@@ -90,6 +94,10 @@ reported names (form.Force inst) entries = page_line names inst (form.Force inst
 reported names (form.Fail inst) entries = echo_line names (codes "fail " ++ decimal inst) entries
 reported names (form.Fuse calls) entries = echo_line names (codes "fuse " ++ decimal calls) entries
 reported names (form.Fault call) entries = echo_line names (codes "fault " ++ decimal call) entries
+reported names (form.FailAll pick) entries = echo_line names (codes "fail all " ++ pick_word pick) entries
+reported names form.Reopen entries = echo_line names (codes "reopen") entries
+reported names form.RecoverAll entries = all_line names (codes "recover all") entries
+reported names form.JoinAll entries = all_line names (codes "join all") entries
 reported names (form.Where page) entries = page_line names page (form.Where page) entries
 reported names form.Table entries = table_lines names entries (last_entry entries)
 
@@ -121,6 +129,10 @@ report lines entries = gathered (reported (names_of lines entries)) lines entrie
 -- what is reported of a text that is no script: its first bad line, and what is wrong with it
 abbrev pub bad_text : ℕ → Cause → List ℕ
 bad_text line cause = line_of (codes "bad line" ∷ decimal line ∷ cause_word cause ∷ [])
+
+-- what is reported of devices that aren't sound: where they fail first
+abbrev pub damaged_text : ℕ → ℕ → List ℕ
+damaged_text dev at = line_of (codes "damaged" ∷ decimal dev ∷ decimal at ∷ [])
 
 -- whether a reply is a refusal that tells a transaction
 abbrev pub reply_tells_txn : Reply → Bool

@@ -2,7 +2,8 @@
 //!
 //! Meaning: `report` (`specs/Report.antt`): what each line of a script prints, by the entries that carry its number.
 //! Keeps: nothing behind a call.
-//! Promises: `render` writes that text and nothing else (its one clause), `bad_line` that of a bad line.
+//! Promises: `render` writes that text and nothing else (its one clause), `bad_line` that of a bad line,
+//! `damaged_line` that of devices that aren't sound.
 //! Refuses: nothing but for want of memory.
 //! Knows nothing of: how a line is served, what a reply means, where the text goes.
 //! Stands on: sd_base, sd_model, sd_script.
@@ -24,4 +25,4 @@ mod txn_names;
 mod words;
 
 pub use order::in_order;
-pub use report::{bad_line, render};
+pub use report::{bad_line, damaged_line, render};

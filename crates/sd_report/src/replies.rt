@@ -7,7 +7,7 @@ ghost use Rattle.sd_script.specs.Forms.{rid_word};
 ghost use Rattle.sd_report.specs.Names.{name_in};
 ghost use Rattle.sd_report.specs.Refusals.{refusal_text};
 ghost use Rattle.sd_report.specs.Replies.{no_reply, began, value_text, found, placed, done, rolled_back, asked, gave, shown, words_of};
-ghost use Rattle.sd_report.specs.Replies.{pulled_text, last_text, last_behind_words};
+ghost use Rattle.sd_report.specs.Replies.{pulled_text, last_text, last_behind_all, last_behind_words};
 
 use crate::places::push_place;
 use crate::refusals::push_refusal;
@@ -190,6 +190,10 @@ fn push_words(out: &mut Vec<u8>, form: &Form, reply: &Reply) -> Result<(), Memor
         | Form::Fail { .. }
         | Form::Fuse { .. }
         | Form::Fault { .. }
+        | Form::FailAll { .. }
+        | Form::Reopen
+        | Form::RecoverAll
+        | Form::JoinAll
         | Form::Table => push_no_reply(out),
         Form::Begin { .. } => push_began(out, reply),
         Form::Read { rid, .. } => push_found(out, *rid, reply),
@@ -281,6 +285,29 @@ pub fn push_behind_words(
         Reply::Refused(refusal) => {
             push_word(out, b" ")?;
             push_refusal(out, names, &entry.event, refusal)
+        }
+        _ => push_next(out, b"no reply"),
+    }
+}
+
+/// Appends what stands behind the own words of a line of all instances: nothing where the last of them has recovered or
+/// joined, or there was none to.
+pub fn push_behind_all(
+    out: &mut Vec<u8>,
+    names: &TxnNames,
+    last: Option<&Entry>,
+) -> Result<(), Memory>
+    ensures { OnOk result (out.new.items ≡ out.old.items
+        ++ last_behind_all (name_in names.now) (option_copied last.entry)) }
+{
+    let Some(entry) = last else {
+        return Ok(());
+    };
+    match &entry.reply {
+        Reply::Finished | Reply::Joined { .. } => Ok(()),
+        Reply::Refused(refusal) => {
+            push_word(out, b" ")?;
+            push_pulled(out, names, &entry.event, refusal)
         }
         _ => push_next(out, b"no reply"),
     }

@@ -5,21 +5,23 @@ ghost use Rattle.std.specs.List.{flat_map};
 ghost use Rattle.std.specs.Option.{option_copied};
 ghost use Rattle.std.specs.Fmt.{decimal};
 ghost use Rattle.sd_script.specs.declared.line.Form.TheVariants as form;
-ghost use Rattle.sd_script.specs.Forms.{rid_word};
+ghost use Rattle.sd_script.specs.Forms.{pick_word, rid_word};
 ghost use Rattle.sd_report.specs.Names.{name_in};
 ghost use Rattle.sd_report.specs.Words.{line_of, no_names};
 ghost use Rattle.sd_report.specs.Refusals.{refusal_text};
-ghost use Rattle.sd_report.specs.Replies.{no_reply, pulled_text, last_text, words_of, last_behind_words};
-ghost use Rattle.sd_report.specs.Report.{entries_of, reported, report, bad_text};
+ghost use Rattle.sd_report.specs.Replies.{no_reply, pulled_text, last_text, words_of, last_behind_all, last_behind_words};
+ghost use Rattle.sd_report.specs.Report.{entries_of, reported, report, bad_text, damaged_text};
 ghost use Rattle.sd_report.specs.Report.{gathered, reply_tells_txn, tell_txns, AreFrom, AreAbove};
 ghost use Rattle.sd_report.specs.Report.{row_line, rows_in, table_text, table_rows};
 
 use crate::parting::{last_of, part_at};
 use crate::refusals::{cause_name, push_refusal};
-use crate::replies::{push_behind_words, push_page_reply, push_pulled, push_txn_reply};
+use crate::replies::{
+    push_behind_all, push_behind_words, push_page_reply, push_pulled, push_txn_reply,
+};
 use crate::txn_names::TxnNames;
 use crate::words::{push_digits, push_end, push_next, push_number, push_rid, push_word};
-use sd_base::{Bytes, Cause, InstNo, Memory, Refusal, Rid, Word};
+use sd_base::{Bytes, Cause, InstNo, Memory, Pick, Refusal, Rid, Word};
 use sd_model::{Entry, Reply};
 use sd_script::{Form, Line};
 use std::alloc::Global;
@@ -83,6 +85,48 @@ fn push_echo_line(
     push_digits(out, number)?;
     push_behind_words(out, names, last)?;
     push_end(out)
+}
+
+// A line that is echoed: these words.
+fn push_echo(
+    out: &mut Vec<u8>,
+    names: &TxnNames,
+    words: &[u8],
+    last: Option<&Entry>,
+) -> Result<(), Memory>
+    ensures { OnOk result (out.new.items ≡ out.old.items ++ line_of ((words.now
+        ++ last_behind_words (name_in names.now) (option_copied last.entry)) ∷ [])) }
+{
+    push_word(out, words)?;
+    push_behind_words(out, names, last)?;
+    push_end(out)
+}
+
+// A line of all instances: these words.
+fn push_all_line(
+    out: &mut Vec<u8>,
+    names: &TxnNames,
+    words: &[u8],
+    last: Option<&Entry>,
+) -> Result<(), Memory>
+    ensures { OnOk result (out.new.items ≡ out.old.items ++ line_of ((words.now
+        ++ last_behind_all (name_in names.now) (option_copied last.entry)) ∷ [])) }
+{
+    push_word(out, words)?;
+    push_behind_all(out, names, last)?;
+    push_end(out)
+}
+
+// The words of a line that fails all.
+fn fail_all_words(pick: Pick) -> &'static [u8]
+    ensures { result.now ≡ codes "fail all " ++ pick_word pick }
+{
+    match pick {
+        Pick::Keep => b"fail all keep",
+        Pick::Lose => b"fail all lose",
+        Pick::Tear => b"fail all tear",
+        Pick::Junk => b"fail all junk",
+    }
 }
 
 // A row takes a byte at least.
@@ -196,6 +240,10 @@ fn push_line(
         Form::Fail { inst } => push_echo_line(out, names, b"fail ", u64::from(inst.get()), last),
         Form::Fuse { calls } => push_echo_line(out, names, b"fuse ", u64::from(*calls), last),
         Form::Fault { call } => push_echo_line(out, names, b"fault ", u64::from(*call), last),
+        Form::FailAll { pick } => push_echo(out, names, fail_all_words(*pick), last),
+        Form::Reopen => push_echo(out, names, b"reopen", last),
+        Form::RecoverAll => push_all_line(out, names, b"recover all", last),
+        Form::JoinAll => push_all_line(out, names, b"join all", last),
         Form::Where { page } => push_page_line(out, names, u64::from(page.get()), form, last),
         Form::Table => push_table(out, names, line.number, entries),
     }
@@ -257,6 +305,18 @@ pub fn bad_line(alloc: Global, line: u32, cause: Cause) -> Result<Vec<u8>, Memor
     push_word(&mut out, b"bad line")?;
     push_number(&mut out, u64::from(line))?;
     push_next(&mut out, cause_name(cause))?;
+    push_end(&mut out)?;
+    Ok(out)
+}
+
+/// The text that tells where devices that aren't sound fail first. `Memory` comes where there is none.
+pub fn damaged_line(alloc: Global, dev: u8, at: u64) -> Result<Vec<u8>, Memory>
+    ensures { IfOk result (λ text. text.items ≡ damaged_text dev at) }
+{
+    let mut out = Vec::new(alloc);
+    push_word(&mut out, b"damaged")?;
+    push_number(&mut out, u64::from(dev))?;
+    push_number(&mut out, at)?;
     push_end(&mut out)?;
     Ok(out)
 }

@@ -1,6 +1,6 @@
 -- No two forms have the same words, where the same ordinals are known. It serves the laws on readings.
 use Rattle.std.proofs.Common.{◌≡◌, ℕ, ℤ, pos, negsuc, ◌<◌, ◌^◌, List, get_or, refl, sym, ap, ◌∙◌, subst, arith}
-use Rattle.std.specs.Prelude.{Option, None, Some}
+use Rattle.std.specs.Prelude.{Option, None, Some, codes}
 use Rattle.std.specs.Fmt.{decimal, signed_decimal}
 use Rattle.std.specs.Int.Signed.{mag}
 use Rattle.std.proofs.lemmas.Fmt.{signed_decimal_injective}
@@ -8,10 +8,12 @@ use Rattle.sd_base.specs.declared.ids.Rid.{Rid}
 use Rattle.sd_base.specs.declared.place.Mode.{Mode}
 use Rattle.sd_base.specs.declared.place.Mode.TheVariants.{Shared, Excl}
 use Rattle.sd_script.specs.declared.line.Form.{Form}
-use Rattle.sd_script.specs.declared.line.Form.TheVariants.{Complex, Begin, Read, Write, Add, Insert, Delete, Save, Back, Rollback, Commit, Ask, Give, Take, Evict, Flush, Force, Fail, Fuse, Fault, Where, Table}
-use Rattle.sd_script.specs.Forms.{form_words, rid_word, mode_word, capacity_words, IsForm, IsKnownBy, IsAmount, HasRoom}
+use Rattle.sd_script.specs.declared.line.Form.TheVariants.{Complex, Begin, Read, Write, Add, Insert, Delete, Save, Back, Rollback, Commit, Ask, Give, Take, Evict, Flush, Force, Fail, Fuse, Fault, FailAll, Reopen, RecoverAll, JoinAll, Where, Table}
+use Rattle.sd_base.specs.declared.trouble.Pick.{Pick}
+use Rattle.sd_base.specs.declared.trouble.Pick.TheVariants.{Keep, Lose, Tear, Junk}
+use Rattle.sd_script.specs.Forms.{form_words, rid_word, mode_word, pick_word, capacity_words, IsForm, IsKnownBy, IsAmount, HasRoom}
 use Rattle.sd_script.proofs.Spellings.{same_number, same_rid}
-use Rattle.sd_script.proofs.Shapes.{begin_is, ask_is, give_is, take_is, evict_is, flush_is, force_is, complex_is, read_is, delete_is, write_is, add_is, insert_is, save_is, back_is, rollback_is, commit_is, fail_is, fuse_is, fault_is, where_is}
+use Rattle.sd_script.proofs.Shapes.{begin_is, ask_is, give_is, take_is, evict_is, flush_is, force_is, complex_is, read_is, delete_is, write_is, add_is, insert_is, save_is, back_is, rollback_is, commit_is, fail_is, fuse_is, fault_is, fail_all_is, reopen_is, recover_is, join_is, where_is}
 
 same_ordinal : (m n : ℕ) (o : Option ℕ) → o ≡ Some m → o ≡ Some n → m ≡ n
 same_ordinal m n o a b = let both : Some m ≡ Some n = sym a ∙ b in cc
@@ -28,6 +30,24 @@ same_mode Shared Shared e = refl
 same_mode Excl Excl e = refl
 same_mode Shared Excl e = absurd (omega (arith, ap (λ (l : List ℕ). get_or l 0 0) e))
 same_mode Excl Shared e = absurd (omega (arith, ap (λ (l : List ℕ). get_or l 0 0) e))
+
+same_pick : (p q : Pick) → pick_word p ≡ pick_word q → p ≡ q
+same_pick Keep Keep e = refl
+same_pick Lose Lose e = refl
+same_pick Tear Tear e = refl
+same_pick Junk Junk e = refl
+same_pick Keep Lose e = absurd (omega (arith, ap (λ (l : List ℕ). get_or l 0 0) e))
+same_pick Keep Tear e = absurd (omega (arith, ap (λ (l : List ℕ). get_or l 0 0) e))
+same_pick Keep Junk e = absurd (omega (arith, ap (λ (l : List ℕ). get_or l 0 0) e))
+same_pick Lose Keep e = absurd (omega (arith, ap (λ (l : List ℕ). get_or l 0 0) e))
+same_pick Lose Tear e = absurd (omega (arith, ap (λ (l : List ℕ). get_or l 0 0) e))
+same_pick Lose Junk e = absurd (omega (arith, ap (λ (l : List ℕ). get_or l 0 0) e))
+same_pick Tear Keep e = absurd (omega (arith, ap (λ (l : List ℕ). get_or l 0 0) e))
+same_pick Tear Lose e = absurd (omega (arith, ap (λ (l : List ℕ). get_or l 0 0) e))
+same_pick Tear Junk e = absurd (omega (arith, ap (λ (l : List ℕ). get_or l 0 0) e))
+same_pick Junk Keep e = absurd (omega (arith, ap (λ (l : List ℕ). get_or l 0 0) e))
+same_pick Junk Lose e = absurd (omega (arith, ap (λ (l : List ℕ). get_or l 0 0) e))
+same_pick Junk Tear e = absurd (omega (arith, ap (λ (l : List ℕ). get_or l 0 0) e))
 
 same_capacity : (value : List ℕ) (c d : Option ℕ) → HasRoom value c → HasRoom value d → capacity_words c ≡ capacity_words d
     → c ≡ d
@@ -138,6 +158,12 @@ one_form known (Fault n) g a b c d e =
     let parts = subst IsForm at.1 b in
     let call : n ≡ at.0 = same_number n at.0 (omega (arith, a.1)) (omega (arith, parts.1)) (sym at.2) in
     ap (λ (k : ℕ). Fault k) call ∙ sym at.1
+one_form known (FailAll p) g a b c d e =
+    let at = fail_all_is g (codes "all") (pick_word p) b (sym e) in
+    ap (λ (q : Pick). FailAll q) (same_pick p at.0 (sym at.3)) ∙ sym at.1
+one_form known Reopen g a b c d e = sym (reopen_is g b (sym e))
+one_form known RecoverAll g a b c d e = sym (recover_is g (codes "all") b (sym e)).0
+one_form known JoinAll g a b c d e = sym (join_is g (codes "all") b (sym e)).0
 one_form known (Where p) g a b c d e =
     let at = where_is g (decimal p) b (sym e) in
     let parts = subst IsForm at.1 b in

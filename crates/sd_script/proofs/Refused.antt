@@ -7,9 +7,10 @@ use Rattle.std.specs.Str.{bytes_eq}
 use Rattle.sd_base.specs.declared.ids.Rid.{Rid}
 use Rattle.sd_base.specs.declared.place.Mode.{Mode}
 use Rattle.sd_script.specs.declared.line.Form.{Form}
-use Rattle.sd_script.specs.declared.line.Form.TheVariants.{Complex, Begin, Read, Write, Add, Insert, Delete, Save, Back, Rollback, Commit, Ask, Give, Take, Evict, Flush, Force, Fail, Fuse, Fault, Where, Table}
-use Rattle.sd_script.specs.Forms.{form_words, rid_word, mode_word, capacity_words, IsForm, IsKnownBy, IsName, IsValue, IsRid, IsAmount, IsCount, IsInst, IsNoInst, HasRoom}
-use Rattle.sd_script.proofs.Shapes.{verb_in, inst_led, begin_is, ask_is, give_is, take_is, evict_is, flush_is, complex_is, read_is, delete_is, write_is, add_is, insert_is, save_is, back_is, rollback_is, commit_is, fail_is, fuse_is, fault_is, where_is}
+use Rattle.sd_script.specs.declared.line.Form.TheVariants.{Complex, Begin, Read, Write, Add, Insert, Delete, Save, Back, Rollback, Commit, Ask, Give, Take, Evict, Flush, Force, Fail, Fuse, Fault, FailAll, Reopen, RecoverAll, JoinAll, Where, Table}
+use Rattle.sd_base.specs.declared.trouble.Pick.{Pick}
+use Rattle.sd_script.specs.Forms.{form_words, rid_word, mode_word, pick_word, capacity_words, IsForm, IsKnownBy, IsName, IsValue, IsRid, IsAmount, IsCount, IsInst, IsNoInst, HasRoom}
+use Rattle.sd_script.proofs.Shapes.{verb_in, inst_led, begin_is, ask_is, give_is, take_is, evict_is, flush_is, complex_is, read_is, delete_is, write_is, add_is, insert_is, save_is, back_is, rollback_is, commit_is, fail_is, fuse_is, fault_is, fail_all_is, recover_is, join_is, where_is}
 
 -- what a comparison of words tells
 pub is_word : (word bytes due : List ℕ) → bytes ≡ due → true ≡ bytes_eq word bytes → word ≡ due
@@ -25,6 +26,7 @@ pub inst_alone : (known : List ℕ → Option ℕ) (i : ℕ) → IsInst i → (f
 inst_alone known i at form is knows e = led form (inst_led form i [] at e) e where
   led : (f : Form) → verb_in f ≡ [] → form_words f ≡ decimal i ∷ [] → ⊥
   led Table verb e = absurd (cc)
+  led Reopen verb e = absurd (cc)
   led _ verb e = absurd (cc)
 
 pub inst_long : (known : List ℕ → Option ℕ) (i : ℕ) (a b c d : List ℕ) (more : List (List ℕ)) → IsInst i → (form : Form)
@@ -32,6 +34,7 @@ pub inst_long : (known : List ℕ → Option ℕ) (i : ℕ) (a b c d : List ℕ)
 inst_long known i a b c d more at form is knows e = led form (inst_led form i (a ∷ b ∷ c ∷ d ∷ more) at e) e where
   led : (f : Form) → verb_in f ≡ [] → form_words f ≡ decimal i ∷ a ∷ b ∷ c ∷ d ∷ more → ⊥
   led Table verb e = absurd (cc)
+  led Reopen verb e = absurd (cc)
   led _ verb e = absurd (cc)
 
 -- an instance's line of two words, of three, and of four
@@ -62,36 +65,41 @@ no_ask known i verb page mode at ask form is knows e = led form (inst_led form i
   led _ first e = absurd (cc)
 
 -- a verb's line of one word, of two, three, four and five, and of six or more
-pub no_table : (known : List ℕ → Option ℕ) (verb : List ℕ) → verb ≢ codes "table" → (form : Form) → IsForm form
-    → IsKnownBy known form → form_words form ≡ verb ∷ [] → ⊥
-no_table known verb table Table is knows e = table (cc)
-no_table known verb table _ is knows e = absurd (cc)
+pub no_lone : (known : List ℕ → Option ℕ) (verb : List ℕ) → verb ≢ codes "table" → verb ≢ codes "reopen" → (form : Form)
+    → IsForm form → IsKnownBy known form → form_words form ≡ verb ∷ [] → ⊥
+no_lone known verb table reopen Table is knows e = table (cc)
+no_lone known verb table reopen Reopen is knows e = reopen (cc)
+no_lone known verb table reopen _ is knows e = absurd (cc)
 
 pub no_two : (known : List ℕ → Option ℕ) (verb word : List ℕ) → IsNoInst verb → verb ≢ codes "commit"
-    → verb ≢ codes "rollback" → verb ≢ codes "where" → verb ≢ codes "fail" → verb ≢ codes "fuse" → verb ≢ codes "fault" → (form : Form) → IsForm form
+    → verb ≢ codes "rollback" → verb ≢ codes "where" → verb ≢ codes "fail" → verb ≢ codes "fuse" → verb ≢ codes "fault" → verb ≢ codes "recover"
+    → verb ≢ codes "join" → (form : Form) → IsForm form
     → IsKnownBy known form → form_words form ≡ verb ∷ word ∷ [] → ⊥
-no_two known verb word none commit rollback where_ fail fuse fault (Commit name ordinal) is knows e = commit (cc)
-no_two known verb word none commit rollback where_ fail fuse fault (Rollback name ordinal) is knows e = rollback (cc)
-no_two known verb word none commit rollback where_ fail fuse fault (Where page) is knows e = where_ (cc)
-no_two known verb word none commit rollback where_ fail fuse fault (Fail i) is knows e = fail (cc)
-no_two known verb word none commit rollback where_ fail fuse fault (Fuse n) is knows e = fuse (cc)
-no_two known verb word none commit rollback where_ fail fuse fault (Fault n) is knows e = fault (cc)
-no_two known verb word none commit rollback where_ fail fuse fault (Force i) is knows e = none i is (cc)
-no_two known verb word none commit rollback where_ fail fuse fault _ is knows e = absurd (cc)
+no_two known verb word none commit rollback where_ fail fuse fault recover join (Commit name ordinal) is knows e = commit (cc)
+no_two known verb word none commit rollback where_ fail fuse fault recover join (Rollback name ordinal) is knows e = rollback (cc)
+no_two known verb word none commit rollback where_ fail fuse fault recover join (Where page) is knows e = where_ (cc)
+no_two known verb word none commit rollback where_ fail fuse fault recover join (Fail i) is knows e = fail (cc)
+no_two known verb word none commit rollback where_ fail fuse fault recover join (Fuse n) is knows e = fuse (cc)
+no_two known verb word none commit rollback where_ fail fuse fault recover join (Fault n) is knows e = fault (cc)
+no_two known verb word none commit rollback where_ fail fuse fault recover join RecoverAll is knows e = recover (cc)
+no_two known verb word none commit rollback where_ fail fuse fault recover join JoinAll is knows e = join (cc)
+no_two known verb word none commit rollback where_ fail fuse fault recover join (Force i) is knows e = none i is (cc)
+no_two known verb word none commit rollback where_ fail fuse fault recover join _ is knows e = absurd (cc)
 
 pub no_three_of : (known : List ℕ → Option ℕ) (verb second third : List ℕ) → IsNoInst verb → verb ≢ codes "read"
-    → verb ≢ codes "delete" → verb ≢ codes "save" → verb ≢ codes "back" → (form : Form) → IsForm form → IsKnownBy known form
+    → verb ≢ codes "delete" → verb ≢ codes "save" → verb ≢ codes "back" → verb ≢ codes "fail" → (form : Form) → IsForm form → IsKnownBy known form
     → form_words form ≡ verb ∷ second ∷ third ∷ [] → ⊥
-no_three_of known verb second third none read delete save back (Read name ordinal rid) is knows e = read (cc)
-no_three_of known verb second third none read delete save back (Delete name ordinal rid) is knows e = delete (cc)
-no_three_of known verb second third none read delete save back (Save name ordinal mark) is knows e = save (cc)
-no_three_of known verb second third none read delete save back (Back name ordinal mark) is knows e = back (cc)
-no_three_of known verb second third none read delete save back (Begin i name) is knows e = none i is.0 (cc)
-no_three_of known verb second third none read delete save back (Give i page) is knows e = none i is.0 (cc)
-no_three_of known verb second third none read delete save back (Take i page) is knows e = none i is.0 (cc)
-no_three_of known verb second third none read delete save back (Evict i page) is knows e = none i is.0 (cc)
-no_three_of known verb second third none read delete save back (Flush i page) is knows e = none i is.0 (cc)
-no_three_of known verb second third none read delete save back _ is knows e = absurd (cc)
+no_three_of known verb second third none read delete save back fail (Read name ordinal rid) is knows e = read (cc)
+no_three_of known verb second third none read delete save back fail (Delete name ordinal rid) is knows e = delete (cc)
+no_three_of known verb second third none read delete save back fail (Save name ordinal mark) is knows e = save (cc)
+no_three_of known verb second third none read delete save back fail (Back name ordinal mark) is knows e = back (cc)
+no_three_of known verb second third none read delete save back fail (FailAll pick) is knows e = fail (cc)
+no_three_of known verb second third none read delete save back fail (Begin i name) is knows e = none i is.0 (cc)
+no_three_of known verb second third none read delete save back fail (Give i page) is knows e = none i is.0 (cc)
+no_three_of known verb second third none read delete save back fail (Take i page) is knows e = none i is.0 (cc)
+no_three_of known verb second third none read delete save back fail (Evict i page) is knows e = none i is.0 (cc)
+no_three_of known verb second third none read delete save back fail (Flush i page) is knows e = none i is.0 (cc)
+no_three_of known verb second third none read delete save back fail _ is knows e = absurd (cc)
 
 pub no_four : (known : List ℕ → Option ℕ) (verb second third fourth : List ℕ) → IsNoInst verb → verb ≢ codes "insert"
     → verb ≢ codes "write" → verb ≢ codes "add" → verb ≢ codes "complex" → (form : Form) → IsForm form → IsKnownBy known form
@@ -269,6 +277,20 @@ fault_none known call bad form is knows e =
     let words = fault_is form call is e in
     let parts = subst IsForm words.1 is in
     bad words.0 parts.0 parts.1 words.2
+
+pub fail_all_none : (known : List ℕ → Option ℕ) (all pick : List ℕ) → ((p : Pick) → codes "all" ≡ all → pick_word p ≡ pick → ⊥)
+    → (form : Form) → IsForm form → IsKnownBy known form → form_words form ≡ codes "fail" ∷ all ∷ pick ∷ [] → ⊥
+fail_all_none known all pick bad form is knows e =
+    let words = fail_all_is form all pick is e in
+    bad words.0 words.2 words.3
+
+pub recover_none : (known : List ℕ → Option ℕ) (all : List ℕ) → (all ≡ codes "all" → ⊥) → (form : Form) → IsForm form
+    → IsKnownBy known form → form_words form ≡ codes "recover" ∷ all ∷ [] → ⊥
+recover_none known all bad form is knows e = bad (sym (recover_is form all is e).1)
+
+pub join_none : (known : List ℕ → Option ℕ) (all : List ℕ) → (all ≡ codes "all" → ⊥) → (form : Form) → IsForm form
+    → IsKnownBy known form → form_words form ≡ codes "join" ∷ all ∷ [] → ⊥
+join_none known all bad form is knows e = bad (sym (join_is form all is e).1)
 
 pub where_none : (known : List ℕ → Option ℕ) (page : List ℕ) → ((p : ℕ) → p < 1024 → decimal p ≢ page) → (form : Form)
     → IsForm form → IsKnownBy known form → form_words form ≡ codes "where" ∷ page ∷ [] → ⊥

@@ -5,9 +5,10 @@ use Rattle.std.specs.Fmt.{decimal, signed_decimal}
 use Rattle.std.proofs.lemmas.Fmt.{decimal_digit}
 use Rattle.sd_base.specs.declared.ids.Rid.{Rid}
 use Rattle.sd_base.specs.declared.place.Mode.{Mode}
+use Rattle.sd_base.specs.declared.trouble.Pick.{Pick}
 use Rattle.sd_script.specs.declared.line.Form.{Form}
-use Rattle.sd_script.specs.declared.line.Form.TheVariants.{Complex, Begin, Read, Write, Add, Insert, Delete, Save, Back, Rollback, Commit, Ask, Give, Take, Evict, Flush, Force, Fail, Fuse, Fault, Where, Table}
-use Rattle.sd_script.specs.Forms.{form_words, rid_word, mode_word, capacity_words, IsForm, IsInst, IsNoInst}
+use Rattle.sd_script.specs.declared.line.Form.TheVariants.{Complex, Begin, Read, Write, Add, Insert, Delete, Save, Back, Rollback, Commit, Ask, Give, Take, Evict, Flush, Force, Fail, Fuse, Fault, FailAll, Reopen, RecoverAll, JoinAll, Where, Table}
+use Rattle.sd_script.specs.Forms.{form_words, rid_word, mode_word, pick_word, capacity_words, IsForm, IsInst, IsNoInst}
 
 -- the first word of a form, where it is a verb
 abbrev pub verb_in : Form → List ℕ
@@ -24,6 +25,10 @@ verb_in (Commit name ordinal) = codes "commit"
 verb_in (Fail inst) = codes "fail"
 verb_in (Fuse calls) = codes "fuse"
 verb_in (Fault call) = codes "fault"
+verb_in (FailAll pick) = codes "fail"
+verb_in Reopen = codes "reopen"
+verb_in RecoverAll = codes "recover"
+verb_in JoinAll = codes "join"
 verb_in (Where page) = codes "where"
 verb_in Table = codes "table"
 verb_in _ = []
@@ -169,7 +174,7 @@ complex_is form insts pages frames is e = with_verb form (verb_found form (codes
       with_verb : (f : Form) → verb_in f ≡ codes "complex" → form_words f ≡ codes "complex" ∷ insts ∷ pages ∷ frames ∷ []
           → (i : ℕ) × (p : ℕ) × (k : ℕ) × (f ≡ Complex i p k) × (decimal i ≡ insts) × (decimal p ≡ pages) × (decimal k ≡ frames)
       with_verb (Complex i p f) verb e = (i, p, f, refl, cc, cc, cc)
-      with_verb _ verb e = absurd (cc)
+      with_verb _ verb e = absurd (omega (arith, ap (λ (l : List ℕ). get_or l 4 0) verb))
 
 pub read_is : (form : Form) (name rid : List ℕ) → IsForm form → form_words form ≡ codes "read" ∷ name ∷ rid ∷ []
     → (o : ℕ) × (r : Rid) × (form ≡ Read name o r) × (rid_word r ≡ rid)
@@ -185,7 +190,7 @@ delete_is form name rid is e = with_verb form (verb_found form (codes "delete") 
   with_verb : (f : Form) → verb_in f ≡ codes "delete" → form_words f ≡ codes "delete" ∷ name ∷ rid ∷ []
       → (o : ℕ) × (r : Rid) × (f ≡ Delete name o r) × (rid_word r ≡ rid)
   with_verb (Delete n o r) verb e = let same : n ≡ name = cc in (o, r, ap (λ (x : List ℕ). Delete x o r) same, cc)
-  with_verb _ verb e = absurd (cc)
+  with_verb _ verb e = absurd (omega (arith, ap (λ (l : List ℕ). get_or l 0 0) verb))
 
 pub write_is : (form : Form) (name rid value : List ℕ) → IsForm form
     → form_words form ≡ codes "write" ∷ name ∷ rid ∷ value ∷ []
@@ -201,7 +206,7 @@ write_is form name rid value is e = with_verb form (verb_found form (codes "writ
             (x : List ℕ). Write x o r v) same ∙ ap (λ (x : List ℕ). Write name o r x) bytes,
         cc,
       )
-      with_verb _ verb e = absurd (cc)
+      with_verb _ verb e = absurd (omega (arith, ap (λ (l : List ℕ). get_or l 1 0) verb))
 
 pub add_is : (form : Form) (name rid by : List ℕ) → IsForm form → form_words form ≡ codes "add" ∷ name ∷ rid ∷ by ∷ []
     → (o : ℕ) × (r : Rid) × (z : ℤ) × (form ≡ Add name o r z) × (rid_word r ≡ rid) × (signed_decimal z ≡ by)
@@ -209,7 +214,7 @@ add_is form name rid by is e = with_verb form (verb_found form (codes "add") (na
   with_verb : (f : Form) → verb_in f ≡ codes "add" → form_words f ≡ codes "add" ∷ name ∷ rid ∷ by ∷ []
       → (o : ℕ) × (r : Rid) × (z : ℤ) × (f ≡ Add name o r z) × (rid_word r ≡ rid) × (signed_decimal z ≡ by)
   with_verb (Add n o r z) verb e = let same : n ≡ name = cc in (o, r, z, ap (λ (x : List ℕ). Add x o r z) same, cc, cc)
-  with_verb _ verb e = absurd (cc)
+  with_verb _ verb e = absurd (omega (arith, ap (λ (l : List ℕ). get_or l 0 0) verb))
 
 pub insert_is : (form : Form) (name page value : List ℕ) (more : List (List ℕ)) → IsForm form
     → form_words form ≡ codes "insert" ∷ name ∷ page ∷ value ∷ more
@@ -227,7 +232,7 @@ insert_is form name page value more is e = with_verb form (verb_found form (code
         cc,
         cc,
       )
-      with_verb _ verb e = absurd (cc)
+      with_verb _ verb e = absurd (omega (arith, ap (λ (l : List ℕ). get_or l 0 0) verb))
 
 pub save_is : (form : Form) (name mark : List ℕ) → IsForm form → form_words form ≡ codes "save" ∷ name ∷ mark ∷ []
     → (o : ℕ) × (form ≡ Save name o mark)
@@ -245,7 +250,7 @@ back_is form name mark is e = with_verb form (verb_found form (codes "back") (na
       → (o : ℕ) × (f ≡ Back name o mark)
   with_verb (Back n o m) verb e = let same : n ≡ name = cc in let set : m ≡ mark = cc in
       (o, ap (λ (x : List ℕ). Back x o m) same ∙ ap (λ (x : List ℕ). Back name o x) set)
-  with_verb _ verb e = absurd (omega (arith, ap (λ (l : List ℕ). get_or l 2 0) verb))
+  with_verb _ verb e = absurd (omega (arith, ap (λ (l : List ℕ). get_or l 0 0) verb))
 
 pub rollback_is : (form : Form) (name : List ℕ) → IsForm form → form_words form ≡ codes "rollback" ∷ name ∷ []
     → (o : ℕ) × (form ≡ Rollback name o)
@@ -253,14 +258,14 @@ rollback_is form name is e = with_verb form (verb_found form (codes "rollback") 
   with_verb : (f : Form) → verb_in f ≡ codes "rollback" → form_words f ≡ codes "rollback" ∷ name ∷ []
       → (o : ℕ) × (f ≡ Rollback name o)
   with_verb (Rollback n o) verb e = let same : n ≡ name = cc in (o, ap (λ (x : List ℕ). Rollback x o) same)
-  with_verb _ verb e = absurd (cc)
+  with_verb _ verb e = absurd (omega (arith, ap (λ (l : List ℕ). get_or l 4 0) verb))
 
 pub commit_is : (form : Form) (name : List ℕ) → IsForm form → form_words form ≡ codes "commit" ∷ name ∷ []
     → (o : ℕ) × (form ≡ Commit name o)
 commit_is form name is e = with_verb form (verb_found form (codes "commit") (name ∷ []) (lit< tt) is e) e where
   with_verb : (f : Form) → verb_in f ≡ codes "commit" → form_words f ≡ codes "commit" ∷ name ∷ [] → (o : ℕ) × (f ≡ Commit name o)
   with_verb (Commit n o) verb e = let same : n ≡ name = cc in (o, ap (λ (x : List ℕ). Commit x o) same)
-  with_verb _ verb e = absurd (cc)
+  with_verb _ verb e = absurd (omega (arith, ap (λ (l : List ℕ). get_or l 3 0) verb))
 
 pub fail_is : (form : Form) (inst : List ℕ) → IsForm form → form_words form ≡ codes "fail" ∷ inst ∷ []
     → (i : ℕ) × (form ≡ Fail i) × (decimal i ≡ inst)
@@ -268,6 +273,7 @@ fail_is form inst is e = with_verb form (verb_found form (codes "fail") (inst �
   with_verb : (f : Form) → verb_in f ≡ codes "fail" → form_words f ≡ codes "fail" ∷ inst ∷ []
       → (i : ℕ) × (f ≡ Fail i) × (decimal i ≡ inst)
   with_verb (Fail i) verb e = (i, refl, cc)
+  with_verb (FailAll pick) verb e = absurd (cc)
   with_verb _ verb e = absurd (omega (arith, ap (λ (l : List ℕ). get_or l 0 0) verb, ap (λ (l : List ℕ). get_or l 2 0) verb))
 
 pub fuse_is : (form : Form) (calls : List ℕ) → IsForm form → form_words form ≡ codes "fuse" ∷ calls ∷ []
@@ -285,6 +291,37 @@ fault_is form call is e = with_verb form (verb_found form (codes "fault") (call 
       → (n : ℕ) × (f ≡ Fault n) × (decimal n ≡ call)
   with_verb (Fault n) verb e = (n, refl, cc)
   with_verb _ verb e = absurd (omega (arith, ap (λ (l : List ℕ). get_or l 2 0) verb))
+
+pub fail_all_is : (form : Form) (all pick : List ℕ) → IsForm form → form_words form ≡ codes "fail" ∷ all ∷ pick ∷ []
+    → (p : Pick) × (form ≡ FailAll p) × (codes "all" ≡ all) × (pick_word p ≡ pick)
+fail_all_is form all pick is e = with_verb form (verb_found form (codes "fail") (all ∷ pick ∷ []) (lit< tt) is e) e where
+  with_verb : (f : Form) → verb_in f ≡ codes "fail" → form_words f ≡ codes "fail" ∷ all ∷ pick ∷ []
+      → (p : Pick) × (f ≡ FailAll p) × (codes "all" ≡ all) × (pick_word p ≡ pick)
+  with_verb (FailAll p) verb e = (p, refl, cc, cc)
+  with_verb (Fail i) verb e = absurd (cc)
+  with_verb _ verb e = absurd (omega (arith, ap (λ (l : List ℕ). get_or l 0 0) verb, ap (λ (l : List ℕ). get_or l 2 0) verb))
+
+pub reopen_is : (form : Form) → IsForm form → form_words form ≡ codes "reopen" ∷ [] → form ≡ Reopen
+reopen_is form is e = with_verb form (verb_found form (codes "reopen") [] (lit< tt) is e) where
+  with_verb : (f : Form) → verb_in f ≡ codes "reopen" → f ≡ Reopen
+  with_verb Reopen verb = refl
+  with_verb _ verb = absurd (omega (arith, ap (λ (l : List ℕ). get_or l 2 0) verb))
+
+pub recover_is : (form : Form) (all : List ℕ) → IsForm form → form_words form ≡ codes "recover" ∷ all ∷ []
+    → (form ≡ RecoverAll) × (codes "all" ≡ all)
+recover_is form all is e = with_verb form (verb_found form (codes "recover") (all ∷ []) (lit< tt) is e) e where
+  with_verb : (f : Form) → verb_in f ≡ codes "recover" → form_words f ≡ codes "recover" ∷ all ∷ []
+      → (f ≡ RecoverAll) × (codes "all" ≡ all)
+  with_verb RecoverAll verb e = (refl, cc)
+  with_verb _ verb e = absurd (omega (arith, ap (λ (l : List ℕ). get_or l 3 0) verb))
+
+pub join_is : (form : Form) (all : List ℕ) → IsForm form → form_words form ≡ codes "join" ∷ all ∷ []
+    → (form ≡ JoinAll) × (codes "all" ≡ all)
+join_is form all is e = with_verb form (verb_found form (codes "join") (all ∷ []) (lit< tt) is e) e where
+  with_verb : (f : Form) → verb_in f ≡ codes "join" → form_words f ≡ codes "join" ∷ all ∷ []
+      → (f ≡ JoinAll) × (codes "all" ≡ all)
+  with_verb JoinAll verb e = (refl, cc)
+  with_verb _ verb e = absurd (omega (arith, ap (λ (l : List ℕ). get_or l 0 0) verb))
 
 pub where_is : (form : Form) (page : List ℕ) → IsForm form → form_words form ≡ codes "where" ∷ page ∷ []
     → (p : ℕ) × (form ≡ Where p) × (decimal p ≡ page)

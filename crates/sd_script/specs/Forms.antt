@@ -4,8 +4,10 @@ use Rattle.std.specs.Fmt.{decimal, signed_decimal}
 use Rattle.sd_base.specs.declared.ids.Rid.{Rid}
 use Rattle.sd_base.specs.declared.place.Mode.{Mode}
 use Rattle.sd_base.specs.declared.place.Mode.TheVariants.{Shared, Excl}
+use Rattle.sd_base.specs.declared.trouble.Pick.{Pick}
+use Rattle.sd_base.specs.declared.trouble.Pick.TheVariants.{Keep, Lose, Tear, Junk}
 use Rattle.sd_script.specs.declared.line.Form.{Form}
-use Rattle.sd_script.specs.declared.line.Form.TheVariants.{Complex, Begin, Read, Write, Add, Insert, Delete, Save, Back, Rollback, Commit, Ask, Give, Take, Evict, Flush, Force, Fail, Fuse, Fault, Where, Table}
+use Rattle.sd_script.specs.declared.line.Form.TheVariants.{Complex, Begin, Read, Write, Add, Insert, Delete, Save, Back, Rollback, Commit, Ask, Give, Take, Evict, Flush, Force, Fail, Fuse, Fault, FailAll, Reopen, RecoverAll, JoinAll, Where, Table}
 
 -- the word of a record: its page, a dot, its slot
 abbrev pub rid_word : Rid → List ℕ
@@ -15,6 +17,13 @@ rid_word rid = decimal rid.page ++ 46 ∷ decimal rid.slot
 abbrev pub mode_word : Mode → List ℕ
 mode_word Shared = codes "s"
 mode_word Excl = codes "x"
+
+-- the word of what a crash makes of bytes that aren't stable
+abbrev pub pick_word : Pick → List ℕ
+pick_word Keep = codes "keep"
+pick_word Lose = codes "lose"
+pick_word Tear = codes "tear"
+pick_word Junk = codes "junk"
 
 -- the words of a capacity, which may be left out
 abbrev pub capacity_words : Option ℕ → List (List ℕ)
@@ -43,6 +52,10 @@ form_words (Force inst) = decimal inst ∷ codes "force" ∷ []
 form_words (Fail inst) = codes "fail" ∷ decimal inst ∷ []
 form_words (Fuse calls) = codes "fuse" ∷ decimal calls ∷ []
 form_words (Fault call) = codes "fault" ∷ decimal call ∷ []
+form_words (FailAll pick) = codes "fail" ∷ codes "all" ∷ pick_word pick ∷ []
+form_words Reopen = codes "reopen" ∷ []
+form_words RecoverAll = codes "recover" ∷ codes "all" ∷ []
+form_words JoinAll = codes "join" ∷ codes "all" ∷ []
 form_words (Where page) = codes "where" ∷ decimal page ∷ []
 form_words Table = codes "table" ∷ []
 
@@ -111,6 +124,10 @@ IsForm (Force inst) = IsInst inst
 IsForm (Fail inst) = IsInst inst
 IsForm (Fuse calls) = calls ≤ 1000000
 IsForm (Fault call) = (1 ≤ call) × (call ≤ 1000000)
+IsForm (FailAll pick) = Unit {0}
+IsForm Reopen = Unit {0}
+IsForm RecoverAll = Unit {0}
+IsForm JoinAll = Unit {0}
 IsForm (Where page) = page < 1024
 IsForm Table = Unit {0}
 

@@ -6,7 +6,7 @@ use Rattle.sd_base.specs.declared.refusal.Refusal.{Refusal}
 use Rattle.sd_base.specs.declared.refusal.Refusal.TheVariants as refusal
 use Rattle.sd_base.specs.declared.refusal.Cause.TheVariants.{Word}
 use Rattle.sd_script.specs.declared.line.Form.{Form}
-use Rattle.sd_script.specs.declared.line.Form.TheVariants.{Complex, Begin, Read, Write, Add, Insert, Delete, Save, Back, Rollback, Commit, Ask, Give, Take, Evict, Flush, Force, Fail, Fuse, Fault, Where, Table}
+use Rattle.sd_script.specs.declared.line.Form.TheVariants.{Complex, Begin, Read, Write, Add, Insert, Delete, Save, Back, Rollback, Commit, Ask, Give, Take, Evict, Flush, Force, Fail, Fuse, Fault, FailAll, Reopen, RecoverAll, JoinAll, Where, Table}
 use Rattle.sd_script.specs.declared.line.Line.{Line}
 use Rattle.sd_script.specs.Forms.{IsForm, IsName}
 use Rattle.sd_script.specs.Order.{begun, ordinal_of, IsBegun, insts_of, pages_of, table_count}
@@ -79,6 +79,10 @@ Fits before (Force inst) = inst ≤ insts_of before
 Fits before (Fail inst) = inst ≤ insts_of before
 Fits before (Fuse calls) = before ≢ []
 Fits before (Fault call) = before ≢ []
+Fits before (FailAll pick) = before ≢ []
+Fits before Reopen = before ≢ []
+Fits before RecoverAll = before ≢ []
+Fits before JoinAll = before ≢ []
 Fits before (Where page) = page < pages_of before
 Fits before Table = (before ≢ []) × (table_count before < 64)
 

@@ -12,8 +12,8 @@ use crate::inst_forms::{ask_of, begin_of, evict_of, flush_of, force_of, give_of,
 use crate::names::Names;
 use crate::parts::{capacity_of, inst_of};
 use crate::verb_forms::{
-    add_of, back_of, commit_of, complex_of, delete_of, fail_of, fault_of, fuse_of, insert_of,
-    read_of, rollback_of, save_of, table_of, where_of, write_of,
+    add_of, back_of, commit_of, complex_of, delete_of, fail_all_of, fail_of, fault_of, fuse_of,
+    insert_of, join_of, lone_of, read_of, recover_of, rollback_of, save_of, where_of, write_of,
 };
 use crate::word::first_word;
 use sd_base::{InstNo, Memory};
@@ -88,7 +88,7 @@ fn verb_form_of(
     ensures { IfOk result (IsFormOf (known begun.now) (verb.now ∷ words_behind (option_copied rest.entry))) }
 {
     let Some(rest) = rest else {
-        return Ok(table_of(verb));
+        return Ok(lone_of(verb));
     };
     let (second, rest) = first_word(rest);
     let Some(rest) = rest else {
@@ -129,6 +129,10 @@ fn two_of_verb(
         Ok(fuse_of(word))
     } else if verb == b"fault".as_slice() {
         Ok(fault_of(word))
+    } else if verb == b"recover".as_slice() {
+        Ok(recover_of(word))
+    } else if verb == b"join".as_slice() {
+        Ok(join_of(word))
     } else {
         Ok(None)
     }
@@ -152,6 +156,8 @@ fn three_of_verb(
         save_of(alloc, name, word, begun)
     } else if verb == b"back".as_slice() {
         back_of(alloc, name, word, begun)
+    } else if verb == b"fail".as_slice() {
+        Ok(fail_all_of(name, word))
     } else {
         Ok(None)
     }

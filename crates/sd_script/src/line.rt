@@ -1,6 +1,6 @@
 //! A line of a script, and the forms that it may have.
 
-use sd_base::{Bytes, InstNo, Mode, PageNo, Rid, Word};
+use sd_base::{Bytes, InstNo, Mode, PageNo, Pick, Rid, Word};
 
 /// What a line says. The ordinal of a line of a transaction is that of its begin line among the begin lines, counted
 /// from 0.
@@ -116,6 +116,16 @@ pub enum Form {
     Fault {
         call: u32,
     },
+    /// `fail all PICK`: all instances fail, and the devices crash, each byte that isn't stable as the pick says.
+    FailAll {
+        pick: Pick,
+    },
+    /// `reopen`: the complex is opened again from its devices.
+    Reopen,
+    /// `recover all`: each instance that is down recovers itself.
+    RecoverAll,
+    /// `join all`: each instance that isn't up joins.
+    JoinAll,
     /// `where P`: it is shown where the page is.
     Where {
         page: PageNo,

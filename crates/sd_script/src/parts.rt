@@ -4,12 +4,13 @@ ghost use Rattle.std.specs.Prelude.{◌≡◌, ◌≢◌, ◌==◌, ℕ, ℤ, �
 ghost use Rattle.std.specs.Fmt.{decimal, signed_decimal};
 ghost use Rattle.sd_base.specs.declared.ids.Rid.{Rid};
 ghost use Rattle.sd_base.specs.declared.place.Mode.{Mode};
-ghost use Rattle.sd_script.specs.Forms.{rid_word, mode_word, IsInst, IsNoInst, IsName, IsRid, IsAmount};
+ghost use Rattle.sd_base.specs.declared.trouble.Pick.{Pick};
+ghost use Rattle.sd_script.specs.Forms.{rid_word, mode_word, pick_word, IsInst, IsNoInst, IsName, IsRid, IsAmount};
 ghost use Rattle.sd_script.specs.Known.{known};
 
 use crate::names::Names;
 use crate::word::{is_name, number_of, number_within};
-use sd_base::{InstNo, Memory, Mode, PageNo, Rid, Sequence, Word};
+use sd_base::{InstNo, Memory, Mode, PageNo, Pick, Rid, Sequence, Word};
 use std::alloc::Global;
 
 /// The instance that the word names.
@@ -104,6 +105,24 @@ pub(crate) fn mode_of(word: &[u8]) -> Option<Mode>
         [b's'] => Some(Mode::Shared),
         [b'x'] => Some(Mode::Excl),
         _ => None,
+    }
+}
+
+/// What a crash makes of bytes that aren't stable, as the word names it.
+pub(crate) fn pick_of(word: &[u8]) -> Option<Pick>
+    ensures found { IfSome result (λ p. pick_word p ≡ word.now) }
+    ensures none { IfNone result ((p : Pick) → pick_word p ≢ word.now) }
+{
+    if word == b"keep".as_slice() {
+        Some(Pick::Keep)
+    } else if word == b"lose".as_slice() {
+        Some(Pick::Lose)
+    } else if word == b"tear".as_slice() {
+        Some(Pick::Tear)
+    } else if word == b"junk".as_slice() {
+        Some(Pick::Junk)
+    } else {
+        None
     }
 }
 

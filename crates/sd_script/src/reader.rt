@@ -134,7 +134,12 @@ impl Reader {
             | Form::Evict { inst, page }
             | Form::Flush { inst, page } => self.has_inst(*inst) && self.has_page(*page),
             Form::Force { inst } | Form::Fail { inst } => self.has_inst(*inst),
-            Form::Fuse { .. } | Form::Fault { .. } => !self.lines.is_empty(),
+            Form::Fuse { .. }
+            | Form::Fault { .. }
+            | Form::FailAll { .. }
+            | Form::Reopen
+            | Form::RecoverAll
+            | Form::JoinAll => !self.lines.is_empty(),
             Form::Table => !self.lines.is_empty() && self.tables < TABLES,
         }
     }

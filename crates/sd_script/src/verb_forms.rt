@@ -6,7 +6,7 @@ ghost use Rattle.sd_script.specs.Known.{known};
 
 use crate::Form;
 use crate::names::Names;
-use crate::parts::{amount_of, inst_of, ordinal_of, own, page_of, record_of};
+use crate::parts::{amount_of, inst_of, ordinal_of, own, page_of, pick_of, record_of};
 use crate::word::{is_name, is_value, number_within};
 use sd_base::{Memory, PAGES};
 use std::alloc::Global;
@@ -249,11 +249,48 @@ pub(crate) fn where_of(page: &[u8]) -> Option<Form>
     Some(Form::Where { page })
 }
 
-pub(crate) fn table_of(verb: &[u8]) -> Option<Form>
+/// A fail line of three words.
+pub(crate) fn fail_all_of(all: &[u8], pick: &[u8]) -> Option<Form>
+    ensures { (known : List ℕ → Option ℕ) → IsFormOf known (codes "fail" ∷ all.now ∷ pick.now ∷ []) result }
+{
+    let Some(pick) = pick_of(pick) else {
+        return None;
+    };
+    if all == b"all".as_slice() {
+        Some(Form::FailAll { pick })
+    } else {
+        None
+    }
+}
+
+pub(crate) fn recover_of(all: &[u8]) -> Option<Form>
+    ensures { (known : List ℕ → Option ℕ) → IsFormOf known (codes "recover" ∷ all.now ∷ []) result }
+{
+    if all == b"all".as_slice() {
+        Some(Form::RecoverAll)
+    } else {
+        None
+    }
+}
+
+pub(crate) fn join_of(all: &[u8]) -> Option<Form>
+    ensures { (known : List ℕ → Option ℕ) → IsFormOf known (codes "join" ∷ all.now ∷ []) result }
+{
+    if all == b"all".as_slice() {
+        Some(Form::JoinAll)
+    } else {
+        None
+    }
+}
+
+/// A line of one word.
+pub(crate) fn lone_of(verb: &[u8]) -> Option<Form>
     ensures { (known : List ℕ → Option ℕ) → IsFormOf known (verb.now ∷ []) result }
 {
     if verb == b"table".as_slice() {
         Some(Form::Table)
+    } else if verb == b"reopen".as_slice() {
+        Some(Form::Reopen)
     } else {
         None
     }

@@ -123,6 +123,89 @@ static REPLIES: [Told; 32] = [
     ),
 ];
 
+/// What becomes of all instances at once.
+static RESTARTS: [Told; 21] = [
+    (
+        b"complex 2 1 2\n",
+        &[Help(Joined(1)), Help(Joined(1))],
+        b"complex 2 1 2\n",
+    ),
+    (b"fail all keep\n", &[Own(Did)], b"fail all keep\n"),
+    (b"fail all lose\n", &[Own(Did)], b"fail all lose\n"),
+    (b"fail all tear\n", &[Own(Did)], b"fail all tear\n"),
+    (b"fail all junk\n", &[Own(Did)], b"fail all junk\n"),
+    // All are closed: none is down, and the first that isn't up can't join.
+    (b"recover all\n", &[], b"recover all\n"),
+    (b"join all\n", &[Own(No(Down))], b"join all down\n"),
+    (
+        b"reopen\n",
+        &[Own(No(Damaged(2, 130)))],
+        b"reopen damaged 2 130\n",
+    ),
+    (b"reopen\n", &[Own(No(Failed))], b"reopen fault\n"),
+    (b"reopen\n", &[Own(Did)], b"reopen\n"),
+    (b"reopen\n", &[Own(No(Up))], b"reopen not down\n"),
+    (
+        b"join all\n",
+        &[Own(No(NotRecovered))],
+        b"join all not recovered\n",
+    ),
+    (
+        b"recover all\n",
+        &[
+            Own(Did),
+            Own(No(NeedPage)),
+            Help(No(Failed)),
+            Own(No(NeedPage)),
+        ],
+        b"recover all fault\n",
+    ),
+    // The pull writes a page out, and the instance falls by it.
+    (
+        b"recover all\n",
+        &[
+            Own(Did),
+            Own(No(NeedPage)),
+            Help(No(PoolFull)),
+            Help(No(Failed)),
+            Own(No(NotRecovered)),
+        ],
+        b"recover all not recovered\n",
+    ),
+    (
+        b"recover all\n",
+        &[Own(Did), Own(Finished), Own(Did), Own(No(Failed))],
+        b"recover all fault\n",
+    ),
+    (
+        b"recover all\n",
+        &[
+            Own(Did),
+            Own(Undone),
+            Own(No(NeedPage)),
+            Help(Have),
+            Own(Undone),
+            Own(Finished),
+            Own(Did),
+            Own(Finished),
+        ],
+        b"recover all\n",
+    ),
+    (b"join all\n", &[Own(No(Failed))], b"join all fault\n"),
+    (
+        b"join all\n",
+        &[Own(Joined(3)), Own(No(LogFull))],
+        b"join all log full\n",
+    ),
+    (b"join all\n", &[Own(No(LsnEnd))], b"join all lsn end\n"),
+    (
+        b"join all\n",
+        &[Own(Joined(4)), Own(Joined(2))],
+        b"join all\n",
+    ),
+    (b"join all\n", &[], b"join all\n"),
+];
+
 /// What is refused, behind the lines of the other table.
 static REFUSALS: [Told; 38] = [
     (b"commit a\n", &[Own(No(NoTxn))], b"a ended\n"),
@@ -323,6 +406,14 @@ fn page_event(rt: &impl Abort, form: &Form) -> Event {
         Form::Fault { call } => Event::Arm {
             trouble: Trouble::Fault(u64::from(*call)),
         },
+        Form::FailAll { pick } => Event::FailAll { pick: *pick },
+        Form::Reopen => Event::Reopen,
+        Form::RecoverAll => Event::RecoverStep {
+            inst: txn(rt, ONE).inst,
+        },
+        Form::JoinAll => Event::Join {
+            inst: txn(rt, ONE).inst,
+        },
         Form::Where { page } => Event::Show { page: *page },
         _ => Event::List {
             inst: txn(rt, ONE).inst,
@@ -381,6 +472,11 @@ fn each_line_is_reported(rt: HostRuntime) -> Result<(), Fail> {
 #[test]
 fn transactions_side_by_side_are_reported_by_their_names(rt: HostRuntime) -> Result<(), Fail> {
     tells(&rt, &SIDE_BY_SIDE, &[])
+}
+
+#[test]
+fn what_becomes_of_all_instances_is_reported(rt: HostRuntime) -> Result<(), Fail> {
+    tells(&rt, &RESTARTS, &[])
 }
 
 #[test]

@@ -5,7 +5,7 @@ use sd_script::{Kind, Script};
 use std::test::Fail;
 
 /// Texts with the number of lines of a script, or of the first bad line.
-static TEXTS: [(&[u8], Result<usize, u32>); 88] = [
+static TEXTS: [(&[u8], Result<usize, u32>); 114] = [
     (
         b"complex 1 1 2\n1 begin a\ninsert a 0 red\ncommit a\ntable\n",
         Ok(5),
@@ -112,6 +112,43 @@ static TEXTS: [(&[u8], Result<usize, u32>); 88] = [
     (b"complex 2 2 2\nfail 3\n", Err(2)),
     (b"complex 2 2 2\nfail\n", Err(2)),
     (b"complex 2 2 2\n1 fail\n", Err(2)),
+    // Those that arm the devices.
+    (
+        b"complex 1 1 2\nfuse 0\nfuse 1000000\nfault 1\nfault 1000000\n",
+        Ok(5),
+    ),
+    (b"complex 1 1 2\nfuse 1000001\n", Err(2)),
+    (b"complex 1 1 2\nfuse 1 1\n", Err(2)),
+    (b"complex 1 1 2\nfuse\n", Err(2)),
+    (b"complex 1 1 2\nfault 0\n", Err(2)),
+    (b"complex 1 1 2\nfault 1000001\n", Err(2)),
+    (b"fuse 1\ncomplex 1 1 2\n", Err(1)),
+    // Those of all instances.
+    (
+        b"complex 1 1 2\nfail all keep\nfail all lose\nfail all tear\nfail all junk\n",
+        Ok(5),
+    ),
+    (
+        b"complex 2 1 2\nfail all lose\nreopen\nrecover all\njoin all\ntable\n",
+        Ok(6),
+    ),
+    (b"complex 1 1 2\nfail all\n", Err(2)),
+    (b"complex 1 1 2\nfail all zap\n", Err(2)),
+    (b"complex 1 1 2\nfail all keep lose\n", Err(2)),
+    (b"complex 1 1 2\nfail keep all\n", Err(2)),
+    (b"complex 1 1 2\nfail 1 keep\n", Err(2)),
+    (b"complex 1 1 2\nreopen all\n", Err(2)),
+    (b"complex 1 1 2\n1 reopen\n", Err(2)),
+    (b"complex 1 1 2\nrecover\n", Err(2)),
+    (b"complex 1 1 2\nrecover 1\n", Err(2)),
+    (b"complex 1 1 2\nrecover all all\n", Err(2)),
+    (b"complex 1 1 2\njoin\n", Err(2)),
+    (b"complex 1 1 2\njoin al\n", Err(2)),
+    (b"complex 1 1 2\njoin all keep\n", Err(2)),
+    (b"fail all keep\ncomplex 1 1 2\n", Err(1)),
+    (b"reopen\n", Err(1)),
+    (b"recover all\n", Err(1)),
+    (b"join all\n", Err(1)),
 ];
 
 #[test]

@@ -19,3 +19,11 @@ returns-then-eq-5 c = subst (λ (v : List ℕ). IsFormOf (known c.args.begun.now
 pub returns-then-eq-6 : goal.returns-then-eq-6
 returns-then-eq-6 c = subst (λ (v : List ℕ). IsFormOf (known c.args.begun.now) (v ∷ c.args.word.now ∷ []) c.fault_of.result)
     (sym (is_word c.args.verb.now _ _ c.as_slice-else-eq-5.ensures c.if-eq-6.ensures)) (c.fault_of.ensures (known c.args.begun.now))
+
+pub returns-then-eq-7 : goal.returns-then-eq-7
+returns-then-eq-7 c = subst (λ (v : List ℕ). IsFormOf (known c.args.begun.now) (v ∷ c.args.word.now ∷ []) c.recover_of.result)
+    (sym (is_word c.args.verb.now _ _ c.as_slice-else-eq-6.ensures c.if-eq-7.ensures)) (c.recover_of.ensures (known c.args.begun.now))
+
+pub returns-then-eq-8 : goal.returns-then-eq-8
+returns-then-eq-8 c = subst (λ (v : List ℕ). IsFormOf (known c.args.begun.now) (v ∷ c.args.word.now ∷ []) c.join_of.result)
+    (sym (is_word c.args.verb.now _ _ c.as_slice-else-eq-7.ensures c.if-eq-8.ensures)) (c.join_of.ensures (known c.args.begun.now))

@@ -10,8 +10,8 @@ use Rattle.sd_script.specs.Known.{known}
 pub returns-in_default : goal.returns-in_default
 returns-in_default c =
     let names = known c.args.begun.now in
-    subst (λ (o : Option (Bor (List ℕ))). IsFormOf names (c.args.verb.now ∷ words_behind (option_copied o)) c.table_of.result)
-    (sym c.in_default.is) (c.table_of.ensures names)
+    subst (λ (o : Option (Bor (List ℕ))). IsFormOf names (c.args.verb.now ∷ words_behind (option_copied o)) c.lone_of.result)
+    (sym c.in_default.is) (c.lone_of.ensures names)
 
 pub returns-in_default-Some : goal.returns-in_default-Some
 returns-in_default-Some c = λ form is knows e.
