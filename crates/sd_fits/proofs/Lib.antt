@@ -32,3 +32,5 @@ pub mod Opening
 pub mod Reopening
 pub mod Opened
 pub mod Settling
+pub mod Framed
+pub mod Bodies

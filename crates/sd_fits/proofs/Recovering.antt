@@ -1,5 +1,5 @@
 -- A recovery begins, goes on and ends: how the complex goes on fitting. For the calls that recover an instance.
-use Rattle.std.proofs.Common.{◌≡◌, ◌≢◌, inr, ⊎_elim, ℕ, ◌≤◌, Bool, true, false, cond, eqb, length, max, slice_set, refl, sym, ap, ◌∙◌, subst, arith, eq-eqb, ne_eqb}
+use Rattle.std.proofs.Common.{◌≡◌, ◌≢◌, inr, ⊎_elim, ℕ, ◌≤◌, Bool, true, false, cond, eqb, max, slice_set, refl, sym, ap, ◌∙◌, subst, arith, eq-eqb, ne_eqb}
 use Rattle.std.specs.Prelude.{Option, None, IsSome}
 use Rattle.std.proofs.lemmas.Bool.{cases_eq}
 use Rattle.std.proofs.lemmas.List.{get_or-set_other, get_or-set_same, length-set}
@@ -29,7 +29,7 @@ use Rattle.sd_world.specs.Answers.{Steps, Undoes}
 use Rattle.sd_world.specs.Answers.Fails.{falls}
 use Rattle.sd_world.specs.Answers.Rebuilds.{undoes}
 use Rattle.sd_world.specs.Bounds.{Bounds, bounds_after}
-use Rattle.sd_world.specs.Pages.{Pages, fell, renumbered}
+use Rattle.sd_world.specs.Pages.{Pages, renumbered}
 use Rattle.sd_world.specs.Serving.{Core, Turns}
 use Rattle.sd_state.specs.Good.{Good}
 use Rattle.sd_state.specs.Parts.{Parts, is_loose, log_at, no_txns, owed_at, status_at, txns_at}

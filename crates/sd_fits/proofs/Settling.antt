@@ -1,5 +1,5 @@
 -- A log that isn't settled is read again: how a complex goes on fitting. For the step of a recovery that settles a device.
-use Rattle.std.proofs.Common.{◌≡◌, ◌≢◌, ⊎_elim, ℕ, ◌≤◌, true, false, List, refl, sym, ap, ◌∙◌, subst, arith}
+use Rattle.std.proofs.Common.{◌≡◌, ◌≢◌, ⊎_elim, ℕ, ◌≤◌, true, List, refl, sym, ◌∙◌, subst, arith}
 use Rattle.std.specs.Prelude.{None, IsSome}
 use Rattle.std.proofs.lemmas.Bool.{cases_eq}
 use mathlib.Core.Path.{fun_ext}
@@ -7,33 +7,31 @@ use Rattle.sd_base.specs.declared.ids.TxnId.{TxnId}
 use Rattle.sd_base.specs.declared.place.Status.{Status}
 use Rattle.sd_base.specs.declared.place.Status.TheVariants as S
 use Rattle.sd_log.specs.Logs.{LogState}
-use Rattle.sd_logrec.specs.Kept.{Master, master}
 use Rattle.sd_logrec.specs.View.{Rec}
 use Rattle.sd_model.specs.Acts.{live}
-use Rattle.sd_model.specs.Applies.{HasPut}
 use Rattle.sd_model.specs.Listed.{IsAtWork}
 use Rattle.sd_model.specs.Placed.{Stands}
 use Rattle.sd_model.specs.State.{State}
 use Rattle.sd_model.specs.declared.act.Life.{Life}
 use Rattle.sd_page.specs.Page.{Page}
 use Rattle.sd_rig.specs.Devices as rig
-use Rattle.sd_rig.specs.Devices.{LeavesOnly, LeavesSame}
+use Rattle.sd_rig.specs.Devices.{LeavesOnly}
 use Rattle.sd_txn.specs.Transactions.{Transactions, span_at}
 use Rattle.sd_chain.specs.Bytes.{disk_page}
 use Rattle.sd_chain.specs.Images.{Keeps, kept_at}
 use Rattle.sd_chain.specs.Records.{IsOpen, home}
 use Rattle.sd_coherent.specs.Named.{version_of}
-use Rattle.sd_sound.specs.Logs.{Outcomes, all_at, tails_of}
+use Rattle.sd_sound.specs.Logs.{Less, Outcomes, all_at, tails_of}
 use Rattle.sd_world.specs.Bounds.{Bounds}
 use Rattle.sd_world.specs.Pages.{Pages, renumbered}
 use Rattle.sd_world.specs.Serving.{Core}
 use Rattle.sd_state.specs.Good.{Good}
 use Rattle.sd_state.specs.Images.{log_by}
-use Rattle.sd_state.specs.Parts.{Parts, count_at, is_loose, log_at, no_txns, status_at, txns_at}
+use Rattle.sd_state.specs.Parts.{Parts, count_at, is_loose, no_txns, status_at, txns_at}
 use Rattle.sd_state.specs.Values.{Pending, is_committed}
 use Rattle.sd_state.proofs.Items.{item-kept, item-set}
+use Rattle.sd_state.proofs.LockReads.{less-good}
 use Rattle.sd_moves.specs.Settling.{IsReread, with_reread}
-use Rattle.sd_moves.proofs.SettleSynced.{synced-any}
 use Rattle.sd_moves.proofs.SettledBounds.{kept-again, reach-again, reread-great, reread-owes}
 use Rattle.sd_moves.proofs.SettledGood.{by-else, by-here, half-kept, log-else, was_at}
 use Rattle.sd_moves.proofs.SettledTold.{not-up}
@@ -159,38 +157,29 @@ reread-fits i seen leaves c found w low high f was_loose only reads read sums b 
     working : (t : TxnId) → home t ≡ i → IsAtWork (w.scene.state.part t).life → ⊥
     working = at-work i seen leaves c found w.scene.state low high f.good was_loose f.idle only reads read
 
--- A device is synced, and all else is as it was: the complex fits on.
-pub synced-fits : (dev : ℕ) (seen seen' : rig.Image) (leaves leaves' : Outcomes) (c : Parts) (w : Core) → dev ≤ 8
-    → Fits seen leaves c w → ((d : ℕ) → d ≤ 8 → leaves d (seen d)) → ((d : ℕ) → d ≤ 8 → leaves' d (seen' d))
-    → ((d : ℕ) → seen' d ≡ seen d) → ((d : ℕ) → d ≢ dev → LeavesSame (leaves d) (leaves' d)) → LeavesOnly (seen dev) (leaves' dev)
-    → Fits seen' leaves' c w
-synced-fits dev seen seen' leaves leaves' c w high f reads reads' same others_leave only = record {
-  good = synced-any dev seen seen' leaves leaves' Pending.Idle c w.scene.state high f.good reads reads' same others_leave only;
+-- Less may be left, and all else is as it was: the complex fits on.
+pub less-fits : (seen seen' : rig.Image) (leaves leaves' : Outcomes) (c : Parts) (w : Core) → Fits seen leaves c w
+    → Less leaves leaves' → ((d : ℕ) → seen' d ≡ seen d) → ((d : ℕ) → d ≤ 8 → leaves' d (seen' d)) → Fits seen' leaves' c w
+less-fits seen seen' leaves leaves' c w f less same reads = subst (λ (s : rig.Image). Fits s leaves' c w) (sym (fun_ext same)) (record {
+  good = less-good seen leaves leaves' Pending.Idle c w.scene.state f.good less (λ d le. subst (leaves' d) (same d) (reads d le));
   idle = f.idle;
   rolling = f.rolling;
   waits = f.waits;
   waiting = f.waiting;
   put = f.put;
-  pages = subst (λ (s : rig.Image). FitsPages s leaves' c w.pages) (sym (fun_ext same)) (record {
+  pages = record {
     frames = f.pages.frames;
     entry = f.pages.entry;
     asks = f.pages.asks;
     number = f.pages.number;
     begun = f.pages.begun;
-  });
-  bounds = subst (λ (s : rig.Image). FitsBounds s leaves' c w.bounds) (sym (fun_ext same)) (record {
+  };
+  bounds = record {
     slots = f.bounds.slots;
     reach = f.bounds.reach;
     lsns = f.bounds.lsns;
     masters = f.bounds.masters;
     left_masters = λ j lo hi bytes left. f.bounds.left_masters j lo hi bytes (less j bytes left);
-  });
-  doubts = subst (λ (s : rig.Image). FitsDoubts s c w.scene.state) (sym (fun_ext same)) f.doubts;
-}
-  where
-    less : (d : ℕ) (bytes : List ℕ) → leaves' d bytes → leaves d bytes
-    less d bytes left = ⊎_elim
-        (λ e. subst (λ (k : ℕ). leaves k bytes) (sym e)
-        (subst (leaves dev) (sym ((only bytes).0 (subst (λ (k : ℕ). leaves' k bytes) e left))) (reads dev high)))
-        (λ ne. (others_leave d ne bytes).0 left)
-        (cases_eq d dev)
+  };
+  doubts = f.doubts;
+})

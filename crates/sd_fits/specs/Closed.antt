@@ -55,7 +55,8 @@ closed_core sums w = record {
 
 -- the world once that opens again from these devices
 abbrev pub reopened_core : rig.Image → Core → Core
-reopened_core devices w = opened_core w.pages.frames devices (opened_again devices w.scene.state) (bounds_after w.bounds Reopen reply.Did)
+reopened_core devices w = opened_core w.pages.frames devices (opened_again devices w.scene.state)
+    (bounds_after w.bounds Reopen reply.Did)
 
 -- ---- laws: at most as much may be left of the devices after the event
 

@@ -1,3 +1,4 @@
+pub mod Bodies
 pub mod Closed
 pub mod Fits
 pub mod Opened

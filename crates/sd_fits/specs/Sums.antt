@@ -18,7 +18,8 @@ pub record HaveLsnsTo (n : ℕ) (devices : rig.Image) : Type 0 where
   pub logs : (j : ℕ) → Each (λ x. x.lsn + owed_by_all devices ≤ n) (log_of devices j)
   pub pages : (p : ℕ) → p < 1024 → (disk_page (devices 0) p).lsn + owed_by_all devices ≤ n
 
--- The slots of each page's newest version, each log with what it reserves, all LSNs, and the counts of masters are within the sums.
+-- The slots of each page's newest version, each log with what it reserves, all LSNs, and the counts of masters are within the
+-- sums.
 pub record IsWithinSums (devices : rig.Image) (b : Bounds) : Type 0 where
   pub slots : (p : ℕ) → AreWithin (capacities (newest (stable devices) p)) (b.slots p)
   pub reach : (i : ℕ) → 1 ≤ i → i ≤ 8 → gate_of (kept (devices i)) + reserve (log_of devices i) ≤ b.reach i

@@ -11,8 +11,8 @@ pub trait Moment {
     ghost leaves: { ℕ → List ℕ → Type 0 };
 }
 
-/// A complex that fits a world: whatever a crash leaves of it stands for the world's state and is within its sums; a fresh complex
-/// fits the world in which nothing has happened, and one that is opened from sound devices that of which they tell.
+/// A complex that fits a world: whatever a crash leaves of it stands for the world's state and is within its sums; a fresh
+/// complex fits the world in which nothing has happened, and one that is opened from sound devices that of which they tell.
 pub fn worlds<M: Moment>()
     ensures stands { FitsStands M.leaves }
     ensures sums { LeftIsWithinSums M.leaves }
@@ -20,9 +20,9 @@ pub fn worlds<M: Moment>()
     ensures opened { OpenedFits M.leaves }
 {}
 
-/// A complex that is closed, before an event and after it: once all instances have failed the devices that are left fit the world in
-/// which they have, and go on fitting it; and the complex that opens again from what a crash leaves of them fits the world of its
-/// reopening.
+/// A complex that is closed, before an event and after it: once all instances have failed the devices that are left fit the
+/// world in which they have, and go on fitting it; and the complex that opens again from what a crash leaves of them fits the
+/// world of its reopening.
 pub fn closings<M: Moment, N: Moment>()
     ensures all_fail { AllFail M.leaves N.leaves }
     ensures all_fail_again { AllFailAgain M.leaves N.leaves }
