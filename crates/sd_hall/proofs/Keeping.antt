@@ -1,15 +1,13 @@
 -- A hall keeps its run. It serves the goals of `call` in hall.rt, and of `serve` in serving.rt.
-use Rattle.std.proofs.Common.{◌≡◌, ◌≢◌, inl, inr, ⊎_elim, ℕ, zero, suc, Bool, true, false, ◌+◌, ◌-◌, ◌≤◌, List, [], ◌∷◌, ◌++◌, length, Option, None, Some, refl, sym, ap, ◌∙◌, subst, arith}
+use Rattle.std.proofs.Common.{◌≡◌, ◌≢◌, inl, inr, ℕ, Bool, true, false, ◌+◌, ◌-◌, ◌≤◌, List, [], ◌∷◌, ◌++◌, length, Option, None, Some, refl, sym, ap, ◌∙◌, subst, arith}
 use Rattle.std.specs.List.{slice_get}
-use Rattle.std.specs.Prelude.{Result, Ok, Err, OnErr}
-use Rattle.std.proofs.lemmas.Bool.{cases_lt}
-use Rattle.std.proofs.lemmas.List.{get_or_past, length-append}
+use Rattle.std.specs.Prelude.{IfErr, Result, Ok, Err, OnErr}
+use Rattle.std.proofs.lemmas.List.{length-append}
 use Rattle.sd_base.specs.declared.ids.TxnId.{TxnId}
-use Rattle.sd_base.specs.declared.place.Status.TheVariants as S
+use Rattle.sd_base.specs.declared.place.Place.{Place}
 use Rattle.sd_base.specs.declared.refusal.Refusal.{Refusal}
 use Rattle.sd_base.specs.declared.refusal.Refusal.TheVariants as R
 use Rattle.sd_base.proofs.Lists.{slice_get-push}
-use Rattle.sd_rig.specs.Devices.{Image, Leaves}
 use Rattle.sd_model.specs.declared.event.Entry.{Entry}
 use Rattle.sd_model.specs.declared.event.Event.{Event}
 use Rattle.sd_model.specs.declared.event.Event.TheVariants as event
@@ -18,17 +16,22 @@ use Rattle.sd_model.specs.declared.event.Reply.TheVariants as reply
 use Rattle.sd_world.specs.Leading.{Leads}
 use Rattle.sd_world.specs.Serving.{Core, Telling, Turns, answered, step_or_finished}
 use Rattle.sd_world.proofs.Leading.{leads-grow}
-use Rattle.sd_state.specs.Complexes.{parts}
-use Rattle.sd_state.specs.Parts.{Parts, status_at}
+use Rattle.sd_state.specs.Parts.{Parts}
 use Rattle.sd_state.specs.declared.complex.Complex.{Complex}
-use Rattle.sd_fits.specs.Serving.{Serving, fits_by}
-use Rattle.sd_fits.proofs.Served.{still-spares}
+use Rattle.sd_state.specs.declared.complex.Shape.{Shape}
+use Rattle.sd_fits.specs.Serving.{Serving}
+use Rattle.sd_fits.specs.declared.body.Body.{Body}
+use Rattle.sd_fits.proofs.Framed.{turns-frames}
 use Rattle.sd_hall.specs.declared.hall.Hall.{Hall}
+use Rattle.sd_survive.specs.Recovering.{AwaitsPage, recovery}
+use Rattle.sd_survive.specs.declared.recovering.Recovery.{Recovery}
+use Rattle.sd_hall.specs.Bodies.{IsAwaited, IsAwaitedIn, IsDownAt, ServesIn}
 use Rattle.sd_hall.specs.Keeping.{HasPlace, Keeps, MakesPlace}
 use Rattle.sd_hall.specs.Ledger.{IsOwed, entries_owed, owed_more}
-use Rattle.sd_hall.specs.Served.{IsDownThen, IsServed}
+use Rattle.sd_hall.specs.Served.{IsServed}
 use Rattle.sd_hall.proofs.Owes.{step-owed}
-use Rattle.sd_hall.proofs.Paid.{HasFallen, owed-none, owed-some, turns-paid}
+use Rattle.sd_hall.proofs.Bodies.{fell-in, listed-in, next-in, paid-in, same-in}
+use Rattle.sd_hall.proofs.Paid.{HasFallen, owed-none, owed-some}
 
 -- one entry more is owed at most
 pub more-one : (e : Event) (r : Reply) → owed_more e r ≤ 1
@@ -63,12 +66,22 @@ failed-so (Ok true) e = absurd (cc)
 failed-so (Err R.Failed) e = refl
 failed-so (Err n) e = absurd (cc)
 
--- a complex that stays as it was is spared
-pub spared-still : {G : Type 0} (tell : Telling G) (e : Event) (old new : Complex G) → old ≡ new
-    → ((img : Image) → tell.since old.rig (tell.moment old.rig) img → Leaves (tell.leaves old.rig) img)
-    → Serving tell e None old new
-spared-still {G} tell e old new same now =
-    (λ w f. still-spares tell old new w same now f, ap (λ (c : Complex G). tell.faults c.rig) (sym same))
+pub same-step : (i j : ℕ) → event.RecoverStep i ≡ event.RecoverStep j → i ≡ j
+same-step i j e = cc
+
+-- a step of a recovery that is told to want a page has an undo next
+pub awaits-so : (c : Parts) (i : ℕ) (done : Result Recovery Refusal)
+    → IfErr done (λ n. (place : Place) → n ≡ R.NeedPage place → AwaitsPage c i)
+    → (place : Place) → answered recovery done ≡ Some (reply.Refused (R.NeedPage place)) → AwaitsPage c i
+awaits-so c i (Ok Recovery.Step) awaits place e = absurd (cc)
+awaits-so c i (Ok Recovery.Done) awaits place e = absurd (cc)
+awaits-so c i (Err (R.NeedPage at)) awaits place e = awaits at refl
+awaits-so c i (Err n) awaits place e = absurd (cc)
+
+-- so says the reply of a call
+pub awaited-of : {G : Type 0} (e : Event) (r : Reply) (body : Option (Body G)) → IsAwaitedIn e (Some r) body → IsAwaited e r body
+awaited-of (event.RecoverStep i) (reply.Refused (R.NeedPage place)) body awaits = awaits i place refl refl
+awaited-of e r body awaits = tt
 
 -- the reply of the last entry
 pub last-is : (es before : List Entry) (last : Entry) → es ≡ before ++ last ∷ [] → slice_get es (length es - 1) ≡ Some last
@@ -77,6 +90,15 @@ last-is es before last is =
     let at : length (before ++ last ∷ []) - 1 ≡ length before = omega (arith, size) in
     subst (λ (xs : List Entry). slice_get xs (length xs - 1) ≡ Some last) (sym is)
     (ap (λ (n : ℕ). slice_get (before ++ last ∷ []) n) at ∙ slice_get-push before last)
+
+-- so two replies are the same that are noted last
+abbrev reply-of : Reply → Option Entry → Reply
+reply-of r None = r
+reply-of r (Some x) = x.reply
+
+pub same-reply : (es before : List Entry) (x y : Entry) → es ≡ before ++ x ∷ [] → es ≡ before ++ y ∷ [] → x.reply ≡ y.reply
+same-reply es before x y one two =
+    ap (reply-of x.reply) (sym (last-is es before x one) ∙ last-is es before y two)
 
 -- a place has room for an entry
 pub has-room : {G : Type 0} (tell : Telling G) (e : Event) (old new : Hall G) → HasPlace tell e old new → 1 ≤ new.book.spare
@@ -102,37 +124,20 @@ no-place tell start e old mid k none (inr p) = p
 pub owed-counted : {G : Type 0} (tell : Telling G) (start : Core) (e : Event) (hall : Hall G) → (k : Keeps tell start hall)
     → IsOwed k.core e → 1 ≤ hall.owed
 owed-counted tell start e hall k owed =
-    let some = owed-some k.core e k.fits.good.listed owed in let counted = k.counted in omega (arith, some, counted)
-
--- an instance that is down is one of the eight
-down-there : (c : Parts) → length c.statuses ≡ 8 → (k : ℕ) → status_at c k ≡ S.Down → (1 ≤ k) × (k ≤ 8)
-down-there c eight zero down = absurd (cc)
-down-there c eight (suc j) down = ⊎_elim
-    (λ lt. (omega arith, omega (arith, lt)))
-    (λ ge. let clash = sym (get_or_past c.statuses j S.Closed (omega (arith, eight, ge))) ∙ down in absurd (cc))
-    (cases_lt j 8)
-
--- so it has taken the instance down
-fallen-so : {G : Type 0} (tell : Telling G) (c : Complex G) (w : Core) → fits_by tell.seen tell.leaves c w → (e : Event) (r : Reply)
-    → IsDownThen e (Some r) (parts c) → HasFallen e r w.scene.state
-fallen-so tell c w f e r down t is failed =
-    let there = down t is (ap (λ (x : Reply). Some x) failed) in
-    let range = down-there (parts c) f.good.shape.statuses t.inst there in
-    (range.0, range.1, sym (f.good.instances t.inst range.0 range.1).status ∙ there)
+    let some = owed-some k.core e (listed-in tell hall.body k.core k.fits) owed in let counted = k.counted in omega (arith, some, counted)
 
 module _ {G : Type 0} (tell : Telling G) (start : Core) (old mid new : Hall G) (k : Keeps tell start old) where
   -- what the next state owes is counted
   counted-next : (e : Event) (r : Reply) (w' : Core) → IsServed e → Turns k.core e r w' → HasFallen e r w'.scene.state
       → HasPlace tell e old mid → new.owed ≡ mid.owed + owed_more e r → entries_owed w'.scene.state ≤ new.owed
   counted-next e r w' is_served turns fell (inl p) counts =
-      let good = k.fits.good in
       let owed = p.owed k.core k.fits in
-      let paid = turns-paid k.core w' good.listed good.placed good.not_closed e r owed fell turns in
+      let paid = paid-in tell old.body k.core w' k.fits e r owed fell turns in
       let before = k.counted in
       let less = p.less in
       omega (arith, counts, paid, before, less)
   counted-next e r w' is_served turns fell (inr p) counts =
-      let more = step-owed k.core.scene.state e r w'.scene.state k.fits.good.listed is_served turns.plays.step in
+      let more = step-owed k.core.scene.state e r w'.scene.state (listed-in tell old.body k.core k.fits) is_served turns.plays.step in
       let before = k.counted in
       let same = p.same in
       omega (arith, counts, more, before, same)
@@ -149,32 +154,38 @@ module _ {G : Type 0} (tell : Telling G) (start : Core) (old mid new : Hall G) (
 
   -- an event is served, and noted
   pub keeps-more : (x : Entry) → IsServed x.event → HasPlace tell x.event old mid
-      → new.book.entries ≡ old.book.entries ++ x ∷ [] → Serving tell x.event (Some x.reply) old.complex new.complex
-      → IsDownThen x.event (Some x.reply) (parts new.complex)
+      → new.book.entries ≡ old.book.entries ++ x ∷ [] → ServesIn tell x.event (Some x.reply) old.body new.body
+      → IsDownAt x.event (Some x.reply) new.body → new.shape ≡ old.shape
       → new.owed ≡ mid.owed + owed_more x.event x.reply → mid.book.spare ≤ new.book.spare + 1 → Keeps tell start new
-  keeps-more x is_served place noted served down counts spare =
-      let next = served.0 k.core k.fits in
+  keeps-more x is_served place noted served down shape counts spare =
+      let next = next-in tell x.event x.reply old.body new.body k.core k.fits served in
       record {
         core = next.0;
         leads = subst (λ (es : List Entry). Leads start es next.0) (sym noted)
-            (leads-grow old.book.entries x start k.core next.0 k.leads next.1.turns);
-        fits = next.1.fits_then;
-        counted = counted-next x.event x.reply next.0 is_served next.1.turns
-            (fallen-so tell new.complex next.0 next.1.fits_then x.event x.reply down) place counts;
+            (leads-grow old.book.entries x start k.core next.0 k.leads next.1);
+        fits = next.2;
+        frames = turns-frames k.core next.0 x.event x.reply next.1 ∙ k.frames ∙ sym (ap (λ (s : Shape). s.frames) shape);
+        least = subst (λ (s : Shape). 1 ≤ s.frames) (sym shape) k.least;
+        most = subst (λ (s : Shape). s.frames ≤ 1024) (sym shape) k.most;
+        counted = counted-next x.event x.reply next.0 is_served next.1
+            (fell-in tell new.body next.0 next.2 x.event x.reply down) place counts;
         room = room-next x.event x.reply place counts spare;
       }
 
 -- there was no memory
 pub keeps-same : {G : Type 0} (tell : Telling G) (start : Core) (old new : Hall G) → Keeps tell start old → (e : Event)
-    → new.book.entries ≡ old.book.entries → Serving tell e None old.complex new.complex
+    → new.book.entries ≡ old.book.entries → ServesIn tell e None old.body new.body → new.shape ≡ old.shape
     → new.owed ≡ old.owed → old.book.spare ≤ new.book.spare → Keeps tell start new
-keeps-same tell start old new k e same spared counts room =
+keeps-same tell start old new k e same spared shape counts room =
     let before = k.room in
     let owed = k.counted in
     record {
       core = k.core;
       leads = subst (λ (es : List Entry). Leads start es k.core) (sym same) k.leads;
-      fits = (spared.0 k.core k.fits).fits_still;
+      fits = same-in tell e old.body new.body k.core k.fits spared;
+      frames = k.frames ∙ sym (ap (λ (s : Shape). s.frames) shape);
+      least = subst (λ (s : Shape). 1 ≤ s.frames) (sym shape) k.least;
+      most = subst (λ (s : Shape). s.frames ≤ 1024) (sym shape) k.most;
       counted = omega (arith, counts, owed);
       room = omega (arith, counts, before, room);
     }

@@ -17,16 +17,16 @@ use Rattle.sd_model.specs.declared.act.Inst.{Inst}
 use Rattle.sd_model.specs.declared.act.Life.{Life}
 use Rattle.sd_model.specs.declared.cause.Cause.{Cause}
 use Rattle.sd_model.specs.declared.event.Event.{Event}
-use Rattle.sd_model.specs.declared.event.Event.TheVariants.{Add, Arm, Ask, Back, Begin, Commit, Delete, Evict, Fail, Flush, Force, Give, Insert, Join, List as Listing, Read, Save, Show, Take, Undo, Write}
+use Rattle.sd_model.specs.declared.event.Event.TheVariants.{Add, Arm, Ask, Back, Begin, Commit, Delete, Evict, Fail, FailAll, Flush, Force, Give, Insert, Join, List as Listing, Read, RecoverBegin, RecoverStep, Reopen, Save, Show, Take, Undo, Write}
 use Rattle.sd_model.specs.declared.event.Reply.{Reply}
 use Rattle.sd_model.specs.declared.event.Reply.TheVariants as reply
 use Rattle.sd_model.specs.Acts.{Puts, live, live_from, undone}
-use Rattle.sd_model.specs.Changes.{marked, undid, undid_part, with_mark}
+use Rattle.sd_model.specs.Changes.{HasLoser, IsLoser, Left, Reopened, after_recovery, commit_all, is_swept, marked, swept, swept_part, undid, undid_part, with_mark}
 use Rattle.sd_model.specs.Fields.{rid_of, txn_of}
 use Rattle.sd_model.specs.Applies.{Clear}
 use Rattle.sd_model.specs.Listed.{IsAmong, Listed, NoneTwice}
 use Rattle.sd_model.specs.Refusing.{Refuses, counted, found}
-use Rattle.sd_model.specs.State.{Part, State, committed, cut_commit, fall, freed, gone, joined, lost, lost_part, put_inst, put_part, read_at, started, took, took_part, turned, view, with_life, wrote}
+use Rattle.sd_model.specs.State.{Part, State, closed, committed, cut_commit, fall, freed, gone, joined, lost, lost_part, put_inst, put_part, read_at, started, took, took_part, turned, view, with_life, with_status, wrote}
 use Rattle.sd_model.specs.Tables.{Content}
 use Rattle.sd_model.specs.Step.{Row, Step}
 use Rattle.sd_model.proofs.Acts.{live_from-append}
@@ -213,6 +213,95 @@ module _ (m : State) where
       (λ j low high. fallen-owed i (m.inst j).status (eqb i j)) in
       omega (arith, txns, insts)
 
+-- all of them fail
+pub closed-owed : (m : State) → entries_owed (closed m) ≤ entries_owed m
+closed-owed m =
+    let txns : of_txns (closed m) ≤ of_txns m =
+    sums-less (λ t. entries_of_part ((closed m).part t)) (λ t. entries_of_part (m.part t)) m.begun
+    (λ t a. lost-owed (m.part t) true) in
+    let insts : of_insts (closed m) ≤ of_insts m =
+    sum-less (λ j. entries_of_inst ((closed m).inst j).status) (λ j. entries_of_inst (m.inst j).status) 8
+    (λ j low high. omega arith) in
+    omega (arith, txns, insts)
+
+-- those in doubt that turn out to be committed
+commits-owed : (ts : List TxnId) (m : State) → NoneTwice m.begun → entries_owed (commit_all ts m) ≤ entries_owed m
+commits-owed [] m once = omega arith
+commits-owed (t ∷ ts) m once =
+    let one = commit-owed m t once in let rest = commits-owed ts (committed t m) once in omega (arith, one, rest)
+
+-- ---- a recovery ends
+
+swept-life : (p : Part) (b : Bool) → entries_of_part (cond {A = Part} b gone p) ≤ entries_of_part p
+swept-life p true = omega arith
+swept-life p false = omega arith
+
+swept-less : (p : Part) (b : Bool) → entries_of_part (cond {A = Part} b (swept_part p) p) ≤ entries_of_part p
+swept-less p true = swept-life p (is_swept p.life)
+swept-less p false = omega arith
+
+restarts-or-clean : (b : Bool) → entries_of_inst (cond {A = Status} b S.Restarting S.Clean) ≡ 0
+restarts-or-clean true = refl
+restarts-or-clean false = refl
+
+after-none : (i : ℕ) (s : Status) → entries_of_inst (after_recovery i s) ≡ 0
+after-none i (S.Recovering by) = restarts-or-clean (eqb i by)
+after-none i s = refl
+
+-- losers are gone, and the instance isn't up
+swept-owed : (m : State) (i : ℕ) → entries_owed (swept i m) ≤ entries_owed m
+swept-owed m i =
+    let rest : State = record m { part = λ t. cond {A = Part} (eqb i t.inst) (swept_part (m.part t)) (m.part t) } in
+    let txns : of_txns rest ≤ of_txns m =
+    sums-less (λ t. entries_of_part (rest.part t)) (λ t. entries_of_part (m.part t)) m.begun
+    (λ t a. swept-less (m.part t) (eqb i t.inst)) in
+    let none = after-none i (m.inst i).status in
+    let inst = inst-owed rest i (with_status (after_recovery i (m.inst i).status) (m.inst i)) 0 (omega (arith, none)) in
+    omega (arith, txns, inst)
+
+-- ---- a complex opens
+
+sums-none : (f : TxnId → ℕ) (ts : List TxnId) → ((t : TxnId) → f t ≡ 0) → sum_by f ts ≡ 0
+sums-none f [] none = refl
+sums-none f (t ∷ ts) none =
+    let here = none t in let rest = sums-none f ts none in omega (arith, sum_by-cons f t ts, here, rest)
+
+sum-none : (f : ℕ → ℕ) (count : ℕ) → ((i : ℕ) → f i ≡ 0) → sum_to f count ≡ 0
+sum-none f zero none = refl
+sum-none f (suc count) none = let here = none (suc count) in let rest = sum-none f count none in omega (arith, here, rest)
+
+-- where nobody runs or rolls back, and no instance is up, nothing is owed
+pub rests-none : (m : State) → ((t : TxnId) → entries_of_part (m.part t) ≡ 0) → ((i : ℕ) → entries_of_inst (m.inst i).status ≡ 0)
+    → entries_owed m ≡ 0
+rests-none m parts insts =
+    let txns : of_txns m ≡ 0 = sums-none (λ t. entries_of_part (m.part t)) m.begun parts in
+    let all : of_insts m ≡ 0 = sum-none (λ i. entries_of_inst (m.inst i).status) 8 insts in
+    omega (arith, txns, all)
+
+left-none : (p q : Part) → (q ≡ gone) ⊎ IsLoser p q → entries_of_part q ≡ 0
+left-none p q (inl is) = ap entries_of_part is
+left-none p q (inr loser) = ap (λ (life : Life). entries_of life (length (live q.acts))) loser.life
+
+-- once a complex has opened again, nobody runs and nobody is up
+module _ (m m' : State) (left : Left m m') where
+  down-or-so : (i : ℕ) (s : Status) → (m'.inst i).status ≡ s → entries_of_inst s ≡ 0
+  down-or-so i S.Up is =
+      let none : HasLoser m' i → ⊥ = λ has. let clash : S.Up ≡ S.Down = sym is ∙ left.down i has in absurd (cc) in
+      let stands : S.Up ≡ left.others.0 = sym is ∙ left.others.2 i none in
+      ⊎_elim (λ clean. let clash : S.Up ≡ S.Clean = stands ∙ clean in absurd (cc))
+      (λ down. let clash : S.Up ≡ S.Down = stands ∙ down in absurd (cc)) left.others.1
+  down-or-so i S.Down is = refl
+  down-or-so i (S.Recovering by) is = refl
+  down-or-so i S.Clean is = refl
+  down-or-so i S.Restarting is = refl
+  down-or-so i S.Closed is = refl
+
+  opened-none : entries_owed m' ≡ 0
+  opened-none = rests-none m' (λ t. left-none (m.part t) (m'.part t) (left.part t)) (λ i. down-or-so i (m'.inst i).status refl)
+
+reopened-none : (m m' : State) → Reopened m m' → entries_owed m' ≡ 0
+reopened-none m m' again = opened-none (commit_all again.0 m) m' again.2
+
 cut-owed : (m : State) (t : TxnId) → NoneTwice m.begun → entries_owed (cut_commit t m) ≤ entries_owed m
 cut-owed m t once =
     let doubt : Part = record (m.part t) { life = Life.Doubt Cut.Committing; marks = [] } in
@@ -367,8 +456,20 @@ row-owed m (Fail i) r m' l s c h = absurd h
 row-owed m (Join i) r m' l s c h = absurd h
 row-owed m (Arm trouble) reply.Did m' l s c h = stays-owed m m' h
 row-owed m (Arm trouble) r m' l s c h = absurd h
+row-owed m (FailAll pick) reply.Did m' l s c h = less-owed m (closed m) m' h (closed-owed m)
+row-owed m (FailAll pick) r m' l s c h = absurd h
 row-owed m (Show p) (reply.Shown place lsn) m' l s c h = stays-owed m m' h
 row-owed m (Show p) r m' l s c h = absurd h
+row-owed m (RecoverBegin i by) reply.Did m' l s c h =
+    less-owed m _ m' h (let all = inst-owed m i (with_status (S.Recovering by) (m.inst i)) 0 (omega arith) in omega (arith, all))
+row-owed m (RecoverBegin i by) r m' l s c h = absurd h
+row-owed m (RecoverStep i) reply.Step m' l s c h = stays-owed m m' h
+row-owed m (RecoverStep i) reply.Finished m' l s c h =
+    less-owed m (swept i (commit_all h.0 m)) m' h.4
+    (let all = commits-owed h.0 m l.once in let rest = swept-owed (commit_all h.0 m) i in omega (arith, all, rest))
+row-owed m (RecoverStep i) r m' l s c h = absurd h
+row-owed m Reopen reply.Did m' l s c h = let none = reopened-none m m' h in omega (arith, none)
+row-owed m Reopen r m' l s c h = absurd h
 row-owed m e r m' l s c h = absurd s
 
 pub step-owed : (m : State) (e : Event) (r : Reply) (m' : State) → Listed m → IsServed e → Step m e r m'

@@ -1,3 +1,4 @@
 pub mod Ledger
 pub mod Served
+pub mod Bodies
 pub mod Keeping

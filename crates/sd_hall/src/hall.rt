@@ -1,72 +1,109 @@
 //! The hall: a complex, and the book of what happened in it.
 
-ghost use Rattle.std.specs.Prelude.{◌≡◌, ◌≢◌, ◌≤◌, ◌+◌, ◌++◌, ◌∷◌, [], List, Some, None, IfErr, IfOk, OnErr, OnOk};
+ghost use Rattle.std.specs.Option.{option_copied};
+ghost use Rattle.std.specs.Prelude.{◌≡◌, ◌≢◌, ◌⊎◌, ℕ, ◌≤◌, ◌+◌, ◌++◌, ◌∷◌, [], List, Some, None, IfErr, IfOk, OnErr, OnOk};
+ghost use Rattle.sd_base.specs.Streams.{Rises};
+ghost use Rattle.sd_base.specs.declared.refusal.Refusal.TheVariants as R;
 ghost use Rattle.sd_model.specs.declared.event.Entry.{Entry};
 ghost use Rattle.sd_model.specs.declared.event.Reply.{Reply};
+ghost use Rattle.sd_chain.specs.Checks.{DevicesAreSound};
+ghost use Rattle.sd_chain.specs.Faults.{FailsFirstAt};
+ghost use Rattle.sd_recovered.specs.Devices.{IsRecovered};
+ghost use Rattle.sd_restart.specs.Devices.{Calms};
 ghost use Rattle.sd_world.specs.Serving.{Core, telling};
-ghost use Rattle.sd_state.specs.Fresh.{AreBlank};
-ghost use Rattle.sd_fits.specs.Fits.{fresh_core};
-ghost use Rattle.sd_fits.specs.Serving.{Serving, fits_by};
+ghost use Rattle.sd_fits.specs.Bodies.{rig_of};
+ghost use Rattle.sd_fits.specs.Opened.{opening_core};
+ghost use Rattle.sd_hall.specs.Bodies.{IsAwaited, IsAwaitedIn, IsDownAt, IsRigIn, ServesIn, fits_in, open_in};
 ghost use Rattle.sd_hall.specs.Keeping.{HasPlace, Keeps};
 ghost use Rattle.sd_hall.specs.Ledger.{IsOwed};
-ghost use Rattle.sd_hall.specs.Served.{IsServed};
+ghost use Rattle.sd_hall.specs.Served.{IsServed, told};
 
-use crate::ledger::{is_owed, more};
-use crate::serving::serve;
-use sd_base::Memory;
-use sd_model::{Book, Entry, Event, Reply, Table};
+use crate::ledger::more;
+use crate::turning::{is_owed_in, turned};
+use sd_base::{Memory, Refusal};
+use sd_fits::Body;
+use sd_model::{Book, Entry, Event, Reply};
+use sd_restart::restart;
 use sd_rig::Rig;
 use sd_state::{Complex, Shape};
 use std::alloc::Global;
 
-/// A complex, the book of what happened in it, and how many entries more the book has to have room for: those for which no memory
-/// may be wanting, as the commit of a transaction that runs, or each step of one that rolls back.
+/// A complex, open or closed, the book of what happened in it, and how many entries more the book has to have room for: those
+/// for which no memory may be wanting, as the commit of a transaction that runs, or each step of one that rolls back.
 #[derive(Drop)]
 pub struct Hall<G> {
-    complex: Complex<G>,
+    alloc: Global,
+    // There is none only while a call is under way.
+    body: Option<Body<G>>,
+    shape: Shape,
     book: Book,
     owed: usize,
 }
 
 impl<G: Rig> Hall<G> {
-    /// A hall over blank devices, in which nothing has happened. No device call is made. An error hands the rig back.
-    pub fn fresh(alloc: Global, rig: G, shape: Shape) -> Result<Hall<G>, (Memory, G)>
-        requires blank { AreBlank (G.seen rig) (G.leaves rig) }
+    /// A hall over the complex that opens from nine devices, whose book begins with the table that they stand for. Nobody is up
+    /// in it: whoever the devices leave open stays as a loser, until its instance is recovered.
+    ///
+    /// `Failed` comes where a sync or a read fails, `Damaged` exactly where the devices aren't sound, with the first place that fails;
+    /// `Memory` for want of memory. None of them changes what the devices read. Each hands the rig back.
+    pub fn open(alloc: Global, rig: G, shape: Shape) -> Result<Hall<G>, (Refusal, G)>
         requires least { 1 ≤ shape.frames }
         requires most { shape.frames ≤ 1024 }
-        ensures keeps { IfOk result (λ hall. Keeps (telling G.seen G.leaves G.moment G.since G.faults) (fresh_core shape.frames) hall) }
+
+        ensures keeps { IfOk result (λ hall.
+            Keeps (telling G.seen G.leaves G.moment G.since G.faults) (opening_core shape.frames (G.seen rig)) hall) }
         ensures entries { IfOk result (λ hall. hall.book.entries ≡ []) }
-        ensures opening { IfOk result (λ hall. hall.book.opening ≡ []) }
-        ensures rig { IfOk result (λ hall. hall.complex.rig ≡ rig) }
-        ensures back { IfErr result (λ e. e.1 ≡ rig) }
+        ensures recovered { IfOk result (λ hall. IsRecovered (G.seen rig) hall.book.opening) }
+        ensures sound { OnOk result (DevicesAreSound (G.seen rig)) }
+
+        ensures calms { IfOk result (λ hall. (now : G) → IsRigIn now hall.body → Calms (G.seen rig) (G.seen now)
+            (G.leaves rig) (G.leaves now) (G.moment rig) (G.moment now) (G.since rig) (G.since now)) }
+        ensures quiet { IfOk result (λ hall. (now : G) → IsRigIn now hall.body → G.faults now ≡ G.faults rig) }
+        ensures calms_err { IfErr result (λ e. Calms (G.seen rig) (G.seen e.1) (G.leaves rig) (G.leaves e.1)
+            (G.moment rig) (G.moment e.1) (G.since rig) (G.since e.1)) }
+
+        ensures unsound { IfErr result (λ e. (dev at : ℕ) → e.0 ≡ R.Damaged dev at → DevicesAreSound (G.seen rig) → ⊥) }
+        ensures place { IfErr result (λ e. (dev at : ℕ) → e.0 ≡ R.Damaged dev at → FailsFirstAt (G.seen rig) dev at) }
+        ensures refusals { IfErr result (λ e.
+            (e.0 ≡ R.Failed) ⊎ (e.0 ≡ R.Memory) ⊎ ((dev : ℕ) × (at : ℕ) × (e.0 ≡ R.Damaged dev at))) }
+        ensures cause { IfErr result (λ e. e.0 ≡ R.Failed → Rises (G.faults rig) (G.faults e.1)) }
+        ensures quiet_err { IfErr result (λ e. e.0 ≢ R.Failed → G.faults e.1 ≡ G.faults rig) }
     {
-        let complex = Complex::fresh(alloc, rig, shape)?;
+        let (complex, table) = restart(alloc, rig, shape)?;
         Ok(Hall {
-            complex,
-            book: Book::new(alloc, Table::new(alloc)),
+            alloc,
+            body: Some(Body::Open(complex)),
+            shape,
+            book: Book::new(alloc, table),
             owed: 0,
         })
     }
 
-    /// Does the event, and notes it with its reply under this session and line. `Memory` comes where there is none: nothing is noted
-    /// then, and the complex fits the world that it fitted. It never comes for the commit of a transaction that runs, nor for an undo
-    /// of one that rolls back, where nothing is left to undo or the page of the next undo is its instance's alone, nor for the failure
-    /// of an instance that is up. Each image that a crash leaves meanwhile stands for the state before or after.
+    /// Does the event on the complex, open or closed, and notes it with its reply under this session and line. The failure of all
+    /// instances closes the complex; until it opens again, in its own shape, it refuses each event but that, and to arm the devices.
+    ///
+    /// `Memory` comes where there is none: nothing is noted then, and the complex fits the world that it fitted. It never comes for
+    /// the commit of a transaction that runs, nor for an undo of one that rolls back, where nothing is left to undo or the page of
+    /// the next undo is its instance's alone, nor for the failure of an instance that is up. Each image that a crash leaves
+    /// meanwhile stands for the state before or after.
     pub fn call(&mut self, session: u8, line: u32, e: Event) -> Result<(), Memory>
         requires served { IsServed e }
         requires kept { (start : Core) × Keeps (telling G.seen G.leaves G.moment G.since G.faults) start self.old }
         ensures noted { OnOk result ((r : Reply)
             × (self.new.book.entries ≡ self.old.book.entries ++ record { session = session; line = line; event = e; reply = r } ∷ [])
-            × Serving (telling G.seen G.leaves G.moment G.since G.faults) e (Some r) self.old.complex self.new.complex) }
+            × ServesIn (telling G.seen G.leaves G.moment G.since G.faults) e (Some r) self.old.body self.new.body) }
         ensures same { OnErr result (self.new.book.entries ≡ self.old.book.entries) }
-        ensures spared { OnErr result (Serving (telling G.seen G.leaves G.moment G.since G.faults) e None self.old.complex self.new.complex) }
-        ensures there { OnErr result ((w : Core) → fits_by G.seen G.leaves self.old.complex w → IsOwed w e → ⊥) }
+        ensures spared { OnErr result (ServesIn (telling G.seen G.leaves G.moment G.since G.faults) e None self.old.body self.new.body) }
+        ensures there { OnErr result ((w : Core) → fits_in G.seen G.leaves self.old.body w → IsOwed w e → ⊥) }
+        ensures awaits { OnOk result ((r : Reply)
+            → self.new.book.entries ≡ self.old.book.entries ++ record { session = session; line = line; event = e; reply = r } ∷ []
+            → IsAwaited e r self.old.body) }
         ensures opening { self.new.book.opening ≡ self.old.book.opening }
         ensures keeps { (start : Core) → Keeps (telling G.seen G.leaves G.moment G.since G.faults) start self.old
             → Keeps (telling G.seen G.leaves G.moment G.since G.faults) start self.new }
     {
         self.take_place(&e)?;
-        let reply = serve(&mut self.complex, &e)?;
+        let reply = self.turn(&e)?;
         self.owed += more(&e, &reply);
         self.book.note(Entry {
             session,
@@ -77,19 +114,44 @@ impl<G: Rig> Hall<G> {
         Ok(())
     }
 
+    // Does the event on the complex, open or closed, and tells its reply.
+    fn turn(&mut self, e: &Event) -> Result<Reply, Memory>
+        requires served { IsServed e.now }
+        requires fits { (w : Core) × (fits_in G.seen G.leaves self.old.body w) × (w.pages.frames ≡ self.old.shape.frames) }
+        requires least { 1 ≤ self.old.shape.frames }
+        requires most { self.old.shape.frames ≤ 1024 }
+        ensures served { ServesIn (telling G.seen G.leaves G.moment G.since G.faults) e.now (told result) self.old.body self.new.body }
+        ensures there { (w : Core) → IsOwed w e.now → told result ≢ None }
+        ensures down { IsDownAt e.now (told result) self.new.body }
+        ensures awaits { IsAwaitedIn e.now (told result) self.old.body }
+        ensures book { self.new.book ≡ self.old.book }
+        ensures shape { self.new.shape ≡ self.old.shape }
+        ensures owed { self.new.owed ≡ self.old.owed }
+    {
+        let Some(body) = self.body.take() else {
+            unreachable!();
+        };
+        let (done, body) = turned(self.alloc, body, e, self.shape);
+        match self.body.replace(body) {
+            None => done,
+            Some(_before) => unreachable!(),
+        }
+    }
+
     // Takes the place in the book that is owed for the event; where none is, makes room for its entry, and for one that it may owe.
     fn take_place(&mut self, e: &Event) -> Result<(), Memory>
         requires kept { (start : Core) × Keeps (telling G.seen G.leaves G.moment G.since G.faults) start self.old }
         ensures place { OnOk result (HasPlace (telling G.seen G.leaves G.moment G.since G.faults) e.now self.old self.new) }
         ensures fits { OnOk result (self.new.owed + 1 ≤ usize.MAX) }
-        ensures free { OnErr result ((w : Core) → fits_by G.seen G.leaves self.old.complex w → IsOwed w e.now → ⊥) }
+        ensures free { OnErr result ((w : Core) → fits_in G.seen G.leaves self.old.body w → IsOwed w e.now → ⊥) }
         ensures owed { OnErr result (self.new.owed ≡ self.old.owed) }
         ensures spare { self.old.book.spare ≤ self.new.book.spare }
         ensures entries { self.new.book.entries ≡ self.old.book.entries }
         ensures opening { self.new.book.opening ≡ self.old.book.opening }
-        ensures complex { self.new.complex ≡ self.old.complex }
+        ensures body { self.new.body ≡ self.old.body }
+        ensures shape { self.new.shape ≡ self.old.shape }
     {
-        if is_owed(&self.complex, e) {
+        if is_owed_in(&self.body, e) {
             self.owed -= 1;
             return Ok(());
         }
@@ -104,7 +166,8 @@ impl<G: Rig> Hall<G> {
         ensures entries { self.new.book.entries ≡ self.old.book.entries }
         ensures opening { self.new.book.opening ≡ self.old.book.opening }
         ensures owed { self.new.owed ≡ self.old.owed }
-        ensures complex { self.new.complex ≡ self.old.complex }
+        ensures body { self.new.body ≡ self.old.body }
+        ensures shape { self.new.shape ≡ self.old.shape }
     {
         let Some(room) = self.owed.checked_add(2) else {
             return Err(Memory);
@@ -117,7 +180,8 @@ impl<G: Rig> Hall<G> {
     pub fn expect(&mut self, entries: usize)
         ensures entries { self.new.book.entries ≡ self.old.book.entries }
         ensures opening { self.new.book.opening ≡ self.old.book.opening }
-        ensures complex { self.new.complex ≡ self.old.complex }
+        ensures body { self.new.body ≡ self.old.body }
+        ensures shape { self.new.shape ≡ self.old.shape }
         ensures keeps { (start : Core) → Keeps (telling G.seen G.leaves G.moment G.since G.faults) start self.old
             → Keeps (telling G.seen G.leaves G.moment G.since G.faults) start self.new }
     {
@@ -139,18 +203,36 @@ impl<G: Rig> Hall<G> {
         &self.book
     }
 
-    /// The complex as it is.
-    pub fn complex(&self) -> &Complex<G>
-        ensures { result.now ≡ self.now.complex }
+    /// The complex as it is; none while it is closed.
+    pub fn complex(&self) -> Option<&Complex<G>>
+        ensures { option_copied result ≡ open_in self.now.body }
     {
-        &self.complex
+        match &self.body {
+            Some(Body::Open(complex)) => Some(complex),
+            _ => None,
+        }
     }
 
     /// The book of what happened, and the devices; the complex is no more.
     pub fn close(self) -> (Book, G)
+        requires kept { (start : Core) × Keeps (telling G.seen G.leaves G.moment G.since G.faults) start self }
         ensures book { result.0 ≡ self.book }
-        ensures rig { result.1 ≡ self.complex.rig }
+        ensures rig { IsRigIn result.1 self.body }
     {
-        (self.book, self.complex.rig)
+        let Hall { body, book, .. } = self;
+        let Some(body) = body else {
+            unreachable!();
+        };
+        (book, devices_of(body))
+    }
+}
+
+// The devices of a complex, open or closed.
+fn devices_of<G: Rig>(body: Body<G>) -> G
+    ensures { result ≡ rig_of body }
+{
+    match body {
+        Body::Open(complex) => complex.images(),
+        Body::Closed(rig, _) => rig,
     }
 }

@@ -3,14 +3,15 @@
 //! Meaning: `Keeps` (`specs/Keeping.antt`): the entries lead from a start to a core that the complex fits, and the book has room
 //! for the entries that the hall owes (`specs/Ledger.antt`).
 //! Keeps: `Keeps`, through each call.
-//! Promises: an event that was done is noted with its reply, and no other is (`Hall::call`). What is noted was served as sd_fits
-//! says. A transaction that runs can be committed, one that rolls back can do so to its end, and an instance that is up can fail,
-//! without memory (`there`). At most one instance may update a page, and each copy of it is its newest version (`laws.rt`).
-//! Refuses: `Memory`, which notes nothing, and after which the complex fits the same core.
+//! Promises: a hall opens from sound devices alone, to the world of which they tell (`Hall::open`). An event that was done is noted
+//! with its reply, and no other is (`Hall::call`); it was served as sd_fits says, also while the complex is closed. A transaction
+//! that runs can be committed, one that rolls back can do so to its end, and an instance that is up can fail, without memory
+//! (`there`). At most one instance may update a page, and each copy of it is its newest version (`laws.rt`).
+//! Refuses: `Memory`, which notes nothing, and after which the complex fits the same core; as it opens, also `Failed`, `Damaged`.
 //! Knows nothing of: sessions, scripts, how a line is driven.
-//! Stands on: sd_base, sd_model, sd_page, sd_rig, sd_pool, sd_txn, sd_pagelock, sd_chain, sd_coherent, sd_world, sd_state, sd_moves,
-//! sd_fits, sd_ops, sd_transfer, sd_writer, sd_rollback, sd_survive.
-//! Held by the caller: that the event is one of those that are served (`IsServed`).
+//! Stands on: sd_base, sd_model, sd_page, sd_rig, sd_pool, sd_txn, sd_pagelock, sd_chain, sd_sound, sd_recovered, sd_coherent,
+//! sd_world, sd_state, sd_moves, sd_fits, sd_ops, sd_transfer, sd_writer, sd_rollback, sd_survive, sd_restart, sd_shut.
+//! Held by the caller: that the event is one of those that are served (`IsServed`); that a pool has a frame, and at most 1,024.
 //!
 //! To change:
 //! - free: bodies, proofs
@@ -22,5 +23,6 @@ mod hall;
 pub mod laws;
 mod ledger;
 mod serving;
+mod turning;
 
 pub use hall::Hall;

@@ -1,13 +1,19 @@
 //! One event served on the complex, by the call that it stands for.
 
 ghost use Rattle.std.specs.Prelude.{◌≡◌, ◌≢◌, ℕ, None, Some};
+ghost use Rattle.sd_base.specs.declared.refusal.Refusal.TheVariants as R;
 ghost use Rattle.sd_model.specs.declared.event.Reply.{Reply};
 ghost use Rattle.sd_model.specs.declared.event.Reply.TheVariants as reply;
 ghost use Rattle.sd_state.specs.Complexes.{parts};
+ghost use Rattle.sd_state.specs.Parts.{status_at, IsShape};
 ghost use Rattle.sd_world.specs.Serving.{Core, answered, began, did, found, gave, had_or_asked, joined, listed, placed_at, refused};
 ghost use Rattle.sd_world.specs.Serving.{step_or_finished, telling};
 ghost use Rattle.sd_fits.specs.Fits.{Fits};
 ghost use Rattle.sd_fits.specs.Serving.{Serving};
+ghost use Rattle.sd_fits.specs.declared.body.Body.TheVariants as bodies;
+ghost use Rattle.sd_survive.specs.Recovering.{recovery};
+ghost use Rattle.sd_shut.specs.Closing.{NeitherClosesNorOpens};
+ghost use Rattle.sd_hall.specs.Bodies.{IsAwaitedIn};
 ghost use Rattle.sd_hall.specs.Ledger.{IsOwed};
 ghost use Rattle.sd_hall.specs.Served.{told, IsDownThen, IsServed};
 
@@ -15,15 +21,18 @@ use sd_base::{Bytes, InstNo, Lsn, Memory, Place, Refusal, Rid, TxnId};
 use sd_model::{Event, Reply, Rows};
 use sd_rig::Rig;
 use sd_state::Complex;
+use sd_survive::Recovery;
 
 /// Does the event on the complex, and tells its reply. Where an entry is owed for it there is memory. An undo that a device fails takes
 /// its instance down.
 pub(crate) fn serve<G: Rig>(c: &mut Complex<G>, e: &Event) -> Result<Reply, Memory>
     requires served { IsServed e.now }
+    requires within { NeitherClosesNorOpens e.now }
     requires fits { (w : Core) × Fits (G.seen c.old.rig) (G.leaves c.old.rig) (parts c.old) w }
     ensures served { Serving (telling G.seen G.leaves G.moment G.since G.faults) e.now (told result) c.old c.new }
     ensures there { (w : Core) → IsOwed w e.now → told result ≢ None }
     ensures down { IsDownThen e.now (told result) (parts c.new) }
+    ensures awaits { IsAwaitedIn e.now (told result) (Some (bodies.Open c.old)) }
 {
     match e {
         Event::Begin { inst } => as_began(sd_ops::begin(c, *inst)),
@@ -49,6 +58,8 @@ pub(crate) fn serve<G: Rig>(c: &mut Complex<G>, e: &Event) -> Result<Reply, Memo
         Event::Flush { inst, page } => as_did(sd_writer::write_page(c, *inst, *page)),
         Event::Force { inst } => as_did(sd_writer::force(c, *inst)),
         Event::Fail { inst } => as_did(sd_survive::fail(c, *inst)),
+        Event::RecoverBegin { inst, by } => as_did(sd_survive::recover_begin(c, *inst, *by)),
+        Event::RecoverStep { inst } => as_recovery(sd_survive::recover_step(c, *inst)),
         Event::Join { inst } => as_joined(sd_survive::join(c, *inst)),
         Event::Arm { trouble } => {
             sd_survive::arm(c, *trouble);
@@ -149,6 +160,17 @@ fn as_step(done: Result<bool, Refusal>) -> Result<Reply, Memory>
     }
 }
 
+// The reply to a step of a recovery, which tells whether it was the last.
+fn as_recovery(done: Result<Recovery, Refusal>) -> Result<Reply, Memory>
+    ensures { told result ≡ answered recovery done }
+{
+    match done {
+        Ok(Recovery::Step) => Ok(Reply::Step),
+        Ok(Recovery::Done) => Ok(Reply::Finished),
+        Err(n) => as_refused(n),
+    }
+}
+
 // The reply of a call without a value.
 fn as_did(done: Result<(), Refusal>) -> Result<Reply, Memory>
     ensures { told result ≡ did done }
@@ -159,8 +181,17 @@ fn as_did(done: Result<(), Refusal>) -> Result<Reply, Memory>
     }
 }
 
-// The reply of a call that is refused; want of memory has none.
-fn as_refused(n: Refusal) -> Result<Reply, Memory>
+/// What a complex that is open replies to a reopening: how instance 1 stands.
+pub(crate) fn not_down<G>(c: &Complex<G>) -> Reply
+    requires { IsShape (parts c.now) }
+    ensures { result ≡ reply.Refused (R.NotDown (status_at (parts c.now) 1)) }
+{
+    let status = c.status(InstNo::new(1).unwrap());
+    Reply::Refused(Refusal::NotDown { status })
+}
+
+/// The reply of a call that is refused; want of memory has none.
+pub(crate) fn as_refused(n: Refusal) -> Result<Reply, Memory>
     ensures { told result ≡ refused n }
 {
     match n {

@@ -4,7 +4,8 @@ ghost use Rattle.std.specs.Prelude.{IfOk, IfSome};
 ghost use Rattle.sd_hall.specs.Served.{IsServed};
 
 use sd_base::{
-    Bytes, InstNo, InstSet, Memory, Mode, PageNo, Place, Refusal, Rid, Status, TxnId, Word,
+    Bytes, InstNo, InstSet, Memory, Mode, PageNo, Pick, Place, Refusal, Rid, Status, Trouble,
+    TxnId, Word,
 };
 use sd_model::{Event, Reply};
 use std::alloc::Global;
@@ -27,6 +28,9 @@ pub const FIRST: Who = Who(1, 1, 1);
 pub const NEXT: Who = Who(1, 1, 2);
 
 pub const LAST: Who = Who(1, 1, 3);
+
+/// Its first transaction once it has joined again.
+pub const AGAIN: Who = Who(1, 2, 1);
 
 /// Instance 2, and its first transaction.
 pub const TWO: Who = Who(2, 0, 0);
@@ -64,6 +68,12 @@ pub enum Ask {
     Force,
     Fail,
     Join,
+    /// This one begins to recover the instance.
+    RecoverBy(Who),
+    RecoverStep,
+    Arm(Trouble),
+    FailAll,
+    Reopen,
 }
 
 /// What is answered.
@@ -126,8 +136,18 @@ pub enum Why {
     Dirty,
     /// It isn't down, but up.
     Up,
+    /// It isn't down, but clean.
+    NotFallen,
+    /// It isn't down, but this one recovers it.
+    Recovering(Who),
+    /// It isn't closed, but down.
+    Fallen,
     /// It isn't recovered, but down.
     NotRecovered,
+    /// A device failed.
+    Failed,
+    /// A device failed, and the commit is in doubt.
+    Cut,
     NoTxn,
 }
 
@@ -137,8 +157,8 @@ fn txn(who: Who) -> Option<TxnId> {
     Some(TxnId { inst, epoch, seq })
 }
 
-/// The event of what this one asks; `None` where it names no instance or no page.
-pub fn event(alloc: Global, who: Who, ask: Ask) -> Result<Option<Event>, Memory>
+/// The event of what this one asks; `None` where it names no instance or no page. Where all instances fail, a crash picks so.
+pub fn event(alloc: Global, pick: Pick, who: Who, ask: Ask) -> Result<Option<Event>, Memory>
     ensures { IfOk result (λ e. IfSome e (λ x. IsServed x)) }
 {
     match ask {
@@ -147,6 +167,7 @@ pub fn event(alloc: Global, who: Who, ask: Ask) -> Result<Option<Event>, Memory>
         Ask::Save(name) => Ok(saved(who, text(alloc, name)?)),
         Ask::Back(name) => Ok(back(who, Some(text(alloc, name)?))),
         Ask::Rollback => Ok(back(who, None)),
+        Ask::FailAll => Ok(Some(Event::FailAll { pick })),
         _ => Ok(call(who, ask)),
     }
 }
@@ -232,6 +253,10 @@ fn deed(inst: InstNo, ask: Ask) -> Option<Event>
         Ask::Force => Some(Event::Force { inst }),
         Ask::Fail => Some(Event::Fail { inst }),
         Ask::Join => Some(Event::Join { inst }),
+        Ask::RecoverBy(other) => recovery(inst, other),
+        Ask::RecoverStep => Some(Event::RecoverStep { inst }),
+        Ask::Arm(trouble) => Some(Event::Arm { trouble }),
+        Ask::Reopen => Some(Event::Reopen),
         Ask::List(p) => Some(Event::List {
             inst,
             page: PageNo::new(p)?,
@@ -259,6 +284,14 @@ fn deed(inst: InstNo, ask: Ask) -> Option<Event>
         Ask::Share(p) => page_asked(inst, p, Mode::Shared),
         _ => None,
     }
+}
+
+// The event that begins a recovery by this one.
+fn recovery(inst: InstNo, who: Who) -> Option<Event>
+    ensures { IfSome result (λ e. IsServed e) }
+{
+    let by = InstNo::new(who.0)?;
+    Some(Event::RecoverBegin { inst, by })
 }
 
 // The event of an ask for a page.
@@ -358,6 +391,16 @@ fn is_why(refusal: &Refusal, why: Why) -> bool {
         ),
         (Refusal::NeedPage { place }, Why::NeedPage(spot)) => is_spot(place, spot),
         (Refusal::NotDown { status }, Why::Up) => *status == Status::Up,
+        (Refusal::NotDown { status }, Why::NotFallen) => *status == Status::Clean,
+        (Refusal::NotDown { status }, Why::Fallen) => *status == Status::Down,
+        (
+            Refusal::NotDown {
+                status: Status::Recovering { by },
+            },
+            Why::Recovering(who),
+        ) => by.get() == who.0,
+        (Refusal::Failed, Why::Failed) => true,
+        (Refusal::CutCommit, Why::Cut) => true,
         (Refusal::NotRecovered { status }, Why::NotRecovered) => *status == Status::Down,
         _ => false,
     }

@@ -1,21 +1,23 @@
-//! Runs of the hall over blank devices, each reply beside the one that is worked out by hand.
+//! Runs of the hall that opens from blank devices, each reply beside the one that is worked out by hand.
 
 ghost use Rattle.std.specs.Prelude.{◌≤◌};
-ghost use Rattle.sd_state.specs.Fresh.{AreBlank};
 
 use crate::lines::Ask::{
-    Add, Alone, Back, Begin, Commit, Delete, Evict, Fail as Falls, Flush, Force, Give, Insert,
-    Join, List, Read, Rollback, Save, Share, Show, Take, Undo, Write,
+    Add, Alone, Arm, Back, Begin, Commit, Delete, Evict, Fail as Falls, FailAll, Flush, Force,
+    Give, Insert, Join, List, Read, RecoverBy, RecoverStep, Reopen, Rollback, Save, Share, Show,
+    Take, Undo, Write,
 };
 use crate::lines::Say::{
     Absent, Asked, At, Began, Did, Finished, Gave, Have, Joined, No, Rows, Shown, Step, Value,
 };
 use crate::lines::Spot::{Both, Changed, Clean, Free, Lost, Moving, Shared};
 use crate::lines::Why::{
-    Blocked, Busy, Deadlock, Dirty, Down, MovingTo, NeedPage, NoRecord, NoSavepoint, NoTxn,
-    NotAsked, NotNumber, NotRecovered, PageFull, PoolFull, TooLong, Up,
+    Blocked, Busy, Cut, Deadlock, Dirty, Down, Failed, Fallen, MovingTo, NeedPage, NoRecord,
+    NoSavepoint, NoTxn, NotAsked, NotFallen, NotNumber, NotRecovered, PageFull, PoolFull,
+    Recovering, TooLong, Up,
 };
-use crate::lines::{FAR, FIRST, LAST, Line, NEXT, ONE, TWO, event, is_said};
+use crate::lines::{AGAIN, FAR, FIRST, LAST, Line, NEXT, ONE, TWO, event, is_said};
+use sd_base::{Pick, Trouble};
 use sd_hall::Hall;
 use sd_rig::{MemRig, Rig};
 use sd_state::Shape;
@@ -279,15 +281,111 @@ static TRANSFERS: &[Line] = &[
     (ONE, Show(0), Shown(Lost, 0)),
 ];
 
-// The number of lines that are answered as they say, up to one that isn't, in a hall of two instances over these devices, with so
-// many frames in each pool.
+/// A commit that a device cuts, and all instances that fail then: it is as if its transaction had never begun, whatever the crash
+/// picks.
+static CUT: &[Line] = &[
+    (ONE, Join, Joined(1)),
+    (ONE, Begin, Began(FIRST)),
+    (ONE, Alone(0), Have),
+    (FIRST, Insert(0, b"red", 3), At(0)),
+    (FIRST, Commit, Did),
+    (ONE, Begin, Began(NEXT)),
+    (NEXT, Write(0, b"tan"), Did),
+    // The first call writes the records, and none opens the gate before them.
+    (ONE, Arm(Trouble::Fuse(1)), Did),
+    (NEXT, Commit, No(Cut)),
+    (ONE, FailAll, Did),
+    (ONE, Reopen, Did),
+    (ONE, Reopen, No(Fallen)),
+    (NEXT, Commit, No(NoTxn)),
+    (ONE, Show(0), Shown(Lost, 0)),
+    (ONE, RecoverBy(ONE), Did),
+    // The data device and the log are settled, and the page is rebuilt.
+    (ONE, RecoverStep, Step),
+    (ONE, RecoverStep, Step),
+    (ONE, RecoverStep, Step),
+    (ONE, RecoverStep, Finished),
+    (ONE, Join, Joined(2)),
+    (ONE, Begin, Began(AGAIN)),
+    (ONE, Share(0), Have),
+    (AGAIN, Read(0), Value(b"red")),
+];
+
+/// An instance that falls with a loser, and is recovered by another.
+static LOSER: &[Line] = &[
+    (ONE, Join, Joined(1)),
+    (TWO, Join, Joined(1)),
+    (TWO, Begin, Began(FAR)),
+    (ONE, Begin, Began(FIRST)),
+    (ONE, Alone(0), Have),
+    (FIRST, Insert(0, b"red", 3), At(0)),
+    (FIRST, Commit, Did),
+    (ONE, Begin, Began(NEXT)),
+    (NEXT, Write(0, b"tan"), Did),
+    (ONE, Force, Did),
+    (ONE, Falls, Did),
+    (ONE, RecoverStep, No(NotRecovered)),
+    (ONE, RecoverBy(TWO), Did),
+    (ONE, RecoverBy(TWO), No(Recovering(TWO))),
+    (ONE, Show(0), Shown(Lost, 0)),
+    (ONE, RecoverStep, Step),
+    (ONE, RecoverStep, Step),
+    (ONE, RecoverStep, Step),
+    // The page is on disk now, with the loser's change, which is still to be undone.
+    (ONE, RecoverStep, No(NeedPage(Free))),
+    (TWO, Alone(0), Have),
+    (ONE, Show(0), Shown(Clean(TWO), 4)),
+    (FAR, Read(0), No(Blocked(NEXT))),
+    (ONE, RecoverStep, Step),
+    (ONE, Show(0), Shown(Changed(TWO), 5)),
+    // Its records are all undone, and it gets its end.
+    (ONE, RecoverStep, Step),
+    (ONE, RecoverStep, Finished),
+    (FAR, Read(0), Value(b"red")),
+    (NEXT, Commit, No(NoTxn)),
+    (ONE, Join, Joined(2)),
+];
+
+/// What a complex answers that is closed, and one that is open to its reopening.
+static CLOSED: &[Line] = &[
+    (ONE, Reopen, No(NotFallen)),
+    (ONE, Join, Joined(1)),
+    (ONE, Reopen, No(Up)),
+    (ONE, Begin, Began(FIRST)),
+    (ONE, Alone(0), Have),
+    (ONE, FailAll, Did),
+    (ONE, Begin, No(Down)),
+    (FIRST, Read(0), No(Down)),
+    (FIRST, Commit, No(Down)),
+    (FIRST, Undo, No(Down)),
+    (ONE, List(0), No(Down)),
+    (ONE, Show(0), No(Down)),
+    (ONE, Share(0), No(Down)),
+    (ONE, Force, No(Down)),
+    (ONE, Falls, No(Down)),
+    (ONE, RecoverBy(ONE), No(Down)),
+    (ONE, RecoverStep, No(Down)),
+    (ONE, Join, No(Down)),
+    (ONE, Arm(Trouble::Fault(1)), Did),
+    (ONE, Reopen, No(Failed)),
+    (ONE, Join, No(Down)),
+    (ONE, FailAll, Did),
+    (ONE, Reopen, Did),
+    (ONE, Reopen, No(NotFallen)),
+    (FIRST, Commit, No(NoTxn)),
+    (ONE, Show(0), Shown(Free, 0)),
+    (ONE, Join, Joined(2)),
+];
+
+// The number of lines that are answered as they say, up to one that isn't, in a hall of two instances that opens from these
+// devices, with so many frames in each pool. Where all instances fail, a crash picks so.
 fn agreeing<G: Rig + Drop>(
     alloc: Global,
     rig: G,
+    pick: Pick,
     frames: u16,
     lines: &[Line],
 ) -> Result<usize, Fail>
-    requires blank { AreBlank (G.seen rig) (G.leaves rig) }
     requires least { 1 ≤ frames }
     requires most { frames ≤ 1024 }
 {
@@ -296,12 +394,13 @@ fn agreeing<G: Rig + Drop>(
         pages: 4,
         frames,
     };
-    let Ok(mut hall) = Hall::fresh(alloc, rig, shape) else {
+    let Ok(mut hall) = Hall::open(alloc, rig, shape) else {
         return Err("no memory".into());
     };
     for n in 0..lines.len() {
         let (who, ask, say) = lines[n];
-        let Some(e) = event(alloc, who, ask)? else {
+        let asked = event(alloc, pick, who, ask)?;
+        let Some(e) = asked else {
             return Err("no such event".into());
         };
         hall.call(0, 0, e)?;
@@ -320,7 +419,14 @@ fn agreed(alloc: Global, frames: u16, lines: &[Line]) -> Result<usize, Fail>
     requires least { 1 ≤ frames }
     requires most { frames ≤ 1024 }
 {
-    agreeing(alloc, MemRig::blank(alloc)?, frames, lines)
+    picked(alloc, Pick::Keep, frames, lines)
+}
+
+fn picked(alloc: Global, pick: Pick, frames: u16, lines: &[Line]) -> Result<usize, Fail>
+    requires least { 1 ≤ frames }
+    requires most { frames ≤ 1024 }
+{
+    agreeing(alloc, MemRig::blank(alloc)?, pick, frames, lines)
 }
 
 #[test]
@@ -374,5 +480,26 @@ fn a_page_passes_between_pools(rt: HostRuntime) -> Result<(), Fail> {
 #[test]
 fn who_reads_an_uncommitted_record_waits(rt: HostRuntime) -> Result<(), Fail> {
     assert_eq!(rt; agreed(rt.alloc(), 2, UNCOMMITTED)?, UNCOMMITTED.len());
+    Ok(())
+}
+
+#[test]
+fn all_fail_and_a_commit_that_was_cut_is_no_more(rt: HostRuntime) -> Result<(), Fail> {
+    assert_eq!(rt; picked(rt.alloc(), Pick::Keep, 2, CUT)?, CUT.len());
+    assert_eq!(rt; picked(rt.alloc(), Pick::Lose, 2, CUT)?, CUT.len());
+    assert_eq!(rt; picked(rt.alloc(), Pick::Tear, 2, CUT)?, CUT.len());
+    assert_eq!(rt; picked(rt.alloc(), Pick::Junk, 2, CUT)?, CUT.len());
+    Ok(())
+}
+
+#[test]
+fn a_loser_is_undone_by_the_recoverer(rt: HostRuntime) -> Result<(), Fail> {
+    assert_eq!(rt; agreed(rt.alloc(), 2, LOSER)?, LOSER.len());
+    Ok(())
+}
+
+#[test]
+fn a_closed_complex_answers_that_it_is_down(rt: HostRuntime) -> Result<(), Fail> {
+    assert_eq!(rt; agreed(rt.alloc(), 2, CLOSED)?, CLOSED.len());
     Ok(())
 }

@@ -11,36 +11,42 @@ use Rattle.sd_state.specs.Complexes.{parts}
 use Rattle.sd_state.specs.Parts.{status_at}
 use Rattle.sd_world.specs.Serving.{Telling, did, placed_at, telling}
 use Rattle.sd_fits.specs.Serving.{Serving}
+use Rattle.sd_shut.specs.Closing.{NeitherClosesNorOpens}
 use Rattle.sd_hall.specs.Served.{IsServed}
-use Rattle.sd_hall.proofs.Keeping.{answered-some, failed-so, same-undo, served-as}
+use Rattle.sd_survive.specs.Recovering.{AwaitsPage}
+use Rattle.sd_hall.proofs.Keeping.{answered-some, awaits-so, failed-so, same-step, same-undo, served-as}
 use Rattle.sd_hall.proofs.serving.serve.Goals as goal
 
 pub unreachable-requires : goal.unreachable-requires
-unreachable-requires g c = none c.args.e.now c.requires.served refl
+unreachable-requires g c = none c.args.e.now c.requires.served c.requires.within refl
   where
-    none : (e : Event) → IsServed e → c.args.e.now ≡ e → ⊥
-    none (event.Begin i) served is = c.in_default.not-Begin i is
-    none (event.Read t r) served is = c.in_default.not-Read t r is
-    none (event.Write t r v) served is = c.in_default.not-Write t r v is
-    none (event.Add t r by) served is = c.in_default.not-Add t r by is
-    none (event.Insert t p v n) served is = c.in_default.not-Insert t p v n is
-    none (event.Delete t r) served is = c.in_default.not-Delete t r is
-    none (event.Save t k) served is = c.in_default.not-Save t k is
-    none (event.Back t k) served is = c.in_default.not-Back t k is
-    none (event.Undo t) served is = c.in_default.not-Undo t is
-    none (event.Commit t) served is = c.in_default.not-Commit t is
-    none (event.List i p) served is = c.in_default.not-List i p is
-    none (event.Ask i p mode) served is = c.in_default.not-Ask i p mode is
-    none (event.Give i p) served is = c.in_default.not-Give i p is
-    none (event.Take i p) served is = c.in_default.not-Take i p is
-    none (event.Evict i p) served is = c.in_default.not-Evict i p is
-    none (event.Flush i p) served is = c.in_default.not-Flush i p is
-    none (event.Force i) served is = c.in_default.not-Force i is
-    none (event.Fail i) served is = c.in_default.not-Fail i is
-    none (event.Join i) served is = c.in_default.not-Join i is
-    none (event.Arm trouble) served is = c.in_default.not-Arm trouble is
-    none (event.Show p) served is = c.in_default.not-Show p is
-    none e served is = served
+    none : (e : Event) → IsServed e → NeitherClosesNorOpens e → c.args.e.now ≡ e → ⊥
+    none (event.Begin i) served within is = c.in_default.not-Begin i is
+    none (event.Read t r) served within is = c.in_default.not-Read t r is
+    none (event.Write t r v) served within is = c.in_default.not-Write t r v is
+    none (event.Add t r by) served within is = c.in_default.not-Add t r by is
+    none (event.Insert t p v n) served within is = c.in_default.not-Insert t p v n is
+    none (event.Delete t r) served within is = c.in_default.not-Delete t r is
+    none (event.Save t k) served within is = c.in_default.not-Save t k is
+    none (event.Back t k) served within is = c.in_default.not-Back t k is
+    none (event.Undo t) served within is = c.in_default.not-Undo t is
+    none (event.Commit t) served within is = c.in_default.not-Commit t is
+    none (event.List i p) served within is = c.in_default.not-List i p is
+    none (event.Ask i p mode) served within is = c.in_default.not-Ask i p mode is
+    none (event.Give i p) served within is = c.in_default.not-Give i p is
+    none (event.Take i p) served within is = c.in_default.not-Take i p is
+    none (event.Evict i p) served within is = c.in_default.not-Evict i p is
+    none (event.Flush i p) served within is = c.in_default.not-Flush i p is
+    none (event.Force i) served within is = c.in_default.not-Force i is
+    none (event.Fail i) served within is = c.in_default.not-Fail i is
+    none (event.Join i) served within is = c.in_default.not-Join i is
+    none (event.Arm trouble) served within is = c.in_default.not-Arm trouble is
+    none (event.Show p) served within is = c.in_default.not-Show p is
+    none (event.RecoverBegin i by) served within is = c.in_default.not-RecoverBegin i by is
+    none (event.RecoverStep i) served within is = c.in_default.not-RecoverStep i is
+    none (event.FailAll pick) served within is = within
+    none event.Reopen served within is = within
+    none e served within is = served
 
 pub returns-in-Begin-clause-served : goal.returns-in-Begin-clause-served
 returns-in-Begin-clause-served g c =
@@ -154,6 +160,23 @@ returns-in-Fail-clause-served g c =
 
 pub returns-in-Fail-clause-there : goal.returns-in-Fail-clause-there
 returns-in-Fail-clause-there g c = λ m owed none. answered-some _ c.fail.result c.fail.ensures.there (sym c.as_did-in-Fail.ensures ∙ none)
+
+pub returns-in-RecoverBegin-clause-served : goal.returns-in-RecoverBegin-clause-served
+returns-in-RecoverBegin-clause-served g c =
+    let tell : Telling _ = telling g.G.Rig.seen g.G.Rig.leaves g.G.Rig.moment g.G.Rig.since g.G.Rig.faults in
+    served-as tell c.args.c.now c.recover_begin.new.c _ _ _ _ c.in-RecoverBegin.is c.as_did-in-RecoverBegin.ensures c.recover_begin.ensures.served
+
+pub returns-in-RecoverStep-clause-served : goal.returns-in-RecoverStep-clause-served
+returns-in-RecoverStep-clause-served g c =
+    let tell : Telling _ = telling g.G.Rig.seen g.G.Rig.leaves g.G.Rig.moment g.G.Rig.since g.G.Rig.faults in
+    served-as tell c.args.c.now c.recover_step.new.c _ _ _ _ c.in-RecoverStep.is c.as_recovery.ensures c.recover_step.ensures.served
+
+pub returns-in-RecoverStep-clause-awaits : goal.returns-in-RecoverStep-clause-awaits
+returns-in-RecoverStep-clause-awaits g c = λ i place is needs.
+    let same : c.in-RecoverStep.inst ≡ i = same-step c.in-RecoverStep.inst i (sym c.in-RecoverStep.is ∙ is) in
+    subst (AwaitsPage (parts c.args.c.now)) same
+    (awaits-so (parts c.args.c.now) c.in-RecoverStep.inst c.recover_step.result c.recover_step.ensures.awaits place
+    (sym c.as_recovery.ensures ∙ needs))
 
 pub returns-in-Join-clause-served : goal.returns-in-Join-clause-served
 returns-in-Join-clause-served g c =

@@ -8,22 +8,22 @@ pub overflow_sub-self : goal.overflow_sub-self
 overflow_sub-self g c =
     let tell : Telling _ = telling g.G.Rig.seen g.G.Rig.leaves g.G.Rig.moment g.G.Rig.since g.G.Rig.faults in
     let k = c.requires.kept in
-    owed-counted tell k.0 c.args.e.now c.args.self.now k.1 ((c.is_owed.ensures k.1.core k.1.fits).0 c.if-is_owed.true)
+    owed-counted tell k.0 c.args.e.now c.args.self.now k.1 ((c.is_owed_in.ensures k.1.core k.1.fits).0 c.if-is_owed_in.true)
 
-pub returns-then-is_owed-clause-place : goal.returns-then-is_owed-clause-place
-returns-then-is_owed-clause-place g c =
+pub returns-then-is_owed_in-clause-place : goal.returns-then-is_owed_in-clause-place
+returns-then-is_owed_in-clause-place g c =
     let tell : Telling _ = telling g.G.Rig.seen g.G.Rig.leaves g.G.Rig.moment g.G.Rig.since g.G.Rig.faults in
     let k = c.requires.kept in
     let some = owed-counted tell k.0 c.args.e.now c.args.self.now k.1
-    ((c.is_owed.ensures k.1.core k.1.fits).0 c.if-is_owed.true) in
-    inl (record { owed = λ w f. (c.is_owed.ensures w f).0 c.if-is_owed.true; less = omega (arith, some); room = k.1.room })
+    ((c.is_owed_in.ensures k.1.core k.1.fits).0 c.if-is_owed_in.true) in
+    inl (record { owed = λ w f. (c.is_owed_in.ensures w f).0 c.if-is_owed_in.true; less = omega (arith, some); room = k.1.room })
 
-pub returns-then-is_owed-clause-fits : goal.returns-then-is_owed-clause-fits
-returns-then-is_owed-clause-fits g c =
+pub returns-then-is_owed_in-clause-fits : goal.returns-then-is_owed_in-clause-fits
+returns-then-is_owed_in-clause-fits g c =
     let tell : Telling _ = telling g.G.Rig.seen g.G.Rig.leaves g.G.Rig.moment g.G.Rig.since g.G.Rig.faults in
     let k = c.requires.kept in
     let some = owed-counted tell k.0 c.args.e.now c.args.self.now k.1
-    ((c.is_owed.ensures k.1.core k.1.fits).0 c.if-is_owed.true) in
+    ((c.is_owed_in.ensures k.1.core k.1.fits).0 c.if-is_owed_in.true) in
     omega (arith, some)
 
 pub returns-clause-place : goal.returns-clause-place
@@ -40,4 +40,4 @@ returns-clause-fits g c = on_ok c.make_room.result _ _ (λ room. one-of-two _ _ 
 
 pub returns-clause-free : goal.returns-clause-free
 returns-clause-free g c = of-err c.make_room.result _
-    (λ w f owed. let is = (c.is_owed.ensures w f).1 owed in let not = c.if-is_owed.false in absurd (cc))
+    (λ w f owed. let is = (c.is_owed_in.ensures w f).1 owed in let not = c.if-is_owed_in.false in absurd (cc))

@@ -1,0 +1,102 @@
+//! One event served on a complex that is open or closed.
+
+ghost use Rattle.std.specs.Prelude.{◌≡◌, ◌≢◌, ◌↔◌, ◌≤◌, None, Option, Some, IsTrue};
+ghost use Rattle.sd_model.specs.declared.event.Event.TheVariants as event;
+ghost use Rattle.sd_world.specs.Serving.{Core, telling};
+ghost use Rattle.sd_fits.specs.Bodies.{ServingHall, fits_body};
+ghost use Rattle.sd_shut.specs.Closing.{NeitherClosesNorOpens};
+ghost use Rattle.sd_hall.specs.Bodies.{IsAwaitedIn, IsDownIn, fits_in};
+ghost use Rattle.sd_hall.specs.Ledger.{IsOwed};
+ghost use Rattle.sd_hall.specs.Served.{IsServed, told};
+
+use crate::ledger::is_owed;
+use crate::serving::{as_refused, not_down, serve};
+use sd_base::Memory;
+use sd_fits::Body;
+use sd_model::{Event, Reply};
+use sd_restart::reopen;
+use sd_rig::Rig;
+use sd_shut::{fail_all, on_closed};
+use sd_state::Shape;
+use std::alloc::Global;
+
+/// Does the event on the complex, and tells its reply. Where it is the failure of all instances the complex is closed then, and
+/// where it is a reopening it may be open; once it is closed it has this shape.
+pub(crate) fn turned<G: Rig>(
+    alloc: Global,
+    body: Body<G>,
+    e: &Event,
+    shape: Shape,
+) -> (Result<Reply, Memory>, Body<G>)
+    requires served { IsServed e.now }
+    requires fits { (w : Core) × (fits_body G.seen G.leaves body w) × (w.pages.frames ≡ shape.frames) }
+    requires least { 1 ≤ shape.frames }
+    requires most { shape.frames ≤ 1024 }
+    ensures served { ServingHall (telling G.seen G.leaves G.moment G.since G.faults) e.now (told result.0) body result.1 }
+    ensures there { (w : Core) → IsOwed w e.now → told result.0 ≢ None }
+    ensures down { IsDownIn e.now (told result.0) result.1 }
+    ensures awaits { IsAwaitedIn e.now (told result.0) (Some body) }
+{
+    match e {
+        Event::FailAll { pick } => (Ok(Reply::Did), fail_all(body, *pick, shape)),
+        Event::Reopen => open_again(alloc, body),
+        _ => {
+            let mut body = body;
+            let done = serve_body(&mut body, e);
+            (done, body)
+        }
+    }
+}
+
+// The same of an event that neither closes the complex nor opens it. A closed one refuses it, but to arm the devices.
+fn serve_body<G: Rig>(body: &mut Body<G>, e: &Event) -> Result<Reply, Memory>
+    requires served { IsServed e.now }
+    requires within { NeitherClosesNorOpens e.now }
+    requires fits { (w : Core) × fits_body G.seen G.leaves body.old w }
+    ensures served { ServingHall (telling G.seen G.leaves G.moment G.since G.faults) e.now (told result) body.old body.new }
+    ensures there { (w : Core) → IsOwed w e.now → told result ≢ None }
+    ensures down { IsDownIn e.now (told result) body.new }
+    ensures awaits { IsAwaitedIn e.now (told result) (Some body.old) }
+{
+    match body {
+        Body::Open(complex) => serve(complex, e),
+        Body::Closed(rig, _) => Ok(on_closed(rig, e)),
+    }
+}
+
+// Opens a closed complex again, in its own shape. An open one refuses that as `NotDown`, with how instance 1 stands. After
+// `Failed`, and where there is no memory, it is closed still.
+fn open_again<G: Rig>(alloc: Global, body: Body<G>) -> (Result<Reply, Memory>, Body<G>)
+    requires fits { (w : Core) × (fits_body G.seen G.leaves body w) × (1 ≤ w.pages.frames) × (w.pages.frames ≤ 1024) }
+    ensures { ServingHall (telling G.seen G.leaves G.moment G.since G.faults) event.Reopen (told result.0) body result.1 }
+{
+    match body {
+        Body::Open(complex) => (Ok(not_down(&complex)), Body::Open(complex)),
+        Body::Closed(rig, shape) => match reopen(alloc, rig, shape) {
+            Ok(complex) => (Ok(Reply::Did), Body::Open(complex)),
+            Err((refusal, rig)) => (as_refused(refusal), Body::Closed(rig, shape)),
+        },
+    }
+}
+
+/// Whether an entry is owed for the event; none is while the complex is closed.
+pub(crate) fn is_owed_in<G: Rig>(body: &Option<Body<G>>, e: &Event) -> bool
+    requires fits { (w : Core) × fits_in G.seen G.leaves body.now w }
+    ensures { (w : Core) → fits_in G.seen G.leaves body.now w → IsTrue result ↔ IsOwed w e.now }
+{
+    match body {
+        Some(body) => is_owed_on(body, e),
+        None => false,
+    }
+}
+
+// The same of a complex that is there.
+fn is_owed_on<G: Rig>(body: &Body<G>, e: &Event) -> bool
+    requires fits { (w : Core) × fits_body G.seen G.leaves body.now w }
+    ensures { (w : Core) → fits_body G.seen G.leaves body.now w → IsTrue result ↔ IsOwed w e.now }
+{
+    match body {
+        Body::Open(complex) => is_owed(complex, e),
+        Body::Closed(_, _) => false,
+    }
+}
