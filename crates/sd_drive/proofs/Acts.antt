@@ -3,6 +3,7 @@
 use Rattle.std.proofs.Common.{◌≡◌, ⊎_elim, ℕ, ◌+◌, ◌<◌, Bool, true, false, cond, eqb, List, [], ◌∷◌, length, refl, sym, ap, ◌∙◌, subst, arith}
 use Rattle.std.specs.Prelude.{Option, None, Some}
 use Rattle.sd_base.specs.declared.ids.TxnId.{TxnId}
+use Rattle.sd_base.specs.declared.place.Mode.{Mode}
 use Rattle.sd_base.specs.declared.place.Place.{Place}
 use Rattle.sd_base.specs.declared.place.Status.{Status}
 use Rattle.sd_base.specs.declared.place.Status.TheVariants as S
@@ -20,7 +21,7 @@ use Rattle.sd_model.specs.Acts.{Puts, live, undone}
 use Rattle.sd_model.specs.Applies.{First, HasPage}
 use Rattle.sd_model.specs.Causes.{has, order}
 use Rattle.sd_model.specs.Changes.{goal, undid_part}
-use Rattle.sd_model.specs.Refusing.{Refuses, counted}
+use Rattle.sd_model.specs.Refusing.{Refuses, causes_of, counted}
 use Rattle.sd_model.specs.State.{Part, State, fall, lost_part, put_part, turned, with_life}
 use Rattle.sd_model.specs.declared.act.Inst.{Inst}
 use Rattle.sd_model.specs.Step.{Step}
@@ -29,7 +30,7 @@ use Rattle.sd_world.specs.PageCauses.{last_page, page_of}
 use Rattle.sd_model.proofs.Acts.{live_from-append}
 use Rattle.sd_drive.specs.Pulls.{IsDue, Pull, Puller}
 use Rattle.sd_drive.specs.Reaching.{GoesBack}
-use Rattle.sd_drive.specs.Standing.{NoneActs, is_need}
+use Rattle.sd_drive.specs.Standing.{NoneActs, is_failed, is_need}
 
 -- ---- events that help
 
@@ -118,6 +119,67 @@ module _ (m m' : State) where
   helps-acts (event.Flush i p) r help s = absurd s.1
   helps-acts e r help s = absurd help
 
+-- a cause of the devices is told as their failure
+rig-fails : (n : Refusal) → has Cause.Rig (causes_of n) ≡ true → is_failed (reply.Refused n) ≡ false → ⊥
+rig-fails R.Failed named fine = absurd (cc)
+rig-fails n named fine = absurd (cc)
+
+module _ (m m' : State) where
+  refused-same : (e : Event) (n : Refusal) (c : Cause) → IsCalm m e → is_failed (reply.Refused n) ≡ false → has c (causes_of n) ≡ true
+      → has c (order e) ≡ true → Refuses m e c m' → m' ≡ m
+  refused-same e n Cause.NoRecord calm fine named there h = unlike there calm.no_record
+  refused-same e n Cause.NotNumber calm fine named there h = unlike there calm.no_number
+  refused-same e n Cause.Digits calm fine named there h = unlike there calm.digits
+  refused-same e n Cause.Over calm fine named there h = unlike there calm.over
+  refused-same e n Cause.Cut calm fine named there h = unlike there calm.cut
+  refused-same e n Cause.Rig calm fine named there h = absurd (rig-fails n named fine)
+  refused-same e n c calm fine named there h = h
+
+  calm-same : (e : Event) (n : Refusal) → IsCalm m e → is_failed (reply.Refused n) ≡ false → Step m e (reply.Refused n) m' → m' ≡ m
+  calm-same e n calm fine s = refused-same e n s.0 calm fine s.1 s.3.0 s.4
+
+  -- unless a device failed, all is as before
+  pub helps-same : (e : Event) (r : Reply) → IsHelp e → is_failed r ≡ false → Step m e r m' → m' ≡ m
+  helps-same (event.Ask i p mode) (reply.Refused n) help fine s = calm-same (event.Ask i p mode) n
+      (record { no_record = refl; no_number = refl; digits = refl; over = refl; cut = refl; uncounted = refl }) fine s
+  helps-same (event.Ask i p mode) reply.Have help fine s = s.1
+  helps-same (event.Ask i p mode) (reply.Asked of) help fine s = s.1
+  helps-same (event.Ask i p mode) r help fine s = absurd s.1
+  helps-same (event.Give i p) (reply.Refused n) help fine s = calm-same (event.Give i p) n
+      (record { no_record = refl; no_number = refl; digits = refl; over = refl; cut = refl; uncounted = refl }) fine s
+  helps-same (event.Give i p) (reply.Gave to) help fine s = s.1
+  helps-same (event.Give i p) r help fine s = absurd s.1
+  helps-same (event.Take i p) (reply.Refused n) help fine s = calm-same (event.Take i p) n
+      (record { no_record = refl; no_number = refl; digits = refl; over = refl; cut = refl; uncounted = refl }) fine s
+  helps-same (event.Take i p) reply.Did help fine s = s.1
+  helps-same (event.Take i p) r help fine s = absurd s.1
+  helps-same (event.Evict i p) (reply.Refused n) help fine s = calm-same (event.Evict i p) n
+      (record { no_record = refl; no_number = refl; digits = refl; over = refl; cut = refl; uncounted = refl }) fine s
+  helps-same (event.Evict i p) reply.Did help fine s = s.1
+  helps-same (event.Evict i p) r help fine s = absurd s.1
+  helps-same (event.Flush i p) (reply.Refused n) help fine s = calm-same (event.Flush i p) n
+      (record { no_record = refl; no_number = refl; digits = refl; over = refl; cut = refl; uncounted = refl }) fine s
+  helps-same (event.Flush i p) reply.Did help fine s = s.1
+  helps-same (event.Flush i p) r help fine s = absurd s.1
+  helps-same e r help fine s = absurd help
+
+  -- a pool that is full is that of an open complex
+  pub ask-open : (i p : ℕ) (mode : Mode) → Step m (event.Ask i p mode) (reply.Refused R.PoolFull) m' → (m'.inst 1).status ≡ S.Closed → ⊥
+  ask-open i p mode s shut = by s.0 s.1 s.3
+      (sym (ap (λ (k : State). (k.inst 1).status) (helps-same (event.Ask i p mode) (reply.Refused R.PoolFull) tt refl s)) ∙ shut)
+    where
+      by : (c : Cause) → has c (Cause.Frame ∷ []) ≡ true → First m (event.Ask i p mode) c → (m.inst 1).status ≡ S.Closed → ⊥
+      by Cause.Frame named first closed = first.1.0 closed
+      by c named first closed = absurd (cc)
+
+  pub take-open : (i p : ℕ) → Step m (event.Take i p) (reply.Refused R.PoolFull) m' → (m'.inst 1).status ≡ S.Closed → ⊥
+  take-open i p s shut = by s.0 s.1 s.3
+      (sym (ap (λ (k : State). (k.inst 1).status) (helps-same (event.Take i p) (reply.Refused R.PoolFull) tt refl s)) ∙ shut)
+    where
+      by : (c : Cause) → has c (Cause.Frame ∷ []) ≡ true → First m (event.Take i p) c → (m.inst 1).status ≡ S.Closed → ⊥
+      by Cause.Frame named first closed = first.1.0 closed
+      by c named first closed = absurd (cc)
+
 -- ---- a refusal for want of a page
 
 module _ (m m' : State) where
@@ -133,6 +195,31 @@ module _ (m m' : State) where
   -- nothing changes
   pub need-stays : (e : Event) (place : Place) → Step m e (reply.Refused (R.NeedPage place)) m' → m' ≡ m
   need-stays e place s = away-stays e s.0 s.1 s.4
+
+-- a page is wanted of an open complex
+away-open : (m : State) (e : Event) → First m e Cause.Away → (m.inst 1).status ≡ S.Closed → ⊥
+away-open m (event.Read t r) first closed = first.1.0 closed
+away-open m (event.Write t r v) first closed = first.1.0 closed
+away-open m (event.Add t r by) first closed = first.1.0 closed
+away-open m (event.Insert t p v n) first closed = first.1.0 closed
+away-open m (event.Delete t r) first closed = first.1.0 closed
+away-open m (event.Undo t) first closed = first.1.0 closed
+away-open m (event.List i p) first closed = first.1.0 closed
+away-open m (event.Give i p) first closed = first.1.0 closed
+away-open m (event.Take i p) first closed = first.1.0 closed
+away-open m (event.Evict i p) first closed = first.1.0 closed
+away-open m (event.Flush i p) first closed = first.1.0 closed
+away-open m (event.RecoverStep i) first closed = first.1.0 closed
+away-open m (event.Back t None) first closed = let there = first.0 in absurd (cc)
+away-open m (event.Back t (Some k)) first closed = let there = first.0 in absurd (cc)
+away-open m e first closed = let there = first.0 in absurd (cc)
+
+pub need-open : (m m' : State) (e : Event) (place : Place) → Step m e (reply.Refused (R.NeedPage place)) m' → (m'.inst 1).status ≡ S.Closed → ⊥
+need-open m m' e place s shut = by s.0 s.1 s.3 (sym (ap (λ (k : State). (k.inst 1).status) (need-stays m m' e place s)) ∙ shut)
+  where
+    by : (c : Cause) → has c (Cause.Away ∷ []) ≡ true → First m e c → (m.inst 1).status ≡ S.Closed → ⊥
+    by Cause.Away named first closed = away-open m e first closed
+    by c named first closed = absurd (cc)
 
 -- so an answer that wants a page leaves all as it was
 pub wants-stays : (m : State) (e : Event) (r : Reply) (m' : State) → is_need r ≡ true → Step m e r m' → m' ≡ m

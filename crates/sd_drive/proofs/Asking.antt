@@ -5,16 +5,16 @@ use Rattle.sd_model.specs.declared.event.Event.{Event}
 use Rattle.sd_model.specs.declared.event.Event.TheVariants as event
 use Rattle.sd_model.specs.declared.event.Reply.{Reply}
 use Rattle.sd_model.specs.declared.event.Reply.TheVariants as reply
-use Rattle.sd_pagelock.specs.Directory.{entry_at}
 use Rattle.sd_pagelock.specs.Places.{Entry, changed, holds, receives}
 use Rattle.sd_world.specs.Pages.{is_duty}
 use Rattle.sd_world.specs.Serving.{Core, Telling, Turns}
-use Rattle.sd_state.specs.Complexes.{parts}
+use Rattle.sd_drive.specs.Bodies.{entry_in}
 use Rattle.sd_hall.specs.declared.hall.Hall.{Hall}
 use Rattle.sd_drive.specs.Driven.{Happens, Helped, IsIn, MakesRoom, PullsOn, is_did, next_if}
 use Rattle.sd_drive.specs.Driving.{Cursor, Work, World}
 use Rattle.sd_drive.specs.Pulls.{Pull, Puller, helped, makes_room}
 use Rattle.sd_drive.specs.Standing.{Pulling}
+use Rattle.sd_drive.proofs.Bodies.{entry-is, fits-now}
 use Rattle.sd_drive.proofs.Rooms.{evict-gives, flush-gives, flush-still}
 use Rattle.sd_drive.specs.Running.{Start}
 
@@ -41,38 +41,38 @@ is-did r done = absurd (cc)
 
 frees : (r : Reply) (i v : ℕ) (w w' : Core) → v < 1024 → receives (w.pages.entry v) i ≡ false → Happens (event.Evict i v) r w w'
     → MakesRoom (is_did r) i w w'
-frees reply.Did i v w w' lt still h = (v, evict-gives w.scene.state w.pages i v lt still w'.scene.state w'.pages h)
+frees reply.Did i v w w' lt still h = (v, evict-gives w.scene.state w.pages i v lt still w'.scene.state w'.pages h.moves)
 frees r i v w w' lt still h = tt
 
 -- it was written before
 freed : (r : Reply) (i v : ℕ) (w mid new : Core) → v < 1024 → receives (w.pages.entry v) i ≡ false → Happens (event.Flush i v) reply.Did w mid
     → Happens (event.Evict i v) r mid new → MakesRoom (is_did r) i w new
 freed reply.Did i v w mid new lt still f h =
-    let then : receives (mid.pages.entry v) i ≡ false = flush-still w.scene.state w.pages i v lt still mid.scene.state mid.pages f in (
+    let then : receives (mid.pages.entry v) i ≡ false = flush-still w.scene.state w.pages i v lt still mid.scene.state mid.pages f.moves in (
       v,
-      flush-gives w.scene.state w.pages i v lt still mid.scene.state mid.pages new.scene.state new.pages f
-          (evict-gives mid.scene.state mid.pages i v lt then new.scene.state new.pages h),
+      flush-gives w.scene.state w.pages i v lt still mid.scene.state mid.pages new.scene.state new.pages f.moves
+          (evict-gives mid.scene.state mid.pages i v lt then new.scene.state new.pages h.moves),
     )
 freed r i v w mid new lt still f h = tt
 
 -- the copy may go at once, or is written first: its instance has it, and the pages say which
 due-as : {G : Type 0} (tell : Telling G) (old : Hall G) (start : Start G) (w : World) → IsIn tell start old w → (i v : ℕ) (b : Bool)
-    → (changed (entry_at (parts old.complex).directory v) && is_duty i (entry_at (parts old.complex).directory v)) ≡ b
+    → (changed (entry_in old.body v) && is_duty i (entry_in old.body v)) ≡ b
     → makes_room w.core.pages i v ≡ cond {A = Event} b (event.Flush i v) (event.Evict i v)
 due-as tell old start w there i v b is =
     ap (λ (c : Bool). cond {A = Event} c (event.Flush i v) (event.Evict i v))
-    (ap (λ (e : Entry). changed e && is_duty i e) (there.ran.fits.pages.entry v) ∙ is)
+    (ap (λ (e : Entry). changed e && is_duty i e) (entry-is tell old.body w.core (fits-now tell start old w there) v) ∙ is)
 
 module _ {G : Type 0} (tell : Telling G) (old : Hall G) (i v : ℕ) (lt : v < 1024)
-    (has : holds (entry_at (parts old.complex).directory v) i ≡ true) (rests : receives (entry_at (parts old.complex).directory v) i ≡ false) where
+    (has : holds (entry_in old.body v) i ≡ true) (rests : receives (entry_in old.body v) i ≡ false) where
   has-now : (start : Start G) (w : World) → IsIn tell start old w → holds (w.core.pages.entry v) i ≡ true
-  has-now start w there = ap (λ (e : Entry). holds e i) (there.ran.fits.pages.entry v) ∙ has
+  has-now start w there = ap (λ (e : Entry). holds e i) (entry-is tell old.body w.core (fits-now tell start old w there) v) ∙ has
 
   rests-now : (start : Start G) (w : World) → IsIn tell start old w → receives (w.core.pages.entry v) i ≡ false
-  rests-now start w there = ap (λ (e : Entry). receives e i) (there.ran.fits.pages.entry v) ∙ rests
+  rests-now start w there = ap (λ (e : Entry). receives e i) (entry-is tell old.body w.core (fits-now tell start old w there) v) ∙ rests
 
   pub room-evicted : (new : Hall G) (r : Reply)
-      → (changed (entry_at (parts old.complex).directory v) && is_duty i (entry_at (parts old.complex).directory v)) ≡ false
+      → (changed (entry_in old.body v) && is_duty i (entry_in old.body v)) ≡ false
       → Helped tell old new (event.Evict i v) r
       → (for : Puller) (p : ℕ) → PullsOn tell old new for (Pull.Room p i) (next_if (is_did r) p) (MakesRoom (is_did r) i)
   room-evicted new r clean on for p start w at work rest c e there s =
@@ -80,11 +80,11 @@ module _ {G : Type 0} (tell : Telling G) (old : Hall G) (i v : ℕ) (lt : v < 10
         h.0,
         h.1,
         subst (λ (next : Pull). Pulling at work rest c e for next h.0) (gone-on i p v r) h.2,
-        frees r i v w.core h.0.core lt (rests-now start w there) h.3.moves,
+        frees r i v w.core h.0.core lt (rests-now start w there) h.3,
       )
 
   module _ (mid : Hall G) (r : Reply)
-      (duty : (changed (entry_at (parts old.complex).directory v) && is_duty i (entry_at (parts old.complex).directory v)) ≡ true)
+      (duty : (changed (entry_in old.body v) && is_duty i (entry_in old.body v)) ≡ true)
       (on : Helped tell old mid (event.Flush i v) r) (for : Puller) (p : ℕ) where
     flushed : (start : Start G) (w : World) (at : World) (work : Work) (rest : List Work) (c : Cursor) (e : Event) → IsIn tell start old w
         → Pulling at work rest c e for (Pull.Room p i) w
@@ -104,7 +104,7 @@ module _ {G : Type 0} (tell : Telling G) (old : Hall G) (i v : ℕ) (lt : v < 10
           h.0,
           h.1,
           subst (λ (next : Pull). Pulling at work rest c e for next h.0) (written-on i p v r done) h.2,
-          subst (λ (x : Reply). Happens (event.Flush i v) x w.core h.0.core) (is-did r done) h.3.moves,
+          subst (λ (x : Reply). Happens (event.Flush i v) x w.core h.0.core) (is-did r done) h.3,
         )
 
     pub room-gone : is_did r ≡ true → (new : Hall G) (q : Reply) → Helped tell mid new (event.Evict i v) q
@@ -115,5 +115,5 @@ module _ {G : Type 0} (tell : Telling G) (old : Hall G) (i v : ℕ) (lt : v < 10
           k.0,
           k.1,
           subst (λ (next : Pull). Pulling at work rest c e for next k.0) (gone-behind i p v q) k.2,
-          freed q i v w.core h.0.core k.0.core lt (rests-now start w there) h.3 k.3.moves,
+          freed q i v w.core h.0.core k.0.core lt (rests-now start w there) h.3 k.3,
         )

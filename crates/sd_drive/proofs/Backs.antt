@@ -13,18 +13,19 @@ use Rattle.sd_script.specs.declared.line.Form.{Form}
 use Rattle.sd_script.specs.declared.line.Form.TheVariants as form
 use Rattle.sd_script.specs.declared.line.Line.{Line}
 use Rattle.sd_script.specs.Order.{begun_by}
+use Rattle.sd_world.specs.PageCauses.{names_page}
 use Rattle.sd_world.specs.Serving.{Telling}
 use Rattle.sd_hall.specs.Served.{IsServed}
 use Rattle.sd_drive.specs.declared.driver.Driver.{Driver}
 use Rattle.sd_drive.specs.Driven.{is_did}
-use Rattle.sd_drive.specs.Driving.{Cursor, Known, Work, World, ahead, goes_on, stays, works_of}
-use Rattle.sd_drive.specs.Lines.{Names, event_of, lists, named_by, rolls_back, undo_of}
+use Rattle.sd_drive.specs.Driving.{Cursor, Known, Work, World, goes_on, stays, works_of}
+use Rattle.sd_drive.specs.Lines.{Names, Way, event_of, named_by, rolls_back, undo_of, way_of}
 use Rattle.sd_drive.specs.Operating.{Came, DueIn, IsDueFor, Operates, OperatesSome}
 use Rattle.sd_drive.specs.Pulls.{Pull}
 use Rattle.sd_drive.specs.Reaching.{AreDriven, AtLine, DrivesLine, DrivesSome, IsRolledBack, IsSame, Knows, KnowsAll, Reached, RollsBack, UndoesAll, UndoesSome, at_ordinal, name_in, ordinal_in}
 use Rattle.sd_drive.specs.Running.{Start}
 use Rattle.sd_drive.proofs.Acts.{back-done}
-use Rattle.sd_drive.proofs.Lines.{came-ended, goes-there, is-served, knows-more, knows-now, once-due, passes}
+use Rattle.sd_drive.proofs.Lines.{came-ended, goes-there, is-named, is-served, knows-more, knows-now, once-due, passes}
 
 -- ---- lines that roll back
 
@@ -33,10 +34,10 @@ rolls-named (form.Back name o mark) rolls = refl
 rolls-named (form.Rollback name o) rolls = refl
 rolls-named f rolls = absurd (cc)
 
-rolls-lists : (f : Form) → rolls_back f ≡ true → lists f ≡ false
-rolls-lists (form.Back name o mark) rolls = refl
-rolls-lists (form.Rollback name o) rolls = refl
-rolls-lists f rolls = absurd (cc)
+rolls-single : (f : Form) → rolls_back f ≡ true → way_of f ≡ Way.Single
+rolls-single (form.Back name o mark) rolls = refl
+rolls-single (form.Rollback name o) rolls = refl
+rolls-single f rolls = absurd (cc)
 
 rolls-begins : (f : Form) → rolls_back f ≡ true → begun_by f ≡ []
 rolls-begins (form.Back name o mark) rolls = refl
@@ -114,7 +115,7 @@ module _ {G : Type 0} (tell : Telling G) (old : Driver G) (line : Line) (rolls :
   pub roll-none : at_ordinal old.txns.items (ordinal_in line.form) ≡ None → DrivesLine tell old old line
   roll-none none start w lines n at d r = (
     w,
-    passes tell start lines n line at old w r (rolls-lists line.form rolls) (rolls-begins line.form rolls)
+    passes tell start lines n line at old w r (rolls-single line.form rolls) (rolls-begins line.form rolls)
         (rolls-none w.told.known.names line.form rolls (named-as None none start w lines n at d r)),
   )
 
@@ -135,7 +136,7 @@ module _ {G : Type 0} (tell : Telling G) (old : Driver G) (line : Line) (rolls :
       is-back = rolls-first w.told.known.names line.form t e rolls name-is event-is
 
       due : IsDueFor line.session line.number e w.told.known line rest Cursor.Once w
-      due = once-due tell start lines n line at old w r e (rolls-lists line.form rolls) event-is
+      due = once-due tell start lines n line at old w r e (rolls-single line.form rolls) event-is
 
       knows : (new : Driver G) → IsSame old new → new.txns ≡ old.txns → KnowsAll lines (n + 1) new w.told.known
       knows new same txns = knows-more tell start lines n line at old w r new (rolls-begins line.form rolls) same txns
@@ -143,25 +144,24 @@ module _ {G : Type 0} (tell : Telling G) (old : Driver G) (line : Line) (rolls :
       module _ (new : Driver G) (came : Came tell new.hall line.session line.number e line rest Cursor.Once start w) where
         ended : is_did came.reply ≡ false → IsSame old new → new.txns ≡ old.txns → (w' : World) × Reached tell start lines (n + 1) new w'
         ended did same txns = came-ended tell start lines n line new e Cursor.Once w came
-            (back-ends came.core.scene.state w.told.known line came.reply did) (rolls-names line.form rolls) (knows new same txns)
+            (back-ends came.core.scene.state w.told.known line came.reply did) (rolls-names line.form rolls) r.unfailed (knows new same txns)
 
         done : is_did came.reply ≡ true → IsSame old new → new.txns ≡ old.txns → (w' : World) × RollsBack tell start lines n line new t w'
         done did same txns =
             let is_done = did-is came.reply did in
             let m = came.core.scene.state in
-            let goes = ap (goes_on m w.told.known (Work.Do line) Cursor.Once) is_done ∙ back-goes m w.told.known line rolls in
-            let begins = due.stands.begins in (
+            let goes = ap (goes_on m w.told.known (Work.Do line) Cursor.Once) is_done ∙ back-goes m w.told.known line rolls in (
               record { told = stays w.told (Work.Do line) rest Cursor.Undoes Pull.Idle; core = came.core },
               record {
                 there = goes-there tell start lines n line new e Cursor.Once w came (Some Cursor.Undoes) goes;
                 undoes = record {
                   stands = record {
                     known_is = refl;
-                    first = ap (λ (b : Bool). cond {A = List Work} b (Work.Do line ∷ rest) (ahead m w.told.known rest)) (begins m);
+                    first = refl;
                     at = refl;
                     idle = refl;
-                    begins = begins;
                     event = rolls-undo w.told.known.names line.form t rolls name-is;
+                    unfailed = r.unfailed;
                   };
                   session_is = refl;
                   number_is = refl;
@@ -176,6 +176,10 @@ module _ {G : Type 0} (tell : Telling G) (old : Driver G) (line : Line) (rolls :
     pub back-served : AtLine tell old line → IsServed e
     back-served a =
         is-served a.world.told.known.names line.form e (event-is a.start a.world a.lines a.n a.next a.driven a.reached)
+
+    pub back-named : AtLine tell old line → names_page e ≡ true
+    back-named a =
+        is-named a.world.told.known.names line.form e (event-is a.start a.world a.lines a.n a.next a.driven a.reached)
 
     pub back-due : AtLine tell old line → DueIn tell old.hall line.session line.number e
     back-due a = record {

@@ -59,7 +59,8 @@ module _ {G : Type 0} (tell : Telling G) (start : Start G) (lines : List Line) (
               (once-ends came.core.scene.state w.told.known line came.reply (ap rolls_back is));
           rests = refl;
           idle = refl;
-          left = λ m. refl;
+          unfailed = r.unfailed;
+          left = refl;
           knows = record {
             insts = k.insts ∙ sym same.0;
             pages = k.pages ∙ sym same.1;

@@ -9,16 +9,17 @@ use Rattle.sd_script.specs.declared.line.Form.TheVariants as form
 use Rattle.sd_script.specs.declared.line.Line.{Line}
 use Rattle.sd_script.specs.Forms.{IsForm}
 use Rattle.sd_script.specs.Order.{Follows, begun, has}
+use Rattle.sd_world.specs.PageCauses.{names_page}
 use Rattle.sd_world.specs.Serving.{Telling}
 use Rattle.sd_hall.specs.Served.{IsServed}
 use Rattle.sd_drive.specs.declared.driver.Driver.{Driver}
 use Rattle.sd_drive.specs.Driven.{IsIn}
 use Rattle.sd_drive.specs.Driving.{Cursor, World, works_of}
-use Rattle.sd_drive.specs.Lines.{Names, event_of, lists}
+use Rattle.sd_drive.specs.Lines.{Names, event_of, way_of}
 use Rattle.sd_drive.specs.Operating.{Came, DueIn, IsDueFor, Operates, OperatesSome}
 use Rattle.sd_drive.specs.Reaching.{AreDriven, AtLine, DrivesLine, DrivesSome, IsPlain, IsSame, IsShort, Knows, Reached, began_by, ordinal_in}
 use Rattle.sd_drive.proofs.Begins.{came-begin}
-use Rattle.sd_drive.proofs.Lines.{came-plain, is-served, knows-now, once-due, ordinal-there, passed, plain-lists}
+use Rattle.sd_drive.proofs.Lines.{came-plain, is-named, is-served, knows-now, once-due, ordinal-there, passed, plain-single}
 use Rattle.sd_drive.specs.Running.{Start}
 
 module _ {G : Type 0} (tell : Telling G) (old : Driver G) (line : Line) where
@@ -50,11 +51,15 @@ module _ {G : Type 0} (tell : Telling G) (old : Driver G) (line : Line) where
     event-served a = is-served a.world.told.known.names line.form e
         (asked-now (Some e) asks a.start a.world a.lines a.n a.next a.driven a.reached)
 
+    pub event-named : AtLine tell old line → names_page e ≡ true
+    event-named a = is-named a.world.told.known.names line.form e
+        (asked-now (Some e) asks a.start a.world a.lines a.n a.next a.driven a.reached)
+
     due-now : (start : Start G) (w : World) (lines : List Line) (n : ℕ) (at : slice_get lines n ≡ Some line) → AreDriven lines old.insts old.pages
         → Reached tell start lines n old w
         → IsDueFor line.session line.number e w.told.known line (works_of (drop (n + 1) lines)) Cursor.Once w
     due-now start w lines n at d r =
-        once-due tell start lines n line at old w r e (plain-lists line.form plain) (asked-now (Some e) asks start w lines n at d r)
+        once-due tell start lines n line at old w r e (plain-single line.form plain) (asked-now (Some e) asks start w lines n at d r)
 
     pub event-due : AtLine tell old line → DueIn tell old.hall line.session line.number e
     event-due a = record {
@@ -85,7 +90,7 @@ module _ {G : Type 0} (tell : Telling G) (old : Driver G) (line : Line) where
         → Reached tell start lines n old w
         → IsDueFor line.session line.number (event.Begin inst) w.told.known line (works_of (drop (n + 1) lines)) Cursor.Once w
     begin-due-now start w lines n at r = once-due tell start lines n line at old w r (event.Begin inst)
-        (ap lists is) (ap (event_of w.told.known.names) is)
+        (ap way_of is) (ap (event_of w.told.known.names) is)
 
     pub begin-due : AtLine tell old line → DueIn tell old.hall line.session line.number (event.Begin inst)
     begin-due a = record {

@@ -1,11 +1,13 @@
 pub mod Acts
 pub mod Tops
+pub mod Bodies
 pub mod Measures
 pub mod Nearing
 pub mod Telling
 pub mod Needs
 pub mod Rooms
 pub mod Running
+pub mod Marks
 pub mod Steps
 pub mod Answering
 pub mod Asking
@@ -20,6 +22,10 @@ pub mod Begins
 pub mod Backs
 pub mod Undoing
 pub mod Tables
+pub mod Joining
+pub mod Recovered
+pub mod Recovering
 pub mod Opening
 pub mod Replays
 mod Example
+mod Restarts

@@ -13,12 +13,13 @@ use Rattle.sd_script.specs.declared.line.Form.{Form}
 use Rattle.sd_script.specs.declared.line.Form.TheVariants as form
 use Rattle.sd_script.specs.declared.line.Line.{Line}
 use Rattle.sd_script.specs.Order.{Follows, begun, begun_by, ordinal_of}
+use Rattle.sd_world.specs.PageCauses.{names_page}
 use Rattle.sd_world.specs.Serving.{Telling}
 use Rattle.sd_hall.specs.Served.{IsServed}
 use Rattle.sd_drive.specs.declared.driver.Driver.{Driver}
 use Rattle.sd_drive.specs.Driven.{IsIn}
-use Rattle.sd_drive.specs.Driving.{Cursor, Known, Work, World, ahead, begins, cursor_in, followed, goes_on, start_of, works_of}
-use Rattle.sd_drive.specs.Lines.{Names, capacity_of, event_of, lists, named_by, rolls_back}
+use Rattle.sd_drive.specs.Driving.{Cursor, Known, Work, World, ahead, begins, cursor_in, followed, goes_on, left_from, start_of, works_of}
+use Rattle.sd_drive.specs.Lines.{Names, Way, capacity_of, event_of, named_by, rolls_back, way_of}
 use Rattle.sd_drive.specs.Operating.{Came, IsDueFor}
 use Rattle.sd_drive.specs.Reaching.{IsPlain, IsSame, Knows, KnowsAll, Reached, at_ordinal, name_in, named, ordinal_in}
 use Rattle.sd_drive.proofs.Naming.{begun-more, drop-at, ordinal-within}
@@ -26,9 +27,11 @@ use Rattle.sd_drive.specs.Running.{Start}
 
 -- ---- what forms have
 
-pub plain-lists : (f : Form) → IsPlain f → lists f ≡ false
-plain-lists form.Table plain = absurd plain
-plain-lists f plain = refl
+pub plain-single : (f : Form) → IsPlain f → way_of f ≡ Way.Single
+plain-single form.Table plain = absurd plain
+plain-single form.RecoverAll plain = absurd plain
+plain-single form.JoinAll plain = absurd plain
+plain-single f plain = refl
 
 plain-begins : (f : Form) → IsPlain f → begun_by f ≡ []
 plain-begins (form.Begin inst name) plain = absurd plain
@@ -50,12 +53,15 @@ once-ends m known line reply.Did single = ap (λ (b : Bool). cond {A = Option Cu
 once-ends m known line r single = refl
 
 pub plain-else : (f : Form) → ((inst : ℕ) (name : List ℕ) → f ≡ form.Begin inst name → ⊥) → (f ≡ form.Table → ⊥)
+    → (f ≡ form.RecoverAll → ⊥) → (f ≡ form.JoinAll → ⊥)
     → ((name : List ℕ) (o : ℕ) (mark : List ℕ) → f ≡ form.Back name o mark → ⊥) → ((name : List ℕ) (o : ℕ) → f ≡ form.Rollback name o → ⊥) → IsPlain f
-plain-else (form.Begin inst name) begin table back rollback = begin inst name refl
-plain-else form.Table begin table back rollback = table refl
-plain-else (form.Back name o mark) begin table back rollback = back name o mark refl
-plain-else (form.Rollback name o) begin table back rollback = rollback name o refl
-plain-else f begin table back rollback = tt
+plain-else (form.Begin inst name) begin table recover join back rollback = begin inst name refl
+plain-else form.Table begin table recover join back rollback = table refl
+plain-else form.RecoverAll begin table recover join back rollback = recover refl
+plain-else form.JoinAll begin table recover join back rollback = join refl
+plain-else (form.Back name o mark) begin table recover join back rollback = back name o mark refl
+plain-else (form.Rollback name o) begin table recover join back rollback = rollback name o refl
+plain-else f begin table recover join back rollback = tt
 
 -- a driver with the same transactions knows as much
 pub knows-as : {G : Type 0} (lines : List Line) (n : ℕ) (old new : Driver G) (known : Known) → IsSame old new → new.txns ≡ old.txns
@@ -67,16 +73,16 @@ knows-as lines n old new known same txns k = record {
   count = ap (λ ts. length ts.items) txns ∙ k.count;
 }
 
--- ---- one event of a line that isn't the list of all pages
+-- ---- one event of a line that has one at most
 
-starts : (known : Known) (m : State) (f : Form) (e : Event) → lists f ≡ false → event_of known.names f ≡ Some e
-    → begins (lists f) m known f ≡ Some Cursor.Once
+starts : (known : Known) (m : State) (f : Form) (e : Event) → way_of f ≡ Way.Single → event_of known.names f ≡ Some e
+    → begins (way_of f) m known f ≡ Some Cursor.Once
 starts known m f e single is =
-    ap (λ (b : Bool). begins b m known f) single ∙ ap (λ (o : Option Event). option_map (λ (x : Event). Cursor.Once) o) is
+    ap (λ (way : Way). begins way m known f) single ∙ ap (λ (o : Option Event). option_map (λ (x : Event). Cursor.Once) o) is
 
-past : (known : Known) (m : State) (f : Form) → lists f ≡ false → event_of known.names f ≡ None → begins (lists f) m known f ≡ None
+past : (known : Known) (m : State) (f : Form) → way_of f ≡ Way.Single → event_of known.names f ≡ None → begins (way_of f) m known f ≡ None
 past known m f single is =
-    ap (λ (b : Bool). begins b m known f) single ∙ ap (λ (o : Option Event). option_map (λ (x : Event). Cursor.Once) o) is
+    ap (λ (way : Way). begins way m known f) single ∙ ap (λ (o : Option Event). option_map (λ (x : Event). Cursor.Once) o) is
 
 module _ {G : Type 0} (tell : Telling G) (start : Start G) (lines : List Line) (n : ℕ) (line : Line) (at : slice_get lines n ≡ Some line)
     (old : Driver G) (w : World) (r : Reached tell start lines n old w) where
@@ -86,26 +92,30 @@ module _ {G : Type 0} (tell : Telling G) (start : Start G) (lines : List Line) (
   abbrev rest : List Work
   rest = works_of (drop (n + 1) lines)
 
-  left-here : (m : State) → ahead m known w.told.left ≡ ahead m known (Work.Do line ∷ rest)
-  left-here m = r.left m ∙ ap (λ (ls : List Line). ahead m known (works_of ls)) (drop-at lines n line at)
+  abbrev m : State
+  m = w.core.scene.state
 
-  first-here : (m : State) → is_some (start_of m known (Work.Do line)) ≡ true → ahead m known w.told.left ≡ Work.Do line ∷ rest
-  first-here m has_one = left-here m ∙ ap (λ (b : Bool). cond {A = List Work} b (Work.Do line ∷ rest) (ahead m known rest)) has_one
+  left-here : ahead m known w.told.left ≡ ahead m known (Work.Do line ∷ rest)
+  left-here = r.left ∙ ap (λ (ls : List Line). ahead m known (works_of ls)) (drop-at lines n line at)
+
+  -- where it begins it is the next one
+  pub first-here : is_some (start_of m known (Work.Do line)) ≡ true → left_from m known w.told.cursor w.told.left ≡ Work.Do line ∷ rest
+  first-here has_one = ap (λ (o : Option Cursor). left_from m known o w.told.left) r.rests ∙ left-here
+      ∙ ap (λ (b : Bool). cond {A = List Work} b (Work.Do line ∷ rest) (ahead m known rest)) has_one
 
   -- its event is due
-  pub once-due : (e : Event) → lists line.form ≡ false → event_of known.names line.form ≡ Some e
+  pub once-due : (e : Event) → way_of line.form ≡ Way.Single → event_of known.names line.form ≡ Some e
       → IsDueFor line.session line.number e known line rest Cursor.Once w
   once-due e single is =
-      let starts_so : (m : State) → start_of m known (Work.Do line) ≡ Some Cursor.Once = λ m. starts known m line.form e single is in
-      let m = w.core.scene.state in
+      let starts_so = starts known m line.form e single is in
       record {
         stands = record {
           known_is = refl;
-          first = first-here m (ap (λ (o : Option Cursor). is_some o) (starts_so m));
-          at = subst (λ (o : Option Cursor). cursor_in m known (Work.Do line) o ≡ Some Cursor.Once) (sym r.rests) (starts_so m);
+          first = first-here (ap (λ (o : Option Cursor). is_some o) starts_so);
+          at = subst (λ (o : Option Cursor). cursor_in m known (Work.Do line) o ≡ Some Cursor.Once) (sym r.rests) starts_so;
           idle = r.idle;
-          begins = λ s. ap (λ (o : Option Cursor). is_some o) (starts_so s);
           event = is;
+          unfailed = r.unfailed;
         };
         session_is = refl;
         number_is = refl;
@@ -124,18 +134,21 @@ module _ {G : Type 0} (tell : Telling G) (start : Start G) (lines : List Line) (
       }
 
   -- it has none
-  pub passes : lists line.form ≡ false → begun_by line.form ≡ [] → event_of known.names line.form ≡ None → Reached tell start lines (n + 1) old w
-  passes single unbegun none = record {
+  pub passes-by : start_of m known (Work.Do line) ≡ None → begun_by line.form ≡ [] → Reached tell start lines (n + 1) old w
+  passes-by none unbegun = record {
     there = r.there;
     rests = r.rests;
     idle = r.idle;
-    left = λ m. left-here m ∙ ap (λ (o : Option Cursor). cond {A = List Work} (is_some o) (Work.Do line ∷ rest) (ahead m known rest))
-        (past known m line.form single none);
+    unfailed = r.unfailed;
+    left = left-here ∙ ap (λ (o : Option Cursor). cond {A = List Work} (is_some o) (Work.Do line ∷ rest) (ahead m known rest)) none;
     knows = knows-more old unbegun (refl, refl) refl;
   }
 
+  pub passes : way_of line.form ≡ Way.Single → begun_by line.form ≡ [] → event_of known.names line.form ≡ None → Reached tell start lines (n + 1) old w
+  passes single unbegun none = passes-by (past known m line.form single none) unbegun
+
   pub passed : IsPlain line.form → event_of known.names line.form ≡ None → Reached tell start lines (n + 1) old w
-  passed plain none = passes (plain-lists line.form plain) (plain-begins line.form plain) none
+  passed plain none = passes (plain-single line.form plain) (plain-begins line.form plain) none
 
 -- the last event of a line that begins no transaction came
 module _ {G : Type 0} (tell : Telling G) (start : Start G) (lines : List Line) (n : ℕ) (line : Line) (new : Driver G) (e : Event) (c : Cursor)
@@ -149,15 +162,16 @@ module _ {G : Type 0} (tell : Telling G) (start : Start G) (lines : List Line) (
   pub goes-there : (o : Option Cursor) → next ≡ o → IsIn tell start new.hall (then-at o)
   goes-there o same = subst (λ (x : Option Cursor). IsIn tell start new.hall (then-at x)) same came.there
 
-  pub came-ended : next ≡ None → ((r : Reply) (names : Names) → named_by line.form r names ≡ names)
+  pub came-ended : next ≡ None → ((r : Reply) (names : Names) → named_by line.form r names ≡ names) → w.told.failed ≡ false
       → KnowsAll lines (n + 1) new w.told.known → (w' : World) × Reached tell start lines (n + 1) new w'
-  came-ended ends unnamed knows = (
+  came-ended ends unnamed unfailed knows = (
     then-at None,
     record {
       there = goes-there None ends;
       rests = refl;
       idle = refl;
-      left = λ m. refl;
+      unfailed = unfailed;
+      left = refl;
       knows = subst (KnowsAll lines (n + 1) new)
           (sym (ap (λ (names : Names). record w.told.known { names = names }) (unnamed came.reply w.told.known.names))) knows;
     },
@@ -172,7 +186,7 @@ module _ {G : Type 0} (tell : Telling G) (start : Start G) (lines : List Line) (
   came-plain new e plain same txns came =
       came-ended tell start lines n line new e Cursor.Once w came
       (once-ends came.core.scene.state w.told.known line came.reply (plain-rolls line.form plain)) (plain-names line.form plain)
-      (knows-more tell start lines n line at old w r new (plain-begins line.form plain) same txns)
+      r.unfailed (knows-more tell start lines n line at old w r new (plain-begins line.form plain) same txns)
 
 -- ---- events of lines are served
 
@@ -210,8 +224,48 @@ is-served names (form.Force i) e is = subst IsServed (this (event.Force i) e is)
 is-served names (form.Fail i) e is = subst IsServed (this (event.Fail i) e is) tt
 is-served names (form.Fuse k) e is = subst IsServed (this (event.Arm (Trouble.Fuse k)) e is) tt
 is-served names (form.Fault k) e is = subst IsServed (this (event.Arm (Trouble.Fault k)) e is) tt
+is-served names (form.FailAll pick) e is = subst IsServed (this (event.FailAll pick) e is) tt
+is-served names form.Reopen e is = subst IsServed (this event.Reopen e is) tt
+is-served names form.RecoverAll e is = absurd (cc)
+is-served names form.JoinAll e is = absurd (cc)
 is-served names (form.Where p) e is = subst IsServed (this (event.Show p) e is) tt
 is-served names form.Table e is = absurd (cc)
+
+-- ---- and name the page that they need, where they need one
+
+abbrev IsNamed : Event → Type 0
+IsNamed e = names_page e ≡ true
+
+named-by : (names : Names) (g : TxnId → Event) → ((t : TxnId) → IsNamed (g t)) → (name : List ℕ) (e : Event) → option_map g (names name) ≡ Some e → IsNamed e
+named-by names g all name e is = let t = mapped g (names name) e is in subst IsNamed t.2 (all t.0)
+
+pub is-named : (names : Names) (f : Form) (e : Event) → event_of names f ≡ Some e → names_page e ≡ true
+is-named names (form.Complex insts pages frames) e is = absurd (cc)
+is-named names (form.Begin inst name) e is = subst IsNamed (this (event.Begin inst) e is) refl
+is-named names (form.Read name o r) e is = named-by names (λ t. event.Read t r) (λ t. refl) name e is
+is-named names (form.Write name o r v) e is = named-by names (λ t. event.Write t r v) (λ t. refl) name e is
+is-named names (form.Add name o r by) e is = named-by names (λ t. event.Add t r by) (λ t. refl) name e is
+is-named names (form.Insert name o p v c) e is = named-by names (λ t. event.Insert t p v (capacity_of v c)) (λ t. refl) name e is
+is-named names (form.Delete name o r) e is = named-by names (λ t. event.Delete t r) (λ t. refl) name e is
+is-named names (form.Save name o k) e is = named-by names (λ t. event.Save t k) (λ t. refl) name e is
+is-named names (form.Back name o k) e is = named-by names (λ t. event.Back t (Some k)) (λ t. refl) name e is
+is-named names (form.Rollback name o) e is = named-by names (λ t. event.Back t None) (λ t. refl) name e is
+is-named names (form.Commit name o) e is = named-by names (λ t. event.Commit t) (λ t. refl) name e is
+is-named names (form.Ask i p mode) e is = subst IsNamed (this (event.Ask i p mode) e is) refl
+is-named names (form.Give i p) e is = subst IsNamed (this (event.Give i p) e is) refl
+is-named names (form.Take i p) e is = subst IsNamed (this (event.Take i p) e is) refl
+is-named names (form.Evict i p) e is = subst IsNamed (this (event.Evict i p) e is) refl
+is-named names (form.Flush i p) e is = subst IsNamed (this (event.Flush i p) e is) refl
+is-named names (form.Force i) e is = subst IsNamed (this (event.Force i) e is) refl
+is-named names (form.Fail i) e is = subst IsNamed (this (event.Fail i) e is) refl
+is-named names (form.Fuse k) e is = subst IsNamed (this (event.Arm (Trouble.Fuse k)) e is) refl
+is-named names (form.Fault k) e is = subst IsNamed (this (event.Arm (Trouble.Fault k)) e is) refl
+is-named names (form.FailAll pick) e is = subst IsNamed (this (event.FailAll pick) e is) refl
+is-named names form.Reopen e is = subst IsNamed (this event.Reopen e is) refl
+is-named names form.RecoverAll e is = absurd (cc)
+is-named names form.JoinAll e is = absurd (cc)
+is-named names (form.Where p) e is = subst IsNamed (this (event.Show p) e is) refl
+is-named names form.Table e is = absurd (cc)
 
 -- ---- ordinals
 

@@ -16,10 +16,9 @@ use Rattle.sd_model.specs.State.{State}
 use Rattle.sd_pagelock.specs.Places.{Entry, holds_as, is_free}
 use Rattle.sd_pagelock.specs.Rows.{locked, may_raise, raised}
 use Rattle.sd_world.specs.Pages.{Pages, placed}
-use Rattle.sd_world.specs.PageCauses.{IsAway, decided, page_of, undo_page}
+use Rattle.sd_world.specs.PageCauses.{IsAway, decided, names_page, page_of, undo_page}
 use Rattle.sd_world.specs.Answers.{Gets, Moves}
 use Rattle.sd_world.proofs.Causes.{cause-said}
-use Rattle.sd_hall.specs.Served.{IsServed}
 use Rattle.sd_drive.proofs.Measures.{unlike}
 use Rattle.sd_drive.specs.Pulls.{IsPulled, Puller, puller}
 use Rattle.sd_drive.specs.Standing.{is_need, need_of, wanted_of}
@@ -113,21 +112,21 @@ need-some m (event.Insert t p v n) x is = need-as m (event.Insert t p v n) (t.in
 need-some m (event.Undo t) x is = need-as m (event.Undo t) (t.inst, undo_page m t, modes.Excl) x (λ s. refl, refl, refl, refl) is
 need-some m e x is = absurd (cc)
 
-need-none : (m : State) (e : Event) → IsServed e → need_of m e ≡ None → (s : State) → is_some (puller s e) ≡ false
-need-none m (event.Read t r) served is s = absurd (cc)
-need-none m (event.List i p) served is s = absurd (cc)
-need-none m (event.Write t r v) served is s = absurd (cc)
-need-none m (event.Add t r by) served is s = absurd (cc)
-need-none m (event.Delete t r) served is s = absurd (cc)
-need-none m (event.Insert t p v n) served is s = absurd (cc)
-need-none m (event.Undo t) served is s = absurd (cc)
-need-none m (event.RecoverStep i) served is s = absurd served
-need-none m e served is s = refl
+need-none : (m : State) (e : Event) → names_page e ≡ true → need_of m e ≡ None → (s : State) → is_some (puller s e) ≡ false
+need-none m (event.Read t r) names is s = absurd (cc)
+need-none m (event.List i p) names is s = absurd (cc)
+need-none m (event.Write t r v) names is s = absurd (cc)
+need-none m (event.Add t r by) names is s = absurd (cc)
+need-none m (event.Delete t r) names is s = absurd (cc)
+need-none m (event.Insert t p v n) names is s = absurd (cc)
+need-none m (event.Undo t) names is s = absurd (cc)
+need-none m (event.RecoverStep i) names is s = absurd (cc)
+need-none m e names is s = refl
 
-pub wanted-none : (m : State) (e : Event) (r : Reply) → IsServed e → wanted_of m e r ≡ None
+pub wanted-none : (m : State) (e : Event) (r : Reply) → names_page e ≡ true → wanted_of m e r ≡ None
     → (is_need r ≡ false) ⊎ ((s : State) → is_some (puller s e) ≡ false)
-wanted-none m e (reply.Refused (R.NeedPage place)) served is = inr (need-none m e served is)
-wanted-none m e r served is = inl refl
+wanted-none m e (reply.Refused (R.NeedPage place)) names is = inr (need-none m e names is)
+wanted-none m e r names is = inl refl
 
 pub wanted-some : (m : State) (e : Event) (r : Reply) (x : ℕ × ℕ × Mode) → wanted_of m e r ≡ Some x
     → (is_need r ≡ true) × (need_of m e ≡ Some x)

@@ -1,6 +1,7 @@
--- The instances join before the first line. It serves the goals of `opening` and `join` in driver.rt.
+-- The instances that are down recover, and then all join, before the first line. It serves the goals of `opening`, `restart`, `join` and
+-- of what goes over them in driver.rt.
 use Rattle.std.proofs.Common.{◌≡◌, inl, inr, ⊎_elim, ℕ, ◌+◌, ◌<◌, ◌≤◌, Bool, true, false, cond, ltb, List, [], ◌∷◌, length, refl, sym, ap, ap₂, ◌∙◌, subst, arith}
-use Rattle.std.specs.Prelude.{Option, None, Some}
+use Rattle.std.specs.Prelude.{Option, None, Some, is_some}
 use Rattle.std.proofs.lemmas.Bool.{ltb-false, ltb-true}
 use Rattle.sd_base.specs.declared.refusal.Refusal.TheVariants as R
 use Rattle.sd_model.specs.declared.cause.Cause.{Cause}
@@ -15,26 +16,29 @@ use Rattle.sd_rig.specs.Devices.{Image, Leaves}
 use Rattle.sd_script.specs.declared.line.Line.{Line}
 use Rattle.sd_world.specs.Leading.{Leads}
 use Rattle.sd_world.specs.Serving.{Core, Telling}
-use Rattle.sd_fits.specs.Serving.{fits_by}
+use Rattle.sd_fits.specs.Bodies.{fits_body, rig_of}
+use Rattle.sd_fits.specs.declared.body.Body.{Body}
+use Rattle.sd_hall.specs.Bodies.{IsRigIn, fits_in}
 use Rattle.sd_hall.specs.Keeping.{Keeps}
-use Rattle.sd_hall.specs.declared.hall.Hall.{Hall}
 use Rattle.sd_drive.specs.declared.driver.Driver.{Driver}
-use Rattle.sd_drive.specs.Driven.{BreaksIn, IsIn, StaysIn}
-use Rattle.sd_drive.specs.Driving.{Cursor, IsBorne, Known, Own, Progress, TellsAt, Tells, Work, World, ahead, followed, goes_on, untold, works_of}
+use Rattle.sd_drive.specs.declared.recovery.Outcome.{Outcome}
+use Rattle.sd_drive.specs.declared.recovery.Outcome.TheVariants as outcomes
+use Rattle.sd_drive.specs.declared.recovery.Owner.{Owner}
+use Rattle.sd_drive.specs.Bodies.{status_in}
+use Rattle.sd_drive.specs.Driven.{IsIn, StaysIn}
+use Rattle.sd_drive.specs.Driving.{Cursor, Known, Own, Progress, TellsAt, Tells, Work, World, ahead, fails, followed, goes_on, is_down, left_from, marked, next_down, opens, stays, untold, works_of}
 use Rattle.sd_drive.specs.Pulls.{Pull, is_pulling}
-use Rattle.sd_drive.specs.Reaching.{HaveJoined, IsOpening, IsSame, Joins, JoinsNext, Reached, begin_of, is_failed}
+use Rattle.sd_drive.specs.Reaching.{HaveJoined, IsOpening, IsSame, JoinBreaks, Joins, JoinsAll, JoinsNext, OpensSome, Reached, begin_of}
+use Rattle.sd_drive.specs.Recoveries.{DoesSome, DueOf, GoneOn, IsDueOf, RecoversTo}
+use Rattle.sd_drive.specs.Recovering.{IsRestarting, RestartBreaks, Restarts, RestartsNext, RestartsSome}
 use Rattle.sd_drive.specs.Running.{Breaks, Ran, Start}
-use Rattle.sd_drive.proofs.Running.{ran-breaks, ran-start}
+use Rattle.sd_drive.specs.Standing.{is_failed}
+use Rattle.sd_drive.proofs.Running.{ran-start}
+use Rattle.sd_drive.proofs.Bodies.{fits-now, fits-some, status-is}
+use Rattle.sd_drive.proofs.Marks.{breaks-there}
+use Rattle.sd_drive.proofs.Recovering.{down-behind, down-here}
 use Rattle.sd_drive.proofs.Steps.{Moved, Noted, moved}
-use Rattle.sd_drive.proofs.Telling.{tells-at}
-
-borne : (r : Reply) → is_failed r ≡ false → IsBorne Work.Opening r
-borne (reply.Refused R.Failed) fine = absurd (cc)
-borne r fine = tt
-
-pub failed-is : (r : Reply) → is_failed r ≡ true → r ≡ reply.Refused R.Failed
-failed-is (reply.Refused R.Failed) failed = refl
-failed-is r failed = absurd (cc)
+use Rattle.sd_drive.proofs.Telling.{tells-at, unfails}
 
 -- a join wants no page
 never-away : (i : ℕ) (c : Cause) → has c (Cause.Away ∷ []) ≡ true → has c (order (event.Join i)) ≡ true → ⊥
@@ -43,7 +47,7 @@ never-away i c away there = absurd (cc)
 
 own-join : (m m' m1 : State) (at : Progress) (rest : List Work) (i : ℕ) (r : Reply) → Step m (event.Join i) r m1
     → Own m m' at Work.Opening rest (Cursor.Joins i) (event.Join i) r
-    (followed at Work.Opening rest r (goes_on m' at.known Work.Opening (Cursor.Joins i) r))
+    (marked Work.Opening r (followed at Work.Opening rest r (goes_on m' at.known Work.Opening (Cursor.Joins i) r)))
 own-join m m' m1 at rest i (reply.Refused (R.NeedPage place)) s = absurd (never-away i s.0 s.1 s.3.0)
 own-join m m' m1 at rest i r s = refl
 
@@ -52,32 +56,188 @@ join-goes : (known : Known) (m : State) (i : ℕ) (r : Reply) (b : Bool) → ltb
     → goes_on m known Work.Opening (Cursor.Joins i) r ≡ cond {A = Option Cursor} b (Some (Cursor.Joins (i + 1))) None
 join-goes known m i r b is = ap (λ (x : Bool). cond {A = Option Cursor} x (Some (Cursor.Joins (i + 1))) None) is
 
--- ---- before the first join
+opens-some : (o : Option ℕ) → is_some (opens o) ≡ true
+opens-some None = refl
+opens-some (Some i) = refl
 
-module _ {G : Type 0} (tell : Telling G) (old : Driver G) (start : Core) (lines : List Line) (k : Keeps tell start old.hall)
-    (empty : old.hall.book.entries ≡ []) (blank : old.hall.book.opening ≡ [])
-    (now : (img : Image) → tell.since old.hall.complex.rig (tell.moment old.hall.complex.rig) img → Leaves (tell.leaves old.hall.complex.rig) img) where
+-- the opening is the first work, where it has begun or not
+opening-first : (m : State) (known : Known) (o : Option Cursor) (works : List Work)
+    → left_from m known o (Work.Opening ∷ works) ≡ Work.Opening ∷ works
+opening-first m known None works = ap (λ (b : Bool). cond {A = List Work} b (Work.Opening ∷ works) (ahead m known works)) (opens-some (next_down m 1))
+opening-first m known (Some c) works = refl
+
+-- ---- before the first entry
+
+module _ {G : Type 0} (tell : Telling G) (old : Driver G) (start : Core) (lines : List Line) (rig : G) (is : IsRigIn rig old.hall.body)
+    (k : Keeps tell start old.hall) (empty : old.hall.book.entries ≡ [])
+    (now : (d : G) (img : Image) → tell.since d (tell.moment d) img → Leaves (tell.leaves d) img) where
   abbrev pub first : Start G
-  first = begin_of old lines start
+  first = begin_of old lines start rig
 
   there-first : IsIn tell first old.hall first.world
   there-first =
       let core : start ≡ k.core = subst (λ (es : List Entry). Leads start es k.core) empty k.leads in
+      let b = fits-some tell old.hall.body k.core k.fits in
       record {
-        ran = subst (λ (es : List Entry). Ran tell first old.hall.complex es first.world) (sym empty)
-            (ran-start tell first.world old.hall.complex now
-            (subst (λ (w : Core). fits_by tell.seen tell.leaves old.hall.complex w) (sym core) k.fits));
+        body = b.0;
+        is = b.1;
+        ran = subst (λ (es : List Entry). Ran tell first b.0 es first.world) (sym empty)
+            (ran-start tell first b.0 (sym (subst (λ (x : Option (Body G)). IsRigIn rig x) b.1 is)) (now (rig_of b.0))
+            (subst (λ (w : Core). fits_body tell.seen tell.leaves b.0 w) (sym core) b.2));
         keeps = k;
-        blank = blank;
+        table = refl;
+        marks = record { told = λ failed. absurd (cc); marked = λ rest c left at failed. absurd (cc) };
       }
 
-  pub joins-first : old.txns.items ≡ [] → 1 ≤ old.insts → JoinsNext tell first lines old 1 first.world
-  joins-first none some = record { there = there-first; known = refl; left = refl; at = λ m. refl; idle = refl; none = none; most = some }
+  pub restarts-first : old.txns.items ≡ [] → RestartsNext tell first lines old 1 first.world
+  restarts-first none = record { there = there-first; known = refl; left = refl; at = refl; idle = refl; unfailed = refl; none = none }
+
+-- ---- a recovery
+
+-- whose entries those of the opening are
+abbrev pub opening-owner : Owner
+opening-owner = record { session = 0; line = 0; is_opening = true }
+
+module _ {G : Type 0} (tell : Telling G) (old : Driver G) (i : ℕ) (low : 1 ≤ i) (high : i ≤ 8) (start : Start G) (w : World) (lines : List Line)
+    (at : RestartsNext tell start lines old i w) where
+  stands-as : status_in old.hall.body i ≡ (w.core.scene.state.inst i).status
+  stands-as = status-is tell old.hall.body w.core (fits-now tell start old.hall w at.there) i low high
+
+  -- instance i isn't down
+  restart-past : is_down (status_in old.hall.body i) ≡ false → RestartsNext tell start lines old (i + 1) w
+  restart-past stands = record {
+    there = at.there;
+    known = at.known;
+    left = at.left;
+    at = at.at ∙ ap opens (down-behind w.core.scene.state i high (sym (ap is_down stands-as) ∙ stands));
+    idle = at.idle;
+    unfailed = at.unfailed;
+    none = at.none;
+  }
+
+  -- or it is, and its recovery begins
+  restart-due : is_down (status_in old.hall.body i) ≡ true
+      → IsDueOf opening-owner Work.Opening (works_of lines) (Cursor.Recovers i) (event.RecoverBegin i i) w
+  restart-due down = record {
+    stands = record {
+      known_is = refl;
+      first = ap (λ (works : List Work). left_from w.core.scene.state w.told.known w.told.cursor works) at.left
+          ∙ opening-first w.core.scene.state w.told.known w.told.cursor (works_of lines);
+      at = at.at ∙ ap opens (down-here w.core.scene.state i high (sym (ap is_down stands-as) ∙ down));
+      idle = at.idle;
+      event = refl;
+      unfailed = at.unfailed;
+    };
+    session = refl;
+    line = refl;
+    opening = refl;
+  }
+
+  -- behind it the next one that is down recovers, or instance 1 joins
+  restart-on : (new : Driver G) → IsSame old new → new.txns ≡ old.txns → (ended : Bool)
+      → GoneOn tell new.hall Work.Opening (works_of lines) i ended start w → (w' : World) × RestartsNext tell start lines new (i + 1) w'
+  restart-on new same txns ended gone = go (next_down gone.core.scene.state (i + 1)) refl
+    where
+      went : Option ℕ → World
+      went o = record { told = followed w.told Work.Opening (works_of lines) gone.reply (opens o); core = gone.core }
+
+      there : (o : Option ℕ) → next_down gone.core.scene.state (i + 1) ≡ o
+          → IsIn tell start new.hall (record { told = followed w.told Work.Opening (works_of lines) gone.reply (opens o); core = gone.core })
+      there o is = subst (λ (x : Option ℕ). IsIn tell start new.hall
+          (record { told = followed w.told Work.Opening (works_of lines) gone.reply (opens x); core = gone.core })) is gone.there
+
+      known_is : w.told.known ≡ (untold new.insts new.pages lines).known
+      known_is = at.known ∙ ap₂ (λ (insts pages : ℕ). (untold insts pages lines).known) (sym same.0) (sym same.1)
+
+      go : (o : Option ℕ) → next_down gone.core.scene.state (i + 1) ≡ o → (w' : World) × RestartsNext tell start lines new (i + 1) w'
+      go None is = (
+        record { told = stays w.told Work.Opening (works_of lines) (Cursor.Joins 1) Pull.Idle; core = gone.core },
+        record {
+          there = there None is;
+          known = known_is;
+          left = refl;
+          at = sym (ap opens is);
+          idle = refl;
+          unfailed = at.unfailed;
+          none = ap (λ ts. ts.items) txns ∙ at.none;
+        },
+      )
+      go (Some j) is = (
+        record { told = stays w.told Work.Opening (works_of lines) (Cursor.Recovers j) Pull.Idle; core = gone.core },
+        record {
+          there = there (Some j) is;
+          known = known_is;
+          left = refl;
+          at = sym (ap opens is);
+          idle = refl;
+          unfailed = at.unfailed;
+          none = ap (λ ts. ts.items) txns ∙ at.none;
+        },
+      )
+
+module _ {G : Type 0} (tell : Telling G) (old : Driver G) (i : ℕ) (low : 1 ≤ i) (high : i ≤ 8) where
+  -- the complex fits a core when it is asked how the instance stands
+  pub restart-fits : IsRestarting tell old i → (w : Core) × fits_in tell.seen tell.leaves old.hall.body w
+  restart-fits a = (a.world.core, fits-now tell a.start old.hall a.world a.restarts.there)
+
+  pub restart-not : is_down (status_in old.hall.body i) ≡ false → Restarts tell old old i (i + 1)
+  restart-not stands start w lines at = (w, restart-past tell old i low high start w lines at stands)
+
+  module _ (down : is_down (status_in old.hall.body i) ≡ true) where
+    pub restart-in : IsRestarting tell old i → DueOf tell old.hall opening-owner (Cursor.Recovers i) (event.RecoverBegin i i)
+    restart-in a = record {
+      start = a.start;
+      world = a.world;
+      work = Work.Opening;
+      rest = works_of a.lines;
+      there = a.restarts.there;
+      due = restart-due tell old i low high a.start a.world a.lines a.restarts down;
+    }
+
+    module _ (new : Driver G) where
+      pub restart-some : DoesSome tell old.hall new.hall opening-owner (Cursor.Recovers i) (event.RecoverBegin i i) → RestartsSome tell old new i
+      restart-some some start w lines at =
+          some start w Work.Opening (works_of lines) at.there (restart-due tell old i low high start w lines at down)
+
+      pub restart-broken : RecoversTo tell old.hall new.hall opening-owner i outcomes.Broken → RestartBreaks tell old new i
+      restart-broken to start w lines at =
+          let h = to start w Work.Opening (works_of lines) at.there (restart-due tell old i low high start w lines at down) in (h.world, h.there, h.failed)
+
+      module _ (same : IsSame old new) (txns : new.txns ≡ old.txns) where
+        restart-ended : RecoversTo tell old.hall new.hall opening-owner i outcomes.Ended → Restarts tell old new i (i + 1)
+        restart-ended to start w lines at = restart-on tell old i low high start w lines at new same txns true
+            (to start w Work.Opening (works_of lines) at.there (restart-due tell old i low high start w lines at down))
+
+        restart-refused : RecoversTo tell old.hall new.hall opening-owner i outcomes.Refused → Restarts tell old new i (i + 1)
+        restart-refused to start w lines at = restart-on tell old i low high start w lines at new same txns false
+            (to start w Work.Opening (works_of lines) at.there (restart-due tell old i low high start w lines at down))
+
+        pub restart-then : (how : Outcome) → (how ≡ outcomes.Broken → ⊥) → RecoversTo tell old.hall new.hall opening-owner i how
+            → Restarts tell old new i (i + 1)
+        restart-then outcomes.Ended isnt to = restart-ended to
+        restart-then outcomes.Refused isnt to = restart-refused to
+        restart-then outcomes.Broken isnt to = absurd (isnt refl)
+
+-- ---- one recovery after another
+
+module _ {G : Type 0} (tell : Telling G) (old here : Driver G) (i : ℕ) (on : Restarts tell old here 1 i) where
+  pub restarts-in : IsRestarting tell old 1 → IsRestarting tell here i
+  restarts-in a = let h = on a.start a.world a.lines a.restarts in record { start = a.start; world = h.0; lines = a.lines; restarts = h.1 }
+
+  module _ (new : Driver G) where
+    pub restarts-next : (j : ℕ) → Restarts tell here new i j → Restarts tell old new 1 j
+    restarts-next j more start w lines at = let h = on start w lines at in more start h.0 lines h.1
+
+    pub restarts-some : RestartsSome tell here new i → RestartsSome tell old new 1
+    restarts-some some start w lines at = let h = on start w lines at in some start h.0 lines h.1
+
+    pub restarts-broken : RestartBreaks tell here new i → RestartBreaks tell old new 1
+    restarts-broken breaks start w lines at = let h = on start w lines at in breaks start h.0 lines h.1
 
 -- ---- a join
 
 module _ {G : Type 0} (tell : Telling G) (old new : Driver G) (i : ℕ) (same : IsSame old new) (txns : new.txns ≡ old.txns) (r : Reply)
-    (n : Noted tell old.hall new.hall (record { session = 0; line = 0; event = event.Join i; reply = r })) (fine : is_failed r ≡ false)
+    (n : Noted tell old.hall new.hall (record { session = 0; line = 0; event = event.Join i; reply = r }))
     (start : Start G) (w : World) (lines : List Line) (j : JoinsNext tell start lines old i w) where
   abbrev x : Entry
   x = record { session = 0; line = 0; event = event.Join i; reply = r }
@@ -89,15 +249,19 @@ module _ {G : Type 0} (tell : Telling G) (old new : Driver G) (i : ℕ) (same : 
   next = goes_on m.core.scene.state w.told.known Work.Opening (Cursor.Joins i) r
 
   abbrev then-at : Option Cursor → Progress
-  then-at o = followed w.told Work.Opening (works_of lines) r o
+  then-at o = record (followed w.told Work.Opening (works_of lines) r o) { failed = fails Work.Opening r }
 
   tells : Tells w.core m.core w.told x (then-at next)
   tells =
       let s = w.core.scene.state in
-      tells-at w m.core Work.Opening (works_of lines) (Cursor.Joins i) x (then-at next)
-      (ap (λ (works : List Work). ahead s w.told.known works) j.left) (j.at s)
+      tells-at w m.core Work.Opening (works_of lines) (Cursor.Joins i) x (then-at next) j.unfailed
+      (ap (λ (works : List Work). left_from s w.told.known w.told.cursor works) j.left ∙ opening-first s w.told.known w.told.cursor (works_of lines))
+      j.at
       (subst (λ (p : Pull). TellsAt (is_pulling p) w.core m.core w.told Work.Opening (works_of lines) (Cursor.Joins i) x (then-at next)) (sym j.idle)
-      (refl, refl, refl, borne r fine, own-join s m.core.scene.state m.core.scene.state w.told (works_of lines) i r m.turns.plays.step))
+      (refl, refl, refl, own-join s m.core.scene.state m.core.scene.state w.told (works_of lines) i r m.turns.plays.step))
+
+  pub there-after : (w' : World) × IsIn tell start new.hall w' × (w'.told.failed ≡ fails Work.Opening r)
+  there-after = (record { told = then-at next; core = m.core }, m.there (then-at next) tells, refl)
 
   there : (o : Option Cursor) → next ≡ o → IsIn tell start new.hall (record { told = then-at o; core = m.core })
   there o is = subst (λ (c : Option Cursor). IsIn tell start new.hall (record { told = then-at c; core = m.core })) is (m.there (then-at next) tells)
@@ -105,90 +269,182 @@ module _ {G : Type 0} (tell : Telling G) (old new : Driver G) (i : ℕ) (same : 
   known-is : w.told.known ≡ (untold new.insts new.pages lines).known
   known-is = j.known ∙ ap₂ (λ (insts pages : ℕ). (untold insts pages lines).known) (sym same.0) (sym same.1)
 
-  -- another one joins next
-  goes : i < new.insts → next ≡ Some (Cursor.Joins (i + 1)) → (w' : World) × JoinsNext tell start lines new (i + 1) w'
-  goes lt is = (
-    record { told = then-at (Some (Cursor.Joins (i + 1))); core = m.core },
-    record {
-      there = there (Some (Cursor.Joins (i + 1))) is;
-      known = known-is;
-      left = refl;
-      at = λ s. refl;
-      idle = refl;
-      none = ap (λ ts. ts.items) txns ∙ j.none;
-      most = omega (arith, lt);
-    },
-  )
+  module _ (fine : is_failed r ≡ false) where
+    -- another one joins next
+    goes : i < new.insts → next ≡ Some (Cursor.Joins (i + 1)) → (w' : World) × JoinsNext tell start lines new (i + 1) w'
+    goes lt is = (
+      record { told = then-at (Some (Cursor.Joins (i + 1))); core = m.core },
+      record {
+        there = there (Some (Cursor.Joins (i + 1))) is;
+        known = known-is;
+        left = refl;
+        at = refl;
+        idle = refl;
+        unfailed = unfails Work.Opening r fine;
+        none = ap (λ ts. ts.items) txns ∙ j.none;
+        most = omega (arith, lt);
+      },
+    )
 
-  -- the lines are to come
-  ends : next ≡ None → (w' : World) × Reached tell start lines 0 new w'
-  ends is = (
-    record { told = then-at None; core = m.core },
-    record {
-      there = there None is;
-      rests = refl;
-      idle = refl;
-      left = λ s. refl;
-      knows = record {
-        insts = ap (λ (k : Known). k.insts) known-is;
-        pages = ap (λ (k : Known). k.pages) known-is;
-        names = λ q. sym (ap (λ (k : Known). k.names q) known-is);
-        count = ap (λ ts. length ts.items) txns ∙ ap (λ ts. length ts) j.none;
-      };
-    },
-  )
+    -- the lines are to come
+    ends : next ≡ None → (w' : World) × Reached tell start lines 0 new w'
+    ends is = (
+      record { told = then-at None; core = m.core },
+      record {
+        there = there None is;
+        rests = refl;
+        idle = refl;
+        unfailed = unfails Work.Opening r fine;
+        left = refl;
+        knows = record {
+          insts = ap (λ (k : Known). k.insts) known-is;
+          pages = ap (λ (k : Known). k.pages) known-is;
+          names = λ q. sym (ap (λ (k : Known). k.names q) known-is);
+          count = ap (λ ts. length ts.items) txns ∙ ap (λ ts. length ts) j.none;
+        };
+      },
+    )
 
-  pub joined : (w' : World) × HaveJoined tell start lines new (i + 1) w'
-  joined = go (ltb i w.told.known.insts) refl
-    where
-      insts_are : w.told.known.insts ≡ new.insts
-      insts_are = ap (λ (k : Known). k.insts) known-is
+    pub joined : (w' : World) × HaveJoined tell start lines new (i + 1) w'
+    joined = go (ltb i w.told.known.insts) refl
+      where
+        insts_are : w.told.known.insts ≡ new.insts
+        insts_are = ap (λ (k : Known). k.insts) known-is
 
-      go : (b : Bool) → ltb i w.told.known.insts ≡ b → (w' : World) × HaveJoined tell start lines new (i + 1) w'
-      go true is =
-          let lt : i < w.told.known.insts = ltb-true i w.told.known.insts is in
-          let h = goes (omega (arith, lt, insts_are)) (join-goes w.told.known m.core.scene.state i r true is) in (h.0, inl h.1)
-      go false is =
-          let le : w.told.known.insts ≤ i = ltb-false i w.told.known.insts is in
-          let h = ends (join-goes w.told.known m.core.scene.state i r false is) in (h.0, inr (omega (arith, le, insts_are), h.1))
+        go : (b : Bool) → ltb i w.told.known.insts ≡ b → (w' : World) × HaveJoined tell start lines new (i + 1) w'
+        go true is =
+            let lt : i < w.told.known.insts = ltb-true i w.told.known.insts is in
+            let h = goes (omega (arith, lt, insts_are)) (join-goes w.told.known m.core.scene.state i r true is) in (h.0, inl h.1)
+        go false is =
+            let le : w.told.known.insts ≤ i = ltb-false i w.told.known.insts is in
+            let h = ends (join-goes w.told.known m.core.scene.state i r false is) in (h.0, inr (omega (arith, le, insts_are), h.1))
 
--- a device failed in it; `seen` is the rig's law
-pub broken : {G : Type 0} (tell : Telling G) (old new : Hall G) (i : ℕ)
-    → Noted tell old new (record { session = 0; line = 0; event = event.Join i; reply = reply.Refused R.Failed })
-    → ((dev : ℕ) → dev ≤ 8 → tell.leaves new.complex.rig dev (tell.seen new.complex.rig dev)) → BreaksIn tell old new
-broken tell old new i n seen start w there =
-    ran-breaks tell start old.book.entries w old.complex new.complex i n.earlier seen there.ran n.serves
+-- a device failed in it
+pub broken : {G : Type 0} (tell : Telling G) (old new : Driver G) (i : ℕ)
+    → Noted tell old.hall new.hall (record { session = 0; line = 0; event = event.Join i; reply = reply.Refused R.Failed }) → IsSame old new
+    → new.txns ≡ old.txns → JoinBreaks tell old new i
+broken {G} tell old new i n same txns start w lines j = there-after tell old new i same txns (reply.Refused R.Failed) n start w lines j
 
--- ---- one after another
+-- ---- one join after another
 
-module _ {G : Type 0} (tell : Telling G) (old here : Driver G) (i : ℕ) where
-  -- wherever the driver began, the instances below i have joined
-  abbrev pub HasOpened : Type 0
-  HasOpened = (start : Core) (lines : List Line) → Keeps tell start old.hall
-      → (w : World) × HaveJoined tell (begin_of old lines start) lines here i w
+-- wherever instance 1 was to join, those below i have
+abbrev pub InJoins : {G : Type 0} → Telling G → Driver G → Driver G → ℕ → Type 0
+InJoins {G} tell old here i = (start : Start G) (w : World) (lines : List Line) → JoinsNext tell start lines old 1 w
+    → (w' : World) × HaveJoined tell start lines here i w'
 
-  module _ (on : HasOpened) (le : i ≤ here.insts) where
-    joins-here : (start : Core) (lines : List Line) → Keeps tell start old.hall → (w : World) × JoinsNext tell (begin_of old lines start) lines here i w
-    joins-here start lines k = let h = on start lines k in (h.0, ⊎_elim (λ j. j) (λ late. absurd (omega (arith, late.0, le))) h.1)
+module _ {G : Type 0} (tell : Telling G) (old here : Driver G) (i : ℕ) (on : InJoins tell old here i) where
+  module _ (le : i ≤ here.insts) where
+    joins-here : (start : Start G) (w : World) (lines : List Line) → JoinsNext tell start lines old 1 w
+        → (w' : World) × JoinsNext tell start lines here i w'
+    joins-here start w lines j = let h = on start w lines j in (h.0, ⊎_elim (λ k. k) (λ late. absurd (omega (arith, late.0, le))) h.1)
 
-    pub is-opening : (start : Core) × Keeps tell start old.hall → IsOpening tell here i
-    is-opening s = let h = joins-here s.0 [] s.1 in record { start = begin_of old [] s.0; world = h.0; lines = []; joins = h.1 }
+    pub is-opening : IsOpening tell old 1 → IsOpening tell here i
+    is-opening a = let h = joins-here a.start a.world a.lines a.joins in record { start = a.start; world = h.0; lines = a.lines; joins = h.1 }
 
     module _ (new : Driver G) where
-      pub opened-on : Joins tell here new i → (start : Core) (lines : List Line) → Keeps tell start old.hall
-          → (w : World) × HaveJoined tell (begin_of old lines start) lines new (i + 1) w
-      opened-on joins start lines k = let h = joins-here start lines k in joins (begin_of old lines start) h.0 lines h.1
+      pub joins-next : Joins tell here new i → InJoins tell old new (i + 1)
+      joins-next joins start w lines j = let h = joins-here start w lines j in joins start h.0 lines h.1
 
-      pub opened-some : StaysIn tell here.hall new.hall → (start : Core) (lines : List Line) → Keeps tell start old.hall
-          → (w : World) × IsIn tell (begin_of old lines start) new.hall w
-      opened-some stays start lines k = let h = joins-here start lines k in (h.0, stays (begin_of old lines start) h.0 h.1.there)
+      pub joins-some : StaysIn tell here.hall new.hall → OpensSome tell old new 1
+      joins-some stays_in start w lines j = let h = joins-here start w lines j in (h.0, stays_in start h.0 h.1.there)
 
-      pub opened-broken : BreaksIn tell here.hall new.hall → (start : Core) (lines : List Line) → Keeps tell start old.hall
-          → Breaks tell (begin_of old lines start) new.hall.complex.rig
-      opened-broken breaks start lines k = let h = joins-here start lines k in breaks (begin_of old lines start) h.0 h.1.there
+      pub joins-broken : JoinBreaks tell here new i → JoinBreaks tell old new 1
+      joins-broken breaks start w lines j = let h = joins-here start w lines j in breaks start h.0 lines h.1
 
   -- behind the last one the lines are to come
-  pub opened-all : HasOpened → here.insts < i → (start : Core) (lines : List Line) → Keeps tell start old.hall
-      → (w : World) × Reached tell (begin_of old lines start) lines 0 here w
-  opened-all on lt start lines k =
-      let h = on start lines k in (h.0, ⊎_elim (λ j. let le = j.most in absurd (omega (arith, lt, le))) (λ late. late.1) h.1)
+  pub joins-all : here.insts < i → JoinsAll tell old here 1
+  joins-all lt start w lines j =
+      let h = on start w lines j in (h.0, ⊎_elim (λ k. let le = k.most in absurd (omega (arith, lt, le))) (λ late. late.1) h.1)
+
+-- ---- all of it
+
+module _ {G : Type 0} (tell : Telling G) (old : Driver G) (empty : old.hall.book.entries ≡ []) (none : old.txns.items ≡ [])
+    (now : (d : G) (img : Image) → tell.since d (tell.moment d) img → Leaves (tell.leaves d) img) where
+  -- whatever it begins with, it comes to a world of which this holds
+  abbrev pub Opened : (Start G → List Line → World → Type 0) → Type 0
+  Opened P = (start : Core) (lines : List Line) (rig : G) → IsRigIn rig old.hall.body → Keeps tell start old.hall
+      → (w : World) × P (begin_of old lines start rig) lines w
+
+  rig-there : (start : Core) → Keeps tell start old.hall → (rig : G) × IsRigIn rig old.hall.body
+  rig-there start k =
+      let b = fits-some tell old.hall.body k.core k.fits in
+      (rig_of b.0, subst (λ (x : Option (Body G)). IsRigIn (rig_of b.0) x) (sym b.1) refl)
+
+  pub is-restarting : (start : Core) × Keeps tell start old.hall → IsRestarting tell old 1
+  is-restarting s =
+      let rig = rig-there s.0 s.1 in
+      record {
+        start = begin_of old [] s.0 rig.0;
+        world = (begin_of old [] s.0 rig.0).world;
+        lines = [];
+        restarts = restarts-first tell old s.0 [] rig.0 rig.1 s.1 empty now none;
+      }
+
+  restarted-from : (mid : Driver G) (P : Start G → List Line → World → Type 0)
+      → ((start : Start G) (w : World) (lines : List Line) → RestartsNext tell start lines old 1 w → (w' : World) × P start lines w') → Opened P
+  restarted-from mid P on start lines rig is k =
+      on (begin_of old lines start rig) (begin_of old lines start rig).world lines (restarts-first tell old start lines rig is k empty now none)
+
+  -- the hall is kept where it is in a world
+  pub opened-keeps : (new : Driver G) → Opened (λ start lines w. IsIn tell start new.hall w) → (start : Core) → Keeps tell start old.hall
+      → Keeps tell start new.hall
+  opened-keeps new on start k = let rig = rig-there start k in (on start [] rig.0 rig.1 k).1.keeps
+
+  pub restart-lost : (new : Driver G) → RestartsSome tell old new 1 → Opened (λ start lines w. IsIn tell start new.hall w)
+  restart-lost new some = restarted-from new (λ start lines w. IsIn tell start new.hall w) some
+
+  -- a device failed in it
+  abbrev pub Fails : Driver G → Type 0
+  Fails new = Opened (λ start lines w. IsIn tell start new.hall w × (w.told.failed ≡ true))
+
+  pub restart-fails : (new : Driver G) → RestartBreaks tell old new 1 → Fails new
+  restart-fails new breaks = restarted-from new (λ start lines w. IsIn tell start new.hall w × (w.told.failed ≡ true))
+      (λ start w lines at. let h = breaks start w lines at in (h.0, (h.1, h.2)))
+
+  pub fails-keeps : (new : Driver G) → Fails new → (start : Core) → Keeps tell start old.hall → Keeps tell start new.hall
+  fails-keeps new fails = opened-keeps new (λ start lines rig is k. let h = fails start lines rig is k in (h.0, h.1.0))
+
+  -- `seen` is the rig's law
+  pub fails-break : (new : Driver G) → Fails new → ((d : G) (dev : ℕ) → dev ≤ 8 → tell.leaves d dev (tell.seen d dev))
+      → (start : Core) (lines : List Line) (rig : G) → IsRigIn rig old.hall.body → Keeps tell start old.hall
+      → (left : G) → IsRigIn left new.hall.body → Breaks tell (begin_of old lines start rig) left
+  fails-break new fails seen start lines rig is k left there =
+      let h = fails start lines rig is k in breaks-there tell (begin_of old lines start rig) new.hall h.0 h.1.0 h.1.1 seen left there
+
+  module _ (mid : Driver G) (same : IsSame old mid) (some : 1 ≤ old.insts) (on : Restarts tell old mid 1 9) where
+    joins-first : (start : Start G) (w : World) (lines : List Line) → RestartsNext tell start lines mid 9 w → JoinsNext tell start lines mid 1 w
+    joins-first start w lines at = record {
+      there = at.there;
+      known = at.known;
+      left = at.left;
+      at = at.at;
+      idle = at.idle;
+      unfailed = at.unfailed;
+      none = at.none;
+      most = let insts = same.0 in omega (arith, insts, some);
+    }
+
+    pub joins-open : IsRestarting tell old 1 → IsOpening tell mid 1
+    joins-open a =
+        let h = on a.start a.world a.lines a.restarts in
+        record { start = a.start; world = h.0; lines = a.lines; joins = joins-first a.start h.0 a.lines h.1 }
+
+    joined-from : (P : Start G → List Line → World → Type 0)
+        → ((start : Start G) (w : World) (lines : List Line) → JoinsNext tell start lines mid 1 w → (w' : World) × P start lines w') → Opened P
+    joined-from P more = restarted-from mid P (λ start w lines at.
+        let h = on start w lines at in more start h.0 lines (joins-first start h.0 lines h.1))
+
+    module _ (new : Driver G) where
+      pub joins-lost : OpensSome tell mid new 1 → Opened (λ start lines w. IsIn tell start new.hall w)
+      joins-lost lost = joined-from (λ start lines w. IsIn tell start new.hall w) lost
+
+      pub joins-fail : JoinBreaks tell mid new 1 → Fails new
+      joins-fail breaks = joined-from (λ start lines w. IsIn tell start new.hall w × (w.told.failed ≡ true))
+          (λ start w lines at. let h = breaks start w lines at in (h.0, (h.1, h.2)))
+
+      pub opened-all : JoinsAll tell mid new 1 → Opened (λ start lines w. Reached tell start lines 0 new w)
+      opened-all all = joined-from (λ start lines w. Reached tell start lines 0 new w) all
+
+      pub reached-keeps : Opened (λ start lines w. Reached tell start lines 0 new w) → (start : Core) → Keeps tell start old.hall
+          → Keeps tell start new.hall
+      reached-keeps all = opened-keeps new (λ start lines rig is k. let h = all start lines rig is k in (h.0, h.1.there))

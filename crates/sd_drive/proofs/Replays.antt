@@ -6,7 +6,7 @@ use Rattle.sd_script.specs.declared.line.Line.{Line}
 use Rattle.sd_world.specs.Serving.{Telling}
 use Rattle.sd_drive.specs.declared.driver.Driver.{Driver}
 use Rattle.sd_drive.specs.Driven.{IsIn}
-use Rattle.sd_drive.specs.Driving.{IsTold, World, ahead, works_of}
+use Rattle.sd_drive.specs.Driving.{IsTold, World, ahead, left_from, works_of}
 use Rattle.sd_drive.specs.Reaching.{AreDriven, AtLine, DrivesLine, DrivesSome, IsSame, Reached}
 use Rattle.sd_drive.specs.Running.{Start}
 
@@ -49,6 +49,9 @@ module _ {G : Type 0} (tell : Telling G) (lines : List Line) (old : Driver G) (d
       let h = on start w r in (
         h.0,
         h.1.there,
-        h.1.left h.0.core.scene.state
-            ∙ ap (λ (ls : List Line). ahead h.0.core.scene.state h.0.told.known (works_of ls)) (drop-all lines),
+        (
+          h.1.unfailed,
+          ap (λ o. left_from h.0.core.scene.state h.0.told.known o h.0.told.left) h.1.rests ∙ h.1.left
+              ∙ ap (λ (ls : List Line). ahead h.0.core.scene.state h.0.told.known (works_of ls)) (drop-all lines),
+        ),
       )

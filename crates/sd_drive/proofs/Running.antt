@@ -1,21 +1,22 @@
 -- A run goes on by one call of the hall: one that is noted, and one that found no memory. It serves whoever drives the hall.
-use Rattle.std.proofs.Common.{◌≡◌, ◌⊎◌, ⊎_elim, ℕ, ◌+◌, ◌≤◌, List, [], ◌∷◌, ◌++◌, refl, sym, ◌∙◌, subst, append_assoc, append-nil, ap, arith, inl, inr}
-use Rattle.std.specs.Prelude.{None, Some, min}
+use Rattle.std.proofs.Common.{◌≡◌, ◌⊎◌, true, ⊎_elim, ℕ, ◌+◌, ◌≤◌, List, [], ◌∷◌, ◌++◌, refl, sym, ◌∙◌, subst, append_assoc, append-nil, ap, arith, inl}
+use Rattle.std.specs.Prelude.{None, min}
 use Rattle.sd_base.specs.Streams.{Rises}
 use Rattle.sd_base.specs.declared.refusal.Refusal.TheVariants as R
 use Rattle.sd_rig.specs.Devices.{Image, Leaves}
 use Rattle.sd_rig.specs.Spans.{span-then, span-weaker, elapses-then}
 use Rattle.sd_model.specs.declared.event.Entry.{Entry}
 use Rattle.sd_model.specs.declared.event.Event.{Event}
-use Rattle.sd_model.specs.declared.event.Event.TheVariants.{Arm, FailAll, Join}
+use Rattle.sd_model.specs.declared.event.Event.TheVariants.{FailAll, Join}
 use Rattle.sd_model.specs.declared.event.Reply.{Reply}
 use Rattle.sd_model.specs.declared.event.Reply.TheVariants.{Refused}
 use Rattle.sd_world.specs.Leading.{Leads}
 use Rattle.sd_world.specs.Serving.{Core, FaultsAre, FewFaults, KeepsEarlier, Passes, Telling}
 use Rattle.sd_state.specs.Complexes.{parts}
-use Rattle.sd_state.specs.declared.complex.Complex.{Complex}
-use Rattle.sd_fits.specs.Serving.{Serving, fits_by, stands_for}
+use Rattle.sd_fits.specs.Serving.{stands_for}
 use Rattle.sd_fits.proofs.Served.{fits-left}
+use Rattle.sd_fits.specs.Bodies.{ServingHall, fits_body, rig_of}
+use Rattle.sd_fits.specs.declared.body.Body.{Body}
 use Rattle.sd_drive.specs.Driving.{Advances, Drives, World}
 use Rattle.sd_drive.specs.Running.{AllStand, Breaks, FaultsOf, Led, Ran, RunsOn, StandsOnWay, Start}
 
@@ -35,13 +36,12 @@ faults-grow (x ∷ es) e a b c h f = (h.0, h.1, faults-grow es e h.0 b c h.2 f)
 -- a count that stands at its end may not rise, and never falls below it
 few-grow : (e : Event) (top a b : ℕ) → FewFaults e a b → min a top ≤ b
 few-grow (FailAll pick) top a b h = omega (arith, h)
-few-grow (Arm trouble) top a b h = omega (arith, h)
 few-grow e top a b h = omega (arith, h)
 
 rise-grows : (top a b : ℕ) → min (a + 1) top ≤ b → min a top ≤ b
 rise-grows top a b h = omega (arith, h)
 
-fault-grows : (e : Event) (r : Reply) (a b : ℕ) → FaultsAre e r a b → min a 18446744073709551615 ≤ b
+pub fault-grows : (e : Event) (r : Reply) (a b : ℕ) → FaultsAre e r a b → min a 18446744073709551615 ≤ b
 fault-grows e (Refused R.Failed) a b h = rise-grows 18446744073709551615 a b h
 fault-grows e (Refused R.CutCommit) a b h = rise-grows 18446744073709551615 a b h
 fault-grows e r a b h = few-grow e 18446744073709551615 a b h
@@ -54,11 +54,11 @@ faults-rise [] a b h = few-grow (Join 0) 18446744073709551615 a b h
 faults-rise (e ∷ es) a b h =
     grows-then 18446744073709551615 a h.0 b (fault-grows e.event e.reply a h.0 h.1) (faults-rise es h.0 b h.2)
 
-rises-then : (top a b c : ℕ) → min a top ≤ b → min (b + 1) top ≤ c → min (a + 1) top ≤ c
+pub rises-then : (top a b c : ℕ) → min a top ≤ b → min (b + 1) top ≤ c → min (a + 1) top ≤ c
 rises-then top a b c h k = omega (arith, h, k)
 
 -- a fault behind some entries raises the count from where it stood before them
-rises-later : (es : List Entry) (a b c : ℕ) → FaultsOf es a b → Rises b c → Rises a c
+pub rises-later : (es : List Entry) (a b c : ℕ) → FaultsOf es a b → Rises b c → Rises a c
 rises-later es a b c h k = rises-then 18446744073709551615 a b c (faults-rise es a b h) k
 
 -- ---- images on the way
@@ -120,93 +120,84 @@ module _ {G : Type 0} (tell : Telling G) (start : Start G) (entries : List Entry
           s
 
   -- The call of the entry was noted, and led to this core, where the entry is the one that is due.
-  pub ran-noted : (e : Entry) (c c' : Complex G) (w' : World) → KeepsEarlier tell c'.rig → Ran tell start c entries w → Advances w e w'
-      → fits_by tell.seen tell.leaves c' w'.core → Passes tell stands_for c.rig c'.rig w.core.scene.state w'.core.scene.state
-      → FaultsAre e.event e.reply (tell.faults c.rig) (tell.faults c'.rig) → Ran tell start c' (entries ++ e ∷ []) w'
+  pub ran-noted : (e : Entry) (c c' : Body G) (w' : World) → KeepsEarlier tell (rig_of c') → Ran tell start c entries w → Advances w e w'
+      → fits_body tell.seen tell.leaves c' w'.core
+      → Passes tell stands_for (rig_of c) (rig_of c') w.core.scene.state w'.core.scene.state
+      → FaultsAre e.event e.reply (tell.faults (rig_of c)) (tell.faults (rig_of c')) → Ran tell start c' (entries ++ e ∷ []) w'
   ran-noted e c c' w' earlier r adv fits passes faults = record {
     drives = drives-grow entries e start.world w w' r.drives adv;
     fits = fits;
-    runs = passes-on e c.rig c'.rig w' earlier r.drives r.runs adv passes faults;
+    runs = passes-on e (rig_of c) (rig_of c') w' earlier r.drives r.runs adv passes faults;
   }
 
   -- The call found no memory.
-  pub ran-spared : (e : Event) (c c' : Complex G) → KeepsEarlier tell c'.rig → Ran tell start c entries w → Serving tell e None c c'
-      → Ran tell start c' entries w
+  pub ran-spared : (e : Event) (c c' : Body G) → KeepsEarlier tell (rig_of c') → Ran tell start c entries w
+      → ServingHall tell e None c c' → Ran tell start c' entries w
   ran-spared e c c' earlier r s =
-      let spares = s.0 w.core r.fits in record {
+      let spares = s.0 w.core r.fits in
+      let a : G = rig_of c in
+      let b : G = rig_of c' in record {
         drives = r.drives;
         fits = spares.fits_still;
         runs = record {
-          time = elapses-then (tell.moment old) (tell.moment c.rig) (tell.moment c'.rig) (tell.since old) (tell.since c.rig) (tell.since c'.rig) earlier
+          time = elapses-then (tell.moment old) (tell.moment a) (tell.moment b) (tell.since old) (tell.since a) (tell.since b) earlier
               r.runs.time spares.passes.time;
-          moments = span-then (tell.moment old) (tell.moment c.rig) (tell.moment c'.rig) (tell.since c.rig) (tell.since c'.rig) on_way
+          moments = span-then (tell.moment old) (tell.moment a) (tell.moment b) (tell.since a) (tell.since b) on_way
               r.runs.time.later spares.passes.time r.runs.moments
-              (span-weaker (tell.moment c.rig) (tell.since c'.rig)
+              (span-weaker (tell.moment a) (tell.since b)
               (λ img. stands_for img w.core.scene.state ⊎ stands_for img w.core.scene.state) on_way
               (λ img s. way-ends start.world w entries img r.drives (⊎_elim (λ s. s) (λ s. s) s)) spares.passes.span);
           faults = subst (λ (n : ℕ). FaultsOf entries (tell.faults old) n) (sym s.1) r.runs.faults;
         };
       }
 
+-- a complex that fits a world, open or closed: whatever a crash may leave of its devices stands for its state
+pub body-stands : {G : Type 0} (tell : Telling G) (body : Body G) (core : Core) → fits_body tell.seen tell.leaves body core
+    → (img : Image) → Leaves (tell.leaves (rig_of body)) img → stands_for img core.scene.state
+body-stands tell (Body.Open c) core f img left = fits-left (tell.seen c.rig) (tell.leaves c.rig) (parts c) core f img left
+body-stands tell (Body.Closed rig shape) core f img left = f.fits.stands img left
+
 -- ---- the start
 
 -- Before the first call the devices are as they were, and each image that a crash may leave stands for the start.
-pub ran-start : {G : Type 0} (tell : Telling G) (start : World) (c : Complex G)
-    → ((img : Image) → tell.since c.rig (tell.moment c.rig) img → Leaves (tell.leaves c.rig) img)
-    → fits_by tell.seen tell.leaves c start.core → Ran tell (record { world = start; rig = c.rig }) c [] start
-ran-start tell start c now fits = record {
+pub ran-start : {G : Type 0} (tell : Telling G) (start : Start G) (body : Body G) → start.rig ≡ rig_of body
+    → ((img : Image) → tell.since (rig_of body) (tell.moment (rig_of body)) img → Leaves (tell.leaves (rig_of body)) img)
+    → fits_body tell.seen tell.leaves body start.world.core → Ran tell start body [] start.world
+ran-start tell start body same now fits = record {
   drives = refl;
   fits = fits;
-  runs = record {
+  runs = subst (λ d. RunsOn tell (record start { rig = d }) (rig_of body) [] start.world) (sym same) (record {
     time = record { later = omega arith; splits = λ t img le s. inl s; keeps = λ t img le s. s };
     moments = record {
-      each = λ img s. way-ends start start [] img refl (fits-left (tell.seen c.rig) (tell.leaves c.rig) (parts c) start.core fits img (now img s));
+      each = λ img s. way-ends start.world start.world [] img refl (body-stands tell body start.world.core fits img (now img s));
     };
     faults = refl;
-  };
+  });
 }
 
 -- ---- the end
 
--- what a run leaves once its complex is closed
+-- what a run leaves once its hall is closed
 module _ {G : Type 0} (tell : Telling G) (start : Start G) (entries : List Entry) (w : World) where
   -- a complex that fits a world leaves devices that stand for it
-  pub fits-stand : (c : Complex G) (core : Core) → ((dev : ℕ) → dev ≤ 8 → tell.leaves c.rig dev (tell.seen c.rig dev))
-      → fits_by tell.seen tell.leaves c core → AllStand tell c.rig core.scene.state
-  fits-stand c core seen f = record {
-    reads = fits-left (tell.seen c.rig) (tell.leaves c.rig) (parts c) core f (tell.seen c.rig) seen;
-    left = fits-left (tell.seen c.rig) (tell.leaves c.rig) (parts c) core f;
+  pub fits-stand : (body : Body G) (core : Core)
+      → ((dev : ℕ) → dev ≤ 8 → tell.leaves (rig_of body) dev (tell.seen (rig_of body) dev))
+      → fits_body tell.seen tell.leaves body core → AllStand tell (rig_of body) core.scene.state
+  fits-stand body core seen f = record {
+    reads = body-stands tell body core f (tell.seen (rig_of body)) seen;
+    left = body-stands tell body core f;
   }
 
-  pub ran-led : (c : Complex G) → ((dev : ℕ) → dev ≤ 8 → tell.leaves c.rig dev (tell.seen c.rig dev)) → Ran tell start c entries w
-      → Led tell start c.rig entries w
-  ran-led c seen r = record { drives = r.drives; runs = r.runs; stand = fits-stand c w.core seen r.fits }
+  pub ran-led : (body : Body G) → ((dev : ℕ) → dev ≤ 8 → tell.leaves (rig_of body) dev (tell.seen (rig_of body) dev))
+      → Ran tell start body entries w → Led tell start (rig_of body) entries w
+  ran-led body seen r = record { drives = r.drives; runs = r.runs; stand = fits-stand body w.core seen r.fits }
 
-  -- A join in which a device fails ends the opening.
-  pub ran-breaks : (c c' : Complex G) (i : ℕ) → KeepsEarlier tell c'.rig
-      → ((dev : ℕ) → dev ≤ 8 → tell.leaves c'.rig dev (tell.seen c'.rig dev)) → Ran tell start c entries w
-      → Serving tell (Join i) (Some (Refused R.Failed)) c c' → Breaks tell start c'.rig
-  ran-breaks c c' i earlier seen r s =
-      let served = s.0 w.core r.fits in
-      let core = served.0 in
-      let does = served.1 in
-      let either : Image → Type 0 = λ img. StandsOnWay start.world entries w img ⊎ stands_for img core.scene.state in record {
-        entries = entries;
-        last = w;
-        drives = r.drives;
-        inst = i;
-        core = core;
-        turns = does.turns;
-        stand = fits-stand c' core seen does.fits_then;
-        time = elapses-then (tell.moment start.rig) (tell.moment c.rig) (tell.moment c'.rig) (tell.since start.rig) (tell.since c.rig) (tell.since c'.rig)
-            earlier r.runs.time does.passes.time;
-        moments = span-then (tell.moment start.rig) (tell.moment c.rig) (tell.moment c'.rig) (tell.since c.rig) (tell.since c'.rig) either
-            r.runs.time.later does.passes.time
-            (span-weaker (tell.moment start.rig) (tell.since c.rig) (StandsOnWay start.world entries w) either (λ img s. inl s) r.runs.moments)
-            (span-weaker (tell.moment c.rig) (tell.since c'.rig) (λ img. stands_for img w.core.scene.state ⊎ stands_for img core.scene.state) either
-            (λ img s. ⊎_elim (λ s. inl (way-ends start.world w entries img r.drives s)) (λ s. inr s) s) does.passes.span);
-        faults = rises-later entries (tell.faults start.rig) (tell.faults c.rig) (tell.faults c'.rig) r.runs.faults s.1;
-      }
+  -- A device that failed ends the opening.
+  pub ran-breaks : (body : Body G) → ((dev : ℕ) → dev ≤ 8 → tell.leaves (rig_of body) dev (tell.seen (rig_of body) dev))
+      → Ran tell start body entries w → w.told.failed ≡ true → Rises (tell.faults start.rig) (tell.faults (rig_of body))
+      → Breaks tell start (rig_of body)
+  ran-breaks body seen r failed rises =
+      record { entries = entries; last = w; led = ran-led body seen r; failed = failed; faults = rises }
 
 -- ---- faults
 

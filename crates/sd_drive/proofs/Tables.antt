@@ -14,15 +14,17 @@ use Rattle.sd_script.specs.Order.{begun_by}
 use Rattle.sd_world.specs.Serving.{Telling}
 use Rattle.sd_drive.specs.declared.driver.Driver.{Driver}
 use Rattle.sd_drive.specs.Driven.{IsIn}
-use Rattle.sd_state.specs.Complexes.{parts}
-use Rattle.sd_state.specs.Parts.{IsShape, Parts, status_at}
-use Rattle.sd_drive.specs.Driving.{first_from, lister_by, Cursor, Known, Work, World, ahead, begins, cursor_in, goes_on, is_up, lister, start_of, stays, works_of}
-use Rattle.sd_drive.specs.Lines.{Names, lists, named_by}
+use Rattle.sd_base.specs.declared.place.Status.{Status}
+use Rattle.sd_hall.specs.Bodies.{fits_in}
+use Rattle.sd_world.specs.Serving.{Core}
+use Rattle.sd_drive.specs.Bodies.{status_in}
+use Rattle.sd_drive.specs.Driving.{first_from, lister_by, Cursor, Known, Work, World, begins, cursor_in, goes_on, is_up, lister, start_of, stays, works_of}
+use Rattle.sd_drive.specs.Lines.{Names, named_by, way_of}
 use Rattle.sd_drive.specs.Operating.{Came, DueIn, IsDueFor, Operates, OperatesSome}
 use Rattle.sd_drive.specs.Pulls.{Pull}
 use Rattle.sd_drive.specs.Reaching.{AreDriven, AtLine, DrivesLine, DrivesSome, IsSame, KnowsAll, ListsNext, Reached, is_rows}
-use Rattle.sd_drive.proofs.Lines.{came-ended, goes-there, knows-more}
-use Rattle.sd_drive.proofs.Naming.{drop-at}
+use Rattle.sd_drive.proofs.Bodies.{fits-now, status-is}
+use Rattle.sd_drive.proofs.Lines.{came-ended, first-here as begins-first, goes-there, knows-more}
 use Rattle.sd_drive.specs.Running.{Start}
 
 -- ---- who lists
@@ -48,10 +50,10 @@ pub first-none : (f : ℕ → Bool) (i n : ℕ) → n ≡ 0 → first_from f i n
 first-none f i n is = ap (first_from f i) is
 
 -- the instances stand as the world says, so the one that the code finds lists
-lister-same : (c : Parts) (m : State) (insts : ℕ) → insts ≤ 8 → ((j : ℕ) → 1 ≤ j → j ≤ 8 → status_at c j ≡ (m.inst j).status)
-    → lister_by (status_at c) insts ≡ lister m insts
-lister-same c m insts most same = ap (λ (o : Option ℕ). unwrap_or o 1)
-    (first-same (λ j. is_up (status_at c j)) (λ j. is_up (m.inst j).status) 1 insts
+lister-same : (status : ℕ → Status) (m : State) (insts : ℕ) → insts ≤ 8 → ((j : ℕ) → 1 ≤ j → j ≤ 8 → status j ≡ (m.inst j).status)
+    → lister_by status insts ≡ lister m insts
+lister-same status m insts most same = ap (λ (o : Option ℕ). unwrap_or o 1)
+    (first-same (λ j. is_up (status j)) (λ j. is_up (m.inst j).status) 1 insts
     (λ j low lt. ap is_up (same j low (omega (arith, lt, most)))))
 
 -- ---- how a list goes on
@@ -84,13 +86,13 @@ module _ {G : Type 0} (tell : Telling G) (start : Start G) (lines : List Line) (
   Lists-next new p = (w' : World) × IsIn tell start new.hall w' × IsDueFor line.session line.number (event.List i p) known line rest (Cursor.Lists i p) w'
 
   starts-so : (m : State) → start_of m known (Work.Do line) ≡ Some (Cursor.Lists (lister m known.insts) 0)
-  starts-so m = ap (λ (f : Form). begins (lists f) m known f) is
+  starts-so m = ap (λ (f : Form). begins (way_of f) m known f) is
 
   -- who was found by how the instances stand is the one that lists
-  pub finds-lister : old.insts ≤ 8 → i ≡ lister_by (status_at (parts old.hall.complex)) old.insts → i ≡ lister w.core.scene.state known.insts
+  pub finds-lister : old.insts ≤ 8 → i ≡ lister_by (status_in old.hall.body) old.insts → i ≡ lister w.core.scene.state known.insts
   finds-lister most found =
       let m = w.core.scene.state in
-      found ∙ lister-same (parts old.hall.complex) m old.insts most (λ j low high. (r.there.ran.fits.good.instances j low high).status)
+      found ∙ lister-same (status_in old.hall.body) m old.insts most (status-is tell old.hall.body w.core (fits-now tell start old.hall w r.there))
       ∙ ap (lister m) (sym r.knows.insts)
 
   has-one : (m : State) → is_some (start_of m known (Work.Do line)) ≡ true
@@ -104,12 +106,11 @@ module _ {G : Type 0} (tell : Telling G) (start : Start G) (lines : List Line) (
       record {
         stands = record {
           known_is = refl;
-          first = r.left m ∙ ap (λ (ls : List Line). ahead m known (works_of ls)) (drop-at lines n line at)
-              ∙ ap (λ (b : Bool). cond {A = List Work} b (Work.Do line ∷ rest) (ahead m known rest)) (has-one m);
+          first = begins-first tell start lines n line at old w r (has-one m);
           at = subst (λ (o : Option Cursor). cursor_in m known (Work.Do line) o ≡ Some (Cursor.Lists i 0)) (sym r.rests) starts;
           idle = r.idle;
-          begins = has-one;
           event = refl;
+          unfailed = r.unfailed;
         };
         session_is = refl;
         number_is = refl;
@@ -135,12 +136,11 @@ module _ {G : Type 0} (tell : Telling G) (start : Start G) (lines : List Line) (
           record {
             stands = record {
               known_is = due.stands.known_is;
-              first = ap (λ (b : Bool). cond {A = List Work} b (Work.Do line ∷ rest) (ahead m w1.told.known rest))
-                  (ap (λ (k : Known). is_some (start_of m k (Work.Do line))) due.stands.known_is ∙ due.stands.begins m);
+              first = refl;
               at = refl;
               idle = refl;
-              begins = due.stands.begins;
               event = refl;
+              unfailed = due.stands.unfailed;
             };
             session_is = refl;
             number_is = refl;
@@ -148,7 +148,7 @@ module _ {G : Type 0} (tell : Telling G) (start : Start G) (lines : List Line) (
         )
 
     ended : next ≡ None → IsSame old new → new.txns ≡ old.txns → (w' : World) × Reached tell start lines (n + 1) new w'
-    ended stops same txns = came-ended tell start lines n line new (event.List i p) (Cursor.Lists i p) w1 came stops (table-names line.form is)
+    ended stops same txns = came-ended tell start lines n line new (event.List i p) (Cursor.Lists i p) w1 came stops (table-names line.form is) due.stands.unfailed
         (subst (KnowsAll lines (n + 1) new) (sym due.stands.known_is)
         (knows-more tell start lines n line at old w r new (ap begun_by is) same txns))
 
@@ -169,16 +169,16 @@ module _ {G : Type 0} (tell : Telling G) (old : Driver G) (line : Line) (is : li
   abbrev InTable : Driver G → ℕ → Type 0
   InTable new p = ListsNext tell old new line i p
 
-  pub table-first : i ≡ lister_by (status_at (parts old.hall.complex)) old.insts → InTable old 0
+  pub table-first : i ≡ lister_by (status_in old.hall.body) old.insts → InTable old 0
   table-first found start w lines n at d r = (
     w,
     r.there,
     first-page tell start lines n line at is old w r i (finds-lister tell start lines n line at is old w r i d.insts_most found),
   )
 
-  -- the complex has its shape when it is asked who is up
-  pub table-shape : AtLine tell old line → IsShape (parts old.hall.complex)
-  table-shape a = a.reached.there.ran.fits.good.shape
+  -- the complex fits a core when it is asked who is up
+  pub table-fits : AtLine tell old line → (w : Core) × fits_in tell.seen tell.leaves old.hall.body w
+  table-fits a = (a.world.core, fits-now tell a.start old.hall a.world a.reached.there)
 
   module _ (here : Driver G) (p : ℕ) (on : InTable here p) where
     pub table-due : AtLine tell old line → DueIn tell here.hall line.session line.number (event.List i p)

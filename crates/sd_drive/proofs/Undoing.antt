@@ -1,5 +1,5 @@
 -- A rollback goes on by one undo after another. It serves the goals of `undo_all` and `undo` in driver.rt.
-use Rattle.std.proofs.Common.{◌≡◌, ℕ, ◌+◌, ◌<◌, ◌≤◌, Bool, true, false, cond, List, [], ◌∷◌, ◌++◌, length, drop, refl, ap, subst, arith}
+use Rattle.std.proofs.Common.{◌≡◌, ℕ, ◌+◌, ◌<◌, ◌≤◌, Bool, true, false, List, [], ◌∷◌, ◌++◌, length, drop, refl, ap, subst, arith}
 use Rattle.std.specs.Prelude.{None, Some}
 use Rattle.sd_base.specs.declared.ids.TxnId.{TxnId}
 use Rattle.sd_model.specs.declared.act.Act.{Act}
@@ -11,10 +11,9 @@ use Rattle.sd_model.specs.Acts.{live}
 use Rattle.sd_model.specs.State.{State}
 use Rattle.sd_model.specs.Step.{Step}
 use Rattle.sd_script.specs.declared.line.Line.{Line}
-use Rattle.sd_state.specs.Complexes.{parts}
 use Rattle.sd_world.specs.Serving.{Telling}
 use Rattle.sd_drive.specs.declared.driver.Driver.{Driver}
-use Rattle.sd_drive.specs.Driving.{Cursor, Known, Work, World, ahead, goes_on, stays, works_of}
+use Rattle.sd_drive.specs.Driving.{Cursor, Known, Work, World, goes_on, stays, works_of}
 use Rattle.sd_drive.specs.Lines.{rolls_back}
 use Rattle.sd_drive.specs.Operating.{Came, DueIn, Operates, OperatesSome}
 use Rattle.sd_drive.specs.Pulls.{Pull}
@@ -23,7 +22,7 @@ use Rattle.sd_drive.specs.Running.{Start}
 use Rattle.sd_drive.proofs.Acts.{undo-stepped}
 use Rattle.sd_drive.proofs.Backs.{rolls-names, undo-rolls}
 use Rattle.sd_drive.proofs.Lines.{came-ended, goes-there, knows-as}
-use Rattle.sd_drive.proofs.Tops.{depth-live}
+use Rattle.sd_drive.proofs.Bodies.{depth-is, fits-now}
 
 step-is : (r : Reply) → is_step r ≡ true → r ≡ reply.Step
 step-is reply.Step step = refl
@@ -76,7 +75,7 @@ module _ {G : Type 0} (tell : Telling G) (old : Driver G) (line : Line) (t : Txn
         -- it was the last one
         ended : is_step it-came.reply ≡ false → (w' : World) × Reached tell start lines (n + 1) new w'
         ended step = came-ended tell start lines n line new (event.Undo t) Cursor.Undoes w it-came
-            (undo-ends it-came.core.scene.state w.told.known line it-came.reply step) (rolls-names line.form is-rolling) knows
+            (undo-ends it-came.core.scene.state w.told.known line it-came.reply step) (rolls-names line.form is-rolling) r.undoes.stands.unfailed knows
 
         stepped : is_step it-came.reply ≡ true → GoesBack it-came.mid.scene.state t × GoesBack it-came.core.scene.state t
             × (length (live (it-came.core.scene.state.part t).acts) + 1 ≡ length (live (it-came.mid.scene.state.part t).acts))
@@ -87,8 +86,7 @@ module _ {G : Type 0} (tell : Telling G) (old : Driver G) (line : Line) (t : Txn
         -- or another one is to come
         on : is_step it-came.reply ≡ true → (w' : World) × RollsBack tell start lines n line new t w'
         on step =
-            let m = it-came.core.scene.state in
-            let begins = r.undoes.stands.begins in (
+            let m = it-came.core.scene.state in (
               record { told = stays w.told (Work.Do line) rest Cursor.Undoes Pull.Idle; core = it-came.core },
               record {
                 there = goes-there tell start lines n line new (event.Undo t) Cursor.Undoes w it-came (Some Cursor.Undoes)
@@ -96,11 +94,11 @@ module _ {G : Type 0} (tell : Telling G) (old : Driver G) (line : Line) (t : Txn
                 undoes = record {
                   stands = record {
                     known_is = refl;
-                    first = ap (λ (b : Bool). cond {A = List Work} b (Work.Do line ∷ rest) (ahead m w.told.known rest)) (begins m);
+                    first = refl;
                     at = refl;
                     idle = refl;
-                    begins = begins;
                     event = r.undoes.stands.event;
+                    unfailed = r.undoes.stands.unfailed;
                   };
                   session_is = refl;
                   number_is = refl;
@@ -114,10 +112,8 @@ module _ {G : Type 0} (tell : Telling G) (old : Driver G) (line : Line) (t : Txn
         shorter : 1 ≤ t.inst → t.inst ≤ 8 → is_step it-came.reply ≡ true → open_records new t < open_records old t
         shorter low high step =
             let h = stepped step in
-            let was = depth-live (tell.seen old.hall.complex.rig) (tell.leaves old.hall.complex.rig) (parts old.hall.complex) w.core r.there.ran.fits
-            t low high r.goes in
-            let now = depth-live (tell.seen new.hall.complex.rig) (tell.leaves new.hall.complex.rig) (parts new.hall.complex) it-came.core
-            it-came.there.ran.fits t low high h.1 in
+            let was = depth-is tell old.hall.body w.core (fits-now tell start old.hall w r.there) t low high r.goes in
+            let now = depth-is tell new.hall.body it-came.core (fits-now tell start new.hall _ it-came.there) t low high h.1 in
             let acts = ap (λ (done : List Act). length (live done)) (it-came.acts t) in
             let less = h.2 in omega (arith, was, now, acts, less)
 

@@ -53,4 +53,4 @@ module _ (seen : Image) (leaves : Outcomes) (c : Parts) (w : Core) (f : Fits see
 
   pub some-held : 1 ≤ i → i ≤ 8 → IsPool (pool_at c i) → IsFull i w → (pool_at c i).held ≡ [] → ⊥
   some-held low high pool full empty = over w.pages.frames (copies_of w.pages.entry i)
-      (subst (λ (n : ℕ). 1 ≤ n) (f.pages.frames i low high) pool.least) full (none-copied empty)
+      (subst (λ (n : ℕ). 1 ≤ n) (f.pages.frames i low high) pool.least) full.1 (none-copied empty)

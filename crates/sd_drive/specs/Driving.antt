@@ -1,5 +1,5 @@
 -- What is told of a script: which work is under way, how far it is, and which event is due after the replies so far.
-use Rattle.std.specs.Prelude.{◌≡◌, ◌⊎◌, ℕ, zero, suc, ◌+◌, Bool, true, false, List, [], ◌∷◌, map, Option, None, Some, cond, is_some, ltb, option_map, unwrap_or}
+use Rattle.std.specs.Prelude.{◌≡◌, ◌⊎◌, ℕ, zero, suc, ◌+◌, ◌-◌, Bool, true, false, List, [], ◌∷◌, map, Option, None, Some, cond, is_some, ltb, not, option_map, unwrap_or}
 use Rattle.sd_base.specs.declared.place.Status.{Status}
 use Rattle.sd_base.specs.declared.place.Status.TheVariants as S
 use Rattle.sd_base.specs.declared.refusal.Refusal.TheVariants as R
@@ -12,21 +12,24 @@ use Rattle.sd_model.specs.State.{State}
 use Rattle.sd_script.specs.declared.line.Form.{Form}
 use Rattle.sd_script.specs.declared.line.Line.{Line}
 use Rattle.sd_world.specs.Serving.{Core, Turns}
-use Rattle.sd_drive.specs.Lines.{Names, event_of, lists, named_by, rolls_back, undo_of}
+use Rattle.sd_drive.specs.Lines.{Names, Way, event_of, named_by, rolls_back, undo_of, way_of}
 use Rattle.sd_drive.specs.Pulls.{Pull, Puller, IsDue, IsPulled, helped, is_pulling, puller}
 
--- what is done: the opening, told as line 0, and then line after line
+-- what is done: the opening, told as line 0, and then line after line. In the opening each instance that is down recovers itself,
+-- and then each instance joins.
 pub data Work : Type 0 where
   Opening : Work
   Do : Line → Work
 
--- where a work stands: its one event, or the first of a rollback; an undo of a rollback; the join of an instance; the list of a page by
--- an instance
+-- where a work stands: its one event, or the first of a rollback; an undo of a rollback; the join of an instance; the list of a
+-- page by an instance; the begin of an instance's recovery by itself; a step of it
 pub data Cursor : Type 0 where
   Once : Cursor
   Undoes : Cursor
   Joins : ℕ → Cursor
   Lists : ℕ → ℕ → Cursor
+  Recovers : ℕ → Cursor
+  Steps : ℕ → Cursor
 
 -- how many instances and pages there are, and the transaction of each name
 pub record Known : Type 0 where
@@ -34,13 +37,14 @@ pub record Known : Type 0 where
   pub pages : ℕ
   pub names : Names
 
--- left: the works that aren't done, the one under way first; cursor: where that one stands once it has begun; pull: the pull of a page
--- for its event
+-- left: the works that aren't done, the one under way first; cursor: where that one stands once it has begun; pull: the pull of a
+-- page for its event; failed: a device failed in the opening, behind which nothing is due
 pub record Progress : Type 0 where
   pub known : Known
   pub left : List Work
   pub cursor : Option Cursor
   pub pull : Pull
+  pub failed : Bool
 
 -- the works of lines
 abbrev pub works_of : List Line → List Work
@@ -53,6 +57,7 @@ untold insts pages lines = record {
   left = Work.Opening ∷ works_of lines;
   cursor = None;
   pull = Pull.Idle;
+  failed = false;
 }
 
 abbrev pub session_of : Work → ℕ
@@ -85,32 +90,78 @@ lister_by status insts = unwrap_or (first_from (λ i. is_up (status i)) 1 insts)
 abbrev pub lister : State → ℕ → ℕ
 lister m insts = lister_by (λ i. (m.inst i).status) insts
 
+abbrev pub is_down : Status → Bool
+is_down S.Up = false
+is_down S.Down = true
+is_down (S.Recovering by) = false
+is_down S.Clean = false
+is_down S.Restarting = false
+is_down S.Closed = false
+
+-- the lowest instance from i on that is down
+abbrev pub next_down : State → ℕ → Option ℕ
+next_down m i = first_from (λ j. is_down (m.inst j).status) i (9 - i)
+
+-- the lowest one from i on, of so many, that isn't up
+abbrev pub next_absent : State → ℕ → ℕ → Option ℕ
+next_absent m insts i = first_from (λ j. not (is_up (m.inst j).status)) i (insts + 1 - i)
+
+-- the recovery of an instance begins, where there is one
+abbrev pub recovers : Option ℕ → Option Cursor
+recovers = option_map (λ (i : ℕ). Cursor.Recovers i)
+
+-- an instance joins, where there is one
+abbrev pub joins : Option ℕ → Option Cursor
+joins = option_map (λ (i : ℕ). Cursor.Joins i)
+
 -- where a line begins
-abbrev pub begins : Bool → State → Known → Form → Option Cursor
-begins true m known line = Some (Cursor.Lists (lister m known.insts) 0)
-begins false m known line = option_map (λ (e : Event). Cursor.Once) (event_of known.names line)
+abbrev pub begins : Way → State → Known → Form → Option Cursor
+begins Way.Single m known line = option_map (λ (e : Event). Cursor.Once) (event_of known.names line)
+begins Way.Listing m known line = Some (Cursor.Lists (lister m known.insts) 0)
+begins Way.Recovering m known line = recovers (next_down m 1)
+begins Way.Joining m known line = joins (next_absent m known.insts 1)
+
+-- The opening lets the instances that are down recover themselves; where none is left, instance 1 joins.
+abbrev pub opens : Option ℕ → Option Cursor
+opens None = Some (Cursor.Joins 1)
+opens (Some i) = Some (Cursor.Recovers i)
 
 -- where a work begins; one without an event begins nowhere
 abbrev pub start_of : State → Known → Work → Option Cursor
-start_of m known Work.Opening = Some (Cursor.Joins 1)
-start_of m known (Work.Do line) = begins (lists line.form) m known line.form
+start_of m known Work.Opening = opens (next_down m 1)
+start_of m known (Work.Do line) = begins (way_of line.form) m known line.form
 
 -- the event of a work that stands there
 abbrev pub event_at : Known → Work → Cursor → Option Event
+event_at known work (Cursor.Joins i) = Some (event.Join i)
+event_at known work (Cursor.Lists i p) = Some (event.List i p)
+event_at known work (Cursor.Recovers i) = Some (event.RecoverBegin i i)
+event_at known work (Cursor.Steps i) = Some (event.RecoverStep i)
 event_at known Work.Opening Cursor.Once = None
 event_at known (Work.Do line) Cursor.Once = event_of known.names line.form
 event_at known Work.Opening Cursor.Undoes = None
 event_at known (Work.Do line) Cursor.Undoes = undo_of known.names line.form
-event_at known work (Cursor.Joins i) = Some (event.Join i)
-event_at known work (Cursor.Lists i p) = Some (event.List i p)
 
--- where a work goes on behind the reply; nowhere where it is done. m: the state behind the reply
+-- where a work goes on behind the recovery of i, which came to its end, or was refused. m: the state behind it
+abbrev pub behind : State → Work → ℕ → Bool → Option Cursor
+behind m Work.Opening i ended = opens (next_down m (i + 1))
+behind m (Work.Do line) i true = recovers (next_down m (i + 1))
+behind m (Work.Do line) i false = None
+
+-- where a work goes on behind the reply; nowhere where it is done. In the opening the next instance has its turn behind a refusal;
+-- a line ends at the first one. m: the state behind the reply
 abbrev pub goes_on : State → Known → Work → Cursor → Reply → Option Cursor
+goes_on m known work (Cursor.Recovers i) reply.Did = Some (Cursor.Steps i)
+goes_on m known work (Cursor.Recovers i) r = behind m work i false
+goes_on m known work (Cursor.Steps i) reply.Step = Some (Cursor.Steps i)
+goes_on m known work (Cursor.Steps i) reply.Finished = behind m work i true
+goes_on m known work (Cursor.Steps i) r = behind m work i false
 goes_on m known Work.Opening (Cursor.Joins i) r = cond {A = Option Cursor} (ltb i known.insts) (Some (Cursor.Joins (i + 1))) None
 goes_on m known (Work.Do line) Cursor.Once reply.Did = cond {A = Option Cursor} (rolls_back line.form) (Some Cursor.Undoes) None
 goes_on m known (Work.Do line) Cursor.Undoes reply.Step = Some Cursor.Undoes
 goes_on m known (Work.Do line) (Cursor.Lists i p) (reply.Rows rows) =
     cond {A = Option Cursor} (ltb (p + 1) known.pages) (Some (Cursor.Lists i (p + 1))) None
+goes_on m known (Work.Do line) (Cursor.Joins i) (reply.Joined epoch) = joins (next_absent m known.insts (i + 1))
 goes_on m known work c r = None
 
 abbrev pub named_after : Work → Reply → Names → Names
@@ -121,6 +172,14 @@ named_after (Work.Do line) r names = named_by line.form r names
 abbrev pub ahead : State → Known → List Work → List Work
 ahead m known [] = []
 ahead m known (work ∷ works) = cond {A = List Work} (is_some (start_of m known work)) (work ∷ works) (ahead m known works)
+
+-- what is left: where the first work has begun, it and those behind it
+abbrev pub left_from : State → Known → Option Cursor → List Work → List Work
+left_from m known None works = ahead m known works
+left_from m known (Some c) works = works
+
+abbrev pub due_works : State → Progress → List Work
+due_works m at = left_from m at.known at.cursor at.left
 
 -- ---- what an entry makes of it
 
@@ -141,37 +200,43 @@ abbrev pub followed : Progress → Work → List Work → Reply → Option Curso
 followed at work rest r None = done at work rest r
 followed at work rest r (Some next) = stays at work rest next Pull.Idle
 
--- The work's own event came. Where it needs a page that is pulled for it, and hasn't been in vain, the page is asked for. m, m': the
--- states before and behind it
+-- a device failed in the opening
+abbrev pub fails : Work → Reply → Bool
+fails Work.Opening (reply.Refused R.Failed) = true
+fails work r = false
+
+abbrev pub marked : Work → Reply → Progress → Progress
+marked Work.Opening r then = record then { failed = fails Work.Opening r }
+marked (Work.Do line) r then = then
+
+-- The work's own event came. Where it needs a page that is pulled for it, and hasn't been in vain, the page is asked for. m, m':
+-- the states before and behind it
 abbrev pub Own : State → State → Progress → Work → List Work → Cursor → Event → Reply → Progress → Type 0
 Own m m' at work rest c e (reply.Refused (R.NeedPage place)) then =
     ((at.pull ≡ Pull.Idle) × (is_some (puller m e) ≡ true) × ((p : ℕ) × IsPulled m e p × (then ≡ stays at work rest c (Pull.Asks p))))
-    ⊎ (((at.pull ≡ Pull.Ends) ⊎ (is_some (puller m e) ≡ false)) × (then ≡ done at work rest (reply.Refused (R.NeedPage place))))
-Own m m' at work rest c e r then = then ≡ followed at work rest r (goes_on m' at.known work c r)
+    ⊎ (((at.pull ≡ Pull.Ends) ⊎ (is_some (puller m e) ≡ false))
+    × (then ≡ marked work (reply.Refused (R.NeedPage place))
+    (followed at work rest (reply.Refused (R.NeedPage place)) (goes_on m' at.known work c (reply.Refused (R.NeedPage place))))))
+Own m m' at work rest c e r then = then ≡ marked work r (followed at work rest r (goes_on m' at.known work c r))
 
 -- a helping event came, for whom the page is pulled
 abbrev pub Helps : Core → Progress → Work → List Work → Cursor → Option Puller → Entry → Progress → Type 0
 Helps w at work rest c None entry then = ⊥
 Helps w at work rest c (Some for) entry then =
     (entry.session ≡ 0) × (entry.line ≡ 0) × IsDue w.pages for at.pull entry.event
-    × (then ≡ stays at work rest c (helped at.pull entry.event entry.reply))
+    × (then ≡ marked work entry.reply (stays at work rest c (helped at.pull entry.event entry.reply)))
 
 -- for whom the page of the event that is due is pulled
 abbrev pub puller_of : State → Option Event → Option Puller
 puller_of m None = None
 puller_of m (Some e) = puller m e
 
--- no device fails in an opening that is told
-abbrev pub IsBorne : Work → Reply → Type 0
-IsBorne Work.Opening (reply.Refused R.Failed) = ⊥
-IsBorne work r = Unit {0}
-
 -- the entry is due where the work stands: a helping one in a pull, else its own, under its session and number
 abbrev pub TellsAt : Bool → Core → Core → Progress → Work → List Work → Cursor → Entry → Progress → Type 0
 TellsAt true w w' at work rest c entry then = Helps w at work rest c (puller_of w.scene.state (event_at at.known work c)) entry then
 TellsAt false w w' at work rest c entry then =
     (entry.session ≡ session_of work) × (entry.line ≡ number_of work) × (event_at at.known work c ≡ Some entry.event)
-    × IsBorne work entry.reply × Own w.scene.state w'.scene.state at work rest c entry.event entry.reply then
+    × Own w.scene.state w'.scene.state at work rest c entry.event entry.reply then
 
 abbrev pub TellsWork : Core → Core → Progress → Work → List Work → Option Cursor → Entry → Progress → Type 0
 TellsWork w w' at work rest None entry then = ⊥
@@ -186,13 +251,13 @@ abbrev pub TellsFirst : Core → Core → Progress → List Work → Entry → P
 TellsFirst w w' at [] entry then = ⊥
 TellsFirst w w' at (work ∷ rest) entry then = TellsWork w w' at work rest (cursor_in w.scene.state at.known work at.cursor) entry then
 
--- between these cores the entry is the next one that is due, and leads there
+-- Between these cores the entry is the next one that is due, and leads there. None is due once a device failed in the opening.
 abbrev pub Tells : Core → Core → Progress → Entry → Progress → Type 0
-Tells w w' at entry then = TellsFirst w w' at (ahead w.scene.state at.known at.left) entry then
+Tells w w' at entry then = (at.failed ≡ false) × TellsFirst w w' at (due_works w.scene.state at) entry then
 
--- every work has its reply
+-- every work has its reply, and no device failed in the opening
 abbrev pub IsTold : State → Progress → Type 0
-IsTold m at = ahead m at.known at.left ≡ []
+IsTold m at = (at.failed ≡ false) × (due_works m at ≡ [])
 
 -- ---- worlds: what is told, and the core
 

@@ -1,4 +1,5 @@
 pub mod Lines
+pub mod Bodies
 pub mod Pulls
 pub mod Driving
 pub mod Measure
@@ -7,3 +8,5 @@ pub mod Running
 pub mod Driven
 pub mod Operating
 pub mod Reaching
+pub mod Recoveries
+pub mod Recovering

@@ -42,6 +42,10 @@ event_of names (form.Force inst) = Some (event.Force inst)
 event_of names (form.Fail inst) = Some (event.Fail inst)
 event_of names (form.Fuse calls) = Some (event.Arm (Trouble.Fuse calls))
 event_of names (form.Fault call) = Some (event.Arm (Trouble.Fault call))
+event_of names (form.FailAll pick) = Some (event.FailAll pick)
+event_of names form.Reopen = Some event.Reopen
+event_of names form.RecoverAll = None
+event_of names form.JoinAll = None
 event_of names (form.Where page) = Some (event.Show page)
 event_of names form.Table = None
 
@@ -57,10 +61,19 @@ rolls_back (form.Back name ordinal mark) = true
 rolls_back (form.Rollback name ordinal) = true
 rolls_back line = false
 
--- the line lists all pages, one after another
-abbrev pub lists : Form → Bool
-lists form.Table = true
-lists line = false
+-- how a line goes on: it has one event, or the undos of a rollback behind it; it lists all pages; it recovers the instances that are
+-- down; it joins those that aren't up
+pub data Way : Type 0 where
+  Single : Way
+  Listing : Way
+  Recovering : Way
+  Joining : Way
+
+abbrev pub way_of : Form → Way
+way_of form.Table = Way.Listing
+way_of form.RecoverAll = Way.Recovering
+way_of form.JoinAll = Way.Joining
+way_of line = Way.Single
 
 -- the names after a line's reply
 abbrev pub named_by : Form → Reply → Names → Names

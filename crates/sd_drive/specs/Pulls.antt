@@ -68,6 +68,15 @@ is_pulling (Pull.Room p at) = true
 is_pulling (Pull.Evicts p at v) = true
 is_pulling Pull.Ends = false
 
+abbrev pub is_vain : Pull → Bool
+is_vain Pull.Idle = false
+is_vain (Pull.Asks p) = false
+is_vain (Pull.Gives p of) = false
+is_vain (Pull.Takes p to) = false
+is_vain (Pull.Room p at) = false
+is_vain (Pull.Evicts p at v) = false
+is_vain Pull.Ends = true
+
 -- the event that makes room of the copy of v
 abbrev pub makes_room : Pages → ℕ → ℕ → Event
 makes_room w at v = cond {A = Event} (changed (w.entry v) && is_duty at (w.entry v)) (event.Flush at v) (event.Evict at v)

@@ -2,7 +2,6 @@
 use Rattle.std.specs.Prelude.{◌≡◌, ◌⊎◌, ℕ, ◌+◌, ◌<◌, ◌≤◌, ◌^◌, Bool, true, false, List, [], ◌∷◌, Option, None, Some, length, take, drop, get_or, slice_get}
 use Rattle.sd_base.specs.declared.ids.TxnId.{TxnId}
 use Rattle.sd_base.specs.declared.place.Status.TheVariants as S
-use Rattle.sd_base.specs.declared.refusal.Refusal.TheVariants as R
 use Rattle.sd_model.specs.Applies.{IsRolling}
 use Rattle.sd_model.specs.State.{State}
 use Rattle.sd_model.specs.declared.event.Event.TheVariants as event
@@ -13,13 +12,11 @@ use Rattle.sd_script.specs.declared.line.Form.TheVariants as form
 use Rattle.sd_script.specs.declared.line.Line.{Line}
 use Rattle.sd_script.specs.Forms.{IsForm}
 use Rattle.sd_script.specs.Order.{Follows, begun, insts_of, ordinal_of, pages_of}
-use Rattle.sd_txn.specs.Transactions.{depth_at}
 use Rattle.sd_world.specs.Serving.{Core, Telling}
-use Rattle.sd_state.specs.Complexes.{parts}
-use Rattle.sd_state.specs.Parts.{txns_at}
+use Rattle.sd_drive.specs.Bodies.{depth_in}
 use Rattle.sd_drive.specs.declared.driver.Driver.{Driver}
 use Rattle.sd_drive.specs.Driven.{IsIn}
-use Rattle.sd_drive.specs.Driving.{Cursor, Known, Work, World, ahead, cursor_in, untold, works_of}
+use Rattle.sd_drive.specs.Driving.{Cursor, Known, Work, World, ahead, cursor_in, next_absent, untold, works_of}
 use Rattle.sd_drive.specs.Operating.{IsDueFor}
 use Rattle.sd_drive.specs.Lines.{Names}
 use Rattle.sd_drive.specs.Pulls.{Pull}
@@ -66,6 +63,8 @@ Knows txns names f = (o : ℕ) → ordinal_in f ≡ Some o → get_or txns o Non
 -- the line has one event at most, and begins no transaction
 abbrev pub IsPlain : Form → Type 0
 IsPlain (form.Begin inst name) = ⊥
+IsPlain form.RecoverAll = ⊥
+IsPlain form.JoinAll = ⊥
 IsPlain form.Table = ⊥
 IsPlain (form.Back name o mark) = ⊥
 IsPlain (form.Rollback name o) = ⊥
@@ -84,17 +83,18 @@ abbrev pub is_step : Reply → Bool
 is_step reply.Step = true
 is_step r = false
 
-abbrev pub is_failed : Reply → Bool
-is_failed (reply.Refused R.Failed) = true
-is_failed r = false
+abbrev pub is_joined : Reply → Bool
+is_joined (reply.Joined epoch) = true
+is_joined r = false
 
 -- before the first entry
 abbrev pub before : ℕ → ℕ → List Line → Core → World
 before insts pages lines core = record { told = untold insts pages lines; core = core }
 
 -- where a driver begins
-abbrev pub begin_of : {G : Type 0} → Driver G → List Line → Core → Start G
-begin_of driver lines core = record { world = before driver.insts driver.pages lines core; rig = driver.hall.complex.rig }
+abbrev pub begin_of : {G : Type 0} → Driver G → List Line → Core → G → Start G
+begin_of driver lines core rig =
+    record { world = before driver.insts driver.pages lines core; rig = rig; table = driver.hall.book.opening }
 
 -- a value's length has two bytes
 abbrev pub IsShort : Form → Type 0
@@ -124,12 +124,14 @@ pub record KnowsAll {G : Type 0} (lines : List Line) (n : ℕ) (driver : Driver 
   pub names : (q : List ℕ) → named (begun (take n lines)) driver.txns.items q ≡ known.names q
   pub count : length driver.txns.items ≡ length (begun (take n lines))
 
--- The first n lines have their replies: the hall is in this world, in which the others are to come, and the driver knows what is told.
+-- The first n lines have their replies: the hall is in this world, in which the others are to come, and the driver knows what is
+-- told.
 pub record Reached {G : Type 0} (tell : Telling G) (start : Start G) (lines : List Line) (n : ℕ) (driver : Driver G) (w : World) : Type 0 where
   pub there : IsIn tell start driver.hall w
   pub rests : w.told.cursor ≡ None
   pub idle : w.told.pull ≡ Pull.Idle
-  pub left : (m : State) → ahead m w.told.known w.told.left ≡ ahead m w.told.known (works_of (drop n lines))
+  pub unfailed : w.told.failed ≡ false
+  pub left : ahead w.core.scene.state w.told.known w.told.left ≡ ahead w.core.scene.state w.told.known (works_of (drop n lines))
   pub knows : KnowsAll lines n driver w.told.known
 
 -- ---- the opening
@@ -139,8 +141,9 @@ pub record JoinsNext {G : Type 0} (tell : Telling G) (start : Start G) (lines : 
   pub there : IsIn tell start driver.hall w
   pub known : w.told.known ≡ (untold driver.insts driver.pages lines).known
   pub left : w.told.left ≡ Work.Opening ∷ works_of lines
-  pub at : (m : State) → cursor_in m w.told.known Work.Opening w.told.cursor ≡ Some (Cursor.Joins i)
+  pub at : cursor_in w.core.scene.state w.told.known Work.Opening w.told.cursor ≡ Some (Cursor.Joins i)
   pub idle : w.told.pull ≡ Pull.Idle
+  pub unfailed : w.told.failed ≡ false
   pub none : driver.txns.items ≡ []
   pub most : i ≤ driver.insts
 
@@ -156,10 +159,25 @@ abbrev pub HaveJoined : {G : Type 0} → Telling G → Start G → List Line →
 HaveJoined tell start lines driver i w =
     JoinsNext tell start lines driver i w ⊎ ((driver.insts < i) × Reached tell start lines 0 driver w)
 
+-- from the join of instance i on, as much came as there was memory for
+abbrev pub OpensSome : {G : Type 0} → Telling G → Driver G → Driver G → ℕ → Type 0
+OpensSome {G} tell old new i = (start : Start G) (w : World) (lines : List Line) → JoinsNext tell start lines old i w
+    → (w' : World) × IsIn tell start new.hall w'
+
+-- from there on all joined, and the lines are to come
+abbrev pub JoinsAll : {G : Type 0} → Telling G → Driver G → Driver G → ℕ → Type 0
+JoinsAll {G} tell old new i = (start : Start G) (w : World) (lines : List Line) → JoinsNext tell start lines old i w
+    → (w' : World) × Reached tell start lines 0 new w'
+
 -- instance i joined
 abbrev pub Joins : {G : Type 0} → Telling G → Driver G → Driver G → ℕ → Type 0
 Joins {G} tell old new i = (start : Start G) (w : World) (lines : List Line) → JoinsNext tell start lines old i w
     → (w' : World) × HaveJoined tell start lines new (i + 1) w'
+
+-- a device failed in a join from that of instance i on
+abbrev pub JoinBreaks : {G : Type 0} → Telling G → Driver G → Driver G → ℕ → Type 0
+JoinBreaks {G} tell old new i = (start : Start G) (w : World) (lines : List Line) → JoinsNext tell start lines old i w
+    → (w' : World) × IsIn tell start new.hall w' × (w'.told.failed ≡ true)
 
 -- how many instances and pages there are is as before
 abbrev pub IsSame : {G : Type 0} → Driver G → Driver G → Type 0
@@ -196,6 +214,43 @@ ListsNext {G} tell old new line i p =
     → Reached tell start lines n old w → (w' : World) × IsIn tell start new.hall w'
     × IsDueFor line.session line.number (event.List i p) w.told.known line (works_of (drop (n + 1) lines)) (Cursor.Lists i p) w'
 
+-- the n-th line joins instance j next
+pub record WaitsToJoin {G : Type 0} (tell : Telling G) (start : Start G) (lines : List Line) (n : ℕ) (line : Line) (driver : Driver G) (j : ℕ)
+    (w : World) : Type 0 where
+  pub there : IsIn tell start driver.hall w
+  pub due : IsDueFor line.session line.number (event.Join j) w.told.known line (works_of (drop (n + 1) lines)) (Cursor.Joins j) w
+  pub knows : KnowsAll lines (n + 1) driver w.told.known
+
+-- Of the instances from i on, the lowest that isn't up joins next; where all are up, the line is done.
+abbrev pub JoinsOn : {G : Type 0} → Telling G → Start G → List Line → ℕ → Line → Driver G → ℕ → World → Type 0
+JoinsOn tell start lines n line driver i w =
+    ((j : ℕ) × (next_absent w.core.scene.state w.told.known.insts i ≡ Some j) × WaitsToJoin tell start lines n line driver j w)
+    ⊎ ((next_absent w.core.scene.state w.told.known.insts i ≡ None) × Reached tell start lines (n + 1) driver w)
+
+-- in some script the line joins those from i on
+pub record IsJoining {G : Type 0} (tell : Telling G) (driver : Driver G) (line : Line) (i : ℕ) : Type 0 where
+  pub start : Start G
+  pub world : World
+  pub lines : List Line
+  pub n : ℕ
+  pub next : slice_get lines n ≡ Some line
+  pub joins : JoinsOn tell start lines n line driver i world
+
+-- Instance i was looked at, and joined where it wasn't up: the line goes on, or is done.
+abbrev pub JoinsNow : {G : Type 0} → Telling G → Driver G → Driver G → Line → ℕ → Bool → Type 0
+JoinsNow {G} tell old new line i true =
+    (start : Start G) (w : World) (lines : List Line) (n : ℕ) → slice_get lines n ≡ Some line → JoinsOn tell start lines n line old i w
+    → (w' : World) × JoinsOn tell start lines n line new (i + 1) w'
+JoinsNow {G} tell old new line i false =
+    (start : Start G) (w : World) (lines : List Line) (n : ℕ) → slice_get lines n ≡ Some line → JoinsOn tell start lines n line old i w
+    → (w' : World) × Reached tell start lines (n + 1) new w'
+
+-- as much of it as there was memory for
+abbrev pub JoinsSome : {G : Type 0} → Telling G → Driver G → Driver G → Line → ℕ → Type 0
+JoinsSome {G} tell old new line i =
+    (start : Start G) (w : World) (lines : List Line) (n : ℕ) → slice_get lines n ≡ Some line → JoinsOn tell start lines n line old i w
+    → (w' : World) × IsIn tell start new.hall w'
+
 -- the transaction rolls back, at an instance that is up
 pub record GoesBack (m : State) (t : TxnId) : Type 0 where
   pub rolls : IsRolling (m.part t).life
@@ -225,7 +280,7 @@ UndoesAll {G} tell old new line t =
 
 -- how many of the transaction's records are open
 abbrev pub open_records : {G : Type 0} → Driver G → TxnId → ℕ
-open_records driver t = depth_at (txns_at (parts driver.hall.complex) t.inst) t
+open_records driver t = depth_in driver.hall.body t
 
 -- An undo came. Where more is to be undone the line still rolls back, and fewer records are open; else it is done.
 abbrev pub Undoes : {G : Type 0} → Telling G → Driver G → Driver G → Line → TxnId → Bool → Type 0

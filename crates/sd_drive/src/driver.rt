@@ -1,28 +1,30 @@
 //! The lines of a script, one after another, on a hall.
 
-ghost use Rattle.std.specs.Prelude.{◌≡◌, ◌<◌, ◌≤◌, ◌⊎◌, ℕ, true, List, [], IfErr, IfOk, IsErrAnd, OnErr, OnOk, Some, length};
+ghost use Rattle.std.specs.Prelude.{◌≡◌, ◌+◌, ◌<◌, ◌≤◌, ◌⊎◌, ℕ, true, List, [], IfErr, IfOk, IsErrAnd, OnErr, OnOk, Some, length};
 ghost use Rattle.sd_base.specs.declared.refusal.Refusal.TheVariants as R;
 ghost use Rattle.sd_base.specs.Streams.{Rises};
 ghost use Rattle.sd_world.specs.Serving.{Core, telling};
 ghost use Rattle.sd_hall.specs.Keeping.{Keeps};
 ghost use Rattle.sd_script.specs.declared.line.Line.{Line};
-ghost use Rattle.sd_state.specs.Complexes.{parts};
-ghost use Rattle.sd_state.specs.Parts.{IsShape, status_at};
-ghost use Rattle.sd_drive.specs.Driven.{BreaksIn, IsIn, StaysIn, is_did};
+ghost use Rattle.sd_hall.specs.Bodies.{IsRigIn, fits_in};
+ghost use Rattle.sd_drive.specs.Bodies.{status_in};
+ghost use Rattle.sd_drive.specs.Driven.{IsIn, StaysIn, is_did};
 ghost use Rattle.sd_drive.specs.Running.{Breaks, Start};
-ghost use Rattle.sd_drive.specs.Driving.{World, IsTold, is_up, lister_by};
+ghost use Rattle.sd_drive.specs.Driving.{World, IsTold, is_down, is_up, lister_by};
 ghost use Rattle.sd_script.specs.declared.line.Form.TheVariants as form;
 ghost use Rattle.sd_drive.specs.Lines.{Names, event_of, rolls_back};
-ghost use Rattle.sd_drive.specs.Reaching.{AreDriven, AtLine, DrivesLine, DrivesSome, IsOpening, IsPlain, IsRolledBack, IsSame, IsShort, Joins, Knows, Reached, Undoes, UndoesAll, UndoesSome, at_ordinal, began_by, begin_of, is_failed, is_rows, is_step, ordinal_in};
+ghost use Rattle.sd_drive.specs.Recovering.{IsRecovering, IsRestarting, RecoversNow, RecoversSome, RestartBreaks, Restarts, RestartsSome};
+ghost use Rattle.sd_drive.specs.Reaching.{AreDriven, AtLine, DrivesLine, DrivesSome, IsJoining, IsOpening, IsPlain, IsRolledBack, IsSame, IsShort, JoinBreaks, Joins, JoinsAll, JoinsNow, JoinsSome, Knows, OpensSome, Reached, Undoes, UndoesAll, UndoesSome, at_ordinal, began_by, begin_of, is_joined, is_rows, is_step, ordinal_in};
 
 use crate::forms::{event_by, lone_event, ordinal};
 use crate::operate::operate;
+use crate::recovery::{Outcome, Owner, recover};
+use crate::replies::{began, is_did, is_failed, is_joined, is_rows, is_step};
 use sd_base::{InstNo, Memory, PageNo, Refusal, Status, TxnId};
 use sd_hall::Hall;
-use sd_model::{Book, Event, Reply};
+use sd_model::{Book, Event};
 use sd_rig::Rig;
 use sd_script::{Form, Line};
-use sd_state::Complex;
 use std::alloc::Global;
 
 /// A hall, how many instances and pages its scripts have, and the transaction of each begin line so far: none where the begin was
@@ -60,35 +62,102 @@ impl<G: Rig> Driver<G> {
 
     /// The book of what happened, and the rig, when no more is to be driven.
     pub fn close(self) -> (Book, G)
+        requires kept { (start : Core) × Keeps (telling G.seen G.leaves G.moment G.since G.faults) start self.hall }
         ensures book { result.0 ≡ self.hall.book }
-        ensures rig { result.1 ≡ self.hall.complex.rig }
+        ensures rig { IsRigIn result.1 self.hall.body }
     {
         self.hall.close()
     }
 
-    /// The instances join one after another; the entries have session 0 and line 0. A join that is refused for want of room or numbers is
-    /// noted, and the lines of its instance will be refused as Down.
+    /// Each instance that is down recovers itself, in rising order, with the pulls of the pages that this needs; then the
+    /// instances join, one after another. The entries have session 0 and line 0. A recovery or a join that is refused is noted,
+    /// as one for want of room or numbers, and the lines of its instance will be refused as Down.
     ///
-    /// `Failed` comes where a device failed: that join is noted, the others are not made, and nothing is to be driven. After `Memory`
-    /// those that joined before are noted.
+    /// `Failed` comes where a device failed: that event is noted, no other is made, and nothing is to be driven. After `Memory`
+    /// what happened so far is noted, each entry the one that was due.
     pub fn opening(&mut self) -> Result<(), Refusal>
         requires kept { (start : Core) × Keeps (telling G.seen G.leaves G.moment G.since G.faults) start self.old.hall }
         requires empty { self.old.hall.book.entries ≡ [] }
-        requires blank { self.old.hall.book.opening ≡ [] }
         requires none { self.old.txns.items ≡ [] }
         requires some { 1 ≤ self.old.insts }
         requires most { self.old.insts ≤ 8 }
-        ensures opened { OnOk result ((start : Core) (lines : List Line) → Keeps (telling G.seen G.leaves G.moment G.since G.faults) start self.old.hall
-            → (w : World) × Reached (telling G.seen G.leaves G.moment G.since G.faults) (begin_of self.old lines start) lines 0 self.new w) }
+        ensures opened { OnOk result ((start : Core) (lines : List Line) (rig : G) → IsRigIn rig self.old.hall.body
+            → Keeps (telling G.seen G.leaves G.moment G.since G.faults) start self.old.hall
+            → (w : World) × Reached (telling G.seen G.leaves G.moment G.since G.faults) (begin_of self.old lines start rig) lines 0 self.new w) }
         ensures errors { IfErr result (λ n. (n ≡ R.Memory) ⊎ (n ≡ R.Failed)) }
-        ensures memory { IsErrAnd result (λ n. n ≡ R.Memory) → (start : Core) (lines : List Line)
+        ensures memory { IsErrAnd result (λ n. n ≡ R.Memory) → (start : Core) (lines : List Line) (rig : G)
+            → IsRigIn rig self.old.hall.body
             → Keeps (telling G.seen G.leaves G.moment G.since G.faults) start self.old.hall
-            → (w : World) × IsIn (telling G.seen G.leaves G.moment G.since G.faults) (begin_of self.old lines start) self.new.hall w }
-        ensures breaks { IsErrAnd result (λ n. n ≡ R.Failed) → (start : Core) (lines : List Line)
-            → Keeps (telling G.seen G.leaves G.moment G.since G.faults) start self.old.hall
-            → Breaks (telling G.seen G.leaves G.moment G.since G.faults) (begin_of self.old lines start) self.new.hall.complex.rig }
+            → (w : World) × IsIn (telling G.seen G.leaves G.moment G.since G.faults) (begin_of self.old lines start rig) self.new.hall w }
+        ensures breaks { IsErrAnd result (λ n. n ≡ R.Failed) → (start : Core) (lines : List Line) (rig : G)
+            → IsRigIn rig self.old.hall.body
+            → Keeps (telling G.seen G.leaves G.moment G.since G.faults) start self.old.hall → (left : G) → IsRigIn left self.new.hall.body
+            → Breaks (telling G.seen G.leaves G.moment G.since G.faults) (begin_of self.old lines start rig) left }
+        ensures kept { (start : Core) → Keeps (telling G.seen G.leaves G.moment G.since G.faults) start self.old.hall
+            → Keeps (telling G.seen G.leaves G.moment G.since G.faults) start self.new.hall }
         ensures insts { self.new.insts ≡ self.old.insts }
         ensures pages { self.new.pages ≡ self.old.pages }
+    {
+        self.restart_all()?;
+        self.join_each()
+    }
+
+    // Each instance that is down recovers itself, in rising order.
+    fn restart_all(&mut self) -> Result<(), Refusal>
+        requires at { IsRestarting (telling G.seen G.leaves G.moment G.since G.faults) self.old 1 }
+        ensures restarted { OnOk result (Restarts (telling G.seen G.leaves G.moment G.since G.faults) self.old self.new 1 9) }
+        ensures errors { IfErr result (λ n. (n ≡ R.Memory) ⊎ (n ≡ R.Failed)) }
+        ensures memory { IsErrAnd result (λ n. n ≡ R.Memory) → RestartsSome (telling G.seen G.leaves G.moment G.since G.faults)
+            self.old self.new 1 }
+        ensures breaks { IsErrAnd result (λ n. n ≡ R.Failed)
+            → RestartBreaks (telling G.seen G.leaves G.moment G.since G.faults) self.old self.new 1 }
+        ensures same { IsSame self.old self.new }
+    {
+        for number in 0..8u8 {
+            self.restart(inst_no(number + 1))?;
+        }
+        Ok(())
+    }
+
+    // An instance recovers itself, where it is down. What refuses it is noted.
+    fn restart(&mut self, inst: InstNo) -> Result<(), Refusal>
+        requires at { IsRestarting (telling G.seen G.leaves G.moment G.since G.faults) self.old inst }
+        requires low { 1 ≤ inst }
+        requires high { inst ≤ 8 }
+        ensures restarted { OnOk result (Restarts (telling G.seen G.leaves G.moment G.since G.faults)
+            self.old self.new inst (inst + 1)) }
+        ensures errors { IfErr result (λ n. (n ≡ R.Memory) ⊎ (n ≡ R.Failed)) }
+        ensures memory { IsErrAnd result (λ n. n ≡ R.Memory) → RestartsSome (telling G.seen G.leaves G.moment G.since G.faults)
+            self.old self.new inst }
+        ensures breaks { IsErrAnd result (λ n. n ≡ R.Failed)
+            → RestartBreaks (telling G.seen G.leaves G.moment G.since G.faults) self.old self.new inst }
+        ensures same { IsSame self.old self.new }
+    {
+        if !is_down(status_of(&self.hall, inst)) {
+            return Ok(());
+        }
+        let of = Owner {
+            session: 0,
+            line: 0,
+            is_opening: true,
+        };
+        match recover(&mut self.hall, of, inst)? {
+            Outcome::Broken => Err(Refusal::Failed),
+            _ => Ok(()),
+        }
+    }
+
+    // The instances join, one after another.
+    fn join_each(&mut self) -> Result<(), Refusal>
+        requires at { IsOpening (telling G.seen G.leaves G.moment G.since G.faults) self.old 1 }
+        requires most { self.old.insts ≤ 8 }
+        ensures joined { OnOk result (JoinsAll (telling G.seen G.leaves G.moment G.since G.faults) self.old self.new 1) }
+        ensures errors { IfErr result (λ n. (n ≡ R.Memory) ⊎ (n ≡ R.Failed)) }
+        ensures memory { IsErrAnd result (λ n. n ≡ R.Memory) → OpensSome (telling G.seen G.leaves G.moment G.since G.faults)
+            self.old self.new 1 }
+        ensures breaks { IsErrAnd result (λ n. n ≡ R.Failed) → JoinBreaks (telling G.seen G.leaves G.moment G.since G.faults)
+            self.old self.new 1 }
+        ensures same { IsSame self.old self.new }
     {
         let insts = self.insts;
         for number in 0..insts {
@@ -102,8 +171,10 @@ impl<G: Rig> Driver<G> {
         requires at { IsOpening (telling G.seen G.leaves G.moment G.since G.faults) self.old inst }
         ensures joined { OnOk result (Joins (telling G.seen G.leaves G.moment G.since G.faults) self.old self.new inst) }
         ensures errors { IfErr result (λ n. (n ≡ R.Memory) ⊎ (n ≡ R.Failed)) }
-        ensures memory { IsErrAnd result (λ n. n ≡ R.Memory) → StaysIn (telling G.seen G.leaves G.moment G.since G.faults) self.old.hall self.new.hall }
-        ensures breaks { IsErrAnd result (λ n. n ≡ R.Failed) → BreaksIn (telling G.seen G.leaves G.moment G.since G.faults) self.old.hall self.new.hall }
+        ensures memory { IsErrAnd result (λ n. n ≡ R.Memory) → StaysIn (telling G.seen G.leaves G.moment G.since G.faults)
+            self.old.hall self.new.hall }
+        ensures breaks { IsErrAnd result (λ n. n ≡ R.Failed) → JoinBreaks (telling G.seen G.leaves G.moment G.since G.faults)
+            self.old self.new inst }
         ensures same { IsSame self.old self.new }
     {
         self.hall.call(0, 0, Event::Join { inst })?;
@@ -113,10 +184,12 @@ impl<G: Rig> Driver<G> {
         Ok(())
     }
 
-    /// Does what the lines say, one after another. After `Memory` the book has what happened so far, each entry the one that was due.
+    /// Does what the lines say, one after another. After `Memory` the book has what happened so far, each entry the one that was
+    /// due.
     pub fn replay(&mut self, lines: &[Line]) -> Result<(), Memory>
         requires script { AreDriven lines.now self.old.insts self.old.pages }
-        requires at { (start : Start G) × (w : World) × Reached (telling G.seen G.leaves G.moment G.since G.faults) start lines.now 0 self.old w }
+        requires at { (start : Start G) × (w : World) × Reached (telling G.seen G.leaves G.moment G.since G.faults)
+            start lines.now 0 self.old w }
         ensures told { OnOk result ((start : Start G) (w : World)
             → Reached (telling G.seen G.leaves G.moment G.since G.faults) start lines.now 0 self.old w
             → (w' : World) × IsIn (telling G.seen G.leaves G.moment G.since G.faults) start self.new.hall w' × IsTold w'.core.scene.state w'.told) }
@@ -134,12 +207,15 @@ impl<G: Rig> Driver<G> {
     fn line(&mut self, line: &Line) -> Result<(), Memory>
         requires at { AtLine (telling G.seen G.leaves G.moment G.since G.faults) self.old line.now }
         ensures driven { OnOk result (DrivesLine (telling G.seen G.leaves G.moment G.since G.faults) self.old self.new line.now) }
-        ensures memory { OnErr result (DrivesSome (telling G.seen G.leaves G.moment G.since G.faults) self.old self.new line.now) }
+        ensures memory { OnErr result (DrivesSome (telling G.seen G.leaves G.moment G.since G.faults)
+            self.old self.new line.now) }
         ensures same { IsSame self.old self.new }
     {
         match &line.form {
             Form::Begin { inst, .. } => self.begin(line, *inst),
             Form::Table => self.table(line),
+            Form::JoinAll => self.join_all(line),
+            Form::RecoverAll => self.recover_all(line),
             Form::Back { .. } | Form::Rollback { .. } => self.roll_back(line),
             _ => self.event(line),
         }
@@ -150,7 +226,8 @@ impl<G: Rig> Driver<G> {
         requires at { AtLine (telling G.seen G.leaves G.moment G.since G.faults) self.old line.now }
         requires begins { (name : List ℕ) × (line.now.form ≡ form.Begin inst name) }
         ensures driven { OnOk result (DrivesLine (telling G.seen G.leaves G.moment G.since G.faults) self.old self.new line.now) }
-        ensures memory { OnErr result (DrivesSome (telling G.seen G.leaves G.moment G.since G.faults) self.old self.new line.now) }
+        ensures memory { OnErr result (DrivesSome (telling G.seen G.leaves G.moment G.since G.faults)
+            self.old self.new line.now) }
         ensures same { IsSame self.old self.new }
     {
         operate(
@@ -164,15 +241,104 @@ impl<G: Rig> Driver<G> {
         Ok(())
     }
 
+    // Each instance that is down recovers itself, in rising order, up to the first refusal.
+    fn recover_all(&mut self, line: &Line) -> Result<(), Memory>
+        requires at { AtLine (telling G.seen G.leaves G.moment G.since G.faults) self.old line.now }
+        requires recovers { line.now.form ≡ form.RecoverAll }
+        ensures driven { OnOk result (DrivesLine (telling G.seen G.leaves G.moment G.since G.faults) self.old self.new line.now) }
+        ensures memory { OnErr result (DrivesSome (telling G.seen G.leaves G.moment G.since G.faults)
+            self.old self.new line.now) }
+        ensures same { IsSame self.old self.new }
+    {
+        for number in 0..8u8 {
+            if !self.recover_down(line, inst_no(number + 1))? {
+                return Ok(());
+            }
+        }
+        Ok(())
+    }
+
+    // An instance recovers itself, where it is down. Whether the line goes on.
+    fn recover_down(&mut self, line: &Line, inst: InstNo) -> Result<bool, Memory>
+        requires at { IsRecovering (telling G.seen G.leaves G.moment G.since G.faults) self.old line.now inst }
+        requires recovers { line.now.form ≡ form.RecoverAll }
+        requires low { 1 ≤ inst }
+        requires high { inst ≤ 8 }
+        ensures recovered { IfOk result (λ more. RecoversNow (telling G.seen G.leaves G.moment G.since G.faults)
+            self.old self.new line.now inst more) }
+        ensures memory { OnErr result (RecoversSome (telling G.seen G.leaves G.moment G.since G.faults)
+            self.old self.new line.now inst) }
+        ensures same { IsSame self.old self.new }
+        ensures txns { self.new.txns ≡ self.old.txns }
+    {
+        if !is_down(status_of(&self.hall, inst)) {
+            return Ok(true);
+        }
+        let of = Owner {
+            session: line.session,
+            line: line.number,
+            is_opening: false,
+        };
+        match recover(&mut self.hall, of, inst)? {
+            Outcome::Ended => Ok(true),
+            _ => Ok(false),
+        }
+    }
+
+    // Each instance that isn't up joins, in rising order, up to the first refusal.
+    fn join_all(&mut self, line: &Line) -> Result<(), Memory>
+        requires at { AtLine (telling G.seen G.leaves G.moment G.since G.faults) self.old line.now }
+        requires joins { line.now.form ≡ form.JoinAll }
+        ensures driven { OnOk result (DrivesLine (telling G.seen G.leaves G.moment G.since G.faults) self.old self.new line.now) }
+        ensures memory { OnErr result (DrivesSome (telling G.seen G.leaves G.moment G.since G.faults)
+            self.old self.new line.now) }
+        ensures same { IsSame self.old self.new }
+    {
+        let insts = self.insts;
+        for number in 0..insts {
+            if !self.join_absent(line, inst_no(number + 1))? {
+                return Ok(());
+            }
+        }
+        Ok(())
+    }
+
+    // An instance joins, unless it is up. Whether the line goes on.
+    fn join_absent(&mut self, line: &Line, inst: InstNo) -> Result<bool, Memory>
+        requires at { IsJoining (telling G.seen G.leaves G.moment G.since G.faults) self.old line.now inst }
+        requires joins { line.now.form ≡ form.JoinAll }
+        requires low { 1 ≤ inst }
+        requires high { inst ≤ 8 }
+        requires within { inst ≤ self.old.insts }
+        ensures joined { IfOk result (λ more. JoinsNow (telling G.seen G.leaves G.moment G.since G.faults)
+            self.old self.new line.now inst more) }
+        ensures memory { OnErr result (JoinsSome (telling G.seen G.leaves G.moment G.since G.faults)
+            self.old self.new line.now inst) }
+        ensures same { IsSame self.old self.new }
+        ensures txns { self.new.txns ≡ self.old.txns }
+    {
+        if is_up(status_of(&self.hall, inst)) {
+            return Ok(true);
+        }
+        operate(
+            &mut self.hall,
+            line.session,
+            line.number,
+            Event::Join { inst },
+        )?;
+        Ok(is_joined(self.hall.last()))
+    }
+
     // Lists each page, by the lowest instance that is up, up to the first refusal.
     fn table(&mut self, line: &Line) -> Result<(), Memory>
         requires at { AtLine (telling G.seen G.leaves G.moment G.since G.faults) self.old line.now }
         requires table { line.now.form ≡ form.Table }
         ensures driven { OnOk result (DrivesLine (telling G.seen G.leaves G.moment G.since G.faults) self.old self.new line.now) }
-        ensures memory { OnErr result (DrivesSome (telling G.seen G.leaves G.moment G.since G.faults) self.old self.new line.now) }
+        ensures memory { OnErr result (DrivesSome (telling G.seen G.leaves G.moment G.since G.faults)
+            self.old self.new line.now) }
         ensures same { IsSame self.old self.new }
     {
-        let inst = lister(self.hall.complex(), self.insts);
+        let inst = lister(&self.hall, self.insts);
         let pages = self.pages;
         for number in 0..pages {
             let page = page_no(number);
@@ -194,7 +360,8 @@ impl<G: Rig> Driver<G> {
         requires at { AtLine (telling G.seen G.leaves G.moment G.since G.faults) self.old line.now }
         requires rolls { rolls_back line.now.form ≡ true }
         ensures driven { OnOk result (DrivesLine (telling G.seen G.leaves G.moment G.since G.faults) self.old self.new line.now) }
-        ensures memory { OnErr result (DrivesSome (telling G.seen G.leaves G.moment G.since G.faults) self.old self.new line.now) }
+        ensures memory { OnErr result (DrivesSome (telling G.seen G.leaves G.moment G.since G.faults)
+            self.old self.new line.now) }
         ensures same { IsSame self.old self.new }
     {
         let Some(txn) = self.txn_of(&line.form) else {
@@ -211,8 +378,10 @@ impl<G: Rig> Driver<G> {
     // Undoes one change after another, until none is left that the rollback takes back, or to the first refusal.
     fn undo_all(&mut self, line: &Line, txn: &TxnId) -> Result<(), Memory>
         requires at { IsRolledBack (telling G.seen G.leaves G.moment G.since G.faults) self.old line.now txn.now }
-        ensures driven { OnOk result (UndoesAll (telling G.seen G.leaves G.moment G.since G.faults) self.old self.new line.now txn.now) }
-        ensures memory { OnErr result (UndoesSome (telling G.seen G.leaves G.moment G.since G.faults) self.old self.new line.now txn.now) }
+        ensures driven { OnOk result (UndoesAll (telling G.seen G.leaves G.moment G.since G.faults)
+            self.old self.new line.now txn.now) }
+        ensures memory { OnErr result (UndoesSome (telling G.seen G.leaves G.moment G.since G.faults)
+            self.old self.new line.now txn.now) }
         ensures same { IsSame self.old self.new }
     {
         while self.undo(line, txn)? {}
@@ -222,8 +391,10 @@ impl<G: Rig> Driver<G> {
     // Undoes a change, or ends the rollback. Whether more is to be undone.
     fn undo(&mut self, line: &Line, txn: &TxnId) -> Result<bool, Memory>
         requires at { IsRolledBack (telling G.seen G.leaves G.moment G.since G.faults) self.old line.now txn.now }
-        ensures undone { IfOk result (λ more. Undoes (telling G.seen G.leaves G.moment G.since G.faults) self.old self.new line.now txn.now more) }
-        ensures memory { OnErr result (UndoesSome (telling G.seen G.leaves G.moment G.since G.faults) self.old self.new line.now txn.now) }
+        ensures undone { IfOk result (λ more. Undoes (telling G.seen G.leaves G.moment G.since G.faults)
+            self.old self.new line.now txn.now more) }
+        ensures memory { OnErr result (UndoesSome (telling G.seen G.leaves G.moment G.since G.faults)
+            self.old self.new line.now txn.now) }
         ensures same { IsSame self.old self.new }
     {
         let _inst = txn.inst.get();
@@ -241,7 +412,8 @@ impl<G: Rig> Driver<G> {
         requires at { AtLine (telling G.seen G.leaves G.moment G.since G.faults) self.old line.now }
         requires plain { IsPlain line.now.form }
         ensures driven { OnOk result (DrivesLine (telling G.seen G.leaves G.moment G.since G.faults) self.old self.new line.now) }
-        ensures memory { OnErr result (DrivesSome (telling G.seen G.leaves G.moment G.since G.faults) self.old self.new line.now) }
+        ensures memory { OnErr result (DrivesSome (telling G.seen G.leaves G.moment G.since G.faults)
+            self.old self.new line.now) }
         ensures same { IsSame self.old self.new }
     {
         match self.event_of(&line.form)? {
@@ -254,7 +426,8 @@ impl<G: Rig> Driver<G> {
     fn event_of(&self, form: &Form) -> Result<Option<Event>, Memory>
         requires known { (o : ℕ) → ordinal_in form.now ≡ Some o → o < length self.now.txns.items }
         requires short { IsShort form.now }
-        ensures event { IfOk result (λ e. (names : Names) → Knows self.now.txns.items names form.now → e ≡ event_of names form.now) }
+        ensures event { IfOk result (λ e. (names : Names) → Knows self.now.txns.items names form.now
+            → e ≡ event_of names form.now) }
     {
         if ordinal(form).is_none() {
             return Ok(lone_event(form));
@@ -276,24 +449,41 @@ impl<G: Rig> Driver<G> {
 }
 
 // The lowest of so many instances that is up; instance 1 where none is.
-fn lister<G>(c: &Complex<G>, insts: u8) -> InstNo
-    requires shape { IsShape (parts c.now) }
+fn lister<G: Rig>(hall: &Hall<G>, insts: u8) -> InstNo
+    requires fits { (w : Core) × fits_in G.seen G.leaves hall.now.body w }
     requires most { insts ≤ 8 }
-    ensures { result ≡ lister_by (status_at (parts c.now)) insts }
+    ensures { result ≡ lister_by (status_in hall.now.body) insts }
 {
     for number in 0..insts {
         let inst = inst_no(number + 1);
-        if is_up(c.status(inst)) {
+        if is_up(status_of(hall, inst)) {
             return inst;
         }
     }
     inst_no(1)
 }
 
+// How the instance stands.
+fn status_of<G: Rig>(hall: &Hall<G>, inst: InstNo) -> Status
+    requires fits { (w : Core) × fits_in G.seen G.leaves hall.now.body w }
+    ensures { result ≡ status_in hall.now.body inst }
+{
+    match hall.complex() {
+        Some(c) => c.status(inst),
+        None => Status::Closed,
+    }
+}
+
 fn is_up(status: Status) -> bool
     ensures { result ≡ is_up status }
 {
     matches!(status, Status::Up)
+}
+
+fn is_down(status: Status) -> bool
+    ensures { result ≡ is_down status }
+{
+    matches!(status, Status::Down)
 }
 
 fn inst_no(n: u8) -> InstNo
@@ -309,38 +499,4 @@ fn page_no(n: u16) -> PageNo
     ensures { result ≡ n }
 {
     PageNo::new(n).unwrap()
-}
-
-// The transaction that began, if one did.
-fn began(reply: &Reply) -> Option<TxnId>
-    ensures { result ≡ began_by reply.now }
-{
-    match reply {
-        Reply::Began(txn) => Some(*txn),
-        _ => None,
-    }
-}
-
-fn is_rows(reply: &Reply) -> bool
-    ensures { result ≡ is_rows reply.now }
-{
-    matches!(reply, Reply::Rows(_))
-}
-
-fn is_did(reply: &Reply) -> bool
-    ensures { result ≡ is_did reply.now }
-{
-    matches!(reply, Reply::Did)
-}
-
-fn is_step(reply: &Reply) -> bool
-    ensures { result ≡ is_step reply.now }
-{
-    matches!(reply, Reply::Step)
-}
-
-fn is_failed(reply: &Reply) -> bool
-    ensures { result ≡ is_failed reply.now }
-{
-    matches!(reply, Reply::Refused(Refusal::Failed))
 }

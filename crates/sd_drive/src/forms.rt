@@ -62,6 +62,8 @@ pub(crate) fn lone_event(form: &Form) -> Option<Event>
         Form::Fault { call } => Some(Event::Arm {
             trouble: Trouble::Fault(u64::from(*call)),
         }),
+        Form::FailAll { pick } => Some(Event::FailAll { pick: *pick }),
+        Form::Reopen => Some(Event::Reopen),
         Form::Where { page } => Some(Event::Show { page: *page }),
         _ => None,
     }

@@ -1,7 +1,7 @@
-//! A page pulled for an instance whose event needs it: asked for, given by who has it and taken, with another copy written and evicted
-//! where no frame is left.
+//! A page pulled for an instance whose event needs it: asked for, given by who has it and taken, with another copy written and
+//! evicted where no frame is left.
 
-ghost use Rattle.std.specs.Prelude.{◌≡◌, ◌<◌, ◌&&◌, ℕ, true, false, [], IfOk, IfSome, IsNone, OnErr, OnOk, IsSome};
+ghost use Rattle.std.specs.Prelude.{◌≡◌, ◌<◌, ◌&&◌, ℕ, true, false, [], IfOk, IfSome, IsNone, OnErr, IsSome};
 ghost use Rattle.sd_model.specs.declared.event.Reply.{Reply};
 ghost use Rattle.sd_pagelock.specs.Directory.{entry_at};
 ghost use Rattle.sd_pagelock.specs.Places.{changed, holds, receives, seen};
@@ -11,8 +11,10 @@ ghost use Rattle.sd_pool.specs.Buffers.{image_at, IsPool};
 ghost use Rattle.sd_fits.specs.Fits.{Fits};
 ghost use Rattle.sd_world.specs.Pages.{is_duty};
 ghost use Rattle.sd_world.specs.Serving.{Core, telling};
+ghost use Rattle.sd_hall.specs.Bodies.{fits_in};
 ghost use Rattle.sd_hall.specs.Served.{IsServed};
-ghost use Rattle.sd_drive.specs.Driven.{Helped, IsFull, IsGiven, IsSomewhere, IsTaken, MakesRoom, PulledIn, PullsAll, PullsOn, PullsSome, Rounds, StaysIn, answer_as, is_did, next_if};
+ghost use Rattle.sd_drive.specs.Bodies.{entry_in};
+ghost use Rattle.sd_drive.specs.Driven.{Helped, IsFull, IsGiven, IsSomewhere, IsTaken, MakesRoom, PulledIn, PullsAll, PullsOn, PullsSome, Rounds, StaysIn, again_if, answer_as, is_did, next_if};
 ghost use Rattle.sd_drive.specs.Pulls.{Pull, Puller};
 
 use sd_base::{InstNo, Memory, Mode, PageNo, Place, Refusal};
@@ -41,46 +43,78 @@ pub(crate) enum Answer {
     Refused,
 }
 
-/// Asks for the page until the instance has it so, or can't have it. Others that ask for it, and those to which it moves, are served on
-/// the way. After `Memory` the book has what happened so far, each entry the one that was due.
+// What a round of a pull came to.
+#[derive(Clone, Copy, Debug, PartialEq, Eq)]
+enum Course {
+    // The page came nearer, and is to be asked for again.
+    Again,
+    // The instance has it so.
+    Came,
+    // It can't have it.
+    InVain,
+}
+
+/// Asks for the page until the instance has it so, or can't have it. Whether it came. Others that ask for it, and those to which
+/// it moves, are served on the way. After `Memory` the book has what happened so far, each entry the one that was due.
 pub(crate) fn pull<G: Rig>(
     hall: &mut Hall<G>,
     inst: InstNo,
     page: PageNo,
     mode: Mode,
-) -> Result<(), Memory>
-    requires at { PulledIn (telling G.seen G.leaves G.moment G.since G.faults) hall.old (record { inst = inst; mode = mode }) (Pull.Asks page) }
-    ensures pulled { OnOk result (PullsAll (telling G.seen G.leaves G.moment G.since G.faults) hall.old hall.new
-        (record { inst = inst; mode = mode }) page) }
+) -> Result<bool, Memory>
+    requires at { PulledIn (telling G.seen G.leaves G.moment G.since G.faults)
+        hall.old (record { inst = inst; mode = mode }) (Pull.Asks page) }
+    ensures pulled { IfOk result (λ came. PullsAll (telling G.seen G.leaves G.moment G.since G.faults) hall.old hall.new
+        (record { inst = inst; mode = mode }) page came) }
     ensures memory { OnErr result (PullsSome (telling G.seen G.leaves G.moment G.since G.faults) hall.old hall.new
         (record { inst = inst; mode = mode }) (Pull.Asks page)) }
 {
-    while round(hall, inst, page, mode)? {}
-    Ok(())
+    loop {
+        match round(hall, inst, page, mode)? {
+            Course::Again => {}
+            Course::Came => return Ok(true),
+            Course::InVain => return Ok(false),
+        }
+    }
 }
 
-// Asks for the page once. Another who has it gives it to the oldest asker, and one to whom it moves takes it; where a pool has no frame
-// for it, room is made there. Whether the page is to be asked for again.
-fn round<G: Rig>(hall: &mut Hall<G>, inst: InstNo, page: PageNo, mode: Mode) -> Result<bool, Memory>
-    requires at { PulledIn (telling G.seen G.leaves G.moment G.since G.faults) hall.old (record { inst = inst; mode = mode }) (Pull.Asks page) }
-    ensures rounds { IfOk result (λ again. Rounds (telling G.seen G.leaves G.moment G.since G.faults) hall.old hall.new
-        (record { inst = inst; mode = mode }) page again) }
+// Asks for the page once. Another who has it gives it to the oldest asker, and one to whom it moves takes it; where a pool has no
+// frame for it, room is made there, and the page is asked for again.
+fn round<G: Rig>(
+    hall: &mut Hall<G>,
+    inst: InstNo,
+    page: PageNo,
+    mode: Mode,
+) -> Result<Course, Memory>
+    requires at { PulledIn (telling G.seen G.leaves G.moment G.since G.faults)
+        hall.old (record { inst = inst; mode = mode }) (Pull.Asks page) }
+    ensures rounds { IfOk result (λ round. Rounds (telling G.seen G.leaves G.moment G.since G.faults) hall.old hall.new
+        (record { inst = inst; mode = mode }) page round) }
     ensures memory { OnErr result (PullsSome (telling G.seen G.leaves G.moment G.since G.faults) hall.old hall.new
         (record { inst = inst; mode = mode }) (Pull.Asks page)) }
 {
     let answer = help(hall, Event::Ask { inst, page, mode })?;
     match answer {
-        Answer::Asked(of) => give(hall, of, page),
-        Answer::MovingTo(to) => take(hall, to, page),
-        Answer::NoFrame => make_room(hall, inst),
-        _ => Ok(false),
+        Answer::Had => Ok(Course::Came),
+        Answer::Asked(of) => Ok(again_if(give(hall, of, page)?)),
+        Answer::MovingTo(to) => Ok(again_if(take(hall, to, page)?)),
+        Answer::NoFrame => Ok(again_if(make_room(hall, inst)?)),
+        _ => Ok(Course::InVain),
     }
+}
+
+// The page is to be asked for again, where what fell due was done.
+fn again_if(done: bool) -> Course
+    ensures { result ≡ again_if done }
+{
+    if done { Course::Again } else { Course::InVain }
 }
 
 // The page is given to its oldest asker. Whether it was.
 fn give<G: Rig>(hall: &mut Hall<G>, of: InstNo, page: PageNo) -> Result<bool, Memory>
     requires at { IsSomewhere (telling G.seen G.leaves G.moment G.since G.faults) hall.old }
-    ensures given { IfOk result (λ given. (for : Puller) → PullsOn (telling G.seen G.leaves G.moment G.since G.faults) hall.old hall.new
+    ensures given { IfOk result (λ given. (for : Puller) → PullsOn (telling G.seen G.leaves G.moment G.since G.faults)
+        hall.old hall.new
         for (Pull.Gives page of) (next_if given page) (IsGiven given of page)) }
     ensures memory { OnErr result (StaysIn (telling G.seen G.leaves G.moment G.since G.faults) hall.old hall.new) }
 {
@@ -90,10 +124,13 @@ fn give<G: Rig>(hall: &mut Hall<G>, of: InstNo, page: PageNo) -> Result<bool, Me
 
 // The page is taken by the instance to which it moves. Whether it was, or that instance has room for it.
 fn take<G: Rig>(hall: &mut Hall<G>, to: InstNo, page: PageNo) -> Result<bool, Memory>
-    requires at { (for : Puller) × PulledIn (telling G.seen G.leaves G.moment G.since G.faults) hall.old for (Pull.Takes page to) }
-    ensures taken { IfOk result (λ taken. (for : Puller) → PullsOn (telling G.seen G.leaves G.moment G.since G.faults) hall.old hall.new
+    requires at { (for : Puller) × PulledIn (telling G.seen G.leaves G.moment G.since G.faults)
+        hall.old for (Pull.Takes page to) }
+    ensures taken { IfOk result (λ taken. (for : Puller) → PullsOn (telling G.seen G.leaves G.moment G.since G.faults)
+        hall.old hall.new
         for (Pull.Takes page to) (next_if taken page) (IsTaken taken to page)) }
-    ensures memory { OnErr result ((for : Puller) → PullsSome (telling G.seen G.leaves G.moment G.since G.faults) hall.old hall.new
+    ensures memory { OnErr result ((for : Puller) → PullsSome (telling G.seen G.leaves G.moment G.since G.faults)
+        hall.old hall.new
         for (Pull.Takes page to)) }
 {
     let answer = help(hall, Event::Take { inst: to, page })?;
@@ -104,17 +141,22 @@ fn take<G: Rig>(hall: &mut Hall<G>, to: InstNo, page: PageNo) -> Result<bool, Me
     }
 }
 
-// The page of the instance whose last use is longest ago leaves its pool, and is written before where that is its duty. Whether it did.
+// The page of the instance whose last use is longest ago leaves its pool, and is written before where that is its duty. Whether
+// it did.
 fn make_room<G: Rig>(hall: &mut Hall<G>, inst: InstNo) -> Result<bool, Memory>
-    requires at { (for : Puller) × (p : ℕ) × (s : PulledIn (telling G.seen G.leaves G.moment G.since G.faults) hall.old for (Pull.Room p inst))
+    requires at { (for : Puller) × (p : ℕ) × (s : PulledIn (telling G.seen G.leaves G.moment G.since G.faults)
+        hall.old for (Pull.Room p inst))
         × IsFull inst s.world.core }
-    ensures room { IfOk result (λ room. (for : Puller) (p : ℕ) → PullsOn (telling G.seen G.leaves G.moment G.since G.faults) hall.old hall.new
+    ensures room { IfOk result (λ room. (for : Puller) (p : ℕ) → PullsOn (telling G.seen G.leaves G.moment G.since G.faults)
+        hall.old hall.new
         for (Pull.Room p inst) (next_if room p) (MakesRoom room inst)) }
-    ensures memory { OnErr result ((for : Puller) (p : ℕ) → PullsSome (telling G.seen G.leaves G.moment G.since G.faults) hall.old hall.new
+    ensures memory { OnErr result ((for : Puller) (p : ℕ) → PullsSome (telling G.seen G.leaves G.moment G.since G.faults)
+        hall.old hall.new
         for (Pull.Room p inst)) }
 {
-    let page = victim(hall.complex(), inst);
-    if must_write(&hall.complex().entry(page), inst) {
+    let leaver = leaving(hall, inst);
+    let page = leaver.page;
+    if leaver.is_duty {
         return write_out(hall, inst, page);
     }
     done(hall, Event::Evict { inst, page })
@@ -122,15 +164,17 @@ fn make_room<G: Rig>(hall: &mut Hall<G>, inst: InstNo) -> Result<bool, Memory>
 
 // A changed page is written, and its copy leaves the pool. Whether it did.
 fn write_out<G: Rig>(hall: &mut Hall<G>, inst: InstNo, page: PageNo) -> Result<bool, Memory>
-    requires at { (for : Puller) × (p : ℕ) × PulledIn (telling G.seen G.leaves G.moment G.since G.faults) hall.old for (Pull.Room p inst) }
+    requires at { (for : Puller) × (p : ℕ) × PulledIn (telling G.seen G.leaves G.moment G.since G.faults)
+        hall.old for (Pull.Room p inst) }
     requires range { page < 1024 }
-    requires held { holds (entry_at (parts hall.old.complex).directory page) inst ≡ true }
-    requires still { receives (entry_at (parts hall.old.complex).directory page) inst ≡ false }
-    requires duty { (changed (entry_at (parts hall.old.complex).directory page)
-        && is_duty inst (entry_at (parts hall.old.complex).directory page)) ≡ true }
-    ensures room { IfOk result (λ room. (for : Puller) (p : ℕ) → PullsOn (telling G.seen G.leaves G.moment G.since G.faults) hall.old hall.new
+    requires held { holds (entry_in hall.old.body page) inst ≡ true }
+    requires still { receives (entry_in hall.old.body page) inst ≡ false }
+    requires duty { (changed (entry_in hall.old.body page) && is_duty inst (entry_in hall.old.body page)) ≡ true }
+    ensures room { IfOk result (λ room. (for : Puller) (p : ℕ) → PullsOn (telling G.seen G.leaves G.moment G.since G.faults)
+        hall.old hall.new
         for (Pull.Room p inst) (next_if room p) (MakesRoom room inst)) }
-    ensures memory { OnErr result ((for : Puller) (p : ℕ) → PullsSome (telling G.seen G.leaves G.moment G.since G.faults) hall.old hall.new
+    ensures memory { OnErr result ((for : Puller) (p : ℕ) → PullsSome (telling G.seen G.leaves G.moment G.since G.faults)
+        hall.old hall.new
         for (Pull.Room p inst)) }
 {
     if !done(hall, Event::Flush { inst, page })? {
@@ -178,7 +222,42 @@ fn answer_of(reply: &Reply) -> Answer
     }
 }
 
+// A page that leaves the pool of an instance, and whether the instance has to write it before.
+#[derive(Drop)]
+struct Leaver {
+    page: PageNo,
+    is_duty: bool,
+}
+
 // The page of the instance whose last use is longest ago. It doesn't move to that instance.
+fn leaving<G: Rig>(hall: &Hall<G>, inst: InstNo) -> Leaver
+    requires full { (w : Core) × fits_in G.seen G.leaves hall.now.body w × IsFull inst w }
+    ensures held { holds (entry_in hall.now.body result.page) inst ≡ true }
+    ensures still { receives (entry_in hall.now.body result.page) inst ≡ false }
+    ensures duty { result.is_duty ≡ (changed (entry_in hall.now.body result.page) && is_duty inst (entry_in hall.now.body result.page)) }
+    ensures range { result.page < 1024 }
+{
+    match hall.complex() {
+        Some(c) => leaver_of(c, inst),
+        None => unreachable!(),
+    }
+}
+
+// It, of an open complex.
+fn leaver_of<G: Rig>(c: &Complex<G>, inst: InstNo) -> Leaver
+    requires full { (w : Core) × Fits (G.seen c.now.rig) (G.leaves c.now.rig) (parts c.now) w × IsFull inst w }
+    ensures held { holds (entry_at (parts c.now).directory result.page) inst ≡ true }
+    ensures still { receives (entry_at (parts c.now).directory result.page) inst ≡ false }
+    ensures duty { result.is_duty ≡ (changed (entry_at (parts c.now).directory result.page)
+        && is_duty inst (entry_at (parts c.now).directory result.page)) }
+    ensures range { result.page < 1024 }
+{
+    let page = victim(c, inst);
+    let is_duty = must_write(&c.entry(page), inst);
+    Leaver { page, is_duty }
+}
+
+// That page.
 fn victim<G: Rig>(c: &Complex<G>, inst: InstNo) -> PageNo
     requires full { (w : Core) × Fits (G.seen c.now.rig) (G.leaves c.now.rig) (parts c.now) w × IsFull inst w }
     ensures held { holds (entry_at (parts c.now).directory result) inst ≡ true }

@@ -1,6 +1,5 @@
 use Rattle.std.proofs.Common.{◌≡◌, ℕ, ◌+◌, ◌-◌}
-use Rattle.sd_state.specs.Complexes.{parts}
-use Rattle.sd_state.specs.Parts.{status_at}
+use Rattle.sd_drive.specs.Bodies.{status_in}
 use Rattle.sd_drive.specs.Driving.{first_from, is_up}
 use Rattle.sd_drive.proofs.driver.lister.Given as goal
 
@@ -8,6 +7,6 @@ use Rattle.sd_drive.proofs.driver.lister.Given as goal
 abbrev pub invariant-loop-number : goal.invariant-loop-number
 invariant-loop-number g l =
     record {
-      rest : first_from (λ (i : ℕ). is_up (status_at (parts l.c) i)) 1 l.insts
-          ≡ first_from (λ (i : ℕ). is_up (status_at (parts l.c) i)) (l.number + 1) (l.insts - l.number);
+      rest : first_from (λ (i : ℕ). is_up (status_in l.hall.body i)) 1 l.insts
+          ≡ first_from (λ (i : ℕ). is_up (status_in l.hall.body i)) (l.number + 1) (l.insts - l.number);
     }

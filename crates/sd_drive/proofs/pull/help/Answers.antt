@@ -13,7 +13,7 @@ pub returns-in_err-call-clause-memory : goal.returns-in_err-call-clause-memory
 returns-in_err-call-clause-memory g c =
     let tell : Telling _ = telling g.G.Rig.seen g.G.Rig.leaves g.G.Rig.moment g.G.Rig.since g.G.Rig.faults in
     let p = err_from_is_err_and c.from_residual.result c.from_residual.ensures.1 in
-    rw p.1 (stays-in tell c.args.hall.now c.call.new.self c.args.e c.in_err-call.ensures.same c.in_err-call.ensures.spared c.call.ensures.keeps c.call.ensures.opening (λ t u img le s. g.met.G.Rig.earlier c.call.new.self.complex.rig t u img le s))
+    rw p.1 (stays-in tell c.args.hall.now c.call.new.self c.args.e c.in_err-call.ensures.same c.in_err-call.ensures.spared c.call.ensures.keeps c.call.ensures.opening (λ rig t u img le s. g.met.G.Rig.earlier rig t u img le s))
 
 pub returns-clause-helped : goal.returns-clause-helped
 returns-clause-helped g c =
@@ -24,5 +24,5 @@ returns-clause-helped g c =
       n.0,
       sym (c.answer_of.ensures ∙ ap answer_as last),
       helped-on tell c.args.hall.now c.call.new.self c.args.e n.0
-          (record { entries = n.1; serves = n.2; keeps = c.call.ensures.keeps; opening = c.call.ensures.opening; earlier = λ t u img le s. g.met.G.Rig.earlier c.call.new.self.complex.rig t u img le s }),
+          (record { entries = n.1; serves = n.2; keeps = c.call.ensures.keeps; opening = c.call.ensures.opening; earlier = λ rig t u img le s. g.met.G.Rig.earlier rig t u img le s }),
     )

@@ -1,6 +1,7 @@
-use Rattle.std.proofs.Common.{Bool, subst}
+use Rattle.std.proofs.Common.{true, false, subst}
 use Rattle.std.proofs.lemmas.Result.{err_from_is_err_and}
 use Rattle.sd_world.specs.Serving.{Telling, telling}
+use Rattle.sd_drive.specs.declared.pull.Course.{Course}
 use Rattle.sd_drive.specs.Driven.{Rounds}
 use Rattle.sd_drive.specs.Pulls.{Pull, Puller}
 use Rattle.sd_drive.proofs.Pulled.{comes-nearer, last-all, pulled-on, round-on, then-some}
@@ -28,7 +29,7 @@ pub loop-smaller : goal.loop-smaller
 loop-smaller g c =
     let tell : Telling _ = telling g.G.Rig.seen g.G.Rig.leaves g.G.Rig.moment g.G.Rig.since g.G.Rig.faults in
     let for : Puller = record { inst = c.args.inst; mode = c.args.mode } in
-    let round = subst (λ (b : Bool). Rounds tell c.loop.hall c.round.new.hall for c.args.page b) c.if-branch.true c.in_ok-round.ensures.rounds in
+    let round = subst (λ (course : Course). Rounds tell c.loop.hall c.round.new.hall for c.args.page course) c.in-Again.is c.in_ok-round.ensures.rounds in
     let here = pulled-on tell for c.args.hall.now c.loop.hall (Pull.Asks c.args.page) (Pull.Asks c.args.page) _ c.loop.invariant.on c.requires.at in
     comes-nearer tell c.args.inst c.args.page c.args.mode c.args.hall.now c.loop.hall c.round.new.hall c.loop.invariant.on round here
 
@@ -36,12 +37,19 @@ pub loop-preserved : goal.loop-preserved
 loop-preserved g c =
     let tell : Telling _ = telling g.G.Rig.seen g.G.Rig.leaves g.G.Rig.moment g.G.Rig.since g.G.Rig.faults in
     let for : Puller = record { inst = c.args.inst; mode = c.args.mode } in
-    let round = subst (λ (b : Bool). Rounds tell c.loop.hall c.round.new.hall for c.args.page b) c.if-branch.true c.in_ok-round.ensures.rounds in
+    let round = subst (λ (course : Course). Rounds tell c.loop.hall c.round.new.hall for c.args.page course) c.in-Again.is c.in_ok-round.ensures.rounds in
     record { on = round-on tell c.args.inst c.args.page c.args.mode c.args.hall.now c.loop.hall c.round.new.hall c.loop.invariant.on round }
 
-pub returns-clause-pulled : goal.returns-clause-pulled
-returns-clause-pulled g c =
+pub returns-in-Came-clause-pulled : goal.returns-in-Came-clause-pulled
+returns-in-Came-clause-pulled g c =
     let tell : Telling _ = telling g.G.Rig.seen g.G.Rig.leaves g.G.Rig.moment g.G.Rig.since g.G.Rig.faults in
     let for : Puller = record { inst = c.args.inst; mode = c.args.mode } in
-    let round = subst (λ (b : Bool). Rounds tell c.loop.hall c.round.new.hall for c.args.page b) c.if-branch.false c.in_ok-round.ensures.rounds in
-    last-all tell c.args.inst c.args.page c.args.mode c.args.hall.now c.loop.hall c.round.new.hall c.loop.invariant.on round
+    let round = subst (λ (course : Course). Rounds tell c.loop.hall c.round.new.hall for c.args.page course) c.in-Came.is c.in_ok-round.ensures.rounds in
+    last-all tell c.args.inst c.args.page c.args.mode c.args.hall.now c.loop.hall c.round.new.hall c.loop.invariant.on true round
+
+pub returns-in-InVain-clause-pulled : goal.returns-in-InVain-clause-pulled
+returns-in-InVain-clause-pulled g c =
+    let tell : Telling _ = telling g.G.Rig.seen g.G.Rig.leaves g.G.Rig.moment g.G.Rig.since g.G.Rig.faults in
+    let for : Puller = record { inst = c.args.inst; mode = c.args.mode } in
+    let round = subst (λ (course : Course). Rounds tell c.loop.hall c.round.new.hall for c.args.page course) c.in-InVain.is c.in_ok-round.ensures.rounds in
+    last-all tell c.args.inst c.args.page c.args.mode c.args.hall.now c.loop.hall c.round.new.hall c.loop.invariant.on false round

@@ -1,6 +1,5 @@
-use Rattle.sd_pagelock.specs.Directory.{asks_at, entry_at}
-use Rattle.sd_state.specs.Complexes.{parts}
 use Rattle.sd_world.specs.Serving.{telling}
+use Rattle.sd_drive.specs.Bodies.{asks_in, entry_in}
 use Rattle.sd_drive.specs.Driven.{PullsOn}
 use Rattle.sd_drive.specs.Measure.{distance}
 use Rattle.sd_drive.specs.Pulls.{Pull}
@@ -16,4 +15,4 @@ invariant-loop g l =
 
 -- each round brings the page nearer
 abbrev pub decreases-loop : goal.decreases-loop
-decreases-loop g l = distance l.inst l.mode l.page (entry_at (parts l.hall.complex).directory) (asks_at (parts l.hall.complex).directory l.page)
+decreases-loop g l = distance l.inst l.mode l.page (entry_in l.hall.body) (asks_in l.hall.body l.page)

@@ -5,7 +5,7 @@ use Rattle.sd_model.specs.declared.event.Event.{Event}
 use Rattle.sd_world.specs.Serving.{Telling, telling}
 use Rattle.sd_drive.specs.Lines.{Names, event_of}
 use Rattle.sd_drive.specs.Reaching.{Knows}
-use Rattle.sd_drive.proofs.Doing.{event-came, event-due, event-passed, event-served, event-some, nothing-came, ordinal-known, short-there}
+use Rattle.sd_drive.proofs.Doing.{event-came, event-due, event-named, event-passed, event-served, event-some, nothing-came, ordinal-known, short-there}
 use Rattle.sd_drive.proofs.Helps.{on-err-then, on-ok-then}
 use Rattle.sd_drive.proofs.driver.Driver.event.Goals as goal
 
@@ -31,6 +31,13 @@ operate-requires-clause-served g c =
     let asks = subst (λ (o : Option Event). (names : Names) → Knows c.args.self.now.txns.items names c.args.line.now.form → o ≡ event_of names c.args.line.now.form)
     c.in-Some.is c.in_ok-e.ensures.event in
     event-served tell c.args.self.now c.args.line.now c.requires.plain c.in-Some.e asks c.requires.at
+
+pub operate-requires-clause-names : goal.operate-requires-clause-names
+operate-requires-clause-names g c =
+    let tell : Telling _ = telling g.G.Rig.seen g.G.Rig.leaves g.G.Rig.moment g.G.Rig.since g.G.Rig.faults in
+    let asks = subst (λ (o : Option Event). (names : Names) → Knows c.args.self.now.txns.items names c.args.line.now.form → o ≡ event_of names c.args.line.now.form)
+    c.in-Some.is c.in_ok-e.ensures.event in
+    event-named tell c.args.self.now c.args.line.now c.requires.plain c.in-Some.e asks c.requires.at
 
 pub operate-requires-clause-due : goal.operate-requires-clause-due
 operate-requires-clause-due g c =

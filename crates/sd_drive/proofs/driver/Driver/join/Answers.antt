@@ -3,8 +3,9 @@ use Rattle.sd_model.specs.declared.event.Entry.{Entry}
 use Rattle.sd_model.specs.declared.event.Event.TheVariants as event
 use Rattle.sd_model.specs.declared.event.Reply.{Reply}
 use Rattle.sd_world.specs.Serving.{Telling, telling}
-use Rattle.sd_drive.specs.Reaching.{is_failed}
-use Rattle.sd_drive.proofs.Opening.{broken, failed-is, joined}
+use Rattle.sd_drive.specs.Standing.{is_failed}
+use Rattle.sd_drive.proofs.Marks.{failed-is}
+use Rattle.sd_drive.proofs.Opening.{broken, joined}
 use Rattle.sd_drive.proofs.Steps.{Noted, stays-in}
 use Rattle.sd_drive.proofs.driver.Driver.join.Goals as goal
 
@@ -12,7 +13,7 @@ pub returns-in_err-call-clause-memory : goal.returns-in_err-call-clause-memory
 returns-in_err-call-clause-memory g c = λ is.
     let tell : Telling g.row.G.Denot = telling g.G.Rig.seen g.G.Rig.leaves g.G.Rig.moment g.G.Rig.since g.G.Rig.faults in
     stays-in tell c.args.self.now.hall c.call.new.self (event.Join c.args.inst) c.in_err-call.ensures.same c.in_err-call.ensures.spared
-    c.call.ensures.keeps c.call.ensures.opening (λ t u img le s. g.met.G.Rig.earlier c.call.new.self.complex.rig t u img le s)
+    c.call.ensures.keeps c.call.ensures.opening (λ rig t u img le s. g.met.G.Rig.earlier rig t u img le s)
 
 pub returns-then-is_failed-clause-breaks : goal.returns-then-is_failed-clause-breaks
 returns-then-is_failed-clause-breaks g c = λ is.
@@ -27,10 +28,10 @@ returns-then-is_failed-clause-breaks g c = λ is.
       serves = n.2;
       keeps = c.call.ensures.keeps;
       opening = c.call.ensures.opening;
-      earlier = λ t u img le s. g.met.G.Rig.earlier c.call.new.self.complex.rig t u img le s;
+      earlier = λ rig t u img le s. g.met.G.Rig.earlier rig t u img le s;
     } in
-    broken tell old c.call.new.self c.args.inst (subst (λ (r : Reply). Noted tell old c.call.new.self (entry r)) (failed-is n.0 failed) made)
-    (λ dev le. g.met.G.Rig.leaves_seen c.call.new.self.complex.rig dev le)
+    broken tell c.args.self.now (record c.args.self.now { hall = c.call.new.self }) c.args.inst (subst (λ (r : Reply). Noted tell old c.call.new.self (entry r)) (failed-is n.0 failed) made)
+    (refl, refl) refl
 
 pub returns-clause-joined : goal.returns-clause-joined
 returns-clause-joined g c =
@@ -45,6 +46,6 @@ returns-clause-joined g c =
       serves = n.2;
       keeps = c.call.ensures.keeps;
       opening = c.call.ensures.opening;
-      earlier = λ t u img le s. g.met.G.Rig.earlier c.call.new.self.complex.rig t u img le s;
+      earlier = λ rig t u img le s. g.met.G.Rig.earlier rig t u img le s;
     } in
-    joined tell old (record old { hall = c.call.new.self }) c.args.inst (refl, refl) refl n.0 made fine
+    λ start w lines j. joined tell old (record old { hall = c.call.new.self }) c.args.inst (refl, refl) refl n.0 made start w lines j fine

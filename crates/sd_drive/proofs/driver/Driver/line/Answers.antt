@@ -7,7 +7,7 @@ pub begin-requires-clause-begins : goal.begin-requires-clause-begins
 begin-requires-clause-begins g c = (c.in-Begin.name, c.in-Begin.is)
 
 pub event-requires-clause-plain : goal.event-requires-clause-plain
-event-requires-clause-plain g c = plain-else c.args.line.now.form (λ inst name is. c.in_default.not-Begin inst name is) c.in_default.not-Table (λ name o mark is. c.in_default.not-Back name o mark is)
+event-requires-clause-plain g c = plain-else c.args.line.now.form (λ inst name is. c.in_default.not-Begin inst name is) c.in_default.not-Table c.in_default.not-RecoverAll c.in_default.not-JoinAll (λ name o mark is. c.in_default.not-Back name o mark is)
     (λ name o is. c.in_default.not-Rollback name o is)
 
 pub roll_back-requires-clause-rolls : goal.roll_back-requires-clause-rolls

@@ -1,72 +1,76 @@
-use Rattle.std.proofs.Common.{ℕ, ◌+◌, inl, refl, sym, ◌∙◌, subst, arith}
+use Rattle.std.proofs.Common.{⊎_elim, arith}
 use Rattle.std.proofs.lemmas.Result.{err_from_is_err_and}
 use Rattle.sd_world.specs.Serving.{Telling, telling}
-use Rattle.sd_drive.specs.Reaching.{IsOpening, Joins}
-use Rattle.sd_drive.specs.declared.driver.Driver.{Driver}
-use Rattle.sd_drive.proofs.Opening.{is-opening, joins-first, opened-all, opened-broken, opened-on, opened-some}
+use Rattle.sd_drive.proofs.Helps.{each-way, on-ok-map}
+use Rattle.sd_drive.proofs.Opening.{fails-break, fails-keeps, is-restarting, joins-fail, joins-lost, joins-open, opened-all, opened-keeps, reached-keeps, restart-fails, restart-lost}
 use Rattle.sd_drive.proofs.driver.Driver.opening.Goals as goal
 
-pub loop-number-init : goal.loop-number-init
-loop-number-init g c =
+pub restart_all-requires : goal.restart_all-requires
+restart_all-requires g c =
     let tell : Telling g.row.G.Denot = telling g.G.Rig.seen g.G.Rig.leaves g.G.Rig.moment g.G.Rig.since g.G.Rig.faults in
-    let old : Driver g.row.G.Denot = c.args.self.now in
-    record {
-      on = λ start lines kept. (
-        _,
-        inl (joins-first tell old start lines kept c.requires.empty c.requires.blank (λ img s. g.met.G.Rig.only_now old.hall.complex.rig img s)
-            c.requires.none c.requires.some),
-      );
-      same = (refl, refl);
-    }
+    record { at = is-restarting tell c.args.self.now c.requires.empty c.requires.none (λ d img s. g.met.G.Rig.only_now d img s) c.requires.kept }
 
-pub join-requires : goal.join-requires
-join-requires g c =
+pub returns-in_err-restart_all-clause-memory : goal.returns-in_err-restart_all-clause-memory
+returns-in_err-restart_all-clause-memory g c =
     let tell : Telling g.row.G.Denot = telling g.G.Rig.seen g.G.Rig.leaves g.G.Rig.moment g.G.Rig.since g.G.Rig.faults in
-    let here : Driver g.row.G.Denot = c.loop-number.self in
-    let lt = c.loop-number-test.true in
-    let same = c.loop-number.invariant.same.0 in
-    record {
-      at = subst (λ (i : ℕ). IsOpening tell here i) (sym c.inst_no.ensures)
-          (is-opening tell c.args.self.now here (c.loop-number.number + 1) c.loop-number.invariant.on (omega (arith, lt, same)) c.requires.kept);
-    }
-
-pub returns-in_err-join-clause-memory : goal.returns-in_err-join-clause-memory
-returns-in_err-join-clause-memory g c =
-    let tell : Telling g.row.G.Denot = telling g.G.Rig.seen g.G.Rig.leaves g.G.Rig.moment g.G.Rig.since g.G.Rig.faults in
-    let here : Driver g.row.G.Denot = c.loop-number.self in
-    let lt = c.loop-number-test.true in
-    let same = c.loop-number.invariant.same.0 in
     let p = err_from_is_err_and c.from_residual.result c.from_residual.ensures.1 in
-    rw (p.1, p.2) (λ is. opened-some tell c.args.self.now here (c.loop-number.number + 1) c.loop-number.invariant.on (omega (arith, lt, same))
-    c.join.new.self (c.in_err-join.ensures.memory is))
+    rw (p.1, p.2) (λ is. restart-lost tell c.args.self.now c.requires.empty c.requires.none (λ d img s. g.met.G.Rig.only_now d img s) c.restart_all.new.self (c.in_err-restart_all.ensures.memory is))
 
-pub returns-in_err-join-clause-breaks : goal.returns-in_err-join-clause-breaks
-returns-in_err-join-clause-breaks g c =
+pub returns-in_err-restart_all-clause-breaks : goal.returns-in_err-restart_all-clause-breaks
+returns-in_err-restart_all-clause-breaks g c =
     let tell : Telling g.row.G.Denot = telling g.G.Rig.seen g.G.Rig.leaves g.G.Rig.moment g.G.Rig.since g.G.Rig.faults in
-    let here : Driver g.row.G.Denot = c.loop-number.self in
-    let lt = c.loop-number-test.true in
-    let same = c.loop-number.invariant.same.0 in
     let p = err_from_is_err_and c.from_residual.result c.from_residual.ensures.1 in
-    rw (p.1, p.2) (λ is. opened-broken tell c.args.self.now here (c.loop-number.number + 1) c.loop-number.invariant.on (omega (arith, lt, same))
-    c.join.new.self (c.in_err-join.ensures.breaks is))
+    rw (p.1, p.2) (λ is. fails-break tell c.args.self.now c.requires.empty c.requires.none (λ d img s. g.met.G.Rig.only_now d img s) c.restart_all.new.self
+    (restart-fails tell c.args.self.now c.requires.empty c.requires.none (λ d img s. g.met.G.Rig.only_now d img s) c.restart_all.new.self (c.in_err-restart_all.ensures.breaks is)) (λ rig dev le. g.met.G.Rig.leaves_seen rig dev le))
 
-pub loop-number-preserved : goal.loop-number-preserved
-loop-number-preserved g c =
+pub returns-in_err-restart_all-clause-kept : goal.returns-in_err-restart_all-clause-kept
+returns-in_err-restart_all-clause-kept g c =
     let tell : Telling g.row.G.Denot = telling g.G.Rig.seen g.G.Rig.leaves g.G.Rig.moment g.G.Rig.since g.G.Rig.faults in
-    let here : Driver g.row.G.Denot = c.loop-number.self in
-    let lt = c.loop-number-test.true in
-    let was = c.loop-number.invariant.same in
-    let same = was.0 in
-    let next = c.join.ensures.same in
+    ⊎_elim
+    (λ is. opened-keeps tell c.args.self.now c.requires.empty c.requires.none (λ d img s. g.met.G.Rig.only_now d img s) c.restart_all.new.self
+    (restart-lost tell c.args.self.now c.requires.empty c.requires.none (λ d img s. g.met.G.Rig.only_now d img s) c.restart_all.new.self (c.in_err-restart_all.ensures.memory is)))
+    (λ is. fails-keeps tell c.args.self.now c.requires.empty c.requires.none (λ d img s. g.met.G.Rig.only_now d img s) c.restart_all.new.self
+    (restart-fails tell c.args.self.now c.requires.empty c.requires.none (λ d img s. g.met.G.Rig.only_now d img s) c.restart_all.new.self (c.in_err-restart_all.ensures.breaks is)))
+    c.in_err-restart_all.ensures.errors
+
+pub join_each-requires : goal.join_each-requires
+join_each-requires g c =
+    let tell : Telling g.row.G.Denot = telling g.G.Rig.seen g.G.Rig.leaves g.G.Rig.moment g.G.Rig.since g.G.Rig.faults in
+    let insts = c.restart_all.ensures.same.0 in
+    let most = c.requires.most in
     record {
-      on = opened-on tell c.args.self.now here (c.loop-number.number + 1) c.loop-number.invariant.on (omega (arith, lt, same)) c.join.new.self
-          (subst (λ (i : ℕ). Joins tell here c.join.new.self i) c.inst_no.ensures c.in_ok-join.ensures.joined);
-      same = (next.0 ∙ was.0, next.1 ∙ was.1);
+      at = joins-open tell c.args.self.now c.requires.empty c.requires.none (λ d img s. g.met.G.Rig.only_now d img s) c.restart_all.new.self c.restart_all.ensures.same c.requires.some c.in_ok-restart_all.ensures.restarted
+          (is-restarting tell c.args.self.now c.requires.empty c.requires.none (λ d img s. g.met.G.Rig.only_now d img s) c.requires.kept);
+      most = omega (arith, insts, most);
     }
 
 pub returns-clause-opened : goal.returns-clause-opened
 returns-clause-opened g c =
     let tell : Telling g.row.G.Denot = telling g.G.Rig.seen g.G.Rig.leaves g.G.Rig.moment g.G.Rig.since g.G.Rig.faults in
-    let past = c.loop-number-test.false in
-    let same = c.loop-number.invariant.same.0 in
-    opened-all tell c.args.self.now c.loop-number.self (c.loop-number.number + 1) c.loop-number.invariant.on (omega (arith, past, same))
+    on-ok-map c.join_each.result _ _ (λ all. opened-all tell c.args.self.now c.requires.empty c.requires.none (λ d img s. g.met.G.Rig.only_now d img s) c.restart_all.new.self c.restart_all.ensures.same c.requires.some
+    c.in_ok-restart_all.ensures.restarted c.join_each.new.self all) c.join_each.ensures.joined
+
+pub returns-clause-memory : goal.returns-clause-memory
+returns-clause-memory g c = λ is.
+    let tell : Telling g.row.G.Denot = telling g.G.Rig.seen g.G.Rig.leaves g.G.Rig.moment g.G.Rig.since g.G.Rig.faults in
+    joins-lost tell c.args.self.now c.requires.empty c.requires.none (λ d img s. g.met.G.Rig.only_now d img s) c.restart_all.new.self c.restart_all.ensures.same c.requires.some
+    c.in_ok-restart_all.ensures.restarted c.join_each.new.self (c.join_each.ensures.memory is)
+
+pub returns-clause-breaks : goal.returns-clause-breaks
+returns-clause-breaks g c = λ is.
+    let tell : Telling g.row.G.Denot = telling g.G.Rig.seen g.G.Rig.leaves g.G.Rig.moment g.G.Rig.since g.G.Rig.faults in
+    fails-break tell c.args.self.now c.requires.empty c.requires.none (λ d img s. g.met.G.Rig.only_now d img s) c.join_each.new.self
+    (joins-fail tell c.args.self.now c.requires.empty c.requires.none (λ d img s. g.met.G.Rig.only_now d img s) c.restart_all.new.self c.restart_all.ensures.same c.requires.some
+    c.in_ok-restart_all.ensures.restarted c.join_each.new.self (c.join_each.ensures.breaks is)) (λ rig dev le. g.met.G.Rig.leaves_seen rig dev le)
+
+pub returns-clause-kept : goal.returns-clause-kept
+returns-clause-kept g c =
+    let tell : Telling g.row.G.Denot = telling g.G.Rig.seen g.G.Rig.leaves g.G.Rig.moment g.G.Rig.since g.G.Rig.faults in
+    each-way c.join_each.result _ _ _ _ c.join_each.ensures.errors c.join_each.ensures.joined c.join_each.ensures.memory c.join_each.ensures.breaks
+    (λ all. reached-keeps tell c.args.self.now c.requires.empty c.requires.none (λ d img s. g.met.G.Rig.only_now d img s) c.restart_all.new.self c.restart_all.ensures.same c.requires.some
+    c.in_ok-restart_all.ensures.restarted c.join_each.new.self (opened-all tell c.args.self.now c.requires.empty c.requires.none (λ d img s. g.met.G.Rig.only_now d img s) c.restart_all.new.self c.restart_all.ensures.same c.requires.some
+    c.in_ok-restart_all.ensures.restarted c.join_each.new.self all))
+    (λ lost. opened-keeps tell c.args.self.now c.requires.empty c.requires.none (λ d img s. g.met.G.Rig.only_now d img s) c.join_each.new.self (joins-lost tell c.args.self.now c.requires.empty c.requires.none (λ d img s. g.met.G.Rig.only_now d img s) c.restart_all.new.self c.restart_all.ensures.same c.requires.some
+    c.in_ok-restart_all.ensures.restarted c.join_each.new.self lost))
+    (λ breaks. fails-keeps tell c.args.self.now c.requires.empty c.requires.none (λ d img s. g.met.G.Rig.only_now d img s) c.join_each.new.self (joins-fail tell c.args.self.now c.requires.empty c.requires.none (λ d img s. g.met.G.Rig.only_now d img s) c.restart_all.new.self c.restart_all.ensures.same c.requires.some
+    c.in_ok-restart_all.ensures.restarted c.join_each.new.self breaks))

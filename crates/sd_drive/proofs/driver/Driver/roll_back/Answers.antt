@@ -2,7 +2,7 @@ use Rattle.std.proofs.Common.{refl, sym, ap, ◌∙◌}
 use Rattle.std.proofs.lemmas.Result.{err_from_is_err_and}
 use Rattle.sd_world.specs.Serving.{Telling, telling}
 use Rattle.sd_drive.specs.Driven.{is_did}
-use Rattle.sd_drive.proofs.Backs.{back-all, back-due, back-in, back-not, back-part, back-served, back-some, none-is, roll-none, rolls-named}
+use Rattle.sd_drive.proofs.Backs.{back-all, back-due, back-in, back-named, back-not, back-part, back-served, back-some, none-is, roll-none, rolls-named}
 use Rattle.sd_drive.proofs.Doing.{nothing-came, ordinal-known, short-there}
 use Rattle.sd_drive.proofs.Helps.{on-err-then, on-ok-then}
 use Rattle.sd_drive.proofs.Operating.{came-some}
@@ -36,6 +36,12 @@ pub operate-requires-clause-served : goal.operate-requires-clause-served
 operate-requires-clause-served g c =
     let tell : Telling _ = telling g.G.Rig.seen g.G.Rig.leaves g.G.Rig.moment g.G.Rig.since g.G.Rig.faults in
     back-served tell c.args.self.now c.args.line.now c.requires.rolls c.in-Some.txn (sym c.txn_of.ensures ∙ c.in-Some.is) c.in_ok-back.back
+    c.in_ok-back.ensures c.requires.at
+
+pub operate-requires-clause-names : goal.operate-requires-clause-names
+operate-requires-clause-names g c =
+    let tell : Telling _ = telling g.G.Rig.seen g.G.Rig.leaves g.G.Rig.moment g.G.Rig.since g.G.Rig.faults in
+    back-named tell c.args.self.now c.args.line.now c.requires.rolls c.in-Some.txn (sym c.txn_of.ensures ∙ c.in-Some.is) c.in_ok-back.back
     c.in_ok-back.ensures c.requires.at
 
 pub operate-requires-clause-due : goal.operate-requires-clause-due

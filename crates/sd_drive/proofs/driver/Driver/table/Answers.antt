@@ -3,19 +3,16 @@ use Rattle.std.proofs.lemmas.Result.{err_from_is_err_and}
 use Rattle.sd_model.specs.declared.event.Event.{Event}
 use Rattle.sd_model.specs.declared.event.Event.TheVariants as event
 use Rattle.sd_world.specs.Serving.{Telling, telling}
-use Rattle.sd_state.specs.Complexes.{parts}
-use Rattle.sd_state.specs.Parts.{IsShape, status_at}
-use Rattle.sd_drive.specs.Driving.{lister_by}
 use Rattle.sd_drive.specs.Operating.{DueIn, Operates, OperatesSome}
 use Rattle.sd_drive.specs.Reaching.{is_rows}
 use Rattle.sd_drive.proofs.Operating.{came-some}
-use Rattle.sd_drive.proofs.Tables.{table-due, table-first, table-last, table-next, table-refused, table-shape, table-some}
+use Rattle.sd_drive.proofs.Tables.{table-due, table-first, table-last, table-next, table-fits, table-refused, table-some}
 use Rattle.sd_drive.proofs.driver.Driver.table.Goals as goal
 
-pub lister-inst-requires-clause-shape : goal.lister-inst-requires-clause-shape
-lister-inst-requires-clause-shape g c =
+pub lister-inst-requires-clause-fits : goal.lister-inst-requires-clause-fits
+lister-inst-requires-clause-fits g c =
     let tell : Telling _ = telling g.G.Rig.seen g.G.Rig.leaves g.G.Rig.moment g.G.Rig.since g.G.Rig.faults in
-    subst (λ d. IsShape (parts d)) (sym c.complex.ensures) (table-shape tell c.args.self.now c.args.line.now c.requires.table 1 c.requires.at)
+    table-fits tell c.args.self.now c.args.line.now c.requires.table 1 c.requires.at
 
 pub lister-inst-requires-clause-most : goal.lister-inst-requires-clause-most
 lister-inst-requires-clause-most g c = c.requires.at.driven.insts_most
@@ -26,7 +23,7 @@ loop-number-init g c =
     let some = c.requires.at.driven.some in
     record {
       more = λ lt. table-first tell c.args.self.now c.args.line.now c.requires.table c.lister-inst.result
-          (c.lister-inst.ensures ∙ ap (λ d. lister_by (status_at (parts d)) c.args.self.now.insts) c.complex.ensures);
+          c.lister-inst.ensures;
       last = λ none. absurd (omega (arith, none, some));
       same = (refl, refl);
       txns = refl;

@@ -1,0 +1,215 @@
+-- An example: the lines `recover all; join all` of a script with two instances, behind its `reopen` line. Both instances are down; a loser
+-- of the first has changed page 0, which its recovery needs. Which entries are told of them: the first instance recovers itself, with a
+-- pull of the page, and then the second; the first joins, and the second is refused for want of room in its log. And the opening of such a
+-- complex, the first instance of which alone is down: it recovers itself, and then both join; a device that fails in the pull ends it.
+use Rattle.std.proofs.Common.{inl, inr, ℕ, Bool, true, false, eqb, cond, List, [], ◌∷◌, refl}
+use Rattle.std.specs.Prelude.{None}
+use Rattle.sd_base.specs.declared.ids.TxnId.{TxnId}
+use Rattle.sd_base.specs.declared.place.Mode.TheVariants as modes
+use Rattle.sd_base.specs.declared.place.Place.TheVariants as places
+use Rattle.sd_base.specs.declared.place.Status.{Status}
+use Rattle.sd_base.specs.declared.place.Status.TheVariants as S
+use Rattle.sd_base.specs.declared.refusal.Refusal.TheVariants as R
+use Rattle.sd_model.specs.declared.event.Entry.{Entry}
+use Rattle.sd_model.specs.declared.event.Event.{Event}
+use Rattle.sd_model.specs.declared.event.Event.TheVariants as event
+use Rattle.sd_model.specs.declared.event.Reply.{Reply}
+use Rattle.sd_model.specs.declared.event.Reply.TheVariants as reply
+use Rattle.sd_model.specs.Reopening.{loser}
+use Rattle.sd_model.specs.State.{State, fresh}
+use Rattle.sd_script.specs.declared.line.Form.{Form}
+use Rattle.sd_script.specs.declared.line.Form.TheVariants as form
+use Rattle.sd_script.specs.declared.line.Line.{Line}
+use Rattle.sd_pagelock.specs.Places.{Entry as Place}
+use Rattle.sd_world.specs.Pages.{Pages, placed}
+use Rattle.sd_world.specs.PageCauses.{IsNeededPage}
+use Rattle.sd_world.specs.Serving.{Core}
+use Rattle.sd_drive.specs.Driving.{Cursor, IsTold, Progress, Tells, Work, done, stays, untold}
+use Rattle.sd_drive.specs.Pulls.{Pull}
+
+abbrev line : ℕ → Form → Line
+line number f = record { number = number; session = 0; form = f }
+
+abbrev l4 : Line
+l4 = line 4 form.RecoverAll
+
+abbrev l5 : Line
+l5 = line 5 form.JoinAll
+
+abbrev t : TxnId
+t = record { inst = 1; epoch = 1; seq = 1 }
+
+-- the two instances stand so; each transaction that isn't gone lost, and holds record 0.0
+abbrev state : Status → Status → State
+state s1 s2 = record fresh {
+  part = λ u. loser (λ r. eqb r.page 0);
+  inst = λ i. record { status = cond {A = Status} (eqb i 1) s1 (cond {A = Status} (eqb i 2) s2 S.Clean); epoch = 1; begins = 0; failed = 0 };
+}
+
+-- no pool has a page; page 0 is there alone, or changed
+abbrev none : Pages
+none = record { frames = 1; entry = λ p. Place.Free; asks = λ p. []; number = λ p. 0; begun = λ i. false }
+
+abbrev page : Bool → Pages
+page dirty = placed 0 (Place.Excl 1 dirty) none
+
+abbrev core : Status → Status → Pages → Core
+core s1 s2 w = record {
+  scene = record { state = state s1 s2; waits = λ u. None };
+  pages = w;
+  bounds = record { slots = λ p. []; reach = λ i. 0; lsns = 0; masters = λ i. 0 };
+}
+
+abbrev own : Line → Event → Reply → Entry
+own l e r = record { session = l.session; line = l.number; event = e; reply = r }
+
+abbrev helps : Event → Reply → Entry
+helps e r = record { session = 0; line = 0; event = e; reply = r }
+
+abbrev first : Progress
+first = record {
+  known = record { insts = 2; pages = 1; names = λ name. None };
+  left = Work.Do l4 ∷ Work.Do l5 ∷ [];
+  cursor = None;
+  pull = Pull.Idle;
+  failed = false;
+}
+
+abbrev rest : List Work
+rest = Work.Do l5 ∷ []
+
+-- the recovery of instance 1 begins
+abbrev at1 : Progress
+at1 = stays first (Work.Do l4) rest (Cursor.Steps 1) Pull.Idle
+
+told1 : Tells (core S.Down S.Down none) (core (S.Recovering 1) S.Down none) first (own l4 (event.RecoverBegin 1 1) reply.Did) at1
+told1 = (refl, (refl, refl, refl, refl))
+
+-- a step of it needs page 0
+needed : (s2 : Status) → IsNeededPage (state (S.Recovering 1) s2) 1 0
+needed s2 = (t, refl, inl refl, (0, refl))
+
+abbrev at2 : Progress
+at2 = stays at1 (Work.Do l4) rest (Cursor.Steps 1) (Pull.Asks 0)
+
+told2 : Tells (core (S.Recovering 1) S.Down none) (core (S.Recovering 1) S.Down none) at1
+    (own l4 (event.RecoverStep 1) (reply.Refused (R.NeedPage places.Free))) at2
+told2 = (refl, (refl, refl, refl, inl (refl, refl, (0, needed S.Down, refl))))
+
+abbrev at3 : Progress
+at3 = stays at2 (Work.Do l4) rest (Cursor.Steps 1) Pull.Idle
+
+told3 : Tells (core (S.Recovering 1) S.Down none) (core (S.Recovering 1) S.Down (page false)) at2 (helps (event.Ask 1 0 modes.Excl) reply.Have) at3
+told3 = (refl, (refl, refl, refl, refl))
+
+-- and is done then
+told4 : Tells (core (S.Recovering 1) S.Down (page false)) (core (S.Recovering 1) S.Down (page true)) at3 (own l4 (event.RecoverStep 1) reply.Step) at3
+told4 = (refl, (refl, refl, refl, refl))
+
+-- the recovery ends, and instance 2 is the next one that is down
+abbrev at5 : Progress
+at5 = stays at3 (Work.Do l4) rest (Cursor.Recovers 2) Pull.Idle
+
+told5 : Tells (core (S.Recovering 1) S.Down (page true)) (core S.Restarting S.Down (page true)) at3 (own l4 (event.RecoverStep 1) reply.Finished) at5
+told5 = (refl, (refl, refl, refl, refl))
+
+abbrev at6 : Progress
+at6 = stays at5 (Work.Do l4) rest (Cursor.Steps 2) Pull.Idle
+
+told6 : Tells (core S.Restarting S.Down (page true)) (core S.Restarting (S.Recovering 2) (page true)) at5 (own l4 (event.RecoverBegin 2 2) reply.Did) at6
+told6 = (refl, (refl, refl, refl, refl))
+
+abbrev at7 : Progress
+at7 = done at6 (Work.Do l4) rest reply.Finished
+
+told7 : Tells (core S.Restarting (S.Recovering 2) (page true)) (core S.Restarting S.Restarting (page true)) at6
+    (own l4 (event.RecoverStep 2) reply.Finished) at7
+told7 = (refl, (refl, refl, refl, refl))
+
+-- instance 1 joins, and instance 2 is refused
+abbrev at8 : Progress
+at8 = stays at7 (Work.Do l5) [] (Cursor.Joins 2) Pull.Idle
+
+told8 : Tells (core S.Restarting S.Restarting (page true)) (core S.Up S.Restarting (page true)) at7 (own l5 (event.Join 1) (reply.Joined 2)) at8
+told8 = (refl, (refl, refl, refl, refl))
+
+abbrev at9 : Progress
+at9 = done at8 (Work.Do l5) [] (reply.Refused R.LogFull)
+
+told9 : Tells (core S.Up S.Restarting (page true)) (core S.Up S.Restarting (page true)) at8 (own l5 (event.Join 2) (reply.Refused R.LogFull)) at9
+told9 = (refl, (refl, refl, refl, refl))
+
+-- nothing is left; where all are up, or none is down, the lines would have had no event
+all-told : IsTold (state S.Up S.Restarting) at9
+all-told = (refl, refl)
+
+unneeded : IsTold (state S.Up S.Up) first
+unneeded = (refl, refl)
+
+-- ---- the opening
+
+abbrev opening : Progress
+opening = untold 2 1 []
+
+abbrev o1 : Progress
+o1 = stays opening Work.Opening [] (Cursor.Steps 1) Pull.Idle
+
+opens1 : Tells (core S.Down S.Clean none) (core (S.Recovering 1) S.Clean none) opening (helps (event.RecoverBegin 1 1) reply.Did) o1
+opens1 = (refl, (refl, refl, refl, refl))
+
+abbrev o2 : Progress
+o2 = stays o1 Work.Opening [] (Cursor.Steps 1) (Pull.Asks 0)
+
+opens2 : Tells (core (S.Recovering 1) S.Clean none) (core (S.Recovering 1) S.Clean none) o1
+    (helps (event.RecoverStep 1) (reply.Refused (R.NeedPage places.Free))) o2
+opens2 = (refl, (refl, refl, refl, inl (refl, refl, (0, needed S.Clean, refl))))
+
+abbrev o3 : Progress
+o3 = stays o2 Work.Opening [] (Cursor.Steps 1) Pull.Idle
+
+opens3 : Tells (core (S.Recovering 1) S.Clean none) (core (S.Recovering 1) S.Clean (page false)) o2 (helps (event.Ask 1 0 modes.Excl) reply.Have) o3
+opens3 = (refl, (refl, refl, refl, refl))
+
+opens4 : Tells (core (S.Recovering 1) S.Clean (page false)) (core (S.Recovering 1) S.Clean (page true)) o3 (helps (event.RecoverStep 1) reply.Step) o3
+opens4 = (refl, (refl, refl, refl, refl))
+
+-- no other is down: instance 1 joins, and then instance 2
+abbrev o5 : Progress
+o5 = stays o3 Work.Opening [] (Cursor.Joins 1) Pull.Idle
+
+opens5 : Tells (core (S.Recovering 1) S.Clean (page true)) (core S.Restarting S.Clean (page true)) o3 (helps (event.RecoverStep 1) reply.Finished) o5
+opens5 = (refl, (refl, refl, refl, refl))
+
+abbrev o6 : Progress
+o6 = stays o5 Work.Opening [] (Cursor.Joins 2) Pull.Idle
+
+opens6 : Tells (core S.Restarting S.Clean (page true)) (core S.Up S.Clean (page true)) o5 (helps (event.Join 1) (reply.Joined 2)) o6
+opens6 = (refl, (refl, refl, refl, refl))
+
+abbrev o7 : Progress
+o7 = done o6 Work.Opening [] (reply.Joined 1)
+
+opens7 : Tells (core S.Up S.Clean (page true)) (core S.Up S.Up (page true)) o6 (helps (event.Join 2) (reply.Joined 1)) o7
+opens7 = (refl, (refl, refl, refl, refl))
+
+all-opened : IsTold (state S.Up S.Up) o7
+all-opened = (refl, refl)
+
+-- where the ask finds no frame to be had, the step is refused once more, and the opening goes on
+abbrev vain : Progress
+vain = stays o2 Work.Opening [] (Cursor.Steps 1) Pull.Ends
+
+goes-on : Tells (core (S.Recovering 1) S.Clean none) (core (S.Recovering 1) S.Clean none) vain
+    (helps (event.RecoverStep 1) (reply.Refused (R.NeedPage places.Free))) o5
+goes-on = (refl, (refl, refl, refl, inr (inl refl, refl)))
+
+-- where a device fails in the ask, nothing is due behind it
+abbrev failed : Progress
+failed = record vain { failed = true }
+
+fails : Tells (core (S.Recovering 1) S.Clean none) (core S.Down S.Clean none) o2 (helps (event.Ask 1 0 modes.Excl) (reply.Refused R.Failed)) failed
+fails = (refl, (refl, refl, refl, refl))
+
+nothing-due : (then : Progress) → Tells (core S.Down S.Clean none) (core (S.Recovering 1) S.Clean none) failed
+    (helps (event.RecoverBegin 1 1) reply.Did) then → ⊥
+nothing-due then tells = let is = tells.0 in absurd (cc)

@@ -1,0 +1,13 @@
+use Rattle.std.proofs.Common.{◌+◌}
+use Rattle.sd_world.specs.Serving.{telling}
+use Rattle.sd_drive.specs.Reaching.{IsSame}
+use Rattle.sd_drive.proofs.Joining.{InJoins}
+use Rattle.sd_drive.proofs.driver.Driver.join_all.Given as goal
+
+-- the instances before this one have been looked at
+abbrev pub invariant-loop-number : goal.invariant-loop-number
+invariant-loop-number g l =
+    record {
+      on : InJoins (telling g.G.Rig.seen g.G.Rig.leaves g.G.Rig.moment g.G.Rig.since g.G.Rig.faults) l.fn.self l.line l.self (l.number + 1);
+      same : IsSame l.fn.self l.self;
+    }
