@@ -1,5 +1,6 @@
+mod Answered
+mod Commands
+mod Rising
+mod Scripts
 pub mod Puts
 pub mod Takes
-mod Scripts
-mod Rising
-mod Answered

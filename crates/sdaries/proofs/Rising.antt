@@ -1,6 +1,6 @@
 -- The lines of entries that are due don't fall, but for those of the opening and of helping events, which have line 0. It serves the goals
 -- of top.rt.
-use Rattle.std.proofs.Common.{◌≡◌, ◌⊎◌, ℕ, ◌≤◌, ◌<◌, Bool, true, false, cond, List, [], ◌∷◌, max, inl, inr, ⊎_elim, refl, sym, ap, ◌∙◌, subst, arith}
+use Rattle.std.proofs.Common.{◌≡◌, ◌⊎◌, ℕ, ◌≤◌, Bool, true, false, cond, List, [], ◌∷◌, max, inl, inr, ⊎_elim, sym, subst, arith}
 use Rattle.std.specs.Prelude.{Option, None, Some, is_some}
 use Rattle.sd_base.specs.declared.refusal.Refusal.TheVariants as R
 use Rattle.sd_model.specs.declared.event.Entry.{Entry}
@@ -11,8 +11,8 @@ use Rattle.sd_model.specs.State.{State}
 use Rattle.sd_script.specs.declared.line.Line.{Line}
 use Rattle.sd_world.specs.Serving.{Core}
 use Rattle.sd_report.specs.Report.{AreAbove, AreFrom}
-use Rattle.sd_drive.specs.Driving.{Cursor, Drives, Helps, Known, Own, Progress, Tells, TellsAt, TellsFirst, TellsWork, Work, World, ahead, cursor_in, followed, goes_on, number_of, puller_of, event_at, start_of, untold, works_of}
-use Rattle.sd_drive.specs.Pulls.{Pull, Puller, is_pulling}
+use Rattle.sd_drive.specs.Driving.{Cursor, Drives, Helps, Known, Own, Progress, TellsAt, TellsFirst, TellsWork, Work, World, ahead, cursor_in, due_works, event_at, followed, goes_on, left_from, marked, number_of, puller_of, start_of, stays, untold, works_of}
+use Rattle.sd_drive.specs.Pulls.{Puller, helped, is_pulling}
 
 -- the numbers of the works don't fall, and none is below this one
 abbrev WorksFrom : ℕ → List Work → Type 0
@@ -52,21 +52,31 @@ followed-from : (low : ℕ) (at : Progress) (work : Work) (rest : List Work) (r 
 followed-from low at work rest r None line is w = rest-of low work rest line is w
 followed-from low at work rest r (Some c) line is w = more-of low work rest line (inr is) w
 
+-- a fault that is marked changes nothing of what is left
+marked-from : (low : ℕ) (work : Work) (r : Reply) (then then' : Progress) → then' ≡ marked work r then → WorksFrom low then.left → WorksFrom low then'.left
+marked-from low Work.Opening r then then' is w = subst (λ (p : Progress). WorksFrom low p.left) (sym is) w
+marked-from low (Work.Do line) r then then' is w = subst (λ (p : Progress). WorksFrom low p.left) (sym is) w
+
 own-from : (low : ℕ) (m m' : State) (at : Progress) (work : Work) (rest : List Work) (c : Cursor) (e : Event) (r : Reply) (then : Progress) (line : ℕ)
     → line ≡ number_of work → WorksFrom low (work ∷ rest) → Own m m' at work rest c e r then → WorksFrom (max low line) then.left
 own-from low m m' at work rest c e (reply.Refused (R.NeedPage place)) then line is w o = ⊎_elim
     (λ h. subst (λ (p : Progress). WorksFrom (max low line) p.left) (sym h.2.2) (more-of low work rest line (inr is) w))
-    (λ h. subst (λ (p : Progress). WorksFrom (max low line) p.left) (sym h.1) (rest-of low work rest line is w))
+    (λ h.
+    let r = reply.Refused (R.NeedPage place) in
+    marked-from (max low line) work r (followed at work rest r (goes_on m' at.known work c r)) then h.1
+    (followed-from low at work rest r (goes_on m' at.known work c r) line is w))
     o
 own-from low m m' at work rest c e r then line is w o =
-    subst (λ (p : Progress). WorksFrom (max low line) p.left) (sym o) (followed-from low at work rest r (goes_on m' at.known work c r) line is w)
+    marked-from (max low line) work r (followed at work rest r (goes_on m' at.known work c r)) then o
+    (followed-from low at work rest r (goes_on m' at.known work c r) line is w)
 
 helps-from : (low : ℕ) (w : Core) (at : Progress) (work : Work) (rest : List Work) (c : Cursor) (for : Option Puller) (entry : Entry) (then : Progress)
     → WorksFrom low (work ∷ rest) → Helps w at work rest c for entry then → Rises low entry then
 helps-from low w at work rest c None entry then works h = absurd h
 helps-from low w at work rest c (Some for) entry then works h = record {
   line = inl h.1;
-  left = subst (λ (p : Progress). WorksFrom (max low entry.line) p.left) (sym h.3) (more-of low work rest entry.line (inl h.1) works);
+  left = marked-from (max low entry.line) work entry.reply (stays at work rest c (helped at.pull entry.event entry.reply)) then h.3
+      (more-of low work rest entry.line (inl h.1) works);
 }
 
 at-from : (b : Bool) (low : ℕ) (w w' : Core) (at : Progress) (work : Work) (rest : List Work) (c : Cursor) (entry : Entry) (then : Progress)
@@ -75,7 +85,7 @@ at-from true low w w' at work rest c entry then works t =
     helps-from low w at work rest c (puller_of w.scene.state (event_at at.known work c)) entry then works t
 at-from false low w w' at work rest c entry then works t = record {
   line = let number = t.1 in let least = works.0 in inr (omega (arith, number, least));
-  left = own-from low w.scene.state w'.scene.state at work rest c entry.event entry.reply then entry.line t.1 works t.4;
+  left = own-from low w.scene.state w'.scene.state at work rest c entry.event entry.reply then entry.line t.1 works t.3;
 }
 
 work-from : (low : ℕ) (w w' : Core) (at : Progress) (work : Work) (rest : List Work) (c : Option Cursor) (entry : Entry) (then : Progress)
@@ -89,12 +99,17 @@ first-from low w w' at [] entry then works t = absurd t
 first-from low w w' at (work ∷ rest) entry then works t =
     work-from low w w' at work rest (cursor_in w.scene.state at.known work at.cursor) entry then works t
 
+-- the works that are due: those from the one under way on, or from the first with an event
+due-from : (low : ℕ) (m : State) (at : Progress) (c : Option Cursor) → WorksFrom low at.left → WorksFrom low (left_from m at.known c at.left)
+due-from low m at None works = ahead-from m at.known low at.left works
+due-from low m at (Some c) works = works
+
 rise : (low : ℕ) (old new : World) (entries : List Entry) → WorksFrom low old.told.left → Drives old entries new → AreFrom low entries
 rise low old new [] works d = tt
 rise low old new (entry ∷ entries) works d =
     let next = d.0 in
-    let one = first-from low old.core next.core old.told (ahead old.core.scene.state old.told.known old.told.left) entry next.told
-    (ahead-from old.core.scene.state old.told.known low old.told.left works) d.1.tells in
+    let one = first-from low old.core next.core old.told (due_works old.core.scene.state old.told) entry next.told
+    (due-from low old.core.scene.state old.told old.told.cursor works) d.1.tells.1 in
     (one.line, rise (max low entry.line) next new entries one.left d.2)
 
 lines-from : (low : ℕ) (lines : List Line) → AreAbove low lines → WorksFrom low (works_of lines)

@@ -1,11 +1,11 @@
 -- What the lines of a script give the replay. It serves the goals of top.rt.
-use Rattle.std.proofs.Common.{◌≡◌, ℕ, zero, suc, ◌<◌, ◌≤◌, ◌+◌, min, Bool, true, false, List, [], ◌∷◌, ◌++◌, length, take, drop, get_or, Some, refl, sym, ap, ◌∙◌, arith, length-append}
+use Rattle.std.proofs.Common.{◌≡◌, ℕ, zero, suc, ◌<◌, ◌≤◌, ◌+◌, min, Bool, true, false, List, [], ◌∷◌, length, take, Some, refl, sym, ap, ◌∙◌, arith, length-append}
 use Rattle.std.proofs.Math.Nat.{min-eq_left}
 use Rattle.std.specs.Prelude.{slice_get, sum_by, if◌then◌else◌, ◌==◌, codes}
 use Rattle.std.specs.Fmt.{decimal}
 use Rattle.std.specs.List.{join_with_byte, slice_split}
 use Rattle.std.proofs.lemmas.Bool.{eqb-true}
-use Rattle.std.proofs.lemmas.List.{take_more, drop_more, take_all}
+use Rattle.std.proofs.lemmas.List.{take_all}
 use Rattle.std.proofs.lemmas.List.Splits.{join_with_byte-slice_split}
 use Rattle.std.proofs.lemmas.List.Sums.{sum_by-cons}
 use Rattle.sd_script.specs.declared.line.Form.{Form}
@@ -72,6 +72,10 @@ behind_none (form.Force inst) follows is = absurd (omega (arith, follows, is.0))
 behind_none (form.Fail inst) follows is = absurd (omega (arith, follows, is.0))
 behind_none (form.Fuse calls) follows is = absurd (follows refl)
 behind_none (form.Fault call) follows is = absurd (follows refl)
+behind_none (form.FailAll pick) follows is = absurd (follows refl)
+behind_none form.Reopen follows is = absurd (follows refl)
+behind_none form.RecoverAll follows is = absurd (follows refl)
+behind_none form.JoinAll follows is = absurd (follows refl)
 behind_none (form.Where page) follows is = absurd (omega (arith, follows))
 behind_none form.Table follows is = absurd (follows.0 refl)
 

@@ -10,4 +10,5 @@ exit_number status.Usage = 2
 exit_number status.ReadFault = 3
 exit_number status.WriteFault = 4
 exit_number status.NoMemory = 5
+exit_number status.Damaged = 6
 exit_number status.Device = 7

@@ -1,18 +1,29 @@
--- A driver before the opening.
+-- A driver before the opening, and behind it.
 use Rattle.std.specs.Prelude.{◌≡◌, List, []}
 use Rattle.sd_script.specs.declared.line.Line.{Line}
 use Rattle.sd_script.specs.Order.{insts_of, pages_of}
 use Rattle.sd_world.specs.Serving.{Telling}
-use Rattle.sd_fits.specs.Fits.{fresh_core}
+use Rattle.sd_fits.specs.Opened.{opening_core}
+use Rattle.sd_hall.specs.Bodies.{IsRigIn}
 use Rattle.sd_hall.specs.Keeping.{Keeps}
 use Rattle.sd_drive.specs.declared.driver.Driver.{Driver}
-use Rattle.sdaries.specs.Opening.{frames_of}
+use Rattle.sd_drive.specs.Driving.{World}
+use Rattle.sd_drive.specs.Reaching.{Reached}
+use Rattle.sdaries.specs.Opening.{Opens, frames_of, opening}
 
--- Nothing has happened in its hall, which is as the first line wants it.
-pub record IsUnopened {G : Type 0} (tell : Telling G) (lines : List Line) (driver : Driver G) : Type 0 where
-  pub keeps : Keeps tell (fresh_core (frames_of lines)) driver.hall
+-- Nothing has happened in its hall, which was opened from the devices `rig` as the first line wants it, and has them as they are now.
+pub record IsUnopened {G : Type 0} (tell : Telling G) (lines : List Line) (rig : G) (driver : Driver G) : Type 0 where
+  pub now : G
+  pub has : IsRigIn now driver.hall.body
+  pub opens : Opens tell rig now driver.hall.book.opening
+  pub keeps : Keeps tell (opening_core (frames_of lines) (tell.seen rig)) driver.hall
   pub entries : driver.hall.book.entries ≡ []
-  pub blank : driver.hall.book.opening ≡ []
   pub insts : driver.insts ≡ insts_of lines
   pub pages : driver.pages ≡ pages_of lines
   pub txns : driver.txns.items ≡ []
+
+-- The opening is done: it has led to this world, and the lines are to come.
+pub record IsOpened {G : Type 0} (tell : Telling G) (lines : List Line) (rig : G) (driver : Driver G) (w : World) : Type 0 where
+  pub now : G
+  pub opens : Opens tell rig now driver.hall.book.opening
+  pub reached : Reached tell (opening lines (tell.seen rig) now driver.hall.book.opening) lines 0 driver w

@@ -18,6 +18,8 @@ pub enum Status {
     WriteFault,
     /// 5: there was no memory.
     NoMemory,
+    /// 6: the devices aren't sound.
+    Damaged,
     /// 7: a device failed in the opening.
     Device,
 }
@@ -34,6 +36,7 @@ impl Status {
             Status::ReadFault => 3,
             Status::WriteFault => 4,
             Status::NoMemory => 5,
+            Status::Damaged => 6,
             Status::Device => 7,
         }
     }

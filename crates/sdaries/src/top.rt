@@ -1,29 +1,30 @@
 //! The top call: a script from its source to its report.
 
-ghost use Rattle.std.specs.Prelude.{◌≡◌, ◌⊎◌, ◌↔◌, ◌≤◌, ℕ, List, [], length, map, string_bytes, Some, None, IsTrue};
+ghost use Rattle.std.specs.Prelude.{◌≡◌, ◌⊎◌, ◌≤◌, ℕ, List, length, map, string_bytes, Some, None};
 ghost use Rattle.sd_base.specs.Streams.{Rises};
 ghost use Rattle.sd_script.specs.declared.line.Line.{Line};
 ghost use Rattle.sd_script.specs.Reading.{IsScript};
 ghost use Rattle.sd_world.specs.Serving.{telling};
-ghost use Rattle.sd_state.specs.Fresh.{AreBlank};
+ghost use Rattle.sd_chain.specs.Checks.{DevicesAreSound};
 ghost use Rattle.sd_report.specs.Report.{report, AreAbove, AreFrom};
 ghost use Rattle.sd_drive.specs.Driving.{World};
-ghost use Rattle.sd_drive.specs.Reaching.{Reached};
-ghost use Rattle.sdaries.specs.Unopened.{IsUnopened};
+ghost use Rattle.sdaries.specs.Words.{IsCommand};
+ghost use Rattle.sdaries.specs.Unopened.{IsOpened, IsUnopened};
 ghost use Rattle.sd_script.specs.Order.{insts_of, pages_of};
 ghost use Rattle.sdaries.specs.declared.status.Status.TheVariants as status;
 ghost use Rattle.sdaries.specs.Input.{Taken};
-ghost use Rattle.sdaries.specs.Opening.{frames_of, opening};
-ghost use Rattle.sdaries.specs.Outcome.{IsReplay, Answers, Outcome, Delivers, TellsBad, TellsUnopened};
+ghost use Rattle.sdaries.specs.Opening.{frames_of};
+ghost use Rattle.sdaries.specs.Outcome.{Answers, Outcome, Delivers, TellsBad, TellsDamaged, TellsUnopened};
 
 use crate::input::{InputError, read_all};
 use crate::output::write_all;
 use crate::status::Status;
+use crate::words::is_command;
 use sd_base::{Cause, Gate, Memory, Refusal, Sink, Source};
 use sd_drive::Driver;
 use sd_hall::Hall;
 use sd_model::Book;
-use sd_report::{bad_line, render};
+use sd_report::{bad_line, damaged_line, render};
 use sd_rig::Rig;
 use sd_script::{Form, Kind, Line, Script};
 use sd_state::Shape;
@@ -38,8 +39,8 @@ pub struct Done<G> {
     pub book: Option<Book>,
 }
 
-/// Runs the command that the words give: `replay` reads a script from the source, does what its lines say on the devices of the
-/// rig, which are blank, and writes the report to the sink.
+/// Runs the command that the words give: `replay` reads a script from the source, opens the complex that the devices of the rig
+/// stand for, does what the lines say, and writes the report to the sink. The script is read whole before the first device call.
 pub fn top<S: Source, K: Sink, G: Rig, T: Gate>(
     alloc: Global,
     words: &[String],
@@ -48,45 +49,46 @@ pub fn top<S: Source, K: Sink, G: Rig, T: Gate>(
     rig: G,
     _gate: &T,
 ) -> Done<G>
-    requires blank { AreBlank (G.seen rig) (G.leaves rig) }
 
-    // What each status says of a command: the report of a run that is told of the script, the first bad line, a fault; and what the
-    // devices stand for.
-    ensures outcome { IsReplay (map string_bytes words.now) → Outcome (telling G.seen G.leaves G.moment G.since G.faults) result.status
+    // What each status says of a command: the report of a run that is told of the script, the first bad line, a fault, where the devices
+    // aren't sound; and what the devices stand for.
+    ensures outcome { IsCommand (map string_bytes words.now) → Outcome (telling G.seen G.leaves G.moment G.since G.faults) result.status
         (record { left = S.left source.old; faults = S.faults source.old })
         (record { left = S.left source.new; faults = S.faults source.new })
         (record { sink = record { written = K.written sink.old; faults = K.faults sink.old }; rig = rig })
         (record { sink = record { written = K.written sink.new; faults = K.faults sink.new }; rig = result.rig }) result.book }
-    ensures usage { (result.status ≡ status.Usage) ↔ (IsReplay (map string_bytes words.now) → ⊥) }
+
+    // Words that are a command are no faulty ones, and others are, where there is memory to read them.
+    ensures usage { (result.status ≡ status.Usage → IsCommand (map string_bytes words.now) → ⊥)
+        × ((IsCommand (map string_bytes words.now) → ⊥) → (result.status ≡ status.Usage) ⊎ (result.status ≡ status.NoMemory)) }
 
     // Other words touch neither stream nor the devices, and there is no book.
-    ensures untouched { result.status ≡ status.Usage → (S.left source.new ≡ S.left source.old)
+    ensures untouched { (IsCommand (map string_bytes words.now) → ⊥) → (S.left source.new ≡ S.left source.old)
         × (S.faults source.new ≡ S.faults source.old)
         × (K.written sink.new ≡ K.written sink.old) × (K.faults sink.new ≡ K.faults sink.old) × (result.book ≡ None) × (result.rig ≡ rig) }
 
     // No more than 4,194,305 bytes are taken from the source.
     ensures bounded { (text : List ℕ) × (length text ≤ 4194305) × Taken (S.left source.old) text (S.left source.new) }
 
-    // A script is done, unless a stream fails, a device fails in the opening, or there is no memory.
-    ensures complete { (text : List ℕ) (lines : List Line) → IsReplay (map string_bytes words.now) → S.left source.old ≡ Some text → IsScript text lines
+    // Over sound devices a script is done, unless a stream fails, a device fails in the opening, or there is no memory. A device that
+    // fails behind the opening is told by replies.
+    ensures complete { (text : List ℕ) (lines : List Line) → IsCommand (map string_bytes words.now) → S.left source.old ≡ Some text
+        → IsScript text lines → DevicesAreSound (G.seen rig)
         → (Rises (S.faults source.old) (S.faults source.new) → ⊥) → (Rises (K.faults sink.old) (K.faults sink.new) → ⊥)
-        → (Rises (G.faults rig) (G.faults result.rig) → ⊥)
-        → (result.status ≡ status.Done) ⊎ (result.status ≡ status.NoMemory) }
-{
-    if is_replay(words) {
-        replay(alloc, source, sink, rig)
-    } else {
-        without_book(Status::Usage, rig)
-    }
-}
+        → (result.status ≡ status.Done) ⊎ ((result.status ≡ status.NoMemory) ⊎ (result.status ≡ status.Device)) }
 
-// Whether the words are the one word `replay`.
-fn is_replay(words: &[String]) -> bool
-    ensures { IsTrue result ↔ IsReplay (map string_bytes words.now) }
+    // Devices are told damaged only where they aren't sound, and are so where a script meets them, unless the source fails, a device
+    // fails in the opening, or there is no memory.
+    ensures damaged { (result.status ≡ status.Damaged → DevicesAreSound (G.seen rig) → ⊥)
+        × ((text : List ℕ) (lines : List Line) → IsCommand (map string_bytes words.now) → S.left source.old ≡ Some text
+        → IsScript text lines → (DevicesAreSound (G.seen rig) → ⊥)
+        → (Rises (S.faults source.old) (S.faults source.new) → ⊥)
+        → (result.status ≡ status.Damaged) ⊎ ((result.status ≡ status.NoMemory) ⊎ (result.status ≡ status.Device))) }
 {
-    match words {
-        [word] => word.as_str() == "replay",
-        _ => false,
+    match is_command(alloc, words) {
+        Ok(true) => replay(alloc, source, sink, rig),
+        Ok(false) => without_book(Status::Usage, rig),
+        Err(Memory) => without_book(Status::NoMemory, rig),
     }
 }
 
@@ -109,7 +111,6 @@ fn replay<S: Source, K: Sink, G: Rig>(
     sink: &mut K,
     rig: G,
 ) -> Done<G>
-    requires blank { AreBlank (G.seen rig) (G.leaves rig) }
     ensures outcome { Outcome (telling G.seen G.leaves G.moment G.since G.faults) result.status
         (record { left = S.left source.old; faults = S.faults source.old })
         (record { left = S.left source.new; faults = S.faults source.new })
@@ -125,7 +126,6 @@ fn replay<S: Source, K: Sink, G: Rig>(
 }
 
 fn replay_text<K: Sink, G: Rig>(alloc: Global, text: &[u8], sink: &mut K, rig: G) -> Done<G>
-    requires blank { AreBlank (G.seen rig) (G.leaves rig) }
     ensures { Answers (telling G.seen G.leaves G.moment G.since G.faults) result.status text.now
         (record { sink = record { written = K.written sink.old; faults = K.faults sink.old }; rig = rig })
         (record { sink = record { written = K.written sink.new; faults = K.faults sink.new }; rig = result.rig }) result.book }
@@ -156,47 +156,49 @@ fn report_bad_line<K: Sink>(alloc: Global, line: u32, cause: Cause, sink: &mut K
 
 fn replay_lines<K: Sink, G: Rig>(alloc: Global, lines: &[Line], sink: &mut K, rig: G) -> Done<G>
     requires script { (text : List ℕ) × IsScript text lines.now }
-    requires blank { AreBlank (G.seen rig) (G.leaves rig) }
     ensures { (text : List ℕ) → IsScript text lines.now → Answers (telling G.seen G.leaves G.moment G.since G.faults) result.status text
         (record { sink = record { written = K.written sink.old; faults = K.faults sink.old }; rig = rig })
         (record { sink = record { written = K.written sink.new; faults = K.faults sink.new }; rig = result.rig }) result.book }
 {
     let shape = shape(lines);
-    match Hall::fresh(alloc, rig, shape) {
+    match Hall::open(alloc, rig, shape) {
         Ok(mut hall) => {
             // An entry a line, with those of pulls and those that are owed.
             hall.expect(lines.len().saturating_mul(2));
             let driver = Driver::new(alloc, hall, shape.insts, shape.pages);
-            open(alloc, lines, sink, driver)
+            run(alloc, lines, sink, driver)
         }
-        Err((Memory, rig)) => without_book(Status::NoMemory, rig),
+        Err((refusal, rig)) => without_book(report_unopened(alloc, &refusal, sink), rig),
     }
 }
 
-// Opens the complex, and then does what the lines say.
-fn open<K: Sink, G: Rig>(
+// Lets the complex, whose devices are read, recover and join, and then does what the lines say.
+fn run<K: Sink, G: Rig>(
     alloc: Global,
     lines: &[Line],
     sink: &mut K,
     mut driver: Driver<G>,
 ) -> Done<G>
     requires script { (text : List ℕ) × IsScript text lines.now }
-    requires fresh { IsUnopened (telling G.seen G.leaves G.moment G.since G.faults) lines.now driver }
-    ensures { (text : List ℕ) → IsScript text lines.now → Answers (telling G.seen G.leaves G.moment G.since G.faults) result.status text
-        (record { sink = record { written = K.written sink.old; faults = K.faults sink.old }; rig = driver.hall.complex.rig })
+    requires unopened { (rig : G) × IsUnopened (telling G.seen G.leaves G.moment G.since G.faults) lines.now rig driver }
+    ensures { (text : List ℕ) (rig : G) → IsScript text lines.now
+        → IsUnopened (telling G.seen G.leaves G.moment G.since G.faults) lines.now rig driver
+        → Answers (telling G.seen G.leaves G.moment G.since G.faults) result.status text
+        (record { sink = record { written = K.written sink.old; faults = K.faults sink.old }; rig = rig })
         (record { sink = record { written = K.written sink.new; faults = K.faults sink.new }; rig = result.rig }) result.book }
 {
     match driver.opening() {
         Ok(()) => run_lines(alloc, lines, sink, driver),
         Err(refusal) => {
             let (_, rig) = driver.close();
-            without_book(report_unopened(&refusal, sink), rig)
+            without_book(report_unopened(alloc, &refusal, sink), rig)
         }
     }
 }
 
-// Writes that a device failed, where that is why the complex wasn't opened. A sink that fails doesn't change the status.
-fn report_unopened<K: Sink>(refusal: &Refusal, sink: &mut K) -> Status
+/// Writes why the complex wasn't opened: that a device failed, or where the devices aren't sound. A sink that fails doesn't change
+/// the status.
+pub fn report_unopened<K: Sink>(alloc: Global, refusal: &Refusal, sink: &mut K) -> Status
     ensures { TellsUnopened refusal.now result (record { written = K.written sink.old; faults = K.faults sink.old })
         (record { written = K.written sink.new; faults = K.faults sink.new }) }
 {
@@ -205,7 +207,22 @@ fn report_unopened<K: Sink>(refusal: &Refusal, sink: &mut K) -> Status
             let _ = write_all(sink, b"device\n");
             Status::Device
         }
+        Refusal::Damaged { dev, at } => report_damaged(alloc, *dev, *at, sink),
         _ => Status::NoMemory,
+    }
+}
+
+// Writes where the devices fail first.
+fn report_damaged<K: Sink>(alloc: Global, dev: u8, at: u64, sink: &mut K) -> Status
+    ensures { TellsDamaged result dev at (record { written = K.written sink.old; faults = K.faults sink.old })
+        (record { written = K.written sink.new; faults = K.faults sink.new }) }
+{
+    match damaged_line(alloc, dev, at) {
+        Err(Memory) => Status::NoMemory,
+        Ok(text) => {
+            let _ = write_all(sink, &text);
+            Status::Damaged
+        }
     }
 }
 
@@ -218,9 +235,9 @@ fn run_lines<K: Sink, G: Rig>(
     requires script { (text : List ℕ) × IsScript text lines.now }
     requires insts { driver.insts ≡ insts_of lines.now }
     requires pages { driver.pages ≡ pages_of lines.now }
-    requires reached { (rig : G) × (w : World) × Reached (telling G.seen G.leaves G.moment G.since G.faults) (opening lines.now rig) lines.now 0 driver w }
+    requires opened { (rig : G) × (w : World) × IsOpened (telling G.seen G.leaves G.moment G.since G.faults) lines.now rig driver w }
     ensures { (text : List ℕ) (rig : G) (w : World) → IsScript text lines.now
-        → Reached (telling G.seen G.leaves G.moment G.since G.faults) (opening lines.now rig) lines.now 0 driver w
+        → IsOpened (telling G.seen G.leaves G.moment G.since G.faults) lines.now rig driver w
         → Answers (telling G.seen G.leaves G.moment G.since G.faults) result.status text
         (record { sink = record { written = K.written sink.old; faults = K.faults sink.old }; rig = rig })
         (record { sink = record { written = K.written sink.new; faults = K.faults sink.new }; rig = result.rig }) result.book }
