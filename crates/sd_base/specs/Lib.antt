@@ -4,3 +4,4 @@ pub mod Twin
 pub mod Ids
 pub mod Waits
 pub mod Values
+pub mod Held

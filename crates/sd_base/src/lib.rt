@@ -1,6 +1,6 @@
 //! The words that every layer speaks: names of things, refusals, and the traits of what is outside.
 //!
-//! Meaning: `Sequence` is a list, `InstNo` and `PageNo` are numbers in their range, `InstSet` is a rising list
+//! Meaning: `Sequence`, `Bytes` and `Cycle` are lists, `InstNo` and `PageNo` are numbers in their range, `InstSet` is a rising list
 //! of instances (`specs/Sets.antt`).
 //! Keeps: an instance is 1 to 8, a page is 0 to 1,023.
 //! Promises: `Source::take` and `Sink::put` answer `Failed` only where their count of faults rose
@@ -14,6 +14,8 @@
 //! - frozen: the variants of `Refusal` and their fields (docs/REFUSALS.md)
 #![tactic(auto)]
 
+mod bytes;
+mod cycle;
 mod gate;
 mod ids;
 mod limits;
@@ -27,13 +29,15 @@ mod streams;
 mod trouble;
 mod value;
 
+pub use bytes::{Bytes, Word};
+pub use cycle::Cycle;
 pub use gate::{Gate, OpenGate};
 pub use ids::{InstNo, Lsn, PageNo, Rid, TxnId};
 pub use limits::{MAX_CAPACITY, MAX_SLOTS, NO_VALUE, PAGES};
 pub use memory_streams::{MemSink, MemSource};
 pub use place::{Mode, Place, Status};
 pub use refusal::{Cause, Failed, Memory, Refusal};
-pub use sequence::{Bytes, Cycle, Duplicate, Sequence, Word};
+pub use sequence::{Duplicate, Sequence};
 pub use set::InstSet;
 pub use standard_streams::{StdSink, StdSource};
 pub use streams::{Sink, Source};

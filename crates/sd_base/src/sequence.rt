@@ -83,12 +83,3 @@ impl Duplicate for TxnId {
         Ok(*self)
     }
 }
-
-/// The bytes of a value.
-pub type Bytes = Sequence<u8>;
-
-/// The bytes of a name or a mark.
-pub type Word = Sequence<u8>;
-
-/// Transactions each of which waits for the next.
-pub type Cycle = Sequence<TxnId>;

@@ -86,5 +86,5 @@ fn change<G: Rig>(
 }
 
 fn value_of(alloc: Global, n: u32) -> Result<Bytes, Memory> {
-    Ok(Bytes::of(Vec::from_elem(alloc, (n % 256) as u8, 32)?))
+    Ok(Bytes::copy_of(alloc, &[(n % 256) as u8; 32])?)
 }

@@ -47,7 +47,7 @@ fn devices(alloc: Global, transfers: u32) -> Result<Vec<Bytes>, Memory>
 fn blank(alloc: Global, len: u32) -> Result<Bytes, Memory>
     ensures { IfOk result (λ device. length device ≡ len) }
 {
-    Ok(Bytes::of(Vec::from_elem(alloc, 0u8, len as usize)?))
+    Ok(Bytes::of(alloc, Vec::from_elem(alloc, 0u8, len as usize)?)?)
 }
 
 // A log device: the start of epoch 1, and each transfer as a group of its own.
@@ -62,7 +62,7 @@ fn log(alloc: Global, transfers: u32) -> Result<Bytes, Memory>
         put_group(&mut bytes, &transfer(alloc, n)?)?;
     }
     bytes.resize(LOG_LEN as usize, 0)?;
-    Ok(Bytes::of(bytes))
+    Ok(Bytes::of(alloc, bytes)?)
 }
 
 fn put_group(bytes: &mut Vec<u8>, body: &[u8]) -> Result<(), Memory> {
@@ -125,7 +125,7 @@ fn number(alloc: Global, n: u32) -> Result<Option<Bytes>, Memory>
     ensures { IfOk result IsValue }
 {
     let digits = [digit(n / 100), digit(n / 10), digit(n)];
-    Ok(Some(Bytes::of(Vec::from_array(alloc, digits)?)))
+    Ok(Some(Bytes::copy_of(alloc, &digits)?))
 }
 
 fn digit(n: u32) -> u8 {

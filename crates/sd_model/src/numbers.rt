@@ -60,7 +60,7 @@ pub fn number_text(alloc: Global, number: i64) -> Result<Bytes, Memory>
     ensures { IfOk result (λ text. text ≡ signed_decimal number) }
 {
     let text = format!(in alloc; "{number}")?;
-    Ok(Bytes::of(Vec::from_slice(alloc, text.as_bytes())?))
+    Ok(Bytes::copy_of(alloc, text.as_bytes())?)
 }
 
 // A number without a minus.

@@ -158,7 +158,7 @@ pub fn owned(alloc: Global, found: Option<&[u8]>) -> Result<Option<Bytes>, Memor
     ensures { IfOk result (λ value. value ≡ option_copied found.entry) }
 {
     match found {
-        Some(bytes) => Ok(Some(Bytes::of(bytes.to_vec(alloc)?))),
+        Some(bytes) => Ok(Some(Bytes::copy_of(alloc, bytes)?)),
         None => Ok(None),
     }
 }

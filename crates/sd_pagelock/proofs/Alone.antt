@@ -3,7 +3,7 @@ use Rattle.std.proofs.Common.{◌≡◌, ◌↔◌, ⊎_elim, ℕ, zero, suc, �
 use Rattle.std.proofs.lemmas.Bool.{cases_eq}
 use Rattle.sd_base.specs.Sets.{has, without, members, chosen, in_byte}
 use Rattle.sd_pagelock.specs.Rows.{is_only}
-use Rattle.sd_base.proofs.Bytes.{each_below, of_each}
+use Rattle.sd_base.proofs.Masks.{each_below, of_each}
 
 abbrev none : List ℕ → Bool
 none [] = true

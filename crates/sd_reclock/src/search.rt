@@ -77,7 +77,7 @@ impl<L: Standing> Asking<'_, L> {
             let next = self.next_of(alloc, &found[at].txn)?;
             if next.contains(&self.asker) {
                 let way = self.way(alloc, &found, at)?;
-                return Ok(Some(Cycle::of(way)));
+                return Ok(Some(Cycle::of(alloc, way)?));
             }
             self.meet(&next, at, &mut seen, &mut found)?;
             at += 1;

@@ -37,7 +37,7 @@ pub(crate) fn device(alloc: Global, dev: u8, patches: &[Patch<'_>]) -> Result<By
             put(&mut bytes, patch.at, patch.bytes);
         }
     }
-    Ok(Bytes::of(bytes))
+    Ok(Bytes::of(alloc, bytes)?)
 }
 
 fn put(device: &mut [u8], at: usize, bytes: &[u8]) {

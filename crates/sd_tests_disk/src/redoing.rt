@@ -15,7 +15,7 @@ use std::test::Fail;
 fn value(alloc: Global, bytes: [u8; 3]) -> Result<Option<Bytes>, Memory>
     ensures { IfOk result IsValue }
 {
-    Ok(Some(Bytes::of(Vec::from_array(alloc, bytes)?)))
+    Ok(Some(Bytes::copy_of(alloc, &bytes)?))
 }
 
 // A change of slot 0 of page 0, made with a capacity of 4 bytes.

@@ -5,7 +5,7 @@ ghost use Rattle.sd_logrec.specs.Spelling.{HasSpelling, spelling};
 ghost use Rattle.sd_rig.specs.Devices.{LeavesOnly};
 ghost use Rattle.sd_log.specs.Logs.{StandsOn};
 
-use sd_base::{InstNo, Lsn, PageNo, Pick, Refusal, Sequence, Trouble, TxnId};
+use sd_base::{Bytes, InstNo, Lsn, PageNo, Pick, Refusal, Trouble, TxnId};
 use sd_log::{Area, Log};
 use sd_logrec::{AREA_LEN, Record};
 use sd_rig::{MemRig, Rig};
@@ -36,7 +36,6 @@ fn red(alloc: Global, inst: InstNo) -> Result<Record, Fail>
     ensures { IfOk result (λ r. HasSpelling r) }
 {
     let (epoch, seq) = (1, 1);
-    let value = Vec::from_array(alloc, [0x72u8, 0x65, 0x64])?;
     Ok(Record::Update {
         lsn: 2,
         txn: TxnId { inst, epoch, seq },
@@ -45,7 +44,7 @@ fn red(alloc: Global, inst: InstNo) -> Result<Record, Fail>
         slot: 0,
         capacity: 3,
         before: None,
-        after: Some(Sequence::of(value)),
+        after: Some(Bytes::copy_of(alloc, b"red")?),
     })
 }
 

@@ -1,7 +1,7 @@
 //! Transaction tables: begins up to the last, open records and marks, and what the ends take of a log; each call
 //! succeeds with ample memory.
 
-use sd_base::{InstNo, PageNo, Refusal, Rid, Sequence, TxnId};
+use sd_base::{Bytes, InstNo, PageNo, Refusal, Rid, TxnId, Word};
 use sd_txn::{OpenRec, TxnState, TxnTable};
 use std::alloc::Global;
 use std::test::Fail;
@@ -26,7 +26,7 @@ fn record(alloc: Global, before: Option<&[u8]>) -> Result<OpenRec, Fail> {
         prev: 0,
         rid: Rid { page, slot: 7 },
         before: match before {
-            Some(bytes) => Some(Sequence::of(bytes.to_vec(alloc)?)),
+            Some(bytes) => Some(Bytes::copy_of(alloc, bytes)?),
             None => None,
         },
     })
@@ -39,7 +39,7 @@ fn calls(alloc: Global, table: &mut TxnTable, t: &TxnId, call: Call) -> Result<(
     match call {
         Call::Push(before) => table.push(t, record(alloc, before)?)?,
         Call::Note => table.note(t, 7),
-        Call::Save => table.save(t, Sequence::of(b"here".to_vec(alloc)?))?,
+        Call::Save => table.save(t, Word::copy_of(alloc, b"here")?)?,
         Call::Pop => drop(table.pop(t)),
         Call::Roll => table.set(t, TxnState::Rolling { target: Some(0) }),
         Call::Shut => table.shut(t),
@@ -52,7 +52,7 @@ fn calls(alloc: Global, table: &mut TxnTable, t: &TxnId, call: Call) -> Result<(
 fn a_transaction_opens_undoes_and_ends(rt: HostRuntime) -> Result<(), Fail> {
     let alloc = rt.alloc();
     let inst = InstNo::new(1).ok_or("instance 1")?;
-    let here = Sequence::of(b"here".to_vec(alloc)?);
+    let here = Word::copy_of(alloc, b"here")?;
     let mut table = TxnTable::new(alloc, inst);
     let t = table.begin(1).ok().ok_or("it begins")?;
     // Each call, what the mark is after it, and the bytes and the records that the ends take of a log.

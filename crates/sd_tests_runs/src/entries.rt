@@ -160,7 +160,7 @@ pub fn txn(rt: &impl Abort, who: Who) -> TxnId {
 }
 
 fn text(rt: &impl AllocGlobal, bytes: &[u8]) -> Result<Bytes, Memory> {
-    Ok(Bytes::of(bytes.to_vec(rt.alloc())?))
+    Ok(Bytes::copy_of(rt.alloc(), bytes)?)
 }
 
 /// The event of what this one asks.
@@ -325,7 +325,7 @@ fn refusal(rt: &(impl Abort + AllocGlobal), why: Why) -> Result<Refusal, Memory>
         Why::Deadlock(one, other) => {
             let (one, other) = (txn(rt, one), txn(rt, other));
             Refusal::Deadlock {
-                cycle: Cycle::of([one, other, one].to_vec(rt.alloc())?),
+                cycle: Cycle::of(rt.alloc(), [one, other, one].to_vec(rt.alloc())?)?,
             }
         }
         Why::NoSavepoint => Refusal::NoSavepoint,

@@ -10,7 +10,7 @@ fn a_book_and_its_opening_find_memory(rt: HostRuntime) -> Result<(), Fail> {
     let page = PageNo::new(0).ok_or("a page")?;
     let rid = Rid { page, slot: 3 };
     let mut opening = Table::new(alloc);
-    opening.put(rid, Bytes::of(b"red".to_vec(alloc)?))?;
+    opening.put(rid, Bytes::copy_of(alloc, b"red")?)?;
     let mut book = Book::new(alloc, opening);
     book.reserve(1)?;
     let entry = Entry {

@@ -31,8 +31,8 @@ fn put_page(alloc: Global, table: &mut Table, page: PageNo, image: &Image) -> Re
 {
     for slot in 0..image.count() {
         if let Some(bytes) = image.value(slot) {
-            let copy = Vec::from_slice(alloc, bytes)?;
-            table.put(Rid { page, slot }, Bytes::of(copy))?;
+            let copy = Bytes::copy_of(alloc, bytes)?;
+            table.put(Rid { page, slot }, copy)?;
         }
     }
     Ok(())

@@ -17,8 +17,8 @@ loop-slot-preserved c =
     elim c.match-value.branch [
       | in-Some+in_ok-copy+in_ok-put w ↦
           subst (λ (t : List (Rid × List ℕ)). (r : Rid) → contents t r ≡ upto page (slot + 1) slots base r) (sym w.table-is)
-          (upto-more page slot slots base now (contents w.put.new.self) (Some w.of.result) c.loop-slot.invariant
-          (sym (value-at slots slot) ∙ sym w.in-Some.ensures ∙ ap (λ (v : List ℕ). Some v) (sym w.in_ok-copy.ensures.items ∙ sym w.of.ensures))
+          (upto-more page slot slots base now (contents w.put.new.self) (Some w.in_ok-copy.copy) c.loop-slot.invariant
+          (sym (value-at slots slot) ∙ sym w.in-Some.ensures ∙ ap (λ (v : List ℕ). Some v) (sym w.in_ok-copy.ensures))
           w.in_ok-put.ensures.put)
       | in_default w ↦
           subst (λ (t : List (Rid × List ℕ)). (r : Rid) → contents t r ≡ upto page (slot + 1) slots base r) (sym w.table-is)

@@ -1,5 +1,5 @@
 use Rattle.std.proofs.Common.{rules}
-use Rattle.sd_base.proofs.Bytes.{byte-has}
+use Rattle.sd_base.proofs.Masks.{byte-has}
 use Rattle.sd_base.proofs.set.InstSet.has.Goals as goal
 
 pub returns : goal.returns

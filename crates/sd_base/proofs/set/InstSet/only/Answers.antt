@@ -1,4 +1,4 @@
-use Rattle.sd_base.proofs.Bytes.{byte-only}
+use Rattle.sd_base.proofs.Masks.{byte-only}
 use Rattle.sd_base.proofs.set.InstSet.only.Goals as goal
 
 pub returns : goal.returns

@@ -1,5 +1,5 @@
 use Rattle.std.proofs.Common.{rules}
-use Rattle.sd_base.proofs.Bytes.{byte-with}
+use Rattle.sd_base.proofs.Masks.{byte-with}
 use Rattle.sd_base.proofs.set.InstSet.with.Goals as goal
 
 pub returns : goal.returns

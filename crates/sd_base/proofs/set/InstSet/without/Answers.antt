@@ -1,5 +1,5 @@
 use Rattle.std.proofs.Common.{rules}
-use Rattle.sd_base.proofs.Bytes.{byte-without}
+use Rattle.sd_base.proofs.Masks.{byte-without}
 use Rattle.sd_base.proofs.set.InstSet.without.Goals as goal
 
 pub returns : goal.returns

@@ -47,7 +47,7 @@ returns-then-contains-clause-found g c =
     subst (λ (xs : List Met). (back : List TxnId) → IsWay c.args.self.now.asker xs c.place.at back → c.in_ok-way.way.items ≡ reverse (c.args.self.now.asker ∷ txn_at c.args.self.now.asker xs c.place.at ∷ back))
     c.deref-then-contains.ensures.value c.in_ok-way.ensures (r.way at)
     (is_way (steps_of g.L.Standing.stands c.args.self.now) (IsWaiting c.args.self.now) self.asker all (has_seen c.place.seen) at [] r (suc at) at (omega arith) inside) in
-    rw (c.of.ensures, way)
+    rw (c.in_ok-of.ensures, way)
     (told_cycle (stands_of g.L.Standing.stands c.args.self.now) (waits_of c.args.self.now) c.args.self.now.asker (wait_of c.args.self.now.wait) (txn_at c.args.self.now.asker c.place.found.items c.place.at ∷ c.place.invariant.way c.place.at)
     (omega arith) (step, r.leads at inside)
     (λ other some leads. first_back (steps_of g.L.Standing.stands c.args.self.now) (IsWaiting c.args.self.now) self.asker all (has_seen c.place.seen) at [] r (goes g.L.Standing.stands c.args.self.now) inside other some leads))
