@@ -1,5 +1,5 @@
 -- Lists of bytes: what a write, a poke and a crash make of them. It serves the goals of disk.rt and drives.rt, and the lemmas on what a crash may leave.
-use Rattle.std.proofs.Common.{◌≡◌, ⊎_elim, ℕ, ◌+◌, ◌%◌, ◌<◌, Bool, true, false, cond, List, ◌++◌, length, take, drop, map, get_or, set, sym, subst, arith}
+use Rattle.std.proofs.Common.{⊎_elim, ℕ, ◌%◌, ◌<◌, true, false, cond, List, ◌++◌, length, take, drop, map, get_or, set, sym, subst, arith}
 use Rattle.std.specs.Prelude.{◌==◌}
 use Rattle.std.specs.List.{range_with_len}
 use Rattle.std.proofs.lemmas.Bool.{cases_lt}
@@ -7,7 +7,7 @@ use Rattle.std.proofs.lemmas.List.{get_or_past}
 use Rattle.std.proofs.lemmas.List.Elements.{All-append, All-drop, All-from_get_or, All-map, All-replicate, All-set, All-take}
 use Rattle.sd_base.specs.declared.trouble.Pick.{Pick}
 use Rattle.sd_base.specs.declared.trouble.Pick.TheVariants.{Keep, Lose, Tear, Junk}
-use Rattle.sd_rig.specs.Devices.{AreBytes, overwritten}
+use Rattle.sd_rig.specs.Devices.{AreBytes}
 use Rattle.sd_rig.specs.Disk.{DiskState, IsSound, copies, left_at, picked}
 
 -- a byte at any place, where 0 stands for those behind the end

@@ -1,13 +1,11 @@
 -- A device place by place. It serves the goals of disk.rt, and the lemmas on what a crash may leave.
-use Rattle.std.proofs.Common.{◌≡◌, ◌⊎◌, ⊎_elim, inl, inr, ℕ, ◌+◌, ◌-◌, ◌*◌, ◌/◌, ◌%◌, ◌<◌, ◌≤◌, max, Bool, true, false, List, ◌++◌, length, take, drop, map, get_or, refl, sym, ap, ◌∙◌, arith, length-append, length-take-le, length-drop}
-use Rattle.std.proofs.lemmas.List.{ext_get_or, get_or-replicate, get_or_past, get_or-take, get_or-drop, get_or_append_left, get_or-append_right, replicate-append-replicate, take-replicate}
-use Rattle.std.proofs.lemmas.List.FromFn.{fill_by_all}
+use Rattle.std.proofs.Common.{◌≡◌, ◌⊎◌, ⊎_elim, inl, inr, ℕ, ◌+◌, ◌-◌, ◌*◌, ◌/◌, ◌%◌, ◌<◌, ◌≤◌, Bool, true, false, List, ◌++◌, length, take, drop, get_or, refl, sym, ap, ◌∙◌, arith, length-append, length-take-le, length-drop}
+use Rattle.std.proofs.lemmas.List.{get_or-replicate, get_or_past, get_or-take, get_or-drop, get_or_append_left, get_or-append_right, replicate-append-replicate, drop-replicate, take-replicate}
 use Rattle.std.proofs.lemmas.Bool.{cases_lt, true≢false}
-use Rattle.std.specs.List.{range_with_len}
 use Rattle.sd_base.specs.declared.trouble.Pick.{Pick}
 use Rattle.sd_rig.specs.Devices.{AreBytes, overwritten}
 use Rattle.sd_rig.proofs.Bytes.{bytes-copies, bytes-middle}
-use Rattle.sd_rig.specs.Disk.{DiskState, IsSound, Lies, SameAt, SettledAt, Settles, blank, copies, length-copies, copies-is, marked, written, left_at, settled}
+use Rattle.sd_rig.specs.Disk.{DiskState, IsSound, blank, copies, length-copies, copies-is, marked, written, left_at}
 
 pub get_or-copies : {X : Type 0} (n i : ℕ) (x d : X) → i < n → get_or (copies n x) i d ≡ x
 get_or-copies n i x d h = ap (λ xs. get_or xs i d) (copies-is n x) ∙ get_or-replicate n i x d h
@@ -39,26 +37,6 @@ length-middle at xs old h =
 -- what a crash leaves at a place where nothing is pending
 pub left_at-settled : (pick : Pick) (k : DiskState) (i : ℕ) → IsSound k → get_or k.pending i false ≡ false → left_at pick k i ≡ get_or k.seen i 0
 left_at-settled pick k i sound h = rw h (sym (sound.same i h))
-
--- each place of a settled range is as a crash leaves it
-pub settled_places : (pick : Pick) (low high : ℕ) (old new : DiskState) → IsSound old → Lies old.pending low high → Settles pick low high old new → (i : ℕ) → SettledAt pick i old new
-settled_places pick low high old new sound lies s i = ⊎_elim
-    (λ h. outside (s.below i h) (lies.below i h))
-    (λ h. ⊎_elim (λ g. s.inside i h g) (λ g. outside (s.above i g) (lies.above i g)) (cases_lt i high))
-    (cases_lt i low)
-  where
-    outside : SameAt i old new → get_or old.pending i false ≡ false → SettledAt pick i old new
-    outside same none =
-        let left = left_at-settled pick old i sound none in
-        record { seen = same.seen ∙ sym left; synced = same.synced ∙ sym (sound.same i none) ∙ sym left; pending = same.pending ∙ none }
-
-pub settles-is : (pick : Pick) (low high : ℕ) (old : DiskState) (seen synced : List ℕ) (pending : List Bool) → IsSound old → Lies old.pending low high → length seen ≡ length old.seen → length synced ≡ length old.synced → length pending ≡ length old.pending → Settles pick low high old (record { seen = seen; synced = synced; pending = pending }) → record { seen = seen; synced = synced; pending = pending } ≡ settled pick old
-settles-is pick low high old seen synced pending sound lies l1 l2 l3 s =
-    let each = settled_places pick low high old (record { seen = seen; synced = synced; pending = pending }) sound lies s in
-    let e1 : seen ≡ map (left_at pick old) (range_with_len 0 (length old.synced)) = fill_by_all (left_at pick old) seen (length old.synced) 0 (l1 ∙ sym sound.synced_len) (λ i h. (each i).seen) in
-    let e2 : synced ≡ map (left_at pick old) (range_with_len 0 (length old.synced)) = fill_by_all (left_at pick old) synced (length old.synced) 0 l2 (λ i h. (each i).synced) in
-    let e3 : pending ≡ copies (length old.pending) false = ext_get_or false pending (copies (length old.pending) false) (l3 ∙ sym (length-copies (length old.pending) false)) (λ i h. (each i).pending ∙ sym (get_or-copies_any (length old.pending) i false)) in
-    cc
 
 -- a mark before, in, or behind a marked range
 pub marked-before : (at n i : ℕ) (marks : List Bool) → at + n ≤ length marks → i < at → get_or (marked at n marks) i false ≡ get_or marks i false
@@ -112,23 +90,6 @@ written-sound at bytes k h are sound =
       synced_bytes = sound.synced_bytes;
     }
 
-pub marked-lies : (at n low high low' high' : ℕ) (marks : List Bool) → at + n ≤ length marks → Lies marks low high → low' ≤ high' → high' ≤ max high (at + n) → (low < high → (low' ≤ low) × (high ≤ high')) → (at < at + n → (low' ≤ at) × (at + n ≤ high')) → Lies (marked at n marks) low' high'
-marked-lies at n low high low' high' marks h lies ordered within first second = record {
-  ordered = ordered;
-  within = let size = length-marked at n marks h in let le = lies.within in omega arith;
-  below = λ i lt. none i (λ a b. (omega (arith, (first (omega arith)).0, lt))) (λ a b. omega (arith, (second (omega arith)).0, lt));
-  above = λ i le. none i (λ a b. (omega (arith, (first (omega arith)).1, le))) (λ a b. omega (arith, (second (omega arith)).1, le));
-}
-  where
-    unmarked : (i : ℕ) → (low ≤ i → i < high → ⊥) → get_or marks i false ≡ false
-    unmarked i f = ⊎_elim (λ lt. lies.below i lt) (λ ge. ⊎_elim (λ lt. absurd (f ge lt)) (λ le. lies.above i le) (cases_lt i high)) (cases_lt i low)
-
-    none : (i : ℕ) → (low ≤ i → i < high → ⊥) → (at ≤ i → i < at + n → ⊥) → get_or (marked at n marks) i false ≡ false
-    none i f g = ⊎_elim
-        (λ lt. marked-before at n i marks h lt ∙ unmarked i f)
-        (λ ge. ⊎_elim (λ lt. absurd (g ge lt)) (λ le. marked-behind at n i marks h le ∙ unmarked i f) (cases_lt i (at + n)))
-        (cases_lt i at)
-
 -- blocks of copies make copies
 pub copies-more : {X : Type 0} (m n : ℕ) (x : X) → copies m x ++ copies n x ≡ copies (m + n) x
 unfolding copies
@@ -138,6 +99,11 @@ pub take-copies : {X : Type 0} (m n : ℕ) (x : X) → m ≤ n → take m (copie
 unfolding copies
 take-copies m n x h = take-replicate m n x h
 
+-- copies inside copies
+pub copies-inside : {X : Type 0} (m n k : ℕ) (x : X) → m + n ≤ k → copies n x ≡ take n (drop m (copies k x))
+unfolding copies
+copies-inside m n k x h = sym (ap (λ l. take n l) (drop-replicate m k x) ∙ take-replicate n (k - m) x (omega arith))
+
 pub blank-sound : (n : ℕ) → IsSound (blank n)
 blank-sound n = record {
   synced_len = refl;
@@ -146,9 +112,6 @@ blank-sound n = record {
   seen_bytes = bytes-copies n;
   synced_bytes = bytes-copies n;
 }
-
-pub blank-lies : (n : ℕ) → Lies (blank n).pending 0 0
-blank-lies n = record { ordered = omega arith; within = omega arith; below = λ i h. get_or-copies_any n i false; above = λ i h. get_or-copies_any n i false }
 
 -- one more block, and the rest
 pub filled-more : {X : Type 0} (x : X) (turn : ℕ) (v v' now block : List X) → v ≡ copies (4096 * turn) x → v' ≡ v ++ now → now ≡ block → block ≡ copies 4096 x → v' ≡ copies (4096 * (turn + 1)) x

@@ -1,16 +1,16 @@
 -- What an event makes of the devices. It serves the goals of drives.rt.
-use Rattle.std.proofs.Common.{◌≡◌, ⊎_elim, ℕ, ◌+◌, ◌<◌, ◌≤◌, false, List, [], ◌∷◌, ◌++◌, length, map, get_or, set, refl, sym, ap, ◌∙◌, subst, arith, length-set}
+use Rattle.std.proofs.Common.{◌≡◌, ⊎_elim, ℕ, ◌+◌, ◌<◌, ◌≤◌, Bool, false, List, [], ◌∷◌, ◌++◌, length, map, get_or, set, refl, sym, ap, ◌∙◌, subst, arith, length-set}
 use Rattle.std.proofs.lemmas.List.{get_or-set_same, get_or-set_other, get_or-map, get_or_read, get_or_default, length-map, ext_get_or}
-use Rattle.std.proofs.lemmas.List.FromFn.{length-map-range_with_len, get_or-map-range_with_len}
+use Rattle.std.proofs.lemmas.List.FromFn.{fill_by_all, length-map-range_with_len, get_or-map-range_with_len}
 use Rattle.std.proofs.lemmas.Bool.{cases_eq}
-use Rattle.std.specs.List.{All}
+use Rattle.std.specs.List.{All, range_with_len}
 use Rattle.sd_base.specs.declared.trouble.Pick.{Pick}
 use Rattle.sd_rig.specs.Devices.{AreBytes, device_len}
-use Rattle.sd_rig.specs.Disk.{DiskState, IsSound, IsSettled, blank, length-copies, left_at, poked, settled, written}
+use Rattle.sd_rig.specs.Disk.{DiskState, IsSound, IsSettled, blank, copies, length-copies, left_at, poked, settled, written}
 use Rattle.sd_rig.specs.History.{Event}
 use Rattle.sd_rig.specs.Replay.{AreDevices, AreSettled, blanks, changed, disk_at, replayed}
 use Rattle.sd_rig.proofs.Bytes.{bytes-copies, bytes-left, bytes-set}
-use Rattle.sd_rig.proofs.Places.{get_or-copies_any, settles-is, written-sound, length-middle}
+use Rattle.sd_rig.proofs.Places.{get_or-copies_any, left_at-settled, written-sound, length-middle}
 
 pub replayed-more : (events : List Event) (e : Event) (disks : List DiskState) → replayed (events ++ e ∷ []) disks ≡ changed e (replayed events disks)
 replayed-more [] e disks = refl
@@ -67,10 +67,15 @@ settled-settled pick k i = get_or-copies_any (length k.pending) i false
 
 -- where nothing is pending a crash changes nothing
 pub settled-same : (pick : Pick) (k : DiskState) → IsSound k → IsSettled k → settled pick k ≡ k
-settled-same pick k sound none = sym (settles-is pick 0 0 k k.seen k.synced k.pending sound
-    (record { ordered = omega arith; within = omega arith; below = λ i h. none i; above = λ i h. none i })
-    refl refl refl
-    (record { below = λ i h. absurd (omega arith); inside = λ i h g. absurd (omega arith); above = λ i h. record { seen = refl; synced = refl; pending = refl } }))
+settled-same pick k sound none =
+    let n : ℕ = length k.synced in
+    let each : (i : ℕ) → get_or k.seen i 0 ≡ left_at pick k i = λ i. sym (left_at-settled pick k i sound (none i)) in
+    let e1 : k.seen ≡ map (left_at pick k) (range_with_len 0 n) = fill_by_all (left_at pick k) k.seen n 0 (sym sound.synced_len) (λ i h. each i) in
+    let e2 : k.synced ≡ map (left_at pick k) (range_with_len 0 n) = fill_by_all (left_at pick k) k.synced n 0 refl (λ i h. sym (sound.same i (none i)) ∙ each i) in
+    let e3 : k.pending ≡ copies (length k.pending) false = ext_get_or false k.pending (copies (length k.pending) false) (sym (length-copies (length k.pending) false)) (λ i h. none i ∙ sym (get_or-copies_any (length k.pending) i false)) in
+    ap (λ (s : List ℕ). record { seen = s; synced = (settled pick k).seen; pending = copies (length k.pending) false }) (sym e1)
+    ∙ ap (λ (s : List ℕ). record { seen = k.seen; synced = s; pending = copies (length k.pending) false }) (sym e2)
+    ∙ ap (λ (p : List Bool). record { seen = k.seen; synced = k.synced; pending = p }) (sym e3)
 
 pub devices-map : (pick : Pick) (disks : List DiskState) → AreDevices disks → AreDevices (map (settled pick) disks)
 devices-map pick disks are = record {

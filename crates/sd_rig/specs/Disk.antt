@@ -84,45 +84,28 @@ pub record MayLeave (k : DiskState) (bytes : List ℕ) : Type 0 where
   pub stable : (i : ℕ) → get_or k.pending i false ≡ false → get_or bytes i 0 ≡ get_or k.synced i 0
   pub are_bytes : AreBytes bytes
 
--- Pending bytes lie from low up to high.
-pub record Lies (pending : List Bool) (low high : ℕ) : Type 0 where
-  pub ordered : low ≤ high
-  pub within : high ≤ length pending
-  pub below : (i : ℕ) → i < low → get_or pending i false ≡ false
-  pub above : (i : ℕ) → high ≤ i → get_or pending i false ≡ false
+-- with these in place of as many from this one on
+abbrev pub placed : {X : Type 0} → ℕ → List X → List X → List X
+placed at xs old = take at old ++ xs ++ drop (at + length xs) old
 
--- the whole device, of which behind the front part that is kept nothing is pending
-abbrev pub whole : List ℕ → List ℕ → List Bool → DiskState
-whole seen synced pending = record {
+-- the whole device, of which outside the part that is kept, from base on, nothing is pending
+abbrev pub whole : ℕ → List ℕ → List ℕ → List Bool → DiskState
+whole base seen synced pending = record {
   seen = seen;
-  synced = synced ++ drop (length synced) seen;
-  pending = pending ++ copies (length seen - length pending) false;
+  synced = placed base synced seen;
+  pending = placed base pending (copies (length seen) false);
 }
 
--- A device as it is kept: pending bytes lie in its front part, from low up to high, and there is room for the whole.
-pub record IsHeld (seen synced : List ℕ) (pending : List Bool) (low high memory marks_memory : ℕ) : Type 0 where
-  pub sound : IsSound (whole seen synced pending)
-  pub lies : Lies (whole seen synced pending).pending low high
+-- A device as it is kept: the part lies in it, and there is room for the whole.
+pub record IsHeld (base : ℕ) (seen synced : List ℕ) (pending : List Bool) (memory marks_memory : ℕ) : Type 0 where
+  pub sound : IsSound (whole base seen synced pending)
   pub even : length pending ≡ length synced
-  pub within : length synced ≤ length seen
-  pub reach : high ≤ length synced
+  pub within : base + length synced ≤ length seen
   pub room : length seen ≤ memory
   pub marks_room : length seen ≤ marks_memory
 
--- At this place nothing changed.
-pub record SameAt (i : ℕ) (old new : DiskState) : Type 0 where
-  pub seen : get_or new.seen i 0 ≡ get_or old.seen i 0
-  pub synced : get_or new.synced i 0 ≡ get_or old.synced i 0
-  pub pending : get_or new.pending i false ≡ get_or old.pending i false
-
--- At this place it is stable as a crash leaves it.
-pub record SettledAt (pick : Pick) (i : ℕ) (old new : DiskState) : Type 0 where
-  pub seen : get_or new.seen i 0 ≡ left_at pick old i
-  pub synced : get_or new.synced i 0 ≡ left_at pick old i
-  pub pending : get_or new.pending i false ≡ false
-
--- From low up to high it is stable as a crash leaves it, and elsewhere nothing changed.
-pub record Settles (pick : Pick) (low high : ℕ) (old new : DiskState) : Type 0 where
-  pub below : (i : ℕ) → i < low → SameAt i old new
-  pub inside : (i : ℕ) → low ≤ i → i < high → SettledAt pick i old new
-  pub above : (i : ℕ) → high ≤ i → SameAt i old new
+-- From low up to high it reads as a crash leaves what was kept of that part, and elsewhere as before.
+pub record ReadsAsLeft (pick : Pick) (low high : ℕ) (seen synced : List ℕ) (pending : List Bool) (new : List ℕ) : Type 0 where
+  pub below : (i : ℕ) → i < low → get_or new i 0 ≡ get_or seen i 0
+  pub inside : (i : ℕ) → low ≤ i → i < high → get_or new i 0 ≡ (if get_or pending (i - low) false then picked pick i (get_or seen i 0) (get_or synced (i - low) 0) else get_or synced (i - low) 0)
+  pub above : (i : ℕ) → high ≤ i → get_or new i 0 ≡ get_or seen i 0

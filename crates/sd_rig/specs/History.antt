@@ -20,15 +20,15 @@ pub record HistoryState : Type 0 where
 -- the events of these entries, whose bytes stand one after another
 abbrev pub events_of : List Entry → List ℕ → List Event
 events_of [] bytes = []
-events_of (E.Wrote dev at count ok ∷ es) bytes = Wrote dev at (take count bytes) ok ∷ events_of es (drop count bytes)
+events_of (E.Wrote dev ok at count ∷ es) bytes = Wrote dev at (take count bytes) ok ∷ events_of es (drop count bytes)
 events_of (E.Synced dev ok ∷ es) bytes = Synced dev ok ∷ events_of es bytes
 events_of (E.Crashed pick ∷ es) bytes = Crashed pick ∷ events_of es bytes
-events_of (E.Poked dev at byte ∷ es) bytes = Poked dev at byte ∷ events_of es bytes
+events_of (E.Poked dev byte at ∷ es) bytes = Poked dev at byte ∷ events_of es bytes
 
 -- how many bytes these entries have
 abbrev pub bytes_in : List Entry → ℕ
 bytes_in [] = 0
-bytes_in (E.Wrote dev at count ok ∷ es) = count + bytes_in es
+bytes_in (E.Wrote dev ok at count ∷ es) = count + bytes_in es
 bytes_in (E.Synced dev ok ∷ es) = bytes_in es
 bytes_in (E.Crashed pick ∷ es) = bytes_in es
-bytes_in (E.Poked dev at byte ∷ es) = bytes_in es
+bytes_in (E.Poked dev byte at ∷ es) = bytes_in es

@@ -1,6 +1,6 @@
 -- Parts of a device that a write doesn't reach, and parts that it writes.
 use Rattle.std.specs.Prelude.{◌≡◌, ◌⊎◌, ℕ, ◌+◌, ◌-◌, ◌<◌, ◌≤◌, List, ◌++◌, length, take, drop, get_or, refl}
-use Rattle.std.proofs.Common.{⊎_elim, inl, inr, sym, ap, ◌∙◌, arith, append_assoc, length-take-le}
+use Rattle.std.proofs.Common.{⊎_elim, sym, ap, ◌∙◌, arith, append_assoc, length-take-le}
 use Rattle.std.proofs.lemmas.List.{drop-drop, drop-take, drop_at, get_or-drop, get_or-take, take-take, take_at}
 use Rattle.sd_rig.specs.Devices.{AgreesOutside, overwritten}
 

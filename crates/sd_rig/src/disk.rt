@@ -1,22 +1,23 @@
-//! One device in memory: what it reads, what it was at the last sync, which bytes are pending, and where these lie.
+//! One device in memory: what it reads, and of the part that was written since the last sync what it was then and which bytes
+//! are pending.
 
-ghost use Rattle.std.specs.Prelude.{◌≡◌, ◌+◌, ◌≤◌, ◌<◌, ◌↔◌, max, length, slice_range, vec_capacity, IfOk, IsTrue, if◌then◌else◌};
+ghost use Rattle.std.specs.Prelude.{◌≡◌, ◌+◌, ◌≤◌, ◌<◌, ◌↔◌, ◌++◌, ℕ, false, get_or, length, slice_range, vec_capacity, IfOk, IsTrue, if◌then◌else◌};
 ghost use Rattle.sd_rig.specs.Devices.{overwritten};
-ghost use Rattle.sd_rig.specs.Disk.{IsSettled, Settles, blank, copies, marked, picked, poked, settled, whole, written};
+ghost use Rattle.sd_rig.specs.Disk.{IsSettled, IsSound, blank, copies, marked, picked, poked, settled, whole, written};
 
 use sd_base::{Memory, Pick};
 use std::alloc::{AllocError, Global};
 use std::marker::Model;
 
-/// One device. What it was at the last sync and which bytes are pending is kept of a front part alone, which grows with the
-/// writes: behind it nothing is pending. There is memory for the whole from the beginning, so no later call takes any.
+/// One device. What it was at the last sync and which bytes are pending is kept of one part alone, from `base` on: outside it
+/// nothing is pending, and a sync empties it, so that the same memory serves again. There is memory for the whole from the
+/// beginning, so no later call takes any.
 #[derive(Drop)]
 pub struct Disk {
     seen: Vec<u8>,
+    base: usize,
     synced: Vec<u8>,
     pending: Vec<bool>,
-    low: usize,
-    high: usize,
 }
 
 impl Model for Disk {
@@ -27,9 +28,9 @@ impl Model for Disk {
 
     ghost coded = { disk_code };
 
-    ghost view = { λ k. whole k.seen.items k.synced.items k.pending.items };
+    ghost view = { λ k. whole k.base k.seen.items k.synced.items k.pending.items };
 
-    ghost invariant = { λ k. IsHeld k.seen.items k.synced.items k.pending.items k.low k.high (vec_capacity k.synced) (vec_capacity k.pending) };
+    ghost invariant = { λ k. IsHeld k.base k.seen.items k.synced.items k.pending.items (vec_capacity k.synced) (vec_capacity k.pending) };
 }
 
 impl Disk {
@@ -39,10 +40,9 @@ impl Disk {
     {
         Ok(Disk {
             seen: zeros(alloc, len)?,
+            base: 0,
             synced: Vec::with_capacity(alloc, len)?,
             pending: Vec::with_capacity(alloc, len)?,
-            low: 0,
-            high: 0,
         })
     }
 
@@ -66,46 +66,32 @@ impl Disk {
         requires { at + length bytes.now ≤ length self.old.seen }
         ensures { self.new ≡ written at bytes.now self.old }
     {
-        cover(
+        self.base = cover(
             &self.seen,
             &mut self.synced,
             &mut self.pending,
+            self.base,
+            at,
             at + bytes.len(),
         );
         put_range(&mut self.seen, at, bytes);
-        mark_range(&mut self.pending, at, bytes.len());
-        let end = at + bytes.len();
-        let (low, high) = hull(self.low, self.high, at, end);
-        self.low = low;
-        self.high = high;
+        mark_range(&mut self.pending, at - self.base, bytes.len());
     }
 
     /// Whether no byte is pending.
     pub fn is_settled(&self) -> bool
         ensures { IsTrue result ↔ IsSettled self.now }
     {
-        for i in self.low..self.high {
-            if self.pending[i] {
-                return false;
-            }
-        }
-        true
+        is_unmarked(&self.pending)
     }
 
     /// Makes what a crash leaves stable. A sync does so too, as a crash that keeps pending bytes.
     pub fn settle(&mut self, pick: Pick)
         ensures { self.new ≡ settled pick self.old }
     {
-        settle_range(
-            &mut self.seen,
-            &mut self.synced,
-            &mut self.pending,
-            self.low,
-            self.high,
-            pick,
-        );
-        self.low = 0;
-        self.high = 0;
+        settle_part(&mut self.seen, &self.synced, &self.pending, self.base, pick);
+        self.synced.clear();
+        self.pending.clear();
     }
 
     /// Sets the byte at `at`, stable.
@@ -113,10 +99,18 @@ impl Disk {
         requires { at < length self.old.seen }
         ensures { self.new ≡ poked at byte self.old }
     {
-        cover(&self.seen, &mut self.synced, &mut self.pending, at + 1);
+        self.base = cover(
+            &self.seen,
+            &mut self.synced,
+            &mut self.pending,
+            self.base,
+            at,
+            at + 1,
+        );
+        let place = at - self.base;
         self.seen[at] = byte;
-        self.synced[at] = byte;
-        self.pending[at] = false;
+        self.synced[place] = byte;
+        self.pending[place] = false;
     }
 }
 
@@ -146,23 +140,105 @@ fn zeros(alloc: Global, len: usize) -> Result<Vec<u8>, AllocError>
     Ok(v)
 }
 
-// Lets the front part reach so far.
-fn cover(seen: &[u8], synced: &mut Vec<u8>, pending: &mut Vec<bool>, end: usize)
+// Lets the part begin at `at` or before it and reach to `end`, and says where it begins.
+fn cover(
+    seen: &[u8],
+    synced: &mut Vec<u8>,
+    pending: &mut Vec<bool>,
+    base: usize,
+    at: usize,
+    end: usize,
+) -> usize
     requires even { length pending.old.items ≡ length synced.old.items }
-    requires within { end ≤ length seen.now }
+    requires within { base + length synced.old.items ≤ length seen.now }
+    requires ordered { at ≤ end }
+    requires fits { end ≤ length seen.now }
     requires room { length seen.now ≤ vec_capacity synced.old }
     requires marks_room { length seen.now ≤ vec_capacity pending.old }
-    ensures same { whole seen.now synced.new.items pending.new.items ≡ whole seen.now synced.old.items pending.old.items }
+    ensures same { whole result seen.now synced.new.items pending.new.items ≡ whole base seen.now synced.old.items pending.old.items }
     ensures even { length pending.new.items ≡ length synced.new.items }
-    ensures reaches { length synced.new.items ≡ max (length synced.old.items) end }
+    ensures within { result + length synced.new.items ≤ length seen.now }
+    ensures from { result ≤ at }
+    ensures to { end ≤ result + length synced.new.items }
     ensures room { vec_capacity synced.old ≤ vec_capacity synced.new }
     ensures marks_room { vec_capacity pending.old ≤ vec_capacity pending.new }
 {
-    let from = synced.len();
+    let from = cover_front(seen, synced, pending, base, at);
+    cover_back(seen, synced, pending, from, end);
+    from
+}
+
+// Lets the part begin at `at` or before it, and says where it begins.
+fn cover_front(
+    seen: &[u8],
+    synced: &mut Vec<u8>,
+    pending: &mut Vec<bool>,
+    base: usize,
+    at: usize,
+) -> usize
+    requires even { length pending.old.items ≡ length synced.old.items }
+    requires within { base + length synced.old.items ≤ length seen.now }
+    requires fits { at ≤ length seen.now }
+    requires room { length seen.now ≤ vec_capacity synced.old }
+    requires marks_room { length seen.now ≤ vec_capacity pending.old }
+    ensures same { whole result seen.now synced.new.items pending.new.items ≡ whole base seen.now synced.old.items pending.old.items }
+    ensures even { length pending.new.items ≡ length synced.new.items }
+    ensures within { result + length synced.new.items ≤ length seen.now }
+    ensures from { result ≤ at }
+    ensures room { vec_capacity synced.old ≤ vec_capacity synced.new }
+    ensures marks_room { vec_capacity pending.old ≤ vec_capacity pending.new }
+{
+    if synced.is_empty() {
+        return at;
+    }
+    if base <= at {
+        return base;
+    }
+    put_front(synced, &seen[at..base]);
+    clear_front(pending, base - at);
+    at
+}
+
+// Lets the part reach to `end`.
+fn cover_back(seen: &[u8], synced: &mut Vec<u8>, pending: &mut Vec<bool>, base: usize, end: usize)
+    requires even { length pending.old.items ≡ length synced.old.items }
+    requires within { base + length synced.old.items ≤ length seen.now }
+    requires fits { end ≤ length seen.now }
+    requires room { length seen.now ≤ vec_capacity synced.old }
+    requires marks_room { length seen.now ≤ vec_capacity pending.old }
+    ensures same { whole base seen.now synced.new.items pending.new.items ≡ whole base seen.now synced.old.items pending.old.items }
+    ensures even { length pending.new.items ≡ length synced.new.items }
+    ensures within { base + length synced.new.items ≤ length seen.now }
+    ensures to { end ≤ base + length synced.new.items }
+    ensures room { vec_capacity synced.old ≤ vec_capacity synced.new }
+    ensures marks_room { vec_capacity pending.old ≤ vec_capacity pending.new }
+{
+    let from = base + synced.len();
     if from < end {
         synced.extend_from_slice(&seen[from..end]).unwrap();
-        pending.resize(end, false).unwrap();
+        pending.resize(end - base, false).unwrap();
     }
+}
+
+// Puts these bytes before the others.
+fn put_front(to: &mut Vec<u8>, bytes: &[u8])
+    requires { length to.old.items + length bytes.now ≤ vec_capacity to.old }
+    ensures items { to.new.items ≡ bytes.now ++ to.old.items }
+    ensures room { vec_capacity to.old ≤ vec_capacity to.new }
+{
+    to.extend_from_slice(bytes).unwrap();
+    to.rotate_right(bytes.len());
+}
+
+// Puts so many marks, none set, before the others.
+fn clear_front(to: &mut Vec<bool>, count: usize)
+    requires { length to.old.items + count ≤ vec_capacity to.old }
+    ensures items { to.new.items ≡ copies count false ++ to.old.items }
+    ensures room { vec_capacity to.old ≤ vec_capacity to.new }
+{
+    let len = to.len();
+    to.resize(len + count, false).unwrap();
+    to.rotate_right(count);
 }
 
 // Puts the bytes at `at`.
@@ -182,22 +258,16 @@ fn mark_range(to: &mut [bool], at: usize, count: usize)
     to[at..at + count].fill(true);
 }
 
-// The range that has both ranges, of which an empty one doesn't count.
-fn hull(low: usize, high: usize, at: usize, end: usize) -> (usize, usize)
-    requires first { low ≤ high }
-    requires second { at ≤ end }
-    ensures ordered { result.0 ≤ result.1 }
-    ensures within { result.1 ≤ max high end }
-    ensures has_first { low < high → (result.0 ≤ low) × (high ≤ result.1) }
-    ensures has_second { at < end → (result.0 ≤ at) × (end ≤ result.1) }
+// Whether no mark is set.
+fn is_unmarked(marks: &[bool]) -> bool
+    ensures { IsTrue result ↔ ((i : ℕ) → get_or marks.now i false ≡ false) }
 {
-    if at == end {
-        (low, high)
-    } else if low == high {
-        (at, end)
-    } else {
-        (low.min(at), high.max(end))
+    for i in 0..marks.len() {
+        if marks[i] {
+            return false;
+        }
     }
+    true
 }
 
 // What a crash leaves at a place that reads as `now` and was `old` at the last sync.
@@ -215,26 +285,17 @@ fn left_byte(pick: Pick, place: usize, now: u8, old: u8, pending: bool) -> u8
     }
 }
 
-// Settles the bytes from low up to high.
-fn settle_range(
-    seen: &mut [u8],
-    synced: &mut [u8],
-    pending: &mut [bool],
-    low: usize,
-    high: usize,
-    pick: Pick,
-)
-    requires even { length pending.old ≡ length synced.old }
-    requires within { length synced.old ≤ length seen.old }
-    requires ordered { low ≤ high }
-    requires reach { high ≤ length synced.old }
-    ensures { Settles pick low high (record { seen = seen.old; synced = synced.old; pending = pending.old })
-        (record { seen = seen.new; synced = synced.new; pending = pending.new }) }
+// Lets the device read as a crash leaves it. A pick that keeps pending bytes leaves what is read.
+fn settle_part(seen: &mut [u8], synced: &[u8], pending: &[bool], base: usize, pick: Pick)
+    requires even { length pending.now ≡ length synced.now }
+    requires within { base + length synced.now ≤ length seen.old }
+    requires sound { IsSound (whole base seen.old synced.now pending.now) }
+    ensures { seen.new ≡ (settled pick (whole base seen.old synced.now pending.now)).seen }
 {
-    for i in low..high {
-        let byte = left_byte(pick, i, seen[i], synced[i], pending[i]);
-        seen[i] = byte;
-        synced[i] = byte;
-        pending[i] = false;
+    if let Pick::Keep = pick {
+        return;
+    }
+    for i in base..base + synced.len() {
+        seen[i] = left_byte(pick, i, seen[i], synced[i - base], pending[i - base]);
     }
 }

@@ -62,7 +62,7 @@ impl Drives {
         ensures room { length bytes.now + 32 ≤ self.old.history.spare → IsOk result }
         ensures err { OnErr result (NotesNothing self.old.history.events self.new.history.events self.old.disks.items self.new.disks.items) }
     {
-        self.history.note_write(dev, at as usize, bytes, ok)?;
+        self.history.note_write(dev, at, bytes, ok)?;
         let disk = &mut self.disks[dev as usize];
         disk.write(at as usize, bytes);
         Ok(())
@@ -107,7 +107,7 @@ impl Drives {
         ensures noted { OnOk result (Notes (Poked dev at byte) self.old.history.events self.new.history.events self.old.disks.items self.new.disks.items) }
         ensures err { OnErr result (NotesNothing self.old.history.events self.new.history.events self.old.disks.items self.new.disks.items) }
     {
-        self.history.note_poke(dev, at as usize, byte)?;
+        self.history.note_poke(dev, at, byte)?;
         let disk = &mut self.disks[dev as usize];
         disk.poke(at as usize, byte);
         Ok(())

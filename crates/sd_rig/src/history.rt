@@ -1,20 +1,20 @@
 //! The record of what was done to the devices in memory. It knows nothing of their contents.
 
-ghost use Rattle.std.specs.Prelude.{◌≡◌, ◌+◌, ◌≤◌, [], ◌∷◌, ◌++◌, true, false, length, IsOk, OnOk, OnErr};
+ghost use Rattle.std.specs.Prelude.{◌≡◌, ◌+◌, ◌^◌, ◌<◌, ◌≤◌, [], ◌∷◌, ◌++◌, true, false, length, IsOk, OnOk, OnErr};
 ghost use Rattle.sd_rig.specs.History.{Crashed, Poked, Synced, Wrote};
 
 use sd_base::{Memory, Pick};
 use std::alloc::Global;
 use std::marker::Model;
 
-/// What was done. The bytes of a write stand apart.
+/// What was done. The bytes of a write stand apart. No device has 2 ^ 32 bytes, so places and counts have 32 bits.
 #[derive(Clone, Copy, Debug)]
 pub enum Entry {
     Wrote {
         dev: u8,
-        at: usize,
-        count: usize,
         ok: bool,
+        at: u32,
+        count: u32,
     },
     Synced {
         dev: u8,
@@ -25,8 +25,8 @@ pub enum Entry {
     },
     Poked {
         dev: u8,
-        at: usize,
         byte: u8,
+        at: u32,
     },
 }
 
@@ -67,7 +67,8 @@ impl History {
     }
 
     /// Notes a write, and keeps a place for a crash.
-    pub fn note_write(&mut self, dev: u8, at: usize, bytes: &[u8], ok: bool) -> Result<(), Memory>
+    pub fn note_write(&mut self, dev: u8, at: u32, bytes: &[u8], ok: bool) -> Result<(), Memory>
+        requires { length bytes.now < 2 ^ 32 }
         ensures noted { OnOk result (self.new.events ≡ self.old.events ++ Wrote dev at bytes.now ok ∷ []) }
         ensures kept { OnOk result (self.new.kept ≡ true) }
         ensures spare { OnOk result (self.old.spare ≤ self.new.spare + (length bytes.now + 32)) }
@@ -76,16 +77,11 @@ impl History {
         ensures same { OnErr result (self.new.kept ≡ self.old.kept) }
         ensures stays { OnErr result (self.old.spare ≤ self.new.spare) }
     {
-        self.bytes.reserve(bytes.len())?;
         self.entries.reserve(2)?;
-        self.bytes.extend_from_slice(bytes).unwrap();
+        self.bytes.extend_from_slice(bytes)?;
+        let count = bytes.len() as u32;
         self.entries
-            .push(Entry::Wrote {
-                dev,
-                at,
-                count: bytes.len(),
-                ok,
-            })
+            .push(Entry::Wrote { dev, ok, at, count })
             .unwrap();
         self.kept = true;
         Ok(())
@@ -117,13 +113,13 @@ impl History {
     }
 
     /// Notes a poke.
-    pub fn note_poke(&mut self, dev: u8, at: usize, byte: u8) -> Result<(), Memory>
+    pub fn note_poke(&mut self, dev: u8, at: u32, byte: u8) -> Result<(), Memory>
         ensures noted { OnOk result (self.new.events ≡ self.old.events ++ Poked dev at byte ∷ []) }
         ensures kept { self.new.kept ≡ self.old.kept }
         ensures events { OnErr result (self.new.events ≡ self.old.events) }
     {
         self.entries.reserve(2)?;
-        self.entries.push(Entry::Poked { dev, at, byte }).unwrap();
+        self.entries.push(Entry::Poked { dev, byte, at }).unwrap();
         Ok(())
     }
 

@@ -1,5 +1,5 @@
-use Rattle.std.proofs.Common.{vec_capacity, ◌∙◌}
-use Rattle.sd_rig.proofs.Fronts.{blank-held, blank-whole, whole-same}
+use Rattle.std.proofs.Common.{vec_capacity}
+use Rattle.sd_rig.proofs.Parts.{blank-held, blank-whole}
 use Rattle.sd_rig.proofs.disk.Disk.blank.Goals as goal
 
 pub invariant_of-result : goal.invariant_of-result
@@ -9,4 +9,4 @@ invariant_of-result c =
     blank-held c.args.len (vec_capacity synced) (vec_capacity pending) c.in_ok-zeros.field-0.items synced.items pending.items c.in_ok-zeros.ensures c.in_ok-with_capacity.ensures.items c.in_ok-with_capacity-2.ensures.items c.in_ok-with_capacity.ensures.capacity c.in_ok-with_capacity-2.ensures.capacity
 
 pub returns : goal.returns
-returns c = whole-same c.in_ok-zeros.ensures c.in_ok-with_capacity.ensures.items c.in_ok-with_capacity-2.ensures.items ∙ blank-whole c.args.len
+returns c = blank-whole 0 c.args.len c.in_ok-zeros.field-0.items c.in_ok-with_capacity.field-0.items c.in_ok-with_capacity-2.field-0.items c.in_ok-zeros.ensures c.in_ok-with_capacity.ensures.items c.in_ok-with_capacity-2.ensures.items

@@ -1,35 +1,30 @@
-use Rattle.std.proofs.Common.{◌≡◌, length, ap, ◌∙◌, subst, vec_capacity}
+use Rattle.std.proofs.Common.{◌≡◌, length, refl, ap, ◌∙◌, arith, vec_capacity}
 use Rattle.std.proofs.lemmas.List.{with_items_is}
-use Rattle.sd_rig.specs.Disk.{DiskState, Settles, settled}
-use Rattle.sd_rig.proofs.Fronts.{held-same, settled-held, settled-whole, whole-same}
+use Rattle.sd_rig.specs.Disk.{DiskState, settled, whole}
+use Rattle.sd_rig.proofs.Parts.{held-same, settled-held, settled-whole, whole-same}
 use Rattle.sd_rig.proofs.disk.Disk.settle.Goals as goal
-
-pub returns : goal.returns
-returns c =
-    let v = c.self.inside in
-    let new = c.settle_range.new in
-    let after : DiskState = record { seen = new.seen; synced = new.synced; pending = new.pending } in
-    let before : record { seen = c.deref_mut.result.now; synced = c.deref_mut-2.result.now; pending = c.deref_mut-3.result.now } ≡ record { seen = v.seen.items; synced = v.synced.items; pending = v.pending.items } = cc (c.deref_mut.ensures.value, c.deref_mut-2.ensures.value, c.deref_mut-3.ensures.value) in
-    let s = subst (λ (d : DiskState). Settles c.args.pick v.low v.high d after) before c.settle_range.ensures in
-    let l1 : length new.seen ≡ length v.seen.items = c.settle_range.auto.seen ∙ ap length c.deref_mut.ensures.value in
-    let l2 : length new.synced ≡ length v.synced.items = c.settle_range.auto.synced ∙ ap length c.deref_mut-2.ensures.value in
-    let l3 : length new.pending ≡ length v.pending.items = c.settle_range.auto.pending ∙ ap length c.deref_mut-3.ensures.value in
-    whole-same (with_items_is v.seen new.seen (c.settle_range.auto.seen ∙ c.deref_mut.ensures.len)) (with_items_is v.synced new.synced (c.settle_range.auto.synced ∙ c.deref_mut-2.ensures.len)) (with_items_is v.pending new.pending (c.settle_range.auto.pending ∙ c.deref_mut-3.ensures.len))
-    ∙ settled-whole c.args.pick v.low v.high (vec_capacity v.synced) (vec_capacity v.pending) v.seen.items v.synced.items new.seen new.synced v.pending.items new.pending c.self.invariant l1 l2 l3 s
-    ∙ ap (settled c.args.pick) c.self.view_is
 
 pub invariant_of-self : goal.invariant_of-self
 invariant_of-self c =
     let v = c.self.inside in
-    let new = c.settle_range.new in
-    let after : DiskState = record { seen = new.seen; synced = new.synced; pending = new.pending } in
-    let before : record { seen = c.deref_mut.result.now; synced = c.deref_mut-2.result.now; pending = c.deref_mut-3.result.now } ≡ record { seen = v.seen.items; synced = v.synced.items; pending = v.pending.items } = cc (c.deref_mut.ensures.value, c.deref_mut-2.ensures.value, c.deref_mut-3.ensures.value) in
-    let s = subst (λ (d : DiskState). Settles c.args.pick v.low v.high d after) before c.settle_range.ensures in
-    let l1 : length new.seen ≡ length v.seen.items = c.settle_range.auto.seen ∙ ap length c.deref_mut.ensures.value in
-    let l2 : length new.synced ≡ length v.synced.items = c.settle_range.auto.synced ∙ ap length c.deref_mut-2.ensures.value in
-    let l3 : length new.pending ≡ length v.pending.items = c.settle_range.auto.pending ∙ ap length c.deref_mut-3.ensures.value in
-    let m = vec_capacity v.synced in
-    let n = vec_capacity v.pending in
-    let made = settled-whole c.args.pick v.low v.high m n v.seen.items v.synced.items new.seen new.synced v.pending.items new.pending c.self.invariant l1 l2 l3 s in
-    held-same 0 0 m n (with_items_is v.seen new.seen (c.settle_range.auto.seen ∙ c.deref_mut.ensures.len)) (with_items_is v.synced new.synced (c.settle_range.auto.synced ∙ c.deref_mut-2.ensures.len)) (with_items_is v.pending new.pending (c.settle_range.auto.pending ∙ c.deref_mut-3.ensures.len))
-    (settled-held c.args.pick v.low v.high m n v.seen.items v.synced.items new.seen new.synced v.pending.items new.pending c.self.invariant l1 l2 l3 made)
+    let pick = c.args.pick in
+    let new = c.settle_part.new.seen in
+    let k : DiskState = whole v.base v.seen.items v.synced.items v.pending.items in
+    let is : new ≡ (settled pick k).seen = c.settle_part.ensures ∙ ap (λ (d : DiskState). (settled pick d).seen) (whole-same v.base c.deref_mut.ensures.value c.deref.ensures.value c.deref-2.ensures.value) in
+    let size : length new ≡ length v.seen.items = c.settle_part.auto.seen ∙ ap length c.deref_mut.ensures.value in
+    let within = c.self.invariant.within in
+    let room = c.self.invariant.room in
+    let marks_room = c.self.invariant.marks_room in
+    held-same v.base (vec_capacity c.clear.new.self) (vec_capacity c.clear-2.new.self) (with_items_is v.seen new (c.settle_part.auto.seen ∙ c.deref_mut.ensures.len)) refl refl
+    (settled-held v.base (vec_capacity c.clear.new.self) (vec_capacity c.clear-2.new.self) pick new c.clear.new.self.items c.clear-2.new.self.items k c.clear.ensures.items c.clear-2.ensures.items c.self.invariant.sound is (omega arith) (omega (arith, c.clear.ensures.capacity)) (omega (arith, c.clear-2.ensures.capacity)))
+
+pub returns : goal.returns
+returns c =
+    let v = c.self.inside in
+    let pick = c.args.pick in
+    let new = c.settle_part.new.seen in
+    let k : DiskState = whole v.base v.seen.items v.synced.items v.pending.items in
+    let is : new ≡ (settled pick k).seen = c.settle_part.ensures ∙ ap (λ (d : DiskState). (settled pick d).seen) (whole-same v.base c.deref_mut.ensures.value c.deref.ensures.value c.deref-2.ensures.value) in
+    whole-same v.base (with_items_is v.seen new (c.settle_part.auto.seen ∙ c.deref_mut.ensures.len)) refl refl
+    ∙ settled-whole pick v.base new c.clear.new.self.items c.clear-2.new.self.items k c.clear.ensures.items c.clear-2.ensures.items c.self.invariant.sound is
+    ∙ ap (settled pick) c.self.view_is

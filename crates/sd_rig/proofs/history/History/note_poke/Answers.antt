@@ -8,14 +8,14 @@ use Rattle.sd_rig.proofs.history.History.note_poke.Goals as goal
 
 pub invariant_of-self-2 : goal.invariant_of-self-2
 invariant_of-self-2 c =
-    let entries : c.push.new.self.items ≡ c.self.inside.entries.items ++ E.Poked c.args.dev c.args.at c.args.byte ∷ [] = pushed _ c.reserve.ensures.items c.unwrap.ensures c.push.ensures.items in
-    let more = bytes_in-more c.self.inside.entries.items (E.Poked c.args.dev c.args.at c.args.byte) in
+    let entries : c.push.new.self.items ≡ c.self.inside.entries.items ++ E.Poked c.args.dev c.args.byte c.args.at ∷ [] = pushed _ c.reserve.ensures.items c.unwrap.ensures c.push.ensures.items in
+    let more = bytes_in-more c.self.inside.entries.items (E.Poked c.args.dev c.args.byte c.args.at) in
     let before = c.self.invariant.0 in
     (ap bytes_in entries ∙ (omega arith), λ kept. grind arith)
 
 pub returns-clause-noted : goal.returns-clause-noted
 returns-clause-noted c =
-    let entries : c.push.new.self.items ≡ c.self.inside.entries.items ++ E.Poked c.args.dev c.args.at c.args.byte ∷ [] = pushed _ c.reserve.ensures.items c.unwrap.ensures c.push.ensures.items in
+    let entries : c.push.new.self.items ≡ c.self.inside.entries.items ++ E.Poked c.args.dev c.args.byte c.args.at ∷ [] = pushed _ c.reserve.ensures.items c.unwrap.ensures c.push.ensures.items in
     ap (λ (es : List Entry). events_of es c.self.inside.bytes.items) entries
-    ∙ events_of-no_bytes c.self.inside.entries.items c.self.inside.bytes.items (E.Poked c.args.dev c.args.at c.args.byte) c.self.invariant.0
+    ∙ events_of-no_bytes c.self.inside.entries.items c.self.inside.bytes.items (E.Poked c.args.dev c.args.byte c.args.at) c.self.invariant.0
     ∙ ap (λ s. s.events ++ Poked c.args.dev c.args.at c.args.byte ∷ []) c.self.view_is

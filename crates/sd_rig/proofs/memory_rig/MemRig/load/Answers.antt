@@ -1,7 +1,6 @@
-use Rattle.std.proofs.Common.{◌≡◌, List, ℕ, length, sym, ap, ◌∙◌, subst}
+use Rattle.std.proofs.Common.{List, ℕ, ◌∙◌, subst}
 use Rattle.sd_rig.specs.Devices.{LeavesOnly}
-use Rattle.sd_rig.specs.Disk.{DiskState}
-use Rattle.sd_rig.specs.Replay.{disk_at, left_of}
+use Rattle.sd_rig.specs.Replay.{left_of}
 use Rattle.sd_rig.proofs.Answered.{from_on_ok, on_ok}
 use Rattle.sd_rig.proofs.Facts.{durable-at, loaded-seen, seen-synced}
 use Rattle.sd_rig.proofs.memory_rig.MemRig.load.Goals as goal
