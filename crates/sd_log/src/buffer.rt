@@ -72,7 +72,7 @@ impl Buffer {
         ensures text { self.new.text ≡ self.old.text ++ spelling r.now }
         ensures room { self.old.room ≤ self.new.room + length (spelling r.now) }
     {
-        r.put(&mut self.bytes).unwrap();
+        r.write(&mut self.bytes);
     }
 
     /// Forgets the bytes.
@@ -124,5 +124,5 @@ fn frame(bytes: &mut Vec<u8>)
 {
     let len = (bytes.len() - HEAD) as u32;
     BigEndian::write_u32(bytes, len);
-    bytes.push(0).unwrap();
+    bytes.push_reserved(0);
 }

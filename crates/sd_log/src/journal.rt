@@ -8,9 +8,13 @@ ghost use Rattle.sd_log.specs.Marks.{as_forced, greatest_lsn, high_of};
 
 use crate::placed::Placed;
 use sd_base::{Lsn, Memory};
-use sd_logrec::{GROUP_HEAD, Record};
+use sd_logrec::{AREA_LEN, END_LEN, GROUP_HEAD, Record};
 use std::alloc::Global;
 use std::marker::Model;
+
+/// How many records memory is taken for at once, at least: those of a full area of which none is shorter than a Commit. It is
+/// touched as they come, and records are hardly ever moved to a wider place.
+const WIDE: usize = AREA_LEN as usize / END_LEN;
 
 /// A group: where it ends, how many records it has, and the greatest LSN of the log up to its end.
 #[derive(Clone, Copy, Debug)]
@@ -113,9 +117,24 @@ impl Journal {
         if room <= self.room {
             return Ok(());
         }
-        self.placed.reserve(room)?;
-        self.marks.reserve(room + 1)?;
-        self.room = room;
+        self.widen(room)
+    }
+
+    // Takes memory for so many records more, or for more than these, and counts all that is there then.
+    #[inline(never)]
+    fn widen(&mut self, room: usize) -> Result<(), Memory>
+        requires more { self.old.room < room }
+        requires small { room < 2 ^ 32 }
+        ensures same { self.new ≡ record self.old { room = self.new.room } }
+        ensures ok { OnOk result (room ≤ self.new.room) }
+        ensures stays { self.old.room ≤ self.new.room }
+    {
+        let wide = room.max(WIDE);
+        self.placed.reserve(wide)?;
+        self.marks.reserve(wide + 1)?;
+        let records = self.placed.capacity() - self.placed.len();
+        let marks = self.marks.capacity() - self.marks.len() - 1;
+        self.room = records.min(marks);
         Ok(())
     }
 
@@ -126,7 +145,7 @@ impl Journal {
         ensures { self.new ≡ pushed rec self.old }
     {
         let forced = false;
-        self.placed.push(Placed { place, rec, forced }).unwrap();
+        self.placed.push_reserved(Placed { place, rec, forced });
         self.room -= 1;
     }
 
@@ -140,7 +159,7 @@ impl Journal {
         let high = high_of(&self.marks).max(greatest_lsn(&self.placed[self.forced..]));
         let end = self.gate + GROUP_HEAD as u32 + len;
         mark_forced(&mut self.placed, self.forced);
-        self.marks.push(Mark { end, count, high }).unwrap();
+        self.marks.push_reserved(Mark { end, count, high });
         self.gate = end;
         self.forced = self.placed.len();
     }

@@ -85,7 +85,7 @@ impl Pages {
     {
         let chain = chain_of(rec);
         let before = self.last[chain as usize];
-        self.links.push(Link { chain, before }).unwrap();
+        self.links.push_reserved(Link { chain, before });
         self.last[chain as usize] = self.links.len() as u32;
     }
 

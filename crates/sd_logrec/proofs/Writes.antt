@@ -1,10 +1,11 @@
 -- Writing the items of a list one after the other. It serves the goals of put.rt.
-use Rattle.std.proofs.Common.{◌≡◌, ℕ, ◌+◌, ◌<◌, List, [], ◌∷◌, ◌++◌, length, get_or, take, sym, ap, ◌∙◌, append_assoc, arith, length-append}
+use Rattle.std.proofs.Common.{◌≡◌, ℕ, ◌+◌, ◌<◌, List, [], ◌∷◌, ◌++◌, length, get_or, take, sym, ap, subst, ◌∙◌, append_assoc, arith, length-append}
 use Rattle.std.specs.Global.{Vec}
 use Rattle.std.specs.List.{flat_map}
 use Rattle.std.proofs.lemmas.List.{flat_map_more, take_more, append-nil}
 use Rattle.std.proofs.lemmas.List.Folds.{length-flat_map-take}
-use Rattle.sd_logrec.specs.Spelling.{one, eight, row}
+use Rattle.sd_base.specs.declared.ids.TxnId.{TxnId}
+use Rattle.sd_logrec.specs.Spelling.{one, two, four, eight, row, transaction}
 use Rattle.sd_logrec.specs.Writing.{HasRoom, Appends}
 
 -- there is room for the next item
@@ -46,6 +47,21 @@ appends_then a b c p q x y = record {
   capacity = omega (arith, x.capacity, y.capacity);
 }
 
--- the fields of a row behind its type and LSN
-pub appends_row : (a b c : Vec ℕ) (type lsn : ℕ) (fields : List ℕ) → Appends a b (one type ++ eight lsn) → Appends b c fields → Appends a c (row type lsn fields)
-appends_row a b c type lsn fields x y = appends_then a b c (one type ++ eight lsn) fields x y
+-- the fields behind what each record of a transaction begins with
+pub appends_head : (a b c : Vec ℕ) (type lsn : ℕ) (txn : TxnId) (prev : ℕ) (fields : List ℕ) → Appends a b (row type lsn (transaction txn ++ eight prev)) → Appends b c fields
+    → Appends a c (row type lsn (transaction txn ++ (eight prev ++ fields)))
+appends_head a b c type lsn txn prev fields x y =
+    let t : List ℕ = transaction txn in
+    let p : List ℕ = eight prev in
+    subst (Appends a c)
+    (append_assoc (one type) (eight lsn ++ (t ++ p)) fields ∙ ap (λ (l : List ℕ). one type ++ l) (append_assoc (eight lsn) (t ++ p) fields ∙ ap (λ (l : List ℕ). eight lsn ++ l) (append_assoc t p fields)))
+    (appends_then a b c (row type lsn (t ++ p)) fields x y)
+
+-- the values behind the place of a change
+pub appends_place : (a b c : Vec ℕ) (page slot capacity : ℕ) (values : List ℕ) → Appends a b (four page ++ (two slot ++ two capacity)) → Appends b c values
+    → Appends a c (four page ++ (two slot ++ (two capacity ++ values)))
+appends_place a b c page slot capacity values x y =
+    let m : List ℕ = two slot ++ two capacity in
+    subst (Appends a c)
+    (append_assoc (four page) m values ∙ ap (λ (l : List ℕ). four page ++ l) (append_assoc (two slot) (two capacity) values))
+    (appends_then a b c (four page ++ m) values x y)

@@ -6,9 +6,7 @@ ghost use Rattle.sd_logrec.specs.Reading.{Finds, Gives, byte_at, number_at, lsn_
 
 use crate::layout::MAX_LSN;
 use crate::miss::Miss;
-use sd_base::{
-    Bytes, InstNo, Lsn, MAX_CAPACITY, MAX_SLOTS, NO_VALUE, PAGES, PageNo, Sequence, TxnId,
-};
+use sd_base::{Bytes, InstNo, Lsn, MAX_CAPACITY, MAX_SLOTS, NO_VALUE, PAGES, PageNo, TxnId};
 use std::alloc::Global;
 
 #[tactic(auto, unfolding(crate::specs::Reading::byte_at))]
@@ -143,7 +141,7 @@ fn bytes_of(alloc: Global, bytes: &[u8], len: usize) -> Result<(Bytes, &[u8]), M
         return Err(Miss::Nothing);
     }
     let (front, rest) = bytes.split_at(len);
-    Ok((Sequence::of(Vec::from_slice(alloc, front)?), rest))
+    Ok((Bytes::copy_of(alloc, front)?, rest))
 }
 
 #[tactic(auto, unfolding(crate::specs::Reading::value_at))]

@@ -3,6 +3,7 @@
 ghost use Rattle.std.specs.Prelude.{◌≡◌};
 ghost use Rattle.sd_logrec.specs.declared.miss.Miss.TheVariants as M;
 
+use sd_base::Memory;
 use std::alloc::{AllocError, AllocFailed};
 
 #[derive(Debug, Drop)]
@@ -17,6 +18,14 @@ impl From<AllocError> for Miss {
     ghost from_gives = { λ _ m. m ≡ M.Memory };
 
     fn from(_: AllocError) -> Self {
+        Miss::Memory
+    }
+}
+
+impl From<Memory> for Miss {
+    ghost from_gives = { λ _ m. m ≡ M.Memory };
+
+    fn from(_: Memory) -> Self {
         Miss::Memory
     }
 }

@@ -5,8 +5,11 @@ ghost use Rattle.std.specs.List.{flat_map};
 ghost use Rattle.sd_logrec.specs.Writing.{HasRoom, Appends};
 ghost use Rattle.sd_logrec.specs.Spelling.{spelling, HasSpelling, IsTxn, IsValue, AreSpans, AreRecs, one, two, four, eight, transaction, value, span, changed, counted, row};
 
-use crate::{Record, Recs, Spans};
+use crate::{END_LEN, Record, Recs, Spans};
 use sd_base::{Bytes, Lsn, Memory, NO_VALUE, PageNo, TxnId};
+
+/// The length of a page, a slot and a capacity in bytes.
+const PLACE_LEN: usize = 8;
 
 impl Record {
     /// Appends its spelling. It takes no memory where `out` has room for it; `Memory` leaves the bytes of `out` as
@@ -23,8 +26,8 @@ impl Record {
         Ok(())
     }
 
-    // Appends its spelling.
-    fn write(&self, out: &mut Vec<u8>)
+    /// Appends its spelling where there is room for it. It takes no memory.
+    pub fn write(&self, out: &mut Vec<u8>)
         requires fits { HasSpelling self.now }
         requires room { HasRoom out.old (spelling self.now) }
         ensures { Appends out.old out.new (spelling self.now) }
@@ -44,12 +47,8 @@ impl Record {
                 before,
                 after,
             } => {
-                put_row(out, 2, *lsn);
-                put_txn(out, *txn);
-                put_u64(out, *prev);
-                put_page(out, *page);
-                put_u16(out, *slot);
-                put_u16(out, *capacity);
+                put_head(out, 2, *lsn, *txn, *prev);
+                put_place(out, *page, *slot, *capacity);
                 put_value(out, before);
                 put_value(out, after);
             }
@@ -62,16 +61,14 @@ impl Record {
                 slot,
                 after,
             } => {
-                put_row(out, 3, *lsn);
-                put_txn(out, *txn);
-                put_u64(out, *prev);
+                put_head(out, 3, *lsn, *txn, *prev);
                 put_u64(out, *undo_next);
                 put_page(out, *page);
                 put_u16(out, *slot);
                 put_value(out, after);
             }
-            Record::Commit { lsn, txn, prev } => put_ending(out, 4, *lsn, *txn, *prev),
-            Record::End { lsn, txn, prev } => put_ending(out, 5, *lsn, *txn, *prev),
+            Record::Commit { lsn, txn, prev } => put_head(out, 4, *lsn, *txn, *prev),
+            Record::End { lsn, txn, prev } => put_head(out, 5, *lsn, *txn, *prev),
             Record::BeginCheck { lsn } => put_row(out, 6, *lsn),
             Record::EndCheck {
                 lsn,
@@ -152,14 +149,45 @@ fn put_txn(out: &mut Vec<u8>, txn: TxnId)
     put_u32(out, txn.seq);
 }
 
-// Appends a Commit or an End.
-fn put_ending(out: &mut Vec<u8>, kind: u8, lsn: Lsn, txn: TxnId, prev: Lsn)
+// Appends what each record of a transaction begins with. A Commit and an End have no more.
+fn put_head(out: &mut Vec<u8>, kind: u8, lsn: Lsn, txn: TxnId, prev: Lsn)
     requires { HasRoom out.old (row kind lsn (transaction txn ++ eight prev)) }
     ensures { Appends out.old out.new (row kind lsn (transaction txn ++ eight prev)) }
 {
-    put_row(out, kind, lsn);
-    put_txn(out, txn);
-    put_u64(out, prev);
+    put_bytes(out, &head_of(kind, lsn, txn, prev));
+}
+
+#[tactic(auto, unfolding(crate::specs::Spelling::four, crate::specs::Spelling::eight))]
+fn head_of(kind: u8, lsn: Lsn, txn: TxnId, prev: Lsn) -> [u8; END_LEN]
+    ensures { result ≡ row kind lsn (transaction txn ++ eight prev) }
+{
+    let mut head = [0; END_LEN];
+    head[0] = kind;
+    head[1..9].copy_from_slice(&lsn.to_be_bytes());
+    head[9] = txn.inst.get();
+    head[10..14].copy_from_slice(&txn.epoch.to_be_bytes());
+    head[14..18].copy_from_slice(&txn.seq.to_be_bytes());
+    head[18..26].copy_from_slice(&prev.to_be_bytes());
+    head
+}
+
+// Appends the place of a change, and the slot's capacity.
+fn put_place(out: &mut Vec<u8>, page: PageNo, slot: u16, capacity: u16)
+    requires { HasRoom out.old (four page ++ (two slot ++ two capacity)) }
+    ensures { Appends out.old out.new (four page ++ (two slot ++ two capacity)) }
+{
+    put_bytes(out, &place_of(page, slot, capacity));
+}
+
+#[tactic(auto, unfolding(crate::specs::Spelling::two, crate::specs::Spelling::four))]
+fn place_of(page: PageNo, slot: u16, capacity: u16) -> [u8; PLACE_LEN]
+    ensures { result ≡ four page ++ (two slot ++ two capacity) }
+{
+    let mut place = [0; PLACE_LEN];
+    place[..4].copy_from_slice(&(page.get() as u32).to_be_bytes());
+    place[4..6].copy_from_slice(&slot.to_be_bytes());
+    place[6..].copy_from_slice(&capacity.to_be_bytes());
+    place
 }
 
 fn put_value(out: &mut Vec<u8>, optional: &Option<Bytes>)

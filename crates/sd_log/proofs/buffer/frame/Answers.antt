@@ -17,5 +17,5 @@ returns-clause-items c =
     let head = c.requires.head in
     let xs : List ℕ = c.args.bytes.now.items in
     let n : ℕ = c.len.result - 4 in
-    (rw c.unwrap.ensures at c.push.ensures.items)
+    c.push_reserved.ensures.items
     ∙ with_length xs c.write_u32.new.buf c.args.bytes.now.len n (omega (arith, c.args.bytes.now.ok.0)) c.args.bytes.now.ok.0 (omega (arith, c.args.bytes.now.ok.0, c.len.ensures)) (c.write_u32.ensures ∙ ap (λ (l : List ℕ). four n ++ drop 4 l) c.deref_mut.ensures.value)

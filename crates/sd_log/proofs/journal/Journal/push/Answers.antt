@@ -6,6 +6,6 @@ use Rattle.sd_log.proofs.journal.Journal.push.Goals as goal
 
 pub invariant_of-self : goal.invariant_of-self
 invariant_of-self c =
-    pushed_is c.self.inside c.push.new.self c.args.rec c.args.place c.self.invariant
-    (rw c.unwrap.ensures at c.push.ensures.items) (rw c.unwrap.ensures at c.push.ensures.len) c.push.ensures.capacity (let room : c.self.inside.room ≡ c.args.self.now.room = ap (λ (s : JournalState). s.room) c.self.view_is in omega (arith, room, c.requires.room))
+    pushed_is c.self.inside c.push_reserved.new.self c.args.rec c.args.place c.self.invariant
+    c.push_reserved.ensures.items c.push_reserved.ensures.len (omega (arith, c.push_reserved.ensures.capacity)) (let room : c.self.inside.room ≡ c.args.self.now.room = ap (λ (s : JournalState). s.room) c.self.view_is in omega (arith, room, c.requires.room))
     (c.requires.place ∙ sym (ap (λ (s : JournalState). s.gate + 5 + length (spelled s.tail)) c.self.view_is))

@@ -10,14 +10,14 @@ use Rattle.sd_log.proofs.journal.Journal.settle.Goals as goal
 abbrev mark : (c : goal.After-self-2-1) → Mark
 mark c = record { end = c.self.inside.gate + 5 + c.args.len; count = c.len.result - c.self.inside.forced; high = c.max-high.result }
 
-settles : (c : goal.After-self-2-1) → Settles c.self.inside c.mark_forced.new.placed c.push.new.self (mark c) c.args.len
+settles : (c : goal.After-self-2-1) → Settles c.self.inside c.mark_forced.new.placed c.push_reserved.new.self (mark c) c.args.len
 settles c = record {
   items = c.mark_forced.ensures.items;
   len_is = c.mark_forced.ensures.len;
   cap_is = c.mark_forced.ensures.capacity;
-  marks_is = rw c.unwrap.ensures at c.push.ensures.items;
-  marks_len = rw c.unwrap.ensures at c.push.ensures.len;
-  marks_cap = c.push.ensures.capacity;
+  marks_is = c.push_reserved.ensures.items;
+  marks_len = c.push_reserved.ensures.len;
+  marks_cap = omega (arith, c.push_reserved.ensures.capacity);
   end_is = refl;
   count_is = ap (λ n. n - c.self.inside.forced) c.len.ensures;
   high_is =
@@ -29,10 +29,10 @@ settles c = record {
 
 pub invariant_of-self : goal.invariant_of-self
 invariant_of-self c =
-    subst (λ n. IsJournal (record { start = c.self.inside.start; gate = c.self.inside.gate + 5 + c.args.len; marks = c.push.new.self; placed = c.mark_forced.new.placed; forced = n; room = c.self.inside.room })) (sym c.len-self-inside.ensures)
-    (settled_is c.self.inside c.mark_forced.new.placed c.push.new.self (mark c) c.args.len c.self.invariant (settles c))
+    subst (λ n. IsJournal (record { start = c.self.inside.start; gate = c.self.inside.gate + 5 + c.args.len; marks = c.push_reserved.new.self; placed = c.mark_forced.new.placed; forced = n; room = c.self.inside.room })) (sym c.len-self-inside.ensures)
+    (settled_is c.self.inside c.mark_forced.new.placed c.push_reserved.new.self (mark c) c.args.len c.self.invariant (settles c))
 
 pub returns : goal.returns
 returns c =
-    ap (λ n. journal_view (record { start = c.self.inside.start; gate = c.self.inside.gate + 5 + c.args.len; marks = c.push.new.self; placed = c.mark_forced.new.placed; forced = n; room = c.self.inside.room })) c.len-self-inside.ensures
-    ∙ settled_view c.self.inside c.mark_forced.new.placed c.push.new.self (mark c) c.args.len c.self.invariant (settles c) ∙ ap (settled c.args.len) c.self.view_is
+    ap (λ n. journal_view (record { start = c.self.inside.start; gate = c.self.inside.gate + 5 + c.args.len; marks = c.push_reserved.new.self; placed = c.mark_forced.new.placed; forced = n; room = c.self.inside.room })) c.len-self-inside.ensures
+    ∙ settled_view c.self.inside c.mark_forced.new.placed c.push_reserved.new.self (mark c) c.args.len c.self.invariant (settles c) ∙ ap (settled c.args.len) c.self.view_is

@@ -7,6 +7,6 @@ pub invariant_of-self : goal.invariant_of-self
 invariant_of-self c =
     let heads = c.self.invariant.heads in
     let low = c.chain_of-chain.ensures.within in
-    pushed_pages c.self.inside c.push.new.self _ (record { chain = c.chain_of-chain.result; before = c.index-before.result.now }) c.self.invariant
-    (rw c.unwrap.ensures at c.push.ensures.items) (rw c.unwrap.ensures at c.push.ensures.len) low (c.index-before.ensures ∙ get_or_default c.self.inside.last.items c.chain_of-chain.result c.index-before.result.now 0 (omega (arith, c.self.inside.last.ok.0)))
+    pushed_pages c.self.inside c.push_reserved.new.self _ (record { chain = c.chain_of-chain.result; before = c.index-before.result.now }) c.self.invariant
+    c.push_reserved.ensures.items c.push_reserved.ensures.len low (c.index-before.ensures ∙ get_or_default c.self.inside.last.items c.chain_of-chain.result c.index-before.result.now 0 (omega (arith, c.self.inside.last.ok.0)))
     (ap (set c.self.inside.last.items c.chain_of-chain.result) c.len.ensures) refl
