@@ -1,11 +1,12 @@
 //! The unresolved transactions in order of begin, over the kit's `indexmap`. It sees no sums and no counts of begins.
 
-ghost use Rattle.std.specs.Prelude.{◌≡◌, ◌≢◌, ◌∷◌, ◌++◌, ◌^◌, ◌<◌, [], length, option_copied, IfOk, IfSome, None, OnErr, OnOk, Some};
+ghost use Rattle.std.specs.Prelude.{◌≡◌, ◌≢◌, ◌∷◌, ◌++◌, ◌^◌, ◌<◌, [], length, option_copied, IfOk, IfSome, IsTrue, None, OnErr, OnOk, Some};
 ghost use Rattle.std.specs.List.{IsDistinct};
 ghost use Rattle.std.specs.Map.{keys_of, lookup, remove_entry};
 ghost use Rattle.indexmap.specs.IndexMap.{insert_entry};
 ghost use Rattle.sd_base.specs.Ids.{same_txn};
 ghost use Rattle.sd_base.specs.declared.ids.TxnId.{TxnId};
+ghost use Rattle.sd_txn.specs.Lending.{IsLast};
 ghost use Rattle.sd_txn.specs.Transactions.{started};
 
 use crate::TxnState;
@@ -76,6 +77,9 @@ impl TxnList {
         ensures* writes_back { sem 𝓛 (LendsTxn self.entry t.now result) }
         ensures value { option_copied_mut result ≡ lookup (same_txn t.now) self.old }
     {
+        if is_newest(&self.txns, t) {
+            return self.txns.last_mut();
+        }
         self.txns.get_mut(t)
     }
 
@@ -109,5 +113,17 @@ fn newest<'a>(txns: &'a IndexMap<TxnId, Txn>, t: &TxnId) -> Option<&'a Txn>
     match txns.last() {
         Some((last, txn)) if last == t => Some(txn),
         _ => None,
+    }
+}
+
+// Whether the transaction is the last in the order.
+fn is_newest(txns: &IndexMap<TxnId, Txn>, t: &TxnId) -> bool
+    ensures last { IsTrue result → IsLast txns.now.entries t.now }
+    ensures once { IsDistinct same_txn (keys_of txns.now.entries) }
+{
+    let _once = txns.len();
+    match txns.last() {
+        Some((last, _txn)) => last == t,
+        None => false,
     }
 }

@@ -238,9 +238,10 @@ impl TxnTable {
     {
         // Fewer than 2^63 are unresolved, so the count fits.
         self.keeps();
-        let first = self.span(t).is_none();
+        let txn = self.txns.get_mut(t).unwrap();
+        let first = txn.span().is_none();
         self.owed.spans += u64::from(first);
-        self.txns.get_mut(t).unwrap().note(lsn);
+        txn.note(lsn);
     }
 
     /// Shuts the row of an unresolved transaction whose end is in the log: no open record and no span is left of it, so it

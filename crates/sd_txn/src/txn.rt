@@ -90,7 +90,8 @@ impl Txn {
         ensures number { OnOk result (mark_of mark self.new ≡ Some (depth self.old)) }
         ensures err { OnErr result (self.new ≡ self.old) }
     {
-        put_mark(&mut self.marks, mark.into_items(), self.stack.len())?;
+        let name = mark.items().to_vec(*self.stack.allocator())?;
+        put_mark(&mut self.marks, name, self.stack.len())?;
         Ok(())
     }
 

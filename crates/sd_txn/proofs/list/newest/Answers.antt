@@ -1,4 +1,4 @@
-use Rattle.std.proofs.Common.{Bool, sym, subst, ap, ◌∙◌}
+use Rattle.std.proofs.Common.{Bool, sym, subst, ◌∙◌}
 use Rattle.std.specs.List.{IsDistinct}
 use Rattle.std.specs.Map.{keys_of}
 use Rattle.sd_base.specs.declared.ids.TxnId.{TxnId}

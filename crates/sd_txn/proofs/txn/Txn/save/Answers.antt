@@ -7,7 +7,7 @@ use Rattle.sd_txn.proofs.txn.Txn.save.Goals as goal
 pub invariant_of-self-2 : goal.invariant_of-self-2
 invariant_of-self-2 c =
     let old = named vec_items c.self.inside.marks.entries in
-    let name = c.into_items.result.items in
+    let name = c.in_ok-name.name.items in
     let depth : c.len.result ≡ length c.self.inside.stack.items = search rules in
     record {
       marked = subst (λ marks. AreMarks marks (length c.self.inside.stack.items)) (sym (c.in_ok-put_mark.ensures.ok ∙ ap (λ n. with_mark name n old) depth))
