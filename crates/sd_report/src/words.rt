@@ -1,6 +1,6 @@
 //! Words of the report, put behind a text.
 
-ghost use Rattle.std.specs.Prelude.{◌≡◌, [], ◌∷◌, ◌++◌, OnOk};
+ghost use Rattle.std.specs.Prelude.{◌≡◌, ◌<◌, [], ◌∷◌, ◌++◌, OnOk};
 ghost use Rattle.std.specs.Fmt.{decimal};
 ghost use Rattle.sd_script.specs.Forms.{rid_word};
 ghost use Rattle.sd_report.specs.Words.{txn_text};
@@ -27,6 +27,26 @@ pub fn push_next(out: &mut Vec<u8>, word: &[u8]) -> Result<(), Memory>
 
 /// Appends a number.
 pub fn push_digits(out: &mut Vec<u8>, n: u64) -> Result<(), Memory>
+    ensures { OnOk result (out.new.items ≡ out.old.items ++ decimal n) }
+{
+    if n < 10 {
+        push_digit(out, n as u8)
+    } else {
+        push_long(out, n)
+    }
+}
+
+fn push_digit(out: &mut Vec<u8>, digit: u8) -> Result<(), Memory>
+    requires { digit < 10 }
+    ensures { OnOk result (out.new.items ≡ out.old.items ++ decimal digit) }
+{
+    out.push(b'0' + digit)?;
+    Ok(())
+}
+
+// A call of its own: the most numbers have one digit, and need no buffer.
+#[inline(never)]
+fn push_long(out: &mut Vec<u8>, n: u64) -> Result<(), Memory>
     ensures { OnOk result (out.new.items ≡ out.old.items ++ decimal n) }
 {
     let mut digits = Buffer::new();

@@ -61,7 +61,7 @@ ordinal_push es others k o q new =
     ap (λ (x : Option ℕ). option_or x (get nat_cmp others q)) (lookup_push q k o es (or_none _ _ new))
     ∙ or_cond (is_eq (nat_cmp k q)) o (lookup (is_at (nat_cmp q)) es) (get nat_cmp others q)
 
-pub ordinal_insert : (es : List (ℕ × ℕ)) (old new : BTreeMap ℕ ℕ) (k o q : ℕ) → lookup (is_at (nat_cmp k)) es ≡ None
+pub ordinal_insert : (es : List (ℕ × ℕ)) (old new : BTreeMap ℕ ℕ) (k o q : ℕ) → ordinal_at es old k ≡ None
     → get nat_cmp new q ≡ cond (is_eq (nat_cmp k q)) (Some o) (get nat_cmp old q)
     → ordinal_at es new q ≡ cond (is_eq (nat_cmp k q)) (Some o) (ordinal_at es old q)
 ordinal_insert es old new k o q none changed = ap (λ (x : Option ℕ). option_or (lookup (is_at (nat_cmp q)) es) x) changed ∙ by (is_eq (nat_cmp k q)) refl
@@ -70,7 +70,7 @@ ordinal_insert es old new k o q none changed = ap (λ (x : Option ℕ). option_o
         → option_or (lookup (is_at (nat_cmp q)) es) (cond b (Some o) (get nat_cmp old q)) ≡ cond b (Some o) (ordinal_at es old q)
     by true same =
         let is : k ≡ q = grind (arith, nat_tests) in
-        ap (λ (x : Option ℕ). option_or x (Some o)) (subst (λ (j : ℕ). lookup (is_at (nat_cmp j)) es ≡ None) is none)
+        ap (λ (x : Option ℕ). option_or x (Some o)) (subst (λ (j : ℕ). lookup (is_at (nat_cmp j)) es ≡ None) is (or_none _ _ none))
     by false apart = refl
 
 pub none_from : (x : Option ℕ) → is_some x ≡ false → x ≡ None

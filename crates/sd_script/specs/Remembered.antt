@@ -1,5 +1,5 @@
 -- What the reader remembers of the lines so far, and what it answers at the next.
-use Rattle.std.specs.Prelude.{◌≡◌, ◌≢◌, ℕ, ◌+◌, ◌≤◌, ◌<◌, List, [], ◌∷◌, ◌++◌, length, Option, None, Some}
+use Rattle.std.specs.Prelude.{◌≡◌, ◌≢◌, ℕ, ◌+◌, ◌≤◌, ◌<◌, Bool, true, false, List, [], ◌∷◌, ◌++◌, length, Option, None, Some}
 use Rattle.std.specs.Map.{update}
 use Rattle.std.specs.Str.{bytes_eq}
 use Rattle.sd_base.specs.declared.refusal.Refusal.{Refusal}
@@ -101,10 +101,10 @@ abbrev pub IsLikelyLine : List Line → List ℕ → ℕ → Option Line → Typ
 IsLikelyLine before bytes end None = (line : Line) → ¬ ReadsAs before bytes end line
 IsLikelyLine before bytes end (Some line) = IsLineIfFresh before bytes end line
 
--- the lines with this one, unless it begins a name again
-abbrev pub IsWith : List Line → Line → Option (List Line) → Type 0
-IsWith before line None = ¬ IsFresh before line.form
-IsWith before line (Some lines) = IsFresh before line.form × (lines ≡ before ++ line ∷ [])
+-- the lines with this one, if it was taken; it wasn't, if it begins a name again
+abbrev pub IsTakenIf : List Line → Line → List Line → Bool → Type 0
+IsTakenIf before line after true = IsFresh before line.form × (after ≡ before ++ line ∷ [])
+IsTakenIf before line after false = ¬ IsFresh before line.form
 
 -- the lines with the one as which these bytes read
 pub record GoesOn (before : List Line) (bytes : List ℕ) (end : ℕ) (lines : List Line) : Type 0 where

@@ -52,12 +52,14 @@ impl Names {
         }
     }
 
-    /// Gives the name this ordinal, where it has none, and tells whether it had none.
+    /// Gives the name this ordinal, where it has none, and tells whether it had none. Else, and after `Memory`, all is as before.
     pub(crate) fn add(&mut self, name: &[u8], ordinal: u32) -> Result<bool, Memory>
         requires { IsName name.now }
         ensures new { IfOk result (λ new. IsTrue new ↔ (known self.old name.now ≡ None)) }
         ensures known { IfOk result (λ new. IsTrue new → (other : List ℕ) → IsName other →
             known self.new other ≡ update bytes_eq (known self.old) name.now (Some ordinal) other) }
+        ensures same { IfOk result (λ new. ¬ IsTrue new → (other : List ℕ) → known self.new other ≡ known self.old other) }
+        ensures stays { OnErr result ((other : List ℕ) → known self.new other ≡ known self.old other) }
     {
         let key = packed(name);
         let new = put(&mut self.rising, &mut self.others, key, ordinal)?;
@@ -110,7 +112,7 @@ fn is_above(rising: &[(u128, u32)], key: u128) -> bool
     }
 }
 
-// Gives a key this ordinal, where it has none, and tells whether it had none. After `Memory` all is as before.
+// Gives a key this ordinal, where it has none, and tells whether it had none. Else, and after `Memory`, all is as before.
 fn put(
     rising: &mut Vec<(u128, u32)>,
     others: &mut BTreeMap<u128, u32>,
@@ -122,6 +124,8 @@ fn put(
     ensures new { IfOk result (λ new. IsTrue new ↔ (ordinal_at rising.old.items others.old key ≡ None)) }
     ensures ok { IfOk result (λ new. IsTrue new → (other : ℕ) → ordinal_at rising.new.items others.new other
         ≡ cond (is_eq (nat_cmp key other)) (Some ordinal) (ordinal_at rising.old.items others.old other)) }
+    ensures same { IfOk result (λ new. ¬ IsTrue new → (other : ℕ) → ordinal_at rising.new.items others.new other
+        ≡ ordinal_at rising.old.items others.old other) }
     ensures stays { OnErr result ((other : ℕ) → ordinal_at rising.new.items others.new other
         ≡ ordinal_at rising.old.items others.old other) }
 {
@@ -145,6 +149,7 @@ fn push(
     ensures new { IfOk result (λ new. IsTrue new ↔ (ordinal_at rising.old.items others.now key ≡ None)) }
     ensures ok { IfOk result (λ new. IsTrue new → (other : ℕ) → ordinal_at rising.new.items others.now other
         ≡ cond (is_eq (nat_cmp key other)) (Some ordinal) (ordinal_at rising.old.items others.now other)) }
+    ensures same { IfOk result (λ new. ¬ IsTrue new → rising.new.items ≡ rising.old.items) }
     ensures stays { OnErr result (rising.new.items ≡ rising.old.items) }
 {
     if beside(others, key).is_some() {
@@ -165,11 +170,13 @@ fn insert(
     ensures new { IfOk result (λ new. IsTrue new ↔ (ordinal_at rising.now others.old key ≡ None)) }
     ensures ok { IfOk result (λ new. IsTrue new → (other : ℕ) → ordinal_at rising.now others.new other
         ≡ cond (is_eq (nat_cmp key other)) (Some ordinal) (ordinal_at rising.now others.old other)) }
+    ensures same { IfOk result (λ new. ¬ IsTrue new → (other : ℕ) → ordinal_at rising.now others.new other
+        ≡ ordinal_at rising.now others.old other) }
     ensures stays { OnErr result ((other : ℕ) → ordinal_at rising.now others.new other ≡ ordinal_at rising.now others.old other) }
 {
-    if among(rising, key).is_some() {
+    if found(rising, others, key).is_some() {
         return Ok(false);
     }
-    let before = others.insert(key, ordinal)?;
-    Ok(before.is_none())
+    others.insert(key, ordinal)?;
+    Ok(true)
 }

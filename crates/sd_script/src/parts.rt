@@ -10,7 +10,7 @@ ghost use Rattle.sd_script.specs.Known.{known};
 
 use crate::names::Names;
 use crate::word::{is_name, number_of, number_within};
-use sd_base::{InstNo, Memory, Mode, PageNo, Pick, Rid, Sequence, Word};
+use sd_base::{Bytes, InstNo, Memory, Mode, PageNo, Pick, Rid, Word};
 use std::alloc::Global;
 
 /// The instance that the word names.
@@ -161,5 +161,5 @@ pub(crate) fn record_of(name: &[u8], rid: &[u8], begun: &Names) -> Option<(u32, 
 pub(crate) fn own(alloc: Global, bytes: &[u8]) -> Result<Word, Memory>
     ensures { IfOk result (λ word. word ≡ bytes.now) }
 {
-    Ok(Sequence::of(bytes.to_vec(alloc)?))
+    Ok(Bytes::copy_of(alloc, bytes)?)
 }

@@ -1,11 +1,13 @@
 //! The reader: the lines so far, and what is needed of them to judge the next.
 
-ghost use Rattle.std.specs.Prelude.{◌≡◌, ℕ, ◌<◌, ◌≤◌, ◌∷◌, ◌++◌, ◌↔◌, List, [], length, IsTrue, IfOk, IfErr, IfSome, IfNone};
+ghost use Rattle.std.specs.Prelude.{◌≡◌, ℕ, ◌<◌, ◌≤◌, ◌↔◌, List, [], length, IsTrue, IfOk, IfErr, OnOk, OnErr};
+ghost use Rattle.sd_base.specs.declared.refusal.Refusal.TheVariants as refusal;
+ghost use Rattle.sd_base.specs.declared.refusal.Cause.TheVariants.{Word};
 ghost use Rattle.sd_script.specs.Forms.{IsForm, IsName};
 ghost use Rattle.sd_script.specs.Known.{known};
 ghost use Rattle.sd_script.specs.Order.{is_table, insts_of, pages_of, Follows};
 ghost use Rattle.sd_script.specs.Remembered.{known_after, begins_after, insts_after, pages_after, tables_after};
-ghost use Rattle.sd_script.specs.Remembered.{Fits, IsUnknown, IsFresh, IsWith, IsLikelyLine, GoesOn, IsLineRefusedWith};
+ghost use Rattle.sd_script.specs.Remembered.{Fits, IsUnknown, IsFresh, IsTakenIf, IsLikelyLine, GoesOn, IsLineRefusedWith};
 
 use crate::form::form_of;
 use crate::names::Names;
@@ -73,24 +75,23 @@ impl Reader {
 
     /// Reads these bytes, which end at this byte of the text, as the next line.
     pub(crate) fn read_line(
-        self,
+        &mut self,
         alloc: Global,
         bytes: &[u8],
         end: usize,
-    ) -> Result<Reader, Refusal>
-        requires { length self ≤ 100000 }
-        ensures read { IfOk result (GoesOn self bytes.now end) }
-        ensures refused { IfErr result (IsLineRefusedWith self bytes.now end) }
+    ) -> Result<(), Refusal>
+        requires { length self.old ≤ 100000 }
+        ensures read { OnOk result (GoesOn self.old bytes.now end self.new) }
+        ensures refused { IfErr result (IsLineRefusedWith self.old bytes.now end) }
     {
         let number = self.lines.len() as u32 + 1;
-        let read = match self.line_of(alloc, bytes, end)? {
-            Some(line) => self.with(line)?,
-            None => None,
+        let Some(line) = self.line_of(alloc, bytes, end)? else {
+            return Err(bad_line(number));
         };
-        read.ok_or(Refusal::BadLine {
-            line: number,
-            cause: Cause::Word,
-        })
+        if !self.take(line)? {
+            return Err(bad_line(number));
+        }
+        Ok(())
     }
 
     // The line of these bytes, if it may come next or begins a name again.
@@ -156,54 +157,50 @@ impl Reader {
         page.get() < self.pages
     }
 
-    // The reader behind the line; none where it begins a name again.
-    fn with(self, line: Line) -> Result<Option<Reader>, Memory>
+    // Takes the line behind the others, unless it begins a name again, and tells whether it did. What may find no memory comes
+    // first.
+    fn take(&mut self, line: Line) -> Result<bool, Memory>
         requires form { IsForm line.form }
-        requires follows { IsFresh self line.form → Follows self line.form }
-        requires few { length self ≤ 100000 }
-        ensures { IfOk result (IsWith self line) }
+        requires follows { IsFresh self.old line.form → Follows self.old line.form }
+        requires few { length self.old ≤ 100000 }
+        ensures { IfOk result (IsTakenIf self.old line self.new) }
     {
-        let Reader {
-            mut lines,
-            begun,
-            begins,
-            insts,
-            pages,
-            tables,
-        } = self;
-        let Some(begun) = begun_behind(begun, begins, &line.form)? else {
-            return Ok(None);
-        };
-        let begins = begins_behind(begins, &line.form);
-        let insts = insts_behind(insts, &line.form);
-        let pages = pages_behind(pages, &line.form);
-        let tables = tables_behind(tables, &line.form);
-        lines.push(line)?;
-        Ok(Some(Reader {
-            lines,
-            begun,
-            begins,
-            insts,
-            pages,
-            tables,
-        }))
+        self.lines.reserve(1)?;
+        if !begin(&mut self.begun, self.begins, &line.form)? {
+            return Ok(false);
+        }
+        self.begins = begins_behind(self.begins, &line.form);
+        self.insts = insts_behind(self.insts, &line.form);
+        self.pages = pages_behind(self.pages, &line.form);
+        self.tables = tables_behind(self.tables, &line.form);
+        self.lines.push(line)?;
+        Ok(true)
     }
 }
 
-// What is remembered behind a line of this form: of the names, none where it begins one again.
-fn begun_behind(mut before: Names, begins: u32, form: &Form) -> Result<Option<Names>, Memory>
+fn bad_line(number: u32) -> Refusal
+    ensures { result ≡ refusal.BadLine number Word }
+{
+    Refusal::BadLine {
+        line: number,
+        cause: Cause::Word,
+    }
+}
+
+// Gives the name that the form begins, if it begins one, this ordinal, and tells whether it had none. Else, and after `Memory`, all
+// is as before.
+fn begin(names: &mut Names, begins: u32, form: &Form) -> Result<bool, Memory>
     requires { IsForm form.now }
-    ensures again { IfOk result (λ behind. IfNone behind (¬ IsUnknown (known before) form.now)) }
-    ensures new { IfOk result (λ behind. IfSome behind (λ _. IsUnknown (known before) form.now)) }
-    ensures names { IfOk result (λ behind. IfSome behind (λ names. (name : List ℕ) → IsName name →
-        known names name ≡ known_after (known before) begins form.now name)) }
+    ensures new { IfOk result (λ new. IsTrue new ↔ IsUnknown (known names.old) form.now) }
+    ensures names { IfOk result (λ new. IsTrue new → (name : List ℕ) → IsName name →
+        known names.new name ≡ known_after (known names.old) begins form.now name) }
+    ensures same { IfOk result (λ new. ¬ IsTrue new → (name : List ℕ) → known names.new name ≡ known names.old name) }
+    ensures stays { OnErr result ((name : List ℕ) → known names.new name ≡ known names.old name) }
 {
     if let Form::Begin { name, .. } = form {
-        if !before.add(name.items(), begins)? {
-            return Ok(None);
-        }
+        return names.add(name.items(), begins);
     }
-    Ok(Some(before))
+    Ok(true)
 }
 
 fn begins_behind(before: u32, form: &Form) -> u32

@@ -84,7 +84,7 @@ fn read_lines(alloc: Global, text: &[u8]) -> Result<Vec<Line>, Refusal>
     let mut rest = text;
     while !rest.is_empty() {
         let (line, after) = first_line(rest);
-        reader = reader.read_line(alloc, line, text.len() - after.len())?;
+        reader.read_line(alloc, line, text.len() - after.len())?;
         rest = after;
     }
     Ok(reader.into_lines())

@@ -17,6 +17,8 @@ pub(crate) fn first_word(line: &[u8]) -> (&[u8], Option<&[u8]>)
     }
 }
 
+// A call of its own: where its loop stands inside of others, it counts along for each of them.
+#[inline(never)]
 fn space_in(line: &[u8]) -> Option<usize>
     ensures { result ≡ position (λ b. b == 32) line.now }
 {
