@@ -1,10 +1,11 @@
--- What an edit comes to in a slot of a page. For `plan_in`.
-use Rattle.std.proofs.Common.{◌≡◌, ℕ, zero, suc, ◌<◌, ◌≤◌, List, [], ◌∷◌, length, refl, sym, ap, ◌∙◌, arith, Bor}
+-- What an edit comes to in a slot of a page. For `plan_in` and `plan_sum`.
+use Rattle.std.proofs.Common.{◌≡◌, ℕ, zero, suc, ◌<◌, ◌≤◌, List, [], ◌∷◌, length, refl, sym, ap, ◌∙◌, arith, Bor, inr}
 use Rattle.std.specs.Prelude.{Option, None, Some, IsSome, Result, Ok, Err, IfOk, ℤ}
 use Rattle.std.specs.List.{AllByRecursion}
 use Rattle.sd_base.specs.Values.{size}
 use Rattle.sd_base.specs.declared.refusal.Refusal.{Refusal}
 use Rattle.sd_base.specs.declared.refusal.Refusal.TheVariants as R
+use Rattle.sd_model.specs.Numbers.{Sums}
 use Rattle.sd_page.specs.Page.{Fits, Page, Slot, SlotFits, capacity_at, value_at}
 use Rattle.sd_chain.specs.Pages.{capacity, value}
 use Rattle.sd_chain.proofs.Slots.{has-slot, value-at}
@@ -26,6 +27,17 @@ pub slot-fits : (slots : List Slot) (s : ℕ) → AllByRecursion SlotFits slots 
 slot-fits [] s all lt = absurd (omega (arith, lt))
 slot-fits (x ∷ xs) zero all lt = (all.0.capacity, all.0.value)
 slot-fits (x ∷ xs) (suc s) all lt = slot-fits xs s all.1 (omega (arith, lt))
+
+-- a sum's text in a slot
+fitted-sum : (own : ℕ) (u v : List ℕ) (by : ℤ) → Sums u by v → (plan : Plan) → IsFitted own v plan → IsSumFitted own u by plan
+fitted-sum own u v by sums (Put new after) f = (v, f.0, f.1, f.2, sums)
+fitted-sum own u v by sums (Refuse R.TooLong) f = inr (v, f, sums)
+fitted-sum own u v by sums (Refuse n) f = elim f [ ]
+
+pub sum-fitted : {X : Type 0} (own : ℕ) (u v : List ℕ) (by : ℤ) (result : Result Plan X) → Sums u by v → IfOk result (IsFitted own v)
+    → IfOk result (IsSumFitted own u by)
+sum-fitted own u v by (Ok plan) sums f = fitted-sum own u v by sums plan f
+sum-fitted own u v by (Err e) sums f = tt
 
 module _ (page : Page) (s own : ℕ) (u : List ℕ) (fits : Fits page) (found : value_at page.slots s ≡ Some u)
     (has : capacity_at page.slots s ≡ Some own) where

@@ -1,8 +1,8 @@
--- Slots for new records. For `usable`, `dead_slot` and `room_for`.
-use Rattle.std.proofs.Common.{◌≡◌, inl, inr, ⊎_elim, ℕ, ◌≤◌, true, false, List, [], ◌∷◌, length, refl, sym, ap, ◌∙◌, subst, arith}
-use Rattle.std.proofs.Common.{Bor}
-use Rattle.std.specs.Prelude.{Option, None, Some, Result, Err, IfErr, is_some, option_map, unwrap_or}
+-- Slots for new records. For `is_dead` and `room_for`.
+use Rattle.std.proofs.Common.{◌≡◌, inl, inr, ⊎_elim, ℕ, ◌≤◌, List, [], ◌∷◌, length, refl, sym, ap, ◌∙◌, subst, arith}
+use Rattle.std.specs.Prelude.{◌+◌, ◌<◌, Option, None, Some, Result, Err, IfErr, option_and_then, unwrap_or}
 use Rattle.std.proofs.lemmas.Bool.{cases_lt}
+use Rattle.sd_base.specs.Values.{size}
 use Rattle.sd_base.specs.declared.ids.TxnId.{TxnId}
 use Rattle.sd_base.specs.declared.place.Mode.TheVariants as modes
 use Rattle.sd_base.specs.declared.refusal.Refusal.{Refusal}
@@ -10,7 +10,10 @@ use Rattle.sd_base.specs.declared.refusal.Refusal.TheVariants as R
 use Rattle.sd_chain.specs.Pages.{value}
 use Rattle.sd_chain.specs.Records.{home}
 use Rattle.sd_chain.proofs.Slots.{value-at}
-use Rattle.sd_page.specs.Page.{Fits, HasRoom, Page, Slot, empty_page, value_at}
+use Rattle.sd_page.specs.Page.{Fits, HasRoom, Page, Slot, empty_page}
+use Rattle.sd_page.specs.Reading.{entry_place, two_at}
+use Rattle.sd_page.specs.Spelling.{length_word, spelling}
+use Rattle.sd_page.proofs.Opened.{slot_at}
 use Rattle.sd_pool.specs.Buffers.{image_at}
 use Rattle.sd_state.specs.Changing.{image_for}
 use Rattle.sd_state.specs.Parts.{Parts, pool_at}
@@ -27,18 +30,22 @@ beyond-none : (slots : List Slot) → value slots (length slots) ≡ None
 beyond-none [] = refl
 beyond-none (x ∷ xs) = beyond-none xs
 
--- nothing is lent of a slot exactly where it has no value
-pub lent-none : (o : Option (Bor (List ℕ))) (slots : List Slot) (s : ℕ)
-    → option_map (λ (v : Bor (List ℕ)). v.now) o ≡ value_at slots s
-    → false ≡ is_some o → value slots s ≡ None
-lent-none None slots s is none = sym (value-at slots s) ∙ sym is
-lent-none (Some v) slots s is none = absurd (cc)
+-- what an entry says of a value that is 256 bytes long at most
+word-none : (o : Option (List ℕ)) (n : ℕ) → size o ≤ n → n ≤ 256 → length_word o ≡ 65535 → o ≡ None
+word-none None n le small is = refl
+word-none (Some v) n le small is = absurd (omega (arith, le, small, is))
 
-pub lent-some : (o : Option (Bor (List ℕ))) (slots : List Slot) (s : ℕ)
-    → option_map (λ (v : Bor (List ℕ)). v.now) o ≡ value_at slots s
-    → true ≡ is_some o → value slots s ≡ None → ⊥
-lent-some None slots s is some none = cc
-lent-some (Some v) slots s is some none = let clash : Some v.now ≡ None = is ∙ value-at slots s ∙ none in cc
+-- an entry says of its slot whether it is dead
+pub dead-word : (bytes : List ℕ) (page : Page) (s : ℕ) → Fits page → bytes ≡ spelling page → s < length page.slots
+    → (two_at bytes (entry_place s + 4) ≡ 65535 → value page.slots s ≡ None)
+    × (value page.slots s ≡ None → two_at bytes (entry_place s + 4) ≡ 65535)
+dead-word bytes page s fits spelled lt =
+    let at = slot_at bytes page s (record { fits = fits; spelled = spelled }) lt in
+    let has : value page.slots s ≡ at.slot.1 =
+    sym (value-at page.slots s) ∙ ap (λ (o : Option Slot). option_and_then (λ (x : Slot). x.1) o) at.got in (
+      λ is. has ∙ word-none at.slot.1 at.slot.0 at.fits.value at.fits.capacity (sym at.word ∙ is),
+      λ none. at.word ∙ ap length_word (sym has ∙ none),
+    )
 
 -- the copy that the pool has
 pub copy-is : (t : TxnId) (p : ℕ) (c : Parts) (page : Page) → image_at (pool_at c (home t)) p ≡ Some page → page ≡ image_for t p c

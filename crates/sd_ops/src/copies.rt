@@ -56,7 +56,7 @@ fn copied(alloc: Global, value: Option<&[u8]>) -> Result<Option<Bytes>, Memory>
     ensures { IfOk result (λ copied. copied ≡ option_copied value.entry) }
 {
     match value {
-        Some(bytes) => Ok(Some(Bytes::of(bytes.to_vec(alloc)?))),
+        Some(bytes) => Ok(Some(Bytes::copy_of(alloc, bytes)?)),
         None => Ok(None),
     }
 }

@@ -16,8 +16,9 @@ ghost use Rattle.sd_ops.specs.Edits.{IsFitted, IsLongEdit, IsPlan, IsSumFitted};
 ghost use Rattle.sd_ops.specs.Halves.{LacksPage};
 
 use crate::copies;
+use itoa::Buffer;
 use sd_base::{Bytes, MAX_CAPACITY, Memory, Mode, Refusal, Rid, TxnId};
-use sd_model::{NoSum, number_text, sum, text_length};
+use sd_model::{NoSum, sum};
 use sd_page::Image;
 use sd_rig::Rig;
 use sd_state::Complex;
@@ -95,7 +96,7 @@ fn put(alloc: Global, capacity: u16, value: &[u8]) -> Result<Plan, Memory>
     }
     Ok(Plan::Put {
         capacity,
-        after: Some(Bytes::of(value.to_vec(alloc)?)),
+        after: Some(Bytes::copy_of(alloc, value)?),
     })
 }
 
@@ -107,13 +108,8 @@ fn plan_sum(alloc: Global, capacity: u16, old: &[u8], by: i64) -> Result<Plan, M
         Err(NoSum::NotNumber) => Ok(Plan::Refuse(Refusal::NotNumber)),
         Err(NoSum::TooLong) => Ok(Plan::Refuse(Refusal::TooLong)),
         Ok(sum) => {
-            if text_length(sum) > capacity as usize {
-                return Ok(Plan::Refuse(Refusal::TooLong));
-            }
-            Ok(Plan::Put {
-                capacity,
-                after: Some(number_text(alloc, sum)?),
-            })
+            let mut text = Buffer::new();
+            put(alloc, capacity, text.format(sum).as_bytes())
         }
     }
 }

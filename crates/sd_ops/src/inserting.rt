@@ -1,12 +1,13 @@
 //! Records: inserted.
 
-ghost use Rattle.std.specs.Prelude.{◌≡◌, ◌↔◌, ◌≤◌, true, length, Err, MatchOption, Option, IfErr, IfOk, IsTrue, OnOk};
+ghost use Rattle.std.specs.Prelude.{◌≡◌, ◌↔◌, ◌+◌, ◌<◌, ◌≤◌, None, true, length, Err, MatchOption, Option, IfErr, IfOk, IsTrue, OnOk};
 ghost use Rattle.sd_base.specs.declared.ids.Rid.{Rid};
 ghost use Rattle.sd_base.specs.declared.place.Mode.TheVariants.{Excl};
 ghost use Rattle.sd_base.specs.declared.refusal.Refusal.TheVariants as R;
-ghost use Rattle.sd_chain.specs.Pages.{capacity as capacity_of};
+ghost use Rattle.sd_chain.specs.Pages.{capacity as capacity_of, value};
 ghost use Rattle.sd_model.specs.State.{State};
 ghost use Rattle.sd_model.specs.declared.event.Event.TheVariants as event;
+ghost use Rattle.sd_page.specs.Reading.{two_at};
 ghost use Rattle.sd_pagelock.specs.Directory.{entry_at};
 ghost use Rattle.sd_pagelock.specs.Places.{holds_as};
 ghost use Rattle.sd_state.specs.Changing.{image_for};
@@ -22,8 +23,8 @@ ghost use Rattle.sd_ops.specs.Vacancies.{IsChosen, IsDead, IsFullFor, IsLongFor,
 use crate::copies::copy;
 use crate::putting::put;
 use crate::waiting::{ask, at_work, end_wait};
-use sd_base::{Bytes, Mode, PageNo, Refusal, Rid, TxnId};
-use sd_page::Image;
+use sd_base::{Bytes, Mode, NO_VALUE, PageNo, Refusal, Rid, TxnId};
+use sd_page::{Image, PAGE_BYTES};
 use sd_rig::Rig;
 use sd_state::Complex;
 
@@ -89,8 +90,8 @@ fn fill<G: Rig>(
         slot: vacancy.slot,
     };
     ask(c, t, &r, Mode::Excl)?;
-    let bytes = value.to_vec(*c.logs.allocator())?;
-    put(c, t, &r, vacancy.capacity, Some(Bytes::of(bytes)))?;
+    let bytes = Bytes::copy_of(*c.logs.allocator(), value)?;
+    put(c, t, &r, vacancy.capacity, Some(bytes))?;
     Ok(r)
 }
 
@@ -148,19 +149,38 @@ fn dead_slot<G>(
 
 // The capacity of a slot, where it is such a one.
 fn usable<G>(c: &Complex<G>, image: &Image, t: &TxnId, r: &Rid, capacity: u16) -> Option<u16>
+    requires { r.now.slot < length image.now.slots }
     ensures { MatchOption result (IsUsable image.now t.now r.now.page capacity (parts c.now) r.now.slot → ⊥)
         (λ own. IsUsable image.now t.now r.now.page capacity (parts c.now) r.now.slot
         × (own ≡ capacity_of image.now.slots r.now.slot)) }
 {
-    let own = image.capacity(r.slot)?;
-    if own < capacity {
+    if !is_dead(image, r.slot) {
         return None;
     }
-    if image.value(r.slot).is_some() {
+    let own = image.capacity(r.slot)?;
+    if own < capacity {
         return None;
     }
     match c.locks.holder(r, t) {
         Some(_) => None,
         None => Some(own),
     }
+}
+
+// Whether a slot of the page is dead, as the length in its entry tells (docs/FORMATS.md). Nothing else of the slot is looked at.
+fn is_dead(image: &Image, slot: u16) -> bool
+    requires { slot < length image.now.slots }
+    ensures { IsTrue result ↔ (value image.now.slots slot ≡ None) }
+{
+    let bytes = image.bytes();
+    let entry = PAGE_BYTES - 6 * (slot as usize + 1);
+    two_at(bytes, entry + 4) == NO_VALUE
+}
+
+// The number in the two bytes at a place.
+fn two_at(bytes: &[u8], at: usize) -> u16
+    requires { at + 2 ≤ length bytes.now }
+    ensures { result ≡ two_at bytes.now at }
+{
+    u16::from_be_bytes([bytes[at], bytes[at + 1]])
 }

@@ -67,7 +67,7 @@ fn add_row(rows: &mut Vec<(Rid, Bytes)>, rid: Rid, value: Option<&[u8]>) -> Resu
     ensures { OnOk result (rows.new.items ≡ rows.old.items ++ row_at rid.page rid.slot (option_map (λ v. v.now) value.entry)) }
 {
     let Some(bytes) = value else { return Ok(()) };
-    let copied = bytes.to_vec(*rows.allocator())?;
-    rows.push((rid, Bytes::of(copied)))?;
+    let copied = Bytes::copy_of(*rows.allocator(), bytes)?;
+    rows.push((rid, copied))?;
     Ok(())
 }

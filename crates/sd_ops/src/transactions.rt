@@ -70,7 +70,7 @@ fn set_mark<G: Rig>(c: &mut Complex<G>, t: &TxnId, mark: &Word) -> Result<(), Re
 fn copy_of(alloc: Global, word: &Word) -> Result<Word, Memory>
     ensures { IfOk result (λ copied. copied ≡ word.now) }
 {
-    Ok(Word::of(word.items().to_vec(alloc)?))
+    Ok(Word::copy_of(alloc, word.items())?)
 }
 
 /// Commits a transaction: it is among the committed, and its locks go, once its Commit is forced. One without a record has none

@@ -26,7 +26,8 @@ ghost use Rattle.sd_txn.specs.declared.state.TxnState.TheVariants.{Running};
 
 use crate::complex::Complex;
 use sd_base::{
-    Bytes, InstNo, Lsn, Memory, PageNo, Place, Refusal, Rid, TxnId, copy_value, value_len,
+    Bytes, InstNo, Lsn, MAX_SLOTS, Memory, PageNo, Place, Refusal, Rid, TxnId, lent_value,
+    value_len,
 };
 use sd_log::Log;
 use sd_logrec::{AREA_LEN, CLR_LEN, END_LEN, GROUP_HEAD, MAX_LSN, Record};
@@ -80,27 +81,42 @@ impl<G: Rig> Complex<G> {
             ↔ ((LacksRoom (change_of t.now r capacity after (parts self.old)) (parts self.old) → ⊥) × LacksLsns t.now (parts self.old)) }
         ensures refusals { IfErr result (λ e. (e ≡ R.LogFull) ⊎ ((e ≡ R.LsnEnd) ⊎ (e ≡ R.Memory))) }
     {
-        // No two locks on a record conflict, so nobody else has one.
-        let _other = self.locks.holder(&r, t);
-        let reserve = self.reserved_for(t, &r, &after)?;
-        let Prepared { rec, top, op } = self.prepared(t, &r, capacity, after)?;
+        // No two locks on a record conflict, so nobody else has one. A look at any record tells it; at one that is never locked it
+        // is short, and no page has this slot.
+        let none = Rid {
+            page: r.page,
+            slot: MAX_SLOTS,
+        };
+        let _other = self.locks.holder(&none, t);
+        let image = self.image(t, r.page);
+        let span = self.span(t);
+        let reserve = self.reserved_for(t, &r, image, span, &after)?;
+        let Prepared { rec, top, op } = self.prepared(t, &r, image, span, capacity, after)?;
         self.put_change(t, rec, top, op, reserve)
     }
 }
 
 impl<G> Complex<G> {
     // What is to be reserved behind a change, in bytes. The capacity has no part in it.
-    fn reserved_for(&self, t: &TxnId, r: &Rid, after: &Option<Bytes>) -> Result<u32, Refusal>
+    fn reserved_for(
+        &self,
+        t: &TxnId,
+        r: &Rid,
+        image: &Image,
+        span: Option<(Lsn, Lsn)>,
+        after: &Option<Bytes>,
+    ) -> Result<u32, Refusal>
         requires shape { IsShape (parts self.now) }
-        requires held { IsSome (image_at (pool_at (parts self.now) t.now.inst) r.now.page) }
+        requires image { image.now ≡ image_for t.now r.now.page (parts self.now) }
+        requires span { span ≡ (row_for t.now (parts self.now)).span }
         ensures ok { IfOk result (λ n. n ≡ reserve_then (change_of t.now r.now 0 after.now (parts self.now)) (parts self.now)) }
         ensures full { (result ≡ Err R.LogFull) ↔ LacksRoom (change_of t.now r.now 0 after.now (parts self.now)) (parts self.now) }
         ensures lsns { (result ≡ Err R.LsnEnd)
             ↔ ((LacksRoom (change_of t.now r.now 0 after.now (parts self.now)) (parts self.now) → ⊥) × LacksLsns t.now (parts self.now)) }
         ensures refusals { IfErr result (λ e. (e ≡ R.LogFull) ⊎ (e ≡ R.LsnEnd)) }
     {
-        let before = self.before_len(t, r);
-        let reserve = self.reserve_then(t, before);
+        let before = before_len(image, r.slot);
+        let reserve = self.reserve_then(t, span, before);
         if self.lacks_bytes(t.inst, 38 + before + value_len(after), reserve) {
             return Err(Refusal::LogFull);
         }
@@ -135,41 +151,16 @@ impl<G> Complex<G> {
         self.txns(t.inst).span(t)
     }
 
-    // The LSN of the transaction's last record, or 0.
-    fn prev(&self, t: &TxnId) -> Lsn
-        requires shape { IsShape (parts self.now) }
-        ensures { result ≡ option_map_or (λ span. span.1) (row_for t.now (parts self.now)).span 0 }
-    {
-        match self.span(t) {
-            Some((_, last)) => last,
-            None => 0,
-        }
-    }
-
-    // The bytes of the value that a record has before its change.
-    fn before_len(&self, t: &TxnId, r: &Rid) -> usize
-        requires shape { IsShape (parts self.now) }
-        requires held { IsSome (image_at (pool_at (parts self.now) t.now.inst) r.now.page) }
-        ensures value { result ≡ size (value (image_for t.now r.now.page (parts self.now)).slots r.now.slot) }
-        ensures small { result ≤ 256 }
-    {
-        let image = self.image(t, r.page);
-        let _image = image.bytes();
-        match image.value(r.slot) {
-            Some(before) => before.len(),
-            None => 0,
-        }
-    }
-
     // The bytes that the ends take with one more open record, which has so many bytes before it; 2^64 - 1 where they are more.
-    fn reserve_then(&self, t: &TxnId, before: usize) -> u64
+    fn reserve_then(&self, t: &TxnId, span: Option<(Lsn, Lsn)>, before: usize) -> u64
         requires shape { IsShape (parts self.now) }
+        requires span { span ≡ (row_for t.now (parts self.now)).span }
         requires small { before ≤ 256 }
         ensures { result ≡ min (reserve_of (txns_at (parts self.now) t.now.inst) + (47 + before)
             + (if is_some (row_for t.now (parts self.now)).span then 0 else 31)) (2 ^ 64 - 1) }
     {
         let undo = (GROUP_HEAD + CLR_LEN + before) as u64;
-        let end = match self.span(t) {
+        let end = match span {
             Some(_) => 0,
             None => (GROUP_HEAD + END_LEN) as u64,
         };
@@ -218,11 +209,14 @@ impl<G> Complex<G> {
         &self,
         t: &TxnId,
         r: &Rid,
+        image: &Image,
+        span: Option<(Lsn, Lsn)>,
         capacity: u16,
         after: Option<Bytes>,
     ) -> Result<Prepared, Memory>
         requires shape { IsShape (parts self.now) }
-        requires held { IsSome (image_at (pool_at (parts self.now) t.now.inst) r.now.page) }
+        requires image { image.now ≡ image_for t.now r.now.page (parts self.now) }
+        requires span { span ≡ (row_for t.now (parts self.now)).span }
         requires left { (change_of t.now r.now capacity after (parts self.now)).lsn < 2 ^ 62 }
         requires numbered { IsTxn t.now }
         requires small { capacity ≤ 256 }
@@ -233,21 +227,20 @@ impl<G> Complex<G> {
     {
         let alloc = *self.logs.allocator();
         let _number = r.page.get();
-        let image = self.image(t, r.page);
         let _bytes = image.bytes();
         let lsn = self.log(t.inst).next_lsn(image.lsn());
-        let prev = self.prev(t);
+        let prev = last_in(span);
         let before = owned(alloc, image.value(r.slot))?;
         let top = OpenRec {
             lsn,
             prev,
             rid: *r,
-            before: copy_value(&before)?,
+            before: owned(alloc, lent_value(&before))?,
         };
         let op = Op {
             slot: r.slot,
             capacity,
-            after: copy_value(&after)?,
+            after: owned(alloc, lent_value(&after))?,
         };
         let rec = Record::Update {
             lsn,
@@ -300,6 +293,28 @@ impl<G> Complex<G> {
     }
 }
 
+// The bytes of the value that a slot of a page has before its change.
+fn before_len(image: &Image, slot: u16) -> usize
+    ensures value { result ≡ size (value image.now.slots slot) }
+    ensures small { result ≤ 256 }
+{
+    let _image = image.bytes();
+    match image.value(slot) {
+        Some(before) => before.len(),
+        None => 0,
+    }
+}
+
+// The LSN of the last record of a span, or 0.
+fn last_in(span: Option<(Lsn, Lsn)>) -> Lsn
+    ensures { result ≡ option_map_or (λ span. span.1) span 0 }
+{
+    match span {
+        Some((_, last)) => last,
+        None => 0,
+    }
+}
+
 // The page of an open record.
 fn page_of(top: &OpenRec) -> PageNo
     ensures { result ≡ top.now.rid.page }
@@ -312,7 +327,7 @@ fn owned(alloc: Global, found: Option<&[u8]>) -> Result<Option<Bytes>, Memory>
     ensures { IfOk result (λ copied. copied ≡ option_copied found.entry) }
 {
     match found {
-        Some(bytes) => Ok(Some(Bytes::of(bytes.to_vec(alloc)?))),
+        Some(bytes) => Ok(Some(Bytes::copy_of(alloc, bytes)?)),
         None => Ok(None),
     }
 }

@@ -111,11 +111,10 @@ pub put-requires-clause-takes : goal.put-requires-clause-takes
 put-requires-clause-takes g c =
     let short : length c.args.value.now ≤ c.args.capacity = not-long c.args.value.now c.args.capacity
     (λ long. let f = sym c.if-is_long.false ∙ c.is_long.ensures.1 long in absurd (cc)) in
-    let same : c.in_ok-bytes.bytes.items ≡ c.args.value.now = search rules in
-    let len = ap (λ (b : List ℕ). length b) (c.of.ensures ∙ same) in
+    let len = ap (λ (b : List ℕ). length b) c.in_ok-bytes.ensures in
     subst (λ (x : Parts). FitsThere c.args.t.now (record { page = c.args.p; slot = c.in_ok-vacancy.vacancy.slot })
-    c.in_ok-vacancy.vacancy.capacity (Some c.of.result) x) (sym c.in_ok-ask.ensures.same)
-    (c.in_ok-vacancy.ensures.vacant.takes (Some c.of.result) (omega (arith, short, len)))
+    c.in_ok-vacancy.vacancy.capacity (Some c.in_ok-bytes.bytes) x) (sym c.in_ok-ask.ensures.same)
+    (c.in_ok-vacancy.ensures.vacant.takes (Some c.in_ok-bytes.bytes) (omega (arith, short, len)))
 
 pub returns-in_err-put-clause-half : goal.returns-in_err-put-clause-half
 returns-in_err-put-clause-half g c =
@@ -125,7 +124,7 @@ returns-in_err-put-clause-half g c =
     let x : Parts = parts c.args.c.now in
     let mid : Parts = parts c.ask.new.c in
     let same = c.in_ok-ask.ensures.same in
-    let bytes : c.of.result ≡ c.args.value.now = search rules in
+    let bytes = c.in_ok-bytes.ensures in
     let n = c.in_err-put.field-0.0 in
     let e = err_from_is_err_and c.from_residual-in_err-put.result c.from_residual-in_err-put.ensures.1 in (
       None,
@@ -169,7 +168,7 @@ returns-clause-half g c =
     let x : Parts = parts c.args.c.now in
     let mid : Parts = parts c.ask.new.c in
     let same = c.in_ok-ask.ensures.same in
-    let bytes : c.of.result ≡ c.args.value.now = search rules in (
+    let bytes = c.in_ok-bytes.ensures in (
       Some r,
       subst (λ d. HalfServed (g.G.Rig.seen d) (g.G.Rig.leaves d) (Some r) ev (Some (reply.At r)) x (parts c.put.new.c))
           c.ask.ensures.rig

@@ -1,6 +1,5 @@
-use Rattle.std.proofs.Common.{sym, arith}
+use Rattle.std.proofs.Common.{sym, ◌∙◌, arith}
 use Rattle.sd_chain.proofs.Slots.{has-slot}
-use Rattle.sd_ops.proofs.Vacating.{lent-none, lent-some}
 use Rattle.sd_ops.proofs.inserting.usable.Goals as goal
 
 pub returns-then-own-capacity : goal.returns-then-own-capacity
@@ -10,9 +9,8 @@ returns-then-own-capacity g c usable =
     let less = c.if-own-capacity.true in
     absurd (omega (arith, own, enough, less))
 
-pub returns-then-is_some : goal.returns-then-is_some
-returns-then-is_some g c usable =
-    lent-some c.value.result c.args.image.now.slots c.args.r.now.slot c.value.ensures c.if-is_some.ensures usable.none
+pub returns-then-not-is_dead : goal.returns-then-not-is_dead
+returns-then-not-is_dead g c usable = let f = sym c.if-not-is_dead.true ∙ c.is_dead.ensures.1 usable.none in absurd (cc)
 
 pub returns-in-None : goal.returns-in-None
 returns-in-None g c =
@@ -21,7 +19,7 @@ returns-in-None g c =
     let enough = c.if-own-capacity.false in (
       record {
         place = own.0;
-        none = lent-none c.value.result c.args.image.now.slots c.args.r.now.slot c.value.ensures c.if-is_some.ensures;
+        none = c.is_dead.ensures.0 c.if-not-is_dead.false;
         enough = omega (arith, same, enough);
         unheld = c.in-None.ensures.lowest;
       },

@@ -14,8 +14,8 @@ use Rattle.sd_state.proofs.ChangeCalls.{err-moved, memory-only}
 use Rattle.sd_state.proofs.ChangeMade.{Asks, copy, lsn-left, made, made-good, room-there, row, takes-there}
 use Rattle.sd_state.proofs.complex.Complex.change.Goals as goal
 
-pub reserved_for-requires-clause-held : goal.reserved_for-requires-clause-held
-reserved_for-requires-clause-held g c =
+pub image-image-requires-clause-held : goal.image-image-requires-clause-held
+image-image-requires-clause-held g c =
     let p : Parts = parts c.args.self.now in
     let asks : Asks c.args.t.now c.args.r c.args.capacity c.args.after p = record {
       low = c.requires.numbered.low;
@@ -41,25 +41,6 @@ returns-in_err-reserve-clause-lsns g c =
       λ both. err-moved c.from_residual.result c.reserved_for.result c.in_err-reserve.field-0.0 e.0 refusals.LsnEnd
           e.1 c.in_err-reserve.was (sym e.2) (c.reserved_for.ensures.lsns.1 both),
     )
-
-pub prepared-requires-clause-held : goal.prepared-requires-clause-held
-prepared-requires-clause-held g c =
-    let p : Parts = parts c.args.self.now in
-    let asks : Asks c.args.t.now c.args.r c.args.capacity c.args.after p = record {
-      low = c.requires.numbered.low;
-      high = c.requires.numbered.high;
-      idle = c.requires.idle;
-      up = c.requires.up;
-      runs = c.requires.runs;
-      lock = c.requires.lock;
-      agree = c.holder-other.ensures.agree;
-      owned = c.requires.owns;
-      fits = c.requires.fits;
-    } in
-    let seen = g.G.Rig.seen c.args.self.now.rig in
-    let leaves = g.G.Rig.leaves c.args.self.now.rig in
-    let there = copy c.args.t.now c.args.r c.args.capacity c.args.after seen leaves p c.requires.good.0 c.requires.good.1 asks in
-    ap is_some there
 
 pub prepared-requires-clause-left : goal.prepared-requires-clause-left
 prepared-requires-clause-left g c =

@@ -1,4 +1,6 @@
 use Rattle.std.proofs.Common.{◌≡◌, ap, ap₂, ◌∙◌, arith, ℕ}
+use Rattle.std.specs.Option.{option_map_or}
+use Rattle.std.specs.Prelude.{Option}
 use Rattle.sd_log.specs.Logs.{LogState}
 use Rattle.sd_page.specs.Page.{Page}
 use Rattle.sd_chain.specs.Pages.{value}
@@ -12,20 +14,21 @@ pub returns-clause-change : goal.returns-clause-change
 returns-clause-change g c =
     let k = change_of c.args.t.now c.args.r.now c.args.capacity c.args.after (parts c.args.self.now) in
     let next : next_lsn c.log.result.now c.lsn.result ≡ k.lsn =
-    ap₂ (λ (l : LogState) (n : ℕ). next_lsn l n) c.log.ensures (c.lsn.ensures ∙ ap (λ (z : Page). z.lsn) c.image-image.ensures) in
+    ap₂ (λ (l : LogState) (n : ℕ). next_lsn l n) c.log.ensures (c.lsn.ensures ∙ ap (λ (z : Page). z.lsn) c.requires.image) in
     let left = c.requires.left in
     let cut = c.next_lsn-lsn.ensures in
     let lsn : c.next_lsn-lsn.result ≡ k.lsn = omega (arith, next, left, cut) in
-    let before : c.in_ok-copy_value.field-0 ≡ k.before =
-    c.in_ok-copy_value.ensures ∙ c.in_ok-before.ensures ∙ c.value.ensures
-    ∙ value-at c.image-image.result.now.slots c.args.r.now.slot
-    ∙ ap (λ (z : Page). value z.slots c.args.r.now.slot) c.image-image.ensures in
+    let found : c.in_ok-before.before ≡ k.before =
+    c.in_ok-before.ensures ∙ c.value.ensures ∙ value-at c.args.image.now.slots c.args.r.now.slot
+    ∙ ap (λ (z : Page). value z.slots c.args.r.now.slot) c.requires.image in
+    let before : c.in_ok-owned.field-0 ≡ k.before = c.in_ok-owned.ensures ∙ c.lent_value.ensures ∙ found in
+    let after : c.in_ok-owned-2.field-0 ≡ c.args.after = c.in_ok-owned-2.ensures ∙ c.lent_value-2.ensures in
     λ n. record {
       txn = c.args.t.now;
       rid = c.args.r.now;
       lsn = lsn n;
-      prev = c.prev-prev.ensures n;
+      prev = (c.last_in-prev.ensures ∙ ap (λ (o : Option (ℕ × ℕ)). option_map_or (λ (span : ℕ × ℕ). span.1) o 0) c.requires.span) n;
       capacity = c.args.capacity;
       before = before n;
-      after = c.in_ok-copy_value-2.ensures n;
+      after = after n;
     }
