@@ -1,22 +1,20 @@
 -- Behind sound logs, where the first check that fails is told. It serves the goals of reading.rt.
-use Rattle.std.proofs.Common.{◌≡◌, ◌⊎◌, inl, inr, ℕ, zero, suc, ◌+◌, ◌-◌, ◌<◌, ◌≤◌, Bool, List, [], ◌∷◌, Option, Some, length, slice_get, refl, sym, ap, ◌∙◌, subst, arith}
+use Rattle.std.proofs.Common.{◌≡◌, inl, inr, ℕ, zero, suc, ◌+◌, ◌-◌, ◌<◌, ◌≤◌, Bool, List, ◌∷◌, Option, Some, length, slice_get, sym, ap, ◌∙◌, subst, arith}
 use Rattle.std.specs.Prelude.{All, IsTrue, is_some}
 use Rattle.std.proofs.lemmas.Option.{slice_get_within}
-use Rattle.sd_base.specs.declared.ids.TxnId.{TxnId}
 use Rattle.sd_base.specs.Twin.{chosen_body}
 use Rattle.sd_logrec.specs.Kept.{kept, master}
 use Rattle.sd_page.specs.Page.{Page}
-use Rattle.sd_logrec.specs.View.{Rec}
 use Rattle.sd_log.specs.declared.placed.Placed.{Placed}
-use Rattle.sd_log.specs.Logs.{LogState, flats, log_in, scanned}
+use Rattle.sd_log.specs.Logs.{LogState, flats, scanned}
 use Rattle.sd_analysis.specs.declared.losers.Loser.{Loser}
 use Rattle.sd_chain.specs.Bytes.{stable}
 use Rattle.sd_chain.specs.Checks.{RoomIsLeft, gate_of, past_of, placed_of, records_in}
 use Rattle.sd_chain.specs.Faults as faults
 use Rattle.sd_chain.specs.Faults.{ChainsAreSound, FailsInChain, FailsInRoom, FailsInStack, FailsInTwin, LogsAreSound}
-use Rattle.sd_chain.specs.Image.{Image, Open, StackFits, chain, newest}
+use Rattle.sd_chain.specs.Image.{Image, chain, newest}
 use Rattle.sd_chain.specs.Pages.{FitAll}
-use Rattle.sd_merge.specs.Changes.{LsnsRise, Rises, StandsIn}
+use Rattle.sd_merge.specs.Changes.{LsnsRise, Rises}
 use Rattle.sd_newest.specs.Misfits as newest
 use Rattle.sd_newest.specs.Reading.{ChainFits, image_of}
 use Rattle.sd_undone.specs.Stops as undone

@@ -2,6 +2,7 @@ pub mod Alike
 pub mod Chains
 pub mod Covers
 pub mod DiskPages
+pub mod Growing
 pub mod Kept
 pub mod Members
 pub mod OneMore

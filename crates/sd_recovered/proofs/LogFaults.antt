@@ -1,13 +1,11 @@
 -- Where the first log that isn't sound fails. It serves the goals of logs.rt and reading.rt.
-use Rattle.std.proofs.Common.{◌≡◌, inl, inr, ℕ, zero, suc, ◌+◌, ◌<◌, ◌≤◌, List, [], ◌∷◌, Option, Some, get_or, length, slice_get, take, refl, sym, ap, ◌∙◌, subst, arith}
-use Rattle.std.specs.Prelude.{map, unwrap_or}
+use Rattle.std.proofs.Common.{◌≡◌, inl, inr, ℕ, zero, suc, ◌+◌, ◌<◌, ◌≤◌, List, [], ◌∷◌, Option, Some, get_or, length, slice_get, take, sym, ap, ◌∙◌, subst, arith}
+use Rattle.std.specs.Prelude.{unwrap_or}
 use Rattle.std.proofs.lemmas.Option.{slice_get-get_or, slice_get_cases, slice_get_within}
-use Rattle.sd_base.specs.declared.ids.TxnId.{TxnId}
 use Rattle.sd_logrec.specs.Kept.{Whole, kept}
-use Rattle.sd_logrec.specs.View.{Rec, flat}
+use Rattle.sd_logrec.specs.View.{Rec}
 use Rattle.sd_log.specs.Logs.{LogState, scanned}
 use Rattle.sd_analysis.specs.declared.losers.Loser.{Loser}
-use Rattle.sd_chain.specs.Checks.{TxnsAreSound, records_in}
 use Rattle.sd_chain.specs.Faults.{FailsInLog, IsFirstMisplaced, LogFailsAt, LogIsSound, TxnsFailAt}
 use Rattle.sd_chain.specs.Order.{Tidy}
 use Rattle.sd_recovered.specs.Devices.{devices_of}

@@ -1,16 +1,15 @@
 -- Where the records of a log stand on its device, and that LSNs rise. It serves the goals of reading.rt.
-use Rattle.std.proofs.Common.{◌≡◌, ℕ, zero, suc, ◌<◌, true, Bool, List, [], ◌∷◌, ◌++◌, Option, Some, None, slice_get, refl, sym, ap, ◌∙◌, subst, arith}
+use Rattle.std.proofs.Common.{◌≡◌, ℕ, ◌<◌, true, Bool, List, [], ◌∷◌, ◌++◌, Option, Some, None, slice_get, refl, sym, ap, ◌∙◌, subst, arith}
 use Rattle.std.specs.Prelude.{map, option_map}
 use Rattle.std.specs.List.{flat_map}
 use Rattle.std.proofs.lemmas.List.{append-nil, map-append}
 use Rattle.std.proofs.lemmas.Option.{slice_get-map}
 use Rattle.sd_logrec.specs.declared.record.Record.{Record}
-use Rattle.sd_logrec.specs.declared.record.Record.TheVariants as records
-use Rattle.sd_logrec.specs.Kept.{Group, Master, Reading, Records, Whole, kept}
-use Rattle.sd_logrec.specs.View.{Rec, flat}
+use Rattle.sd_logrec.specs.Kept.{Group, Master, Reading, Whole, kept}
+use Rattle.sd_logrec.specs.View.{flat}
 use Rattle.sd_log.specs.declared.placed.Placed.{Placed}
 use Rattle.sd_log.specs.Logs.{LogState, placed, placed_groups, placed_tail, scanned}
-use Rattle.sd_chain.specs.Checks.{Follow, Past, after_record, lsn_of, placed_of}
+use Rattle.sd_chain.specs.Checks.{Follow, Past, after_record, placed_of}
 use Rattle.sd_chain.specs.Records.{Each}
 use Rattle.sd_chain.proofs.Lists.{Each-weaker}
 use Rattle.sd_merge.specs.Changes.{Rises}

@@ -1,7 +1,7 @@
 -- What is read of the log devices, one by one.
-use Rattle.std.specs.Prelude.{◌≡◌, ◌⊎◌, ℕ, suc, ◌+◌, ◌<◌, List, [], ◌∷◌, Option, Some, option_map, slice_get}
+use Rattle.std.specs.Prelude.{◌≡◌, ◌⊎◌, ℕ, suc, ◌+◌, ◌<◌, List, [], ◌∷◌, Option, Some, map, option_map, slice_get}
 use Rattle.sd_base.specs.Twin.{chosen_body}
-use Rattle.sd_scan.specs.Masters.{master_in}
+use Rattle.sd_scan.specs.Masters.{master_in, said}
 use Rattle.sd_logrec.specs.Kept.{Master, Whole, kept, master as master_on}
 use Rattle.sd_log.specs.Logs.{AreSpelled, LogState, flats, scanned}
 use Rattle.sd_chain.specs.Checks.{GroupsAreSound, MasterIsSound, TxnsAreSound}
@@ -9,6 +9,7 @@ use Rattle.sd_log.specs.declared.placed.Placed.{Placed}
 use Rattle.sd_chain.specs.Faults.{IsFirstMisplaced, LogFailsAt, LogIsSound}
 use Rattle.sd_analysis.specs.declared.losers.Loser.{Loser}
 use Rattle.sd_analysis.specs.Losers.{AreLosers, AreTidy}
+use Rattle.sd_recovered.specs.declared.logs.ReadLogs.{ReadLogs}
 
 -- The log that the device of instance j keeps, and its losers.
 pub record IsRead (j : ℕ) (device : List ℕ) (log : LogState) (losers : List Loser) : Type 0 where
@@ -34,6 +35,11 @@ AreRead j [] [] (ls ∷ losers) = ⊥
 AreRead j (d ∷ devices) [] losers = ⊥
 AreRead j (d ∷ devices) (log ∷ logs) [] = ⊥
 AreRead j (d ∷ devices) (log ∷ logs) (ls ∷ losers) = IsRead j d log ls × AreRead (suc j) devices logs losers
+
+-- This was read of these log devices, that of instance 1 first: their logs with their losers, and the masters that count.
+pub record HasRead (devices : List (List ℕ)) (reading : ReadLogs) : Type 0 where
+  pub read : AreRead 1 devices reading.logs.items reading.losers.items
+  pub masters : map said reading.masters.items ≡ map counting devices
 
 -- The log device of instance j breaks one of the checks of a log.
 abbrev pub IsUnread : ℕ → List ℕ → Type 0

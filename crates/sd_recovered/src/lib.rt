@@ -4,15 +4,16 @@
 //! `IsRecovered` says it of a table (`specs/Devices.antt`).
 //! Keeps: nothing.
 //! Promises: `recovered` answers the table where the devices are sound (`sound`, `recovered`), and else `Damaged`
-//! (`unsound`) at the first place that fails (`place`); it changes nothing on them.
-//! Refuses: `Damaged` in `recovered`, and want of memory.
+//! (`unsound`) at the first place that fails (`place`); it changes nothing on them. `ReadLogs` reads the same of one device at a
+//! time: `next` of a log device, `finish` of the data device.
+//! Refuses: `Damaged`, and want of memory.
 //! Knows nothing of: rigs, pools, locks, running transactions.
 //! Stands on: sd_base, sd_model, sd_page, sd_logrec, sd_rig, sd_log, sd_chain, sd_scan, sd_analysis, sd_merge, sd_newest,
 //! sd_undone.
 //!
 //! To change:
 //! - free: bodies, private helpers
-//! - dear: the clauses of `recovered`
+//! - dear: the clauses of `recovered`, and those of `ReadLogs` (sd_restart's proofs cite them)
 //! - frozen: nothing
 #![tactic(auto)]
 
@@ -21,4 +22,5 @@ mod logs;
 mod reading;
 mod table;
 
+pub use logs::ReadLogs;
 pub use reading::{Opened, open, recovered};

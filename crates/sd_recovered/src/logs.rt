@@ -1,13 +1,12 @@
 //! The eight log devices, read one after another.
 
-ghost use Rattle.std.specs.Prelude.{◌≡◌, ◌≢◌, ◌⊎◌, ℕ, ◌+◌, ◌<◌, [], ◌∷◌, All, Err, IfErr, IfOk, OnOk, length, map};
+ghost use Rattle.std.specs.Prelude.{◌≡◌, ◌≢◌, ◌⊎◌, ℕ, ◌+◌, ◌<◌, List, [], ◌∷◌, ◌++◌, All, Err, IfErr, IfOk, OnOk, length};
 ghost use Rattle.sd_base.specs.declared.refusal.Refusal.TheVariants as R;
 ghost use Rattle.sd_log.specs.Logs.{AreSpelled, scanned};
 ghost use Rattle.sd_scan.specs.Masters.{said};
 ghost use Rattle.sd_chain.specs.Faults.{LogFailsAt};
 ghost use Rattle.sd_analysis.specs.Losers.{AreLosers, AreTidy};
-ghost use Rattle.sd_undone.specs.Reading.{AreLosersOf};
-ghost use Rattle.sd_recovered.specs.Reading.{AreRead, counting, FailsAmong, IsRead, IsUnread, Misplaced, SomeUnread};
+ghost use Rattle.sd_recovered.specs.Reading.{counting, FailsAmong, HasRead, IsRead, IsUnread, Misplaced, SomeUnread};
 
 use sd_analysis::{Fault, Losers, analyse};
 use sd_base::{Bytes, InstNo, Refusal};
@@ -17,7 +16,8 @@ use sd_rig::LOG_LEN;
 use sd_scan::{Master, Scanned, scan};
 use std::alloc::Global;
 
-/// The logs of the instances 1 to 8; what each leaves unfinished; and its master, where one counts.
+/// What was read of the first log devices, that of instance 1 first: of each its log, what it leaves unfinished, and its
+/// master, where one counts.
 #[derive(Drop)]
 pub struct ReadLogs {
     pub logs: Vec<Log>,
@@ -25,34 +25,52 @@ pub struct ReadLogs {
     pub masters: Vec<Option<Master>>,
 }
 
-/// The logs of the instances 1 to 8, each with its losers and its master, of the bytes of their devices. `Damaged` names the
-/// first log that isn't sound, at the least place of the first of its checks that fails.
+impl ReadLogs {
+    /// Before the first device.
+    pub fn new(alloc: Global) -> ReadLogs
+        ensures { HasRead [] result }
+    {
+        ReadLogs {
+            logs: Vec::new(alloc),
+            losers: Vec::new(alloc),
+            masters: Vec::new(alloc),
+        }
+    }
+
+    /// The next log device besides, of its bytes, which aren't kept. `Damaged` comes exactly where that log isn't sound, with
+    /// the least place of the first of its checks that fails.
+    pub fn next(self, alloc: Global, device: &[u8]) -> Result<ReadLogs, Refusal>
+        requires few { length self.logs.items < 8 }
+        requires size { length device.now ≡ LOG_LEN }
+        ensures read { IfOk result (λ r. (devices : List (List ℕ)) → HasRead devices self → HasRead (devices ++ device.now ∷ []) r) }
+        ensures unsound { IfErr result (λ e. (e ≡ R.Memory) ⊎ ((dev : ℕ) × (at : ℕ) × (e ≡ R.Damaged dev at)
+            × IsUnread (1 + length self.logs.items) device.now)) }
+        ensures place { (dev at : ℕ) → result ≡ Err (R.Damaged dev at) → (dev ≡ 1 + length self.logs.items) × LogFailsAt dev device.now at }
+    {
+        let mut read = self;
+        let inst = InstNo::new(read.logs.len() as u8 + 1).unwrap();
+        let (log, found, master) = read_log(alloc, device, inst)?;
+        read.logs.push(log)?;
+        read.losers.push(found)?;
+        read.masters.push(master)?;
+        Ok(read)
+    }
+}
+
+/// What is read of the logs of the instances 1 to 8, of the bytes of their devices. `Damaged` names the first log that isn't
+/// sound, at the least place of the first of its checks that fails.
 pub fn read_logs(alloc: Global, devices: &[Bytes]) -> Result<ReadLogs, Refusal>
     requires eight { length devices.now ≡ 8 }
     requires sizes { All (λ d. length d ≡ LOG_LEN) devices.now }
-    ensures read { IfOk result (λ r. AreRead 1 devices.now r.logs.items r.losers.items) }
-    ensures masters { IfOk result (λ r. map said r.masters.items ≡ map counting devices.now) }
-    ensures eight { IfOk result (λ r. length r.logs.items ≡ 8) }
-    ensures spelled { IfOk result (λ r. All (λ log. AreSpelled (scanned log)) r.logs.items) }
-    ensures losers { IfOk result (λ r. AreLosersOf r.logs.items r.losers.items) }
+    ensures read { IfOk result (HasRead devices.now) }
     ensures unsound { IfErr result (λ e. (e ≡ R.Memory) ⊎ ((dev : ℕ) × (at : ℕ) × (e ≡ R.Damaged dev at) × SomeUnread 1 devices.now)) }
     ensures place { (dev at : ℕ) → result ≡ Err (R.Damaged dev at) → FailsAmong devices.now dev at }
 {
-    let mut logs = Vec::new(alloc);
-    let mut losers = Vec::new(alloc);
-    let mut masters = Vec::new(alloc);
-    for (i, device) in devices.iter().enumerate() {
-        let inst = InstNo::new(i as u8 + 1).unwrap();
-        let (log, found, master) = read_log(alloc, device.items(), inst)?;
-        logs.push(log)?;
-        losers.push(found)?;
-        masters.push(master)?;
+    let mut read = ReadLogs::new(alloc);
+    for device in devices.iter() {
+        read = read.next(alloc, device.items())?;
     }
-    Ok(ReadLogs {
-        logs,
-        losers,
-        masters,
-    })
+    Ok(read)
 }
 
 // One log, with its losers and its master.

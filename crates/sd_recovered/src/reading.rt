@@ -9,10 +9,10 @@ ghost use Rattle.sd_chain.specs.Checks.{DevicesAreSound};
 ghost use Rattle.sd_chain.specs.Faults.{FailsFirstAt};
 ghost use Rattle.sd_undone.specs.Reading.{AreLosersOf};
 ghost use Rattle.sd_recovered.specs.Devices.{AreDevices, HasRecLsn, IsRecovered, devices_of, log_devices};
-ghost use Rattle.sd_recovered.specs.Reading.{AreRead, counting};
+ghost use Rattle.sd_recovered.specs.Reading.{AreRead, HasRead, counting};
 
 use crate::ends::{are_low, check_ends, owed_by};
-use crate::logs::read_logs;
+use crate::logs::{ReadLogs, read_logs};
 use crate::table::take_back;
 use sd_analysis::Losers;
 use sd_base::{Bytes, Lsn, Refusal};
@@ -78,15 +78,41 @@ pub fn open(alloc: Global, images: &[Bytes]) -> Result<Opened, Refusal>
     ensures refusals { IfErr result (λ e. (e ≡ R.Memory) ⊎ ((dev : ℕ) × (at : ℕ) × (e ≡ R.Damaged dev at))) }
 {
     let read = read_logs(alloc, &images[1..])?;
-    let told = read_pages(alloc, images[0].items(), &read.logs, &read.losers)?;
-    Ok(Opened {
-        logs: read.logs,
-        losers: read.losers,
-        masters: read.masters,
-        disk_lsns: told.disk_lsns,
-        rec_lsns: told.rec_lsns,
-        table: told.table,
-    })
+    read.finish(alloc, images[0].items())
+}
+
+impl ReadLogs {
+    /// The end of a reading: of the bytes of the data device, behind all eight logs. What it answers is what `open` answers of
+    /// these nine devices.
+    pub fn finish(self, alloc: Global, bytes: &[u8]) -> Result<Opened, Refusal>
+        requires size { length bytes.now ≡ DATA_LEN }
+        requires all { (devices : List (List ℕ)) × (length devices ≡ 8) × HasRead devices self }
+        ensures sound { OnOk result ((devices : List (List ℕ)) → HasRead devices self → DevicesAreSound (devices_of (bytes.now ∷ devices))) }
+        ensures read { IfOk result (λ o. (devices : List (List ℕ)) → HasRead devices self → AreRead 1 devices o.logs.items o.losers.items) }
+        ensures masters { IfOk result (λ o. (devices : List (List ℕ)) → HasRead devices self → map said o.masters.items ≡ map counting devices) }
+        ensures counts { IfOk result (λ o. (length o.disk_lsns.items ≡ 1024) × (length o.rec_lsns.items ≡ 1024)) }
+        ensures disk { IfOk result (λ o. (p : ℕ) → p < 1024 → slice_get o.disk_lsns.items p ≡ Some (disk_page bytes.now p).lsn) }
+        ensures first { IfOk result (λ o. (devices : List (List ℕ)) → HasRead devices self
+            → (p : ℕ) → p < 1024 → HasRecLsn (devices_of (bytes.now ∷ devices)) o.rec_lsns.items p) }
+        ensures recovered { IfOk result (λ o. (devices : List (List ℕ)) → HasRead devices self
+            → IsRecovered (devices_of (bytes.now ∷ devices)) o.table) }
+
+        ensures unsound { (dev at : ℕ) → result ≡ Err (R.Damaged dev at) → (devices : List (List ℕ)) → HasRead devices self
+            → DevicesAreSound (devices_of (bytes.now ∷ devices)) → ⊥ }
+        ensures place { (dev at : ℕ) → result ≡ Err (R.Damaged dev at) → (devices : List (List ℕ)) → HasRead devices self
+            → FailsFirstAt (devices_of (bytes.now ∷ devices)) dev at }
+        ensures refusals { IfErr result (λ e. (e ≡ R.Memory) ⊎ ((dev : ℕ) × (at : ℕ) × (e ≡ R.Damaged dev at))) }
+    {
+        let told = read_pages(alloc, bytes, &self.logs, &self.losers)?;
+        Ok(Opened {
+            logs: self.logs,
+            losers: self.losers,
+            masters: self.masters,
+            disk_lsns: told.disk_lsns,
+            rec_lsns: told.rec_lsns,
+            table: told.table,
+        })
+    }
 }
 
 // What the data device tells with the logs.

@@ -1,5 +1,5 @@
 -- Syncs and reads, one after another: no crash leaves what none might leave before. For the goals of devices.rt.
-use Rattle.std.proofs.Common.{◌≡◌, ◌≢◌, inl, ⊎_elim, ℕ, ◌+◌, ◌≤◌, List, refl, sym, ◌∙◌, subst, arith}
+use Rattle.std.proofs.Common.{◌≡◌, ◌≢◌, inl, ⊎_elim, ℕ, ◌+◌, ◌<◌, ◌≤◌, List, refl, sym, ◌∙◌, subst, arith}
 use Rattle.std.proofs.lemmas.Bool.{cases_eq}
 use Rattle.sd_rig.specs.Devices.{Elapses, Image, IsOneStep, IsUnchanged, Leaves, LeavesOnly, LeavesSame}
 use Rattle.sd_rig.specs.Spans.{elapses-then, span-step, span-then, span-weaker}
@@ -73,14 +73,35 @@ only-left bytes l l' there only c left = subst l (sym ((only c).0 left)) there
 pub settled-stays : (bytes : List ℕ) (l l' : List ℕ → Type 0) → LeavesOnly bytes l → ((c : List ℕ) → l' c → l c) → l' bytes → LeavesOnly bytes l'
 settled-stays bytes l l' only less there c = (λ left. (only c).0 (less c left), λ is. subst l' (sym is) there)
 
--- a device is settled, and stays so while those behind it are synced
-pub settled-from : (s s' : Image) (l' l'' : Outcomes) (dev : ℕ) → LeavesOnly (s dev) (l' dev) → ((d : ℕ) → s' d ≡ s d)
-    → ((c : List ℕ) → l'' dev c → l' dev c) → l'' dev (s dev)
-    → ((d : ℕ) → dev + 1 ≤ d → d ≤ 8 → LeavesOnly (s' d) (l'' d)) → (d : ℕ) → dev ≤ d → d ≤ 8 → LeavesOnly (s d) (l'' d)
-settled-from s s' l' l'' dev only reads less there rest d low le = ⊎_elim
-    (λ (e : d ≡ dev). subst (λ (k : ℕ). LeavesOnly (s k) (l'' k)) (sym e) (settled-stays (s dev) (l' dev) (l'' dev) only less there))
-    (λ (ne : d ≢ dev). subst (λ (bytes : List ℕ). LeavesOnly bytes (l'' d)) (reads d) (rest d (above d dev low ne) le))
+-- the next device is settled, and those before it stay so
+pub settled-next : (s s' s'' : Image) (l' l'' : Outcomes) (dev : ℕ) → ((d : ℕ) → s' d ≡ s d) → ((d : ℕ) → s'' d ≡ s' d)
+    → ((d : ℕ) (bytes : List ℕ) → l'' d bytes → l' d bytes) → ((d : ℕ) → d ≤ 8 → l'' d (s'' d)) → dev ≤ 8
+    → LeavesOnly (s' dev) (l'' dev) → ((d : ℕ) → d < dev → LeavesOnly (s d) (l' d)) → (d : ℕ) → d < dev + 1 → LeavesOnly (s d) (l'' d)
+settled-next s s' s'' l' l'' dev reads reads' less there few here before d lt = ⊎_elim
+    (λ (e : d ≡ dev). subst (λ (k : ℕ). LeavesOnly (s k) (l'' k)) (sym e) (subst (λ (bytes : List ℕ). LeavesOnly bytes (l'' dev)) (reads dev) here))
+    (λ (ne : d ≢ dev).
+    settled-stays (s d) (l' d) (l'' d) (before d (omega (arith, lt, ne))) (less d)
+    (subst (l'' d) (reads' d ∙ reads d) (there d (omega (arith, lt, few)))))
     (cases_eq d dev)
-  where
-    above : (n k : ℕ) → k ≤ n → n ≢ k → k + 1 ≤ n
-    above n k small ne = omega (arith, small, ne)
+
+-- nothing changes where nothing is done
+pub unchanged-none : (s : Image) (l : Outcomes) (a : ℕ) (since : Since) → IsUnchanged s s l l a a since since
+unchanged-none s l a since = record {
+  reads = λ d. refl;
+  outcomes = λ d bytes. (λ left. left, λ left. left);
+  clock = refl;
+  past = λ t img. (λ h. h, λ h. h);
+}
+
+-- nor by one step after another of which neither changes anything
+pub unchanged-then : (s s' s'' : Image) (l l' l'' : Outcomes) (a b c : ℕ) (since since' since'' : Since)
+    → IsUnchanged s s' l l' a b since since' → IsUnchanged s' s'' l' l'' b c since' since'' → IsUnchanged s s'' l l'' a c since since''
+unchanged-then s s' s'' l l' l'' a b c since since' since'' f g = record {
+  reads = λ d. g.reads d ∙ f.reads d;
+  outcomes = λ d bytes. (
+    λ left. (f.outcomes d bytes).0 ((g.outcomes d bytes).0 left),
+    λ left. (g.outcomes d bytes).1 ((f.outcomes d bytes).1 left),
+  );
+  clock = g.clock ∙ f.clock;
+  past = λ t img. (λ h. (f.past t img).0 ((g.past t img).0 h), λ h. (g.past t img).1 ((f.past t img).1 h));
+}

@@ -11,3 +11,4 @@ pub mod Found
 pub mod Failing
 pub mod Reopened
 mod Nine
+mod Ended

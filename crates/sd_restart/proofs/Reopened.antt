@@ -1,5 +1,5 @@
 -- What was found in the bytes of devices was found on these: for the goals of restarting.rt.
-use Rattle.std.proofs.Common.{◌≡◌, ℕ, List, sym, ap, ◌∙◌, subst}
+use Rattle.std.proofs.Common.{◌≡◌, ℕ, List, sym, ◌∙◌, subst}
 use Rattle.std.specs.Prelude.{OnOk, Result, Ok, Err}
 use mathlib.Core.Path.{fun_ext}
 use Rattle.sd_rig.specs.Devices.{Image, LeavesOnly, LeavesSame}
@@ -7,12 +7,12 @@ use Rattle.sd_recovered.specs.Devices.{IsRecovered, devices_of}
 use Rattle.sd_model.specs.State.{State}
 use Rattle.sd_state.specs.Opening.{AreOpened, OpensTo}
 use Rattle.sd_state.specs.Parts.{Parts}
-use Rattle.sd_restart.specs.Devices.{AgreeOnNine, AreBytesOf}
+use Rattle.sd_restart.specs.Devices.{AgreeOnNine, images_of}
 use Rattle.sd_restart.proofs.Alike.{recovered-same}
+use Rattle.sd_restart.proofs.Nine.{each}
 
-pub agree : (seen mid : Image) (images items : List (List ℕ)) → images ≡ items → AreBytesOf mid items → ((d : ℕ) → mid d ≡ seen d)
-    → AgreeOnNine (devices_of images) seen
-agree seen mid images items is bytes reads d le = ap (λ l. devices_of l d) is ∙ bytes.same d le ∙ reads d
+pub agree : (seen mid : Image) → ((d : ℕ) → mid d ≡ seen d) → AgreeOnNine (devices_of (images_of mid)) seen
+agree seen mid reads d le = each mid d le ∙ reads d
 
 pub same-devices : (a b : Image) → AgreeOnNine a b → AgreeOnNine b a
 same-devices a b same d le = sym (same d le)

@@ -1,7 +1,6 @@
 -- Nine devices that are settled, and read.
-use Rattle.std.specs.Prelude.{◌≡◌, ℕ, ◌≤◌, List}
+use Rattle.std.specs.Prelude.{◌≡◌, ℕ, ◌≤◌, List, [], ◌∷◌}
 use Rattle.sd_rig.specs.Devices.{Elapses, Image, Leaves, Span}
-use Rattle.sd_recovered.specs.Devices.{AreDevices, devices_of}
 
 -- Time goes on, and what the devices read stays: a crash leaves nothing that it didn't leave before, and nothing else since.
 pub record Calms (seen seen' : Image) (leaves leaves' : ℕ → List ℕ → Type 0) (moment moment' : ℕ) (since since' : ℕ → Image → Type 0) : Type 0 where
@@ -14,7 +13,6 @@ pub record Calms (seen seen' : Image) (leaves leaves' : ℕ → List ℕ → Typ
 abbrev pub AgreeOnNine : Image → Image → Type 0
 AgreeOnNine a b = (d : ℕ) → d ≤ 8 → a d ≡ b d
 
--- These are the bytes of the nine devices, that of device 0 first.
-pub record AreBytesOf (seen : Image) (images : List (List ℕ)) : Type 0 where
-  pub devices : AreDevices images
-  pub same : AgreeOnNine (devices_of images) seen
+-- what the nine devices read, that of device 0 first
+abbrev pub images_of : Image → List (List ℕ)
+images_of seen = seen 0 ∷ seen 1 ∷ seen 2 ∷ seen 3 ∷ seen 4 ∷ seen 5 ∷ seen 6 ∷ seen 7 ∷ seen 8 ∷ []

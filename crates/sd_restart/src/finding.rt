@@ -1,42 +1,20 @@
-//! What a complex is made of, found in the bytes of nine devices.
+//! What a complex is made of, found in what was read of nine devices.
 
-ghost use Rattle.std.specs.Prelude.{◌≡◌, ◌⊎◌, ℕ, Err, IfErr, IfOk, OnOk, length};
-ghost use Rattle.sd_base.specs.declared.refusal.Refusal.TheVariants as R;
-ghost use Rattle.sd_chain.specs.Checks.{DevicesAreSound};
-ghost use Rattle.sd_chain.specs.Faults.{FailsFirstAt};
-ghost use Rattle.sd_recovered.specs.Devices.{AreDevices, IsRecovered, devices_of};
-ghost use Rattle.sd_state.specs.Opening.{AreOpened, opened_parts};
+ghost use Rattle.std.specs.Prelude.{◌≡◌, IfOk, length};
 ghost use Rattle.sd_undone.specs.Reading.{AreLosersOf};
 ghost use Rattle.sd_restart.specs.Claims.{AreApart};
 ghost use Rattle.sd_restart.specs.Made.{IsMade};
 
 use crate::claims::claims_of;
 use crate::parts::{counts_of, epochs_of, greatest, owed_of, places_of, statuses_of, tables_of};
-use sd_base::{Bytes, Memory, Refusal};
+use sd_base::Memory;
 use sd_model::Table;
-use sd_recovered::{Opened, open};
+use sd_recovered::Opened;
 use sd_state::Found;
 use std::alloc::Global;
 
-/// What a complex is made of, and the table that the devices stand for, of their bytes, device 0 first.
-///
-/// `Damaged` comes exactly where they aren't sound, with the first place that fails.
-pub fn found_in(alloc: Global, images: &[Bytes]) -> Result<(Found, Table), Refusal>
-    requires devices { AreDevices images.now }
-    ensures sound { OnOk result (DevicesAreSound (devices_of images.now)) }
-    ensures recovered { IfOk result (λ x. IsRecovered (devices_of images.now) x.1) }
-    ensures found { IfOk result (λ x. (frames : ℕ) → AreOpened frames (devices_of images.now) (opened_parts frames x.0)) }
-
-    ensures unsound { (dev at : ℕ) → result ≡ Err (R.Damaged dev at) → DevicesAreSound (devices_of images.now) → ⊥ }
-    ensures place { (dev at : ℕ) → result ≡ Err (R.Damaged dev at) → FailsFirstAt (devices_of images.now) dev at }
-    ensures refusals { IfErr result (λ e. (e ≡ R.Memory) ⊎ ((dev : ℕ) × (at : ℕ) × (e ≡ R.Damaged dev at))) }
-{
-    let opened = open(alloc, images)?;
-    Ok(found_of(alloc, opened)?)
-}
-
-// What a complex is made of, and the table, of what was read.
-fn found_of(alloc: Global, opened: Opened) -> Result<(Found, Table), Memory>
+/// What a complex is made of, and the table, of what was read.
+pub fn found_of(alloc: Global, opened: Opened) -> Result<(Found, Table), Memory>
     requires eight { length opened.logs.items ≡ 8 }
     requires masters { length opened.masters.items ≡ length opened.logs.items }
     requires losers { AreLosersOf opened.logs.items opened.losers.items }

@@ -3,9 +3,9 @@
 //! Meaning: `OpensTo` (sd_state) says to which states of the serial table devices open, and `Recovered` (sd_chain) what table
 //! they stand for; `Calms` (`specs/Devices.antt`) what syncs and reads do to them.
 //! Keeps: nothing.
-//! Promises: `restart` opens sound devices to a complex that is good for each state to which they open, with the table that they
-//! stand for; no image that a crash may leave meanwhile is one that it might not leave before. What stands for a state of the
-//! serial table opens to that state's table (`laws.rt`).
+//! Promises: `restart` syncs each device once (`tick`) and opens sound devices to a complex that is good for each state to which
+//! they open, with the table that they stand for; no image that a crash may leave meanwhile is one that it might not leave
+//! before. What stands for a state of the serial table opens to that state's table (`laws.rt`).
 //! Refuses: `Failed` where a device fails, `Memory`, and `Damaged` exactly where the devices aren't sound, with the first place
 //! that fails.
 //! Knows nothing of: events, waits, the number of instances that are to join.

@@ -1,6 +1,6 @@
 //! A complex opened again.
 
-ghost use Rattle.std.specs.Prelude.{◌≡◌, ◌≢◌, ◌⊎◌, ℕ, ◌≤◌, Err, IfErr, IfOk, OnOk};
+ghost use Rattle.std.specs.Prelude.{◌≡◌, ◌≢◌, ◌⊎◌, ℕ, ◌+◌, ◌≤◌, Err, IfErr, IfOk, OnOk};
 ghost use Rattle.sd_base.specs.Streams.{Rises};
 ghost use Rattle.sd_base.specs.declared.refusal.Refusal.TheVariants as R;
 ghost use Rattle.sd_chain.specs.Checks.{DevicesAreSound};
@@ -15,10 +15,9 @@ ghost use Rattle.sd_state.specs.Values.{Pending};
 ghost use Rattle.sd_restart.specs.Devices.{Calms};
 
 use crate::devices::{read_devices, settle_devices};
-use crate::finding::found_in;
+use crate::finding::found_of;
 use sd_base::Refusal;
 use sd_model::Table;
-use sd_recovered::open;
 use sd_rig::Rig;
 use sd_state::{Complex, Found, Shape};
 use std::alloc::Global;
@@ -47,6 +46,7 @@ pub fn restart<G: Rig>(
 
     ensures calms { IfOk result (λ x. Calms (G.seen rig) (G.seen x.0.rig) (G.leaves rig) (G.leaves x.0.rig)
         (G.moment rig) (G.moment x.0.rig) (G.since rig) (G.since x.0.rig)) }
+    ensures tick { IfOk result (λ x. G.moment x.0.rig ≡ G.moment rig + 9) }
     ensures calms_err { IfErr result (λ e. Calms (G.seen rig) (G.seen e.1) (G.leaves rig) (G.leaves e.1)
         (G.moment rig) (G.moment e.1) (G.since rig) (G.since e.1)) }
 
@@ -80,6 +80,7 @@ pub fn reopen<G: Rig>(alloc: Global, rig: G, shape: Shape) -> Result<Complex<G>,
 
     ensures calms { IfOk result (λ c. Calms (G.seen rig) (G.seen c.rig) (G.leaves rig) (G.leaves c.rig)
         (G.moment rig) (G.moment c.rig) (G.since rig) (G.since c.rig)) }
+    ensures tick { IfOk result (λ c. G.moment c.rig ≡ G.moment rig + 9) }
     ensures calms_err { IfErr result (λ e. Calms (G.seen rig) (G.seen e.1) (G.leaves rig) (G.leaves e.1)
         (G.moment rig) (G.moment e.1) (G.since rig) (G.since e.1)) }
 
@@ -102,6 +103,7 @@ fn found_on<G: Rig>(alloc: Global, rig: &mut G) -> Result<(Found, Table), Refusa
     ensures settled { OnOk result ((d : ℕ) → d ≤ 8 → LeavesOnly (G.seen rig.old d) (G.leaves rig.new d)) }
     ensures calms { Calms (G.seen rig.old) (G.seen rig.new) (G.leaves rig.old) (G.leaves rig.new)
         (G.moment rig.old) (G.moment rig.new) (G.since rig.old) (G.since rig.new) }
+    ensures tick { OnOk result (G.moment rig.new ≡ G.moment rig.old + 9) }
 
     ensures unsound { (dev at : ℕ) → result ≡ Err (R.Damaged dev at) → DevicesAreSound (G.seen rig.old) → ⊥ }
     ensures place { (dev at : ℕ) → result ≡ Err (R.Damaged dev at) → FailsFirstAt (G.seen rig.old) dev at }
@@ -110,6 +112,6 @@ fn found_on<G: Rig>(alloc: Global, rig: &mut G) -> Result<(Found, Table), Refusa
     ensures quiet { result ≢ Err R.Failed → G.faults rig.new ≡ G.faults rig.old }
 {
     settle_devices(rig)?;
-    let images = read_devices(alloc, rig)?;
-    found_in(alloc, &images)
+    let opened = read_devices(alloc, rig)?;
+    Ok(found_of(alloc, opened)?)
 }
