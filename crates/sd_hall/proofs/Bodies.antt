@@ -1,6 +1,5 @@
 -- A hall's complex, open or closed: what fits it, and what a call makes of it. It serves the goals of hall.rt and turning.rt.
 use Rattle.std.proofs.Common.{◌≡◌, ℕ, ◌+◌, ◌≤◌, Option, None, Some, refl, sym, ap, ◌∙◌, subst, arith}
-use Rattle.sd_base.specs.declared.ids.TxnId.{TxnId}
 use Rattle.sd_base.specs.declared.place.Status.TheVariants as S
 use Rattle.sd_base.specs.declared.trouble.Pick.{Pick}
 use Rattle.sd_rig.specs.Devices.{Image, Leaves}
@@ -20,7 +19,7 @@ use Rattle.sd_fits.specs.Serving.{fits_by}
 use Rattle.sd_fits.specs.declared.body.Body.{Body}
 use Rattle.sd_fits.proofs.Served.{fits-left, still-passes}
 use Rattle.sd_shut.specs.Closing.{HasFrames, NeitherClosesNorOpens}
-use Rattle.sd_hall.specs.Bodies.{IsDownAt, IsDownIn, ServesIn, fits_in, open_in}
+use Rattle.sd_hall.specs.Bodies.{IsDownAt, ServesIn, fits_in, open_in}
 use Rattle.sd_hall.specs.Ledger.{IsOwed, entries_owed}
 use Rattle.sd_hall.proofs.Fallen.{fallen-so}
 use Rattle.sd_hall.proofs.Paid.{HasFallen, turns-paid}
@@ -107,14 +106,3 @@ pub neither : (e : Event) → ((pick : Pick) → e ≡ event.FailAll pick → �
 neither (event.FailAll pick) all again = all pick refl
 neither event.Reopen all again = again refl
 neither e all again = tt
-
--- nothing is undone by another event
-pub not-undone : {G : Type 0} (e : Event) → ((t : TxnId) → e ≡ event.Undo t → ⊥) → (answer : Option Reply) (body : Body G)
-    → IsDownIn e answer body
-not-undone e none answer (Body.Open c) = λ t undo failed. absurd (none t undo)
-not-undone e none answer (Body.Closed rig shape) = λ t undo failed. none t undo
-
--- between calls there is a complex, open or closed
-pub some-in : {G : Type 0} (tell : Telling G) (body : Option (Body G)) (w : Core) → fits_in tell.seen tell.leaves body w → body ≡ None → ⊥
-some-in tell None w f is = f
-some-in tell (Some body) w f is = cc

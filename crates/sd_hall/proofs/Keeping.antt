@@ -25,7 +25,7 @@ use Rattle.sd_fits.proofs.Framed.{turns-frames}
 use Rattle.sd_hall.specs.declared.hall.Hall.{Hall}
 use Rattle.sd_survive.specs.Recovering.{AwaitsPage, recovery}
 use Rattle.sd_survive.specs.declared.recovering.Recovery.{Recovery}
-use Rattle.sd_hall.specs.Bodies.{IsAwaited, IsAwaitedIn, IsDownAt, ServesIn}
+use Rattle.sd_hall.specs.Bodies.{IsAwaited, IsAwaitedIn, IsDownAt, IsWorked, IsWorkedIn, ServesIn}
 use Rattle.sd_hall.specs.Keeping.{HasPlace, Keeps, MakesPlace}
 use Rattle.sd_hall.specs.Ledger.{IsOwed, entries_owed, owed_more}
 use Rattle.sd_hall.specs.Served.{IsServed}
@@ -82,6 +82,18 @@ awaits-so c i (Err n) awaits place e = absurd (cc)
 pub awaited-of : {G : Type 0} (e : Event) (r : Reply) (body : Option (Body G)) → IsAwaitedIn e (Some r) body → IsAwaited e r body
 awaited-of (event.RecoverStep i) (reply.Refused (R.NeedPage place)) body awaits = awaits i place refl refl
 awaited-of e r body awaits = tt
+
+-- a step that is told is one that was made
+pub stepped-so : (done : Result Recovery Refusal) → answered recovery done ≡ Some reply.Step → done ≡ Ok Recovery.Step
+stepped-so (Ok Recovery.Step) e = refl
+stepped-so (Ok Recovery.Done) e = absurd (cc)
+stepped-so (Err R.Memory) e = absurd (cc)
+stepped-so (Err n) e = absurd (cc)
+
+-- so says the reply of a call
+pub worked-of : {G : Type 0} (e : Event) (r : Reply) (old new : Option (Body G)) → IsWorkedIn e (Some r) old new → IsWorked e r old new
+worked-of (event.RecoverStep i) reply.Step old new works = works i refl refl
+worked-of e r old new works = tt
 
 -- the reply of the last entry
 pub last-is : (es before : List Entry) (last : Entry) → es ≡ before ++ last ∷ [] → slice_get es (length es - 1) ≡ Some last

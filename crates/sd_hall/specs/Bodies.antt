@@ -6,14 +6,14 @@ use Rattle.sd_base.specs.declared.refusal.Refusal.TheVariants as R
 use Rattle.sd_model.specs.declared.event.Event.{Event}
 use Rattle.sd_model.specs.declared.event.Event.TheVariants.{RecoverStep, Undo}
 use Rattle.sd_model.specs.declared.event.Reply.{Reply}
-use Rattle.sd_model.specs.declared.event.Reply.TheVariants.{Refused}
+use Rattle.sd_model.specs.declared.event.Reply.TheVariants.{Refused, Step}
 use Rattle.sd_rig.specs.Devices.{Image}
 use Rattle.sd_state.specs.Complexes.{parts}
 use Rattle.sd_state.specs.declared.complex.Complex.{Complex}
 use Rattle.sd_world.specs.Serving.{Core, Telling}
 use Rattle.sd_fits.specs.Bodies.{ServingHall, fits_body, rig_of}
 use Rattle.sd_fits.specs.declared.body.Body.{Body}
-use Rattle.sd_survive.specs.Recovering.{AwaitsPage}
+use Rattle.sd_survive.specs.Recovering.{AwaitsPage, HasCleared, HasOneLess}
 use Rattle.sd_hall.specs.Served.{IsDownThen}
 
 -- it fits the world, open or closed
@@ -62,3 +62,19 @@ IsAwaited e r body = Unit {0}
 abbrev pub IsAwaitedIn : {G : Type 0} → Event → Option Reply → Option (Body G) → Type 0
 IsAwaitedIn e answer body = (i : ℕ) (place : Place) → e ≡ RecoverStep i → answer ≡ Some (Refused (R.NeedPage place))
     → AwaitsIn i body
+
+-- The recovery of i has done a task, on a complex that is open: it has settled a device or freed a lost page, or there is one
+-- task less in the rows of i. On a closed one no step is told: the table refuses it there.
+abbrev pub HasWorkedIn : {G : Type 0} → ℕ → Option (Body G) → Option (Body G) → Type 0
+HasWorkedIn i (Some (Body.Open old)) (Some (Body.Open new)) =
+    HasCleared (parts old) (parts new) × HasOneLess i (parts old) (parts new)
+HasWorkedIn i old new = Unit {0}
+
+-- a step of a recovery that is told is made
+abbrev pub IsWorked : {G : Type 0} → Event → Reply → Option (Body G) → Option (Body G) → Type 0
+IsWorked (RecoverStep i) Step old new = HasWorkedIn i old new
+IsWorked e r old new = Unit {0}
+
+-- the same of an answer
+abbrev pub IsWorkedIn : {G : Type 0} → Event → Option Reply → Option (Body G) → Option (Body G) → Type 0
+IsWorkedIn e answer old new = (i : ℕ) → e ≡ RecoverStep i → answer ≡ Some Step → HasWorkedIn i old new

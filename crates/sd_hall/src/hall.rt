@@ -13,13 +13,15 @@ ghost use Rattle.sd_restart.specs.Devices.{Calms};
 ghost use Rattle.sd_world.specs.Serving.{Core, telling};
 ghost use Rattle.sd_fits.specs.Bodies.{rig_of};
 ghost use Rattle.sd_fits.specs.Opened.{opening_core};
-ghost use Rattle.sd_hall.specs.Bodies.{IsAwaited, IsAwaitedIn, IsDownAt, IsRigIn, ServesIn, fits_in, open_in};
+ghost use Rattle.sd_shut.specs.Closing.{NeitherClosesNorOpens};
+ghost use Rattle.sd_hall.specs.Bodies.{IsAwaited, IsAwaitedIn, IsDownAt, IsRigIn, IsWorked, IsWorkedIn, ServesIn};
+ghost use Rattle.sd_hall.specs.Bodies.{fits_in, open_in};
 ghost use Rattle.sd_hall.specs.Keeping.{HasPlace, Keeps};
 ghost use Rattle.sd_hall.specs.Ledger.{IsOwed};
 ghost use Rattle.sd_hall.specs.Served.{IsServed, told};
 
 use crate::ledger::more;
-use crate::turning::{is_owed_in, turned};
+use crate::turning::{is_owed_in, serve_body, turned};
 use sd_base::{Memory, Refusal};
 use sd_fits::Body;
 use sd_model::{Book, Entry, Event, Reply};
@@ -84,8 +86,8 @@ impl<G: Rig> Hall<G> {
     ///
     /// `Memory` comes where there is none: nothing is noted then, and the complex fits the world that it fitted. It never comes for
     /// the commit of a transaction that runs, nor for an undo of one that rolls back, where nothing is left to undo or the page of
-    /// the next undo is its instance's alone, nor for the failure of an instance that is up. Each image that a crash leaves
-    /// meanwhile stands for the state before or after.
+    /// the next undo is its instance's alone, nor for the failure of an instance that is up. A step of a recovery that
+    /// is replied to as one has done a task. Each image that a crash leaves meanwhile stands for the state before or after.
     pub fn call(&mut self, session: u8, line: u32, e: Event) -> Result<(), Memory>
         requires served { IsServed e }
         requires kept { (start : Core) × Keeps (telling G.seen G.leaves G.moment G.since G.faults) start self.old }
@@ -98,6 +100,9 @@ impl<G: Rig> Hall<G> {
         ensures awaits { OnOk result ((r : Reply)
             → self.new.book.entries ≡ self.old.book.entries ++ record { session = session; line = line; event = e; reply = r } ∷ []
             → IsAwaited e r self.old.body) }
+        ensures works { OnOk result ((r : Reply)
+            → self.new.book.entries ≡ self.old.book.entries ++ record { session = session; line = line; event = e; reply = r } ∷ []
+            → IsWorked e r self.old.body self.new.body) }
         ensures opening { self.new.book.opening ≡ self.old.book.opening }
         ensures keeps { (start : Core) → Keeps (telling G.seen G.leaves G.moment G.since G.faults) start self.old
             → Keeps (telling G.seen G.leaves G.moment G.since G.faults) start self.new }
@@ -114,7 +119,8 @@ impl<G: Rig> Hall<G> {
         Ok(())
     }
 
-    // Does the event on the complex, open or closed, and tells its reply.
+    // Does the event on the complex, open or closed, and tells its reply. It is served where the complex lies: that is some kilobytes
+    // long, and only a failure of all instances and a reopening, which put another there, move it.
     fn turn(&mut self, e: &Event) -> Result<Reply, Memory>
         requires served { IsServed e.now }
         requires fits { (w : Core) × (fits_in G.seen G.leaves self.old.body w) × (w.pages.frames ≡ self.old.shape.frames) }
@@ -124,6 +130,27 @@ impl<G: Rig> Hall<G> {
         ensures there { (w : Core) → IsOwed w e.now → told result ≢ None }
         ensures down { IsDownAt e.now (told result) self.new.body }
         ensures awaits { IsAwaitedIn e.now (told result) self.old.body }
+        ensures works { IsWorkedIn e.now (told result) self.old.body self.new.body }
+        ensures book { self.new.book ≡ self.old.book }
+        ensures shape { self.new.shape ≡ self.old.shape }
+        ensures owed { self.new.owed ≡ self.old.owed }
+    {
+        match e {
+            Event::FailAll { .. } | Event::Reopen => self.turn_over(e),
+            _ => match &mut self.body {
+                Some(body) => serve_body(body, e),
+                None => unreachable!(),
+            },
+        }
+    }
+
+    // The same of a failure of all instances and of a reopening: the complex is taken out, and what it turned to is put back.
+    fn turn_over(&mut self, e: &Event) -> Result<Reply, Memory>
+        requires over { NeitherClosesNorOpens e.now → ⊥ }
+        requires fits { (w : Core) × (fits_in G.seen G.leaves self.old.body w) × (w.pages.frames ≡ self.old.shape.frames) }
+        requires least { 1 ≤ self.old.shape.frames }
+        requires most { self.old.shape.frames ≤ 1024 }
+        ensures served { ServesIn (telling G.seen G.leaves G.moment G.since G.faults) e.now (told result) self.old.body self.new.body }
         ensures book { self.new.book ≡ self.old.book }
         ensures shape { self.new.shape ≡ self.old.shape }
         ensures owed { self.new.owed ≡ self.old.owed }

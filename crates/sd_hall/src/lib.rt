@@ -6,7 +6,8 @@
 //! Promises: a hall opens from sound devices alone, to the world of which they tell (`Hall::open`). An event that was done is noted
 //! with its reply, and no other is (`Hall::call`); it was served as sd_fits says, also while the complex is closed. A transaction
 //! that runs can be committed, one that rolls back can do so to its end, and an instance that is up can fail, without memory
-//! (`there`). At most one instance may update a page, and each copy of it is its newest version (`laws.rt`).
+//! (`there`). A step of a recovery that is told is made (`works`). At most one instance may update a page, and each copy of it
+//! is its newest version (`laws.rt`).
 //! Refuses: `Memory`, which notes nothing, and after which the complex fits the same core; as it opens, also `Failed`, `Damaged`.
 //! Knows nothing of: sessions, scripts, how a line is driven.
 //! Stands on: sd_base, sd_model, sd_page, sd_rig, sd_pool, sd_txn, sd_pagelock, sd_chain, sd_sound, sd_recovered, sd_coherent,

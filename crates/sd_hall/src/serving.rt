@@ -13,7 +13,7 @@ ghost use Rattle.sd_fits.specs.Serving.{Serving};
 ghost use Rattle.sd_fits.specs.declared.body.Body.TheVariants as bodies;
 ghost use Rattle.sd_survive.specs.Recovering.{recovery};
 ghost use Rattle.sd_shut.specs.Closing.{NeitherClosesNorOpens};
-ghost use Rattle.sd_hall.specs.Bodies.{IsAwaitedIn};
+ghost use Rattle.sd_hall.specs.Bodies.{IsAwaitedIn, IsWorkedIn};
 ghost use Rattle.sd_hall.specs.Ledger.{IsOwed};
 ghost use Rattle.sd_hall.specs.Served.{told, IsDownThen, IsServed};
 
@@ -24,7 +24,7 @@ use sd_state::Complex;
 use sd_survive::Recovery;
 
 /// Does the event on the complex, and tells its reply. Where an entry is owed for it there is memory. An undo that a device fails takes
-/// its instance down.
+/// its instance down, and a step of a recovery that is told does a task.
 pub(crate) fn serve<G: Rig>(c: &mut Complex<G>, e: &Event) -> Result<Reply, Memory>
     requires served { IsServed e.now }
     requires within { NeitherClosesNorOpens e.now }
@@ -33,6 +33,7 @@ pub(crate) fn serve<G: Rig>(c: &mut Complex<G>, e: &Event) -> Result<Reply, Memo
     ensures there { (w : Core) → IsOwed w e.now → told result ≢ None }
     ensures down { IsDownThen e.now (told result) (parts c.new) }
     ensures awaits { IsAwaitedIn e.now (told result) (Some (bodies.Open c.old)) }
+    ensures works { IsWorkedIn e.now (told result) (Some (bodies.Open c.old)) (Some (bodies.Open c.new)) }
 {
     match e {
         Event::Begin { inst } => as_began(sd_ops::begin(c, *inst)),

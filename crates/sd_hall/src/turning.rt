@@ -5,7 +5,7 @@ ghost use Rattle.sd_model.specs.declared.event.Event.TheVariants as event;
 ghost use Rattle.sd_world.specs.Serving.{Core, telling};
 ghost use Rattle.sd_fits.specs.Bodies.{ServingHall, fits_body};
 ghost use Rattle.sd_shut.specs.Closing.{NeitherClosesNorOpens};
-ghost use Rattle.sd_hall.specs.Bodies.{IsAwaitedIn, IsDownIn, fits_in};
+ghost use Rattle.sd_hall.specs.Bodies.{IsAwaitedIn, IsDownIn, IsWorkedIn, fits_in};
 ghost use Rattle.sd_hall.specs.Ledger.{IsOwed};
 ghost use Rattle.sd_hall.specs.Served.{IsServed, told};
 
@@ -20,36 +20,29 @@ use sd_shut::{fail_all, on_closed};
 use sd_state::Shape;
 use std::alloc::Global;
 
-/// Does the event on the complex, and tells its reply. Where it is the failure of all instances the complex is closed then, and
-/// where it is a reopening it may be open; once it is closed it has this shape.
+/// Does a failure of all instances or a reopening, and tells its reply. Behind the one the complex is closed, and has this shape
+/// where it was open; behind the other it may be open.
 pub(crate) fn turned<G: Rig>(
     alloc: Global,
     body: Body<G>,
     e: &Event,
     shape: Shape,
 ) -> (Result<Reply, Memory>, Body<G>)
-    requires served { IsServed e.now }
+    requires over { NeitherClosesNorOpens e.now → ⊥ }
     requires fits { (w : Core) × (fits_body G.seen G.leaves body w) × (w.pages.frames ≡ shape.frames) }
     requires least { 1 ≤ shape.frames }
     requires most { shape.frames ≤ 1024 }
-    ensures served { ServingHall (telling G.seen G.leaves G.moment G.since G.faults) e.now (told result.0) body result.1 }
-    ensures there { (w : Core) → IsOwed w e.now → told result.0 ≢ None }
-    ensures down { IsDownIn e.now (told result.0) result.1 }
-    ensures awaits { IsAwaitedIn e.now (told result.0) (Some body) }
+    ensures { ServingHall (telling G.seen G.leaves G.moment G.since G.faults) e.now (told result.0) body result.1 }
 {
     match e {
         Event::FailAll { pick } => (Ok(Reply::Did), fail_all(body, *pick, shape)),
         Event::Reopen => open_again(alloc, body),
-        _ => {
-            let mut body = body;
-            let done = serve_body(&mut body, e);
-            (done, body)
-        }
+        _ => unreachable!(),
     }
 }
 
-// The same of an event that neither closes the complex nor opens it. A closed one refuses it, but to arm the devices.
-fn serve_body<G: Rig>(body: &mut Body<G>, e: &Event) -> Result<Reply, Memory>
+/// Does an event that neither closes the complex nor opens it, and tells its reply. A closed one refuses it, but to arm the devices.
+pub(crate) fn serve_body<G: Rig>(body: &mut Body<G>, e: &Event) -> Result<Reply, Memory>
     requires served { IsServed e.now }
     requires within { NeitherClosesNorOpens e.now }
     requires fits { (w : Core) × fits_body G.seen G.leaves body.old w }
@@ -57,6 +50,7 @@ fn serve_body<G: Rig>(body: &mut Body<G>, e: &Event) -> Result<Reply, Memory>
     ensures there { (w : Core) → IsOwed w e.now → told result ≢ None }
     ensures down { IsDownIn e.now (told result) body.new }
     ensures awaits { IsAwaitedIn e.now (told result) (Some body.old) }
+    ensures works { IsWorkedIn e.now (told result) (Some body.old) (Some body.new) }
 {
     match body {
         Body::Open(complex) => serve(complex, e),

@@ -13,8 +13,8 @@ use Rattle.sd_world.specs.Serving.{Telling, did, placed_at, telling}
 use Rattle.sd_fits.specs.Serving.{Serving}
 use Rattle.sd_shut.specs.Closing.{NeitherClosesNorOpens}
 use Rattle.sd_hall.specs.Served.{IsServed}
-use Rattle.sd_survive.specs.Recovering.{AwaitsPage}
-use Rattle.sd_hall.proofs.Keeping.{answered-some, awaits-so, failed-so, same-step, same-undo, served-as}
+use Rattle.sd_survive.specs.Recovering.{AwaitsPage, HasCleared, HasOneLess}
+use Rattle.sd_hall.proofs.Keeping.{answered-some, awaits-so, failed-so, same-step, same-undo, served-as, stepped-so}
 use Rattle.sd_hall.proofs.serving.serve.Goals as goal
 
 pub unreachable-requires : goal.unreachable-requires
@@ -177,6 +177,15 @@ returns-in-RecoverStep-clause-awaits g c = λ i place is needs.
     subst (AwaitsPage (parts c.args.c.now)) same
     (awaits-so (parts c.args.c.now) c.in-RecoverStep.inst c.recover_step.result c.recover_step.ensures.awaits place
     (sym c.as_recovery.ensures ∙ needs))
+
+pub returns-in-RecoverStep-clause-works : goal.returns-in-RecoverStep-clause-works
+returns-in-RecoverStep-clause-works g c = λ i is step.
+    let old = parts c.args.c.now in
+    let new = parts c.recover_step.new.c in
+    let same : c.in-RecoverStep.inst ≡ i = same-step c.in-RecoverStep.inst i (sym c.in-RecoverStep.is ∙ is) in
+    let stepped = stepped-so c.recover_step.result (sym c.as_recovery.ensures ∙ step) in
+    subst (λ (j : ℕ). HasCleared old new × HasOneLess j old new) same
+    (c.recover_step.ensures.cleared stepped, c.recover_step.ensures.stepped stepped)
 
 pub returns-in-Join-clause-served : goal.returns-in-Join-clause-served
 returns-in-Join-clause-served g c =

@@ -8,9 +8,6 @@ fail_all-requires g c =
     let fits = c.requires.fits in
     record { frames = frames-in tell c.args.body fits.0 c.args.shape.frames fits.1 fits.2 }
 
-pub serve_body-done-requires : goal.serve_body-done-requires
-serve_body-done-requires g c = record {
-  served = c.requires.served;
-  within = neither c.args.e.now (λ pick is. c.in_default.not-FailAll pick is) (λ is. c.in_default.not-Reopen is);
-  fits = (c.requires.fits.0, c.requires.fits.1);
-}
+pub unreachable-requires : goal.unreachable-requires
+unreachable-requires g c =
+    c.requires.over (neither c.args.e.now (λ pick is. c.in_default.not-FailAll pick is) (λ is. c.in_default.not-Reopen is))

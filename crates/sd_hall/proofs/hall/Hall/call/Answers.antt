@@ -4,9 +4,9 @@ use Rattle.sd_model.specs.declared.event.Entry.{Entry}
 use Rattle.sd_model.specs.declared.event.Reply.{Reply}
 use Rattle.sd_world.specs.Serving.{Telling, telling}
 use Rattle.sd_state.specs.declared.complex.Shape.{Shape}
-use Rattle.sd_hall.specs.Bodies.{IsAwaited, IsAwaitedIn, ServesIn, fits_in}
+use Rattle.sd_hall.specs.Bodies.{IsAwaited, IsAwaitedIn, IsWorked, IsWorkedIn, ServesIn, fits_in}
 use Rattle.sd_hall.proofs.Bodies.{spared-in}
-use Rattle.sd_hall.proofs.Keeping.{awaited-of, has-room, keeps-more, keeps-same, more-one, no-place, same-reply}
+use Rattle.sd_hall.proofs.Keeping.{awaited-of, has-room, keeps-more, keeps-same, more-one, no-place, same-reply, worked-of}
 use Rattle.sd_hall.proofs.hall.Hall.call.Goals as goal
 
 pub returns-in_err-take_place-clause-spared : goal.returns-in_err-take_place-clause-spared
@@ -105,6 +105,18 @@ returns-clause-awaits g c = λ r again.
     subst (λ (x : Reply). IsAwaited c.args.e x c.args.self.now.body)
     (same-reply c.note.new.self.entries c.args.self.now.book.entries entry other noted again)
     (awaited-of c.args.e c.in_ok-reply.reply c.args.self.now.body awaits)
+
+pub returns-clause-works : goal.returns-clause-works
+returns-clause-works g c = λ r again.
+    let entry : Entry = record { session = c.args.session; line = c.args.line; event = c.args.e; reply = c.in_ok-reply.reply } in
+    let other : Entry = record { session = c.args.session; line = c.args.line; event = c.args.e; reply = r } in
+    let noted = c.note.ensures.entries ∙ ap (λ (es : List Entry). es ++ entry ∷ [])
+    (ap (λ b. b.entries) c.turn.ensures.book ∙ c.take_place.ensures.entries) in
+    let works = subst (λ b. IsWorkedIn c.args.e (Some c.in_ok-reply.reply) b c.turn.new.self.body) c.take_place.ensures.body
+    c.in_ok-reply.ensures.works in
+    subst (λ (x : Reply). IsWorked c.args.e x c.args.self.now.body c.turn.new.self.body)
+    (same-reply c.note.new.self.entries c.args.self.now.book.entries entry other noted again)
+    (worked-of c.args.e c.in_ok-reply.reply c.args.self.now.body c.turn.new.self.body works)
 
 pub returns-clause-opening : goal.returns-clause-opening
 returns-clause-opening g c =

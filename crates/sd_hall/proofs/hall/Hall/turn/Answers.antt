@@ -1,7 +1,31 @@
-use Rattle.std.proofs.Common.{subst}
-use Rattle.sd_hall.specs.Bodies.{AwaitsIn}
+use Rattle.std.proofs.Common.{Some, refl, sym, subst}
+use Rattle.sd_world.specs.Serving.{Telling, telling}
+use Rattle.sd_hall.specs.Bodies.{AwaitsIn, HasWorkedIn, ServesIn, fits_in}
+use Rattle.sd_hall.specs.Served.{told}
+use Rattle.sd_hall.proofs.Bodies.{neither}
 use Rattle.sd_hall.proofs.hall.Hall.turn.Goals as goal
 
-pub returns-clause-awaits : goal.returns-clause-awaits
-returns-clause-awaits g c = λ i place is needs.
-    subst (λ b. AwaitsIn i b) c.in-Some.ensures.value (c.turned-done.ensures.awaits i place is needs)
+pub serve_body-requires : goal.serve_body-requires
+serve_body-requires g c =
+    let fits = c.requires.fits in
+    record {
+      served = c.requires.served;
+      within = neither c.args.e.now (λ pick is. c.in_default.not-FailAll pick is) (λ is. c.in_default.not-Reopen is);
+      fits = (fits.0, subst (λ b. fits_in g.G.Rig.seen g.G.Rig.leaves b fits.0) c.in-Some.is fits.1);
+    }
+
+pub returns-in-Some : goal.returns-in-Some
+returns-in-Some g c =
+    let tell : Telling _ = telling g.G.Rig.seen g.G.Rig.leaves g.G.Rig.moment g.G.Rig.since g.G.Rig.faults in
+    let done = c.serve_body.ensures in
+    record {
+      served = subst (λ b. ServesIn tell c.args.e.now (told c.serve_body.result) b (Some c.serve_body.new.body))
+          (sym c.in-Some.is) done.served;
+      there = done.there;
+      down = done.down;
+      awaits = λ i place is needs. subst (λ b. AwaitsIn i b) (sym c.in-Some.is) (done.awaits i place is needs);
+      works = λ i is step. subst (λ b. HasWorkedIn i b (Some c.serve_body.new.body)) (sym c.in-Some.is) (done.works i is step);
+      book = refl;
+      shape = refl;
+      owed = refl;
+    }
