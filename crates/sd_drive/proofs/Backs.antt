@@ -7,14 +7,13 @@ use Rattle.sd_model.specs.declared.event.Event.{Event}
 use Rattle.sd_model.specs.declared.event.Event.TheVariants as event
 use Rattle.sd_model.specs.declared.event.Reply.{Reply}
 use Rattle.sd_model.specs.declared.event.Reply.TheVariants as reply
-use Rattle.sd_model.specs.State.{State}
 use Rattle.sd_model.specs.Step.{Step}
 use Rattle.sd_script.specs.declared.line.Form.{Form}
 use Rattle.sd_script.specs.declared.line.Form.TheVariants as form
 use Rattle.sd_script.specs.declared.line.Line.{Line}
 use Rattle.sd_script.specs.Order.{begun_by}
 use Rattle.sd_world.specs.PageCauses.{names_page}
-use Rattle.sd_world.specs.Serving.{Telling}
+use Rattle.sd_world.specs.Serving.{Core, Telling}
 use Rattle.sd_hall.specs.Served.{IsServed}
 use Rattle.sd_drive.specs.declared.driver.Driver.{Driver}
 use Rattle.sd_drive.specs.Driven.{is_did}
@@ -89,13 +88,13 @@ did-is : (r : Reply) → is_did r ≡ true → r ≡ reply.Did
 did-is reply.Did did = refl
 did-is r did = absurd (cc)
 
-back-goes : (m : State) (known : Known) (line : Line) → rolls_back line.form ≡ true
-    → goes_on m known (Work.Do line) Cursor.Once reply.Did ≡ Some Cursor.Undoes
-back-goes m known line rolls = ap (λ (b : Bool). cond {A = Option Cursor} b (Some Cursor.Undoes) None) rolls
+back-goes : (w : Core) (known : Known) (line : Line) → rolls_back line.form ≡ true
+    → goes_on w known (Work.Do line) Cursor.Once reply.Did ≡ Some Cursor.Undoes
+back-goes w known line rolls = ap (λ (b : Bool). cond {A = Option Cursor} b (Some Cursor.Undoes) None) rolls
 
-back-ends : (m : State) (known : Known) (line : Line) (r : Reply) → is_did r ≡ false → goes_on m known (Work.Do line) Cursor.Once r ≡ None
-back-ends m known line reply.Did did = absurd (cc)
-back-ends m known line r did = refl
+back-ends : (w : Core) (known : Known) (line : Line) (r : Reply) → is_did r ≡ false → goes_on w known (Work.Do line) Cursor.Once r ≡ None
+back-ends w known line reply.Did did = absurd (cc)
+back-ends w known line r did = refl
 
 pub none-is : (o : Option TxnId) → ((t : TxnId) → o ≡ Some t → ⊥) → o ≡ None
 none-is None none = refl
@@ -144,13 +143,13 @@ module _ {G : Type 0} (tell : Telling G) (old : Driver G) (line : Line) (rolls :
       module _ (new : Driver G) (came : Came tell new.hall line.session line.number e line rest Cursor.Once start w) where
         ended : is_did came.reply ≡ false → IsSame old new → new.txns ≡ old.txns → (w' : World) × Reached tell start lines (n + 1) new w'
         ended did same txns = came-ended tell start lines n line new e Cursor.Once w came
-            (back-ends came.core.scene.state w.told.known line came.reply did) (rolls-names line.form rolls) r.unfailed (knows new same txns)
+            (back-ends came.core w.told.known line came.reply did) (rolls-names line.form rolls) r.unfailed (knows new same txns)
 
         done : is_did came.reply ≡ true → IsSame old new → new.txns ≡ old.txns → (w' : World) × RollsBack tell start lines n line new t w'
         done did same txns =
             let is_done = did-is came.reply did in
             let m = came.core.scene.state in
-            let goes = ap (goes_on m w.told.known (Work.Do line) Cursor.Once) is_done ∙ back-goes m w.told.known line rolls in (
+            let goes = ap (goes_on came.core w.told.known (Work.Do line) Cursor.Once) is_done ∙ back-goes came.core w.told.known line rolls in (
               record { told = stays w.told (Work.Do line) rest Cursor.Undoes Pull.Idle; core = came.core },
               record {
                 there = goes-there tell start lines n line new e Cursor.Once w came (Some Cursor.Undoes) goes;

@@ -56,7 +56,7 @@ module _ {G : Type 0} (tell : Telling G) (start : Start G) (lines : List Line) (
         record { told = done w.told (Work.Do line) (works_of (drop (n + 1) lines)) came.reply; core = came.core },
         record {
           there = goes-there tell start lines n line new (event.Begin inst) Cursor.Once w came None
-              (once-ends came.core.scene.state w.told.known line came.reply (ap rolls_back is));
+              (once-ends came.core w.told.known line came.reply (ap rolls_back is));
           rests = refl;
           idle = refl;
           unfailed = r.unfailed;

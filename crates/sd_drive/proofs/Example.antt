@@ -1,7 +1,7 @@
 -- An example: the lines `complex 1 2 1; 1 begin s; insert s 0 x0; insert s 1 y0; commit s; where 1; where 0; table`, with a pool of one
 -- frame. Which entries are told of it, with a pull of each page, and a page that is written and evicted for the other.
-use Rattle.std.proofs.Common.{inl, ℕ, true, false, List, [], ◌∷◌, refl}
-use Rattle.std.specs.Prelude.{None}
+use Rattle.std.proofs.Common.{inl, inr, ℕ, true, false, List, [], ◌∷◌, refl, sym, ap}
+use Rattle.std.specs.Prelude.{Option, None}
 use Rattle.sd_base.specs.declared.ids.Rid.{Rid}
 use Rattle.sd_base.specs.declared.ids.TxnId.{TxnId}
 use Rattle.sd_base.specs.declared.place.Mode.TheVariants as modes
@@ -19,8 +19,9 @@ use Rattle.sd_script.specs.declared.line.Line.{Line}
 use Rattle.sd_pagelock.specs.Places.{Entry as Place}
 use Rattle.sd_world.specs.Pages.{Pages, placed}
 use Rattle.sd_world.specs.Serving.{Core}
-use Rattle.sd_drive.specs.Driving.{Cursor, IsTold, Progress, Tells, Work, done, stays, untold}
+use Rattle.sd_drive.specs.Driving.{Cursor, IsTold, Progress, Tells, Work, done, followed, marked, stays, untold, works_of}
 use Rattle.sd_drive.specs.Pulls.{Pull}
+use Rattle.sd_drive.proofs.Pools.{idle-leavers}
 
 abbrev s : List ℕ
 s = 115 ∷ []
@@ -93,7 +94,18 @@ abbrev at1 : Progress
 at1 = done first Work.Opening (Work.Do l1 ∷ Work.Do l2 ∷ Work.Do l3 ∷ Work.Do l4 ∷ Work.Do l5 ∷ Work.Do l6 ∷ Work.Do l7 ∷ Work.Do l8 ∷ []) (reply.Joined 1)
 
 told1 : Tells (core (none)) (core (none)) first (helps (event.Join 1) (reply.Joined 1)) at1
-told1 = (refl, (refl, refl, refl, refl))
+told1 = (
+  refl,
+  (
+    refl,
+    refl,
+    refl,
+    sym (ap
+        (λ (o : Option Cursor). marked Work.Opening (reply.Joined 1) (followed first Work.Opening (works_of (l1 ∷ l2 ∷ l3 ∷ l4 ∷ l5 ∷ l6 ∷ l7 ∷ l8 ∷ []))
+        (reply.Joined 1) o))
+        (idle-leavers (core none) (λ j. inr (λ q. refl)) 1 8)),
+  ),
+)
 
 abbrev at2 : Progress
 at2 = done at1 (Work.Do l2) (Work.Do l3 ∷ Work.Do l4 ∷ Work.Do l5 ∷ Work.Do l6 ∷ Work.Do l7 ∷ Work.Do l8 ∷ []) (reply.Began t)

@@ -46,15 +46,15 @@ absent-none m insts =
 
 -- ---- how the line goes on
 
-joins-goes : (m : State) (known : Known) (line : Line) (i : ℕ) (r : Reply) → is_joined r ≡ true
-    → goes_on m known (Work.Do line) (Cursor.Joins i) r ≡ joins (next_absent m known.insts (i + 1))
-joins-goes m known line i (reply.Joined epoch) yes_ = refl
-joins-goes m known line i r yes_ = absurd (cc)
+joins-goes : (w : Core) (known : Known) (line : Line) (i : ℕ) (r : Reply) → is_joined r ≡ true
+    → goes_on w known (Work.Do line) (Cursor.Joins i) r ≡ joins (next_absent w.scene.state known.insts (i + 1))
+joins-goes w known line i (reply.Joined epoch) yes_ = refl
+joins-goes w known line i r yes_ = absurd (cc)
 
-joins-ends : (m : State) (known : Known) (line : Line) (i : ℕ) (r : Reply) → is_joined r ≡ false
-    → goes_on m known (Work.Do line) (Cursor.Joins i) r ≡ None
-joins-ends m known line i (reply.Joined epoch) no_ = absurd (cc)
-joins-ends m known line i r no_ = refl
+joins-ends : (w : Core) (known : Known) (line : Line) (i : ℕ) (r : Reply) → is_joined r ≡ false
+    → goes_on w known (Work.Do line) (Cursor.Joins i) r ≡ None
+joins-ends w known line i (reply.Joined epoch) no_ = absurd (cc)
+joins-ends w known line i r no_ = refl
 
 join-names : (f : Form) → f ≡ form.JoinAll → (r : Reply) (names : Names) → named_by f r names ≡ names
 join-names f is r names = ap (λ (x : Form). named_by x r names) is
@@ -152,7 +152,7 @@ module _ {G : Type 0} (tell : Telling G) (start : Start G) (lines : List Line) (
       (txns : new.txns ≡ here.txns)
       (came : Came tell new.hall line.session line.number (event.Join i) line (works_of (drop (n + 1) lines)) (Cursor.Joins i) start w) where
     abbrev next : Option Cursor
-    next = goes_on came.core.scene.state w.told.known (Work.Do line) (Cursor.Joins i) came.reply
+    next = goes_on came.core w.told.known (Work.Do line) (Cursor.Joins i) came.reply
 
     knows : KnowsAll lines (n + 1) new w.told.known
     knows = knows-as lines (n + 1) here new w.told.known same txns waits.knows
@@ -175,7 +175,7 @@ module _ {G : Type 0} (tell : Telling G) (start : Start G) (lines : List Line) (
 
     -- it was refused
     pub joined-not : is_joined came.reply ≡ false → (w' : World) × Reached tell start lines (n + 1) new w'
-    joined-not no_ = let h = ended (joins-ends came.core.scene.state w.told.known line i came.reply no_) in (h.0, h.1)
+    joined-not no_ = let h = ended (joins-ends came.core w.told.known line i came.reply no_) in (h.0, h.1)
 
     -- or the next one joins
     pub joined-on : is_joined came.reply ≡ true → (w' : World) × JoinsOn tell start lines n line new (i + 1) w'
@@ -185,7 +185,7 @@ module _ {G : Type 0} (tell : Telling G) (start : Start G) (lines : List Line) (
         m' = came.core.scene.state
 
         goes : next ≡ joins (next_absent m' w.told.known.insts (i + 1))
-        goes = joins-goes m' w.told.known line i came.reply yes_
+        goes = joins-goes came.core w.told.known line i came.reply yes_
 
         go : (o : Option ℕ) → next_absent m' w.told.known.insts (i + 1) ≡ o → (w' : World) × JoinsOn tell start lines n line new (i + 1) w'
         go None none = let h = ended (goes ∙ ap joins none) in (

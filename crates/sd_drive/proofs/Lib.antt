@@ -25,6 +25,7 @@ pub mod Tables
 pub mod Joining
 pub mod Recovered
 pub mod Recovering
+pub mod Pools
 pub mod Opening
 pub mod Replays
 mod Example

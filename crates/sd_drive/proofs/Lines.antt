@@ -14,7 +14,7 @@ use Rattle.sd_script.specs.declared.line.Form.TheVariants as form
 use Rattle.sd_script.specs.declared.line.Line.{Line}
 use Rattle.sd_script.specs.Order.{Follows, begun, begun_by, ordinal_of}
 use Rattle.sd_world.specs.PageCauses.{names_page}
-use Rattle.sd_world.specs.Serving.{Telling}
+use Rattle.sd_world.specs.Serving.{Core, Telling}
 use Rattle.sd_hall.specs.Served.{IsServed}
 use Rattle.sd_drive.specs.declared.driver.Driver.{Driver}
 use Rattle.sd_drive.specs.Driven.{IsIn}
@@ -47,10 +47,10 @@ plain-rolls (form.Rollback name o) plain = absurd plain
 plain-rolls f plain = refl
 
 -- a line that doesn't roll back ends behind its one event
-pub once-ends : (m : State) (known : Known) (line : Line) (r : Reply) → rolls_back line.form ≡ false
-    → goes_on m known (Work.Do line) Cursor.Once r ≡ None
-once-ends m known line reply.Did single = ap (λ (b : Bool). cond {A = Option Cursor} b (Some Cursor.Undoes) None) single
-once-ends m known line r single = refl
+pub once-ends : (w : Core) (known : Known) (line : Line) (r : Reply) → rolls_back line.form ≡ false
+    → goes_on w known (Work.Do line) Cursor.Once r ≡ None
+once-ends w known line reply.Did single = ap (λ (b : Bool). cond {A = Option Cursor} b (Some Cursor.Undoes) None) single
+once-ends w known line r single = refl
 
 pub plain-else : (f : Form) → ((inst : ℕ) (name : List ℕ) → f ≡ form.Begin inst name → ⊥) → (f ≡ form.Table → ⊥)
     → (f ≡ form.RecoverAll → ⊥) → (f ≡ form.JoinAll → ⊥)
@@ -154,7 +154,7 @@ module _ {G : Type 0} (tell : Telling G) (start : Start G) (lines : List Line) (
 module _ {G : Type 0} (tell : Telling G) (start : Start G) (lines : List Line) (n : ℕ) (line : Line) (new : Driver G) (e : Event) (c : Cursor)
     (w : World) (came : Came tell new.hall line.session line.number e line (works_of (drop (n + 1) lines)) c start w) where
   abbrev next : Option Cursor
-  next = goes_on came.core.scene.state w.told.known (Work.Do line) c came.reply
+  next = goes_on came.core w.told.known (Work.Do line) c came.reply
 
   abbrev then-at : Option Cursor → World
   then-at o = record { told = followed w.told (Work.Do line) (works_of (drop (n + 1) lines)) came.reply o; core = came.core }
@@ -185,7 +185,7 @@ module _ {G : Type 0} (tell : Telling G) (start : Start G) (lines : List Line) (
       → (w' : World) × Reached tell start lines (n + 1) new w'
   came-plain new e plain same txns came =
       came-ended tell start lines n line new e Cursor.Once w came
-      (once-ends came.core.scene.state w.told.known line came.reply (plain-rolls line.form plain)) (plain-names line.form plain)
+      (once-ends came.core w.told.known line came.reply (plain-rolls line.form plain)) (plain-names line.form plain)
       r.unfailed (knows-more tell start lines n line at old w r new (plain-begins line.form plain) same txns)
 
 -- ---- events of lines are served

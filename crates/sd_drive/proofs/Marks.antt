@@ -76,13 +76,13 @@ module _ (at : Progress) (work : Work) (rest : List Work) (no_ : at.failed ≡ f
   followed-marks r o then is = subst (Marks r) (sym is)
       (marks-of work r (followed at work rest r o) (followed-fine at work rest r o no_) (followed-first at work rest r o))
 
-  own-marks : (m m' : State) (c : Cursor) (e : Event) (r : Reply) (then : Progress) → Own m m' at work rest c e r then → Marks r then
-  own-marks m m' c e (reply.Refused (R.NeedPage place)) then h = ⊎_elim
+  own-marks : (m : State) (w' : Core) (c : Cursor) (e : Event) (r : Reply) (then : Progress) → Own m w' at work rest c e r then → Marks r then
+  own-marks m w' c e (reply.Refused (R.NeedPage place)) then h = ⊎_elim
       (λ asks. subst (Marks (reply.Refused (R.NeedPage place))) (sym asks.2.2)
       (plain-marks (reply.Refused (R.NeedPage place)) (stays at work rest c (Pull.Asks asks.2.0)) refl no_))
-      (λ vain. followed-marks (reply.Refused (R.NeedPage place)) (goes_on m' at.known work c (reply.Refused (R.NeedPage place))) then vain.1)
+      (λ vain. followed-marks (reply.Refused (R.NeedPage place)) (goes_on w' at.known work c (reply.Refused (R.NeedPage place))) then vain.1)
       h
-  own-marks m m' c e r then h = followed-marks r (goes_on m' at.known work c r) then h
+  own-marks m w' c e r then h = followed-marks r (goes_on w' at.known work c r) then h
 
   helps-marks : (w : Core) (c : Cursor) (o : Option Puller) (x : Entry) (then : Progress) → Helps w at work rest c o x then → Marks x.reply then
   helps-marks w c None x then h = absurd h
@@ -91,7 +91,7 @@ module _ (at : Progress) (work : Work) (rest : List Work) (no_ : at.failed ≡ f
 
   at-marks : (b : Bool) (w w' : Core) (c : Cursor) (x : Entry) (then : Progress) → TellsAt b w w' at work rest c x then → Marks x.reply then
   at-marks true w w' c x then h = helps-marks w c (puller_of w.scene.state (event_at at.known work c)) x then h
-  at-marks false w w' c x then h = own-marks w.scene.state w'.scene.state c x.event x.reply then h.3
+  at-marks false w w' c x then h = own-marks w.scene.state w' c x.event x.reply then h.3
 
   work-marks : (o : Option Cursor) (w w' : Core) (x : Entry) (then : Progress) → TellsWork w w' at work rest o x then → Marks x.reply then
   work-marks None w w' x then h = absurd h

@@ -1,17 +1,15 @@
--- The instances that are down recover, and then all join, before the first line. It serves the goals of `opening`, `restart`, `join` and
--- of what goes over them in driver.rt.
+-- The instances that are down recover, and then all join, before the first line; then pools are emptied. It serves the goals of `opening`,
+-- `restart`, `join`, `open_by` and of what goes over them in driver.rt.
 use Rattle.std.proofs.Common.{◌≡◌, inl, inr, ⊎_elim, ℕ, ◌+◌, ◌<◌, ◌≤◌, Bool, true, false, cond, ltb, List, [], ◌∷◌, length, refl, sym, ap, ap₂, ◌∙◌, subst, arith}
 use Rattle.std.specs.Prelude.{Option, None, Some, is_some}
 use Rattle.std.proofs.lemmas.Bool.{ltb-false, ltb-true}
 use Rattle.sd_base.specs.declared.refusal.Refusal.TheVariants as R
-use Rattle.sd_model.specs.declared.cause.Cause.{Cause}
 use Rattle.sd_model.specs.declared.event.Entry.{Entry}
+use Rattle.sd_model.specs.declared.event.Event.{Event}
 use Rattle.sd_model.specs.declared.event.Event.TheVariants as event
 use Rattle.sd_model.specs.declared.event.Reply.{Reply}
 use Rattle.sd_model.specs.declared.event.Reply.TheVariants as reply
-use Rattle.sd_model.specs.Causes.{has, order}
 use Rattle.sd_model.specs.State.{State}
-use Rattle.sd_model.specs.Step.{Step}
 use Rattle.sd_rig.specs.Devices.{Image, Leaves}
 use Rattle.sd_script.specs.declared.line.Line.{Line}
 use Rattle.sd_world.specs.Leading.{Leads}
@@ -26,35 +24,26 @@ use Rattle.sd_drive.specs.declared.recovery.Outcome.TheVariants as outcomes
 use Rattle.sd_drive.specs.declared.recovery.Owner.{Owner}
 use Rattle.sd_drive.specs.Bodies.{status_in}
 use Rattle.sd_drive.specs.Driven.{IsIn, StaysIn}
-use Rattle.sd_drive.specs.Driving.{Cursor, Known, Own, Progress, TellsAt, Tells, Work, World, ahead, fails, followed, goes_on, is_down, left_from, marked, next_down, opens, stays, untold, works_of}
+use Rattle.sd_drive.specs.Driving.{Cursor, Known, TellsAt, Tells, Work, World, ahead, event_at, fails, followed, goes_on, is_down, leavers, left_from, next_down, opens, stays, untold, works_of}
+use Rattle.sd_drive.specs.Emptying.{BreaksBy, BreaksIn, IsAlone, OpensAt, OpensBy, OpensTo, StopsIn, pools_from}
 use Rattle.sd_drive.specs.Pulls.{Pull, is_pulling}
-use Rattle.sd_drive.specs.Reaching.{HaveJoined, IsOpening, IsSame, JoinBreaks, Joins, JoinsAll, JoinsNext, OpensSome, Reached, begin_of}
+use Rattle.sd_drive.specs.Reaching.{AllJoined, HaveJoined, IsOpening, IsSame, JoinBreaks, Joins, JoinsAll, JoinsNext, Opens, OpensOn, OpensSome, Reached, begin_of}
 use Rattle.sd_drive.specs.Recoveries.{DoesSome, DueOf, GoneOn, IsDueOf, RecoversTo}
 use Rattle.sd_drive.specs.Recovering.{IsRestarting, RestartBreaks, Restarts, RestartsNext, RestartsSome}
 use Rattle.sd_drive.specs.Running.{Breaks, Ran, Start}
 use Rattle.sd_drive.specs.Standing.{is_failed}
 use Rattle.sd_drive.proofs.Running.{ran-start}
 use Rattle.sd_drive.proofs.Bodies.{fits-now, fits-some, status-is}
+use Rattle.sd_drive.proofs.Pools.{pools-none}
 use Rattle.sd_drive.proofs.Marks.{breaks-there}
 use Rattle.sd_drive.proofs.Recovering.{down-behind, down-here}
 use Rattle.sd_drive.proofs.Steps.{Moved, Noted, moved}
-use Rattle.sd_drive.proofs.Telling.{tells-at, unfails}
-
--- a join wants no page
-never-away : (i : ℕ) (c : Cause) → has c (Cause.Away ∷ []) ≡ true → has c (order (event.Join i)) ≡ true → ⊥
-never-away i Cause.Away away there = absurd (cc)
-never-away i c away there = absurd (cc)
-
-own-join : (m m' m1 : State) (at : Progress) (rest : List Work) (i : ℕ) (r : Reply) → Step m (event.Join i) r m1
-    → Own m m' at Work.Opening rest (Cursor.Joins i) (event.Join i) r
-    (marked Work.Opening r (followed at Work.Opening rest r (goes_on m' at.known Work.Opening (Cursor.Joins i) r)))
-own-join m m' m1 at rest i (reply.Refused (R.NeedPage place)) s = absurd (never-away i s.0 s.1 s.3.0)
-own-join m m' m1 at rest i r s = refl
+use Rattle.sd_drive.proofs.Telling.{own-in-vain, tells-at, unfails}
 
 -- where the opening goes on
-join-goes : (known : Known) (m : State) (i : ℕ) (r : Reply) (b : Bool) → ltb i known.insts ≡ b
-    → goes_on m known Work.Opening (Cursor.Joins i) r ≡ cond {A = Option Cursor} b (Some (Cursor.Joins (i + 1))) None
-join-goes known m i r b is = ap (λ (x : Bool). cond {A = Option Cursor} x (Some (Cursor.Joins (i + 1))) None) is
+join-goes : (known : Known) (w : Core) (i : ℕ) (r : Reply) (b : Bool) → ltb i known.insts ≡ b
+    → goes_on w known Work.Opening (Cursor.Joins i) r ≡ cond {A = Option Cursor} b (Some (Cursor.Joins (i + 1))) (leavers w 1 8)
+join-goes known w i r b is = ap (λ (x : Bool). cond {A = Option Cursor} x (Some (Cursor.Joins (i + 1))) (leavers w 1 8)) is
 
 opens-some : (o : Option ℕ) → is_some (opens o) ≡ true
 opens-some None = refl
@@ -234,64 +223,56 @@ module _ {G : Type 0} (tell : Telling G) (old here : Driver G) (i : ℕ) (on : R
     pub restarts-broken : RestartBreaks tell here new i → RestartBreaks tell old new 1
     restarts-broken breaks start w lines at = let h = on start w lines at in breaks start h.0 lines h.1
 
--- ---- a join
+-- ---- an event
 
-module _ {G : Type 0} (tell : Telling G) (old new : Driver G) (i : ℕ) (same : IsSame old new) (txns : new.txns ≡ old.txns) (r : Reply)
-    (n : Noted tell old.hall new.hall (record { session = 0; line = 0; event = event.Join i; reply = r }))
-    (start : Start G) (w : World) (lines : List Line) (j : JoinsNext tell start lines old i w) where
-  abbrev x : Entry
-  x = record { session = 0; line = 0; event = event.Join i; reply = r }
+module _ {G : Type 0} (tell : Telling G) (old new : Driver G) (e : Event) (alone : IsAlone e) (same : IsSame old new) (txns : new.txns ≡ old.txns)
+    (r : Reply) (n : Noted tell old.hall new.hall (record { session = 0; line = 0; event = e; reply = r })) where
+  module _ (start : Start G) (w : World) (lines : List Line) (c : Cursor) (o : Opens tell start lines old c w)
+      (is : event_at w.told.known Work.Opening c ≡ Some e) where
+    abbrev x : Entry
+    x = record { session = 0; line = 0; event = e; reply = r }
 
-  m : Moved tell old.hall new.hall start w x
-  m = moved tell old.hall new.hall x n start w j.there
+    m : Moved tell old.hall new.hall start w x
+    m = moved tell old.hall new.hall x n start w o.there
 
-  abbrev next : Option Cursor
-  next = goes_on m.core.scene.state w.told.known Work.Opening (Cursor.Joins i) r
+    abbrev next : Option Cursor
+    next = goes_on m.core w.told.known Work.Opening c r
 
-  abbrev then-at : Option Cursor → Progress
-  then-at o = record (followed w.told Work.Opening (works_of lines) r o) { failed = fails Work.Opening r }
+    abbrev then-at : Option Cursor → World
+    then-at d = record { told = record (followed w.told Work.Opening (works_of lines) r d) { failed = fails Work.Opening r }; core = m.core }
 
-  tells : Tells w.core m.core w.told x (then-at next)
-  tells =
-      let s = w.core.scene.state in
-      tells-at w m.core Work.Opening (works_of lines) (Cursor.Joins i) x (then-at next) j.unfailed
-      (ap (λ (works : List Work). left_from s w.told.known w.told.cursor works) j.left ∙ opening-first s w.told.known w.told.cursor (works_of lines))
-      j.at
-      (subst (λ (p : Pull). TellsAt (is_pulling p) w.core m.core w.told Work.Opening (works_of lines) (Cursor.Joins i) x (then-at next)) (sym j.idle)
-      (refl, refl, refl, own-join s m.core.scene.state m.core.scene.state w.told (works_of lines) i r m.turns.plays.step))
+    tells : Tells w.core m.core w.told x (then-at next).told
+    tells =
+        let s = w.core.scene.state in
+        tells-at w m.core Work.Opening (works_of lines) c x (then-at next).told o.unfailed
+        (ap (λ (works : List Work). left_from s w.told.known w.told.cursor works) o.left ∙ opening-first s w.told.known w.told.cursor (works_of lines))
+        o.at
+        (subst (λ (p : Pull). TellsAt (is_pulling p) w.core m.core w.told Work.Opening (works_of lines) c x (then-at next).told) (sym o.idle)
+        (refl, refl, is, own-in-vain s m.core w.told Work.Opening (works_of lines) c e r (inr (alone s))))
 
-  pub there-after : (w' : World) × IsIn tell start new.hall w' × (w'.told.failed ≡ fails Work.Opening r)
-  there-after = (record { told = then-at next; core = m.core }, m.there (then-at next) tells, refl)
+    pub there-after : (w' : World) × IsIn tell start new.hall w' × (w'.told.failed ≡ fails Work.Opening r)
+    there-after = (then-at next, m.there (then-at next).told tells, refl)
 
-  there : (o : Option Cursor) → next ≡ o → IsIn tell start new.hall (record { told = then-at o; core = m.core })
-  there o is = subst (λ (c : Option Cursor). IsIn tell start new.hall (record { told = then-at c; core = m.core })) is (m.there (then-at next) tells)
+    there : (d : Option Cursor) → next ≡ d → IsIn tell start new.hall (then-at d)
+    there d goes = subst (λ (d : Option Cursor). IsIn tell start new.hall (then-at d)) goes (m.there (then-at next).told tells)
 
-  known-is : w.told.known ≡ (untold new.insts new.pages lines).known
-  known-is = j.known ∙ ap₂ (λ (insts pages : ℕ). (untold insts pages lines).known) (sym same.0) (sym same.1)
+    known-is : w.told.known ≡ (untold new.insts new.pages lines).known
+    known-is = o.known ∙ ap₂ (λ (insts pages : ℕ). (untold insts pages lines).known) (sym same.0) (sym same.1)
 
-  module _ (fine : is_failed r ≡ false) where
-    -- another one joins next
-    goes : i < new.insts → next ≡ Some (Cursor.Joins (i + 1)) → (w' : World) × JoinsNext tell start lines new (i + 1) w'
-    goes lt is = (
-      record { told = then-at (Some (Cursor.Joins (i + 1))); core = m.core },
-      record {
-        there = there (Some (Cursor.Joins (i + 1))) is;
+    module _ (fine : is_failed r ≡ false) where
+      -- the opening goes on there, or the lines are to come
+      stands : (d : Option Cursor) → next ≡ d → OpensOn tell start lines new d (then-at d)
+      stands (Some d) goes = record {
+        there = there (Some d) goes;
         known = known-is;
         left = refl;
         at = refl;
         idle = refl;
         unfailed = unfails Work.Opening r fine;
-        none = ap (λ ts. ts.items) txns ∙ j.none;
-        most = omega (arith, lt);
-      },
-    )
-
-    -- the lines are to come
-    ends : next ≡ None → (w' : World) × Reached tell start lines 0 new w'
-    ends is = (
-      record { told = then-at None; core = m.core },
-      record {
-        there = there None is;
+        none = ap (λ ts. ts.items) txns ∙ o.none;
+      }
+      stands None goes = record {
+        there = there None goes;
         rests = refl;
         idle = refl;
         unfailed = unfails Work.Opening r fine;
@@ -300,30 +281,46 @@ module _ {G : Type 0} (tell : Telling G) (old new : Driver G) (i : ℕ) (same : 
           insts = ap (λ (k : Known). k.insts) known-is;
           pages = ap (λ (k : Known). k.pages) known-is;
           names = λ q. sym (ap (λ (k : Known). k.names q) known-is);
-          count = ap (λ ts. length ts.items) txns ∙ ap (λ ts. length ts) j.none;
+          count = ap (λ ts. length ts.items) txns ∙ ap (λ ts. length ts) o.none;
         };
-      },
-    )
+      }
 
-    pub joined : (w' : World) × HaveJoined tell start lines new (i + 1) w'
-    joined = go (ltb i w.told.known.insts) refl
-      where
-        insts_are : w.told.known.insts ≡ new.insts
-        insts_are = ap (λ (k : Known). k.insts) known-is
-
-        go : (b : Bool) → ltb i w.told.known.insts ≡ b → (w' : World) × HaveJoined tell start lines new (i + 1) w'
-        go true is =
-            let lt : i < w.told.known.insts = ltb-true i w.told.known.insts is in
-            let h = goes (omega (arith, lt, insts_are)) (join-goes w.told.known m.core.scene.state i r true is) in (h.0, inl h.1)
-        go false is =
-            let le : w.told.known.insts ≤ i = ltb-false i w.told.known.insts is in
-            let h = ends (join-goes w.told.known m.core.scene.state i r false is) in (h.0, inr (omega (arith, le, insts_are), h.1))
+  pub opens-by : is_failed r ≡ false → OpensBy tell old new e r
+  opens-by fine start w lines c o is =
+      (then-at start w lines c o is (next start w lines c o is), stands start w lines c o is fine (next start w lines c o is) refl)
 
 -- a device failed in it
-pub broken : {G : Type 0} (tell : Telling G) (old new : Driver G) (i : ℕ)
-    → Noted tell old.hall new.hall (record { session = 0; line = 0; event = event.Join i; reply = reply.Refused R.Failed }) → IsSame old new
-    → new.txns ≡ old.txns → JoinBreaks tell old new i
-broken {G} tell old new i n same txns start w lines j = there-after tell old new i same txns (reply.Refused R.Failed) n start w lines j
+pub breaks-by : {G : Type 0} (tell : Telling G) (old new : Driver G) (e : Event) → IsAlone e → IsSame old new → new.txns ≡ old.txns
+    → Noted tell old.hall new.hall (record { session = 0; line = 0; event = e; reply = reply.Refused R.Failed }) → BreaksBy tell old new e
+breaks-by {G} tell old new e alone same txns n start w lines c o is =
+    there-after tell old new e alone same txns (reply.Refused R.Failed) n start w lines c o is
+
+-- ---- a join
+
+module _ {G : Type 0} (tell : Telling G) (old new : Driver G) (i : ℕ) where
+  pub joined : (r : Reply) → OpensBy tell old new (event.Join i) r → IsSame old new → Joins tell old new i
+  joined r by same start w lines j = go (ltb i w.told.known.insts) refl
+    where
+      after : (w' : World) × OpensOn tell start lines new (goes_on w'.core w.told.known Work.Opening (Cursor.Joins i) r) w'
+      after = by start w lines (Cursor.Joins i) j.opens refl
+
+      insts_are : w.told.known.insts ≡ new.insts
+      insts_are = ap (λ (k : Known). k.insts) j.opens.known ∙ sym same.0
+
+      on : (b : Bool) → ltb i w.told.known.insts ≡ b
+          → OpensOn tell start lines new (cond {A = Option Cursor} b (Some (Cursor.Joins (i + 1))) (leavers after.0.core 1 8)) after.0
+      on b is = subst (λ (o : Option Cursor). OpensOn tell start lines new o after.0) (join-goes w.told.known after.0.core i r b is) after.1
+
+      go : (b : Bool) → ltb i w.told.known.insts ≡ b → (w' : World) × HaveJoined tell start lines new (i + 1) w'
+      go true is =
+          let lt : i < w.told.known.insts = ltb-true i w.told.known.insts is in
+          (after.0, inl (record { opens = on true is; most = omega (arith, lt, insts_are) }))
+      go false is =
+          let le : w.told.known.insts ≤ i = ltb-false i w.told.known.insts is in
+          (after.0, inr (omega (arith, le, insts_are), on false is))
+
+  pub broken : BreaksBy tell old new (event.Join i) → JoinBreaks tell old new i
+  broken by start w lines j = by start w lines (Cursor.Joins i) j.opens refl
 
 -- ---- one join after another
 
@@ -346,12 +343,12 @@ module _ {G : Type 0} (tell : Telling G) (old here : Driver G) (i : ℕ) (on : I
       joins-next joins start w lines j = let h = joins-here start w lines j in joins start h.0 lines h.1
 
       pub joins-some : StaysIn tell here.hall new.hall → OpensSome tell old new 1
-      joins-some stays_in start w lines j = let h = joins-here start w lines j in (h.0, stays_in start h.0 h.1.there)
+      joins-some stays_in start w lines j = let h = joins-here start w lines j in (h.0, stays_in start h.0 h.1.opens.there)
 
       pub joins-broken : JoinBreaks tell here new i → JoinBreaks tell old new 1
       joins-broken breaks start w lines j = let h = joins-here start w lines j in breaks start h.0 lines h.1
 
-  -- behind the last one the lines are to come
+  -- behind the last one pools are to be emptied
   pub joins-all : here.insts < i → JoinsAll tell old here 1
   joins-all lt start w lines j =
       let h = on start w lines j in (h.0, ⊎_elim (λ k. let le = k.most in absurd (omega (arith, lt, le))) (λ late. late.1) h.1)
@@ -414,13 +411,15 @@ module _ {G : Type 0} (tell : Telling G) (old : Driver G) (empty : old.hall.book
   module _ (mid : Driver G) (same : IsSame old mid) (some : 1 ≤ old.insts) (on : Restarts tell old mid 1 9) where
     joins-first : (start : Start G) (w : World) (lines : List Line) → RestartsNext tell start lines mid 9 w → JoinsNext tell start lines mid 1 w
     joins-first start w lines at = record {
-      there = at.there;
-      known = at.known;
-      left = at.left;
-      at = at.at;
-      idle = at.idle;
-      unfailed = at.unfailed;
-      none = at.none;
+      opens = record {
+        there = at.there;
+        known = at.known;
+        left = at.left;
+        at = at.at;
+        idle = at.idle;
+        unfailed = at.unfailed;
+        none = at.none;
+      };
       most = let insts = same.0 in omega (arith, insts, some);
     }
 
@@ -442,9 +441,31 @@ module _ {G : Type 0} (tell : Telling G) (old : Driver G) (empty : old.hall.book
       joins-fail breaks = joined-from (λ start lines w. IsIn tell start new.hall w × (w.told.failed ≡ true))
           (λ start w lines at. let h = breaks start w lines at in (h.0, (h.1, h.2)))
 
-      pub opened-all : JoinsAll tell mid new 1 → Opened (λ start lines w. Reached tell start lines 0 new w)
-      opened-all all = joined-from (λ start lines w. Reached tell start lines 0 new w) all
+    module _ (last : Driver G) (all : JoinsAll tell mid last 1) where
+      pub pools-open : IsRestarting tell old 1 → OpensAt tell last (pools_from 1)
+      pools-open a =
+          let j = joins-open a in
+          let h = all j.start j.world j.lines j.joins in
+          record { start = j.start; world = h.0; lines = j.lines; on = h.1 }
 
-      pub reached-keeps : Opened (λ start lines w. Reached tell start lines 0 new w) → (start : Core) → Keeps tell start old.hall
-          → Keeps tell start new.hall
-      reached-keeps all = opened-keeps new (λ start lines rig is k. let h = all start lines rig is k in (h.0, h.1.there))
+      emptied-from : (P : Start G → List Line → World → Type 0)
+          → ((start : Start G) (w : World) (lines : List Line) → AllJoined tell start lines last w → (w' : World) × P start lines w') → Opened P
+      emptied-from P more = joined-from P (λ start w lines j. let h = all start w lines j in more start h.0 lines h.1)
+
+      module _ (new : Driver G) where
+        pub pools-lost : StopsIn tell last new (pools_from 1) → Opened (λ start lines w. IsIn tell start new.hall w)
+        pools-lost lost = emptied-from (λ start lines w. IsIn tell start new.hall w) lost
+
+        pub pools-fail : BreaksIn tell last new (pools_from 1) → Fails new
+        pools-fail breaks = emptied-from (λ start lines w. IsIn tell start new.hall w × (w.told.failed ≡ true))
+            (λ start w lines on. let h = breaks start w lines on in (h.0, (h.1, h.2)))
+
+        -- where no pool is left to be emptied, the lines are to come
+        pub opened-all : OpensTo tell last new (pools_from 1) (pools_from 9) → Opened (λ start lines w. Reached tell start lines 0 new w)
+        opened-all empty = emptied-from (λ start lines w. Reached tell start lines 0 new w) (λ start w lines on.
+            let h = empty start w lines on in
+            (h.0, subst (λ (o : Option Cursor). OpensOn tell start lines new o h.0) (pools-none h.0.core) h.1))
+
+        pub reached-keeps : Opened (λ start lines w. Reached tell start lines 0 new w) → (start : Core) → Keeps tell start old.hall
+            → Keeps tell start new.hall
+        reached-keeps all_ = opened-keeps new (λ start lines rig is k. let h = all_ start lines rig is k in (h.0, h.1.there))

@@ -89,7 +89,7 @@ module _ {G : Type 0} (tell : Telling G) (of : Owner) (new : Hall G) (start : St
       }
   refused-ends r there = record { reply = r; core = core; there = unmarked r _ (unfails work r refl) there }
 
-  pub step-goes : (r : Reply) → At r (goes_on core.scene.state w.told.known work (Cursor.Steps i) r)
+  pub step-goes : (r : Reply) → At r (goes_on core w.told.known work (Cursor.Steps i) r)
       → GoesAs tell new of work rest i start w (ending_as r of.is_opening)
   step-goes reply.Step there = (core, unmarked reply.Step (Some (Cursor.Steps i)) (unfails work reply.Step refl) there)
   step-goes reply.Finished there = record {
@@ -99,12 +99,12 @@ module _ {G : Type 0} (tell : Telling G) (of : Owner) (new : Hall G) (start : St
   }
   step-goes r there = refused-ends r there
 
-  pub begin-refused : (r : Reply) → is_did r ≡ false → At r (goes_on core.scene.state w.told.known work (Cursor.Recovers i) r)
+  pub begin-refused : (r : Reply) → is_did r ≡ false → At r (goes_on core w.told.known work (Cursor.Recovers i) r)
       → EndsAs tell new of work rest i start w (refused_as r of.is_opening)
   begin-refused reply.Did refused there = absurd (cc)
   begin-refused r refused there = refused-ends r there
 
-  pub begin-goes : (r : Reply) → is_did r ≡ true → At r (goes_on core.scene.state w.told.known work (Cursor.Recovers i) r)
+  pub begin-goes : (r : Reply) → is_did r ≡ true → At r (goes_on core w.told.known work (Cursor.Recovers i) r)
       → IsIn tell start new (at_steps w work rest i core)
   begin-goes reply.Did did there = unmarked reply.Did (Some (Cursor.Steps i)) (unfails work reply.Did refl) there
   begin-goes r did there = absurd (cc)
@@ -167,7 +167,7 @@ module _ {G : Type 0} (tell : Telling G) (of : Owner) (old new : Hall G) (c : Cu
     m = moved tell old new entry n start w i
 
     pub done-there : is_need r ≡ false
-        → IsIn tell start new (record { told = marked work r (followed w.told work rest r (goes_on m.core.scene.state w.told.known work c r)); core = m.core })
+        → IsIn tell start new (record { told = marked work r (followed w.told work rest r (goes_on m.core w.told.known work c r)); core = m.core })
     done-there plain = m.there _ (own-done w.told.known work rest c e w due.stands m.core entry due.session due.line refl (inl plain))
 
   -- nothing came
@@ -184,7 +184,7 @@ module _ {G : Type 0} (tell : Telling G) (of : Owner) (i : ℕ) (old mid : Hall 
   began-there : (start : Start G) (w : World) (work : Work) (rest : List Work) (k : IsIn tell start old w)
       (due : IsDueOf of work rest (Cursor.Recovers i) (event.RecoverBegin i i) w)
       → (core : Core) × IsIn tell start mid
-      (record { told = marked work r (followed w.told work rest r (goes_on core.scene.state w.told.known work (Cursor.Recovers i) r)); core = core })
+      (record { told = marked work r (followed w.told work rest r (goes_on core w.told.known work (Cursor.Recovers i) r)); core = core })
   began-there start w work rest k due =
       let at = m tell of old mid (Cursor.Recovers i) (event.RecoverBegin i i) r n start w work rest k due in (
         at.core,

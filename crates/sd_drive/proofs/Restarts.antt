@@ -2,8 +2,10 @@
 -- of the first has changed page 0, which its recovery needs. Which entries are told of them: the first instance recovers itself, with a
 -- pull of the page, and then the second; the first joins, and the second is refused for want of room in its log. And the opening of such a
 -- complex, the first instance of which alone is down: it recovers itself, and then both join; a device that fails in the pull ends it.
-use Rattle.std.proofs.Common.{inl, inr, ℕ, Bool, true, false, eqb, cond, List, [], ◌∷◌, refl}
-use Rattle.std.specs.Prelude.{None}
+-- And an opening behind whose join the pool of an instance that isn't up is emptied.
+use Rattle.std.proofs.Common.{◌≡◌, inl, inr, ℕ, Bool, true, false, eqb, cond, List, [], ◌∷◌, refl, sym, ap, ◌∙◌, arith, eqb-true}
+use Rattle.std.specs.Option.{option_or}
+use Rattle.std.specs.Prelude.{Option, None, Some}
 use Rattle.sd_base.specs.declared.ids.TxnId.{TxnId}
 use Rattle.sd_base.specs.declared.place.Mode.TheVariants as modes
 use Rattle.sd_base.specs.declared.place.Place.TheVariants as places
@@ -20,12 +22,13 @@ use Rattle.sd_model.specs.State.{State, fresh}
 use Rattle.sd_script.specs.declared.line.Form.{Form}
 use Rattle.sd_script.specs.declared.line.Form.TheVariants as form
 use Rattle.sd_script.specs.declared.line.Line.{Line}
-use Rattle.sd_pagelock.specs.Places.{Entry as Place}
+use Rattle.sd_pagelock.specs.Places.{Entry as Place, holds}
 use Rattle.sd_world.specs.Pages.{Pages, placed}
 use Rattle.sd_world.specs.PageCauses.{IsNeededPage}
 use Rattle.sd_world.specs.Serving.{Core}
-use Rattle.sd_drive.specs.Driving.{Cursor, IsTold, Progress, Tells, Work, done, stays, untold}
+use Rattle.sd_drive.specs.Driving.{Cursor, IsTold, Progress, Tells, Work, done, followed, is_up, leaver, leavers, marked, stays, untold}
 use Rattle.sd_drive.specs.Pulls.{Pull}
+use Rattle.sd_drive.proofs.Pools.{IsIdle, copy-here, idle-empties, idle-leavers, leaver-by, leavers-more}
 
 abbrev line : ℕ → Form → Line
 line number f = record { number = number; session = 0; form = f }
@@ -189,11 +192,98 @@ opens6 = (refl, (refl, refl, refl, refl))
 abbrev o7 : Progress
 o7 = done o6 Work.Opening [] (reply.Joined 1)
 
+-- whoever has a page is up, so nothing goes
+at-1 : (q : ℕ) (b : Bool) → eqb 0 q ≡ b → (j : ℕ) → eqb 1 j ≡ false → holds ((page true).entry q) j ≡ false
+at-1 q true is j other = ap (λ (b : Bool). holds (cond {A = Place} b (Place.Excl 1 true) Place.Free) j) is ∙ other
+at-1 q false is j other = ap (λ (b : Bool). holds (cond {A = Place} b (Place.Excl 1 true) Place.Free) j) is
+
+up-or-none : (j : ℕ) → IsIdle (core S.Up S.Up (page true)) j
+up-or-none j = go (eqb 1 j) refl
+  where
+    go : (b : Bool) → eqb 1 j ≡ b → IsIdle (core S.Up S.Up (page true)) j
+    go true is = inl (ap (λ (k : ℕ). is_up ((state S.Up S.Up).inst k).status) (sym (eqb-true 1 j is)))
+    go false is = inr (λ q. at-1 q (eqb 0 q) refl j is)
+
 opens7 : Tells (core S.Up S.Clean (page true)) (core S.Up S.Up (page true)) o6 (helps (event.Join 2) (reply.Joined 1)) o7
-opens7 = (refl, (refl, refl, refl, refl))
+opens7 = (
+  refl,
+  (
+    refl,
+    refl,
+    refl,
+    sym (ap (λ (o : Option Cursor). marked Work.Opening (reply.Joined 1) (followed o6 Work.Opening [] (reply.Joined 1) o))
+        (idle-leavers (core S.Up S.Up (page true)) up-or-none 1 8)),
+  ),
+)
 
 all-opened : IsTold (state S.Up S.Up) o7
 all-opened = (refl, refl)
+
+-- ---- pools that are emptied: instance 2 has recovered, and has page 0 changed, but this run has instance 1 alone
+
+abbrev kept : Bool → Pages
+kept dirty = placed 0 (Place.Excl 2 dirty) none
+
+abbrev p1 : Progress
+p1 = stays (untold 1 1 []) Work.Opening [] (Cursor.Joins 1) Pull.Idle
+
+-- behind the join the page is written
+abbrev p2 : Progress
+p2 = stays p1 Work.Opening [] (Cursor.Flushes 2 0) Pull.Idle
+
+first-goes : leavers (core S.Up S.Restarting (kept true)) 1 8 ≡ Some (Cursor.Flushes 2 0)
+first-goes =
+    let w = core S.Up S.Restarting (kept true) in
+    leavers-more w 1 8 7 refl ∙ leavers-more w 2 7 6 refl
+    ∙ ap (λ (o : Option ℕ). option_or (leaver-by w 2 false o) (leavers w 3 6)) (copy-here w.pages 2 0 (omega arith) refl)
+
+empties1 : Tells (core S.Clean S.Restarting (kept true)) (core S.Up S.Restarting (kept true)) p1 (helps (event.Join 1) (reply.Joined 2)) p2
+empties1 = (
+  refl,
+  (
+    refl,
+    refl,
+    refl,
+    sym (ap (λ (o : Option Cursor). marked Work.Opening (reply.Joined 2) (followed p1 Work.Opening [] (reply.Joined 2) o))
+        first-goes),
+  ),
+)
+
+-- and goes, behind which nothing is left in any pool
+abbrev p3 : Progress
+p3 = stays p2 Work.Opening [] (Cursor.Evicts 2 0) Pull.Idle
+
+empties2 : Tells (core S.Up S.Restarting (kept true)) (core S.Up S.Restarting (kept false)) p2 (helps (event.Flush 2 0) reply.Did) p3
+empties2 = (refl, (refl, refl, refl, refl))
+
+abbrev p4 : Progress
+p4 = done p3 Work.Opening [] reply.Did
+
+empties3 : Tells (core S.Up S.Restarting (kept false)) (core S.Up S.Restarting none) p3 (helps (event.Evict 2 0) reply.Did) p4
+empties3 = (
+  refl,
+  (
+    refl,
+    refl,
+    refl,
+    sym (ap (λ (o : Option Cursor). marked Work.Opening reply.Did (followed p3 Work.Opening [] reply.Did o))
+        (idle-empties (core S.Up S.Restarting none) (λ j. inr (λ q. refl)) 2 1)),
+  ),
+)
+
+all-emptied : IsTold (state S.Up S.Restarting) p4
+all-emptied = (refl, refl)
+
+-- a page that isn't changed goes at once; one of an instance that is up stays
+goes-at-once : leaver (core S.Up S.Restarting (kept false)) 2 0 ≡ Some (Cursor.Evicts 2 0)
+goes-at-once =
+    let w = core S.Up S.Restarting (kept false) in
+    ap (leaver-by w 2 false) (copy-here w.pages 2 0 (omega arith) refl)
+
+up-keeps : leaver (core S.Up S.Up (kept true)) 2 0 ≡ None
+up-keeps = refl
+
+-- ---- a pull in vain, and a fault
 
 -- where the ask finds no frame to be had, the step is refused once more, and the opening goes on
 abbrev vain : Progress

@@ -59,16 +59,16 @@ lister-same status m insts most same = ap (λ (o : Option ℕ). unwrap_or o 1)
 -- ---- how a list goes on
 
 -- it lists up to the last page
-goes : (m : State) (known : Known) (line : Line) (i p : ℕ) (r : Reply) → is_rows r ≡ true
-    → goes_on m known (Work.Do line) (Cursor.Lists i p) r ≡ cond {A = Option Cursor} (ltb (p + 1) known.pages) (Some (Cursor.Lists i (p + 1))) None
-goes m known line i p (reply.Rows rows) yes_ = refl
-goes m known line i p r yes_ = absurd (cc)
+goes : (w : Core) (known : Known) (line : Line) (i p : ℕ) (r : Reply) → is_rows r ≡ true
+    → goes_on w known (Work.Do line) (Cursor.Lists i p) r ≡ cond {A = Option Cursor} (ltb (p + 1) known.pages) (Some (Cursor.Lists i (p + 1))) None
+goes w known line i p (reply.Rows rows) yes_ = refl
+goes w known line i p r yes_ = absurd (cc)
 
 -- or up to a refusal
-goes-not : (m : State) (known : Known) (line : Line) (i p : ℕ) (r : Reply) → is_rows r ≡ false
-    → goes_on m known (Work.Do line) (Cursor.Lists i p) r ≡ None
-goes-not m known line i p (reply.Rows rows) no_ = absurd (cc)
-goes-not m known line i p r no_ = refl
+goes-not : (w : Core) (known : Known) (line : Line) (i p : ℕ) (r : Reply) → is_rows r ≡ false
+    → goes_on w known (Work.Do line) (Cursor.Lists i p) r ≡ None
+goes-not w known line i p (reply.Rows rows) no_ = absurd (cc)
+goes-not w known line i p r no_ = refl
 
 table-names : (f : Form) → f ≡ form.Table → (r : Reply) (names : Names) → named_by f r names ≡ names
 table-names f is r names = ap (λ (x : Form). named_by x r names) is
@@ -119,7 +119,7 @@ module _ {G : Type 0} (tell : Telling G) (start : Start G) (lines : List Line) (
   module _ (new : Driver G) (p : ℕ) (w1 : World) (due : IsDueFor line.session line.number (event.List i p) known line rest (Cursor.Lists i p) w1)
       (came : Came tell new.hall line.session line.number (event.List i p) line rest (Cursor.Lists i p) start w1) where
     abbrev next : Option Cursor
-    next = goes_on came.core.scene.state w1.told.known (Work.Do line) (Cursor.Lists i p) came.reply
+    next = goes_on came.core w1.told.known (Work.Do line) (Cursor.Lists i p) came.reply
 
     pages-known : w1.told.known.pages ≡ old.pages
     pages-known = ap (λ (k : Known). k.pages) due.stands.known_is ∙ r.knows.pages
@@ -127,9 +127,8 @@ module _ {G : Type 0} (tell : Telling G) (start : Start G) (lines : List Line) (
     -- another page is to come
     pub listed-on : is_rows came.reply ≡ true → p + 1 < old.pages → Lists-next new (p + 1)
     listed-on rows lt =
-        let m = came.core.scene.state in
         let goes_there : next ≡ Some (Cursor.Lists i (p + 1)) =
-        goes m w1.told.known line i p came.reply rows
+        goes came.core w1.told.known line i p came.reply rows
         ∙ ap (λ (b : Bool). cond {A = Option Cursor} b (Some (Cursor.Lists i (p + 1))) None) (ap (ltb (p + 1)) pages-known ∙ lt-ltb (p + 1) old.pages lt) in (
           record { told = stays w1.told (Work.Do line) rest (Cursor.Lists i (p + 1)) Pull.Idle; core = came.core },
           goes-there tell start lines n line new (event.List i p) (Cursor.Lists i p) w1 came (Some (Cursor.Lists i (p + 1))) goes_there,
@@ -155,12 +154,12 @@ module _ {G : Type 0} (tell : Telling G) (start : Start G) (lines : List Line) (
     -- it was the last page
     pub listed-last : is_rows came.reply ≡ true → old.pages ≤ p + 1 → IsSame old new → new.txns ≡ old.txns
         → (w' : World) × Reached tell start lines (n + 1) new w'
-    listed-last rows le = ended (goes came.core.scene.state w1.told.known line i p came.reply rows
+    listed-last rows le = ended (goes came.core w1.told.known line i p came.reply rows
         ∙ ap (λ (b : Bool). cond {A = Option Cursor} b (Some (Cursor.Lists i (p + 1))) None) (ap (ltb (p + 1)) pages-known ∙ le-ltb (p + 1) old.pages le))
 
     -- or the list was refused
     pub listed-not : is_rows came.reply ≡ false → IsSame old new → new.txns ≡ old.txns → (w' : World) × Reached tell start lines (n + 1) new w'
-    listed-not none = ended (goes-not came.core.scene.state w1.told.known line i p came.reply none)
+    listed-not none = ended (goes-not came.core w1.told.known line i p came.reply none)
 
 -- ---- as the code has it
 

@@ -39,16 +39,16 @@ tells-at w w' work rest c x then unfailed first at tells = (
 )
 
 -- the work's own event, with a reply that doesn't want a page, or wants it in vain
-own-plain : (m m' : State) (at : Progress) (work : Work) (rest : List Work) (c : Cursor) (e : Event) (r : Reply) → is_need r ≡ false
-    → Own m m' at work rest c e r (marked work r (followed at work rest r (goes_on m' at.known work c r)))
-own-plain m m' at work rest c e (reply.Refused (R.NeedPage place)) plain = absurd (cc)
-own-plain m m' at work rest c e r plain = refl
+own-plain : (m : State) (w' : Core) (at : Progress) (work : Work) (rest : List Work) (c : Cursor) (e : Event) (r : Reply) → is_need r ≡ false
+    → Own m w' at work rest c e r (marked work r (followed at work rest r (goes_on w' at.known work c r)))
+own-plain m w' at work rest c e (reply.Refused (R.NeedPage place)) plain = absurd (cc)
+own-plain m w' at work rest c e r plain = refl
 
-own-in-vain : (m m' : State) (at : Progress) (work : Work) (rest : List Work) (c : Cursor) (e : Event) (r : Reply)
+pub own-in-vain : (m : State) (w' : Core) (at : Progress) (work : Work) (rest : List Work) (c : Cursor) (e : Event) (r : Reply)
     → (at.pull ≡ Pull.Ends) ⊎ (is_some (puller m e) ≡ false)
-    → Own m m' at work rest c e r (marked work r (followed at work rest r (goes_on m' at.known work c r)))
-own-in-vain m m' at work rest c e (reply.Refused (R.NeedPage place)) vain = inr (vain, refl)
-own-in-vain m m' at work rest c e r vain = refl
+    → Own m w' at work rest c e r (marked work r (followed at work rest r (goes_on w' at.known work c r)))
+own-in-vain m w' at work rest c e (reply.Refused (R.NeedPage place)) vain = inr (vain, refl)
+own-in-vain m w' at work rest c e r vain = refl
 
 -- a work without a fault is borne
 unfailed-borne : (work : Work) (failed : Bool) → failed ≡ false → IsBorne work failed
@@ -59,24 +59,24 @@ unfailed-borne (Work.Do line) failed no_ = no_
 
 module _ (known : Known) (work : Work) (rest : List Work) (c : Cursor) (e : Event) (w : World) (s : Stands known work rest c e w)
     (w' : Core) (x : Entry) (session : x.session ≡ session_of work) (number : x.line ≡ number_of work) (is : x.event ≡ e) where
-  tells-own : (then : Progress) → Own w.core.scene.state w'.scene.state w.told work rest c x.event x.reply then → Tells w.core w' w.told x then
+  tells-own : (then : Progress) → Own w.core.scene.state w' w.told work rest c x.event x.reply then → Tells w.core w' w.told x then
   tells-own then own = tells-at w w' work rest c x then s.unfailed s.first s.at
       (subst (λ (p : Pull). TellsAt (is_pulling p) w.core w' w.told work rest c x then) (sym s.idle)
       (session, number, subst (λ (k : Known). event_at k work c ≡ Some x.event) (sym s.known_is) (s.event ∙ ap (λ (y : Event). Some y) (sym is)), own))
 
   -- it is done, or goes on
   pub own-done : is_need x.reply ≡ false ⊎ ((m : State) → is_some (puller m e) ≡ false)
-      → Tells w.core w' w.told x (marked work x.reply (followed w.told work rest x.reply (goes_on w'.scene.state w.told.known work c x.reply)))
+      → Tells w.core w' w.told x (marked work x.reply (followed w.told work rest x.reply (goes_on w' w.told.known work c x.reply)))
   own-done plain = tells-own _ (⊎_elim
-      (λ (h : is_need x.reply ≡ false). own-plain w.core.scene.state w'.scene.state w.told work rest c x.event x.reply h)
-      (λ (h : (m : State) → is_some (puller m e) ≡ false). own-in-vain w.core.scene.state w'.scene.state w.told work rest c x.event x.reply
+      (λ (h : is_need x.reply ≡ false). own-plain w.core.scene.state w' w.told work rest c x.event x.reply h)
+      (λ (h : (m : State) → is_some (puller m e) ≡ false). own-in-vain w.core.scene.state w' w.told work rest c x.event x.reply
       (inr (subst (λ (y : Event). is_some (puller w.core.scene.state y) ≡ false) (sym is) (h w.core.scene.state))))
       plain)
 
   module _ (for : Puller) (pulls : puller w.core.scene.state e ≡ Some for) (p : ℕ)
       (page : IsPulled w.core.scene.state e p) (need : is_need x.reply ≡ true) where
     own-asks : (r : Reply) → is_need r ≡ true
-        → Own w.core.scene.state w'.scene.state w.told work rest c e r (stays w.told work rest c (Pull.Asks p))
+        → Own w.core.scene.state w' w.told work rest c e r (stays w.told work rest c (Pull.Asks p))
     own-asks (reply.Refused (R.NeedPage place)) needs =
         inl (s.idle, ap (λ (o : Option Puller). is_some o) pulls, (p, page, refl))
     own-asks (reply.Refused R.Failed) needs = absurd (cc)
@@ -85,7 +85,7 @@ module _ (known : Known) (work : Work) (rest : List Work) (c : Cursor) (e : Even
     -- it wants a page that is asked for now
     pub own-pulls : Tells w.core w' w.told x (stays w.told work rest c (Pull.Asks p))
     own-pulls = tells-own (stays w.told work rest c (Pull.Asks p))
-        (subst (λ (y : Event). Own w.core.scene.state w'.scene.state w.told work rest c y x.reply (stays w.told work rest c (Pull.Asks p))) (sym is)
+        (subst (λ (y : Event). Own w.core.scene.state w' w.told work rest c y x.reply (stays w.told work rest c (Pull.Asks p))) (sym is)
         (own-asks x.reply need))
 
     pub pulling-begins : w'.scene.state ≡ w.core.scene.state
@@ -181,18 +181,18 @@ followed-stays at x rest c pull r (Some d) = refl
 module _ (at : World) (work : Work) (rest : List Work) (c : Cursor) (e : Event) (for : Puller) (pull : Pull) (w : World)
     (s : Pulling at work rest c e for pull w) (w' : Core) (x : Entry) where
   abbrev again : Progress
-  again = marked work x.reply (followed at.told work rest x.reply (goes_on w'.scene.state at.told.known work c x.reply))
+  again = marked work x.reply (followed at.told work rest x.reply (goes_on w' at.told.known work c x.reply))
 
   abbrev there : Progress
   there = stays at.told work rest c pull
 
   own-now : x.event ≡ e → (is_need x.reply ≡ false) ⊎ (pull ≡ Pull.Ends)
-      → Own w.core.scene.state w'.scene.state there work rest c x.event x.reply again
-  own-now is done_now = subst (Own w.core.scene.state w'.scene.state there work rest c x.event x.reply)
-      (ap (marked work x.reply) (followed-stays at.told work rest c pull x.reply (goes_on w'.scene.state at.told.known work c x.reply)))
+      → Own w.core.scene.state w' there work rest c x.event x.reply again
+  own-now is done_now = subst (Own w.core.scene.state w' there work rest c x.event x.reply)
+      (ap (marked work x.reply) (followed-stays at.told work rest c pull x.reply (goes_on w' at.told.known work c x.reply)))
       (⊎_elim
-      (λ (h : is_need x.reply ≡ false). own-plain w.core.scene.state w'.scene.state there work rest c x.event x.reply h)
-      (λ (h : pull ≡ Pull.Ends). own-in-vain w.core.scene.state w'.scene.state there work rest c x.event x.reply (inl h))
+      (λ (h : is_need x.reply ≡ false). own-plain w.core.scene.state w' there work rest c x.event x.reply h)
+      (λ (h : pull ≡ Pull.Ends). own-in-vain w.core.scene.state w' there work rest c x.event x.reply (inl h))
       done_now)
 
   pub own-again : s.failed ≡ false → is_pulling pull ≡ false → x.session ≡ session_of work → x.line ≡ number_of work → x.event ≡ e

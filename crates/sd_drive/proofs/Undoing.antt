@@ -8,10 +8,9 @@ use Rattle.sd_model.specs.declared.event.Event.TheVariants as event
 use Rattle.sd_model.specs.declared.event.Reply.{Reply}
 use Rattle.sd_model.specs.declared.event.Reply.TheVariants as reply
 use Rattle.sd_model.specs.Acts.{live}
-use Rattle.sd_model.specs.State.{State}
 use Rattle.sd_model.specs.Step.{Step}
 use Rattle.sd_script.specs.declared.line.Line.{Line}
-use Rattle.sd_world.specs.Serving.{Telling}
+use Rattle.sd_world.specs.Serving.{Core, Telling}
 use Rattle.sd_drive.specs.declared.driver.Driver.{Driver}
 use Rattle.sd_drive.specs.Driving.{Cursor, Known, Work, World, goes_on, stays, works_of}
 use Rattle.sd_drive.specs.Lines.{rolls_back}
@@ -28,9 +27,9 @@ step-is : (r : Reply) → is_step r ≡ true → r ≡ reply.Step
 step-is reply.Step step = refl
 step-is r step = absurd (cc)
 
-undo-ends : (m : State) (known : Known) (line : Line) (r : Reply) → is_step r ≡ false → goes_on m known (Work.Do line) Cursor.Undoes r ≡ None
-undo-ends m known line reply.Step step = absurd (cc)
-undo-ends m known line r step = refl
+undo-ends : (w : Core) (known : Known) (line : Line) (r : Reply) → is_step r ≡ false → goes_on w known (Work.Do line) Cursor.Undoes r ≡ None
+undo-ends w known line reply.Step step = absurd (cc)
+undo-ends w known line r step = refl
 
 -- ---- an undo
 
@@ -75,7 +74,7 @@ module _ {G : Type 0} (tell : Telling G) (old : Driver G) (line : Line) (t : Txn
         -- it was the last one
         ended : is_step it-came.reply ≡ false → (w' : World) × Reached tell start lines (n + 1) new w'
         ended step = came-ended tell start lines n line new (event.Undo t) Cursor.Undoes w it-came
-            (undo-ends it-came.core.scene.state w.told.known line it-came.reply step) (rolls-names line.form is-rolling) r.undoes.stands.unfailed knows
+            (undo-ends it-came.core w.told.known line it-came.reply step) (rolls-names line.form is-rolling) r.undoes.stands.unfailed knows
 
         stepped : is_step it-came.reply ≡ true → GoesBack it-came.mid.scene.state t × GoesBack it-came.core.scene.state t
             × (length (live (it-came.core.scene.state.part t).acts) + 1 ≡ length (live (it-came.mid.scene.state.part t).acts))
@@ -90,7 +89,7 @@ module _ {G : Type 0} (tell : Telling G) (old : Driver G) (line : Line) (t : Txn
               record { told = stays w.told (Work.Do line) rest Cursor.Undoes Pull.Idle; core = it-came.core },
               record {
                 there = goes-there tell start lines n line new (event.Undo t) Cursor.Undoes w it-came (Some Cursor.Undoes)
-                    (ap (goes_on m w.told.known (Work.Do line) Cursor.Undoes) (step-is it-came.reply step));
+                    (ap (goes_on it-came.core w.told.known (Work.Do line) Cursor.Undoes) (step-is it-came.reply step));
                 undoes = record {
                   stands = record {
                     known_is = refl;

@@ -1,5 +1,6 @@
 -- What is told of a script: which work is under way, how far it is, and which event is due after the replies so far.
-use Rattle.std.specs.Prelude.{◌≡◌, ◌⊎◌, ℕ, zero, suc, ◌+◌, ◌-◌, Bool, true, false, List, [], ◌∷◌, map, Option, None, Some, cond, is_some, ltb, not, option_map, unwrap_or}
+use Rattle.std.specs.Prelude.{◌≡◌, ◌⊎◌, ℕ, zero, suc, ◌+◌, ◌-◌, Bool, true, false, List, [], ◌∷◌, map, Option, None, Some, cond, is_some, ltb, not, option_map, unwrap_or, ◌&&◌}
+use Rattle.std.specs.Option.{option_or}
 use Rattle.sd_base.specs.declared.place.Status.{Status}
 use Rattle.sd_base.specs.declared.place.Status.TheVariants as S
 use Rattle.sd_base.specs.declared.refusal.Refusal.TheVariants as R
@@ -11,18 +12,21 @@ use Rattle.sd_model.specs.declared.event.Entry.{Entry}
 use Rattle.sd_model.specs.State.{State}
 use Rattle.sd_script.specs.declared.line.Form.{Form}
 use Rattle.sd_script.specs.declared.line.Line.{Line}
+use Rattle.sd_pagelock.specs.Places.{changed, holds}
+use Rattle.sd_world.specs.Pages.{Pages, is_duty}
 use Rattle.sd_world.specs.Serving.{Core, Turns}
 use Rattle.sd_drive.specs.Lines.{Names, Way, event_of, named_by, rolls_back, undo_of, way_of}
 use Rattle.sd_drive.specs.Pulls.{Pull, Puller, IsDue, IsPulled, helped, is_pulling, puller}
 
 -- what is done: the opening, told as line 0, and then line after line. In the opening each instance that is down recovers itself,
--- and then each instance joins.
+-- then each instance joins, and then the pool of each one that isn't up is emptied.
 pub data Work : Type 0 where
   Opening : Work
   Do : Line → Work
 
 -- where a work stands: its one event, or the first of a rollback; an undo of a rollback; the join of an instance; the list of a
--- page by an instance; the begin of an instance's recovery by itself; a step of it
+-- page by an instance; the begin of an instance's recovery by itself; a step of it; a page that is written by an instance that
+-- isn't up; the copy of such an instance that goes
 pub data Cursor : Type 0 where
   Once : Cursor
   Undoes : Cursor
@@ -30,6 +34,8 @@ pub data Cursor : Type 0 where
   Lists : ℕ → ℕ → Cursor
   Recovers : ℕ → Cursor
   Steps : ℕ → Cursor
+  Flushes : ℕ → ℕ → Cursor
+  Evicts : ℕ → ℕ → Cursor
 
 -- how many instances and pages there are, and the transaction of each name
 pub record Known : Type 0 where
@@ -126,6 +132,28 @@ abbrev pub opens : Option ℕ → Option Cursor
 opens None = Some (Cursor.Joins 1)
 opens (Some i) = Some (Cursor.Recovers i)
 
+-- the lowest page from p on of which i has a copy
+unfoldable pub next_copy : Pages → ℕ → ℕ → Option ℕ
+next_copy w i p = first_from (λ q. holds (w.entry q) i) p (1024 - p)
+
+-- a copy that goes: its instance writes it before, where it is changed and that one's to write
+abbrev pub lets_go : Pages → ℕ → ℕ → Cursor
+lets_go w i p = cond {A = Cursor} (changed (w.entry p) && is_duty i (w.entry p)) (Cursor.Flushes i p) (Cursor.Evicts i p)
+
+-- the next copy that i lets go, from page p on; an instance that is up keeps its own
+abbrev pub leaver : Core → ℕ → ℕ → Option Cursor
+leaver w i p = cond {A = Option Cursor} (is_up (w.scene.state.inst i).status) None
+    (option_map (λ (q : ℕ). lets_go w.pages i q) (next_copy w.pages i p))
+
+-- the next one of the n instances from i on
+unfoldable pub leavers : Core → ℕ → ℕ → Option Cursor
+leavers w i zero = None
+leavers w i (suc n) = option_or (leaver w i 0) (leavers w (i + 1) n)
+
+-- Where pools are emptied: the next copy of i from page p on, or else that of the instances behind i.
+abbrev pub empties : Core → ℕ → ℕ → Option Cursor
+empties w i p = option_or (leaver w i p) (leavers w (i + 1) (8 - i))
+
 -- where a work begins; one without an event begins nowhere
 abbrev pub start_of : State → Known → Work → Option Cursor
 start_of m known Work.Opening = opens (next_down m 1)
@@ -137,6 +165,8 @@ event_at known work (Cursor.Joins i) = Some (event.Join i)
 event_at known work (Cursor.Lists i p) = Some (event.List i p)
 event_at known work (Cursor.Recovers i) = Some (event.RecoverBegin i i)
 event_at known work (Cursor.Steps i) = Some (event.RecoverStep i)
+event_at known work (Cursor.Flushes i p) = Some (event.Flush i p)
+event_at known work (Cursor.Evicts i p) = Some (event.Evict i p)
 event_at known Work.Opening Cursor.Once = None
 event_at known (Work.Do line) Cursor.Once = event_of known.names line.form
 event_at known Work.Opening Cursor.Undoes = None
@@ -148,21 +178,24 @@ behind m Work.Opening i ended = opens (next_down m (i + 1))
 behind m (Work.Do line) i true = recovers (next_down m (i + 1))
 behind m (Work.Do line) i false = None
 
--- where a work goes on behind the reply; nowhere where it is done. In the opening the next instance has its turn behind a refusal;
--- a line ends at the first one. m: the state behind the reply
-abbrev pub goes_on : State → Known → Work → Cursor → Reply → Option Cursor
-goes_on m known work (Cursor.Recovers i) reply.Did = Some (Cursor.Steps i)
-goes_on m known work (Cursor.Recovers i) r = behind m work i false
-goes_on m known work (Cursor.Steps i) reply.Step = Some (Cursor.Steps i)
-goes_on m known work (Cursor.Steps i) reply.Finished = behind m work i true
-goes_on m known work (Cursor.Steps i) r = behind m work i false
-goes_on m known Work.Opening (Cursor.Joins i) r = cond {A = Option Cursor} (ltb i known.insts) (Some (Cursor.Joins (i + 1))) None
-goes_on m known (Work.Do line) Cursor.Once reply.Did = cond {A = Option Cursor} (rolls_back line.form) (Some Cursor.Undoes) None
-goes_on m known (Work.Do line) Cursor.Undoes reply.Step = Some Cursor.Undoes
-goes_on m known (Work.Do line) (Cursor.Lists i p) (reply.Rows rows) =
+-- Where a work goes on behind the reply; nowhere where it is done. In the opening the next instance has its turn behind a refusal, and the
+-- next copy; a line ends at the first one. w: the core behind the reply
+abbrev pub goes_on : Core → Known → Work → Cursor → Reply → Option Cursor
+goes_on w known work (Cursor.Recovers i) reply.Did = Some (Cursor.Steps i)
+goes_on w known work (Cursor.Recovers i) r = behind w.scene.state work i false
+goes_on w known work (Cursor.Steps i) reply.Step = Some (Cursor.Steps i)
+goes_on w known work (Cursor.Steps i) reply.Finished = behind w.scene.state work i true
+goes_on w known work (Cursor.Steps i) r = behind w.scene.state work i false
+goes_on w known Work.Opening (Cursor.Joins i) r = cond {A = Option Cursor} (ltb i known.insts) (Some (Cursor.Joins (i + 1))) (leavers w 1 8)
+goes_on w known Work.Opening (Cursor.Flushes i p) reply.Did = Some (Cursor.Evicts i p)
+goes_on w known Work.Opening (Cursor.Flushes i p) r = empties w i (p + 1)
+goes_on w known Work.Opening (Cursor.Evicts i p) r = empties w i (p + 1)
+goes_on w known (Work.Do line) Cursor.Once reply.Did = cond {A = Option Cursor} (rolls_back line.form) (Some Cursor.Undoes) None
+goes_on w known (Work.Do line) Cursor.Undoes reply.Step = Some Cursor.Undoes
+goes_on w known (Work.Do line) (Cursor.Lists i p) (reply.Rows rows) =
     cond {A = Option Cursor} (ltb (p + 1) known.pages) (Some (Cursor.Lists i (p + 1))) None
-goes_on m known (Work.Do line) (Cursor.Joins i) (reply.Joined epoch) = joins (next_absent m known.insts (i + 1))
-goes_on m known work c r = None
+goes_on w known (Work.Do line) (Cursor.Joins i) (reply.Joined epoch) = joins (next_absent w.scene.state known.insts (i + 1))
+goes_on w known work c r = None
 
 abbrev pub named_after : Work → Reply → Names → Names
 named_after Work.Opening r names = names
@@ -209,15 +242,15 @@ abbrev pub marked : Work → Reply → Progress → Progress
 marked Work.Opening r then = record then { failed = fails Work.Opening r }
 marked (Work.Do line) r then = then
 
--- The work's own event came. Where it needs a page that is pulled for it, and hasn't been in vain, the page is asked for. m, m':
--- the states before and behind it
-abbrev pub Own : State → State → Progress → Work → List Work → Cursor → Event → Reply → Progress → Type 0
-Own m m' at work rest c e (reply.Refused (R.NeedPage place)) then =
+-- The work's own event came. Where it needs a page that is pulled for it, and hasn't been in vain, the page is asked for. m: the
+-- state before it, w': the core behind it
+abbrev pub Own : State → Core → Progress → Work → List Work → Cursor → Event → Reply → Progress → Type 0
+Own m w' at work rest c e (reply.Refused (R.NeedPage place)) then =
     ((at.pull ≡ Pull.Idle) × (is_some (puller m e) ≡ true) × ((p : ℕ) × IsPulled m e p × (then ≡ stays at work rest c (Pull.Asks p))))
     ⊎ (((at.pull ≡ Pull.Ends) ⊎ (is_some (puller m e) ≡ false))
     × (then ≡ marked work (reply.Refused (R.NeedPage place))
-    (followed at work rest (reply.Refused (R.NeedPage place)) (goes_on m' at.known work c (reply.Refused (R.NeedPage place))))))
-Own m m' at work rest c e r then = then ≡ marked work r (followed at work rest r (goes_on m' at.known work c r))
+    (followed at work rest (reply.Refused (R.NeedPage place)) (goes_on w' at.known work c (reply.Refused (R.NeedPage place))))))
+Own m w' at work rest c e r then = then ≡ marked work r (followed at work rest r (goes_on w' at.known work c r))
 
 -- a helping event came, for whom the page is pulled
 abbrev pub Helps : Core → Progress → Work → List Work → Cursor → Option Puller → Entry → Progress → Type 0
@@ -236,7 +269,7 @@ abbrev pub TellsAt : Bool → Core → Core → Progress → Work → List Work 
 TellsAt true w w' at work rest c entry then = Helps w at work rest c (puller_of w.scene.state (event_at at.known work c)) entry then
 TellsAt false w w' at work rest c entry then =
     (entry.session ≡ session_of work) × (entry.line ≡ number_of work) × (event_at at.known work c ≡ Some entry.event)
-    × Own w.scene.state w'.scene.state at work rest c entry.event entry.reply then
+    × Own w.scene.state w' at work rest c entry.event entry.reply then
 
 abbrev pub TellsWork : Core → Core → Progress → Work → List Work → Option Cursor → Entry → Progress → Type 0
 TellsWork w w' at work rest None entry then = ⊥

@@ -8,5 +8,7 @@ pub mod Running
 pub mod Driven
 pub mod Operating
 pub mod Reaching
+pub mod Going
+pub mod Emptying
 pub mod Recoveries
 pub mod Recovering

@@ -40,7 +40,7 @@ pub record Came {G : Type 0} (tell : Telling G) (new : Hall G) (session number :
   pub turns : Turns mid e reply core
   pub acts : NoneActs w.core.scene.state mid.scene.state
   pub there : IsIn tell start new (record {
-    told = followed w.told (Work.Do line) rest reply (goes_on core.scene.state w.told.known (Work.Do line) c reply);
+    told = followed w.told (Work.Do line) rest reply (goes_on core w.told.known (Work.Do line) c reply);
     core = core;
   })
 

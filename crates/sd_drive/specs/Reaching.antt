@@ -16,7 +16,7 @@ use Rattle.sd_world.specs.Serving.{Core, Telling}
 use Rattle.sd_drive.specs.Bodies.{depth_in}
 use Rattle.sd_drive.specs.declared.driver.Driver.{Driver}
 use Rattle.sd_drive.specs.Driven.{IsIn}
-use Rattle.sd_drive.specs.Driving.{Cursor, Known, Work, World, ahead, cursor_in, next_absent, untold, works_of}
+use Rattle.sd_drive.specs.Driving.{Cursor, Known, Work, World, ahead, cursor_in, leavers, next_absent, untold, works_of}
 use Rattle.sd_drive.specs.Operating.{IsDueFor}
 use Rattle.sd_drive.specs.Lines.{Names}
 use Rattle.sd_drive.specs.Pulls.{Pull}
@@ -136,15 +136,24 @@ pub record Reached {G : Type 0} (tell : Telling G) (start : Start G) (lines : Li
 
 -- ---- the opening
 
--- Instance i joins next, after those below it.
-pub record JoinsNext {G : Type 0} (tell : Telling G) (start : Start G) (lines : List Line) (driver : Driver G) (i : ℕ) (w : World) : Type 0 where
+-- The opening stands there, and no page is pulled.
+pub record Opens {G : Type 0} (tell : Telling G) (start : Start G) (lines : List Line) (driver : Driver G) (c : Cursor) (w : World) : Type 0 where
   pub there : IsIn tell start driver.hall w
   pub known : w.told.known ≡ (untold driver.insts driver.pages lines).known
   pub left : w.told.left ≡ Work.Opening ∷ works_of lines
-  pub at : cursor_in w.core.scene.state w.told.known Work.Opening w.told.cursor ≡ Some (Cursor.Joins i)
+  pub at : cursor_in w.core.scene.state w.told.known Work.Opening w.told.cursor ≡ Some c
   pub idle : w.told.pull ≡ Pull.Idle
   pub unfailed : w.told.failed ≡ false
   pub none : driver.txns.items ≡ []
+
+-- it stands there, or, where that is nowhere, it is done, and the lines are to come
+abbrev pub OpensOn : {G : Type 0} → Telling G → Start G → List Line → Driver G → Option Cursor → World → Type 0
+OpensOn tell start lines driver None w = Reached tell start lines 0 driver w
+OpensOn tell start lines driver (Some c) w = Opens tell start lines driver c w
+
+-- Instance i joins next, after those below it.
+pub record JoinsNext {G : Type 0} (tell : Telling G) (start : Start G) (lines : List Line) (driver : Driver G) (i : ℕ) (w : World) : Type 0 where
+  pub opens : Opens tell start lines driver (Cursor.Joins i) w
   pub most : i ≤ driver.insts
 
 -- in some world it does
@@ -154,20 +163,24 @@ pub record IsOpening {G : Type 0} (tell : Telling G) (driver : Driver G) (i : �
   pub lines : List Line
   pub joins : JoinsNext tell start lines driver i world
 
--- The instances below i have joined: i joins next, or, behind the last one, the lines are to come.
+-- all have joined, and pools are to be emptied
+abbrev pub AllJoined : {G : Type 0} → Telling G → Start G → List Line → Driver G → World → Type 0
+AllJoined tell start lines driver w = OpensOn tell start lines driver (leavers w.core 1 8) w
+
+-- The instances below i have joined: i joins next, or, behind the last one, pools are to be emptied.
 abbrev pub HaveJoined : {G : Type 0} → Telling G → Start G → List Line → Driver G → ℕ → World → Type 0
 HaveJoined tell start lines driver i w =
-    JoinsNext tell start lines driver i w ⊎ ((driver.insts < i) × Reached tell start lines 0 driver w)
+    JoinsNext tell start lines driver i w ⊎ ((driver.insts < i) × AllJoined tell start lines driver w)
 
 -- from the join of instance i on, as much came as there was memory for
 abbrev pub OpensSome : {G : Type 0} → Telling G → Driver G → Driver G → ℕ → Type 0
 OpensSome {G} tell old new i = (start : Start G) (w : World) (lines : List Line) → JoinsNext tell start lines old i w
     → (w' : World) × IsIn tell start new.hall w'
 
--- from there on all joined, and the lines are to come
+-- from there on all joined
 abbrev pub JoinsAll : {G : Type 0} → Telling G → Driver G → Driver G → ℕ → Type 0
 JoinsAll {G} tell old new i = (start : Start G) (w : World) (lines : List Line) → JoinsNext tell start lines old i w
-    → (w' : World) × Reached tell start lines 0 new w'
+    → (w' : World) × AllJoined tell start lines new w'
 
 -- instance i joined
 abbrev pub Joins : {G : Type 0} → Telling G → Driver G → Driver G → ℕ → Type 0

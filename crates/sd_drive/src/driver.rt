@@ -7,15 +7,19 @@ ghost use Rattle.sd_world.specs.Serving.{Core, telling};
 ghost use Rattle.sd_hall.specs.Keeping.{Keeps};
 ghost use Rattle.sd_script.specs.declared.line.Line.{Line};
 ghost use Rattle.sd_hall.specs.Bodies.{IsRigIn, fits_in};
+ghost use Rattle.sd_hall.specs.Served.{IsServed};
+ghost use Rattle.sd_model.specs.declared.event.Reply.{Reply};
 ghost use Rattle.sd_drive.specs.Bodies.{status_in};
-ghost use Rattle.sd_drive.specs.Driven.{IsIn, StaysIn, is_did};
+ghost use Rattle.sd_drive.specs.Driven.{IsIn, IsSomewhere, StaysIn, is_did};
+ghost use Rattle.sd_drive.specs.Emptying.{BreaksBy, BreaksIn, IsAlone, OpensAt, OpensBy, OpensTo, StopsIn, copies_from, pools_from, stands_at};
 ghost use Rattle.sd_drive.specs.Running.{Breaks, Start};
-ghost use Rattle.sd_drive.specs.Driving.{World, IsTold, is_down, is_up, lister_by};
+ghost use Rattle.sd_drive.specs.Driving.{Cursor, World, IsTold, is_down, is_up, lister_by};
 ghost use Rattle.sd_script.specs.declared.line.Form.TheVariants as form;
 ghost use Rattle.sd_drive.specs.Lines.{Names, event_of, rolls_back};
 ghost use Rattle.sd_drive.specs.Recovering.{IsRecovering, IsRestarting, RecoversNow, RecoversSome, RestartBreaks, Restarts, RestartsSome};
 ghost use Rattle.sd_drive.specs.Reaching.{AreDriven, AtLine, DrivesLine, DrivesSome, IsJoining, IsOpening, IsPlain, IsRolledBack, IsSame, IsShort, JoinBreaks, Joins, JoinsAll, JoinsNow, JoinsSome, Knows, OpensSome, Reached, Undoes, UndoesAll, UndoesSome, at_ordinal, began_by, begin_of, is_joined, is_rows, is_step, ordinal_in};
 
+use crate::emptying::{Going, going_of};
 use crate::forms::{event_by, lone_event, ordinal};
 use crate::operate::operate;
 use crate::recovery::{Outcome, Owner, recover};
@@ -70,8 +74,9 @@ impl<G: Rig> Driver<G> {
     }
 
     /// Each instance that is down recovers itself, in rising order, with the pulls of the pages that this needs; then the
-    /// instances join, one after another. The entries have session 0 and line 0. A recovery or a join that is refused is noted,
-    /// as one for want of room or numbers, and the lines of its instance will be refused as Down.
+    /// instances join, one after another; then each instance of the complex that isn't up lets its pages go, and writes one before
+    /// that it has changed. The entries have session 0 and line 0. A recovery or a join that is refused is noted, as one for want
+    /// of room or numbers, and the lines of its instance will be refused as Down.
     ///
     /// `Failed` comes where a device failed: that event is noted, no other is made, and nothing is to be driven. After `Memory`
     /// what happened so far is noted, each entry the one that was due.
@@ -99,7 +104,8 @@ impl<G: Rig> Driver<G> {
         ensures pages { self.new.pages ≡ self.old.pages }
     {
         self.restart_all()?;
-        self.join_each()
+        self.join_each()?;
+        self.empty_pools()
     }
 
     // Each instance that is down recovers itself, in rising order.
@@ -177,10 +183,126 @@ impl<G: Rig> Driver<G> {
             self.old self.new inst }
         ensures same { IsSame self.old self.new }
     {
-        self.hall.call(0, 0, Event::Join { inst })?;
+        self.open_by(Event::Join { inst })?;
+        Ok(())
+    }
+
+    // Does an event of the opening. Whether it was answered Did.
+    fn open_by(&mut self, e: Event) -> Result<bool, Refusal>
+        requires served { IsServed e }
+        requires at { IsSomewhere (telling G.seen G.leaves G.moment G.since G.faults) self.old.hall }
+        requires alone { IsAlone e }
+        ensures done { IfOk result (λ did. (r : Reply) × (is_did r ≡ did)
+            × OpensBy (telling G.seen G.leaves G.moment G.since G.faults) self.old self.new e r) }
+        ensures errors { IfErr result (λ n. (n ≡ R.Memory) ⊎ (n ≡ R.Failed)) }
+        ensures memory { IsErrAnd result (λ n. n ≡ R.Memory) → StaysIn (telling G.seen G.leaves G.moment G.since G.faults)
+            self.old.hall self.new.hall }
+        ensures breaks { IsErrAnd result (λ n. n ≡ R.Failed) → BreaksBy (telling G.seen G.leaves G.moment G.since G.faults)
+            self.old self.new e }
+        ensures same { IsSame self.old self.new }
+    {
+        self.hall.call(0, 0, e)?;
         if is_failed(self.hall.last()) {
             return Err(Refusal::Failed);
         }
+        Ok(is_did(self.hall.last()))
+    }
+
+    // The pool of each instance that isn't up is emptied, in rising order.
+    fn empty_pools(&mut self) -> Result<(), Refusal>
+        requires at { OpensAt (telling G.seen G.leaves G.moment G.since G.faults) self.old (pools_from 1) }
+        ensures emptied { OnOk result (OpensTo (telling G.seen G.leaves G.moment G.since G.faults)
+            self.old self.new (pools_from 1) (pools_from 9)) }
+        ensures errors { IfErr result (λ n. (n ≡ R.Memory) ⊎ (n ≡ R.Failed)) }
+        ensures memory { IsErrAnd result (λ n. n ≡ R.Memory)
+            → StopsIn (telling G.seen G.leaves G.moment G.since G.faults) self.old self.new (pools_from 1) }
+        ensures breaks { IsErrAnd result (λ n. n ≡ R.Failed)
+            → BreaksIn (telling G.seen G.leaves G.moment G.since G.faults) self.old self.new (pools_from 1) }
+        ensures same { IsSame self.old self.new }
+    {
+        for number in 0..8u8 {
+            self.empty_pool(inst_no(number + 1))?;
+        }
+        Ok(())
+    }
+
+    // The pages of an instance that isn't up go from its pool, in rising order.
+    fn empty_pool(&mut self, inst: InstNo) -> Result<(), Refusal>
+        requires at { OpensAt (telling G.seen G.leaves G.moment G.since G.faults) self.old (pools_from inst) }
+        requires low { 1 ≤ inst }
+        requires high { inst ≤ 8 }
+        ensures emptied { OnOk result (OpensTo (telling G.seen G.leaves G.moment G.since G.faults)
+            self.old self.new (pools_from inst) (pools_from (inst + 1))) }
+        ensures errors { IfErr result (λ n. (n ≡ R.Memory) ⊎ (n ≡ R.Failed)) }
+        ensures memory { IsErrAnd result (λ n. n ≡ R.Memory)
+            → StopsIn (telling G.seen G.leaves G.moment G.since G.faults) self.old self.new (pools_from inst) }
+        ensures breaks { IsErrAnd result (λ n. n ≡ R.Failed)
+            → BreaksIn (telling G.seen G.leaves G.moment G.since G.faults) self.old self.new (pools_from inst) }
+        ensures same { IsSame self.old self.new }
+    {
+        let status = status_of(&self.hall, inst);
+        if is_up(status) {
+            return Ok(());
+        }
+        for number in 0..1024u16 {
+            self.let_go(inst, page_no(number))?;
+        }
+        Ok(())
+    }
+
+    // The page goes from the instance's pool, where it is there and the instance isn't up.
+    fn let_go(&mut self, inst: InstNo, page: PageNo) -> Result<(), Refusal>
+        requires at { OpensAt (telling G.seen G.leaves G.moment G.since G.faults) self.old (copies_from inst page) }
+        requires low { 1 ≤ inst }
+        requires high { inst ≤ 8 }
+        requires range { page < 1024 }
+        ensures gone { OnOk result (OpensTo (telling G.seen G.leaves G.moment G.since G.faults)
+            self.old self.new (copies_from inst page) (copies_from inst (page + 1))) }
+        ensures errors { IfErr result (λ n. (n ≡ R.Memory) ⊎ (n ≡ R.Failed)) }
+        ensures memory { IsErrAnd result (λ n. n ≡ R.Memory)
+            → StopsIn (telling G.seen G.leaves G.moment G.since G.faults) self.old self.new (copies_from inst page) }
+        ensures breaks { IsErrAnd result (λ n. n ≡ R.Failed)
+            → BreaksIn (telling G.seen G.leaves G.moment G.since G.faults) self.old self.new (copies_from inst page) }
+        ensures same { IsSame self.old self.new }
+    {
+        match going_of(&self.hall, inst, page) {
+            Going::Stays => Ok(()),
+            Going::Goes => self.evict(inst, page),
+            Going::IsWritten => self.write_out(inst, page),
+        }
+    }
+
+    // The page is written, and goes.
+    fn write_out(&mut self, inst: InstNo, page: PageNo) -> Result<(), Refusal>
+        requires at { OpensAt (telling G.seen G.leaves G.moment G.since G.faults) self.old (stands_at (Cursor.Flushes inst page)) }
+        ensures gone { OnOk result (OpensTo (telling G.seen G.leaves G.moment G.since G.faults)
+            self.old self.new (stands_at (Cursor.Flushes inst page)) (copies_from inst (page + 1))) }
+        ensures errors { IfErr result (λ n. (n ≡ R.Memory) ⊎ (n ≡ R.Failed)) }
+        ensures memory { IsErrAnd result (λ n. n ≡ R.Memory)
+            → StopsIn (telling G.seen G.leaves G.moment G.since G.faults) self.old self.new (stands_at (Cursor.Flushes inst page)) }
+        ensures breaks { IsErrAnd result (λ n. n ≡ R.Failed)
+            → BreaksIn (telling G.seen G.leaves G.moment G.since G.faults) self.old self.new (stands_at (Cursor.Flushes inst page)) }
+        ensures same { IsSame self.old self.new }
+    {
+        if !self.open_by(Event::Flush { inst, page })? {
+            return Ok(());
+        }
+        self.evict(inst, page)
+    }
+
+    // The copy goes.
+    fn evict(&mut self, inst: InstNo, page: PageNo) -> Result<(), Refusal>
+        requires at { OpensAt (telling G.seen G.leaves G.moment G.since G.faults) self.old (stands_at (Cursor.Evicts inst page)) }
+        ensures gone { OnOk result (OpensTo (telling G.seen G.leaves G.moment G.since G.faults)
+            self.old self.new (stands_at (Cursor.Evicts inst page)) (copies_from inst (page + 1))) }
+        ensures errors { IfErr result (λ n. (n ≡ R.Memory) ⊎ (n ≡ R.Failed)) }
+        ensures memory { IsErrAnd result (λ n. n ≡ R.Memory)
+            → StopsIn (telling G.seen G.leaves G.moment G.since G.faults) self.old self.new (stands_at (Cursor.Evicts inst page)) }
+        ensures breaks { IsErrAnd result (λ n. n ≡ R.Failed)
+            → BreaksIn (telling G.seen G.leaves G.moment G.since G.faults) self.old self.new (stands_at (Cursor.Evicts inst page)) }
+        ensures same { IsSame self.old self.new }
+    {
+        self.open_by(Event::Evict { inst, page })?;
         Ok(())
     }
 
@@ -474,7 +596,7 @@ fn status_of<G: Rig>(hall: &Hall<G>, inst: InstNo) -> Status
     }
 }
 
-fn is_up(status: Status) -> bool
+pub(crate) fn is_up(status: Status) -> bool
     ensures { result ≡ is_up status }
 {
     matches!(status, Status::Up)

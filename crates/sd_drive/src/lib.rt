@@ -5,11 +5,11 @@
 //! Keeps: that the hall is in a world to which its entries drive (`IsIn`, `specs/Driven.antt`), whether its complex is open or
 //! closed.
 //! Promises: the entries are those that the lines are due, with the pulls of their pages and the undos of their rollbacks, and no
-//! others (`Driver::replay`, `told`, `memory`). Before the first line each instance that is down recovers itself, and then the
-//! instances join (`Driver::opening`). A line that joins or recovers all looks at each instance, and goes on up to the first
-//! refusal. A step of a recovery that wants a page is followed by the pull of the page that is undone next
-//! (`specs/Recoveries.antt`). A pull ends: each of its rounds brings the page nearer to its instance (`distance`,
-//! `specs/Measure.antt`).
+//! others (`Driver::replay`, `told`, `memory`). Before the first line each instance that is down recovers itself, then the
+//! instances join, and then pools of instances that aren't up are emptied (`Driver::opening`). A line that joins or recovers all
+//! looks at each instance, and goes on up to the first refusal. A step of a recovery that wants a page is followed by the pull of
+//! the page that is undone next (`specs/Recoveries.antt`). A pull ends: each of its rounds brings the page nearer to its instance
+//! (`distance`, `specs/Measure.antt`).
 //! Refuses: `Memory`, after which what was noted was due; `Failed` in the opening alone, where the rig's count of faults rose.
 //! Knows nothing of: text, reports, what an event does.
 //! Stands on: sd_base, sd_model, sd_page, sd_logrec, sd_rig, sd_txn, sd_pagelock, sd_pool, sd_chain, sd_coherent, sd_sound,
@@ -23,6 +23,7 @@
 #![tactic(auto)]
 
 mod driver;
+mod emptying;
 mod forms;
 mod operate;
 mod pull;

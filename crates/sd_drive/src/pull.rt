@@ -283,8 +283,8 @@ fn least_recent<G: Rig>(c: &Complex<G>, inst: InstNo) -> Option<PageNo>
     pool.victim()
 }
 
-// Whether the instance has to write the page before its copy goes.
-fn must_write(place: &Place, inst: InstNo) -> bool
+/// Whether the instance has to write the page before its copy goes.
+pub(crate) fn must_write(place: &Place, inst: InstNo) -> bool
     ensures { result ≡ (changed (seen place.now) && is_duty inst (seen place.now)) }
 {
     match *place {

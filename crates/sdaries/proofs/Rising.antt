@@ -57,18 +57,18 @@ marked-from : (low : ℕ) (work : Work) (r : Reply) (then then' : Progress) → 
 marked-from low Work.Opening r then then' is w = subst (λ (p : Progress). WorksFrom low p.left) (sym is) w
 marked-from low (Work.Do line) r then then' is w = subst (λ (p : Progress). WorksFrom low p.left) (sym is) w
 
-own-from : (low : ℕ) (m m' : State) (at : Progress) (work : Work) (rest : List Work) (c : Cursor) (e : Event) (r : Reply) (then : Progress) (line : ℕ)
-    → line ≡ number_of work → WorksFrom low (work ∷ rest) → Own m m' at work rest c e r then → WorksFrom (max low line) then.left
-own-from low m m' at work rest c e (reply.Refused (R.NeedPage place)) then line is w o = ⊎_elim
+own-from : (low : ℕ) (m : State) (w' : Core) (at : Progress) (work : Work) (rest : List Work) (c : Cursor) (e : Event) (r : Reply) (then : Progress) (line : ℕ)
+    → line ≡ number_of work → WorksFrom low (work ∷ rest) → Own m w' at work rest c e r then → WorksFrom (max low line) then.left
+own-from low m w' at work rest c e (reply.Refused (R.NeedPage place)) then line is w o = ⊎_elim
     (λ h. subst (λ (p : Progress). WorksFrom (max low line) p.left) (sym h.2.2) (more-of low work rest line (inr is) w))
     (λ h.
     let r = reply.Refused (R.NeedPage place) in
-    marked-from (max low line) work r (followed at work rest r (goes_on m' at.known work c r)) then h.1
-    (followed-from low at work rest r (goes_on m' at.known work c r) line is w))
+    marked-from (max low line) work r (followed at work rest r (goes_on w' at.known work c r)) then h.1
+    (followed-from low at work rest r (goes_on w' at.known work c r) line is w))
     o
-own-from low m m' at work rest c e r then line is w o =
-    marked-from (max low line) work r (followed at work rest r (goes_on m' at.known work c r)) then o
-    (followed-from low at work rest r (goes_on m' at.known work c r) line is w)
+own-from low m w' at work rest c e r then line is w o =
+    marked-from (max low line) work r (followed at work rest r (goes_on w' at.known work c r)) then o
+    (followed-from low at work rest r (goes_on w' at.known work c r) line is w)
 
 helps-from : (low : ℕ) (w : Core) (at : Progress) (work : Work) (rest : List Work) (c : Cursor) (for : Option Puller) (entry : Entry) (then : Progress)
     → WorksFrom low (work ∷ rest) → Helps w at work rest c for entry then → Rises low entry then
@@ -85,7 +85,7 @@ at-from true low w w' at work rest c entry then works t =
     helps-from low w at work rest c (puller_of w.scene.state (event_at at.known work c)) entry then works t
 at-from false low w w' at work rest c entry then works t = record {
   line = let number = t.1 in let least = works.0 in inr (omega (arith, number, least));
-  left = own-from low w.scene.state w'.scene.state at work rest c entry.event entry.reply then entry.line t.1 works t.3;
+  left = own-from low w.scene.state w' at work rest c entry.event entry.reply then entry.line t.1 works t.3;
 }
 
 work-from : (low : ℕ) (w w' : Core) (at : Progress) (work : Work) (rest : List Work) (c : Option Cursor) (entry : Entry) (then : Progress)

@@ -2,7 +2,7 @@ use Rattle.std.proofs.Common.{⊎_elim, arith}
 use Rattle.std.proofs.lemmas.Result.{err_from_is_err_and}
 use Rattle.sd_world.specs.Serving.{Telling, telling}
 use Rattle.sd_drive.proofs.Helps.{each-way, on-ok-map}
-use Rattle.sd_drive.proofs.Opening.{fails-break, fails-keeps, is-restarting, joins-fail, joins-lost, joins-open, opened-all, opened-keeps, reached-keeps, restart-fails, restart-lost}
+use Rattle.sd_drive.proofs.Opening.{fails-break, fails-keeps, is-restarting, joins-fail, joins-lost, joins-open, opened-all, opened-keeps, pools-fail, pools-lost, pools-open, reached-keeps, restart-fails, restart-lost}
 use Rattle.sd_drive.proofs.driver.Driver.opening.Goals as goal
 
 pub restart_all-requires : goal.restart_all-requires
@@ -44,33 +44,66 @@ join_each-requires g c =
       most = omega (arith, insts, most);
     }
 
+pub returns-in_err-join_each-clause-memory : goal.returns-in_err-join_each-clause-memory
+returns-in_err-join_each-clause-memory g c =
+    let tell : Telling g.row.G.Denot = telling g.G.Rig.seen g.G.Rig.leaves g.G.Rig.moment g.G.Rig.since g.G.Rig.faults in
+    let p = err_from_is_err_and c.from_residual-in_err-join_each.result c.from_residual-in_err-join_each.ensures.1 in
+    rw (p.1, p.2) (λ is. joins-lost tell c.args.self.now c.requires.empty c.requires.none (λ d img s. g.met.G.Rig.only_now d img s) c.restart_all.new.self c.restart_all.ensures.same c.requires.some
+    c.in_ok-restart_all.ensures.restarted c.join_each.new.self (c.in_err-join_each.ensures.memory is))
+
+pub returns-in_err-join_each-clause-breaks : goal.returns-in_err-join_each-clause-breaks
+returns-in_err-join_each-clause-breaks g c =
+    let tell : Telling g.row.G.Denot = telling g.G.Rig.seen g.G.Rig.leaves g.G.Rig.moment g.G.Rig.since g.G.Rig.faults in
+    let p = err_from_is_err_and c.from_residual-in_err-join_each.result c.from_residual-in_err-join_each.ensures.1 in
+    rw (p.1, p.2) (λ is. fails-break tell c.args.self.now c.requires.empty c.requires.none (λ d img s. g.met.G.Rig.only_now d img s) c.join_each.new.self
+    (joins-fail tell c.args.self.now c.requires.empty c.requires.none (λ d img s. g.met.G.Rig.only_now d img s) c.restart_all.new.self c.restart_all.ensures.same c.requires.some
+    c.in_ok-restart_all.ensures.restarted c.join_each.new.self (c.in_err-join_each.ensures.breaks is)) (λ rig dev le. g.met.G.Rig.leaves_seen rig dev le))
+
+pub returns-in_err-join_each-clause-kept : goal.returns-in_err-join_each-clause-kept
+returns-in_err-join_each-clause-kept g c =
+    let tell : Telling g.row.G.Denot = telling g.G.Rig.seen g.G.Rig.leaves g.G.Rig.moment g.G.Rig.since g.G.Rig.faults in
+    ⊎_elim
+    (λ is. opened-keeps tell c.args.self.now c.requires.empty c.requires.none (λ d img s. g.met.G.Rig.only_now d img s) c.join_each.new.self (joins-lost tell c.args.self.now c.requires.empty c.requires.none (λ d img s. g.met.G.Rig.only_now d img s) c.restart_all.new.self c.restart_all.ensures.same c.requires.some
+    c.in_ok-restart_all.ensures.restarted c.join_each.new.self (c.in_err-join_each.ensures.memory is)))
+    (λ is. fails-keeps tell c.args.self.now c.requires.empty c.requires.none (λ d img s. g.met.G.Rig.only_now d img s) c.join_each.new.self (joins-fail tell c.args.self.now c.requires.empty c.requires.none (λ d img s. g.met.G.Rig.only_now d img s) c.restart_all.new.self c.restart_all.ensures.same c.requires.some
+    c.in_ok-restart_all.ensures.restarted c.join_each.new.self (c.in_err-join_each.ensures.breaks is)))
+    c.in_err-join_each.ensures.errors
+
+pub empty_pools-requires : goal.empty_pools-requires
+empty_pools-requires g c =
+    let tell : Telling g.row.G.Denot = telling g.G.Rig.seen g.G.Rig.leaves g.G.Rig.moment g.G.Rig.since g.G.Rig.faults in
+    record {
+      at = pools-open tell c.args.self.now c.requires.empty c.requires.none (λ d img s. g.met.G.Rig.only_now d img s) c.restart_all.new.self c.restart_all.ensures.same c.requires.some
+          c.in_ok-restart_all.ensures.restarted c.join_each.new.self c.in_ok-join_each.ensures.joined (is-restarting tell c.args.self.now c.requires.empty c.requires.none (λ d img s. g.met.G.Rig.only_now d img s) c.requires.kept);
+    }
+
 pub returns-clause-opened : goal.returns-clause-opened
 returns-clause-opened g c =
     let tell : Telling g.row.G.Denot = telling g.G.Rig.seen g.G.Rig.leaves g.G.Rig.moment g.G.Rig.since g.G.Rig.faults in
-    on-ok-map c.join_each.result _ _ (λ all. opened-all tell c.args.self.now c.requires.empty c.requires.none (λ d img s. g.met.G.Rig.only_now d img s) c.restart_all.new.self c.restart_all.ensures.same c.requires.some
-    c.in_ok-restart_all.ensures.restarted c.join_each.new.self all) c.join_each.ensures.joined
+    on-ok-map c.empty_pools.result _ _ (λ empty. opened-all tell c.args.self.now c.requires.empty c.requires.none (λ d img s. g.met.G.Rig.only_now d img s) c.restart_all.new.self c.restart_all.ensures.same c.requires.some
+    c.in_ok-restart_all.ensures.restarted c.join_each.new.self c.in_ok-join_each.ensures.joined c.empty_pools.new.self empty) c.empty_pools.ensures.emptied
 
 pub returns-clause-memory : goal.returns-clause-memory
-returns-clause-memory g c = λ is.
+returns-clause-memory g c =
     let tell : Telling g.row.G.Denot = telling g.G.Rig.seen g.G.Rig.leaves g.G.Rig.moment g.G.Rig.since g.G.Rig.faults in
-    joins-lost tell c.args.self.now c.requires.empty c.requires.none (λ d img s. g.met.G.Rig.only_now d img s) c.restart_all.new.self c.restart_all.ensures.same c.requires.some
-    c.in_ok-restart_all.ensures.restarted c.join_each.new.self (c.join_each.ensures.memory is)
+    λ is. pools-lost tell c.args.self.now c.requires.empty c.requires.none (λ d img s. g.met.G.Rig.only_now d img s) c.restart_all.new.self c.restart_all.ensures.same c.requires.some
+    c.in_ok-restart_all.ensures.restarted c.join_each.new.self c.in_ok-join_each.ensures.joined c.empty_pools.new.self (c.empty_pools.ensures.memory is)
 
 pub returns-clause-breaks : goal.returns-clause-breaks
-returns-clause-breaks g c = λ is.
+returns-clause-breaks g c =
     let tell : Telling g.row.G.Denot = telling g.G.Rig.seen g.G.Rig.leaves g.G.Rig.moment g.G.Rig.since g.G.Rig.faults in
-    fails-break tell c.args.self.now c.requires.empty c.requires.none (λ d img s. g.met.G.Rig.only_now d img s) c.join_each.new.self
-    (joins-fail tell c.args.self.now c.requires.empty c.requires.none (λ d img s. g.met.G.Rig.only_now d img s) c.restart_all.new.self c.restart_all.ensures.same c.requires.some
-    c.in_ok-restart_all.ensures.restarted c.join_each.new.self (c.join_each.ensures.breaks is)) (λ rig dev le. g.met.G.Rig.leaves_seen rig dev le)
+    λ is. fails-break tell c.args.self.now c.requires.empty c.requires.none (λ d img s. g.met.G.Rig.only_now d img s) c.empty_pools.new.self
+    (pools-fail tell c.args.self.now c.requires.empty c.requires.none (λ d img s. g.met.G.Rig.only_now d img s) c.restart_all.new.self c.restart_all.ensures.same c.requires.some
+    c.in_ok-restart_all.ensures.restarted c.join_each.new.self c.in_ok-join_each.ensures.joined c.empty_pools.new.self (c.empty_pools.ensures.breaks is)) (λ rig dev le. g.met.G.Rig.leaves_seen rig dev le)
 
 pub returns-clause-kept : goal.returns-clause-kept
 returns-clause-kept g c =
     let tell : Telling g.row.G.Denot = telling g.G.Rig.seen g.G.Rig.leaves g.G.Rig.moment g.G.Rig.since g.G.Rig.faults in
-    each-way c.join_each.result _ _ _ _ c.join_each.ensures.errors c.join_each.ensures.joined c.join_each.ensures.memory c.join_each.ensures.breaks
-    (λ all. reached-keeps tell c.args.self.now c.requires.empty c.requires.none (λ d img s. g.met.G.Rig.only_now d img s) c.restart_all.new.self c.restart_all.ensures.same c.requires.some
-    c.in_ok-restart_all.ensures.restarted c.join_each.new.self (opened-all tell c.args.self.now c.requires.empty c.requires.none (λ d img s. g.met.G.Rig.only_now d img s) c.restart_all.new.self c.restart_all.ensures.same c.requires.some
-    c.in_ok-restart_all.ensures.restarted c.join_each.new.self all))
-    (λ lost. opened-keeps tell c.args.self.now c.requires.empty c.requires.none (λ d img s. g.met.G.Rig.only_now d img s) c.join_each.new.self (joins-lost tell c.args.self.now c.requires.empty c.requires.none (λ d img s. g.met.G.Rig.only_now d img s) c.restart_all.new.self c.restart_all.ensures.same c.requires.some
-    c.in_ok-restart_all.ensures.restarted c.join_each.new.self lost))
-    (λ breaks. fails-keeps tell c.args.self.now c.requires.empty c.requires.none (λ d img s. g.met.G.Rig.only_now d img s) c.join_each.new.self (joins-fail tell c.args.self.now c.requires.empty c.requires.none (λ d img s. g.met.G.Rig.only_now d img s) c.restart_all.new.self c.restart_all.ensures.same c.requires.some
-    c.in_ok-restart_all.ensures.restarted c.join_each.new.self breaks))
+    each-way c.empty_pools.result _ _ _ _ c.empty_pools.ensures.errors c.empty_pools.ensures.emptied c.empty_pools.ensures.memory c.empty_pools.ensures.breaks
+    (λ empty. reached-keeps tell c.args.self.now c.requires.empty c.requires.none (λ d img s. g.met.G.Rig.only_now d img s) c.restart_all.new.self c.restart_all.ensures.same c.requires.some
+    c.in_ok-restart_all.ensures.restarted c.join_each.new.self c.in_ok-join_each.ensures.joined c.empty_pools.new.self (opened-all tell c.args.self.now c.requires.empty c.requires.none (λ d img s. g.met.G.Rig.only_now d img s) c.restart_all.new.self c.restart_all.ensures.same c.requires.some
+    c.in_ok-restart_all.ensures.restarted c.join_each.new.self c.in_ok-join_each.ensures.joined c.empty_pools.new.self empty))
+    (λ lost. opened-keeps tell c.args.self.now c.requires.empty c.requires.none (λ d img s. g.met.G.Rig.only_now d img s) c.empty_pools.new.self (pools-lost tell c.args.self.now c.requires.empty c.requires.none (λ d img s. g.met.G.Rig.only_now d img s) c.restart_all.new.self c.restart_all.ensures.same c.requires.some
+    c.in_ok-restart_all.ensures.restarted c.join_each.new.self c.in_ok-join_each.ensures.joined c.empty_pools.new.self lost))
+    (λ breaks. fails-keeps tell c.args.self.now c.requires.empty c.requires.none (λ d img s. g.met.G.Rig.only_now d img s) c.empty_pools.new.self (pools-fail tell c.args.self.now c.requires.empty c.requires.none (λ d img s. g.met.G.Rig.only_now d img s) c.restart_all.new.self c.restart_all.ensures.same c.requires.some
+    c.in_ok-restart_all.ensures.restarted c.join_each.new.self c.in_ok-join_each.ensures.joined c.empty_pools.new.self breaks))
