@@ -4,6 +4,10 @@
 #![tactic(auto)]
 
 #[cfg(test)]
+mod faults;
+#[cfg(test)]
+mod hand;
+#[cfg(test)]
 mod lines;
 #[cfg(test)]
 mod runs;

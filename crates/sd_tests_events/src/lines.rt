@@ -29,8 +29,10 @@ pub const NEXT: Who = Who(1, 1, 2);
 
 pub const LAST: Who = Who(1, 1, 3);
 
-/// Its first transaction once it has joined again.
+/// Its first transactions once it has joined again.
 pub const AGAIN: Who = Who(1, 2, 1);
+
+pub const BESIDE: Who = Who(1, 2, 2);
 
 /// Instance 2, and its first transaction.
 pub const TWO: Who = Who(2, 0, 0);
@@ -118,6 +120,8 @@ pub enum Spot {
 /// Why it is refused.
 #[derive(Clone, Copy)]
 pub enum Why {
+    LogFull,
+    LsnEnd,
     PageFull,
     NoRecord,
     NotNumber,
@@ -173,7 +177,7 @@ pub fn event(alloc: Global, pick: Pick, who: Who, ask: Ask) -> Result<Option<Eve
 }
 
 fn text(alloc: Global, bytes: &[u8]) -> Result<Bytes, Memory> {
-    Ok(Bytes::of(bytes.to_vec(alloc)?))
+    Ok(Bytes::copy_of(alloc, bytes)?)
 }
 
 // The event of a write.
@@ -370,6 +374,8 @@ fn is_alone(set: InstSet, who: Who) -> bool {
 // Whether it is refused so.
 fn is_why(refusal: &Refusal, why: Why) -> bool {
     match (refusal, why) {
+        (Refusal::LogFull, Why::LogFull) => true,
+        (Refusal::LsnEnd, Why::LsnEnd) => true,
         (Refusal::PageFull, Why::PageFull) => true,
         (Refusal::NoRecord, Why::NoRecord) => true,
         (Refusal::NotNumber, Why::NotNumber) => true,

@@ -1,25 +1,113 @@
 //! Runs of the hall that opens from blank devices, each reply beside the one that is worked out by hand.
 
-ghost use Rattle.std.specs.Prelude.{◌≤◌};
+ghost use Rattle.std.specs.Prelude.{◌≤◌, IfOk, IfSome, OnOk};
+ghost use Rattle.sd_world.specs.Serving.{Core, telling};
+ghost use Rattle.sd_hall.specs.Keeping.{Keeps};
+ghost use Rattle.sd_hall.specs.Served.{IsServed};
 
-use crate::lines::Ask::{
-    Add, Alone, Arm, Back, Begin, Commit, Delete, Evict, Fail as Falls, FailAll, Flush, Force,
-    Give, Insert, Join, List, Read, RecoverBy, RecoverStep, Reopen, Rollback, Save, Share, Show,
-    Take, Undo, Write,
-};
-use crate::lines::Say::{
-    Absent, Asked, At, Began, Did, Finished, Gave, Have, Joined, No, Rows, Shown, Step, Value,
-};
-use crate::lines::Spot::{Both, Changed, Clean, Free, Lost, Moving, Shared};
-use crate::lines::Why::{
-    Blocked, Busy, Cut, Deadlock, Dirty, Down, Failed, Fallen, MovingTo, NeedPage, NoRecord,
-    NoSavepoint, NoTxn, NotAsked, NotFallen, NotNumber, NotRecovered, PageFull, PoolFull,
-    Recovering, TooLong, Up,
-};
-use crate::lines::{AGAIN, FAR, FIRST, LAST, Line, NEXT, ONE, TWO, event, is_said};
-use sd_base::{Pick, Trouble};
+use crate::faults::FAULTS;
+use crate::faults::KEPT;
+use crate::faults::OWN_LOG;
+use crate::faults::UNKEPT;
+use crate::hand::FULL as FULL_AREA;
+use crate::hand::FULL_LOG;
+use crate::hand::HIGH;
+use crate::hand::HIGH_PAGE;
+use crate::hand::LAST_EPOCH;
+use crate::hand::LAST_LSNS;
+use crate::hand::NO_EPOCH;
+use crate::hand::NO_LSN;
+use crate::hand::Patch;
+use crate::hand::written;
+use crate::lines::AGAIN;
+use crate::lines::Ask;
+use crate::lines::Ask::Add;
+use crate::lines::Ask::Alone;
+use crate::lines::Ask::Arm;
+use crate::lines::Ask::Back;
+use crate::lines::Ask::Begin;
+use crate::lines::Ask::Commit;
+use crate::lines::Ask::Delete;
+use crate::lines::Ask::Evict;
+use crate::lines::Ask::Fail as Falls;
+use crate::lines::Ask::FailAll;
+use crate::lines::Ask::Flush;
+use crate::lines::Ask::Force;
+use crate::lines::Ask::Give;
+use crate::lines::Ask::Insert;
+use crate::lines::Ask::Join;
+use crate::lines::Ask::List;
+use crate::lines::Ask::Read;
+use crate::lines::Ask::RecoverBy;
+use crate::lines::Ask::RecoverStep;
+use crate::lines::Ask::Reopen;
+use crate::lines::Ask::Rollback;
+use crate::lines::Ask::Save;
+use crate::lines::Ask::Share;
+use crate::lines::Ask::Show;
+use crate::lines::Ask::Take;
+use crate::lines::Ask::Undo;
+use crate::lines::Ask::Write;
+use crate::lines::FAR;
+use crate::lines::FIRST;
+use crate::lines::LAST;
+use crate::lines::Line;
+use crate::lines::NEXT;
+use crate::lines::ONE;
+use crate::lines::Say::Absent;
+use crate::lines::Say::Asked;
+use crate::lines::Say::At;
+use crate::lines::Say::Began;
+use crate::lines::Say::Did;
+use crate::lines::Say::Finished;
+use crate::lines::Say::Gave;
+use crate::lines::Say::Have;
+use crate::lines::Say::Joined;
+use crate::lines::Say::No;
+use crate::lines::Say::Rows;
+use crate::lines::Say::Shown;
+use crate::lines::Say::Step;
+use crate::lines::Say::Value;
+use crate::lines::Spot::Both;
+use crate::lines::Spot::Changed;
+use crate::lines::Spot::Clean;
+use crate::lines::Spot::Free;
+use crate::lines::Spot::Lost;
+use crate::lines::Spot::Moving;
+use crate::lines::Spot::Shared;
+use crate::lines::TWO;
+use crate::lines::Who;
+use crate::lines::Why::Blocked;
+use crate::lines::Why::Busy;
+use crate::lines::Why::Cut;
+use crate::lines::Why::Deadlock;
+use crate::lines::Why::Dirty;
+use crate::lines::Why::Down;
+use crate::lines::Why::Failed;
+use crate::lines::Why::Fallen;
+use crate::lines::Why::MovingTo;
+use crate::lines::Why::NeedPage;
+use crate::lines::Why::NoRecord;
+use crate::lines::Why::NoSavepoint;
+use crate::lines::Why::NoTxn;
+use crate::lines::Why::NotAsked;
+use crate::lines::Why::NotFallen;
+use crate::lines::Why::NotNumber;
+use crate::lines::Why::NotRecovered;
+use crate::lines::Why::PageFull;
+use crate::lines::Why::PoolFull;
+use crate::lines::Why::Recovering;
+use crate::lines::Why::TooLong;
+use crate::lines::Why::Up;
+use crate::lines::event;
+use crate::lines::is_said;
+use sd_base::Memory;
+use sd_base::Pick;
+use sd_base::Trouble;
 use sd_hall::Hall;
-use sd_rig::{MemRig, Rig};
+use sd_model::Event;
+use sd_rig::MemRig;
+use sd_rig::Rig;
 use sd_state::Shape;
 use std::alloc::Global;
 use std::test::Fail;
@@ -377,8 +465,72 @@ static CLOSED: &[Line] = &[
     (ONE, Join, Joined(2)),
 ];
 
-// The number of lines that are answered as they say, up to one that isn't, in a hall of two instances that opens from these
-// devices, with so many frames in each pool. Where all instances fail, a crash picks so.
+// The event of what is asked, made once more where there is no memory for it.
+fn made(alloc: Global, pick: Pick, who: Who, ask: Ask) -> Result<Option<Event>, Memory>
+    ensures { IfOk result (λ e. IfSome e (λ x. IsServed x)) }
+{
+    match event(alloc, pick, who, ask) {
+        Ok(e) => Ok(e),
+        Err(_) => event(alloc, pick, who, ask),
+    }
+}
+
+fn asked(alloc: Global, pick: Pick, who: Who, ask: Ask) -> Result<Event, Fail>
+    ensures { IfOk result (λ e. IsServed e) }
+{
+    let made = made(alloc, pick, who, ask)?;
+    let Some(e) = made else {
+        return Err("no such event".into());
+    };
+    Ok(e)
+}
+
+// What is asked happens, at the second time where there is no memory at the first and nothing was noted.
+fn serve<G: Rig>(
+    alloc: Global,
+    hall: &mut Hall<G>,
+    pick: Pick,
+    who: Who,
+    ask: Ask,
+) -> Result<(), Fail>
+    requires { (start : Core) × Keeps (telling G.seen G.leaves G.moment G.since G.faults) start hall.old }
+    ensures { OnOk result ((start : Core) × Keeps (telling G.seen G.leaves G.moment G.since G.faults) start hall.new) }
+{
+    let noted = hall.book().entries().len();
+    let e = asked(alloc, pick, who, ask)?;
+    if hall.call(0, 0, e).is_ok() {
+        return Ok(());
+    }
+    if hall.book().entries().len() != noted {
+        return Err("what had no memory is noted".into());
+    }
+    let e = asked(alloc, pick, who, ask)?;
+    hall.call(0, 0, e)?;
+    Ok(())
+}
+
+// A hall of two instances over these devices, with so many frames in each pool; opened once more where there is no memory.
+fn opened<G: Rig + Drop>(alloc: Global, rig: G, frames: u16) -> Result<Hall<G>, Fail>
+    requires least { 1 ≤ frames }
+    requires most { frames ≤ 1024 }
+    ensures { IfOk result (λ hall. (start : Core) × Keeps (telling G.seen G.leaves G.moment G.since G.faults) start hall) }
+{
+    let shape = Shape {
+        insts: 2,
+        pages: 4,
+        frames,
+    };
+    match Hall::open(alloc, rig, shape) {
+        Ok(hall) => Ok(hall),
+        Err((_, rig)) => match Hall::open(alloc, rig, shape) {
+            Ok(hall) => Ok(hall),
+            Err(_) => Err("no hall".into()),
+        },
+    }
+}
+
+// The number of lines that are answered as they say, up to one that isn't, in a hall that opens from these devices. Where all
+// instances fail, a crash picks so.
 fn agreeing<G: Rig + Drop>(
     alloc: Global,
     rig: G,
@@ -389,21 +541,10 @@ fn agreeing<G: Rig + Drop>(
     requires least { 1 ≤ frames }
     requires most { frames ≤ 1024 }
 {
-    let shape = Shape {
-        insts: 2,
-        pages: 4,
-        frames,
-    };
-    let Ok(mut hall) = Hall::open(alloc, rig, shape) else {
-        return Err("no memory".into());
-    };
+    let mut hall = opened(alloc, rig, frames)?;
     for n in 0..lines.len() {
         let (who, ask, say) = lines[n];
-        let asked = event(alloc, pick, who, ask)?;
-        let Some(e) = asked else {
-            return Err("no such event".into());
-        };
-        hall.call(0, 0, e)?;
+        serve(alloc, &mut hall, pick, who, ask)?;
         let Some(entry) = hall.book().entries().last() else {
             return Ok(n);
         };
@@ -414,7 +555,21 @@ fn agreeing<G: Rig + Drop>(
     Ok(lines.len())
 }
 
-// The same over devices of zeros.
+// Devices of zeros, with memory for the record of what is done to them; made once more where there is none.
+fn devices(alloc: Global) -> Result<MemRig, Fail> {
+    match noted(alloc) {
+        Ok(rig) => Ok(rig),
+        Err(_) => Ok(noted(alloc)?),
+    }
+}
+
+fn noted(alloc: Global) -> Result<MemRig, Memory> {
+    let mut rig = MemRig::blank(alloc)?;
+    rig.reserve(1 << 16)?;
+    Ok(rig)
+}
+
+// The number of lines that are answered as they say in a hall over devices of zeros.
 fn agreed(alloc: Global, frames: u16, lines: &[Line]) -> Result<usize, Fail>
     requires least { 1 ≤ frames }
     requires most { frames ≤ 1024 }
@@ -426,7 +581,7 @@ fn picked(alloc: Global, pick: Pick, frames: u16, lines: &[Line]) -> Result<usiz
     requires least { 1 ≤ frames }
     requires most { frames ≤ 1024 }
 {
-    agreeing(alloc, MemRig::blank(alloc)?, pick, frames, lines)
+    agreeing(alloc, devices(alloc)?, pick, frames, lines)
 }
 
 #[test]
@@ -501,5 +656,36 @@ fn a_loser_is_undone_by_the_recoverer(rt: HostRuntime) -> Result<(), Fail> {
 #[test]
 fn a_closed_complex_answers_that_it_is_down(rt: HostRuntime) -> Result<(), Fail> {
     assert_eq!(rt; agreed(rt.alloc(), 2, CLOSED)?, CLOSED.len());
+    Ok(())
+}
+
+#[test]
+fn a_commit_in_doubt_is_decided_by_its_log(rt: HostRuntime) -> Result<(), Fail> {
+    assert_eq!(rt; agreed(rt.alloc(), 2, KEPT)?, KEPT.len());
+    assert_eq!(rt; agreed(rt.alloc(), 2, UNKEPT)?, UNKEPT.len());
+    Ok(())
+}
+
+#[test]
+fn a_device_fails_in_a_join_a_read_a_force_and_an_undo(rt: HostRuntime) -> Result<(), Fail> {
+    assert_eq!(rt; agreed(rt.alloc(), 2, FAULTS)?, FAULTS.len());
+    assert_eq!(rt; agreed(rt.alloc(), 2, OWN_LOG)?, OWN_LOG.len());
+    Ok(())
+}
+
+#[test]
+fn the_last_bytes_and_lsns_are_for_what_is_owed(rt: HostRuntime) -> Result<(), Fail> {
+    let cases: [(&[Patch], &[Line]); 4] = [
+        (HIGH, LAST_LSNS),
+        (HIGH_PAGE, NO_LSN),
+        (LAST_EPOCH, NO_EPOCH),
+        (FULL_AREA, FULL_LOG),
+    ];
+    for (n, (patches, lines)) in cases.iter().enumerate() {
+        let mut rig = devices(rt.alloc())?;
+        written(&mut rig, patches)?;
+        let agreed = agreeing(rt.alloc(), rig, Pick::Keep, 2, lines)?;
+        assert_eq!(rt; agreed, lines.len(), "case {n}");
+    }
     Ok(())
 }

@@ -1,4 +1,4 @@
-use Rattle.std.proofs.Common.{◌≡◌, ℕ, ◌∙◌, sym, subst}
+use Rattle.std.proofs.Common.{◌∙◌, sym, subst}
 use Rattle.sd_sound.specs.Logs.{IsBlank}
 use Rattle.sd_tests_complex.proofs.crashes.arm.Goals as goal
 

@@ -1,0 +1,26 @@
+//! Devices for the tests: of zeros, with memory for the record of what is done to them.
+
+ghost use Rattle.std.specs.Prelude.{IfOk};
+ghost use Rattle.sd_rig.specs.Replay.{left_of};
+ghost use Rattle.sd_rig.specs.Rigs.{device, devices};
+ghost use Rattle.sd_state.specs.Fresh.{AreBlank};
+
+use sd_base::Memory;
+use sd_rig::MemRig;
+use std::alloc::Global;
+
+/// Devices of zeros.
+pub(crate) fn blank(alloc: Global) -> Result<MemRig, Memory>
+    ensures { IfOk result (λ rig. AreBlank (λ d. (device rig d).seen) (left_of (devices rig))) }
+{
+    let mut rig = zeros(alloc)?;
+    rig.reserve(1 << 20)?;
+    Ok(rig)
+}
+
+fn zeros(alloc: Global) -> Result<MemRig, Memory>
+    ensures { IfOk result (λ rig. AreBlank (λ d. (device rig d).seen) (left_of (devices rig))) }
+{
+    let rig = MemRig::blank(alloc)?;
+    Ok(rig)
+}
