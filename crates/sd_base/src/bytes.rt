@@ -36,7 +36,7 @@ impl Model for Bytes {
 }
 
 impl Bytes {
-    /// A copy of these bytes, or `Memory`, which comes only where they are more than 14.
+    /// A copy of these bytes, or `Memory`.
     pub fn copy_of(alloc: Global, bytes: &[u8]) -> Result<Bytes, Memory>
         ensures { IfOk result (λ copied. copied ≡ bytes.now) }
     {
