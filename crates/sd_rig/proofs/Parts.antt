@@ -1,12 +1,12 @@
 -- A device of which a part is kept. It serves the goals of disk.rt.
 use Rattle.std.proofs.Common.{◌≡◌, ⊎_elim, ℕ, ◌+◌, ◌-◌, ◌<◌, ◌≤◌, suc, Bool, true, false, cond, List, [], ◌∷◌, ◌++◌, length, take, drop, get_or, set, refl, sym, ap, ◌∙◌, subst, arith, append_assoc, length-set, length-append, length-drop, length-take-le}
-use Rattle.std.proofs.lemmas.List.{append-nil, drop-append-le, drop-drop, drop-take, drop_at, take-append-drop, take-append-le, get_or_past, take-take, take_all, set_split}
+use Rattle.std.proofs.lemmas.List.{append-nil, drop_all, drop-append-le, drop-drop, drop-take, drop_at, take-append-drop, take-append-le, get_or_past, take-take, take_all, set_split}
 use Rattle.std.proofs.lemmas.List.FromFn.{fill_by_all}
 use Rattle.std.proofs.lemmas.Bool.{cases_lt}
 use Rattle.sd_base.specs.declared.trouble.Pick.{Pick}
 use Rattle.sd_rig.specs.Devices.{AreBytes, overwritten}
 use Rattle.sd_rig.specs.Disk.{DiskState, IsHeld, IsSettled, IsSound, ReadsAsLeft, blank, copies, length-copies, left_at, marked, picked, placed, poked, settled, whole, written}
-use Rattle.sd_rig.proofs.Places.{blank-sound, copies-inside, get_or-before, get_or-behind, get_or-copies_any, get_or-inside, left_at-settled, length-marked, length-middle, written-sound}
+use Rattle.sd_rig.proofs.Places.{blank-sound, copies-inside, get_or-before, get_or-behind, get_or-copies_any, get_or-inside, left_at-settled, length-middle, written-sound}
 use Rattle.sd_rig.proofs.Replays.{length-settled, poked-sound, settled-sound}
 
 take_split : {X : Type 0} (a b : ℕ) (l : List X) → a ≤ b → take a l ++ take (b - a) (drop a l) ≡ take b l
@@ -120,6 +120,26 @@ written-whole base at bytes seen synced pending even le h within =
     ap (λ (s : List ℕ). record { seen = overwritten at bytes seen; synced = s; pending = placed base (marked (at - base) n pending) (copies (length (overwritten at bytes seen)) false) }) (placed-under base at synced bytes seen le h within)
     ∙ ap (λ (p : List Bool). record { seen = overwritten at bytes seen; synced = placed base synced seen; pending = p })
     (ap (λ k. placed base (marked (at - base) n pending) (copies k false)) size ∙ marked-within base at n pending (copies (length seen) false) le (omega arith) (omega arith))
+
+-- a write where there was no part: what it is written over is kept, all of it pending
+marked-all : (at n : ℕ) → marked (at - at) n (copies n false) ≡ copies n true
+marked-all at n =
+    let none : at - at ≡ 0 = omega arith in
+    let place : 0 + n ≡ n = omega arith in
+    let size = length-copies n false in
+    let front : marked 0 n (copies n false) ≡ copies n true ++ drop n (copies n false) = ap (λ k. copies n true ++ drop k (copies n false)) place in
+    ap (λ k. marked k n (copies n false)) none ∙ front ∙ ap (λ l. copies n true ++ l) (drop_all n (copies n false) (omega arith)) ∙ append-nil (copies n true)
+
+pub first-whole : (base at : ℕ) (bytes seen synced synced' : List ℕ) (pending pending' : List Bool) → synced ≡ [] → pending ≡ [] → synced' ≡ take (length bytes) (drop at seen) → pending' ≡ copies (length bytes) true → at + length bytes ≤ length seen → whole at (overwritten at bytes seen) synced' pending' ≡ written at bytes (whole base seen synced pending)
+first-whole base at bytes seen synced synced' pending pending' e1 e2 is marks h =
+    let n : ℕ = length bytes in
+    let mid : List ℕ = take n (drop at seen) in
+    let start : at + 0 ≡ at = omega arith in
+    let size : length mid ≡ n = length-take-le n (drop at seen) (omega (arith, length-drop at seen)) in
+    let size' = length-copies n false in
+    let was : whole at seen mid (copies n false) ≡ whole base seen synced pending =
+    back-whole at n seen [] mid [] refl (ap (λ k. take n (drop k seen)) (sym start)) (omega arith) ∙ whole-empty at seen [] [] refl refl ∙ sym (whole-empty base seen synced pending e1 e2) in
+    whole-same at refl is (marks ∙ sym (marked-all at n)) ∙ written-whole at at bytes seen mid (copies n false) (size' ∙ sym size) (omega arith) (omega arith) (omega arith) ∙ ap (written at bytes) was
 
 -- a poke within the part
 set-is : {X : Type 0} (at : ℕ) (x : X) (l : List X) → at < length l → set l at x ≡ placed at (x ∷ []) l
@@ -235,18 +255,15 @@ covered-held base base' memory marks_memory memory' marks_memory' seen synced sy
     let marks_room = held.marks_room in
     record { sound = subst IsSound (sym same) held.sound; even = even; within = within; room = omega arith; marks_room = omega arith }
 
-pub written-held : (base at memory marks_memory : ℕ) (bytes seen synced : List ℕ) (pending : List Bool) → IsHeld base seen synced pending memory marks_memory → base ≤ at → at + length bytes ≤ base + length synced → AreBytes bytes → IsHeld base (overwritten at bytes seen) synced (marked (at - base) (length bytes) pending) memory marks_memory
-written-held base at memory marks_memory bytes seen synced pending held le h are =
-    let even = held.even in
-    let within = held.within in
+-- what a write makes of the part that covers it, whatever the part was
+pub reached-held : (base base' at memory marks_memory memory' marks_memory' : ℕ) (bytes seen synced synced' : List ℕ) (pending pending' : List Bool) → IsHeld base seen synced pending memory marks_memory → whole base' (overwritten at bytes seen) synced' pending' ≡ written at bytes (whole base seen synced pending) → length pending' ≡ length synced' → base' + length synced' ≤ length seen → memory ≤ memory' → marks_memory ≤ marks_memory' → at + length bytes ≤ length seen → AreBytes bytes → IsHeld base' (overwritten at bytes seen) synced' pending' memory' marks_memory'
+reached-held base base' at memory marks_memory memory' marks_memory' bytes seen synced synced' pending pending' held same even within g1 g2 h are =
     let room = held.room in
     let marks_room = held.marks_room in
-    let made = written-whole base at bytes seen synced pending even le h within in
-    let size = length-middle at bytes seen (omega arith) in
-    let marks = length-marked (at - base) (length bytes) pending (omega arith) in
+    let size = length-middle at bytes seen h in
     record {
-      sound = subst IsSound (sym made) (written-sound at bytes (whole base seen synced pending) (omega arith) are held.sound);
-      even = marks ∙ even;
+      sound = subst IsSound (sym same) (written-sound at bytes (whole base seen synced pending) h are held.sound);
+      even = even;
       within = omega arith;
       room = omega arith;
       marks_room = omega arith;

@@ -1,7 +1,7 @@
 //! One device in memory: what it reads, and of the part that was written since the last sync what it was then and which bytes
 //! are pending.
 
-ghost use Rattle.std.specs.Prelude.{◌≡◌, ◌+◌, ◌≤◌, ◌<◌, ◌↔◌, ◌++◌, ℕ, false, get_or, length, slice_range, vec_capacity, IfOk, IsTrue, if◌then◌else◌};
+ghost use Rattle.std.specs.Prelude.{◌≡◌, ◌+◌, ◌≤◌, ◌<◌, ◌↔◌, ◌++◌, ℕ, List, false, get_or, length, slice_range, vec_capacity, IfOk, IsTrue, if◌then◌else◌};
 ghost use Rattle.sd_rig.specs.Devices.{overwritten};
 ghost use Rattle.sd_rig.specs.Disk.{IsSettled, IsSound, blank, copies, marked, picked, poked, settled, whole, written};
 
@@ -66,16 +66,15 @@ impl Disk {
         requires { at + length bytes.now ≤ length self.old.seen }
         ensures { self.new ≡ written at bytes.now self.old }
     {
-        self.base = cover(
+        self.base = reach(
             &self.seen,
             &mut self.synced,
             &mut self.pending,
             self.base,
             at,
-            at + bytes.len(),
+            bytes.len(),
         );
         put_range(&mut self.seen, at, bytes);
-        mark_range(&mut self.pending, at - self.base, bytes.len());
     }
 
     /// Whether no byte is pending.
@@ -138,6 +137,60 @@ fn zeros(alloc: Global, len: usize) -> Result<Vec<u8>, AllocError>
     }
     v.extend_from_slice(&block[..len % BLOCK])?;
     Ok(v)
+}
+
+// Lets the part have so many places from `at` on, each of them pending, and says where it begins.
+fn reach(
+    seen: &[u8],
+    synced: &mut Vec<u8>,
+    pending: &mut Vec<bool>,
+    base: usize,
+    at: usize,
+    count: usize,
+) -> usize
+    requires even { length pending.old.items ≡ length synced.old.items }
+    requires within { base + length synced.old.items ≤ length seen.now }
+    requires fits { at + count ≤ length seen.now }
+    requires room { length seen.now ≤ vec_capacity synced.old }
+    requires marks_room { length seen.now ≤ vec_capacity pending.old }
+    ensures written { (bytes : List ℕ) → length bytes ≡ count → whole result (overwritten at bytes seen.now) synced.new.items pending.new.items ≡ written at bytes (whole base seen.now synced.old.items pending.old.items) }
+    ensures even { length pending.new.items ≡ length synced.new.items }
+    ensures within { result + length synced.new.items ≤ length seen.now }
+    ensures room { vec_capacity synced.old ≤ vec_capacity synced.new }
+    ensures marks_room { vec_capacity pending.old ≤ vec_capacity pending.new }
+{
+    if synced.is_empty() {
+        synced.extend_from_slice(&seen[at..at + count]).unwrap();
+        pending.resize(count, true).unwrap();
+        return at;
+    }
+    reach_more(seen, synced, pending, base, at, count)
+}
+
+// The same, whatever the part has.
+#[inline(never)]
+fn reach_more(
+    seen: &[u8],
+    synced: &mut Vec<u8>,
+    pending: &mut Vec<bool>,
+    base: usize,
+    at: usize,
+    count: usize,
+) -> usize
+    requires even { length pending.old.items ≡ length synced.old.items }
+    requires within { base + length synced.old.items ≤ length seen.now }
+    requires fits { at + count ≤ length seen.now }
+    requires room { length seen.now ≤ vec_capacity synced.old }
+    requires marks_room { length seen.now ≤ vec_capacity pending.old }
+    ensures written { (bytes : List ℕ) → length bytes ≡ count → whole result (overwritten at bytes seen.now) synced.new.items pending.new.items ≡ written at bytes (whole base seen.now synced.old.items pending.old.items) }
+    ensures even { length pending.new.items ≡ length synced.new.items }
+    ensures within { result + length synced.new.items ≤ length seen.now }
+    ensures room { vec_capacity synced.old ≤ vec_capacity synced.new }
+    ensures marks_room { vec_capacity pending.old ≤ vec_capacity pending.new }
+{
+    let from = cover(seen, synced, pending, base, at, at + count);
+    mark_range(pending, at - from, count);
+    from
 }
 
 // Lets the part begin at `at` or before it and reach to `end`, and says where it begins.
