@@ -5,7 +5,7 @@ ghost use Rattle.sd_model.specs.State.{State};
 ghost use Rattle.sd_moves.specs.Passing.{IsOnWay, may_set_out, set_out, with_sent};
 ghost use Rattle.sd_moves.specs.Places.{IsAsked, with_directory};
 ghost use Rattle.sd_pagelock.specs.Asks.{oldest};
-ghost use Rattle.sd_pagelock.specs.Directory.{asks_at, entry_at, image_at};
+ghost use Rattle.sd_pagelock.specs.Directory.{asks_at, entry_at, image_at, rec_lsn_at};
 ghost use Rattle.sd_pagelock.specs.Places.{holds, owns, receives};
 ghost use Rattle.sd_pagelock.specs.Rows.{given_excl, given_shared, may_share, may_yield, taken};
 ghost use Rattle.sd_pool.specs.Buffers as buffers;
@@ -19,9 +19,10 @@ ghost use Rattle.sd_state.specs.Values.{Pending};
 
 use sd_base::{InstNo, Memory, Mode, PageNo};
 use sd_page::Image;
-use sd_pagelock::rows;
+use sd_pagelock::{Directory, rows};
 use sd_rig::Rig;
 use sd_state::Complex;
+use std::alloc::Global;
 
 /// The newest version of a page sets out from an instance that has it for the one whose ask of another is the oldest. In mode
 /// `Excl` the giver, who is its only holder, gives its copy away; in mode `Shared` each holder keeps its own. Where the giver has
@@ -127,8 +128,8 @@ pub fn take_copy<G: Rig>(c: &mut Complex<G>, p: PageNo, i: InstNo) -> Result<(),
     c.directory.keeps();
     let place = c.directory.entry(p);
     let taken = rows::taken(&place);
-    let room = Box::new(*c.logs.allocator(), Image::empty(p))?;
-    let image = c.directory.arrive(p, room).unwrap();
+    let alloc = *c.logs.allocator();
+    let image = arrived(&mut c.directory, alloc, p)?;
     match c.pools[i.get() as usize - 1].put(p, image) {
         Ok(()) => {}
         Err((_, image)) => {
@@ -138,4 +139,26 @@ pub fn take_copy<G: Rig>(c: &mut Complex<G>, p: PageNo, i: InstNo) -> Result<(),
     }
     c.directory.set(p, taken, None);
     Ok(())
+}
+
+// What was on its way of a page, which is to have room for the next image that sets out. It takes memory where there is none yet.
+fn arrived(
+    directory: &mut Directory<Box<Image>>,
+    alloc: Global,
+    p: PageNo,
+) -> Result<Box<Image>, Memory>
+    requires there { image_at directory.old p ≢ None }
+    ensures value { IfOk result (λ image. image_at directory.old p ≡ Some image) }
+    ensures here { OnOk result (image_at directory.new p ≡ None) }
+    ensures stays { OnErr result (image_at directory.new p ≡ image_at directory.old p) }
+    ensures others { (q : ℕ) → q ≢ p → image_at directory.new q ≡ image_at directory.old q }
+    ensures places { (q : ℕ) → entry_at directory.new q ≡ entry_at directory.old q }
+    ensures rec_lsns { (q : ℕ) → rec_lsn_at directory.new q ≡ rec_lsn_at directory.old q }
+    ensures asks { (q : ℕ) → asks_at directory.new q ≡ asks_at directory.old q }
+{
+    if let Some(image) = directory.arrive_again(p) {
+        return Ok(image);
+    }
+    let room = Box::new(alloc, Image::empty(p))?;
+    Ok(directory.arrive(p, room).unwrap())
 }

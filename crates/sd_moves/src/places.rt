@@ -1,10 +1,10 @@
 //! Moves that no device sees: a page is alone with its only holder, a copy goes, a page is used, an ask is queued.
 
-ghost use Rattle.std.specs.Prelude.{◌≡◌, ℕ, true, None, OnErr, OnOk};
+ghost use Rattle.std.specs.Prelude.{◌≡◌, ◌≢◌, ℕ, true, None, OnErr, OnOk};
 ghost use Rattle.sd_model.specs.State.{State};
 ghost use Rattle.sd_moves.specs.Places.{IsAsked, with_directory};
 ghost use Rattle.sd_pagelock.specs.Asks.{is_open, queued};
-ghost use Rattle.sd_pagelock.specs.Directory.{asks_at, entry_at, image_at};
+ghost use Rattle.sd_pagelock.specs.Directory.{asks_at, entry_at, image_at, rec_lsn_at};
 ghost use Rattle.sd_pagelock.specs.Rows.{fallen, may_evict, may_raise, raised};
 ghost use Rattle.sd_pool.specs.Buffers.{used, without};
 ghost use Rattle.sd_state.specs.Complexes.{parts};
@@ -15,9 +15,10 @@ ghost use Rattle.sd_state.specs.Values.{Pending};
 
 use sd_base::{InstNo, Memory, Mode, PageNo};
 use sd_page::Image;
-use sd_pagelock::rows;
+use sd_pagelock::{Directory, rows};
 use sd_rig::Rig;
 use sd_state::Complex;
+use std::alloc::Global;
 
 /// The only holder of a shared page has it alone from now on. It takes no memory.
 pub fn raise<G: Rig>(c: &mut Complex<G>, p: PageNo, i: InstNo)
@@ -67,8 +68,8 @@ pub fn touch<G: Rig>(c: &mut Complex<G>, p: PageNo, i: InstNo)
 }
 
 /// An active instance asks for a page that it hasn't so: its ask is the last for the page, or the stronger of both where it asks
-/// already. It takes memory for the ask, and for room in which a copy of the page can set out. After `Memory` each page has the
-/// asks that it had.
+/// already. It takes memory for the ask, and for room in which a copy of the page can set out where there is none yet. After
+/// `Memory` each page has the asks that it had.
 pub fn queue_ask<G: Rig>(c: &mut Complex<G>, i: InstNo, p: PageNo, mode: Mode) -> Result<(), Memory>
     requires good { (pend : Pending) × (m : State) × Good (G.seen c.old.rig) (G.leaves c.old.rig) pend (parts c.old) m }
     requires active { is_active (parts c.old) i ≡ true }
@@ -82,6 +83,28 @@ pub fn queue_ask<G: Rig>(c: &mut Complex<G>, i: InstNo, p: PageNo, mode: Mode) -
         (parts c.old).directory (parts c.new).directory) }
     ensures rig { c.new.rig ≡ c.old.rig }
 {
-    let room = Box::new(*c.logs.allocator(), Image::empty(p))?;
-    c.directory.ask(i, p, mode, room)
+    let alloc = *c.logs.allocator();
+    asked(&mut c.directory, alloc, i, p, mode)
+}
+
+// The instance asks for the page. It takes memory for room in which a copy can set out where there is none yet.
+fn asked(
+    directory: &mut Directory<Box<Image>>,
+    alloc: Global,
+    i: InstNo,
+    p: PageNo,
+    mode: Mode,
+) -> Result<(), Memory>
+    ensures here { OnOk result (asks_at directory.new p ≡ queued i mode (asks_at directory.old p)) }
+    ensures others { (q : ℕ) → q ≢ p → asks_at directory.new q ≡ asks_at directory.old q }
+    ensures err { OnErr result (asks_at directory.new p ≡ asks_at directory.old p) }
+    ensures places { (q : ℕ) → entry_at directory.new q ≡ entry_at directory.old q }
+    ensures rec_lsns { (q : ℕ) → rec_lsn_at directory.new q ≡ rec_lsn_at directory.old q }
+    ensures images { (q : ℕ) → image_at directory.new q ≡ image_at directory.old q }
+{
+    if directory.ask_again(i, p, mode)? {
+        return Ok(());
+    }
+    let room = Box::new(alloc, Image::empty(p))?;
+    directory.ask(i, p, mode, room)
 }

@@ -5,9 +5,9 @@ ghost use Rattle.sd_pagelock.specs.Places.{seen, is_lost};
 
 use crate::asks::Asks;
 use crate::laws;
-use crate::noted::{GROUP, GROUPS, Noted};
+use crate::noted::{GROUP, GROUPS, Noted, leaver};
 use crate::queue::Queue;
-use crate::rows::{changed, fallen, holds, is_lost, receives, rests};
+use crate::rows::{changed, fallen, holds, is_lost, receives, rests, uses};
 use sd_base::{InstNo, Lsn, Memory, Mode, PAGES, PageNo, Place};
 use std::alloc::Global;
 use std::marker::Model;
@@ -47,7 +47,7 @@ impl<I> Model for Directory<I> {
 }
 
 impl<I: Drop> Directory<I> {
-    ghost use Rattle.std.specs.Prelude.{◌≡◌, ◌≢◌, ◌<◌, ◌≤◌, ℕ, [], None, Some, IsTrue, IfOk, is_some, option_copied, cond, true, false, Option};
+    ghost use Rattle.std.specs.Prelude.{◌≡◌, ◌≢◌, ◌<◌, ◌≤◌, ℕ, [], None, Some, IsTrue, IfNone, IfOk, IfSome, is_some, option_copied, cond, true, false, Option};
     ghost use Rattle.sd_pagelock.specs.Places.{Entry, seen, is_free, changed, receives, Formed, InRange};
     ghost use Rattle.sd_pagelock.specs.Rows.{fallen};
     ghost use Rattle.sd_pagelock.specs.Moves.{IsMove};
@@ -118,12 +118,14 @@ impl<I: Drop> Directory<I> {
     {
         let rec = self.kept_rec(p, &to, rec);
         self.asks.close(p, &to);
+        let was = self.entry(p);
         self.write(p, to, rec);
+        self.forget_leaver(p, &was);
     }
 
     /// The instance goes down: of each page its copy goes, and what moved to it. Its asks go, and those that the places
     /// that are left fulfil, all of them where a page is lost; the others keep their order. Each page keeps its RecLSN. It
-    /// takes no memory, and looks at the pages of groups in which the instance had one.
+    /// takes no memory, and looks at the pages of those groups of 32 in which the instance has one.
     pub fn fall(&mut self, i: InstNo)
         ensures places { (p : ℕ) → entry_at self.new p ≡ fallen i (entry_at self.old p) }
         ensures rec_lsns { (p : ℕ) → rec_lsn_at self.new p ≡ rec_lsn_at self.old p }
@@ -188,6 +190,24 @@ impl<I: Drop> Directory<I> {
         self.rooms[at] = Some(room);
         self.images[at].take()
     }
+
+    /// The page's image arrives, where there is room besides in which the next can set out. `None` where there isn't, and where
+    /// none was on its way: nothing changes then. It takes no memory.
+    pub fn arrive_again(&mut self, p: PageNo) -> Option<I>
+        ensures value { IfSome result (λ image. image_at self.old p ≡ Some image) }
+        ensures here { IfSome result (λ image. image_at self.new p ≡ None) }
+        ensures stays { IfNone result (image_at self.new p ≡ image_at self.old p) }
+        ensures others { (q : ℕ) → q ≢ p → image_at self.new q ≡ image_at self.old q }
+        ensures places { (q : ℕ) → entry_at self.new q ≡ entry_at self.old q }
+        ensures rec_lsns { (q : ℕ) → rec_lsn_at self.new q ≡ rec_lsn_at self.old q }
+        ensures asks { (q : ℕ) → asks_at self.new q ≡ asks_at self.old q }
+    {
+        let at = p.get() as usize;
+        if self.rooms[at].is_none() {
+            return None;
+        }
+        self.images[at].take()
+    }
 }
 
 impl<I: Drop> Directory<I> {
@@ -196,7 +216,7 @@ impl<I: Drop> Directory<I> {
     ghost use Rattle.std.specs.Ordering.{nat_cmp};
     ghost use Rattle.std.specs.Map.{keys_of};
     ghost use Rattle.std.specs.List.Sorted.{IsStrictlySortedBy};
-    ghost use Rattle.sd_pagelock.specs.Places.{seen, changed, is_lost, holds, receives, rests, Formed};
+    ghost use Rattle.sd_pagelock.specs.Places.{seen, changed, is_lost, holds, receives, uses, rests, Formed};
     ghost use Rattle.sd_pagelock.specs.Rows.{fallen};
     ghost use Rattle.sd_pagelock.specs.Asks.{queued, oldest, open_asks, asks_without};
     ghost use Rattle.sd_pagelock.specs.Directory.{entry_at, rec_lsn_at, image_at, asks_at, can_give, is_wanted, kept_rec};
@@ -214,6 +234,23 @@ impl<I: Drop> Directory<I> {
         self.asks.add(*self.places.allocator(), p, i, mode)?;
         self.rooms[p.get() as usize] = Some(room);
         Ok(())
+    }
+
+    /// `i` asks for the page, as in `ask`, where there is room already in which a copy of the page's image can set out.
+    /// `Ok(false)` where there is none yet: nothing changes then, and neither does it after `Memory`.
+    pub fn ask_again(&mut self, i: InstNo, p: PageNo, mode: Mode) -> Result<bool, Memory>
+        ensures here { IfOk result (λ asked. asks_at self.new p ≡ cond asked (queued i mode (asks_at self.old p)) (asks_at self.old p)) }
+        ensures others { (q : ℕ) → q ≢ p → asks_at self.new q ≡ asks_at self.old q }
+        ensures err { OnErr result (asks_at self.new p ≡ asks_at self.old p) }
+        ensures places { (q : ℕ) → entry_at self.new q ≡ entry_at self.old q }
+        ensures rec_lsns { (q : ℕ) → rec_lsn_at self.new q ≡ rec_lsn_at self.old q }
+        ensures images { (q : ℕ) → image_at self.new q ≡ image_at self.old q }
+    {
+        if self.rooms[p.get() as usize].is_none() {
+            return Ok(false);
+        }
+        self.asks.add(*self.places.allocator(), p, i, mode)?;
+        Ok(true)
     }
 
     /// The oldest ask for the page of another instance than `not`; `None` exactly where there is none.
@@ -287,6 +324,34 @@ impl<I: Drop> Directory<I> {
         } else {
             rec
         }
+    }
+
+    // Who used the page before, and now uses none of its group, isn't noted for the group any more: so a fall looks at those groups
+    // alone in which the instance has a page. By a row of the table at most one leaves a page.
+    fn forget_leaver(&mut self, p: PageNo, was: &Place)
+        ensures { self.new ≡ self.old }
+    {
+        let Some(i) = leaver(was, &self.entry(p)) else {
+            return;
+        };
+        let group = p.get() / GROUP;
+        if !self.uses_some(group, i) {
+            self.noted.forget(group, i);
+        }
+    }
+
+    // Whether the instance uses a page of the group.
+    fn uses_some(&self, group: u16, i: InstNo) -> bool
+        requires { group < 32 }
+        ensures { result ≡ false → (q : ℕ) → 32 * group ≤ q → q < 32 * group + 32 → uses (entry_at self.now q) i ≡ false }
+    {
+        let first = GROUP * group;
+        for at in first..first + GROUP {
+            if uses(&self.places[at as usize], i) {
+                return true;
+            }
+        }
+        false
     }
 
     // What the fall of `i` leaves of the pages of a group, without their asks.

@@ -68,6 +68,15 @@ impl Noted {
     }
 }
 
+/// The lowest of those who used the page where it was, and don't where it is now.
+pub(crate) fn leaver(was: &Place, now: &Place) -> Option<InstNo> {
+    let before = users(was).bits;
+    InstSet {
+        bits: before ^ (before & users(now).bits),
+    }
+    .first()
+}
+
 // Those who use the page that is there.
 fn users(place: &Place) -> InstSet
     ensures { (k : ℕ) → has k (members result.bits) ≡ uses (seen place.now) k }

@@ -17,18 +17,18 @@ either (Err e) P Q p q f h = h q
 pub returns-clause-asks : goal.returns-clause-asks
 returns-clause-asks g c =
     let d = c.args.c.now.directory in
-    let ask = c.ask.ensures in
-    on_ok c.ask.result _ _
-    (λ here. asked-unboxed d c.ask.new.self c.args.p (queued c.args.i c.args.mode (asks_at d c.args.p)) ask.places ask.rec_lsns
+    let ask = c.asked.ensures in
+    on_ok c.asked.result _ _
+    (λ here. asked-unboxed d c.asked.new.directory c.args.p (queued c.args.i c.args.mode (asks_at d c.args.p)) ask.places ask.rec_lsns
     ask.images here ask.others)
     ask.here
 
 pub returns-clause-stays : goal.returns-clause-stays
 returns-clause-stays g c =
     let d = c.args.c.now.directory in
-    let ask = c.ask.ensures in
-    on_err c.ask.result _ _
-    (λ same. asked-unboxed d c.ask.new.self c.args.p (asks_at d c.args.p) ask.places ask.rec_lsns ask.images same ask.others)
+    let ask = c.asked.ensures in
+    on_err c.asked.result _ _
+    (λ same. asked-unboxed d c.asked.new.directory c.args.p (asks_at d c.args.p) ask.places ask.rec_lsns ask.images same ask.others)
     ask.err
 
 pub returns-clause-good : goal.returns-clause-good
@@ -37,12 +37,12 @@ returns-clause-good g c pend m good =
     let seen = g.G.Rig.seen c.args.c.now.rig in
     let leaves = g.G.Rig.leaves c.args.c.now.rig in
     let d = c.args.c.now.directory in
-    let ask = c.ask.ensures in
+    let ask = c.asked.ensures in
     let old : List Ask = asks_at d c.args.p in
     let more : List Ask = queued c.args.i c.args.mode old in
-    either c.ask.result _ _ ask.here ask.err
-    (λ here. asked-good c.args.p seen leaves pend p m good (unboxed c.ask.new.self) more
-    (asked-unboxed d c.ask.new.self c.args.p more ask.places ask.rec_lsns ask.images here ask.others)
+    either c.asked.result _ _ ask.here ask.err
+    (λ here. asked-good c.args.p seen leaves pend p m good (unboxed c.asked.new.directory) more
+    (asked-unboxed d c.asked.new.directory c.args.p more ask.places ask.rec_lsns ask.images here ask.others)
     (live-queued (is_active p) _ c.args.i c.args.mode old c.requires.active c.requires.wanted (good.asks c.args.p)))
-    (λ same. asked-good c.args.p seen leaves pend p m good (unboxed c.ask.new.self) old
-    (asked-unboxed d c.ask.new.self c.args.p old ask.places ask.rec_lsns ask.images same ask.others) (good.asks c.args.p))
+    (λ same. asked-good c.args.p seen leaves pend p m good (unboxed c.asked.new.directory) old
+    (asked-unboxed d c.asked.new.directory c.args.p old ask.places ask.rec_lsns ask.images same ask.others) (good.asks c.args.p))
