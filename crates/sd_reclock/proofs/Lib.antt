@@ -12,3 +12,6 @@ pub mod Owners
 pub mod Ranging
 pub mod Unnaming
 pub mod Firsts
+pub mod Placing
+pub mod Placed
+pub mod Joining

@@ -1,4 +1,4 @@
--- The lowest owner in the part of the records that lies in a page. It serves the goals of locks.rt.
+-- The lowest owner in the part of the records that lies in a page. It serves the goals of few.rt, many.rt and locks.rt.
 use Rattle.std.proofs.Common.{◌≡◌, ◌≢◌, ◌⊎◌, inl, inr, ℕ, ◌+◌, Bool, true, false, ◌&&◌, not, List, [], ◌∷◌, ◌++◌, Option, Some, None, refl, sym, ap, subst, ◌∙◌, ⊎_elim, arith, append_assoc, eqb, eq-eqb, ne_eqb}
 use Rattle.std.proofs.lemmas.Bool.{cases_eq, true≢false}
 use Rattle.std.proofs.lemmas.Bool.Decides.{nat_tests}
@@ -22,11 +22,10 @@ use Rattle.sd_base.specs.Ids.{same_rid, IsBelow}
 use Rattle.sd_reclock.specs.Locks.{Held, Modes, mode_of, mode_among, held_in, Agree, AgreeAmong, OwnsIn, IsLowestOwner, IsOwner}
 use Rattle.sd_reclock.specs.Owning.{IsLow, IsLowerOf}
 use Rattle.sd_reclock.proofs.Walks.{at_some}
+use Rattle.sd_reclock.specs.Placing.{IsOneEach}
 use Rattle.sd_reclock.proofs.Owners.{low_both}
+use Rattle.sd_reclock.proofs.Placing.{Entry, found_row_at}
 use Rattle.sd_base.proofs.Orders.{rid_cmp, look-rid, same-rid-is, not_below_itself}
-
-abbrev pub Entry : Type 0
-Entry = Rid × Modes
 
 abbrev pub rid_at : ℕ → Rid
 rid_at p = record { page = p; slot = 0 }
@@ -123,7 +122,7 @@ in_page p s hi ends = ⊎_elim
     from : is_le (rid_cmp (rid_at p) (record { page = p; slot = s })) ≡ true
     from = ap (λ (o : Ordering). is_le (ordering_then o (nat_cmp 0 s))) (same_number p) ∙ zero_first s
 
-lowest_of : (locks : Held) (p : ℕ) (o : Option TxnId) → IsLow (OwnsIn locks p) o → IsLowestOwner locks p o
+pub lowest_of : (locks : Held) (p : ℕ) (o : Option TxnId) → IsLow (OwnsIn locks p) o → IsLowestOwner locks p o
 lowest_of locks p None low = λ u x. let y = low.least u x in absurd (cc y.1)
 lowest_of locks p (Some by) low = (
   low.holds by refl,
@@ -170,3 +169,36 @@ same_page a b e = ⊎_elim (λ h. h) (λ ne. absurd (true≢false (sym e ∙ ne_
 
 pub other_page : (a b : ℕ) → eqb a b ≡ false → a ≢ b
 other_page a b e h = true≢false (sym (eq-eqb a b h) ∙ e)
+
+pub low_from : (locks : Held) (p : ℕ) (o : Option TxnId) → IsLowestOwner locks p o → IsLow (OwnsIn locks p) o
+low_from locks p None none = record { holds = λ t e. absurd (cc e); least = λ u x. absurd (none u x) }
+low_from locks p (Some by) is = record {
+  holds = λ t e. at_some (Some by) t (OwnsIn locks p) e is.0;
+  least = λ u x. (by, refl, is.1 u x);
+}
+
+-- one of the rows that are one each
+pub row_found : (rows : Held) (e : Entry) → IsOneEach rows → Contains rows e → lookup (same_rid e.0) rows ≡ Some e.1
+row_found rows e one inside = subst (λ (z : Entry). lookup (same_rid z.0) rows ≡ Some z.1) inside.2 (found_row_at rows inside.0 e one inside.1)
+
+pub seen_rows : (rows rest : List Entry) (p : ℕ) (lowest : Option TxnId) → IsOneEach rows → rest ≡ [] → IsSeen p rows rest lowest → IsLowestOwner rows p lowest
+seen_rows rows rest p lowest one none seen =
+    let whole : seen.done ≡ rows = sym (append-nil seen.done) ∙ ap (λ (xs : List Entry). seen.done ++ xs) (sym none) ∙ seen.whole in
+    let low : IsLow (OwnsOne p rows) lowest = subst (λ (xs : List Entry). IsLow (OwnsOne p xs) lowest) whole seen.low in
+    lowest_of rows p lowest (record {
+      holds = λ t e. let x = low.holds t e in record {
+        rid = x.0.0;
+        inside = x.2;
+        owns = ap (λ (o : Option Modes). mode_among o t) (row_found rows x.0 one x.1) ∙ x.3;
+      };
+      least = λ u x. low.least u (at u x (lookup (same_rid x.rid) rows) refl);
+    })
+  where
+    at : (u : TxnId) (x : OwnsIn rows p u) (o : Option Modes) → lookup (same_rid x.rid) rows ≡ o → OwnsOne p rows u
+    at u x None e = let y : held_in rows u x.rid ≡ None = ap (λ (o : Option Modes). mode_among o u) e in absurd (cc (y, x.owns))
+    at u x (Some holders) e = (
+      (x.rid, holders),
+      Contains-from_lookup same-rid-is x.rid holders rows e,
+      x.inside,
+      sym (ap (λ (o : Option Modes). mode_among o u) e) ∙ x.owns,
+    )

@@ -5,3 +5,4 @@ pub mod Reaching
 pub mod Searching
 pub mod Owning
 pub mod Holding
+pub mod Placing

@@ -12,13 +12,15 @@
 //! Stands on: sd_base.
 //!
 //! To change:
-//! - free: bodies, the search (`search.rt`), the index from a transaction to its records (`locks.rt`)
+//! - free: bodies, the search (`search.rt`), which records stand in place (`few.rt`) and which behind an index (`many.rt`)
 //! - dear: `LockTable`, the clauses of `RecordLocks`
 //! - frozen: nothing; no byte on a device depends on it
 #![tactic(auto)]
 
+mod few;
 mod holders;
 mod locks;
+mod many;
 mod others;
 mod search;
 mod table;

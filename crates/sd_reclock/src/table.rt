@@ -62,6 +62,19 @@ impl RecordLocks {
         ensures free { IsFree (stands self.now) t.now (wait_for r.now mode) → IsOk result }
         ensures refused { IfErr result (IsRefused (stands self.now) (waits self.now) t.now (wait_for r.now mode)) }
     {
+        if self.locks.is_unlocked(r) {
+            return Ok(());
+        }
+        self.look_among(t, r, mode)
+    }
+
+    // The same where somebody may hold the record.
+    #[inline(never)]
+    fn look_among(&self, t: &TxnId, r: &Rid, mode: Mode) -> Result<(), Refusal>
+        ensures ok { OnOk result (IsFree (stands self.now) t.now (wait_for r.now mode)) }
+        ensures free { IsFree (stands self.now) t.now (wait_for r.now mode) → IsOk result }
+        ensures refused { IfErr result (IsRefused (stands self.now) (waits self.now) t.now (wait_for r.now mode)) }
+    {
         let wait = Asked { rid: *r, mode };
         let Some(by) = self.locks.obstacle(t, &wait) else {
             return Ok(());
@@ -146,6 +159,13 @@ impl RecordLocks {
         ensures agree { Agree self.now.locks }
     {
         self.locks.holder(r, not)
+    }
+
+    /// What holds of every table: the locks on a record agree, so beside an `Excl` lock there is no other.
+    pub fn keeps(&self)
+        ensures agree { Agree self.now.locks }
+    {
+        let _ = &self.locks;
     }
 
     /// Takes all locks of the transaction away, and its wait. All others stay. It takes no memory.

@@ -1,5 +1,5 @@
 use Rattle.sd_reclock.proofs.Ranging.{IsSeen}
-use Rattle.sd_reclock.proofs.locks.Locks.owner_in.Given as goal
+use Rattle.sd_reclock.proofs.many.Many.owner_in.Given as goal
 
 abbrev pub invariant-loop-rid : goal.invariant-loop-rid
 invariant-loop-rid l =

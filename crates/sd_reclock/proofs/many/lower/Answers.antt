@@ -6,7 +6,7 @@ use Rattle.sd_base.specs.Ids.{same_txn}
 use Rattle.sd_reclock.specs.Locks.{Modes, held_in, mode_of, mode_among, IsNoStronger}
 use Rattle.sd_reclock.proofs.Writes.{Changes, changes, changes_nothing, put_then_remove}
 use Rattle.sd_reclock.proofs.Lowering.{none_lowered}
-use Rattle.sd_reclock.proofs.locks.lower.Goals as goal
+use Rattle.sd_reclock.proofs.many.lower.Goals as goal
 use Rattle.sd_base.proofs.Orders.{put-rid, look-rid}
 
 pub returns-in_default : goal.returns-in_default

@@ -4,7 +4,7 @@ use Rattle.std.specs.Option.{IsSome}
 use Rattle.sd_base.specs.declared.ids.Rid.{Rid}
 use Rattle.sd_reclock.specs.Indexing.{rids_of}
 use Rattle.sd_reclock.proofs.Writes.{gains, stay, on_err, named_already}
-use Rattle.sd_reclock.proofs.locks.name.Goals as goal
+use Rattle.sd_reclock.proofs.many.name.Goals as goal
 use Rattle.sd_base.proofs.Orders.{put-txn, look-txn}
 
 pub returns-in_err-push-clause-same : goal.returns-in_err-push-clause-same

@@ -9,7 +9,7 @@ use Rattle.sd_base.specs.Ids.{same_txn, same_rid}
 use Rattle.sd_reclock.specs.Indexing.{rids_of}
 use Rattle.sd_reclock.proofs.Writes.{PutsTxn, stay}
 use Rattle.sd_reclock.proofs.Unnaming.{unnamed_kept}
-use Rattle.sd_reclock.proofs.locks.unname.Goals as goal
+use Rattle.sd_reclock.proofs.many.unname.Goals as goal
 use Rattle.sd_base.proofs.Orders.{put-txn, look-txn, same-rid-is}
 
 pub returns-else-eq : goal.returns-else-eq

@@ -10,7 +10,7 @@ use Rattle.sd_base.specs.Ids.{same_txn}
 use Rattle.sd_reclock.specs.Locks.{Modes, held_in, mode_of, mode_among, raised}
 use Rattle.sd_reclock.proofs.Writes.{no_mode, changes, on_err as err_by, ok_by, named_held}
 use Rattle.sd_reclock.proofs.Firsts.{alone}
-use Rattle.sd_reclock.proofs.locks.put.Goals as goal
+use Rattle.sd_reclock.proofs.many.put.Goals as goal
 use Rattle.sd_base.proofs.Orders.{rid_cmp, put-rid, look-rid}
 use Rattle.sd_base.proofs.Results.{on_ok, on_err}
 

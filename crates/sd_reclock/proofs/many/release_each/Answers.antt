@@ -4,7 +4,7 @@ use Rattle.std.specs.List.{list_any}
 use Rattle.sd_base.specs.Ids.{same_txn, same_rid}
 use Rattle.sd_reclock.specs.Locks.{held_in}
 use Rattle.sd_reclock.proofs.Writes.{gone_in_turn}
-use Rattle.sd_reclock.proofs.locks.release_each.Goals as goal
+use Rattle.sd_reclock.proofs.many.release_each.Goals as goal
 use Rattle.sd_base.proofs.Orders.{same_rid-sym}
 
 pub loop-rid-preserved : goal.loop-rid-preserved
