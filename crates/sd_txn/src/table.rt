@@ -300,3 +300,6 @@ impl TxnTable {
         Some(rec)
     }
 }
+
+#[cfg(test)]
+mod tests;
