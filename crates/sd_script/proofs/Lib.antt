@@ -9,5 +9,6 @@ pub mod Packing
 pub mod Ordinals
 pub mod Readings
 pub mod Remembering
+mod Taking
 pub mod Steps
 mod Rising

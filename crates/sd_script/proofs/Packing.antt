@@ -4,11 +4,11 @@ use Rattle.std.specs.Prelude.{All, ◌⊎◌, reverse, Option}
 use Rattle.std.specs.Cmp.Lexicographic.{bytes_decides}
 use Rattle.std.specs.Ordering.{is_eq, nat_cmp}
 use Rattle.std.specs.Str.{bytes_eq}
-use Rattle.std.proofs.lemmas.Bool.{cases_Bool, true≢false}
+use Rattle.std.proofs.lemmas.Bool.{cases_Bool, cases_lt, true≢false}
 use Rattle.std.proofs.lemmas.Bool.Decides.{nat_tests}
 use Rattle.std.proofs.Math.Nat.{pow-le-pow_right}
 use Rattle.std.proofs.lemmas.List.{reverse-append, reverse-reverse, length-reverse, get_or-reverse, take_more}
-use Rattle.sd_script.specs.Forms.{IsName, IsLetter, IsDigit}
+use Rattle.sd_script.specs.Forms.{IsName, IsNameText, IsLetter, IsDigit}
 use Rattle.sd_script.specs.Packed.{number_from_lowest, packed_of}
 
 -- each is a byte, and not 0
@@ -66,3 +66,17 @@ known_added old new key name w is at changed other is_other =
     changed (packed_of other)
     ∙ ap (λ (k : ℕ). cond (is_eq (nat_cmp k (packed_of other))) w (old (packed_of other))) at
     ∙ ap (λ (b : Bool). cond b w (old (packed_of other))) (tells name other is is_other)
+
+-- a letter or a digit, told without a choice
+between : (b : ℕ) → IsLetter b ⊎ IsDigit b → (48 ≤ b) × (b ≤ 122) × (57 < b → 97 ≤ b)
+between b (inl letter) = (omega (arith, letter), letter.1, λ _. letter.0)
+between b (inr digit) = (digit.0, omega (arith, digit), λ above. absurd (omega (arith, digit)))
+
+chosen : (b : ℕ) → (48 ≤ b) × (b ≤ 122) × (57 < b → 97 ≤ b) → IsLetter b ⊎ IsDigit b
+chosen b is = ⊎_elim (λ above. inl (is.2 above, is.1)) (λ le. inr (is.0, le)) (cases_lt 57 b)
+
+pub text_of_name : (name : List ℕ) → IsName name → IsNameText name
+text_of_name name is = (is.length, is.first, λ k d lt. between (get_or name k d) (is.each k d lt))
+
+pub name_of_text : (name : List ℕ) → IsNameText name → IsName name
+name_of_text name is = record { length = is.0; first = is.1; each = λ k d lt. chosen (get_or name k d) (is.2 k d lt) }

@@ -73,6 +73,10 @@ pub record IsName (name : List ℕ) : Type 0 where
   pub first : IsLetter (slice_index name 0)
   pub each : All (λ b. IsLetter b ⊎ IsDigit b) name
 
+-- as IsName, by facts of which each has one proof: no byte lies between a digit and a letter
+abbrev pub IsNameText : List ℕ → Type 0
+IsNameText name = (length name ≤ 16) × IsLetter (slice_index name 0) × All (λ b. (48 ≤ b) × (b ≤ 122) × (57 < b → 97 ≤ b)) name
+
 -- a value: a byte or more, each of them printed and no space
 pub record IsValue (value : List ℕ) : Type 0 where
   pub length : 0 < length value

@@ -8,8 +8,8 @@ use Rattle.sd_base.specs.declared.refusal.Cause.TheVariants.{Word}
 use Rattle.sd_script.specs.declared.line.Form.{Form}
 use Rattle.sd_script.specs.declared.line.Form.TheVariants.{Complex, Begin, Read, Write, Add, Insert, Delete, Save, Back, Rollback, Commit, Ask, Give, Take, Evict, Flush, Force, Fail, Fuse, Fault, FailAll, Reopen, RecoverAll, JoinAll, Where, Table}
 use Rattle.sd_script.specs.declared.line.Line.{Line}
-use Rattle.sd_script.specs.Forms.{IsForm, IsName}
-use Rattle.sd_script.specs.Order.{begun, ordinal_of, IsBegun, insts_of, pages_of, table_count}
+use Rattle.sd_script.specs.Forms.{IsForm, IsName, form_words}
+use Rattle.sd_script.specs.Order.{begun, ordinal_of, IsBegun, insts_of, pages_of, table_count, Follows}
 use Rattle.sd_script.specs.Reading.{ReadsAs}
 
 -- the ordinals that are known behind a line of this form, where so many names were begun before it
@@ -91,20 +91,25 @@ abbrev pub IsNextLine : List Line → List ℕ → ℕ → Option Line → Type 
 IsNextLine before bytes end None = (line : Line) → ¬ ReadsAs before bytes end line
 IsNextLine before bytes end (Some line) = ReadsAs before bytes end line
 
--- the line as which these bytes read, if it begins no name again
-pub record IsLineIfFresh (before : List Line) (bytes : List ℕ) (end : ℕ) (line : Line) : Type 0 where
-  pub reads : IsFresh before line.form → ReadsAs before bytes end line
-  pub only : (other : Line) → ReadsAs before bytes end other → other.form ≡ line.form
-  pub form : IsForm line.form
-
-abbrev pub IsLikelyLine : List Line → List ℕ → ℕ → Option Line → Type 0
-IsLikelyLine before bytes end None = (line : Line) → ¬ ReadsAs before bytes end line
-IsLikelyLine before bytes end (Some line) = IsLineIfFresh before bytes end line
-
 -- the lines with this one, if it was taken; it wasn't, if it begins a name again
 abbrev pub IsTakenIf : List Line → Line → List Line → Bool → Type 0
 IsTakenIf before line after true = IsFresh before line.form × (after ≡ before ++ line ∷ [])
 IsTakenIf before line after false = ¬ IsFresh before line.form
+
+-- the lines with one behind them that these words read as
+pub record IsTakenBehind (before : List Line) (words : List (List ℕ)) (after : List Line) : Type 0 where
+  pub line : Line
+  pub is : after ≡ before ++ line ∷ []
+  pub words_are : form_words line.form ≡ words
+  pub form : IsForm line.form
+  pub follows : Follows before line.form
+  pub number : line.number ≡ length before + 1
+  pub session : line.session ≡ 0
+
+-- as IsTakenBehind, if a line of these words was taken; it wasn't, if none may come next
+abbrev pub IsTakenOf : List Line → List (List ℕ) → List Line → Bool → Type 0
+IsTakenOf before words after true = IsTakenBehind before words after
+IsTakenOf before words after false = (form : Form) → IsForm form → Follows before form → form_words form ≢ words
 
 -- the lines with the one as which these bytes read
 pub record GoesOn (before : List Line) (bytes : List ℕ) (end : ℕ) (lines : List Line) : Type 0 where

@@ -20,6 +20,7 @@ mod inst_forms;
 pub mod laws;
 mod line;
 mod names;
+mod newest;
 mod packed;
 mod parts;
 mod reader;

@@ -1,6 +1,6 @@
 //! The ordinal of each name that was begun, found by one search at most.
 
-ghost use Rattle.std.specs.Prelude.{◌≡◌, ◌↔◌, ◌<◌, ℕ, List, None, Some, All, IsTrue, IfOk, OnOk, OnErr, cond};
+ghost use Rattle.std.specs.Prelude.{◌≡◌, ◌↔◌, ◌<◌, ℕ, List, None, Some, All, IsTrue, IfSome, IfOk, OnOk, OnErr, cond};
 ghost use Rattle.std.specs.BTreeMap.{get, is_at};
 ghost use Rattle.std.specs.List.Sorted.{IsStrictlySortedBy};
 ghost use Rattle.std.specs.Map.{keys_of, lookup, update};
@@ -9,9 +9,12 @@ ghost use Rattle.std.specs.Str.{bytes_eq};
 ghost use Rattle.std.proofs.lemmas.Map.Keys.{IsStrictlySortedBy-prop};
 ghost use Rattle.sd_script.specs.Forms.{IsName};
 ghost use Rattle.sd_script.specs.Ordinals.{ordinal_at};
+ghost use Rattle.sd_script.specs.Packed.{packed_of};
+ghost use Rattle.sd_script.specs.declared.newest.Newest.{Newest};
 
+use crate::newest::Newest;
 use crate::packed::packed;
-use sd_base::Memory;
+use sd_base::{Bytes, Memory};
 use std::alloc::Global;
 use std::collections::BTreeMap;
 
@@ -22,9 +25,9 @@ use std::collections::BTreeMap;
 pub(crate) struct Names {
     rising: Vec<(u128, u32)>,
     others: BTreeMap<u128, u32>,
-    newest: Option<(u128, u32)>,
+    newest: Option<Newest>,
     ghost rises: { IsStrictlySortedBy nat_cmp (keys_of rising.items) } by { IsStrictlySortedBy-prop nat_cmp (keys_of rising.items) },
-    ghost newest_is: { (key ordinal : ℕ) → newest ≡ Some (key, ordinal) → ordinal_at rising.items others key ≡ Some ordinal },
+    ghost newest_is: { (one : Newest) → newest ≡ Some one → ordinal_at rising.items others (packed_of one.name) ≡ Some one.ordinal },
 }
 
 impl Names {
@@ -40,16 +43,24 @@ impl Names {
         }
     }
 
+    /// The ordinal of this word, where it is the name that was begun last.
+    pub(crate) fn newest(&self, word: &[u8]) -> Option<u32>
+        ensures name { IfSome result (λ _. IsName word.now) }
+        ensures ordinal { IfSome result (λ ordinal. known self.now word.now ≡ Some ordinal) }
+    {
+        match &self.newest {
+            Some(newest) => newest.get(word),
+            None => None,
+        }
+    }
+
     /// The ordinal of this name.
+    #[inline(never)]
     pub(crate) fn get(&self, name: &[u8]) -> Option<u32>
         requires { IsName name.now }
         ensures { result ≡ known self.now name.now }
     {
-        let key = packed(name);
-        match self.newest {
-            Some((newest, ordinal)) if newest == key => Some(ordinal),
-            _ => found(&self.rising, &self.others, key),
-        }
+        found(&self.rising, &self.others, packed(name))
     }
 
     /// Gives the name this ordinal, where it has none, and tells whether it had none. Else, and after `Memory`, all is as before.
@@ -61,9 +72,14 @@ impl Names {
         ensures same { IfOk result (λ new. ¬ IsTrue new → (other : List ℕ) → known self.new other ≡ known self.old other) }
         ensures stays { OnErr result ((other : List ℕ) → known self.new other ≡ known self.old other) }
     {
+        let copied = Bytes::copy_of(*self.rising.allocator(), name)?;
         let key = packed(name);
         let new = put(&mut self.rising, &mut self.others, key, ordinal)?;
-        self.newest = if new { Some((key, ordinal)) } else { None };
+        self.newest = if new {
+            Some(Newest::of(copied, ordinal))
+        } else {
+            None
+        };
         Ok(new)
     }
 }

@@ -141,6 +141,9 @@ pub(crate) fn ordinal_of(name: &[u8], begun: &Names) -> Option<u32>
     ensures name { IfSome result (λ _. IsName name.now) }
     ensures none { IfNone result ((o : ℕ) → IsName name.now → known begun.now name.now ≢ Some o) }
 {
+    if let Some(ordinal) = begun.newest(name) {
+        return Some(ordinal);
+    }
     if is_name(name) { begun.get(name) } else { None }
 }
 

@@ -1,16 +1,19 @@
 //! The reader: the lines so far, and what is needed of them to judge the next.
 
-ghost use Rattle.std.specs.Prelude.{◌≡◌, ℕ, ◌<◌, ◌≤◌, ◌↔◌, List, [], length, IsTrue, IfOk, IfErr, OnOk, OnErr};
+ghost use Rattle.std.specs.Prelude.{◌≡◌, ℕ, ◌<◌, ◌≤◌, ◌↔◌, ◌∷◌, List, Option, [], codes, length, IsTrue, IfOk, IfErr, OnOk, OnErr};
+ghost use Rattle.std.specs.Fmt.{decimal};
 ghost use Rattle.sd_base.specs.declared.refusal.Refusal.TheVariants as refusal;
 ghost use Rattle.sd_base.specs.declared.refusal.Cause.TheVariants.{Word};
-ghost use Rattle.sd_script.specs.Forms.{IsForm, IsName};
+ghost use Rattle.sd_script.specs.Forms.{IsForm, IsFormOf, IsInst, IsName};
 ghost use Rattle.sd_script.specs.Known.{known};
-ghost use Rattle.sd_script.specs.Order.{is_table, insts_of, pages_of, Follows};
+ghost use Rattle.sd_script.specs.Order.{begun, ordinal_of, is_table, insts_of, pages_of, Follows};
 ghost use Rattle.sd_script.specs.Remembered.{known_after, begins_after, insts_after, pages_after, tables_after};
-ghost use Rattle.sd_script.specs.Remembered.{Fits, IsUnknown, IsFresh, IsTakenIf, IsLikelyLine, GoesOn, IsLineRefusedWith};
+ghost use Rattle.sd_script.specs.Remembered.{Fits, IsUnknown, IsFresh, IsTakenIf, IsTakenOf, GoesOn, IsLineRefusedWith};
 
-use crate::form::form_of;
+use crate::form::take_line;
+use crate::inst_forms::begin_of;
 use crate::names::Names;
+use crate::verb_forms::{add_of, commit_of, insert_of, read_of, write_of};
 use crate::{Form, Line};
 use sd_base::{Cause, InstNo, Memory, PageNo, Refusal};
 use std::alloc::Global;
@@ -85,37 +88,148 @@ impl Reader {
         ensures refused { IfErr result (IsLineRefusedWith self.old bytes.now end) }
     {
         let number = self.lines.len() as u32 + 1;
-        let Some(line) = self.line_of(alloc, bytes, end)? else {
+        if bytes.len() > LINE_BYTES || self.lines.len() >= LINES || end > TEXT_BYTES {
             return Err(bad_line(number));
-        };
-        if !self.take(line)? {
+        }
+        if !take_line(alloc, bytes, self)? {
             return Err(bad_line(number));
         }
         Ok(())
     }
 
-    // The line of these bytes, if it may come next or begins a name again.
-    fn line_of(&self, alloc: Global, bytes: &[u8], end: usize) -> Result<Option<Line>, Memory>
-        ensures { IfOk result (IsLikelyLine self.now bytes.now end) }
+    // Of each line that scripts mostly have, what it takes is put together in a function of its own: so nothing of the other forms
+    // is moved along.
+
+    /// Takes a begin line.
+    #[inline(never)]
+    pub(crate) fn take_begin(
+        &mut self,
+        alloc: Global,
+        inst: InstNo,
+        name: &[u8],
+    ) -> Result<bool, Memory>
+        requires few { length self.old < 100000 }
+        requires inst { IsInst inst }
+        ensures { IfOk result (IsTakenOf self.old (decimal inst ∷ codes "begin" ∷ name.now ∷ []) self.new) }
     {
-        let number = self.lines.len() + 1;
-        if bytes.len() > LINE_BYTES || number > LINES || end > TEXT_BYTES {
-            return Ok(None);
-        }
-        let Some(form) = form_of(alloc, bytes, &self.begun)? else {
-            return Ok(None);
+        let form = begin_of(alloc, inst, name)?;
+        self.take_form(form)
+    }
+
+    /// Takes a read line.
+    #[inline(never)]
+    pub(crate) fn take_read(
+        &mut self,
+        alloc: Global,
+        name: &[u8],
+        rid: &[u8],
+    ) -> Result<bool, Memory>
+        requires few { length self.old < 100000 }
+        ensures { IfOk result (IsTakenOf self.old (codes "read" ∷ name.now ∷ rid.now ∷ []) self.new) }
+    {
+        let form = read_of(alloc, name, rid, &self.begun)?;
+        self.take_form(form)
+    }
+
+    /// Takes a write line.
+    #[inline(never)]
+    pub(crate) fn take_write(
+        &mut self,
+        alloc: Global,
+        name: &[u8],
+        rid: &[u8],
+        value: &[u8],
+    ) -> Result<bool, Memory>
+        requires few { length self.old < 100000 }
+        ensures { IfOk result (IsTakenOf self.old (codes "write" ∷ name.now ∷ rid.now ∷ value.now ∷ []) self.new) }
+    {
+        let form = write_of(alloc, name, rid, value, &self.begun)?;
+        self.take_form(form)
+    }
+
+    /// Takes an add line.
+    #[inline(never)]
+    pub(crate) fn take_add(
+        &mut self,
+        alloc: Global,
+        name: &[u8],
+        rid: &[u8],
+        by: &[u8],
+    ) -> Result<bool, Memory>
+        requires few { length self.old < 100000 }
+        ensures { IfOk result (IsTakenOf self.old (codes "add" ∷ name.now ∷ rid.now ∷ by.now ∷ []) self.new) }
+    {
+        let form = add_of(alloc, name, rid, by, &self.begun)?;
+        self.take_form(form)
+    }
+
+    /// Takes an insert line that gives no capacity.
+    #[inline(never)]
+    pub(crate) fn take_insert(
+        &mut self,
+        alloc: Global,
+        name: &[u8],
+        page: &[u8],
+        value: &[u8],
+    ) -> Result<bool, Memory>
+        requires few { length self.old < 100000 }
+        ensures { IfOk result (IsTakenOf self.old (codes "insert" ∷ name.now ∷ page.now ∷ value.now ∷ []) self.new) }
+    {
+        let form = insert_of(alloc, name, page, value, None, &self.begun)?;
+        self.take_form(form)
+    }
+
+    /// Takes a commit line.
+    #[inline(never)]
+    pub(crate) fn take_commit(&mut self, alloc: Global, name: &[u8]) -> Result<bool, Memory>
+        requires few { length self.old < 100000 }
+        ensures { IfOk result (IsTakenOf self.old (codes "commit" ∷ name.now ∷ []) self.new) }
+    {
+        let form = commit_of(alloc, name, &self.begun)?;
+        self.take_form(form)
+    }
+
+    /// Takes a line of some form, which the names that were begun gave, if it may come next, and tells whether it did.
+    #[inline(never)]
+    pub(crate) fn take_other(&mut self, form: Option<Form>) -> Result<bool, Memory>
+        requires few { length self.old < 100000 }
+        requires form { (words : List (List ℕ)) × IsFormOf (ordinal_of (begun self.old)) words form }
+        ensures { (words : List (List ℕ)) → IsFormOf (ordinal_of (begun self.old)) words form →
+            IfOk result (IsTakenOf self.old words self.new) }
+    {
+        self.take_form(form)
+    }
+
+    #[inline(always)]
+    fn take_form(&mut self, form: Option<Form>) -> Result<bool, Memory>
+        requires few { length self.old < 100000 }
+        requires form { (words : List (List ℕ)) × IsFormOf (ordinal_of (begun self.old)) words form }
+        ensures { (words : List (List ℕ)) → IsFormOf (ordinal_of (begun self.old)) words form →
+            IfOk result (IsTakenOf self.old words self.new) }
+    {
+        let Some(form) = form else {
+            return Ok(false);
         };
         if !self.admits(&form) {
-            return Ok(None);
+            return Ok(false);
         }
-        Ok(Some(Line {
-            number: number as u32,
+        let before = self.lines.len() as u32;
+        self.take(Line {
+            number: before + 1,
             session: 0,
             form,
-        }))
+        })
+    }
+
+    /// The names that were begun.
+    pub(crate) fn names(&self) -> &Names
+        ensures { (name : List ℕ) → IsName name → known result.now name ≡ ordinal_of (begun self.now) name }
+    {
+        &self.begun
     }
 
     // Whether a line of this form may come next, if it begins no name again.
+    #[inline(always)]
     fn admits(&self, form: &Form) -> bool
         ensures { IsTrue result ↔ Fits self.now form.now }
     {
@@ -159,6 +273,7 @@ impl Reader {
 
     // Takes the line behind the others, unless it begins a name again, and tells whether it did. What may find no memory comes
     // first.
+    #[inline(always)]
     fn take(&mut self, line: Line) -> Result<bool, Memory>
         requires form { IsForm line.form }
         requires follows { IsFresh self.old line.form → Follows self.old line.form }
@@ -189,6 +304,7 @@ fn bad_line(number: u32) -> Refusal
 
 // Gives the name that the form begins, if it begins one, this ordinal, and tells whether it had none. Else, and after `Memory`, all
 // is as before.
+#[inline(always)]
 fn begin(names: &mut Names, begins: u32, form: &Form) -> Result<bool, Memory>
     requires { IsForm form.now }
     ensures new { IfOk result (λ new. IsTrue new ↔ IsUnknown (known names.old) form.now) }

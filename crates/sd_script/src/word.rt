@@ -1,6 +1,6 @@
 //! The words of a line: numbers, names and values.
 
-ghost use Rattle.std.specs.Prelude.{◌≡◌, ◌≢◌, ◌==◌, ℕ, ◌<◌, ◌≤◌, ◌^◌, ◌↔◌, ◌⊎◌, ◌∷◌, length, position, slice_index, All, IsTrue, IfSome, IfNone};
+ghost use Rattle.std.specs.Prelude.{◌≡◌, ◌≢◌, codes, ◌==◌, ℕ, ◌<◌, ◌≤◌, ◌^◌, ◌↔◌, ◌⊎◌, ◌∷◌, length, position, slice_index, All, IsTrue, IfSome, IfNone};
 ghost use Rattle.std.specs.Option.{option_copied};
 ghost use Rattle.std.specs.Fmt.{decimal};
 ghost use Rattle.std.specs.Str.Parse.{AllDigits, digits_value};
@@ -103,4 +103,46 @@ pub(crate) fn is_value(word: &[u8]) -> bool
     ensures { IsTrue result ↔ IsValue word.now }
 {
     !word.is_empty() && word.iter().all(|b| b.is_ascii_graphic())
+}
+
+/// Whether the word is `begin`.
+pub(crate) fn is_begin(word: &[u8]) -> bool
+    ensures { IsTrue result ↔ (word.now ≡ codes "begin") }
+{
+    matches!(word, [b'b', b'e', b'g', b'i', b'n'])
+}
+
+/// Whether the word is `read`.
+pub(crate) fn is_read(word: &[u8]) -> bool
+    ensures { IsTrue result ↔ (word.now ≡ codes "read") }
+{
+    matches!(word, [b'r', b'e', b'a', b'd'])
+}
+
+/// Whether the word is `write`.
+pub(crate) fn is_write(word: &[u8]) -> bool
+    ensures { IsTrue result ↔ (word.now ≡ codes "write") }
+{
+    matches!(word, [b'w', b'r', b'i', b't', b'e'])
+}
+
+/// Whether the word is `add`.
+pub(crate) fn is_add(word: &[u8]) -> bool
+    ensures { IsTrue result ↔ (word.now ≡ codes "add") }
+{
+    matches!(word, [b'a', b'd', b'd'])
+}
+
+/// Whether the word is `insert`.
+pub(crate) fn is_insert(word: &[u8]) -> bool
+    ensures { IsTrue result ↔ (word.now ≡ codes "insert") }
+{
+    matches!(word, [b'i', b'n', b's', b'e', b'r', b't'])
+}
+
+/// Whether the word is `commit`.
+pub(crate) fn is_commit(word: &[u8]) -> bool
+    ensures { IsTrue result ↔ (word.now ≡ codes "commit") }
+{
+    matches!(word, [b'c', b'o', b'm', b'm', b'i', b't'])
 }

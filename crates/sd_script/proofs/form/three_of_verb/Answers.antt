@@ -4,7 +4,7 @@ use Rattle.sd_script.specs.Known.{known}
 use Rattle.sd_script.proofs.Refused.{is_word}
 use Rattle.sd_script.proofs.form.three_of_verb.Goals as goal
 
-pub returns-then-eq-5 : goal.returns-then-eq-5
-returns-then-eq-5 c = subst (λ (v : List ℕ). IsFormOf (known c.args.begun.now) (v ∷ c.args.name.now ∷ c.args.word.now ∷ [])
-    c.fail_all_of.result) (sym (is_word c.args.verb.now _ _ c.as_slice-else-eq-4.ensures c.if-eq-5.ensures))
+pub returns-then-eq-4 : goal.returns-then-eq-4
+returns-then-eq-4 c = subst (λ (v : List ℕ). IsFormOf (known c.args.begun.now) (v ∷ c.args.name.now ∷ c.args.word.now ∷ [])
+    c.fail_all_of.result) (sym (is_word c.args.verb.now _ _ c.as_slice-else-eq-3.ensures c.if-eq-4.ensures))
     (c.fail_all_of.ensures (known c.args.begun.now))

@@ -1,20 +1,25 @@
-use Rattle.std.proofs.Common.{ℕ, List, ◌∷◌, Option, Some, Bor, sym, ap, ◌∙◌, subst}
-use Rattle.sd_script.specs.Forms.{IsFormOf}
+use Rattle.std.proofs.Common.{ℕ, List, [], ◌∷◌, Option, Some, Bor, sym, ap, ◌∙◌, subst}
+use Rattle.std.specs.Prelude.{IfOk}
+use Rattle.sd_script.specs.Order.{begun, ordinal_of}
+use Rattle.sd_script.specs.Remembered.{IsTakenOf}
 use Rattle.std.specs.Option.{option_copied}
 use Rattle.sd_script.specs.Text.{words_behind}
 use Rattle.sd_script.proofs.Words.{parted, some_word}
 use Rattle.sd_script.proofs.Refused.{no_six}
-use Rattle.sd_script.proofs.form.verb_form_of.Goals as goal
-use Rattle.sd_script.specs.Known.{known}
+use Rattle.sd_script.proofs.Readings.{ordinal_known}
+use Rattle.sd_script.proofs.form.take_of_verb.Goals as goal
 
 pub returns-in_default : goal.returns-in_default
 returns-in_default c =
-    let names = known c.args.begun.now in
-    subst (λ (o : Option (Bor (List ℕ))). IsFormOf names (c.args.verb.now ∷ words_behind (option_copied o)) c.lone_of.result)
-    (sym c.in_default.is) (c.lone_of.ensures names)
+    let form = c.lone_of.ensures (ordinal_of (begun c.args.reader.now)) in
+    subst (λ (o : Option (Bor (List ℕ))). IfOk c.take_other.result (IsTakenOf c.args.reader.now (c.args.verb.now ∷ words_behind (option_copied o)) c.take_other.new.self))
+    (sym c.in_default.is) (c.take_other.ensures (c.args.verb.now ∷ []) form)
+
+pub take_other-requires-clause-form : goal.take_other-requires-clause-form
+take_other-requires-clause-form c = (c.args.verb.now ∷ [], c.lone_of.ensures (ordinal_of (begun c.args.reader.now)))
 
 pub returns-in_default-Some : goal.returns-in_default-Some
-returns-in_default-Some c = λ form is knows e.
+returns-in_default-Some c = λ form is follows e.
     let two = c.first_word.result.0.now in
     let three = c.first_word-2.result.0.now in
     let four = c.first_word-3.result.0.now in
@@ -33,5 +38,5 @@ returns-in_default-Some c = λ form is knows e.
     let words = ap (λ o. words_behind (option_copied o)) c.in-Some.is ∙ second
     ∙ ap (λ (l : List (List ℕ)). two ∷ l) (third ∙ ap (λ (l : List (List ℕ)). three ∷ l) behind_four)
     ∙ ap (λ (l : List (List ℕ)). two ∷ three ∷ four ∷ five ∷ l) more.2 in
-    no_six (known c.args.begun.now) c.args.verb.now two three four five more.0 more.1 form is knows
+    no_six (ordinal_of (begun c.args.reader.now)) c.args.verb.now two three four five more.0 more.1 form is (ordinal_known c.args.reader.now form follows)
     (e ∙ ap (λ (l : List (List ℕ)). c.args.verb.now ∷ l) words)
