@@ -56,7 +56,7 @@ fn last_entry<G: Rig>(hall: &Hall<G>) -> &Entry
     requires { hall.now.book.entries ≢ [] }
     ensures { (before : List Entry) (last : Entry) → hall.now.book.entries ≡ before ++ last ∷ [] → result.now ≡ last }
 {
-    hall.book().entries().last().unwrap()
+    hall.book().last().unwrap()
 }
 
 // For whom the event of an entry still wants a page, which page, and how.

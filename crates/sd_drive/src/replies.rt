@@ -62,7 +62,7 @@ pub(crate) fn is_failed(reply: &Reply) -> bool
 pub(crate) fn ends_failed<G: Rig>(hall: &Hall<G>) -> bool
     ensures { result ≡ ends_failed hall.now.book.entries }
 {
-    match hall.book().entries().last() {
+    match hall.book().last() {
         Some(entry) => is_failed(&entry.reply),
         None => false,
     }

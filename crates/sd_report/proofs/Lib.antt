@@ -4,3 +4,4 @@ mod OneLine
 pub mod Scripts
 mod Sets
 mod Unnamed
+pub mod Told

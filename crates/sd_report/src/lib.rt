@@ -2,8 +2,8 @@
 //!
 //! Meaning: `report` (`specs/Report.antt`): what each line of a script prints, by the entries that carry its number.
 //! Keeps: nothing behind a call.
-//! Promises: `render` writes that text and nothing else (its one clause), `bad_line` that of a bad line,
-//! `damaged_line` that of devices that aren't sound.
+//! Promises: `render` writes that text and nothing else (its one clause), `render_book` that of a book, `bad_line` that of
+//! a bad line, `damaged_line` that of devices that aren't sound.
 //! Refuses: nothing but for want of memory.
 //! Knows nothing of: how a line is served, what a reply means, where the text goes.
 //! Stands on: sd_base, sd_model, sd_script.
@@ -11,7 +11,7 @@
 //!
 //! To change:
 //! - free: bodies, proofs
-//! - dear: the clauses of `render` and `bad_line`
+//! - dear: the clauses of `render`, `render_book` and `bad_line`
 //! - frozen: the words of the report (`specs/Replies.antt`, `specs/Refusals.antt`, `specs/Places.antt`)
 #![tactic(auto)]
 
@@ -25,4 +25,4 @@ mod txn_names;
 mod words;
 
 pub use order::in_order;
-pub use report::{bad_line, damaged_line, render};
+pub use report::{bad_line, damaged_line, render, render_book};

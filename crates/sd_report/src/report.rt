@@ -22,7 +22,7 @@ use crate::replies::{
 use crate::txn_names::TxnNames;
 use crate::words::{push_digits, push_end, push_next, push_number, push_rid, push_word};
 use sd_base::{Bytes, Cause, InstNo, Memory, Pick, Refusal, Rid, Word};
-use sd_model::{Entry, Reply};
+use sd_model::{Book, Entry, Reply};
 use sd_script::{Form, Line};
 use std::alloc::Global;
 
@@ -279,7 +279,7 @@ fn names_for(alloc: Global, lines: &[Line], entries: &[Entry]) -> Result<TxnName
     }
 }
 
-/// The report of the script's lines by the entries of the book: each line prints the last reply of the entries that carry
+/// The report of the script's lines by these entries: each line prints the last reply of the entries that carry
 /// its number, a table line the rows of all of them. `Memory` comes where there is none.
 pub fn render(alloc: Global, lines: &[Line], entries: &[Entry]) -> Result<Vec<u8>, Memory>
     requires lines { AreAbove 0 lines.now }
@@ -295,6 +295,15 @@ pub fn render(alloc: Global, lines: &[Line], entries: &[Entry]) -> Result<Vec<u8
         rest = others;
     }
     Ok(out)
+}
+
+/// The same of all entries of the book.
+pub fn render_book(alloc: Global, lines: &[Line], book: &Book) -> Result<Vec<u8>, Memory>
+    requires lines { AreAbove 0 lines.now }
+    requires entries { AreFrom 0 book.now.entries }
+    ensures { IfOk result (λ text. text.items ≡ report lines.now book.now.entries) }
+{
+    render(alloc, lines, book.told())
 }
 
 /// The text that tells a bad line and what is wrong with it. `Memory` comes where there is none.

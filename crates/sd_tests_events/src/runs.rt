@@ -496,12 +496,12 @@ fn serve<G: Rig>(
     requires { (start : Core) × Keeps (telling G.seen G.leaves G.moment G.since G.faults) start hall.old }
     ensures { OnOk result ((start : Core) × Keeps (telling G.seen G.leaves G.moment G.since G.faults) start hall.new) }
 {
-    let noted = hall.book().entries().len();
+    let noted = hall.book().count();
     let e = asked(alloc, pick, who, ask)?;
     if hall.call(0, 0, e).is_ok() {
         return Ok(());
     }
-    if hall.book().entries().len() != noted {
+    if hall.book().count() != noted {
         return Err("what had no memory is noted".into());
     }
     let e = asked(alloc, pick, who, ask)?;
@@ -545,7 +545,7 @@ fn agreeing<G: Rig + Drop>(
     for n in 0..lines.len() {
         let (who, ask, say) = lines[n];
         serve(alloc, &mut hall, pick, who, ask)?;
-        let Some(entry) = hall.book().entries().last() else {
+        let Some(entry) = hall.book().last() else {
             return Ok(n);
         };
         if !is_said(&entry.reply, say) {

@@ -1,7 +1,7 @@
 //! A book, a table and a number text find memory where there is some.
 
-use sd_base::{Bytes, Duplicate, PageNo, Rid};
-use sd_model::{Book, Entry, Event, Reply, Table, number_text};
+use sd_base::{Bytes, Duplicate, InstNo, Mode, PageNo, Refusal, Rid};
+use sd_model::{Answer, Book, Deed, Entry, Event, Help, Noted, Reply, Table, number_text};
 use std::test::Fail;
 
 #[test]
@@ -13,16 +13,73 @@ fn a_book_and_its_opening_find_memory(rt: HostRuntime) -> Result<(), Fail> {
     opening.put(rid, Bytes::copy_of(alloc, b"red")?)?;
     let mut book = Book::new(alloc, opening);
     book.reserve(1)?;
-    let entry = Entry {
-        session: 0,
-        line: 1,
-        event: Event::Show { page },
-        reply: Reply::Value(Some(number_text(alloc, -20)?)),
-    };
-    book.note(entry.copy()?);
+    let value = Reply::Value(Some(number_text(alloc, -20)?));
+    book.note(0, 1, Event::Show { page }, value.copy()?);
     assert!(rt;
-        matches!(book.entries(), [Entry { reply: Reply::Value(Some(text)), .. }] if text.items() == b"-20".as_slice())
+        matches!(book.told(), [Entry { reply: Reply::Value(Some(text)), .. }] if text.items() == b"-20".as_slice())
     );
     assert!(rt; book.opening().get(rid) == Some(b"red".as_slice()));
     Ok(())
+}
+
+#[test]
+fn a_short_entry_of_no_line_is_kept_in_few_bytes_once_another_comes(
+    rt: HostRuntime,
+) -> Result<(), Fail> {
+    let mut book = Book::new(rt.alloc(), Table::new(rt.alloc()));
+    let page = PageNo::new(7).ok_or("a page")?;
+    let inst = InstNo::new(1).ok_or("an instance")?;
+    let other = InstNo::new(2).ok_or("an instance")?;
+    book.reserve(6)?;
+    let mode = Mode::Excl;
+    book.note(
+        3,
+        0,
+        Event::Ask { inst, page, mode },
+        Reply::Asked { of: other },
+    );
+    let moving = Reply::Refused(Refusal::MovingTo { to: other });
+    let mode = Mode::Shared;
+    book.note(0, 0, Event::Ask { inst, page, mode }, moving);
+    book.note(0, 4, Event::Take { inst, page }, Reply::Did);
+    book.note(0, 0, Event::Give { inst, page }, Reply::Gave { to: other });
+    book.note(
+        0,
+        0,
+        Event::Evict { inst, page },
+        Reply::Refused(Refusal::Dirty),
+    );
+    book.note(0, 0, Event::Flush { inst, page }, Reply::Did);
+    let (noted, whole) = book.kept();
+    let (first, second, fourth) = match noted {
+        [
+            Noted::Short(first),
+            Noted::Short(second),
+            Noted::Whole,
+            Noted::Short(fourth),
+            Noted::Whole,
+        ] => { (*first, *second, *fourth) }
+        _ => return Err("another order".into()),
+    };
+    assert!(rt; is_help(first, 3, Deed::AskExcl, Answer::Asked));
+    assert!(rt; is_help(second, 0, Deed::AskShared, Answer::MovingTo));
+    assert!(rt; is_help(fourth, 0, Deed::Give, Answer::Gave));
+    let [of_a_line, evicted, flushed] = whole else {
+        return Err("others stand whole".into());
+    };
+    assert!(rt; of_a_line.line == 4);
+    assert!(rt; matches!(&evicted.event, Event::Evict { .. }));
+    assert!(rt; matches!(&flushed.event, Event::Flush { .. }));
+    assert!(rt; book.count() == 6);
+    Ok(())
+}
+
+// Whether instance 1 did this with page 7, and was told so of instance 2.
+fn is_help(help: Help, session: u8, deed: Deed, answer: Answer) -> bool {
+    help.session == session
+        && help.deed == deed
+        && help.answer == answer
+        && help.inst.get() == 1
+        && help.page.get() == 7
+        && help.named.get() == 2
 }

@@ -24,7 +24,7 @@ use sd_base::{Cause, Gate, Memory, Refusal, Sink, Source};
 use sd_drive::Driver;
 use sd_hall::Hall;
 use sd_model::Book;
-use sd_report::{bad_line, damaged_line, render};
+use sd_report::{bad_line, damaged_line, render_book};
 use sd_rig::Rig;
 use sd_script::{Form, Kind, Line, Script};
 use sd_state::Shape;
@@ -262,7 +262,7 @@ fn report<K: Sink>(alloc: Global, lines: &[Line], book: &Book, sink: &mut K) -> 
         (report lines.now book.now.entries)
         (record { written = K.written sink.new; faults = K.faults sink.new }) }
 {
-    match render(alloc, lines, book.entries()) {
+    match render_book(alloc, lines, book) {
         Err(Memory) => Status::NoMemory,
         Ok(text) => match write_all(sink, &text) {
             Ok(()) => Status::Done,
