@@ -1,7 +1,7 @@
 -- What the calls of a change find and leave: tables, images, sums. For `change`.
-use Rattle.std.proofs.Common.{◌≡◌, ◌≢◌, ◌⊎◌, inl, inr, ⊎_elim, ℕ, zero, suc, ◌+◌, ◌-◌, ◌≤◌, true, false, List, [], ◌∷◌, get_or, length, refl, sym, ap, ◌∙◌, subst, arith}
-use Rattle.std.specs.Prelude.{Option, None, Some, Result, Ok, Err, IfErr, IsSome, is_some, if◌then◌else◌, option_map, unwrap_or}
-use Rattle.std.proofs.lemmas.Bool.{cases_eq}
+use Rattle.std.proofs.Common.{◌≡◌, ◌≢◌, ◌⊎◌, inl, inr, ⊎_elim, ℕ, zero, suc, ◌+◌, ◌-◌, ◌^◌, ◌≤◌, ◌↔◌, Bool, true, false, List, [], ◌∷◌, cond, eqb, eq-eqb, get_or, length, max, min, nat_lt, refl, sym, ap, ◌∙◌, subst, arith}
+use Rattle.std.specs.Prelude.{Option, None, Some, Result, Ok, Err, IfErr, IsSome, IsTrue, is_some, if◌then◌else◌, option_map, unwrap_or}
+use Rattle.std.proofs.lemmas.Bool.{cases_eq, le-leb, leb-true, ne_eqb}
 use Rattle.std.proofs.lemmas.List.{length_push}
 use Rattle.std.proofs.lemmas.List.Sums.{sum_by_push}
 use Rattle.sd_base.specs.declared.ids.Rid.{Rid}
@@ -11,11 +11,15 @@ use Rattle.sd_base.specs.declared.refusal.Refusal.TheVariants as refusals
 use Rattle.sd_base.specs.declared.place.Mode.TheVariants as modes
 use Rattle.sd_page.specs.declared.op.Op.{Op}
 use Rattle.sd_reclock.specs.Locks.{Agree, Held, held_in}
-use Rattle.sd_txn.specs.Owing.{bytes_owed, records_owed, undo_len}
+use Rattle.sd_pagelock.specs.Asks.{is_open, open_asks}
+use Rattle.sd_pagelock.specs.Places.{Entry}
+use Rattle.sd_pagelock.specs.declared.queue.Ask.{Ask}
+use Rattle.sd_txn.specs.Owing.{bytes_owed, owed_of, records_owed, undo_len}
 use Rattle.sd_txn.specs.declared.state.TxnState.{TxnState}
 use Rattle.sd_redo.proofs.Written.{write-written}
-use Rattle.sd_state.specs.Changing.{Change, changed_row, flat_of, opened}
-use Rattle.sd_state.specs.Sums.{most_to, sum_to}
+use Rattle.sd_state.specs.Changing.{Change, changed_row, flat_of, opened, owed_then, row_for}
+use Rattle.sd_state.specs.Sums.{most_to, owed_above, owed_where, owes_above, owes_most, sum_to}
+use Rattle.sd_state.specs.Tables.{tells_log}
 use Rattle.std.specs.List.{AllByRecursion, IsDistinct}
 use Rattle.sd_base.specs.Ids.{same_txn}
 use Rattle.sd_base.specs.Values.{size}
@@ -28,7 +32,9 @@ use Rattle.sd_txn.specs.declared.state.OpenRec.{OpenRec}
 use Rattle.sd_txn.proofs.Alike.{alike}
 use Rattle.sd_txn.proofs.Stacks.{popped-pushed}
 use Rattle.sd_chain.specs.Pages.{redo, value, write}
-use Rattle.sd_state.specs.Parts.{among}
+use Rattle.sd_chain.specs.Records.{Each, home}
+use Rattle.sd_chain.proofs.Lists.{filter-cons}
+use Rattle.sd_state.specs.Parts.{Parts, among, is_loose, owed_at, status_at, txns_at}
 
 -- a table that tells the same of each transaction is the same
 pub table-same : (old new : Transactions) (t : TxnId) → IsDistinct same_txn (ids old) → txn_at new t ≡ txn_at old t
@@ -120,6 +126,78 @@ most-at f (suc n) j lo hi = ⊎_elim
     (λ ne. let le = most-at f n j lo (omega (arith, hi, ne)) in omega (arith, le))
     (cases_eq j (suc n))
 
+-- where one of them has so many more; below that one none has
+pub sum-near : (f g : ℕ → ℕ) (i more n : ℕ) → ((j : ℕ) → j ≢ i → f j ≤ g j) → f i ≤ g i + more
+    → (sum_to f n ≤ sum_to g n + more) × (suc n ≤ i → sum_to f n ≤ sum_to g n)
+sum-near f g i more zero others own = (omega arith, λ below. omega arith)
+sum-near f g i more (suc n) others own =
+    let near = sum-near f g i more n others own in ⊎_elim
+    (λ e. let less = near.1 (omega (arith, e)) in let last = subst (λ (j : ℕ). f j ≤ g j + more) (sym e) own in
+    (omega (arith, less, last), λ below. omega (arith, below, e)))
+    (λ ne. let most = near.0 in let last = others (suc n) ne in
+    (omega (arith, most, last), λ below. let less = near.1 (omega (arith, below)) in omega (arith, less, last)))
+    (cases_eq (suc n) i)
+
+one-more : (f : ℕ → ℕ) (n k : ℕ) → k ≡ suc n → sum_to f k ≡ sum_to f n + f k
+one-more f n k e = subst (λ (j : ℕ). sum_to f j ≡ sum_to f n + f j) (sym e) refl
+
+-- one more is added, up to the greatest number
+pub next-sum : (f : ℕ → ℕ) (n sum owes next most : ℕ) → sum ≡ min (sum_to f n) most → owes ≡ min (f (n + 1)) most
+    → next ≡ min (sum + owes) most → next ≡ min (sum_to f (n + 1)) most
+next-sum f n sum owes next most a b is = let e = one-more f n (n + 1) (omega arith) in omega (arith, a, b, is, e)
+
+cond-capped : (b : Bool) (own x most : ℕ) → min (cond b (min own most) x) most ≡ min (cond b own x) most
+cond-capped true own x most = omega arith
+cond-capped false own x most = refl
+
+-- one of them may be cut at the greatest number
+pub sum-capped : (f : ℕ → ℕ) (i own most n : ℕ)
+    → min (sum_to (λ j. cond (eqb j i) (min own most) (f j)) n) most ≡ min (sum_to (λ j. cond (eqb j i) own (f j)) n) most
+sum-capped f i own most zero = refl
+sum-capped f i own most (suc n) =
+    let less = sum-capped f i own most n in
+    let last = cond-capped (eqb (suc n) i) own (f (suc n)) most in omega (arith, less, last)
+
+-- sums up to the greatest number tell whether they pass a smaller one
+pub passes : (great sum a owed b : ℕ) → a ≡ min (great + 1) (2 ^ 64 - 1) → owed ≡ min sum (2 ^ 64 - 1) → b ≡ min (a + owed) (2 ^ 64 - 1)
+    → IsTrue (nat_lt 4611686018427387903 b) ↔ (2 ^ 62 ≤ great + 1 + sum)
+passes great sum a owed b ea eo eb = (
+  λ h. let lt = leb-true (suc 4611686018427387903) b h in omega (arith, lt, ea, eo, eb),
+  λ le. le-leb (suc 4611686018427387903) b (omega (arith, le, ea, eo, eb)),
+)
+
+-- ---- what the logs owe, at most and above that
+
+low-above : (a b : Bool) (was told : ℕ) → cond a was (cond b (max was told) was) ≤ max was told
+low-above true b was told = omega arith
+low-above false true was told = omega arith
+low-above false false was told = omega arith
+
+one-at-most : (o : Option (ℕ × ℕ)) → (if is_some o then 0 else 1) ≤ 1
+one-at-most None = omega arith
+one-at-most (Some s) = omega arith
+
+-- a change adds two at most, its record and the transaction's End
+pub owed-below : (t : TxnId) (c : Parts) → owed_where (home t) (max (owed_at c (home t)) (owed_then t c)) c ≤ owed_above c + 2
+owed-below t c =
+    let i : ℕ = home t in
+    let own : ℕ = max (owed_at c i) (owed_then t c) in
+    let one = one-at-most (row_for t c).span in
+    let near : own ≤ owes_above c i + 2 = omega (arith, one) in
+    (sum-near (λ j. cond (eqb j i) own (owes_most c j)) (owes_above c) i 2 8
+    (λ j ne. subst (λ (b : Bool). cond b own (owes_most c j) ≤ owes_above c j) (sym (ne_eqb j i ne))
+    (low-above (is_loose c j) (tells_log (status_at c j)) (owed_at c j) (owed_of (txns_at c j))))
+    (subst (λ (b : Bool). cond b own (owes_most c i) ≤ owes_above c i + 2) (sym (eq-eqb i i refl)) near)).0
+
+-- ---- the asks for a page
+
+-- those that are open where it is stay
+pub all-open : (place : Entry) (P : Ask → Type 0) (asks : List Ask) → Each (λ ask. P ask × (is_open place ask ≡ true)) asks
+    → open_asks place asks ≡ asks
+all-open place P [] each = refl
+all-open place P (ask ∷ asks) each =
+    filter-cons (is_open place) ask asks each.0.1 ∙ ap (λ (xs : List Ask). ask ∷ xs) (all-open place P asks each.1)
+
 -- ---- the image with a change
 
 pub applied-redone : (k : Change) (op : Op) (image : Page) → op.slot ≡ k.rid.slot → op.capacity ≡ k.capacity → op.after ≡ k.after
@@ -140,3 +218,8 @@ err-moved q r y e f a b same is = cc
 pub memory-only : {A : Type 0} (r : Result A Refusal) → IfErr r (λ e. e ≡ refusals.Memory) → r ≡ Err refusals.LsnEnd → ⊥
 memory-only (Ok x) only e = absurd (cc)
 memory-only (Err y) only e = absurd (cc)
+
+pub memory-last : {A : Type 0} (r : Result A Refusal) → IfErr r (λ e. e ≡ refusals.Memory)
+    → IfErr r (λ e. (e ≡ refusals.LogFull) ⊎ ((e ≡ refusals.LsnEnd) ⊎ (e ≡ refusals.Memory)))
+memory-last (Ok x) only = only
+memory-last (Err y) only = inr (inr only)

@@ -68,7 +68,7 @@ use Rattle.sd_sound.proofs.Appends.{appended-log}
 use Rattle.sd_sound.proofs.Next.{epoch-others}
 use Rattle.sd_sound.proofs.Reserved.{tested-keeps}
 use Rattle.sd_state.specs.Changing.{Change, ChangeKeepsGood, HasRoom, IsChanged, MayAppend, MayWrite, changed_log, changed_row, flat_of, putting, update, with_changed}
-use Rattle.sd_state.specs.Good.{Good, Half, IsAtWork, IsChecking, IsInstance, IsOfBegun, IsSettledAt, IsTold, OwesAtMost, base_of, dir_of, reaches}
+use Rattle.sd_state.specs.Good.{Good, Half, IsAtWork, IsChecking, IsInstance, IsOfBegun, IsSettledAt, IsTold, OwesAtMost, base_of, dir_of}
 use Rattle.sd_state.specs.Images.{IsClaimed, IsEpochOf, IsOpenIn, begun_at, leaves_by, log_by}
 use Rattle.sd_state.specs.Parts.{Begun, Parts, check_at, is_active, is_loose, log_at, no_log, no_pool, no_txns, other_at, owed_at, pool_at, status_at, txns_at, up_as}
 use Rattle.sd_state.specs.Sums.{owed_in_all, owes_most}

@@ -33,7 +33,7 @@ use Rattle.sd_sound.specs.Appends.{Appends}
 use Rattle.sd_sound.specs.Logs.{Outcomes, all_at, base_at, kept_logs, may_of, past_at, tails_of}
 use Rattle.sd_sound.specs.Soundly.{IsSoundly}
 use Rattle.sd_sound.proofs.Appends.{appended-log}
-use Rattle.sd_state.specs.Good.{IsOlder, IsOfBegun, Good, Half, IsChecking, IsInstance, IsKnownLsn, IsSettledAt, IsTold, IsUnderWay, OwesAtMost, reaches}
+use Rattle.sd_state.specs.Good.{IsOlder, IsOfBegun, Good, Half, IsChecking, IsInstance, IsKnownLsn, IsSettledAt, IsTold, IsUnderWay, OwesAtMost}
 use Rattle.sd_state.specs.Images.{IsEpochOf, begun_at, leaves_by, log_by}
 use Rattle.sd_state.specs.Parts.{Begun, Parts, among, check_at, epoch_at, is_loose, log_at, no_log, no_txns, other_at, owed_at, status_at, txns_at}
 use Rattle.sd_state.specs.Sealing.{MaySeal}

@@ -1,7 +1,6 @@
 -- A transaction's last open record is undone by some instance: what held of the complex holds of it then. For the laws on undo.
 use Rattle.std.proofs.Common.{◌≡◌, ◌≢◌, inl, inr, ⊎_elim, ℕ, suc, ◌+◌, ◌-◌, ◌≤◌, Bool, true, false, cond, List, [], ◌∷◌, ◌++◌, ◌&&◌, length, map, sum_by, refl, sym, ap, ap₂, ◌∙◌, subst, arith}
 use Rattle.std.specs.Prelude.{Option, None, Some, IfSome, is_some, reverse, if◌then◌else◌, ◌==◌}
-use Rattle.std.specs.List.{list_any}
 use Rattle.std.specs.Option.{option_map_or}
 use Rattle.std.proofs.lemmas.Bool.{cases_eq}
 use Rattle.std.proofs.lemmas.List.{length-set}
@@ -51,7 +50,7 @@ use Rattle.sd_sound.proofs.Appends.{appended-log}
 use Rattle.sd_sound.proofs.Next.{epoch-others}
 use Rattle.sd_sound.proofs.Owing.{stack-there, undo-owes}
 use Rattle.sd_sound.proofs.Room.{clr-len}
-use Rattle.sd_state.specs.Good.{Good, Half, IsChecking, IsInstance, IsKnownLsn, IsOfBegun, IsSettledAt, IsTold, OwesAtMost, dir_of, reaches}
+use Rattle.sd_state.specs.Good.{Good, Half, IsChecking, IsInstance, IsKnownLsn, IsOfBegun, IsSettledAt, IsTold, OwesAtMost, dir_of}
 use Rattle.sd_state.specs.Images.{begun_at, leaves_by, log_by}
 use Rattle.sd_state.specs.Parts.{Begun, Parts, check_at, is_active, is_loose, log_at, no_log, no_txns, other_at, owed_at, status_at, txns_at}
 use Rattle.sd_state.specs.Tables.{GoesOn, IsLive, IsLogged, NamedOnce, NamesLife, RowIsLive, RowIsLogged, StandsAs, lock_of, tells_log}

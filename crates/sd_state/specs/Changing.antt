@@ -179,7 +179,7 @@ LacksRoom k c = 1048576 < needed (log_at c (home k.txn)) (spelled_length (update
 abbrev pub LacksLsns : TxnId → Parts → Type 0
 LacksLsns t c = 2 ^ 62 ≤ great_of c + 1 + owed_where (home t) (max (owed_at c (home t)) (owed_then t c)) c
 
--- the change whose undo wants this, and that writes so into the page
+-- the change whose undo wants this, and that writes so into the page; its log record has what both have
 abbrev pub change_in : TxnId → OpenRec → Op → Change
 change_in t top op = record {
   txn = t;
@@ -190,11 +190,6 @@ change_in t top op = record {
   before = top.before;
   after = op.after;
 }
-
--- Its log record agrees with both.
-pub record IsPrepared (t : TxnId) (rec : Record) (top : OpenRec) (op : Op) : Type 0 where
-  pub is : rec ≡ update (change_in t top op)
-  pub slot : op.slot ≡ top.rid.slot
 
 -- The table has a further open record of the transaction, and is else as it was.
 pub record IsRowPut (t : TxnId) (top : OpenRec) (old new : Transactions) : Type 0 where

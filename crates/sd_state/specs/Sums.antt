@@ -28,3 +28,10 @@ owed_in_all c = sum_to (owes_most c) 8
 
 abbrev pub owed_where : ℕ → ℕ → Parts → ℕ
 owed_where i own c = sum_to (λ j. cond (eqb j i) own (owes_most c j)) 8
+
+-- at or above it, whatever the log's device and its instance: the greater of what is kept and what its table tells
+abbrev pub owes_above : Parts → ℕ → ℕ
+owes_above c j = max (owed_at c j) (owed_of (txns_at c j))
+
+abbrev pub owed_above : Parts → ℕ
+owed_above c = sum_to (owes_above c) 8

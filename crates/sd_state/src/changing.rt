@@ -7,18 +7,21 @@ ghost use Rattle.sd_base.specs.declared.place.Mode.TheVariants as modes;
 ghost use Rattle.sd_base.specs.declared.place.Status.TheVariants as S;
 ghost use Rattle.sd_base.specs.declared.refusal.Refusal.TheVariants as R;
 ghost use Rattle.sd_chain.specs.Pages.{value};
-ghost use Rattle.sd_log.specs.Logs.{is_reserved, needed, with_record};
+ghost use Rattle.sd_log.specs.Logs.{needed, with_record};
 ghost use Rattle.sd_logrec.specs.Spelling.{HasSpelling, IsTxn, spelling};
 ghost use Rattle.sd_model.specs.State.{State};
 ghost use Rattle.sd_page.specs.Page.{CanTake, Fits, applied};
-ghost use Rattle.sd_pagelock.specs.Directory.{entry_at};
-ghost use Rattle.sd_pagelock.specs.Places.{owns};
+ghost use Rattle.sd_pagelock.specs.Asks.{open_asks};
+ghost use Rattle.sd_pagelock.specs.Directory.{asks_at, entry_at, image_at as under_way, kept_rec, rec_lsn_at};
+ghost use Rattle.sd_pagelock.specs.Places.{changed, owns};
+ghost use Rattle.sd_pagelock.specs.Rows.{dirtied};
 ghost use Rattle.sd_pool.specs.Buffers.{image_at};
 ghost use Rattle.sd_reclock.specs.Locks.{held};
-ghost use Rattle.sd_state.specs.Changing.{FitsThere, IsMade, IsPrepared, IsPut, IsRowPut, LacksLsns, LacksRoom, change_in, change_of, image_for, owed_then, putting, reserve_then, row_for};
+ghost use Rattle.sd_state.specs.Changing.{FitsThere, IsMade, IsPut, IsRowPut, LacksLsns, LacksRoom, change_in, change_of, image_for, owed_then, putting, reserve_then, row_for, update};
 ghost use Rattle.sd_state.specs.Complexes.{parts};
 ghost use Rattle.sd_state.specs.Good.{Good};
 ghost use Rattle.sd_state.specs.Parts.{IsShape, log_at, no_txns, owed_at, pool_at, status_at, txns_at};
+ghost use Rattle.sd_state.specs.Sums.{great_of, owed_above};
 ghost use Rattle.sd_state.specs.Values.{Pending};
 ghost use Rattle.sd_txn.specs.Owing.{reserve_of};
 ghost use Rattle.sd_txn.specs.Transactions.{IsUnresolved, state_at};
@@ -26,22 +29,21 @@ ghost use Rattle.sd_txn.specs.declared.state.TxnState.TheVariants.{Running};
 
 use crate::complex::Complex;
 use sd_base::{
-    Bytes, InstNo, Lsn, MAX_SLOTS, Memory, PageNo, Place, Refusal, Rid, TxnId, lent_value,
-    value_len,
+    Bytes, InstNo, Lsn, Memory, PageNo, Place, Refusal, Rid, TxnId, copy_value, value_len,
 };
 use sd_log::Log;
 use sd_logrec::{AREA_LEN, CLR_LEN, END_LEN, GROUP_HEAD, MAX_LSN, Record};
 use sd_page::{Image, Op};
+use sd_pagelock::Directory;
 use sd_pool::Pool;
 use sd_rig::Rig;
 use sd_txn::{OpenRec, TxnTable};
 use std::alloc::Global;
 use std::cmp;
 
-// A change before anything has it: its log record, what its undo wants, and what is written into the page.
+// A change before anything has it: what its undo wants, and what is written into the page.
 #[derive(Drop)]
 struct Prepared {
-    rec: Record,
     top: OpenRec,
     op: Op,
 }
@@ -81,18 +83,13 @@ impl<G: Rig> Complex<G> {
             ↔ ((LacksRoom (change_of t.now r capacity after (parts self.old)) (parts self.old) → ⊥) × LacksLsns t.now (parts self.old)) }
         ensures refusals { IfErr result (λ e. (e ≡ R.LogFull) ⊎ ((e ≡ R.LsnEnd) ⊎ (e ≡ R.Memory))) }
     {
-        // No two locks on a record conflict, so nobody else has one. A look at any record tells it; at one that is never locked it
-        // is short, and no page has this slot.
-        let none = Rid {
-            page: r.page,
-            slot: MAX_SLOTS,
-        };
-        let _other = self.locks.holder(&none, t);
+        // No two locks on a record conflict, so nobody else has one.
+        self.locks.keeps();
         let image = self.image(t, r.page);
         let span = self.span(t);
         let reserve = self.reserved_for(t, &r, image, span, &after)?;
-        let Prepared { rec, top, op } = self.prepared(t, &r, image, span, capacity, after)?;
-        self.put_change(t, rec, top, op, reserve)
+        let Prepared { top, op } = self.prepared(t, &r, image, span, capacity, after)?;
+        self.put_change(t, top, op, reserve)
     }
 }
 
@@ -120,7 +117,7 @@ impl<G> Complex<G> {
         if self.lacks_bytes(t.inst, 38 + before + value_len(after), reserve) {
             return Err(Refusal::LogFull);
         }
-        if self.lacks_lsns(t) {
+        if self.lacks_lsns(t, span) {
             return Err(Refusal::LsnEnd);
         }
         Ok(reserve as u32)
@@ -179,11 +176,12 @@ impl<G> Complex<G> {
     }
 
     // The records that the log of the transaction's instance owes at most with one more open record; 2^64 - 1 where they are more.
-    fn owed_then(&self, t: &TxnId) -> u64
+    fn owed_then(&self, t: &TxnId, span: Option<(Lsn, Lsn)>) -> u64
         requires shape { IsShape (parts self.now) }
+        requires span { span ≡ (row_for t.now (parts self.now)).span }
         ensures { result ≡ min (max (owed_at (parts self.now) t.now.inst) (owed_then t.now (parts self.now))) (2 ^ 64 - 1) }
     {
-        let end = match self.span(t) {
+        let end = match span {
             Some(_) => 0,
             None => 1,
         };
@@ -196,15 +194,37 @@ impl<G> Complex<G> {
     }
 
     // Whether no LSNs are left for a change and for all that the logs owe then.
-    fn lacks_lsns(&self, t: &TxnId) -> bool
+    fn lacks_lsns(&self, t: &TxnId, span: Option<(Lsn, Lsn)>) -> bool
         requires shape { IsShape (parts self.now) }
+        requires span { span ≡ (row_for t.now (parts self.now)).span }
         ensures { IsTrue result ↔ LacksLsns t.now (parts self.now) }
     {
-        let owed = self.owed_where(t.inst, self.owed_then(t));
+        if self.has_few_lsns() {
+            return self.lacks_own_lsns(t, span);
+        }
+        false
+    }
+
+    // The same, by what each log owes just then.
+    fn lacks_own_lsns(&self, t: &TxnId, span: Option<(Lsn, Lsn)>) -> bool
+        requires shape { IsShape (parts self.now) }
+        requires span { span ≡ (row_for t.now (parts self.now)).span }
+        ensures { IsTrue result ↔ LacksLsns t.now (parts self.now) }
+    {
+        let owed = self.owed_where(t.inst, self.owed_then(t, span));
         self.great().saturating_add(1).saturating_add(owed) > MAX_LSN
     }
 
-    // Makes what a change puts into the log, the table and the page: all its copies.
+    // Whether LSNs may be lacking for a change. A change adds two to what is owed, one more record and its transaction's End.
+    fn has_few_lsns(&self) -> bool
+        requires shape { IsShape (parts self.now) }
+        ensures { IsTrue result ↔ (2 ^ 62 ≤ great_of (parts self.now) + 1 + (owed_above (parts self.now) + 2)) }
+    {
+        let owed = self.owed_above().saturating_add(2);
+        self.great().saturating_add(1).saturating_add(owed) > MAX_LSN
+    }
+
+    // Makes what a change puts into the table and the page.
     fn prepared(
         &self,
         t: &TxnId,
@@ -222,57 +242,42 @@ impl<G> Complex<G> {
         requires small { capacity ≤ 256 }
         requires fits { FitsThere t.now r.now capacity after (parts self.now) }
         ensures change { IfOk result (λ p. change_in t.now p.top p.op ≡ change_of t.now r.now capacity after (parts self.now)) }
-        ensures agrees { IfOk result (λ p. IsPrepared t.now p.rec p.top p.op) }
-        ensures spelled { IfOk result (λ p. HasSpelling p.rec) }
+        ensures slot { IfOk result (λ p. p.op.slot ≡ p.top.rid.slot) }
+        ensures spelled { IfOk result (λ p. HasSpelling (update (change_in t.now p.top p.op))) }
     {
         let alloc = *self.logs.allocator();
         let _number = r.page.get();
         let _bytes = image.bytes();
         let lsn = self.log(t.inst).next_lsn(image.lsn());
         let prev = last_in(span);
-        let before = owned(alloc, image.value(r.slot))?;
         let top = OpenRec {
             lsn,
             prev,
             rid: *r,
-            before: owned(alloc, lent_value(&before))?,
+            before: owned(alloc, image.value(r.slot))?,
         };
         let op = Op {
             slot: r.slot,
             capacity,
-            after: owned(alloc, lent_value(&after))?,
-        };
-        let rec = Record::Update {
-            lsn,
-            txn: *t,
-            prev,
-            page: r.page,
-            slot: r.slot,
-            capacity,
-            before,
             after,
         };
-        Ok(Prepared { rec, top, op })
+        Ok(Prepared { top, op })
     }
 
     // Puts a change into the log, the table, the page's image and the directory. Memory changes nothing.
-    fn put_change(
-        &mut self,
-        t: &TxnId,
-        rec: Record,
-        top: OpenRec,
-        op: Op,
-        reserve: u32,
-    ) -> Result<(), Refusal>
+    fn put_change(&mut self, t: &TxnId, top: OpenRec, op: Op, reserve: u32) -> Result<(), Refusal>
         requires shape { IsShape (parts self.old) }
-        requires agrees { IsPrepared t.now rec top op }
+        requires slot { op.slot ≡ top.rid.slot }
         requires known { IsUnresolved (txns_at (parts self.old) t.now.inst) t.now }
-        requires spelled { HasSpelling rec }
-        requires room { needed (log_at (parts self.old) t.now.inst) (length (spelling rec)) reserve ≤ 1048576 }
+        requires spelled { HasSpelling (update (change_in t.now top op)) }
+        requires room { needed (log_at (parts self.old) t.now.inst) (length (spelling (update (change_in t.now top op)))) reserve
+            ≤ 1048576 }
         requires held { IsSome (image_at (pool_at (parts self.old) t.now.inst) top.rid.page) }
         requires takes { CanTake (image_for t.now top.rid.page (parts self.old)).slots op.slot op.capacity
             (size op.after) }
         requires owns { owns (entry_at (parts self.old).directory top.rid.page) t.now.inst ≡ true }
+        requires open { open_asks (entry_at (parts self.old).directory top.rid.page) (asks_at (parts self.old).directory top.rid.page)
+            ≡ asks_at (parts self.old).directory top.rid.page }
         ensures put { OnOk result (IsPut (change_in t.now top op) reserve (parts self.old) (parts self.new)) }
         ensures refused { OnErr result (parts self.new ≡ parts self.old) }
         ensures only { IfErr result (λ e. e ≡ R.Memory) }
@@ -282,13 +287,9 @@ impl<G> Complex<G> {
         let at = t.inst.get() as usize - 1;
         let lsn = top.lsn;
         let page = page_of(&top);
-        log_within(&mut self.logs[at], &mut self.txns, at, t, rec, top, reserve)?;
+        log_within(&mut self.logs[at], &mut self.txns, at, t, top, &op, reserve)?;
         rewrite(&mut self.pools[at], page, &op, lsn);
-        let place = Place::Excl {
-            holder: t.inst,
-            dirty: true,
-        };
-        self.directory.set(page, place, Some(lsn));
+        mark(&mut self.directory, t.inst, page, lsn);
         Ok(())
     }
 }
@@ -332,26 +333,45 @@ fn owned(alloc: Global, found: Option<&[u8]>) -> Result<Option<Bytes>, Memory>
     }
 }
 
-// Puts a record that isn't reserved for at the end of a log, and its transaction's row into the table. Memory changes neither.
+// The log record of a change.
+fn record_of(t: &TxnId, top: &OpenRec, op: &Op) -> Result<Record, Memory>
+    ensures { IfOk result (λ rec. rec ≡ update (change_in t.now top.now op.now)) }
+{
+    let before = copy_value(&top.before)?;
+    let after = copy_value(&op.after)?;
+    Ok(Record::Update {
+        lsn: top.lsn,
+        txn: *t,
+        prev: top.prev,
+        page: top.rid.page,
+        slot: top.rid.slot,
+        capacity: op.capacity,
+        before,
+        after,
+    })
+}
+
+// Puts the record of a change at the end of a log, and its transaction's row into the table. Memory changes neither.
+#[inline(always)]
 fn log_change(
     log: &mut Log,
     table: &mut TxnTable,
     t: &TxnId,
-    rec: Record,
     top: OpenRec,
+    op: &Op,
     reserve: u32,
 ) -> Result<(), Refusal>
     requires known { IsUnresolved table.old t.now }
-    requires spelled { HasSpelling rec }
-    requires further { is_reserved rec ≡ false }
-    requires room { needed log.old (length (spelling rec)) reserve ≤ 1048576 }
-    ensures log { OnOk result (log.new ≡ with_record rec log.new.spare log.old) }
+    requires spelled { HasSpelling (update (change_in t.now top op.now)) }
+    requires room { needed log.old (length (spelling (update (change_in t.now top op.now)))) reserve ≤ 1048576 }
+    ensures log { OnOk result (log.new ≡ with_record (update (change_in t.now top op.now)) log.new.spare log.old) }
     ensures memory { OnOk result (reserve ≤ log.new.spare) }
     ensures row { OnOk result (IsRowPut t.now top table.old table.new) }
     ensures log_stays { OnErr result (log.new ≡ log.old) }
     ensures table_stays { OnErr result (table.new ≡ table.old) }
     ensures only { IfErr result (λ e. e ≡ R.Memory) }
 {
+    let rec = record_of(t, &top, op)?;
     let lsn = top.lsn;
     table.keeps();
     table.push(t, top)?;
@@ -366,21 +386,21 @@ fn log_change(
 }
 
 // The same in the table that stands at a place.
+#[inline(always)]
 fn log_within(
     log: &mut Log,
     txns: &mut Vec<TxnTable>,
     at: usize,
     t: &TxnId,
-    rec: Record,
     top: OpenRec,
+    op: &Op,
     reserve: u32,
 ) -> Result<(), Refusal>
     requires place { at < length txns.old.items }
     requires known { IsUnresolved (get_or txns.old.items at no_txns) t.now }
-    requires spelled { HasSpelling rec }
-    requires further { is_reserved rec ≡ false }
-    requires room { needed log.old (length (spelling rec)) reserve ≤ 1048576 }
-    ensures log { OnOk result (log.new ≡ with_record rec log.new.spare log.old) }
+    requires spelled { HasSpelling (update (change_in t.now top op.now)) }
+    requires room { needed log.old (length (spelling (update (change_in t.now top op.now)))) reserve ≤ 1048576 }
+    ensures log { OnOk result (log.new ≡ with_record (update (change_in t.now top op.now)) log.new.spare log.old) }
     ensures memory { OnOk result (reserve ≤ log.new.spare) }
     ensures row { OnOk result (IsRowPut t.now top (get_or txns.old.items at no_txns) (get_or txns.new.items at no_txns)) }
     ensures table { OnOk result (txns.new.items ≡ slice_set txns.old.items at (get_or txns.new.items at no_txns)) }
@@ -388,7 +408,7 @@ fn log_within(
     ensures tables_stay { OnErr result (txns.new.items ≡ txns.old.items) }
     ensures only { IfErr result (λ e. e ≡ R.Memory) }
 {
-    log_change(log, &mut txns[at], t, rec, top, reserve)
+    log_change(log, &mut txns[at], t, top, op, reserve)
 }
 
 // Sets a value in the image that a pool has of a page.
@@ -401,4 +421,26 @@ fn rewrite(pool: &mut Pool, p: PageNo, op: &Op, lsn: Lsn)
 {
     sd_pool::laws::rewritten();
     pool.get(p).unwrap().apply(op, lsn).unwrap();
+}
+
+// The directory has a page as one that its holder changed, at this LSN for the first time where it wasn't changed.
+fn mark(directory: &mut Directory<Box<Image>>, i: InstNo, p: PageNo, lsn: Lsn)
+    requires owns { owns (entry_at directory.old p) i ≡ true }
+    requires open { open_asks (entry_at directory.old p) (asks_at directory.old p) ≡ asks_at directory.old p }
+    ensures here { entry_at directory.new p ≡ dirtied i }
+    ensures rec_lsn { rec_lsn_at directory.new p
+        ≡ kept_rec (changed (entry_at directory.old p)) true (rec_lsn_at directory.old p) (Some lsn) }
+    ensures asks { asks_at directory.new p ≡ open_asks (dirtied i) (asks_at directory.old p) }
+    ensures images { (q : ℕ) → under_way directory.new q ≡ under_way directory.old q }
+    ensures others { (q : ℕ) → q ≢ p → entry_at directory.new q ≡ entry_at directory.old q }
+    ensures other_rec_lsns { (q : ℕ) → q ≢ p → rec_lsn_at directory.new q ≡ rec_lsn_at directory.old q }
+    ensures other_asks { (q : ℕ) → q ≢ p → asks_at directory.new q ≡ asks_at directory.old q }
+{
+    let place = Place::Excl {
+        holder: i,
+        dirty: true,
+    };
+    if directory.entry(p) != place {
+        directory.set(p, place, Some(lsn));
+    }
 }

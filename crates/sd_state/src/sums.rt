@@ -4,7 +4,7 @@ ghost use Rattle.std.specs.Prelude.{◌≡◌, ◌+◌, ◌-◌, ◌^◌, ◌<�
 ghost use Rattle.sd_log.specs.Logs.{last_lsn, scanned};
 ghost use Rattle.sd_state.specs.Complexes.{parts};
 ghost use Rattle.sd_state.specs.Parts.{IsShape, log_at};
-ghost use Rattle.sd_state.specs.Sums.{great_of, most_to, owed_where, owes_most};
+ghost use Rattle.sd_state.specs.Sums.{great_of, most_to, owed_above, owed_where, owes_above, owes_most};
 
 use crate::complex::Complex;
 use sd_base::{InstNo, Lsn, Status};
@@ -50,6 +50,28 @@ impl<G> Complex<G> {
             sum = sum.saturating_add(self.owes_where(n, i, own));
         }
         sum
+    }
+
+    // At or above what all logs owe at most, without a look at how they stand; 2^64 - 1 where that is more.
+    pub(crate) fn owed_above(&self) -> u64
+        requires shape { IsShape (parts self.now) }
+        ensures { result ≡ min (owed_above (parts self.now)) (2 ^ 64 - 1) }
+    {
+        let mut sum: u64 = 0;
+        for n in 0..8u8 {
+            sum = sum.saturating_add(self.owes_above(n));
+        }
+        sum
+    }
+
+    // At or above what the log of instance n + 1 owes; 2^64 - 1 where that is more.
+    fn owes_above(&self, n: u8) -> u64
+        requires shape { IsShape (parts self.now) }
+        requires eight { n < 8 }
+        ensures { result ≡ min (owes_above (parts self.now) (n + 1)) (2 ^ 64 - 1) }
+    {
+        let at = n as usize;
+        cmp::max(self.owed[at], self.txns[at].owed())
     }
 
     // What the log of instance n + 1 owes, where log i owes so many.

@@ -1,16 +1,18 @@
-use Rattle.std.proofs.Common.{ℕ, is_some, sym, ap, ◌∙◌, subst}
+use Rattle.std.proofs.Common.{◌≡◌, ℕ, true, is_some, sym, ap, ◌∙◌, subst}
 use Rattle.std.specs.Prelude.{IsSome}
 use Rattle.std.proofs.lemmas.Result.{err_from_is_err_and}
 use Rattle.sd_base.specs.declared.refusal.Refusal.TheVariants as refusals
 use Rattle.sd_base.proofs.Results.{on_ok}
+use Rattle.sd_pagelock.specs.Asks.{open_asks}
+use Rattle.sd_pagelock.specs.Directory.{asks_at, entry_at}
 use Rattle.sd_pool.specs.Buffers.{image_at}
 use Rattle.sd_state.specs.Changing.{Change, IsPut, LacksLsns, LacksRoom, change_in, change_of, putting, update}
 use Rattle.sd_state.specs.Complexes.{parts}
 use Rattle.sd_state.specs.Good.{Good}
-use Rattle.sd_state.specs.Parts.{Parts, pool_at}
+use Rattle.sd_state.specs.Parts.{Parts, is_active, pool_at}
 use Rattle.sd_state.specs.Values.{Pending}
 use Rattle.sd_state.proofs.Answered.{not-ok}
-use Rattle.sd_state.proofs.ChangeCalls.{err-moved, memory-only}
+use Rattle.sd_state.proofs.ChangeCalls.{all-open, err-moved, memory-last, memory-only}
 use Rattle.sd_state.proofs.ChangeMade.{Asks, copy, lsn-left, made, made-good, room-there, row, takes-there}
 use Rattle.sd_state.proofs.complex.Complex.change.Goals as goal
 
@@ -24,7 +26,7 @@ image-image-requires-clause-held g c =
       up = c.requires.up;
       runs = c.requires.runs;
       lock = c.requires.lock;
-      agree = c.holder-other.ensures.agree;
+      agree = c.keeps.ensures.agree;
       owned = c.requires.owns;
       fits = c.requires.fits;
     } in
@@ -52,7 +54,7 @@ prepared-requires-clause-left g c =
       up = c.requires.up;
       runs = c.requires.runs;
       lock = c.requires.lock;
-      agree = c.holder-other.ensures.agree;
+      agree = c.keeps.ensures.agree;
       owned = c.requires.owns;
       fits = c.requires.fits;
     } in
@@ -73,7 +75,7 @@ put_change-requires-clause-known g c =
       up = c.requires.up;
       runs = c.requires.runs;
       lock = c.requires.lock;
-      agree = c.holder-other.ensures.agree;
+      agree = c.keeps.ensures.agree;
       owned = c.requires.owns;
       fits = c.requires.fits;
     } in
@@ -87,8 +89,8 @@ put_change-requires-clause-room g c =
     let k : Change = change_of c.args.t.now c.args.r c.args.capacity c.args.after p in
     let room : LacksRoom k p → ⊥ = λ over. not-ok _ _ (sym (c.reserved_for.ensures.full.1 over) ∙ c.in_ok-reserve.was) in
     let left : LacksLsns c.args.t.now p → ⊥ = λ over. not-ok _ _ (sym (c.reserved_for.ensures.lsns.1 (room, over)) ∙ c.in_ok-reserve.was) in
-    room-there k p c.in_ok-rec.field-0.rec c.in_ok-reserve.reserve (c.in_ok-rec.ensures.agrees.is ∙ ap update c.in_ok-rec.ensures.change)
-    c.in_ok-reserve.ensures.ok room
+    room-there k p (update (change_in c.args.t.now c.in_ok-top.field-0.top c.in_ok-top.field-0.op)) c.in_ok-reserve.reserve
+    (ap update c.in_ok-top.ensures.change) c.in_ok-reserve.ensures.ok room
 
 pub put_change-requires-clause-held : goal.put_change-requires-clause-held
 put_change-requires-clause-held g c =
@@ -100,19 +102,27 @@ put_change-requires-clause-held g c =
       up = c.requires.up;
       runs = c.requires.runs;
       lock = c.requires.lock;
-      agree = c.holder-other.ensures.agree;
+      agree = c.keeps.ensures.agree;
       owned = c.requires.owns;
       fits = c.requires.fits;
     } in
     let seen = g.G.Rig.seen c.args.self.now.rig in
     let leaves = g.G.Rig.leaves c.args.self.now.rig in
     let there = copy c.args.t.now c.args.r c.args.capacity c.args.after seen leaves p c.requires.good.0 c.requires.good.1 asks in
-    subst (λ (z : Change). IsSome (image_at (pool_at p c.args.t.now.inst) z.rid.page)) (sym c.in_ok-rec.ensures.change) (ap is_some there)
+    subst (λ (z : Change). IsSome (image_at (pool_at p c.args.t.now.inst) z.rid.page)) (sym c.in_ok-top.ensures.change) (ap is_some there)
+
+pub put_change-requires-clause-open : goal.put_change-requires-clause-open
+put_change-requires-clause-open g c =
+    let p : Parts = parts c.args.self.now in
+    subst (λ (z : Change). open_asks (entry_at p.directory z.rid.page) (asks_at p.directory z.rid.page) ≡ asks_at p.directory z.rid.page)
+    (sym c.in_ok-top.ensures.change)
+    (all-open (entry_at p.directory c.args.r.page) (λ ask. is_active p ask.by ≡ true) (asks_at p.directory c.args.r.page)
+    (c.requires.good.1.asks c.args.r.page))
 
 pub put_change-requires-clause-takes : goal.put_change-requires-clause-takes
 put_change-requires-clause-takes g c =
-    takes-there c.args.t.now c.args.r c.args.capacity c.args.after (parts c.args.self.now) c.in_ok-rec.field-0.top c.in_ok-rec.field-0.op
-    c.in_ok-rec.ensures.change c.in_ok-rec.ensures.agrees.slot c.requires.small c.requires.fits
+    takes-there c.args.t.now c.args.r c.args.capacity c.args.after (parts c.args.self.now) c.in_ok-top.field-0.top c.in_ok-top.field-0.op
+    c.in_ok-top.ensures.change c.in_ok-top.ensures.slot c.requires.small c.requires.fits
 
 pub returns-clause-good : goal.returns-clause-good
 returns-clause-good g c m good =
@@ -124,7 +134,7 @@ returns-clause-good g c m good =
       up = c.requires.up;
       runs = c.requires.runs;
       lock = c.requires.lock;
-      agree = c.holder-other.ensures.agree;
+      agree = c.keeps.ensures.agree;
       owned = c.requires.owns;
       fits = c.requires.fits;
     } in
@@ -133,9 +143,9 @@ returns-clause-good g c m good =
     let k : Change = change_of c.args.t.now c.args.r c.args.capacity c.args.after p in
     let room : LacksRoom k p → ⊥ = λ over. not-ok _ _ (sym (c.reserved_for.ensures.full.1 over) ∙ c.in_ok-reserve.was) in
     let left : LacksLsns c.args.t.now p → ⊥ = λ over. not-ok _ _ (sym (c.reserved_for.ensures.lsns.1 (room, over)) ∙ c.in_ok-reserve.was) in
-    let put = λ (q : IsPut (change_in c.args.t.now c.in_ok-rec.field-0.top c.in_ok-rec.field-0.op) c.in_ok-reserve.reserve p (parts c.put_change.new.self)).
+    let put = λ (q : IsPut (change_in c.args.t.now c.in_ok-top.field-0.top c.in_ok-top.field-0.op) c.in_ok-reserve.reserve p (parts c.put_change.new.self)).
     subst (λ (n : ℕ). IsPut k n p (parts c.put_change.new.self)) c.in_ok-reserve.ensures.ok
-    (subst (λ (z : Change). IsPut z c.in_ok-reserve.reserve p (parts c.put_change.new.self)) c.in_ok-rec.ensures.change q) in
+    (subst (λ (z : Change). IsPut z c.in_ok-reserve.reserve p (parts c.put_change.new.self)) c.in_ok-top.ensures.change q) in
     on_ok c.put_change.result _ _ (λ q. subst (λ x. Good (g.G.Rig.seen x) (g.G.Rig.leaves x) Pending.Idle (parts c.put_change.new.self)
     (putting c.args.t.now c.args.r c.args.after m)) (sym c.put_change.ensures.rig)
     (made-good c.args.t.now c.args.r c.args.capacity c.args.after seen leaves p m good asks (parts c.put_change.new.self) (put q) room left))
@@ -151,7 +161,7 @@ returns-clause-made g c =
       up = c.requires.up;
       runs = c.requires.runs;
       lock = c.requires.lock;
-      agree = c.holder-other.ensures.agree;
+      agree = c.keeps.ensures.agree;
       owned = c.requires.owns;
       fits = c.requires.fits;
     } in
@@ -160,9 +170,9 @@ returns-clause-made g c =
     let k : Change = change_of c.args.t.now c.args.r c.args.capacity c.args.after p in
     let room : LacksRoom k p → ⊥ = λ over. not-ok _ _ (sym (c.reserved_for.ensures.full.1 over) ∙ c.in_ok-reserve.was) in
     let left : LacksLsns c.args.t.now p → ⊥ = λ over. not-ok _ _ (sym (c.reserved_for.ensures.lsns.1 (room, over)) ∙ c.in_ok-reserve.was) in
-    let put = λ (q : IsPut (change_in c.args.t.now c.in_ok-rec.field-0.top c.in_ok-rec.field-0.op) c.in_ok-reserve.reserve p (parts c.put_change.new.self)).
+    let put = λ (q : IsPut (change_in c.args.t.now c.in_ok-top.field-0.top c.in_ok-top.field-0.op) c.in_ok-reserve.reserve p (parts c.put_change.new.self)).
     subst (λ (n : ℕ). IsPut k n p (parts c.put_change.new.self)) c.in_ok-reserve.ensures.ok
-    (subst (λ (z : Change). IsPut z c.in_ok-reserve.reserve p (parts c.put_change.new.self)) c.in_ok-rec.ensures.change q) in
+    (subst (λ (z : Change). IsPut z c.in_ok-reserve.reserve p (parts c.put_change.new.self)) c.in_ok-top.ensures.change q) in
     on_ok c.put_change.result _ _ (λ q. made c.args.t.now c.args.r c.args.capacity c.args.after seen leaves p c.requires.good.0
     c.requires.good.1 asks (parts c.put_change.new.self) (put q) room left)
     c.put_change.ensures.put
@@ -172,3 +182,6 @@ returns-clause-lsns g c = (
   λ is. absurd (memory-only c.put_change.result c.put_change.ensures.only is),
   λ both. absurd (not-ok _ _ (sym (c.reserved_for.ensures.lsns.1 both) ∙ c.in_ok-reserve.was)),
 )
+
+pub returns-clause-refusals : goal.returns-clause-refusals
+returns-clause-refusals g c = memory-last c.put_change.result c.put_change.ensures.only

@@ -1,20 +1,12 @@
-use Rattle.std.proofs.Common.{◌≡◌, ◌↔◌, ℕ, suc, ◌+◌, ◌-◌, ◌^◌, ◌≤◌, IsTrue, max, min, nat_lt, get_or, ap, ◌∙◌, arith, rules}
-use Rattle.std.proofs.lemmas.Bool.{le-leb, leb-true}
+use Rattle.std.proofs.Common.{◌≡◌, ℕ, ◌+◌, ◌-◌, ◌^◌, ◌≤◌, max, min, get_or, ap, ◌∙◌, arith, rules}
 use Rattle.sd_txn.specs.Owing.{owed_of}
 use Rattle.sd_txn.specs.Transactions.{Transactions}
 use Rattle.sd_state.specs.Complexes.{parts}
 use Rattle.sd_state.specs.Parts.{Parts, owed_at, txns_at}
 use Rattle.sd_state.specs.Sums.{great_of, owed_where}
+use Rattle.sd_state.proofs.ChangeCalls.{passes}
 use Rattle.sd_state.proofs.Items.{item-is}
 use Rattle.sd_state.proofs.complex.Complex.lacks_lsns_for.Goals as goal
-
--- sums up to the greatest number tell whether they pass a smaller one
-passes : (great sum a owed b : ℕ) → a ≡ min (great + 1) (2 ^ 64 - 1) → owed ≡ min sum (2 ^ 64 - 1) → b ≡ min (a + owed) (2 ^ 64 - 1)
-    → IsTrue (nat_lt 4611686018427387903 b) ↔ (2 ^ 62 ≤ great + 1 + sum)
-passes great sum a owed b ea eo eb = (
-  λ h. let lt = leb-true (suc 4611686018427387903) b h in omega (arith, lt, ea, eo, eb),
-  λ le. le-leb (suc 4611686018427387903) b (omega (arith, le, ea, eo, eb)),
-)
 
 pub returns : goal.returns
 returns g c =

@@ -18,11 +18,9 @@ returns-clause-change g c =
     let left = c.requires.left in
     let cut = c.next_lsn-lsn.ensures in
     let lsn : c.next_lsn-lsn.result ≡ k.lsn = omega (arith, next, left, cut) in
-    let found : c.in_ok-before.before ≡ k.before =
-    c.in_ok-before.ensures ∙ c.value.ensures ∙ value-at c.args.image.now.slots c.args.r.now.slot
+    let before : c.in_ok-owned.field-0 ≡ k.before =
+    c.in_ok-owned.ensures ∙ c.value.ensures ∙ value-at c.args.image.now.slots c.args.r.now.slot
     ∙ ap (λ (z : Page). value z.slots c.args.r.now.slot) c.requires.image in
-    let before : c.in_ok-owned.field-0 ≡ k.before = c.in_ok-owned.ensures ∙ c.lent_value.ensures ∙ found in
-    let after : c.in_ok-owned-2.field-0 ≡ c.args.after = c.in_ok-owned-2.ensures ∙ c.lent_value-2.ensures in
     λ n. record {
       txn = c.args.t.now;
       rid = c.args.r.now;
@@ -30,5 +28,5 @@ returns-clause-change g c =
       prev = (c.last_in-prev.ensures ∙ ap (λ (o : Option (ℕ × ℕ)). option_map_or (λ (span : ℕ × ℕ). span.1) o 0) c.requires.span) n;
       capacity = c.args.capacity;
       before = before n;
-      after = after n;
+      after = c.args.after;
     }

@@ -1,11 +1,9 @@
 use Rattle.std.proofs.Common.{◌≡◌, ℕ, ◌-◌, ◌≤◌, Some, get_or, length, slice_set, true, refl, sym, ap, ◌∙◌, subst, arith}
 use Rattle.std.specs.Prelude.{option_map}
 use Rattle.sd_log.specs.Logs.{LogState, with_record}
-use Rattle.sd_logrec.specs.declared.record.Record.{Record}
 use Rattle.sd_page.specs.Page.{Page, applied, empty_page}
 use Rattle.sd_pagelock.specs.Asks.{open_asks}
 use Rattle.sd_pagelock.specs.Directory.{asks_at, entry_at, kept_rec, rec_lsn_at}
-use Rattle.sd_pagelock.specs.Moves.{IsMove}
 use Rattle.sd_pagelock.specs.Places.{changed, owns}
 use Rattle.sd_pagelock.specs.Rows.{dirtied}
 use Rattle.sd_pool.specs.Buffers as buffers
@@ -22,9 +20,14 @@ use Rattle.sd_state.proofs.UndoneCalls.{image-unboxed}
 use Rattle.sd_state.proofs.Items.{item-is}
 use Rattle.sd_state.proofs.complex.Complex.put_change.Goals as goal
 
-pub set-requires-clause-lawful : goal.set-requires-clause-lawful
-set-requires-clause-lawful g c = IsMove.change c.args.t.now.inst
-    (ap (λ (p : ℕ). owns (entry_at c.args.self.now.directory p) c.args.t.now.inst) c.page_of-page.ensures ∙ c.requires.owns) refl
+pub mark-requires-clause-owns : goal.mark-requires-clause-owns
+mark-requires-clause-owns g c =
+    ap (λ (p : ℕ). owns (entry_at c.args.self.now.directory p) c.args.t.now.inst) c.page_of-page.ensures ∙ c.requires.owns
+
+pub mark-requires-clause-open : goal.mark-requires-clause-open
+mark-requires-clause-open g c =
+    subst (λ (p : ℕ). open_asks (entry_at c.args.self.now.directory p) (asks_at c.args.self.now.directory p) ≡ asks_at c.args.self.now.directory p)
+    (sym c.page_of-page.ensures) c.requires.open
 
 pub returns-clause-put : goal.returns-clause-put
 returns-clause-put g c =
@@ -40,8 +43,7 @@ returns-clause-put g c =
     let log : LogState = c.log_within.new.log in
     let log_is : log_at p i ≡ old_log = log-lent p i at old_log low high c.requires.shape.logs place c.index_mut.ensures.value in
     let grown : log ≡ with_record (update k) log.spare (log_at p i) =
-    c.in_ok-log_within.ensures.log ∙ ap (λ (r : Record). with_record r log.spare old_log) c.requires.agrees.is
-    ∙ ap (with_record (update k) log.spare) (sym log_is) in
+    c.in_ok-log_within.ensures.log ∙ ap (with_record (update k) log.spare) (sym log_is) in
     let table : Transactions = get_or c.log_within.new.txns.items at no_txns in
     let tables : c.log_within.new.txns.items ≡ slice_set p.txns at table = c.in_ok-log_within.ensures.table in
     let old_table : get_or p.txns at no_txns ≡ txns_at p i =
@@ -66,13 +68,13 @@ returns-clause-put g c =
     let lent : buffers.image_at old_pool c.page_of-page.result ≡ Some image =
     ap (buffers.image_at old_pool) page ∙ ap (λ (b : Buffers). buffers.image_at b k.rid.page) (sym pool_is) ∙ copy in
     let redone : applied c.args.op k.lsn image ≡ redo image (flat_of k) =
-    applied-redone k c.args.op image c.requires.agrees.slot refl refl
-    (subst (λ (n : ℕ). n ≤ length image.slots) c.requires.agrees.slot c.requires.takes.place) in
+    applied-redone k c.args.op image c.requires.slot refl refl
+    (subst (λ (n : ℕ). n ≤ length image.slots) c.requires.slot c.requires.takes.place) in
     record {
       spare = log.spare;
       table = table;
       pool = pool;
-      places = unboxed c.set.new.self;
+      places = unboxed c.mark.new.directory;
       memory = c.in_ok-log_within.ensures.memory;
       changed = record {
         row = row;
@@ -82,19 +84,19 @@ returns-clause-put g c =
             ∙ ap (λ (z : Page). Some z) redone;
         other_pages = λ q ne. c.rewrite.ensures.others q (λ e. ne (e ∙ page)) ∙ ap (λ (b : Buffers). buffers.image_at b q) (sym pool_is);
         frames = c.rewrite.ensures.frames ∙ ap (λ (b : Buffers). b.frames) (sym pool_is);
-        entry = ap (entry_at c.set.new.self) (sym page) ∙ c.set.ensures.here;
-        rec_lsn = subst (λ (n : ℕ). rec_lsn_at c.set.new.self n ≡ kept_rec (changed (entry_at c.args.self.now.directory n)) true
-            (rec_lsn_at c.args.self.now.directory n) (Some k.lsn)) page c.set.ensures.rec_lsn;
-        asks = subst (λ (n : ℕ). asks_at c.set.new.self n ≡ open_asks (dirtied i) (asks_at c.args.self.now.directory n)) page c.set.ensures.asks;
-        other_entries = λ q ne. c.set.ensures.others q (λ e. ne (e ∙ page));
-        other_rec_lsns = λ q ne. c.set.ensures.other_rec_lsns q (λ e. ne (e ∙ page));
-        other_asks = λ q ne. c.set.ensures.other_asks q (λ e. ne (e ∙ page));
-        moving = λ q. image-unboxed c.args.self.now.directory c.set.new.self q (c.set.ensures.images q);
+        entry = ap (entry_at c.mark.new.directory) (sym page) ∙ c.mark.ensures.here;
+        rec_lsn = subst (λ (n : ℕ). rec_lsn_at c.mark.new.directory n ≡ kept_rec (changed (entry_at c.args.self.now.directory n)) true
+            (rec_lsn_at c.args.self.now.directory n) (Some k.lsn)) page c.mark.ensures.rec_lsn;
+        asks = subst (λ (n : ℕ). asks_at c.mark.new.directory n ≡ open_asks (dirtied i) (asks_at c.args.self.now.directory n)) page c.mark.ensures.asks;
+        other_entries = λ q ne. c.mark.ensures.others q (λ e. ne (e ∙ page));
+        other_rec_lsns = λ q ne. c.mark.ensures.other_rec_lsns q (λ e. ne (e ∙ page));
+        other_asks = λ q ne. c.mark.ensures.other_asks q (λ e. ne (e ∙ page));
+        moving = λ q. image-unboxed c.args.self.now.directory c.mark.new.directory q (c.mark.ensures.images q);
       };
       is = λ n. record p {
         logs = (ap (λ (j : ℕ). slice_set p.logs j log) place ∙ ap (slice_set p.logs (i - 1)) grown) n;
         pools = slice_set p.pools (place n) pool;
         txns = (tables ∙ ap (λ (j : ℕ). slice_set p.txns j table) place) n;
-        directory = unboxed c.set.new.self;
+        directory = unboxed c.mark.new.directory;
       };
     }
