@@ -21,6 +21,11 @@ abbrev pub told : Result Reply Memory → Option Reply
 told (Ok r) = Some r
 told (Err x) = None
 
+-- the same of a reply that was put in its place
+abbrev pub told_in : {X : Type 0} → Result X Memory → Reply → Option Reply
+told_in (Ok x) r = Some r
+told_in (Err x) r = None
+
 -- an undo that a device fails has taken its instance down
 abbrev pub IsDownThen : Event → Option Reply → Parts → Type 0
 IsDownThen e answer c = (t : TxnId) → e ≡ Undo t → answer ≡ Some (Refused R.Failed) → status_at c t.inst ≡ S.Down

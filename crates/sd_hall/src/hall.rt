@@ -6,6 +6,7 @@ ghost use Rattle.sd_base.specs.Streams.{Rises};
 ghost use Rattle.sd_base.specs.declared.refusal.Refusal.TheVariants as R;
 ghost use Rattle.sd_model.specs.declared.event.Entry.{Entry};
 ghost use Rattle.sd_model.specs.declared.event.Reply.{Reply};
+ghost use Rattle.sd_model.specs.declared.event.Reply.TheVariants as reply;
 ghost use Rattle.sd_chain.specs.Checks.{DevicesAreSound};
 ghost use Rattle.sd_chain.specs.Faults.{FailsFirstAt};
 ghost use Rattle.sd_recovered.specs.Devices.{IsRecovered};
@@ -18,13 +19,14 @@ ghost use Rattle.sd_hall.specs.Bodies.{IsAwaited, IsAwaitedIn, IsDownAt, IsRigIn
 ghost use Rattle.sd_hall.specs.Bodies.{fits_in, open_in};
 ghost use Rattle.sd_hall.specs.Keeping.{HasPlace, Keeps};
 ghost use Rattle.sd_hall.specs.Ledger.{IsOwed};
-ghost use Rattle.sd_hall.specs.Served.{IsServed, told};
+ghost use Rattle.sd_hall.specs.Served.{IsServed, told_in};
 
 use crate::ledger::more;
+use crate::serving::put_told;
 use crate::turning::{is_owed_in, serve_body, turned};
 use sd_base::{Memory, Refusal};
 use sd_fits::Body;
-use sd_model::{Book, Entry, Event, Reply};
+use sd_model::{Book, Event, Reply};
 use sd_restart::restart;
 use sd_rig::Rig;
 use sd_state::{Complex, Shape};
@@ -108,49 +110,50 @@ impl<G: Rig> Hall<G> {
             → Keeps (telling G.seen G.leaves G.moment G.since G.faults) start self.new }
     {
         self.take_place(&e)?;
-        let reply = self.turn(&e)?;
+        let mut reply = Reply::Did;
+        self.turn(&e, &mut reply)?;
         self.owed += more(&e, &reply);
-        self.book.note(Entry {
-            session,
-            line,
-            event: e,
-            reply,
-        });
+        self.book.note(session, line, e, reply);
         Ok(())
     }
 
-    // Does the event on the complex, open or closed, and tells its reply. It is served where the complex lies: that is some kilobytes
-    // long, and only a failure of all instances and a reopening, which put another there, move it.
-    fn turn(&mut self, e: &Event) -> Result<Reply, Memory>
+    // Does the event on the complex, open or closed, and puts its reply where a Did stands, so that no reply is moved about. It is
+    // served where the complex lies: that is some kilobytes long, and only a failure of all instances and a reopening, which put
+    // another there, move it.
+    fn turn(&mut self, e: &Event, answer: &mut Reply) -> Result<(), Memory>
         requires served { IsServed e.now }
         requires fits { (w : Core) × (fits_in G.seen G.leaves self.old.body w) × (w.pages.frames ≡ self.old.shape.frames) }
         requires least { 1 ≤ self.old.shape.frames }
         requires most { self.old.shape.frames ≤ 1024 }
-        ensures served { ServesIn (telling G.seen G.leaves G.moment G.since G.faults) e.now (told result) self.old.body self.new.body }
-        ensures there { (w : Core) → IsOwed w e.now → told result ≢ None }
-        ensures down { IsDownAt e.now (told result) self.new.body }
-        ensures awaits { IsAwaitedIn e.now (told result) self.old.body }
-        ensures works { IsWorkedIn e.now (told result) self.old.body self.new.body }
+        requires fresh { answer.old ≡ reply.Did }
+        ensures served { ServesIn (telling G.seen G.leaves G.moment G.since G.faults) e.now (told_in result answer.new)
+            self.old.body self.new.body }
+        ensures there { (w : Core) → IsOwed w e.now → told_in result answer.new ≢ None }
+        ensures down { IsDownAt e.now (told_in result answer.new) self.new.body }
+        ensures awaits { IsAwaitedIn e.now (told_in result answer.new) self.old.body }
+        ensures works { IsWorkedIn e.now (told_in result answer.new) self.old.body self.new.body }
         ensures book { self.new.book ≡ self.old.book }
         ensures shape { self.new.shape ≡ self.old.shape }
         ensures owed { self.new.owed ≡ self.old.owed }
     {
         match e {
-            Event::FailAll { .. } | Event::Reopen => self.turn_over(e),
+            Event::FailAll { .. } | Event::Reopen => self.turn_over(e, answer),
             _ => match &mut self.body {
-                Some(body) => serve_body(body, e),
+                Some(body) => serve_body(body, e, answer),
                 None => unreachable!(),
             },
         }
     }
 
     // The same of a failure of all instances and of a reopening: the complex is taken out, and what it turned to is put back.
-    fn turn_over(&mut self, e: &Event) -> Result<Reply, Memory>
+    #[inline(never)]
+    fn turn_over(&mut self, e: &Event, answer: &mut Reply) -> Result<(), Memory>
         requires over { NeitherClosesNorOpens e.now → ⊥ }
         requires fits { (w : Core) × (fits_in G.seen G.leaves self.old.body w) × (w.pages.frames ≡ self.old.shape.frames) }
         requires least { 1 ≤ self.old.shape.frames }
         requires most { self.old.shape.frames ≤ 1024 }
-        ensures served { ServesIn (telling G.seen G.leaves G.moment G.since G.faults) e.now (told result) self.old.body self.new.body }
+        ensures served { ServesIn (telling G.seen G.leaves G.moment G.since G.faults) e.now (told_in result answer.new)
+            self.old.body self.new.body }
         ensures book { self.new.book ≡ self.old.book }
         ensures shape { self.new.shape ≡ self.old.shape }
         ensures owed { self.new.owed ≡ self.old.owed }
@@ -160,7 +163,7 @@ impl<G: Rig> Hall<G> {
         };
         let (done, body) = turned(self.alloc, body, e, self.shape);
         match self.body.replace(body) {
-            None => done,
+            None => put_told(answer, done),
             Some(_before) => unreachable!(),
         }
     }
@@ -220,7 +223,7 @@ impl<G: Rig> Hall<G> {
         requires { self.now.book.entries ≢ [] }
         ensures { (before : List Entry) (last : Entry) → self.now.book.entries ≡ before ++ last ∷ [] → result.now ≡ last.reply }
     {
-        &self.book.entries().last().unwrap().reply
+        &self.book.last().unwrap().reply
     }
 
     /// The book of what happened.

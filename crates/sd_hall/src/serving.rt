@@ -15,7 +15,7 @@ ghost use Rattle.sd_survive.specs.Recovering.{recovery};
 ghost use Rattle.sd_shut.specs.Closing.{NeitherClosesNorOpens};
 ghost use Rattle.sd_hall.specs.Bodies.{IsAwaitedIn, IsWorkedIn};
 ghost use Rattle.sd_hall.specs.Ledger.{IsOwed};
-ghost use Rattle.sd_hall.specs.Served.{told, IsDownThen, IsServed};
+ghost use Rattle.sd_hall.specs.Served.{told, told_in, IsDownThen, IsServed};
 
 use sd_base::{Bytes, InstNo, Lsn, Memory, Place, Refusal, Rid, TxnId};
 use sd_model::{Event, Reply, Rows};
@@ -23,162 +23,222 @@ use sd_rig::Rig;
 use sd_state::Complex;
 use sd_survive::Recovery;
 
-/// Does the event on the complex, and tells its reply. Where an entry is owed for it there is memory. An undo that a device fails takes
-/// its instance down, and a step of a recovery that is told does a task.
-pub(crate) fn serve<G: Rig>(c: &mut Complex<G>, e: &Event) -> Result<Reply, Memory>
+/// Does the event on the complex, and puts its reply where a Did stands. Where an entry is owed for it there is memory. An undo
+/// that a device fails takes its instance down, and a step of a recovery that is told does a task.
+pub(crate) fn serve<G: Rig>(c: &mut Complex<G>, e: &Event, answer: &mut Reply) -> Result<(), Memory>
     requires served { IsServed e.now }
     requires within { NeitherClosesNorOpens e.now }
     requires fits { (w : Core) × Fits (G.seen c.old.rig) (G.leaves c.old.rig) (parts c.old) w }
-    ensures served { Serving (telling G.seen G.leaves G.moment G.since G.faults) e.now (told result) c.old c.new }
-    ensures there { (w : Core) → IsOwed w e.now → told result ≢ None }
-    ensures down { IsDownThen e.now (told result) (parts c.new) }
-    ensures awaits { IsAwaitedIn e.now (told result) (Some (bodies.Open c.old)) }
-    ensures works { IsWorkedIn e.now (told result) (Some (bodies.Open c.old)) (Some (bodies.Open c.new)) }
+    requires fresh { answer.old ≡ reply.Did }
+    ensures served { Serving (telling G.seen G.leaves G.moment G.since G.faults) e.now (told_in result answer.new) c.old c.new }
+    ensures there { (w : Core) → IsOwed w e.now → told_in result answer.new ≢ None }
+    ensures down { IsDownThen e.now (told_in result answer.new) (parts c.new) }
+    ensures awaits { IsAwaitedIn e.now (told_in result answer.new) (Some (bodies.Open c.old)) }
+    ensures works { IsWorkedIn e.now (told_in result answer.new) (Some (bodies.Open c.old)) (Some (bodies.Open c.new)) }
 {
     match e {
-        Event::Begin { inst } => as_began(sd_ops::begin(c, *inst)),
-        Event::Read { txn, rid } => as_found(sd_ops::read(c, txn, rid)),
-        Event::Write { txn, rid, value } => as_did(sd_ops::write(c, txn, rid, value.items())),
-        Event::Add { txn, rid, by } => as_did(sd_ops::add(c, txn, rid, *by)),
+        Event::Begin { inst } => as_began(sd_ops::begin(c, *inst), answer),
+        Event::Read { txn, rid } => as_found(sd_ops::read(c, txn, rid), answer),
+        Event::Write { txn, rid, value } => as_did(
+            sd_ops::write(c, txn, rid, value.items()),
+            answer,
+        ),
+        Event::Add { txn, rid, by } => as_did(sd_ops::add(c, txn, rid, *by), answer),
         Event::Insert {
             txn,
             page,
             value,
             capacity,
-        } => as_placed(sd_ops::insert(c, txn, *page, value.items(), *capacity)),
-        Event::Delete { txn, rid } => as_did(sd_ops::delete(c, txn, rid)),
-        Event::Save { txn, mark } => as_did(sd_ops::save(c, txn, mark)),
-        Event::Back { txn, mark } => as_did(sd_rollback::back_to(c, txn, mark)),
-        Event::Undo { txn } => as_step(sd_rollback::undo(c, txn)),
-        Event::Commit { txn } => as_did(sd_ops::commit(c, txn)),
-        Event::List { inst, page } => as_listed(sd_ops::list_page(c, *inst, *page)),
-        Event::Ask { inst, page, mode } => as_asked(sd_transfer::ask(c, *inst, *page, *mode)),
-        Event::Give { inst, page } => as_gave(sd_transfer::give(c, *inst, *page)),
-        Event::Take { inst, page } => as_did(sd_transfer::take(c, *inst, *page)),
-        Event::Evict { inst, page } => as_did(sd_transfer::evict(c, *inst, *page)),
-        Event::Flush { inst, page } => as_did(sd_writer::write_page(c, *inst, *page)),
-        Event::Force { inst } => as_did(sd_writer::force(c, *inst)),
-        Event::Fail { inst } => as_did(sd_survive::fail(c, *inst)),
-        Event::RecoverBegin { inst, by } => as_did(sd_survive::recover_begin(c, *inst, *by)),
-        Event::RecoverStep { inst } => as_recovery(sd_survive::recover_step(c, *inst)),
-        Event::Join { inst } => as_joined(sd_survive::join(c, *inst)),
+        } => as_placed(
+            sd_ops::insert(c, txn, *page, value.items(), *capacity),
+            answer,
+        ),
+        Event::Delete { txn, rid } => as_did(sd_ops::delete(c, txn, rid), answer),
+        Event::Save { txn, mark } => as_did(sd_ops::save(c, txn, mark), answer),
+        Event::Back { txn, mark } => as_did(sd_rollback::back_to(c, txn, mark), answer),
+        Event::Undo { txn } => as_step(sd_rollback::undo(c, txn), answer),
+        Event::Commit { txn } => as_did(sd_ops::commit(c, txn), answer),
+        Event::List { inst, page } => as_listed(sd_ops::list_page(c, *inst, *page), answer),
+        Event::Ask { inst, page, mode } => as_asked(
+            sd_transfer::ask(c, *inst, *page, *mode),
+            answer,
+        ),
+        Event::Give { inst, page } => as_gave(sd_transfer::give(c, *inst, *page), answer),
+        Event::Take { inst, page } => as_did(sd_transfer::take(c, *inst, *page), answer),
+        Event::Evict { inst, page } => as_did(sd_transfer::evict(c, *inst, *page), answer),
+        Event::Flush { inst, page } => as_did(sd_writer::write_page(c, *inst, *page), answer),
+        Event::Force { inst } => as_did(sd_writer::force(c, *inst), answer),
+        Event::Fail { inst } => as_did(sd_survive::fail(c, *inst), answer),
+        Event::RecoverBegin { inst, by } => as_did(
+            sd_survive::recover_begin(c, *inst, *by),
+            answer,
+        ),
+        Event::RecoverStep { inst } => as_recovery(sd_survive::recover_step(c, *inst), answer),
+        Event::Join { inst } => as_joined(sd_survive::join(c, *inst), answer),
         Event::Arm { trouble } => {
             sd_survive::arm(c, *trouble);
-            Ok(Reply::Did)
+            Ok(())
         }
-        Event::Show { page } => as_shown(sd_transfer::show(c, *page)),
+        Event::Show { page } => as_shown(sd_transfer::show(c, *page), answer),
         _ => unreachable!(),
     }
 }
 
 // The reply to a begin.
-fn as_began(done: Result<TxnId, Refusal>) -> Result<Reply, Memory>
-    ensures { told result ≡ began done }
+fn as_began(done: Result<TxnId, Refusal>, answer: &mut Reply) -> Result<(), Memory>
+    requires { answer.old ≡ reply.Did }
+    ensures { told_in result answer.new ≡ began done }
 {
     match done {
-        Ok(t) => Ok(Reply::Began(t)),
-        Err(n) => as_refused(n),
+        Ok(t) => put(answer, Reply::Began(t)),
+        Err(n) => put_refusal(answer, n),
     }
 }
 
 // The reply to a read.
-fn as_found(done: Result<Option<Bytes>, Refusal>) -> Result<Reply, Memory>
-    ensures { told result ≡ found done }
+fn as_found(done: Result<Option<Bytes>, Refusal>, answer: &mut Reply) -> Result<(), Memory>
+    requires { answer.old ≡ reply.Did }
+    ensures { told_in result answer.new ≡ found done }
 {
     match done {
-        Ok(value) => Ok(Reply::Value(value)),
-        Err(n) => as_refused(n),
+        Ok(value) => put(answer, Reply::Value(value)),
+        Err(n) => put_refusal(answer, n),
     }
 }
 
 // The reply to an insert.
-fn as_placed(done: Result<Rid, Refusal>) -> Result<Reply, Memory>
-    ensures { told result ≡ placed_at done }
+fn as_placed(done: Result<Rid, Refusal>, answer: &mut Reply) -> Result<(), Memory>
+    requires { answer.old ≡ reply.Did }
+    ensures { told_in result answer.new ≡ placed_at done }
 {
     match done {
-        Ok(rid) => Ok(Reply::At(rid)),
-        Err(n) => as_refused(n),
+        Ok(rid) => put(answer, Reply::At(rid)),
+        Err(n) => put_refusal(answer, n),
     }
 }
 
 // The reply to a look at a page.
-fn as_shown(shown: (Place, Lsn)) -> Result<Reply, Memory>
-    ensures { told result ≡ Some (reply.Shown shown.0 shown.1) }
+fn as_shown(shown: (Place, Lsn), answer: &mut Reply) -> Result<(), Memory>
+    requires { answer.old ≡ reply.Did }
+    ensures { told_in result answer.new ≡ Some (reply.Shown shown.0 shown.1) }
 {
     let (place, lsn) = shown;
-    Ok(Reply::Shown { place, lsn })
+    put(answer, Reply::Shown { place, lsn })
 }
 
 // The reply to a list.
-fn as_listed(done: Result<Rows, Refusal>) -> Result<Reply, Memory>
-    ensures { told result ≡ listed done }
+fn as_listed(done: Result<Rows, Refusal>, answer: &mut Reply) -> Result<(), Memory>
+    requires { answer.old ≡ reply.Did }
+    ensures { told_in result answer.new ≡ listed done }
 {
     match done {
-        Ok(rows) => Ok(Reply::Rows(rows)),
-        Err(n) => as_refused(n),
+        Ok(rows) => put(answer, Reply::Rows(rows)),
+        Err(n) => put_refusal(answer, n),
     }
 }
 
 // The reply to an ask.
-fn as_asked(done: Result<Option<InstNo>, Refusal>) -> Result<Reply, Memory>
-    ensures { told result ≡ answered had_or_asked done }
+fn as_asked(done: Result<Option<InstNo>, Refusal>, answer: &mut Reply) -> Result<(), Memory>
+    requires { answer.old ≡ reply.Did }
+    ensures { told_in result answer.new ≡ answered had_or_asked done }
 {
     match done {
-        Ok(None) => Ok(Reply::Have),
-        Ok(Some(of)) => Ok(Reply::Asked { of }),
-        Err(n) => as_refused(n),
+        Ok(None) => put(answer, Reply::Have),
+        Ok(Some(of)) => put(answer, Reply::Asked { of }),
+        Err(n) => put_refusal(answer, n),
     }
 }
 
 // The reply to a give.
-fn as_gave(done: Result<InstNo, Refusal>) -> Result<Reply, Memory>
-    ensures { told result ≡ gave done }
+fn as_gave(done: Result<InstNo, Refusal>, answer: &mut Reply) -> Result<(), Memory>
+    requires { answer.old ≡ reply.Did }
+    ensures { told_in result answer.new ≡ gave done }
 {
     match done {
-        Ok(to) => Ok(Reply::Gave { to }),
-        Err(n) => as_refused(n),
+        Ok(to) => put(answer, Reply::Gave { to }),
+        Err(n) => put_refusal(answer, n),
     }
 }
 
 // The reply to a join.
-fn as_joined(done: Result<u32, Refusal>) -> Result<Reply, Memory>
-    ensures { told result ≡ joined done }
+fn as_joined(done: Result<u32, Refusal>, answer: &mut Reply) -> Result<(), Memory>
+    requires { answer.old ≡ reply.Did }
+    ensures { told_in result answer.new ≡ joined done }
 {
     match done {
-        Ok(epoch) => Ok(Reply::Joined { epoch }),
-        Err(n) => as_refused(n),
+        Ok(epoch) => put(answer, Reply::Joined { epoch }),
+        Err(n) => put_refusal(answer, n),
     }
 }
 
 // The reply to a step, which tells whether it was the last.
-fn as_step(done: Result<bool, Refusal>) -> Result<Reply, Memory>
-    ensures { told result ≡ answered step_or_finished done }
+fn as_step(done: Result<bool, Refusal>, answer: &mut Reply) -> Result<(), Memory>
+    requires { answer.old ≡ reply.Did }
+    ensures { told_in result answer.new ≡ answered step_or_finished done }
 {
     match done {
-        Ok(false) => Ok(Reply::Step),
-        Ok(true) => Ok(Reply::Finished),
-        Err(n) => as_refused(n),
+        Ok(false) => put(answer, Reply::Step),
+        Ok(true) => put(answer, Reply::Finished),
+        Err(n) => put_refusal(answer, n),
     }
 }
 
 // The reply to a step of a recovery, which tells whether it was the last.
-fn as_recovery(done: Result<Recovery, Refusal>) -> Result<Reply, Memory>
-    ensures { told result ≡ answered recovery done }
+fn as_recovery(done: Result<Recovery, Refusal>, answer: &mut Reply) -> Result<(), Memory>
+    requires { answer.old ≡ reply.Did }
+    ensures { told_in result answer.new ≡ answered recovery done }
 {
     match done {
-        Ok(Recovery::Step) => Ok(Reply::Step),
-        Ok(Recovery::Done) => Ok(Reply::Finished),
-        Err(n) => as_refused(n),
+        Ok(Recovery::Step) => put(answer, Reply::Step),
+        Ok(Recovery::Done) => put(answer, Reply::Finished),
+        Err(n) => put_refusal(answer, n),
     }
 }
 
 // The reply of a call without a value.
-fn as_did(done: Result<(), Refusal>) -> Result<Reply, Memory>
-    ensures { told result ≡ did done }
+fn as_did(done: Result<(), Refusal>, answer: &mut Reply) -> Result<(), Memory>
+    requires { answer.old ≡ reply.Did }
+    ensures { told_in result answer.new ≡ did done }
 {
     match done {
-        Ok(()) => Ok(Reply::Did),
-        Err(n) => as_refused(n),
+        Ok(()) => Ok(()),
+        Err(n) => put_refusal(answer, n),
+    }
+}
+
+// The reply put in its place. What stood there has nothing to give back, which saves a look at what it was.
+fn put(answer: &mut Reply, given: Reply) -> Result<(), Memory>
+    requires { answer.old ≡ reply.Did }
+    ensures { told_in result answer.new ≡ Some given }
+{
+    match answer {
+        Reply::Did => *answer = given,
+        _ => unreachable!(),
+    }
+    Ok(())
+}
+
+/// Puts a reply that was told in its place.
+pub(crate) fn put_told(answer: &mut Reply, done: Result<Reply, Memory>) -> Result<(), Memory>
+    ensures { told_in result answer.new ≡ told done }
+{
+    match done {
+        Ok(given) => {
+            *answer = given;
+            Ok(())
+        }
+        Err(Memory) => Err(Memory),
+    }
+}
+
+// The reply of a call that is refused; want of memory has none.
+fn put_refusal(answer: &mut Reply, n: Refusal) -> Result<(), Memory>
+    requires { answer.old ≡ reply.Did }
+    ensures { told_in result answer.new ≡ refused n }
+{
+    match n {
+        Refusal::Memory => Err(Memory),
+        n => put(answer, Reply::Refused(n)),
     }
 }
 

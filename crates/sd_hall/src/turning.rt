@@ -2,12 +2,13 @@
 
 ghost use Rattle.std.specs.Prelude.{◌≡◌, ◌≢◌, ◌↔◌, ◌≤◌, None, Option, Some, IsTrue};
 ghost use Rattle.sd_model.specs.declared.event.Event.TheVariants as event;
+ghost use Rattle.sd_model.specs.declared.event.Reply.TheVariants as reply;
 ghost use Rattle.sd_world.specs.Serving.{Core, telling};
 ghost use Rattle.sd_fits.specs.Bodies.{ServingHall, fits_body};
 ghost use Rattle.sd_shut.specs.Closing.{NeitherClosesNorOpens};
 ghost use Rattle.sd_hall.specs.Bodies.{IsAwaitedIn, IsDownIn, IsWorkedIn, fits_in};
 ghost use Rattle.sd_hall.specs.Ledger.{IsOwed};
-ghost use Rattle.sd_hall.specs.Served.{IsServed, told};
+ghost use Rattle.sd_hall.specs.Served.{IsServed, told, told_in};
 
 use crate::ledger::is_owed;
 use crate::serving::{as_refused, not_down, serve};
@@ -41,20 +42,30 @@ pub(crate) fn turned<G: Rig>(
     }
 }
 
-/// Does an event that neither closes the complex nor opens it, and tells its reply. A closed one refuses it, but to arm the devices.
-pub(crate) fn serve_body<G: Rig>(body: &mut Body<G>, e: &Event) -> Result<Reply, Memory>
+/// Does an event that neither closes the complex nor opens it, and puts its reply where a Did stands. A closed one refuses it, but
+/// to arm the devices.
+pub(crate) fn serve_body<G: Rig>(
+    body: &mut Body<G>,
+    e: &Event,
+    answer: &mut Reply,
+) -> Result<(), Memory>
     requires served { IsServed e.now }
     requires within { NeitherClosesNorOpens e.now }
     requires fits { (w : Core) × fits_body G.seen G.leaves body.old w }
-    ensures served { ServingHall (telling G.seen G.leaves G.moment G.since G.faults) e.now (told result) body.old body.new }
-    ensures there { (w : Core) → IsOwed w e.now → told result ≢ None }
-    ensures down { IsDownIn e.now (told result) body.new }
-    ensures awaits { IsAwaitedIn e.now (told result) (Some body.old) }
-    ensures works { IsWorkedIn e.now (told result) (Some body.old) (Some body.new) }
+    requires fresh { answer.old ≡ reply.Did }
+    ensures served { ServingHall (telling G.seen G.leaves G.moment G.since G.faults) e.now (told_in result answer.new)
+        body.old body.new }
+    ensures there { (w : Core) → IsOwed w e.now → told_in result answer.new ≢ None }
+    ensures down { IsDownIn e.now (told_in result answer.new) body.new }
+    ensures awaits { IsAwaitedIn e.now (told_in result answer.new) (Some body.old) }
+    ensures works { IsWorkedIn e.now (told_in result answer.new) (Some body.old) (Some body.new) }
 {
     match body {
-        Body::Open(complex) => serve(complex, e),
-        Body::Closed(rig, _) => Ok(on_closed(rig, e)),
+        Body::Open(complex) => serve(complex, e, answer),
+        Body::Closed(rig, _) => {
+            *answer = on_closed(rig, e);
+            Ok(())
+        }
     }
 }
 

@@ -1,4 +1,4 @@
-use Rattle.std.proofs.Common.{ℤ, ℕ, List, of_z, to_z, rules, w64, ◌≡◌, refl, sym, ◌∙◌, subst}
+use Rattle.std.proofs.Common.{ℤ, ℕ, List, of_z, to_z, rules, w64, ◌≡◌, refl, sym, ap, ◌∙◌, subst}
 use Rattle.std.proofs.lemmas.Int.{to_z-of_z}
 use Rattle.std.specs.Prelude.{Some}
 use Rattle.sd_base.specs.declared.ids.TxnId.{TxnId}
@@ -6,6 +6,7 @@ use Rattle.sd_base.specs.declared.place.Status.TheVariants as S
 use Rattle.sd_model.specs.declared.event.Event.{Event}
 use Rattle.sd_model.specs.declared.event.Event.TheVariants as event
 use Rattle.sd_model.specs.declared.event.Event.TheVariants.{Add, Insert, Write}
+use Rattle.sd_model.specs.declared.event.Reply.{Reply}
 use Rattle.sd_model.specs.declared.event.Reply.TheVariants as reply
 use Rattle.sd_state.specs.Complexes.{parts}
 use Rattle.sd_state.specs.Parts.{status_at}
@@ -195,7 +196,8 @@ returns-in-Join-clause-served g c =
 pub returns-in-Arm-clause-served : goal.returns-in-Arm-clause-served
 returns-in-Arm-clause-served g c =
     let tell : Telling _ = telling g.G.Rig.seen g.G.Rig.leaves g.G.Rig.moment g.G.Rig.since g.G.Rig.faults in
-    served-as tell c.args.c.now c.arm.new.c _ (event.Arm c.in-Arm.trouble) (Some reply.Did) (Some reply.Did) c.in-Arm.is refl c.arm.ensures.served
+    served-as tell c.args.c.now c.arm.new.c _ (event.Arm c.in-Arm.trouble) (Some c.args.answer.now) (Some reply.Did) c.in-Arm.is
+    (ap (λ (r : Reply). Some r) c.requires.fresh) c.arm.ensures.served
 
 pub returns-in-Show-clause-served : goal.returns-in-Show-clause-served
 returns-in-Show-clause-served g c =

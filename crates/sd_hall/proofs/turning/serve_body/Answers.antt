@@ -4,15 +4,15 @@ use Rattle.sd_fits.specs.Bodies.{ServingHall}
 use Rattle.sd_fits.specs.declared.body.Body.{Body}
 use Rattle.sd_fits.proofs.Bodies.{open-served}
 use Rattle.sd_hall.specs.Bodies.{AwaitsIn, HasWorkedIn}
-use Rattle.sd_hall.specs.Served.{told}
+use Rattle.sd_hall.specs.Served.{told_in}
 use Rattle.sd_hall.proofs.turning.serve_body.Goals as goal
 
 pub returns-in-Open-clause-served : goal.returns-in-Open-clause-served
 returns-in-Open-clause-served g c =
     let tell : Telling _ = telling g.G.Rig.seen g.G.Rig.leaves g.G.Rig.moment g.G.Rig.since g.G.Rig.faults in
     let new = c.serve.new.c in
-    subst (λ b. ServingHall tell c.args.e.now (told c.serve.result) b (Body.Open new)) (sym c.in-Open.is)
-    (open-served tell c.args.e.now (told c.serve.result) c.in-Open.complex new c.serve.ensures.served)
+    subst (λ b. ServingHall tell c.args.e.now (told_in c.serve.result c.serve.new.answer) b (Body.Open new)) (sym c.in-Open.is)
+    (open-served tell c.args.e.now (told_in c.serve.result c.serve.new.answer) c.in-Open.complex new c.serve.ensures.served)
 
 pub returns-in-Open-clause-awaits : goal.returns-in-Open-clause-awaits
 returns-in-Open-clause-awaits g c = λ i place is needs.

@@ -39,33 +39,33 @@ turn-requires-clause-fits g c =
       k.frames ∙ sym (ap (λ (s : Shape). s.frames) place.shape),
     )
 
-pub returns-in_err-reply-clause-same : goal.returns-in_err-reply-clause-same
-returns-in_err-reply-clause-same g c =
-    let p = err_from_is_err_and c.from_residual-in_err-reply.result c.from_residual-in_err-reply.ensures.1 in
+pub returns-in_err-turn-clause-same : goal.returns-in_err-turn-clause-same
+returns-in_err-turn-clause-same g c =
+    let p = err_from_is_err_and c.from_residual-in_err-turn.result c.from_residual-in_err-turn.ensures.1 in
     rw p.1 (ap (λ b. b.entries) c.turn.ensures.book ∙ c.take_place.ensures.entries)
 
-pub returns-in_err-reply-clause-spared : goal.returns-in_err-reply-clause-spared
-returns-in_err-reply-clause-spared g c =
+pub returns-in_err-turn-clause-spared : goal.returns-in_err-turn-clause-spared
+returns-in_err-turn-clause-spared g c =
     let tell : Telling _ = telling g.G.Rig.seen g.G.Rig.leaves g.G.Rig.moment g.G.Rig.since g.G.Rig.faults in
-    let p = err_from_is_err_and c.from_residual-in_err-reply.result c.from_residual-in_err-reply.ensures.1 in
-    rw p.1 (subst (λ b. ServesIn tell c.args.e None b c.turn.new.self.body) c.take_place.ensures.body c.in_err-reply.ensures.served)
+    let p = err_from_is_err_and c.from_residual-in_err-turn.result c.from_residual-in_err-turn.ensures.1 in
+    rw p.1 (subst (λ b. ServesIn tell c.args.e None b c.turn.new.self.body) c.take_place.ensures.body c.in_err-turn.ensures.served)
 
-pub returns-in_err-reply-clause-there : goal.returns-in_err-reply-clause-there
-returns-in_err-reply-clause-there g c =
-    let p = err_from_is_err_and c.from_residual-in_err-reply.result c.from_residual-in_err-reply.ensures.1 in
-    rw p.1 (λ w f owed. c.in_err-reply.ensures.there w owed refl)
+pub returns-in_err-turn-clause-there : goal.returns-in_err-turn-clause-there
+returns-in_err-turn-clause-there g c =
+    let p = err_from_is_err_and c.from_residual-in_err-turn.result c.from_residual-in_err-turn.ensures.1 in
+    rw p.1 (λ w f owed. c.in_err-turn.ensures.there w owed refl)
 
-pub returns-in_err-reply-clause-keeps : goal.returns-in_err-reply-clause-keeps
-returns-in_err-reply-clause-keeps g c =
+pub returns-in_err-turn-clause-keeps : goal.returns-in_err-turn-clause-keeps
+returns-in_err-turn-clause-keeps g c =
     let tell : Telling _ = telling g.G.Rig.seen g.G.Rig.leaves g.G.Rig.moment g.G.Rig.since g.G.Rig.faults in
     let place = c.take_place.ensures in
     let turn = c.turn.ensures in
     λ start k.
     let made = no-place tell start c.args.e c.args.self.now c.take_place.new.self k
-    (λ w owed. c.in_err-reply.ensures.there w owed refl) c.in_ok-take_place.ensures.place in
+    (λ w owed. c.in_err-turn.ensures.there w owed refl) c.in_ok-take_place.ensures.place in
     keeps-same tell start c.args.self.now c.turn.new.self k c.args.e
     (ap (λ b. b.entries) turn.book ∙ place.entries)
-    (subst (λ b. ServesIn tell c.args.e None b c.turn.new.self.body) place.body c.in_err-reply.ensures.served)
+    (subst (λ b. ServesIn tell c.args.e None b c.turn.new.self.body) place.body c.in_err-turn.ensures.served)
     (turn.shape ∙ place.shape) (turn.owed ∙ made.same)
     (subst (λ b. c.args.self.now.book.spare ≤ b.spare) (sym turn.book) place.spare)
 
@@ -74,7 +74,7 @@ overflow_add-self g c =
     let fits = c.in_ok-take_place.ensures.fits in
     let more = c.more.ensures in
     let same = c.turn.ensures.owed in
-    let one = more-one c.args.e c.in_ok-reply.reply in omega (arith, fits, more, same, one)
+    let one = more-one c.args.e c.turn.new.answer in omega (arith, fits, more, same, one)
 
 pub note-requires : goal.note-requires
 note-requires g c =
@@ -87,36 +87,36 @@ note-requires g c =
 pub returns-clause-noted : goal.returns-clause-noted
 returns-clause-noted g c =
     let tell : Telling _ = telling g.G.Rig.seen g.G.Rig.leaves g.G.Rig.moment g.G.Rig.since g.G.Rig.faults in
-    let entry : Entry = record { session = c.args.session; line = c.args.line; event = c.args.e; reply = c.in_ok-reply.reply } in (
-      c.in_ok-reply.reply,
+    let entry : Entry = record { session = c.args.session; line = c.args.line; event = c.args.e; reply = c.turn.new.answer } in (
+      c.turn.new.answer,
       c.note.ensures.entries ∙ ap (λ (es : List Entry). es ++ entry ∷ [])
           (ap (λ b. b.entries) c.turn.ensures.book ∙ c.take_place.ensures.entries),
-      subst (λ b. ServesIn tell c.args.e (Some c.in_ok-reply.reply) b c.turn.new.self.body) c.take_place.ensures.body
-          c.in_ok-reply.ensures.served,
+      subst (λ b. ServesIn tell c.args.e (Some c.turn.new.answer) b c.turn.new.self.body) c.take_place.ensures.body
+          c.in_ok-turn.ensures.served,
     )
 
 pub returns-clause-awaits : goal.returns-clause-awaits
 returns-clause-awaits g c = λ r again.
-    let entry : Entry = record { session = c.args.session; line = c.args.line; event = c.args.e; reply = c.in_ok-reply.reply } in
+    let entry : Entry = record { session = c.args.session; line = c.args.line; event = c.args.e; reply = c.turn.new.answer } in
     let other : Entry = record { session = c.args.session; line = c.args.line; event = c.args.e; reply = r } in
     let noted = c.note.ensures.entries ∙ ap (λ (es : List Entry). es ++ entry ∷ [])
     (ap (λ b. b.entries) c.turn.ensures.book ∙ c.take_place.ensures.entries) in
-    let awaits = subst (λ b. IsAwaitedIn c.args.e (Some c.in_ok-reply.reply) b) c.take_place.ensures.body c.in_ok-reply.ensures.awaits in
+    let awaits = subst (λ b. IsAwaitedIn c.args.e (Some c.turn.new.answer) b) c.take_place.ensures.body c.in_ok-turn.ensures.awaits in
     subst (λ (x : Reply). IsAwaited c.args.e x c.args.self.now.body)
     (same-reply c.note.new.self.entries c.args.self.now.book.entries entry other noted again)
-    (awaited-of c.args.e c.in_ok-reply.reply c.args.self.now.body awaits)
+    (awaited-of c.args.e c.turn.new.answer c.args.self.now.body awaits)
 
 pub returns-clause-works : goal.returns-clause-works
 returns-clause-works g c = λ r again.
-    let entry : Entry = record { session = c.args.session; line = c.args.line; event = c.args.e; reply = c.in_ok-reply.reply } in
+    let entry : Entry = record { session = c.args.session; line = c.args.line; event = c.args.e; reply = c.turn.new.answer } in
     let other : Entry = record { session = c.args.session; line = c.args.line; event = c.args.e; reply = r } in
     let noted = c.note.ensures.entries ∙ ap (λ (es : List Entry). es ++ entry ∷ [])
     (ap (λ b. b.entries) c.turn.ensures.book ∙ c.take_place.ensures.entries) in
-    let works = subst (λ b. IsWorkedIn c.args.e (Some c.in_ok-reply.reply) b c.turn.new.self.body) c.take_place.ensures.body
-    c.in_ok-reply.ensures.works in
+    let works = subst (λ b. IsWorkedIn c.args.e (Some c.turn.new.answer) b c.turn.new.self.body) c.take_place.ensures.body
+    c.in_ok-turn.ensures.works in
     subst (λ (x : Reply). IsWorked c.args.e x c.args.self.now.body c.turn.new.self.body)
     (same-reply c.note.new.self.entries c.args.self.now.book.entries entry other noted again)
-    (worked-of c.args.e c.in_ok-reply.reply c.args.self.now.body c.turn.new.self.body works)
+    (worked-of c.args.e c.turn.new.answer c.args.self.now.body c.turn.new.self.body works)
 
 pub returns-clause-opening : goal.returns-clause-opening
 returns-clause-opening g c =
@@ -125,7 +125,7 @@ returns-clause-opening g c =
 pub returns-clause-keeps : goal.returns-clause-keeps
 returns-clause-keeps g c =
     let tell : Telling _ = telling g.G.Rig.seen g.G.Rig.leaves g.G.Rig.moment g.G.Rig.since g.G.Rig.faults in
-    let entry : Entry = record { session = c.args.session; line = c.args.line; event = c.args.e; reply = c.in_ok-reply.reply } in
+    let entry : Entry = record { session = c.args.session; line = c.args.line; event = c.args.e; reply = c.turn.new.answer } in
     let more = c.more.ensures in
     let place = c.take_place.ensures in
     let turn = c.turn.ensures in
@@ -139,7 +139,7 @@ returns-clause-keeps g c =
     }) k entry
     c.requires.served c.in_ok-take_place.ensures.place
     (c.note.ensures.entries ∙ ap (λ (es : List Entry). es ++ entry ∷ []) (ap (λ b. b.entries) turn.book ∙ place.entries))
-    (subst (λ b. ServesIn tell c.args.e (Some c.in_ok-reply.reply) b c.turn.new.self.body) place.body c.in_ok-reply.ensures.served)
-    c.in_ok-reply.ensures.down (turn.shape ∙ place.shape)
+    (subst (λ b. ServesIn tell c.args.e (Some c.turn.new.answer) b c.turn.new.self.body) place.body c.in_ok-turn.ensures.served)
+    c.in_ok-turn.ensures.down (turn.shape ∙ place.shape)
     (let same = turn.owed in omega (arith, same, more))
     (subst (λ b. b.spare ≤ c.note.new.self.spare + 1) turn.book c.note.ensures.spare)

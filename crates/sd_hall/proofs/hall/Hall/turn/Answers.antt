@@ -1,7 +1,7 @@
 use Rattle.std.proofs.Common.{Some, refl, sym, subst}
 use Rattle.sd_world.specs.Serving.{Telling, telling}
 use Rattle.sd_hall.specs.Bodies.{AwaitsIn, HasWorkedIn, ServesIn, fits_in}
-use Rattle.sd_hall.specs.Served.{told}
+use Rattle.sd_hall.specs.Served.{told_in}
 use Rattle.sd_hall.proofs.Bodies.{neither}
 use Rattle.sd_hall.proofs.hall.Hall.turn.Goals as goal
 
@@ -11,6 +11,7 @@ serve_body-requires g c =
     record {
       served = c.requires.served;
       within = neither c.args.e.now (λ pick is. c.in_default.not-FailAll pick is) (λ is. c.in_default.not-Reopen is);
+      fresh = c.requires.fresh;
       fits = (fits.0, subst (λ b. fits_in g.G.Rig.seen g.G.Rig.leaves b fits.0) c.in-Some.is fits.1);
     }
 
@@ -19,7 +20,8 @@ returns-in-Some g c =
     let tell : Telling _ = telling g.G.Rig.seen g.G.Rig.leaves g.G.Rig.moment g.G.Rig.since g.G.Rig.faults in
     let done = c.serve_body.ensures in
     record {
-      served = subst (λ b. ServesIn tell c.args.e.now (told c.serve_body.result) b (Some c.serve_body.new.body))
+      served = subst
+          (λ b. ServesIn tell c.args.e.now (told_in c.serve_body.result c.serve_body.new.answer) b (Some c.serve_body.new.body))
           (sym c.in-Some.is) done.served;
       there = done.there;
       down = done.down;
