@@ -10,7 +10,7 @@ use Rattle.sd_oracle.specs.declared.outcome.Outcome.{Outcome}
 use Rattle.sd_oracle.specs.declared.verdict.Verdict.{Verdict}
 use Rattle.sd_oracle.specs.declared.verdict.Verdict.TheVariants.{Follows, Differs, Unjudged}
 use Rattle.sd_oracle.specs.Outcomes.{Told}
-use Rattle.sd_oracle.specs.Judging.{IsCountable}
+use Rattle.sd_lists.specs.Joins.{IsCountable}
 
 -- the event with its reply leads from one scene to the next, exactly; the outcome and an insert's record are told
 pub record Leads (o : Outcome) (told : Option Rid) (e : Event) (reply : Reply) (s next : Scene) : Type 0 where

@@ -2,7 +2,7 @@
 use Rattle.std.specs.Prelude.{List}
 use Rattle.sd_base.specs.declared.ids.TxnId.{TxnId}
 use Rattle.sd_model.specs.Scenes.{Scene}
-use Rattle.sd_oracle.specs.Lists.{Journal, state_of}
+use Rattle.sd_lists.specs.Lists.{Journal, state_of}
 use Rattle.sd_reclock.specs.declared.wait.Asked.{Asked}
 use Rattle.sd_reclock.specs.Locks.{waits_in}
 

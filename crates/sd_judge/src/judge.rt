@@ -29,7 +29,7 @@ impl Model for Judge {
 
 impl Judge {
     ghost use Rattle.sd_base.specs.declared.ids.TxnId.{TxnId};
-    ghost use Rattle.sd_oracle.specs.Lists.{fresh_with};
+    ghost use Rattle.sd_lists.specs.Lists.{fresh_with};
     ghost use Rattle.sd_judge.specs.Scenes.{scene_of};
     ghost use Rattle.sd_judge.specs.Exactly.{JudgesExactly};
 

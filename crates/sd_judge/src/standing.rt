@@ -1,7 +1,7 @@
 //! Who stands in whose way in the serial table.
 
 ghost use Rattle.sd_model.specs.Waits.{stands as stands_in};
-ghost use Rattle.sd_oracle.specs.Lists.{state_of};
+ghost use Rattle.sd_lists.specs.Lists.{state_of};
 
 use crate::asked::claim_of;
 use sd_base::{Memory, TxnId};

@@ -1,11 +1,4 @@
-pub mod Loops
-pub mod Scans
-pub mod Search
-pub mod Slots
-pub mod Parts
+pub mod Sums
 pub mod RowsWhole
-pub mod Firsts
-pub mod Wholes
 pub mod Outcomes
 pub mod Lowering
-pub mod NumberSums

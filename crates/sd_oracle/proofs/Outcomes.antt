@@ -1,4 +1,4 @@
--- What is told of an outcome, and what a recovery finds. It serves the goals of step.rt.
+-- What is told of an outcome, and what a recovery finds. It serves the goals of recoveries.rt and reopenings.rt.
 use Rattle.std.proofs.Common.{◌≡◌, Bool, true, false, List, [], ◌∷◌, ◌++◌, refl, sym, ap, ◌∙◌, subst, ℕ, append_assoc}
 use Rattle.std.specs.Bool.{if◌then◌else◌}
 use Rattle.sd_base.specs.declared.ids.TxnId.{TxnId}

@@ -1,4 +1,4 @@
--- Rows that agree with the table at all records that are known are those of the table. It serves the goals of listing.rt.
+-- Rows that agree with the table at all records that are known are those of the table. It serves the goals of rows.rt.
 use Rattle.std.proofs.Common.{◌≡◌, ◌≢◌, ◌⊎◌, inl, inr, ⊎_elim, ℕ, Bool, cond, List, [], ◌∷◌, None, Some, refl, sym, ap, ◌∙◌, subst}
 use Rattle.sd_base.specs.declared.ids.Rid.{Rid}
 use Rattle.sd_model.specs.declared.act.Act.{Act}
@@ -7,7 +7,7 @@ use Rattle.sd_model.specs.declared.act.Done.{Done}
 use Rattle.sd_model.specs.Tables.{Content, Contents, contents}
 use Rattle.sd_model.specs.Acts.{Puts, undone, live_from, live, seen, after}
 use Rattle.sd_model.specs.Listing.{AreIn, AreRising, AreRows}
-use Rattle.sd_oracle.specs.Lists.{AgreeAtRows, AgreeAtActs, AgreeAtDone}
+use Rattle.sd_oracle.specs.Rows.{AgreeAtRows, AgreeAtActs, AgreeAtDone}
 use Rattle.sd_base.proofs.SameIds.{cases_rid, ne-same_rid}
 
 -- it is the record of a row, or no row has it

@@ -1,5 +1,5 @@
 -- What the verdict of the plain program says.
-use Rattle.std.specs.Prelude.{◌≡◌, ℕ, ◌<◌, Bool, true, false, List, None, Some, ℤ}
+use Rattle.std.specs.Prelude.{◌≡◌, ℕ, Bool, true, false, List, None, Some, ℤ}
 use Rattle.sd_base.specs.declared.ids.TxnId.{TxnId}
 use Rattle.sd_base.specs.declared.ids.Rid.{Rid}
 use Rattle.sd_model.specs.declared.cause.Cause.{Cause}
@@ -11,19 +11,13 @@ use Rattle.sd_model.specs.Tables.{Content}
 use Rattle.sd_model.specs.Numbers.{IsSum}
 use Rattle.sd_model.specs.Fields.{txn_of}
 use Rattle.sd_model.specs.State.{State, view, wrote}
-use Rattle.sd_model.specs.Causes.{has, before}
-use Rattle.sd_model.specs.Applies.{PassesAll, Says, First}
 use Rattle.sd_model.specs.Refusing.{Refuses, counted}
 use Rattle.sd_model.specs.Step.{Runs, Row, Step}
 use Rattle.sd_oracle.specs.declared.outcome.Outcome.{Outcome}
 use Rattle.sd_oracle.specs.declared.verdict.Verdict.{Verdict}
 use Rattle.sd_oracle.specs.declared.verdict.Verdict.TheVariants.{Follows, Differs, Unjudged}
 use Rattle.sd_oracle.specs.Outcomes.{Falls, fallen, Told}
-
--- what a reply of the event is judged by: the count of joins that failed has room for one more
-abbrev pub IsCountable : State → Event → Type 0
-IsCountable m (Join i) = (m.inst i).failed < 18446744073709551615
-IsCountable m e = Unit {0}
+use Rattle.sd_lists.specs.Joins.{IsCountable}
 
 -- no state follows that is told so
 abbrev pub NoStep : Outcome → State → Event → Reply → Type 0
@@ -85,11 +79,6 @@ JudgesTold Follows o m e reply m' = Row m e reply m' × Told o m e reply m'
 JudgesTold Differs o m e reply m' = ((m1 : State) → Row m e reply m1 → Told o m e reply m1 → ⊥) × (m' ≡ m)
 JudgesTold Unjudged o m e reply m' = ⊥
 
--- whether an answer may follow where nothing refuses the event, and what it leaves
-abbrev pub Answers : Bool → State → Event → Reply → State → Type 0
-Answers true m e reply m' = Row m e reply m'
-Answers false m e reply m' = ((m1 : State) → Row m e reply m1 → ⊥) × (m' ≡ m)
-
 -- the text of the sum of what was found and a number, or there is no sum
 abbrev pub IsSumAt : Content → Content → ℤ → Type 0
 IsSumAt None u by = (x w : List ℕ) → Some x ≡ u → IsSum x by w → ⊥
@@ -99,18 +88,6 @@ IsSumAt (Some w) u by = (x : List ℕ) × (Some x ≡ u) × IsSum x by w
 abbrev pub Replaces : Bool → State → TxnId → Rid → Content → State → Type 0
 Replaces true m t r w m' = (u : List ℕ) × Runs m t × (Some u ≡ view m t r) × (m' ≡ wrote t r (Some u) w m)
 Replaces false m t r w m' = ((u : List ℕ) → Runs m t → Some u ≡ view m t r → ⊥) × (m' ≡ m)
-
--- the cause is the first of these that applies
-abbrev pub FirstOf : State → Event → Cause → List Cause → Type 0
-FirstOf m e c causes = (has c causes ≡ true) × PassesAll m e (before c causes) × Says m e c
-
--- the cause is one of these, and the first that applies
-abbrev pub IsFirstOf : State → Event → Cause → List Cause → Type 0
-IsFirstOf m e c causes = (has c causes ≡ true) × First m e c
-
--- none of these causes is the first that applies
-abbrev pub NoneFirst : State → Event → List Cause → Type 0
-NoneFirst m e causes = (c : Cause) → IsFirstOf m e c causes → ⊥
 
 -- what a failure of a device leaves is what is told
 abbrev pub IsToldOf : Outcome → State → Event → Cause → State → Type 0

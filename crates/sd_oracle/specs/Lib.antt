@@ -1,5 +1,3 @@
-pub mod Lists
-pub mod Wholes
 pub mod Outcomes
 pub mod Judging
-pub mod Claimers
+pub mod Rows

@@ -3,23 +3,25 @@
 ghost use Rattle.std.specs.Prelude.{◌≡◌, ◌↔◌, IsTrue, IfOk, OnErr, None};
 ghost use Rattle.std.specs.List.{Contains};
 
-use crate::lists::Lists;
 use crate::outcome::Outcome;
+use crate::replies::judge;
 use crate::verdict::Verdict;
 use sd_base::{Memory, Rid, Status, TxnId};
+use sd_causes::{is_lowest_obstacle, obstacles};
+use sd_lists::Lists;
 use sd_model::{Claim, Event, Reply, Rows};
 use std::alloc::Global;
 use std::marker::Model;
 
 /// A complex as one table and a list of committed transactions. Contracts see its lists, and `state_of` them is its
-/// state (`specs/Lists.antt`).
+/// state (`Lists.antt` of sd_lists).
 #[derive(Debug, Drop)]
 pub struct SerialTable {
     lists: Lists,
 }
 
 impl Model for SerialTable {
-    ghost use Rattle.sd_oracle.specs.Lists.{Journal, journal};
+    ghost use Rattle.sd_lists.specs.Lists.{Journal, journal};
 
     ghost Value = { Journal };
 
@@ -28,9 +30,9 @@ impl Model for SerialTable {
 
 impl SerialTable {
     ghost use Rattle.sd_base.specs.declared.ids.TxnId.{TxnId};
-    ghost use Rattle.sd_oracle.specs.Lists.{state_of, fresh_with};
+    ghost use Rattle.sd_lists.specs.Lists.{state_of, fresh_with};
     ghost use Rattle.sd_oracle.specs.Judging.{Judges};
-    ghost use Rattle.sd_oracle.specs.Claimers.{Obstructs, IsLowestObstacle};
+    ghost use Rattle.sd_causes.specs.Claimers.{Obstructs, IsLowestObstacle};
     ghost use Rattle.sd_model.specs.State.{view};
     ghost use Rattle.sd_model.specs.Step.{Runs};
 
@@ -63,7 +65,7 @@ impl SerialTable {
         ensures judged { IfOk result (λ v. Judges v outcome.now (state_of self.old) event.now reply.now (state_of self.new)) }
         ensures same { OnErr result (state_of self.new ≡ state_of self.old) }
     {
-        self.lists.judge(event, reply, outcome)
+        judge(&mut self.lists, event, reply, outcome)
     }
 
     /// Whether the transaction runs.
@@ -91,13 +93,13 @@ impl SerialTable {
     ) -> Result<Vec<TxnId>, Memory>
         ensures { IfOk result (λ all. (u : TxnId) → (Contains all.items u ↔ Obstructs (state_of self.now) txn.now rid.now mode u)) }
     {
-        self.lists.obstacles(alloc, txn, rid, mode)
+        obstacles(&self.lists, alloc, txn, rid, mode)
     }
 
     /// Whether the last one is the lowest of these.
     pub fn is_lowest_obstacle(&self, txn: &TxnId, rid: &Rid, mode: Claim, by: &TxnId) -> bool
         ensures { IsTrue result ↔ IsLowestObstacle (state_of self.now) txn.now rid.now mode by.now }
     {
-        self.lists.is_lowest_obstacle(by, txn, rid, mode)
+        is_lowest_obstacle(&self.lists, by, txn, rid, mode)
     }
 }

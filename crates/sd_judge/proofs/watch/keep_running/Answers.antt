@@ -2,7 +2,7 @@ use Rattle.std.proofs.Common.{rules}
 use Rattle.std.proofs.lemmas.Map.Made.{filter_same_pairs}
 use Rattle.sd_base.specs.declared.ids.TxnId.{TxnId}
 use Rattle.sd_model.specs.State.{State}
-use Rattle.sd_oracle.specs.Lists.{state_of}
+use Rattle.sd_lists.specs.Lists.{state_of}
 use Rattle.sd_reclock.specs.declared.wait.Asked.{Asked}
 use Rattle.sd_model.specs.Scenes.{is_running}
 use Rattle.sd_judge.proofs.Noting.{kept-running}

@@ -1,4 +1,4 @@
-use Rattle.sd_oracle.specs.Lists.{state_of}
+use Rattle.sd_lists.specs.Lists.{state_of}
 use Rattle.sd_model.proofs.Scenes.{running-test}
 use Rattle.sd_judge.proofs.watch.runs.Goals as goal
 

@@ -3,8 +3,8 @@ use Rattle.std.specs.List.{Contains}
 use Rattle.std.specs.Result.{IfOk}
 use Rattle.sd_base.specs.declared.ids.TxnId.{TxnId}
 use Rattle.sd_model.specs.declared.act.Claim.{Claim}
-use Rattle.sd_oracle.specs.Lists.{state_of}
-use Rattle.sd_oracle.specs.Claimers.{Obstructs}
+use Rattle.sd_lists.specs.Lists.{state_of}
+use Rattle.sd_causes.specs.Claimers.{Obstructs}
 use Rattle.sd_judge.proofs.standing.TableStanding.obstacles.Goals as goal
 
 pub returns : goal.returns

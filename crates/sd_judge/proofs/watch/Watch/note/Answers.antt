@@ -2,7 +2,7 @@ use Rattle.std.proofs.Common.{◌≡◌, ◌∙◌, ap, sym, subst, None, Some, 
 use Rattle.std.specs.Option.{option_map}
 use Rattle.sd_base.specs.declared.ids.TxnId.{TxnId}
 use Rattle.sd_model.specs.State.{State}
-use Rattle.sd_oracle.specs.Lists.{state_of}
+use Rattle.sd_lists.specs.Lists.{state_of}
 use Rattle.sd_reclock.specs.declared.wait.Asked.{Asked}
 use Rattle.sd_reclock.specs.Locks.{wait_of, waits_in}
 use Rattle.sd_reclock.proofs.Noting.{waits_change}

@@ -1,0 +1,4 @@
+pub mod Search
+pub mod SlotClaims
+pub mod Firsts
+pub mod NumberSums

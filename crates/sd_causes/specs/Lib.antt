@@ -1,0 +1,2 @@
+pub mod Claimers
+pub mod Firsts

@@ -1,0 +1,4 @@
+pub mod Loops
+pub mod Scans
+pub mod Parts
+pub mod OneByOne

@@ -1,0 +1,4 @@
+pub mod Lists
+pub mod Wholes
+pub mod Answers
+pub mod Joins

@@ -1,5 +1,0 @@
-use Rattle.std.proofs.Common.{length}
-use Rattle.sd_oracle.proofs.lists.Lists.+agree_at_done.Given as goal
-
-abbrev pub decreases-agree_at_done : goal.decreases-agree_at_done
-decreases-agree_at_done l = length l.done.now

@@ -1,5 +1,0 @@
-use Rattle.std.proofs.Common.{length}
-use Rattle.sd_oracle.proofs.lists.Lists.+agree_at_rows.Given as goal
-
-abbrev pub decreases-agree_at_rows : goal.decreases-agree_at_rows
-decreases-agree_at_rows l = length l.some.now

@@ -1,5 +1,0 @@
-use Rattle.std.proofs.Common.{length}
-use Rattle.sd_oracle.proofs.lists.Lists.+commit_found.Given as goal
-
-abbrev pub decreases-commit_found : goal.decreases-commit_found
-decreases-commit_found l = length l.found.now
