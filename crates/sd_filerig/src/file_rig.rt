@@ -32,8 +32,7 @@ impl FileRig {
         let mut memory = MemRig::blank(alloc)?;
         let mut files = Vec::with_capacity(alloc, 9)?;
         for dev in 0..9u8 {
-            let mut image = Vec::new(alloc);
-            image.extend_from_slice(memory.image(dev))?;
+            let mut image = memory.image(alloc, dev)?;
             files.push(Backing::open(rt, alloc, dir, dev, &mut image)?)?;
             memory.load(dev, &image)?;
         }

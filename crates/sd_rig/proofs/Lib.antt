@@ -2,6 +2,7 @@ pub mod Bytes
 pub mod Answered
 pub mod Entries
 pub mod Facts
+pub mod Fronts
 pub mod Parts
 pub mod Places
 pub mod Replays

@@ -185,8 +185,8 @@ unmarked-behind base i seen pending within le =
     let long = length-copies (length seen) false in
     get_or-behind base i pending (copies (length seen) false) false (omega arith) le ∙ get_or-copies_any (length seen) i false
 
-pub left-seen : (pick : Pick) (base : ℕ) (seen synced : List ℕ) (pending : List Bool) (new : List ℕ) → length pending ≡ length synced → base + length synced ≤ length seen → IsSound (whole base seen synced pending) → length new ≡ length seen → ReadsAsLeft pick base (base + length synced) seen synced pending new → new ≡ (settled pick (whole base seen synced pending)).seen
-left-seen pick base seen synced pending new even within sound size left =
+pub left-seen : (pick : Pick) (base : ℕ) (seen synced : List ℕ) (pending : List Bool) (new : List ℕ) → length pending ≡ length synced → base + length synced ≤ length seen → IsSound (whole base seen synced pending) → ReadsAsLeft pick base (base + length synced) seen synced pending new → new ≡ (settled pick (whole base seen synced pending)).seen
+left-seen pick base seen synced pending new even within sound left =
     let k : DiskState = whole base seen synced pending in
     let each : (i : ℕ) → get_or new i 0 ≡ left_at pick k i = λ i. ⊎_elim
     (λ lt. left.below i lt ∙ sym (left_at-settled pick k i sound (unmarked-before base i seen pending (omega arith) lt)))
@@ -195,7 +195,7 @@ left-seen pick base seen synced pending new even within sound size left =
     (λ le. left.above i le ∙ sym (left_at-settled pick k i sound (unmarked-behind base i seen pending (omega arith) (omega arith))))
     (cases_lt i (base + length synced)))
     (cases_lt i base) in
-    fill_by_all (left_at pick k) new (length k.synced) 0 (size ∙ sym sound.synced_len) (λ i h. each i)
+    fill_by_all (left_at pick k) new (length k.synced) 0 (left.size ∙ sym sound.synced_len) (λ i h. each i)
 
 pub settled-whole : (pick : Pick) (base : ℕ) (new synced : List ℕ) (pending : List Bool) (k : DiskState) → synced ≡ [] → pending ≡ [] → IsSound k → new ≡ (settled pick k).seen → whole base new synced pending ≡ settled pick k
 settled-whole pick base new synced pending k e1 e2 sound is =

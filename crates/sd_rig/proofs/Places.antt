@@ -1,6 +1,6 @@
 -- A device place by place. It serves the goals of disk.rt, and the lemmas on what a crash may leave.
-use Rattle.std.proofs.Common.{◌≡◌, ◌⊎◌, ⊎_elim, inl, inr, ℕ, ◌+◌, ◌-◌, ◌*◌, ◌/◌, ◌%◌, ◌<◌, ◌≤◌, Bool, true, false, List, ◌++◌, length, take, drop, get_or, refl, sym, ap, ◌∙◌, arith, length-append, length-take-le, length-drop}
-use Rattle.std.proofs.lemmas.List.{get_or-replicate, get_or_past, get_or-take, get_or-drop, get_or_append_left, get_or-append_right, replicate-append-replicate, drop-replicate, take-replicate}
+use Rattle.std.proofs.Common.{◌≡◌, ◌⊎◌, ⊎_elim, inl, inr, ℕ, ◌+◌, ◌-◌, ◌<◌, ◌≤◌, Bool, true, false, List, ◌++◌, length, take, drop, get_or, refl, sym, ap, ◌∙◌, arith, length-append, length-take-le, length-drop}
+use Rattle.std.proofs.lemmas.List.{get_or-replicate, get_or_past, get_or-take, get_or-drop, get_or_append_left, get_or-append_right, drop-replicate, take-replicate}
 use Rattle.std.proofs.lemmas.Bool.{cases_lt, true≢false}
 use Rattle.sd_base.specs.declared.trouble.Pick.{Pick}
 use Rattle.sd_rig.specs.Devices.{AreBytes, overwritten}
@@ -90,15 +90,6 @@ written-sound at bytes k h are sound =
       synced_bytes = sound.synced_bytes;
     }
 
--- blocks of copies make copies
-pub copies-more : {X : Type 0} (m n : ℕ) (x : X) → copies m x ++ copies n x ≡ copies (m + n) x
-unfolding copies
-copies-more m n x = replicate-append-replicate m n x
-
-pub take-copies : {X : Type 0} (m n : ℕ) (x : X) → m ≤ n → take m (copies n x) ≡ copies m x
-unfolding copies
-take-copies m n x h = take-replicate m n x h
-
 -- copies inside copies
 pub copies-inside : {X : Type 0} (m n k : ℕ) (x : X) → m + n ≤ k → copies n x ≡ take n (drop m (copies k x))
 unfolding copies
@@ -112,21 +103,3 @@ blank-sound n = record {
   seen_bytes = bytes-copies n;
   synced_bytes = bytes-copies n;
 }
-
--- one more block, and the rest
-pub filled-more : {X : Type 0} (x : X) (turn : ℕ) (v v' now block : List X) → v ≡ copies (4096 * turn) x → v' ≡ v ++ now → now ≡ block → block ≡ copies 4096 x → v' ≡ copies (4096 * (turn + 1)) x
-filled-more x turn v v' now block before more is repeats =
-    let len : 4096 * turn + 4096 ≡ 4096 * (turn + 1) = omega arith in
-    more ∙ ap (λ l. l ++ now) before ∙ ap (λ l. copies (4096 * turn) x ++ l) (is ∙ repeats) ∙ copies-more (4096 * turn) 4096 x ∙ ap (λ n. copies n x) len
-
-pub filled-rest : {X : Type 0} (x : X) (turn len : ℕ) (v v' now block : List X) → v ≡ copies (4096 * turn) x → v' ≡ v ++ take (len % 4096) now → now ≡ block → block ≡ copies 4096 x → turn ≡ len / 4096 → v' ≡ copies len x
-filled-rest x turn len v v' now block before more is repeats end =
-    let whole : 4096 * turn + len % 4096 ≡ len = omega arith in
-    let small : len % 4096 ≤ 4096 = omega arith in
-    more ∙ ap (λ l. l ++ take (len % 4096) now) before ∙ ap (λ l. copies (4096 * turn) x ++ take (len % 4096) l) (is ∙ repeats)
-    ∙ ap (λ l. copies (4096 * turn) x ++ l) (take-copies (len % 4096) 4096 x small) ∙ copies-more (4096 * turn) (len % 4096) x ∙ ap (λ n. copies n x) whole
-
-pub length-rest : {X : Type 0} (x : X) (len : ℕ) (now block : List X) → now ≡ block → block ≡ copies 4096 x → len % 4096 ≡ length (take (len % 4096) now)
-length-rest x len now block is repeats =
-    let size : length now ≡ 4096 = ap length (is ∙ repeats) ∙ length-copies 4096 x in
-    sym (length-take-le (len % 4096) now (omega arith))

@@ -106,6 +106,7 @@ pub record IsHeld (base : ℕ) (seen synced : List ℕ) (pending : List Bool) (m
 
 -- From low up to high it reads as a crash leaves what was kept of that part, and elsewhere as before.
 pub record ReadsAsLeft (pick : Pick) (low high : ℕ) (seen synced : List ℕ) (pending : List Bool) (new : List ℕ) : Type 0 where
+  pub size : length new ≡ length seen
   pub below : (i : ℕ) → i < low → get_or new i 0 ≡ get_or seen i 0
   pub inside : (i : ℕ) → low ≤ i → i < high → get_or new i 0 ≡ (if get_or pending (i - low) false then picked pick i (get_or seen i 0) (get_or synced (i - low) 0) else get_or synced (i - low) 0)
   pub above : (i : ℕ) → high ≤ i → get_or new i 0 ≡ get_or seen i 0

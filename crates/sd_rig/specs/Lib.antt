@@ -1,5 +1,6 @@
 pub mod Devices
 pub mod Disk
+pub mod Front
 pub mod History
 pub mod Laws
 pub mod Ranges

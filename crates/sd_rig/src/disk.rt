@@ -1,12 +1,13 @@
 //! One device in memory: what it reads, and of the part that was written since the last sync what it was then and which bytes
 //! are pending.
 
-ghost use Rattle.std.specs.Prelude.{◌≡◌, ◌+◌, ◌≤◌, ◌<◌, ◌↔◌, ◌++◌, ℕ, List, false, get_or, length, slice_range, vec_capacity, IfOk, IsTrue, if◌then◌else◌};
+ghost use Rattle.std.specs.Prelude.{◌≡◌, ◌+◌, ◌≤◌, ◌<◌, ◌↔◌, ◌++◌, ℕ, List, false, get_or, length, take, drop, slice_range, vec_capacity, IfOk, IsTrue, if◌then◌else◌};
 ghost use Rattle.sd_rig.specs.Devices.{overwritten};
 ghost use Rattle.sd_rig.specs.Disk.{IsSettled, IsSound, blank, copies, marked, picked, poked, settled, whole, written};
 
+use crate::front::Front;
 use sd_base::{Memory, Pick};
-use std::alloc::{AllocError, Global};
+use std::alloc::Global;
 use std::marker::Model;
 
 /// One device. What it was at the last sync and which bytes are pending is kept of one part alone, from `base` on: outside it
@@ -14,7 +15,7 @@ use std::marker::Model;
 /// beginning, so no later call takes any.
 #[derive(Drop)]
 pub struct Disk {
-    seen: Vec<u8>,
+    seen: Front,
     base: usize,
     synced: Vec<u8>,
     pending: Vec<bool>,
@@ -28,9 +29,9 @@ impl Model for Disk {
 
     ghost coded = { disk_code };
 
-    ghost view = { λ k. whole k.base k.seen.items k.synced.items k.pending.items };
+    ghost view = { λ k. whole k.base k.seen k.synced.items k.pending.items };
 
-    ghost invariant = { λ k. IsHeld k.base k.seen.items k.synced.items k.pending.items (vec_capacity k.synced) (vec_capacity k.pending) };
+    ghost invariant = { λ k. IsHeld k.base k.seen k.synced.items k.pending.items (vec_capacity k.synced) (vec_capacity k.pending) };
 }
 
 impl Disk {
@@ -39,7 +40,7 @@ impl Disk {
         ensures { IfOk result (λ k. k ≡ blank len) }
     {
         Ok(Disk {
-            seen: zeros(alloc, len)?,
+            seen: Front::zeros(alloc, len)?,
             base: 0,
             synced: Vec::with_capacity(alloc, len)?,
             pending: Vec::with_capacity(alloc, len)?,
@@ -47,10 +48,10 @@ impl Disk {
     }
 
     /// The bytes as read.
-    pub fn bytes(&self) -> &[u8]
-        ensures { result.now ≡ self.now.seen }
+    pub fn image(&self, alloc: Global) -> Result<Vec<u8>, Memory>
+        ensures { IfOk result (λ image. image.items ≡ self.now.seen) }
     {
-        &self.seen
+        Ok(self.seen.image(alloc)?)
     }
 
     /// Fills `out` with the bytes at `at`.
@@ -58,7 +59,7 @@ impl Disk {
         requires { at + length out.old ≤ length self.now.seen }
         ensures { out.new ≡ slice_range self.now.seen at (at + length out.old) }
     {
-        out.copy_from_slice(&self.seen[at..at + out.len()]);
+        self.seen.read(at, out);
     }
 
     /// Writes the bytes at `at`, pending.
@@ -74,7 +75,7 @@ impl Disk {
             at,
             bytes.len(),
         );
-        put_range(&mut self.seen, at, bytes);
+        self.seen.write(at, bytes);
     }
 
     /// Whether no byte is pending.
@@ -88,7 +89,15 @@ impl Disk {
     pub fn settle(&mut self, pick: Pick)
         ensures { self.new ≡ settled pick self.old }
     {
-        settle_part(&mut self.seen, &self.synced, &self.pending, self.base, pick);
+        let end = self.base + self.synced.len();
+        settle_part(
+            &mut self.seen,
+            &self.synced,
+            &self.pending,
+            self.base,
+            end,
+            pick,
+        );
         self.synced.clear();
         self.pending.clear();
     }
@@ -107,41 +116,15 @@ impl Disk {
             at + 1,
         );
         let place = at - self.base;
-        self.seen[at] = byte;
+        self.seen.set(at, byte);
         self.synced[place] = byte;
         self.pending[place] = false;
     }
 }
 
-// How much of a new device is filled at once.
-const BLOCK: usize = 4096;
-
-// So many zeros.
-#[tactic(auto, unfolding(crate::specs::Disk::copies))]
-fn repeated(alloc: Global, len: usize) -> Result<Vec<u8>, AllocError>
-    ensures { IfOk result (λ v. v.items ≡ copies len 0) }
-{
-    let mut v = Vec::new(alloc);
-    v.resize(len, 0)?;
-    Ok(v)
-}
-
-// The same, block by block.
-fn zeros(alloc: Global, len: usize) -> Result<Vec<u8>, AllocError>
-    ensures { IfOk result (λ v. v.items ≡ copies len 0) }
-{
-    let block = repeated(alloc, BLOCK)?;
-    let mut v = Vec::with_capacity(alloc, len)?;
-    for _turn in 0..len / BLOCK {
-        v.extend_from_slice(&block)?;
-    }
-    v.extend_from_slice(&block[..len % BLOCK])?;
-    Ok(v)
-}
-
 // Lets the part have so many places from `at` on, each of them pending, and says where it begins.
 fn reach(
-    seen: &[u8],
+    seen: &Front,
     synced: &mut Vec<u8>,
     pending: &mut Vec<bool>,
     base: usize,
@@ -160,7 +143,7 @@ fn reach(
     ensures marks_room { vec_capacity pending.old ≤ vec_capacity pending.new }
 {
     if synced.is_empty() {
-        synced.extend_from_slice(&seen[at..at + count]).unwrap();
+        seen.copy(at, count, synced);
         pending.resize(count, true).unwrap();
         return at;
     }
@@ -170,7 +153,7 @@ fn reach(
 // The same, whatever the part has.
 #[inline(never)]
 fn reach_more(
-    seen: &[u8],
+    seen: &Front,
     synced: &mut Vec<u8>,
     pending: &mut Vec<bool>,
     base: usize,
@@ -195,7 +178,7 @@ fn reach_more(
 
 // Lets the part begin at `at` or before it and reach to `end`, and says where it begins.
 fn cover(
-    seen: &[u8],
+    seen: &Front,
     synced: &mut Vec<u8>,
     pending: &mut Vec<bool>,
     base: usize,
@@ -223,7 +206,7 @@ fn cover(
 
 // Lets the part begin at `at` or before it, and says where it begins.
 fn cover_front(
-    seen: &[u8],
+    seen: &Front,
     synced: &mut Vec<u8>,
     pending: &mut Vec<bool>,
     base: usize,
@@ -247,13 +230,13 @@ fn cover_front(
     if base <= at {
         return base;
     }
-    put_front(synced, &seen[at..base]);
+    put_front(synced, seen, at, base - at);
     clear_front(pending, base - at);
     at
 }
 
 // Lets the part reach to `end`.
-fn cover_back(seen: &[u8], synced: &mut Vec<u8>, pending: &mut Vec<bool>, base: usize, end: usize)
+fn cover_back(seen: &Front, synced: &mut Vec<u8>, pending: &mut Vec<bool>, base: usize, end: usize)
     requires even { length pending.old.items ≡ length synced.old.items }
     requires within { base + length synced.old.items ≤ length seen.now }
     requires fits { end ≤ length seen.now }
@@ -268,19 +251,20 @@ fn cover_back(seen: &[u8], synced: &mut Vec<u8>, pending: &mut Vec<bool>, base: 
 {
     let from = base + synced.len();
     if from < end {
-        synced.extend_from_slice(&seen[from..end]).unwrap();
+        seen.copy(from, end - from, synced);
         pending.resize(end - base, false).unwrap();
     }
 }
 
-// Puts these bytes before the others.
-fn put_front(to: &mut Vec<u8>, bytes: &[u8])
-    requires { length to.old.items + length bytes.now ≤ vec_capacity to.old }
-    ensures items { to.new.items ≡ bytes.now ++ to.old.items }
+// Puts so many bytes from `at` on before the others.
+fn put_front(to: &mut Vec<u8>, seen: &Front, at: usize, count: usize)
+    requires fits { at + count ≤ length seen.now }
+    requires room { length to.old.items + count ≤ vec_capacity to.old }
+    ensures items { to.new.items ≡ take count (drop at seen.now) ++ to.old.items }
     ensures room { vec_capacity to.old ≤ vec_capacity to.new }
 {
-    to.extend_from_slice(bytes).unwrap();
-    to.rotate_right(bytes.len());
+    seen.copy(at, count, to);
+    to.rotate_right(count);
 }
 
 // Puts so many marks, none set, before the others.
@@ -292,14 +276,6 @@ fn clear_front(to: &mut Vec<bool>, count: usize)
     let len = to.len();
     to.resize(len + count, false).unwrap();
     to.rotate_right(count);
-}
-
-// Puts the bytes at `at`.
-fn put_range(to: &mut [u8], at: usize, bytes: &[u8])
-    requires { at + length bytes.now ≤ length to.old }
-    ensures { to.new ≡ overwritten at bytes.now to.old }
-{
-    to[at..at + bytes.len()].copy_from_slice(bytes);
 }
 
 // Marks so many places from `at` on.
@@ -339,16 +315,27 @@ fn left_byte(pick: Pick, place: usize, now: u8, old: u8, pending: bool) -> u8
 }
 
 // Lets the device read as a crash leaves it. A pick that keeps pending bytes leaves what is read.
-fn settle_part(seen: &mut [u8], synced: &[u8], pending: &[bool], base: usize, pick: Pick)
+fn settle_part(
+    seen: &mut Front,
+    synced: &[u8],
+    pending: &[bool],
+    base: usize,
+    end: usize,
+    pick: Pick,
+)
     requires even { length pending.now ≡ length synced.now }
-    requires within { base + length synced.now ≤ length seen.old }
+    requires part { end ≡ base + length synced.now }
+    requires within { end ≤ length seen.old }
     requires sound { IsSound (whole base seen.old synced.now pending.now) }
     ensures { seen.new ≡ (settled pick (whole base seen.old synced.now pending.now)).seen }
 {
     if let Pick::Keep = pick {
         return;
     }
-    for i in base..base + synced.len() {
-        seen[i] = left_byte(pick, i, seen[i], synced[i - base], pending[i - base]);
+    for i in base..end {
+        seen.set(
+            i,
+            left_byte(pick, i, seen.get(i), synced[i - base], pending[i - base]),
+        );
     }
 }

@@ -35,13 +35,13 @@ impl Drives {
         Ok(Drives { disks, history })
     }
 
-    /// What the device reads.
-    pub fn image(&self, dev: u8) -> &[u8]
+    /// What the device reads, copied.
+    pub fn image(&self, alloc: Global, dev: u8) -> Result<Vec<u8>, Memory>
         requires { dev ≤ 8 }
-        ensures bytes { result.now ≡ (disk_at self.now.disks.items dev).seen }
-        ensures len { length result.now ≡ device_len dev }
+        ensures bytes { IfOk result (λ image. image.items ≡ (disk_at self.now.disks.items dev).seen) }
+        ensures len { IfOk result (λ image. length image.items ≡ device_len dev) }
     {
-        self.disks[dev as usize].bytes()
+        self.disks[dev as usize].image(alloc)
     }
 
     /// Fills `out` with the bytes at `at`.

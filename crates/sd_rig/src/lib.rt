@@ -12,13 +12,14 @@
 //! Stands on: sd_base.
 //!
 //! To change:
-//! - free: bodies, `Disk`, `History` and `Drives` inside
+//! - free: bodies, `Front`, `Disk`, `History` and `Drives` inside
 //! - dear: the clauses and laws of `Rig`, the lengths of the devices
 //! - frozen: which bytes a pick leaves (tests above name them)
 #![tactic(auto)]
 
 mod disk;
 mod drives;
+mod front;
 mod history;
 mod memory_rig;
 mod rig;

@@ -48,13 +48,13 @@ impl MemRig {
         })
     }
 
-    /// What the device reads.
-    pub fn image(&self, dev: u8) -> &[u8]
+    /// What the device reads, copied.
+    pub fn image(&self, alloc: Global, dev: u8) -> Result<Vec<u8>, Memory>
         requires { dev ≤ 8 }
-        ensures bytes { result.now ≡ (device self.now dev).seen }
-        ensures len { length result.now ≡ device_len dev }
+        ensures bytes { IfOk result (λ image. image.items ≡ (device self.now dev).seen) }
+        ensures len { IfOk result (λ image. length image.items ≡ device_len dev) }
     {
-        self.drives.image(dev)
+        self.drives.image(alloc, dev)
     }
 
     /// How many writes and syncs failed since there was no memory for the record. It stays at the greatest u64.

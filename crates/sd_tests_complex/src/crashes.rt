@@ -1,7 +1,8 @@
 //! A crash at each device call of one instance's work leaves the table as it was before a commit, or behind it.
 
-ghost use Rattle.std.specs.Prelude.{◌≡◌, IfOk};
+ghost use Rattle.std.specs.Prelude.{◌≡◌, ◌≤◌, length, IfOk};
 ghost use Rattle.sd_recovered.specs.Devices.{AreDevices};
+ghost use Rattle.sd_rig.specs.Devices.{device_len};
 ghost use Rattle.sd_state.specs.Complexes.{parts};
 ghost use Rattle.sd_state.specs.Fresh.{AreBlank};
 ghost use Rattle.sd_one.specs.Ready.{IsReady};
@@ -36,21 +37,29 @@ fn work<G: Rig>(alloc: Global, c: &mut Complex<G>, r: &Rid, told: &mut bool) -> 
     Ok(())
 }
 
-// What a device reads.
+// What this device reads.
+fn image(alloc: Global, rig: &MemRig, dev: u8) -> Result<Bytes, Memory>
+    requires { dev ≤ 8 }
+    ensures { IfOk result (λ image. length image ≡ device_len dev) }
+{
+    Bytes::of(alloc, rig.image(alloc, dev)?)
+}
+
+// What each device reads.
 #[tactic(auto, using(sd_recovered::proofs::Nine::are_devices))]
 fn images(alloc: Global, rig: &MemRig) -> Result<Vec<Bytes>, Memory>
     ensures { IfOk result (λ images. AreDevices images.items) }
 {
     let images = [
-        Bytes::copy_of(alloc, rig.image(0))?,
-        Bytes::copy_of(alloc, rig.image(1))?,
-        Bytes::copy_of(alloc, rig.image(2))?,
-        Bytes::copy_of(alloc, rig.image(3))?,
-        Bytes::copy_of(alloc, rig.image(4))?,
-        Bytes::copy_of(alloc, rig.image(5))?,
-        Bytes::copy_of(alloc, rig.image(6))?,
-        Bytes::copy_of(alloc, rig.image(7))?,
-        Bytes::copy_of(alloc, rig.image(8))?,
+        image(alloc, rig, 0)?,
+        image(alloc, rig, 1)?,
+        image(alloc, rig, 2)?,
+        image(alloc, rig, 3)?,
+        image(alloc, rig, 4)?,
+        image(alloc, rig, 5)?,
+        image(alloc, rig, 6)?,
+        image(alloc, rig, 7)?,
+        image(alloc, rig, 8)?,
     ];
     Ok(Vec::from_array(alloc, images)?)
 }

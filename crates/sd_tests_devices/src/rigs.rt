@@ -18,7 +18,7 @@ fn calls_fail_where_trouble_meets_them_alone(rt: HostRuntime) -> Result<(), Fail
     assert!(rt; calls == [true; 3]);
     rig.poke(8, 2_097_281, 7)?;
     rig.crash(Pick::Lose);
-    assert!(rt; rig.image(8).ends_with(b"x\x07"));
+    assert!(rt; rig.image(rt.alloc(), 8)?.ends_with(b"x\x07"));
     assert_eq!(rt; rig.short(), 0);
     Ok(())
 }

@@ -77,7 +77,7 @@ fn groups_stand_byte_for_byte_and_their_pages_are_known(rt: HostRuntime) -> Resu
     let mut rig = MemRig::blank(alloc)?;
     let inst = InstNo::new(1).ok_or("instance 1")?;
     let mut log = write_log(alloc, &mut rig, inst)?;
-    assert_eq!(rt; &rig.image(1)[130..221], LOG.as_slice());
+    assert_eq!(rt; &rig.image(alloc, 1)?[130..221], LOG.as_slice());
     log.append(red(alloc, inst)?, 78)?;
     let page = PageNo::new(0).ok_or("page 0")?;
     assert_eq!(rt; log.of_page(alloc, page)?.as_slice(), [1, 3].as_slice());

@@ -1,6 +1,5 @@
 use Rattle.std.proofs.Common.{rules, ◌≡◌, ◌+◌, ◌++◌, ◌-◌, Bool, List, length, take, drop, replicate, cond, false, is_ok, refl, sym, vec_len, ap, ◌∙◌, arith}
 use Rattle.std.proofs.lemmas.List.{take_all}
-use Rattle.std.proofs.lemmas.Slice.{pushed}
 use Rattle.sd_rig.specs.Disk.{copies, copies-is}
 use Rattle.sd_rig.proofs.Parts.{back-whole, whole-same}
 use Rattle.sd_rig.proofs.disk.cover_back.Goals as goal
@@ -16,13 +15,13 @@ returns-then-from-end-clause-same c =
     let from_is : from ≡ base + length synced = search rules in
     let n = end - from in
     let mid = take n (drop from seen) in
-    let front = pushed {was = synced} mid refl c.unwrap.ensures c.extend_from_slice.ensures.items in
+    let front = c.copy.ensures.items in
     let len = vec_len c.args.pending.now in
     let len_is : len ≡ length pending = search rules in
     let less = c.if-from-end.true in
     let left : (end - base) - len ≡ n = omega (arith, c.requires.even, len_is, from_is) in
     let marks : c.resize.new.self.items ≡ pending ++ copies n false =
-    c.resize.ensures.items ∙ ap (λ r. cond (is_ok r) (take (end - base) pending ++ replicate ((end - base) - len) false) pending) c.unwrap-then-from-end.ensures
+    c.resize.ensures.items ∙ ap (λ r. cond (is_ok r) (take (end - base) pending ++ replicate ((end - base) - len) false) pending) c.unwrap.ensures
     ∙ ap (λ (l : List Bool). l ++ replicate ((end - base) - len) false) (take_all (end - base) pending (omega (arith, c.requires.even, less, from_is)))
     ∙ ap (λ (l : List Bool). pending ++ l) (ap (λ k. replicate k false) left ∙ sym (copies-is n false)) in
     whole-same base refl front marks ∙ back-whole base n seen synced mid pending c.requires.even (ap (λ k. take n (drop k seen)) from_is) (omega (arith, from_is, c.requires.fits, less))

@@ -1,6 +1,5 @@
-use Rattle.std.proofs.Common.{rules, ◌≡◌, ◌+◌, ◌++◌, ◌-◌, List, ℕ, [], length, take, drop, replicate, cond, true, is_ok, refl, sym, vec_len, ap, ◌∙◌, arith}
+use Rattle.std.proofs.Common.{rules, ◌≡◌, ◌++◌, ◌-◌, List, ℕ, [], length, take, drop, replicate, cond, true, is_ok, sym, vec_len, ap, ◌∙◌, arith}
 use Rattle.std.proofs.lemmas.List.{nil_from_length, take_all}
-use Rattle.std.proofs.lemmas.Slice.{pushed}
 use Rattle.sd_rig.specs.Disk.{copies, copies-is}
 use Rattle.sd_rig.proofs.Parts.{first-whole}
 use Rattle.sd_rig.proofs.disk.reach.Goals as goal
@@ -15,16 +14,12 @@ returns-then-is_empty-clause-written c = λ bytes len.
     let zero : length synced ≡ 0 = search rules in
     let none : synced ≡ [] = nil_from_length synced zero in
     let none' : pending ≡ [] = nil_from_length pending (c.requires.even ∙ zero) in
-    let n : ℕ = (at + count) - at in
-    let mid : List ℕ = take n (drop at seen) in
-    let all : n ≡ length bytes = omega (arith, len) in
-    let front = pushed {was = synced} mid refl c.unwrap.ensures c.extend_from_slice.ensures.items in
-    let is = front ∙ ap (λ (l : List ℕ). l ++ mid) none ∙ ap (λ k. take k (drop at seen)) all in
+    let is = c.copy.ensures.items ∙ ap (λ (l : List ℕ). l ++ take count (drop at seen)) none ∙ ap (λ k. take k (drop at seen)) (sym len) in
     let had = vec_len c.args.pending.now in
     let had_is : had ≡ length pending = search rules in
     let more : count - had ≡ length bytes = omega (arith, had_is, c.requires.even, zero, len) in
     let marks : c.resize.new.self.items ≡ copies (length bytes) true =
-    c.resize.ensures.items ∙ ap (λ r. cond (is_ok r) (take count pending ++ replicate (count - had) true) pending) c.unwrap-then-is_empty.ensures
+    c.resize.ensures.items ∙ ap (λ r. cond (is_ok r) (take count pending ++ replicate (count - had) true) pending) c.unwrap.ensures
     ∙ ap (λ l. l ++ replicate (count - had) true) (take_all count pending (omega (arith, c.requires.even, zero)) ∙ none')
     ∙ ap (λ k. replicate k true) more ∙ sym (copies-is (length bytes) true) in
-    first-whole c.args.base at bytes seen synced c.extend_from_slice.new.self.items pending c.resize.new.self.items none none' is marks (omega (arith, len, c.requires.fits))
+    first-whole c.args.base at bytes seen synced c.copy.new.to.items pending c.resize.new.self.items none none' is marks (omega (arith, len, c.requires.fits))

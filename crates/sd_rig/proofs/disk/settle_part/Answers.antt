@@ -9,6 +9,6 @@ returns-in-Keep c = rw c.in-Keep.is (sym (synced-seen (whole c.args.base c.args.
 
 pub returns : goal.returns
 returns c =
-    let end : c.loop-i.i ≡ c.args.base + length c.args.synced.now = omega arith in
-    left-seen c.args.pick c.args.base c.args.seen.now c.args.synced.now c.args.pending.now c.loop-i.seen c.requires.even c.requires.within c.requires.sound (omega arith)
+    let end : c.loop-i.i ≡ c.args.base + length c.args.synced.now = omega (arith, c.requires.part) in
+    left-seen c.args.pick c.args.base c.args.seen.now c.args.synced.now c.args.pending.now c.loop-i.seen c.requires.even (omega (arith, c.requires.within, c.requires.part)) c.requires.sound
     (subst (λ n. ReadsAsLeft c.args.pick c.args.base n c.args.seen.now c.args.synced.now c.args.pending.now c.loop-i.seen) end c.loop-i.invariant)
