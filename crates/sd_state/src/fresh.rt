@@ -12,6 +12,7 @@ ghost use Rattle.sd_state.specs.Good.{Good};
 ghost use Rattle.sd_state.specs.Values.{Pending};
 
 use crate::complex::{Checkpoint, Complex, Shape};
+use crate::opening::{Found, filled};
 use sd_base::{InstNo, Memory, Status};
 use sd_log::Log;
 use sd_page::Image;
@@ -71,22 +72,35 @@ fn blank(alloc: Global, frames: u16) -> Result<Complex<()>, Memory>
     requires most { frames ≤ 1024 }
     ensures { IfOk result (λ c. IsFresh frames (parts c)) }
 {
-    Ok(Complex {
-        rig: (),
+    Ok(filled(alloc, frames, nothing(alloc)?)?)
+}
+
+// What is found on blank devices.
+fn nothing(alloc: Global) -> Result<Found, Memory>
+    ensures logs { IfOk result (λ f. f.logs.items ≡ for_each (λ i. new_log i 0) 8) }
+    ensures txns { IfOk result (λ f. f.txns.items ≡ for_each empty_table 8) }
+    ensures unlocked { IfOk result (λ f. f.locks.locks ≡ []) }
+    ensures unwaited { IfOk result (λ f. f.locks.waiting ≡ []) }
+    ensures free { IfOk result (λ f. (p : ℕ) → entry_at (unboxed f.directory) p ≡ Entry.Free) }
+    ensures clean { IfOk result (λ f. (p : ℕ) → rec_lsn_at (unboxed f.directory) p ≡ None) }
+    ensures still { IfOk result (λ f. (p : ℕ) → image_at (unboxed f.directory) p ≡ None) }
+    ensures unasked { IfOk result (λ f. (p : ℕ) → asks_at (unboxed f.directory) p ≡ []) }
+    ensures statuses { IfOk result (λ f. f.statuses.items ≡ for_each (λ i. S.Clean) 8) }
+    ensures epochs { IfOk result (λ f. f.epochs.items ≡ for_each (λ i. 0) 8) }
+    ensures masters { IfOk result (λ f. f.masters.items ≡ for_each (λ i. 0) 8) }
+    ensures owed { IfOk result (λ f. f.owed.items ≡ for_each (λ i. 0) 8) }
+    ensures disk_lsn { IfOk result (λ f. f.disk_lsn ≡ 0) }
+{
+    Ok(Found {
         logs: new_logs(alloc)?,
-        pools: empty_pools(alloc, frames)?,
-        directory: free_pages(alloc)?,
-        locks: RecordLocks::new(alloc),
         txns: empty_tables(alloc)?,
+        locks: RecordLocks::new(alloc),
+        directory: free_pages(alloc)?,
         statuses: repeated(alloc, Status::Clean, 8)?,
         epochs: repeated(alloc, 0, 8)?,
         masters: repeated(alloc, 0, 8)?,
-        checks: no_checks(alloc)?,
-        others: repeated(alloc, None, 8)?,
         owed: repeated(alloc, 0, 8)?,
         disk_lsn: 0,
-        loose: repeated(alloc, false, 9)?,
-        due: None,
     })
 }
 

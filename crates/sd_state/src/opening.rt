@@ -1,19 +1,21 @@
 //! A complex over what a reading of its devices found.
 
-ghost use Rattle.std.specs.Prelude.{◌≡◌, ◌≤◌, ℕ, IfErr, IfOk};
+ghost use Rattle.std.specs.Prelude.{◌≡◌, ◌≤◌, ℕ, false, None, IfErr, IfOk};
 ghost use Rattle.sd_model.specs.State.{State};
 ghost use Rattle.sd_rig.specs.Devices.{LeavesOnly};
 ghost use Rattle.sd_state.specs.Complexes.{parts};
+ghost use Rattle.sd_state.specs.Fresh.{empty_pool, for_each};
 ghost use Rattle.sd_state.specs.Good.{Good};
 ghost use Rattle.sd_state.specs.Opening.{AreOpened, OpensTo, opened_parts};
 ghost use Rattle.sd_state.specs.Values.{Pending};
 
-use crate::complex::{Complex, Shape};
+use crate::complex::{Checkpoint, Complex, Shape};
 use crate::fresh::{empty_pools, no_checks, over, repeated};
 use sd_base::{Lsn, Memory, Status};
 use sd_log::Log;
 use sd_page::Image;
 use sd_pagelock::Directory;
+use sd_pool::Pool;
 use sd_reclock::RecordLocks;
 use sd_rig::Rig;
 use sd_txn::TxnTable;
@@ -68,30 +70,52 @@ impl<G: Rig> Complex<G> {
 }
 
 // A complex with what was found, over no rig.
-fn filled(alloc: Global, frames: u16, found: Found) -> Result<Complex<()>, Memory>
+pub(crate) fn filled(alloc: Global, frames: u16, found: Found) -> Result<Complex<()>, Memory>
     requires least { 1 ≤ frames }
     requires most { frames ≤ 1024 }
     ensures { IfOk result (λ c. parts c ≡ opened_parts frames found) }
 {
-    let pools = empty_pools(alloc, frames)?;
-    let checks = no_checks(alloc)?;
-    let others = repeated(alloc, None, 8)?;
-    let loose = repeated(alloc, false, 9)?;
+    let idle = all_idle(alloc, frames)?;
     Ok(Complex {
         rig: (),
         logs: found.logs,
-        pools,
+        pools: idle.pools,
         directory: found.directory,
         locks: found.locks,
         txns: found.txns,
         statuses: found.statuses,
         epochs: found.epochs,
         masters: found.masters,
-        checks,
-        others,
+        checks: idle.checks,
+        others: idle.others,
         owed: found.owed,
         disk_lsn: found.disk_lsn,
-        loose,
+        loose: idle.loose,
         due: None,
+    })
+}
+
+// What no device tells: pools without pages, no begun checkpoint, one place at which each log begins, and each device settled.
+#[derive(Drop)]
+struct Idle {
+    pools: Vec<Pool>,
+    checks: Vec<Option<Checkpoint>>,
+    others: Vec<Option<u32>>,
+    loose: Vec<bool>,
+}
+
+fn all_idle(alloc: Global, frames: u16) -> Result<Idle, Memory>
+    requires least { 1 ≤ frames }
+    requires most { frames ≤ 1024 }
+    ensures pools { IfOk result (λ idle. idle.pools.items ≡ for_each (λ i. empty_pool frames) 8) }
+    ensures checks { IfOk result (λ idle. idle.checks.items ≡ for_each (λ i. None) 8) }
+    ensures others { IfOk result (λ idle. idle.others.items ≡ for_each (λ i. None) 8) }
+    ensures loose { IfOk result (λ idle. idle.loose.items ≡ for_each (λ i. false) 9) }
+{
+    Ok(Idle {
+        pools: empty_pools(alloc, frames)?,
+        checks: no_checks(alloc)?,
+        others: repeated(alloc, None, 8)?,
+        loose: repeated(alloc, false, 9)?,
     })
 }
