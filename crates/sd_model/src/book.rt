@@ -1,6 +1,6 @@
 //! The book of a complex: the table at its opening, and each event since with its reply.
 
-ghost use Rattle.std.specs.Prelude.{◌≡◌, ◌≢◌, ◌-◌, ◌+◌, ◌≤◌, ◌++◌, ◌∷◌, [], List, OnOk, IsSome, Some, length, option_copied, slice_get};
+ghost use Rattle.std.specs.Prelude.{◌≡◌, ◌≢◌, ◌-◌, ◌+◌, ◌<◌, ◌≤◌, ◌++◌, ◌∷◌, [], List, OnOk, IsSome, Some, length, option_copied, slice_get};
 ghost use Rattle.std.specs.Vec.{vec_len, vec_capacity};
 ghost use Rattle.sd_model.specs.declared.event.Entry.{Entry};
 ghost use Rattle.sd_model.specs.Booked.{of_lines, unpacked};
@@ -134,19 +134,17 @@ impl Book {
 // Puts an entry behind those that stand whole.
 #[inline(always)]
 fn append(whole: &mut Vec<Entry>, session: u8, line: u32, event: Event, reply: Reply)
-    requires room { 1 ≤ vec_capacity whole.old - vec_len whole.old }
+    requires room { vec_len whole.old < vec_capacity whole.old }
     ensures whole { whole.new.items
         ≡ whole.old.items ++ record { session = session; line = line; event = event; reply = reply } ∷ [] }
     ensures spare { vec_capacity whole.old - vec_len whole.old ≤ (vec_capacity whole.new - vec_len whole.new) + 1 }
 {
-    let pushed = whole.push(Entry {
+    whole.push_reserved(Entry {
         session,
         line,
         event,
         reply,
     });
-    prove!(pushed.is_ok());
-    let _ = pushed;
 }
 
 // Puts an entry in the place of the newest.

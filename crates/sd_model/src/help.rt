@@ -1,6 +1,6 @@
 //! An entry of no line in few bytes: what an instance did with a page to help a line, with a short reply.
 
-ghost use Rattle.std.specs.Prelude.{◌≡◌, ◌-◌, ◌+◌, ◌≤◌, ◌++◌, ◌∷◌, [], IfSome};
+ghost use Rattle.std.specs.Prelude.{◌≡◌, ◌-◌, ◌+◌, ◌<◌, ◌≤◌, ◌++◌, ◌∷◌, [], IfSome};
 ghost use Rattle.std.specs.Vec.{vec_len, vec_capacity};
 ghost use Rattle.sd_model.specs.Booked.{entry_of, event_of, reply_of};
 
@@ -129,11 +129,9 @@ pub fn help_of(entry: &Entry) -> Option<Help>
 
 /// Notes how the newest entry is kept, before the next comes. It takes no memory.
 pub fn keep(noted: &mut Vec<Noted>, how: Noted)
-    requires room { 1 ≤ vec_capacity noted.old - vec_len noted.old }
+    requires room { vec_len noted.old < vec_capacity noted.old }
     ensures noted { noted.new.items ≡ noted.old.items ++ how ∷ [] }
     ensures spare { vec_capacity noted.old - vec_len noted.old ≤ (vec_capacity noted.new - vec_len noted.new) + 1 }
 {
-    let pushed = noted.push(how);
-    prove!(pushed.is_ok());
-    let _ = pushed;
+    noted.push_reserved(how);
 }
