@@ -1,9 +1,9 @@
-"""Runs the loops of crates/sd_bench and times them."""
+"""Runs the loops of crates/sd_bench and times them: by processor time, user and system, of the process."""
 import functools
 import hashlib
+import os
 import subprocess
 import sys
-import time
 from pathlib import Path
 
 TOP = Path(__file__).resolve().parent.parent
@@ -53,13 +53,18 @@ def build():
     BUILT.write_text(told)
 
 
+def spent(words, text=None):
+    """Processor seconds and the greatest resident set in MB of one run with this text as its input."""
+    child = subprocess.Popen(words, stdin=text, stdout=subprocess.DEVNULL)
+    _, status, usage = os.wait4(child.pid, 0)
+    child.returncode = os.waitstatus_to_exitcode(status)
+    if child.returncode != 0:
+        sys.exit(f"benches: {' '.join(map(str, words))} ended with {child.returncode}")
+    return usage.ru_utime + usage.ru_stime, usage.ru_maxrss / 1024
+
+
 @functools.cache
-def best(*words):
-    """Seconds of the best of three runs with these words."""
+def best(*words, rounds=3):
+    """Processor seconds of the best of some runs with these words."""
     build()
-    times = []
-    for _ in range(3):
-        begin = time.monotonic()
-        subprocess.run([PROGRAM, *map(str, words)], check=True)
-        times.append(time.monotonic() - begin)
-    return min(times)
+    return min(spent([PROGRAM, *map(str, words)])[0] for _ in range(rounds))

@@ -1,23 +1,33 @@
-//! Appends, forces and readings of a log.
+//! Appends, forces and readings of logs.
 
 ghost use Rattle.std.specs.Prelude.{◌≡◌, ◌<◌, ◌≤◌, ◌^◌, true, IfOk, IsTrue, OnOk};
 ghost use Rattle.sd_rig.specs.Devices.{LeavesOnly};
 ghost use Rattle.sd_log.specs.Logs.{StandsOn};
 ghost use Rattle.sd_bench.specs.Same.{AreSame};
 
-use sd_base::{Failed, InstNo, Refusal, TxnId};
+use crate::transfers::Transfer;
+use sd_base::{Failed, InstNo, PageNo, Refusal};
 use sd_log::Log;
-use sd_logrec::Record;
 use sd_rig::{MemRig, Rig};
 use std::alloc::Global;
 
-/// Appends ten commits so many times to the log of a blank device, with a force after each ten, and then reads the log
-/// so many times. `false` where a call is refused.
-pub fn appends(alloc: Global, tens: u32, reads: u32) -> bool {
-    let (Ok(mut rig), Some(inst)) = (MemRig::blank(alloc), InstNo::new(1)) else {
+// What undoing one change, or two, takes: a CLR of 45 bytes for each, and an End of 26.
+const ONE_UNDONE: u32 = 71;
+
+const TWO_UNDONE: u32 = 116;
+
+/// To each of the first logs, so many, of blank devices appends so many transfers, three records and a force each, and then
+/// reads the first log so many times. `false` where a call is refused, as where a log is full.
+pub fn transfers(alloc: Global, logs: u8, transfers: u32, reads: u32) -> bool {
+    let Ok(mut rig) = MemRig::blank(alloc) else {
         return false;
     };
-    filled(alloc, &mut rig, inst, tens) && read(alloc, &mut rig, inst, reads)
+    for n in 0..logs {
+        if !is_filled(alloc, &mut rig, n.saturating_add(1), transfers) {
+            return false;
+        }
+    }
+    is_read(alloc, &mut rig, reads)
 }
 
 // Reads the log from its device, which is made stable.
@@ -29,39 +39,49 @@ fn open<G: Rig>(alloc: Global, rig: &mut G, inst: InstNo) -> Result<Log, Refusal
     Log::read_in(alloc, rig, inst, 0)
 }
 
-fn filled<G: Rig>(alloc: Global, rig: &mut G, inst: InstNo, tens: u32) -> bool {
-    let Ok(mut log) = open(alloc, rig, inst) else {
+// Fills the log of this number.
+fn is_filled(alloc: Global, rig: &mut MemRig, number: u8, transfers: u32) -> bool {
+    let (Some(inst), Some(page)) = (InstNo::new(number), PageNo::new(0)) else {
         return false;
     };
-    for n in 0..tens {
-        if append_ten(&mut log, inst, n).is_err() || force(rig, &mut log).is_err() {
-            return false;
-        }
-    }
-    true
+    filled(alloc, rig, inst, page, transfers).is_ok()
 }
 
-// Ten commits. The groups stay.
-fn append_ten(log: &mut Log, inst: InstNo, n: u32) -> Result<(), Refusal>
-    ensures { AreSame log.old log.new }
-{
-    for k in 0..10 {
-        append(log, inst, u64::from(n) * 10 + k + 1)?;
+fn filled<G: Rig>(
+    alloc: Global,
+    rig: &mut G,
+    inst: InstNo,
+    page: PageNo,
+    transfers: u32,
+) -> Result<(), Refusal> {
+    let mut log = open(alloc, rig, inst)?;
+    for n in 0..transfers {
+        append_transfer(alloc, &mut log, inst, page, n)?;
+        force(rig, &mut log)?;
     }
     Ok(())
 }
 
-fn append(log: &mut Log, inst: InstNo, lsn: u64) -> Result<(), Refusal>
-    requires low { 1 ≤ lsn }
-    requires high { lsn < 2 ^ 62 }
+// The records of transfer n of this log. The groups stay.
+fn append_transfer(
+    alloc: Global,
+    log: &mut Log,
+    inst: InstNo,
+    page: PageNo,
+    n: u32,
+) -> Result<(), Refusal>
     ensures { AreSame log.old log.new }
 {
-    let txn = TxnId {
+    let transfer = Transfer {
         inst,
-        epoch: 1,
-        seq: 1,
+        number: n,
+        first: 3 * u64::from(n) + 1,
+        page,
+        before: n.checked_sub(1),
     };
-    log.append(Record::Commit { lsn, txn, prev: 0 }, 0)
+    log.append(transfer.first_change(alloc)?, ONE_UNDONE)?;
+    log.append(transfer.second_change(alloc)?, TWO_UNDONE)?;
+    log.append(transfer.commit(), 0)
 }
 
 // A force after which the log stands on its device.
@@ -74,7 +94,10 @@ fn force<G: Rig>(rig: &mut G, log: &mut Log) -> Result<(), Failed>
     log.force(rig)
 }
 
-fn read(alloc: Global, rig: &mut MemRig, inst: InstNo, reads: u32) -> bool {
+fn is_read(alloc: Global, rig: &mut MemRig, reads: u32) -> bool {
+    let Some(inst) = InstNo::new(1) else {
+        return false;
+    };
     for _ in 0..reads {
         if Log::read_in(alloc, rig, inst, 0).is_err() {
             return false;

@@ -5,8 +5,8 @@
 //! Promises: nothing but that it does nothing undefined.
 //! Refuses: words that name no loop, by exit status 2; a loop that a layer stops, by exit status 1.
 //! Knows nothing of: time, which `benches/` takes from outside.
-//! Stands on: sd_base, sd_rig, sd_gate, sd_filerig, sd_page, sd_logrec, sd_log, sd_pool, sd_reclock, sd_pagelock,
-//! sd_state, sd_recovered, sd_one.
+//! Stands on: sd_base, sd_model, sd_rig, sd_gate, sd_filerig, sd_page, sd_logrec, sd_log, sd_pool, sd_reclock, sd_pagelock,
+//! sd_state, sd_recovered, sd_script, sd_report, sd_one.
 //!
 //! To change:
 //! - free: all
@@ -14,17 +14,21 @@
 //! - frozen: nothing
 #![tactic(auto)]
 
+mod books;
 mod complexes;
 mod devices;
 mod locks;
 mod logs;
 mod moves;
 mod recovery;
+mod texts;
+mod transfers;
 
 use std::alloc::{AllocError, Global};
 use std::process::ExitCode;
 use std::rt::Env;
 use std::{env, io};
+use texts::Piece;
 
 // The words behind the program's name.
 fn words(rt: &(impl Env + AllocGlobal)) -> io::Result<Vec<String>> {
@@ -67,20 +71,50 @@ fn run(rt: &HostRuntime, alloc: Global, words: &[String]) -> Option<bool> {
             let times = times.parse::<u32>().ok()?;
             Some(locks::requests_beside(alloc, waiters, times))
         }
-        [name, transfers, reads] if name.as_str() == "recovery" => {
+        [name, logs, transfers, reads] if name.as_str() == "recovery" => {
+            let logs = logs.parse::<u32>().ok().filter(|n| *n >= 1 && *n <= 8)?;
             let transfers = transfers.parse::<u32>().ok()?;
             let reads = reads.parse::<u32>().ok()?;
-            Some(recovery::recoveries(alloc, transfers, reads))
+            Some(recovery::recoveries(alloc, logs, transfers, reads))
         }
-        [name, tens, reads] if name.as_str() == "log" => {
-            let tens = tens.parse::<u32>().ok()?;
+        [name, logs, transfers, reads] if name.as_str() == "log" => {
+            let logs = logs.parse::<u8>().ok()?;
+            let transfers = transfers.parse::<u32>().ok()?;
             let reads = reads.parse::<u32>().ok()?;
-            Some(logs::appends(alloc, tens, reads))
+            Some(logs::transfers(alloc, logs, transfers, reads))
+        }
+        [name, piece, times, reads] if name.as_str() == "read" => {
+            let piece = piece_of(piece)?;
+            let times = times.parse::<u32>().ok()?;
+            let reads = reads.parse::<u32>().ok()?;
+            Some(texts::readings(alloc, piece, times, reads))
+        }
+        [name, transfers, renders] if name.as_str() == "report" => {
+            let transfers = transfers.parse::<u32>().ok()?;
+            let renders = renders.parse::<u32>().ok()?;
+            Some(texts::reports(alloc, transfers, renders))
+        }
+        [name, books, transfers] if name.as_str() == "entries" => {
+            let books = books.parse::<u32>().ok()?;
+            let transfers = transfers.parse::<u32>().ok()?;
+            Some(books::entries(alloc, books, transfers))
         }
         [name, times] if name.as_str() == "moves" => {
             let times = times.parse::<u32>().ok()?;
             Some(moves::moves(alloc, times))
         }
+        _ => None,
+    }
+}
+
+// What a text repeats, by its word.
+fn piece_of(word: &str) -> Option<Piece> {
+    match word {
+        "transfer" => Some(Piece::Transfer),
+        "begin" => Some(Piece::Begin),
+        "give" => Some(Piece::Give),
+        "commit" => Some(Piece::Commit),
+        "force" => Some(Piece::Force),
         _ => None,
     }
 }

@@ -64,13 +64,29 @@ fn pass(
     taker: &mut Member,
     p: PageNo,
 ) -> Option<()> {
-    places.ask(taker.inst, p, Mode::Excl, room(alloc, p)?).ok()?;
+    ask(alloc, places, p, taker.inst)?;
     let (asker, _mode) = places.oldest_ask(p, giver.inst)?;
     give(places, p, asker)?;
     places.send(p, giver.pool.take(p)?);
-    let image = places.arrive(p, room(alloc, p)?)?;
+    let image = arrived(alloc, places, p)?;
     settle(places, p)?;
     taker.pool.put(p, image).ok()
+}
+
+// The instance asks to have the page alone. It takes memory where no image of the page came by yet.
+fn ask(alloc: Global, places: &mut Places, p: PageNo, i: InstNo) -> Option<()> {
+    if places.ask_again(i, p, Mode::Excl).ok()? {
+        return Some(());
+    }
+    places.ask(i, p, Mode::Excl, room(alloc, p)?).ok()
+}
+
+// The image that was on its way. It takes memory where there is no room for the next.
+fn arrived(alloc: Global, places: &mut Places, p: PageNo) -> Option<Box<Image>> {
+    if let Some(image) = places.arrive_again(p) {
+        return Some(image);
+    }
+    places.arrive(p, room(alloc, p)?)
 }
 
 // Room for an image of the page.

@@ -1,21 +1,26 @@
-//! Nine devices with a log of committed transfers, read to the table that they stand for.
+//! Nine devices with logs of committed transfers, read to the table that they stand for.
 
-ghost use Rattle.std.specs.Prelude.{◌≡◌, ◌^◌, ◌<◌, ◌≤◌, length, IfOk};
-ghost use Rattle.sd_logrec.specs.Spelling.{HasSpelling, IsValue};
+ghost use Rattle.std.specs.Prelude.{◌≡◌, ◌≤◌, length, IfOk};
 ghost use Rattle.sd_rig.specs.Devices.{device_len};
 ghost use Rattle.sd_recovered.specs.Devices.{AreDevices};
 
-use sd_base::{Bytes, InstNo, Lsn, Memory, PageNo, TxnId};
+use crate::transfers::Transfer;
+use sd_base::{Bytes, InstNo, Memory, PageNo};
 use sd_gate::OPEN;
 use sd_logrec::{AREA, Record};
 use sd_recovered::recovered;
 use sd_rig::{DATA_LEN, LOG_LEN};
 use std::alloc::Global;
 
-/// Reads nine devices so many times, the first log of which has so many committed transfers between two records.
-/// `false` where they aren't read.
-pub fn recoveries(alloc: Global, transfers: u32, reads: u32) -> bool {
-    let Ok(images) = devices(alloc, transfers) else {
+const PAGES: u32 = 4;
+
+/// Reads nine devices so many times, whose first logs, so many, have so many committed transfers in all: each log in turn has
+/// one, and all of them change one page before the next. `false` where they aren't read.
+pub fn recoveries(alloc: Global, logs: u32, transfers: u32, reads: u32) -> bool
+    requires least { 1 ≤ logs }
+    requires most { logs ≤ 8 }
+{
+    let Ok(images) = devices(alloc, logs, transfers) else {
         return false;
     };
     for _ in 0..reads {
@@ -27,19 +32,21 @@ pub fn recoveries(alloc: Global, transfers: u32, reads: u32) -> bool {
 }
 
 #[tactic(auto, using(sd_recovered::proofs::Nine::are_devices))]
-fn devices(alloc: Global, transfers: u32) -> Result<Vec<Bytes>, Memory>
+fn devices(alloc: Global, logs: u32, transfers: u32) -> Result<Vec<Bytes>, Memory>
+    requires least { 1 ≤ logs }
+    requires most { logs ≤ 8 }
     ensures { IfOk result (λ devices. AreDevices devices.items) }
 {
     let devices = [
         blank(alloc, DATA_LEN)?,
-        log(alloc, transfers)?,
-        blank(alloc, LOG_LEN)?,
-        blank(alloc, LOG_LEN)?,
-        blank(alloc, LOG_LEN)?,
-        blank(alloc, LOG_LEN)?,
-        blank(alloc, LOG_LEN)?,
-        blank(alloc, LOG_LEN)?,
-        blank(alloc, LOG_LEN)?,
+        log(alloc, 1, logs, transfers)?,
+        log(alloc, 2, logs, transfers)?,
+        log(alloc, 3, logs, transfers)?,
+        log(alloc, 4, logs, transfers)?,
+        log(alloc, 5, logs, transfers)?,
+        log(alloc, 6, logs, transfers)?,
+        log(alloc, 7, logs, transfers)?,
+        log(alloc, 8, logs, transfers)?,
     ];
     Ok(Vec::from_array(alloc, devices)?)
 }
@@ -50,8 +57,22 @@ fn blank(alloc: Global, len: u32) -> Result<Bytes, Memory>
     Ok(Bytes::of(alloc, Vec::from_elem(alloc, 0u8, len as usize)?)?)
 }
 
+// The log device of an instance: blank behind the first so many, else with what the instance logged.
+fn log(alloc: Global, number: u8, logs: u32, transfers: u32) -> Result<Bytes, Memory>
+    requires least { 1 ≤ logs }
+    requires most { logs ≤ 8 }
+    ensures { IfOk result (λ device. length device ≡ device_len 1) }
+{
+    match InstNo::new(number) {
+        Some(inst) if u32::from(number) <= logs => filled(alloc, inst, logs, transfers),
+        _ => blank(alloc, LOG_LEN),
+    }
+}
+
 // A log device: the start of epoch 1, and each transfer as a group of its own.
-fn log(alloc: Global, transfers: u32) -> Result<Bytes, Memory>
+fn filled(alloc: Global, inst: InstNo, logs: u32, transfers: u32) -> Result<Bytes, Memory>
+    requires least { 1 ≤ logs }
+    requires most { logs ≤ 8 }
     ensures { IfOk result (λ device. length device ≡ device_len 1) }
 {
     let mut bytes = Vec::from_elem(alloc, 0u8, AREA as usize)?;
@@ -59,7 +80,9 @@ fn log(alloc: Global, transfers: u32) -> Result<Bytes, Memory>
     Record::Start { lsn: 1, epoch: 1 }.put(&mut start)?;
     put_group(&mut bytes, &start)?;
     for n in 0..transfers {
-        put_group(&mut bytes, &transfer(alloc, n)?)?;
+        if n % logs + 1 == u32::from(inst.get()) {
+            put_group(&mut bytes, &transfer(alloc, inst, logs, n)?)?;
+        }
     }
     bytes.resize(LOG_LEN as usize, 0)?;
     Ok(Bytes::of(alloc, bytes)?)
@@ -73,61 +96,33 @@ fn put_group(bytes: &mut Vec<u8>, body: &[u8]) -> Result<(), Memory> {
     Ok(())
 }
 
-// The records of transfer n: a change of each of two records of page 0, and a commit.
-fn transfer(alloc: Global, n: u32) -> Result<Vec<u8>, Memory> {
+// The records of transfer n.
+fn transfer(alloc: Global, inst: InstNo, logs: u32, n: u32) -> Result<Vec<u8>, Memory>
+    requires least { 1 ≤ logs }
+    requires most { logs ≤ 8 }
+{
+    let transfer = Transfer {
+        inst,
+        number: n,
+        first: 2 + 3 * u64::from(n),
+        page: PageNo::new((n / logs % PAGES) as u16).unwrap(),
+        before: before(logs, n),
+    };
     let mut body = Vec::new(alloc);
-    let first = 2 + 3 * u64::from(n);
-    change(alloc, n, first, 0, 0)?.put(&mut body)?;
-    change(alloc, n, first + 1, first, 1)?.put(&mut body)?;
-    let (txn, prev) = (txn(n), first + 1);
-    Record::Commit {
-        lsn: first + 2,
-        txn,
-        prev,
-    }
-    .put(&mut body)?;
+    transfer.first_change(alloc)?.put(&mut body)?;
+    transfer.second_change(alloc)?.put(&mut body)?;
+    transfer.commit().put(&mut body)?;
     Ok(body)
 }
 
-// The change of one record by transfer n: what the one before it left, or none, becomes its own number.
-fn change(alloc: Global, n: u32, lsn: Lsn, prev: Lsn, slot: u16) -> Result<Record, Memory>
-    requires low { 1 ≤ lsn }
-    requires high { lsn < 2 ^ 62 }
-    requires slot { slot < 2 }
-    ensures { IfOk result HasSpelling }
+// The transfer that changed the page of transfer n before it.
+fn before(logs: u32, n: u32) -> Option<u32>
+    requires least { 1 ≤ logs }
+    requires most { logs ≤ 8 }
 {
-    let before = if n == 0 { None } else { number(alloc, n - 1)? };
-    Ok(Record::Update {
-        lsn,
-        txn: txn(n),
-        prev,
-        page: PageNo::new(0).unwrap(),
-        slot,
-        capacity: 3,
-        before,
-        after: number(alloc, n)?,
-    })
-}
-
-fn txn(n: u32) -> TxnId
-    ensures epoch { 1 ≤ result.epoch }
-    ensures seq { 1 ≤ result.seq }
-{
-    TxnId {
-        inst: InstNo::new(1).unwrap(),
-        epoch: 1,
-        seq: n.saturating_add(1),
+    if n % logs == 0 {
+        n.checked_sub((PAGES - 1) * logs + 1)
+    } else {
+        Some(n - 1)
     }
-}
-
-// The last three digits of a number.
-fn number(alloc: Global, n: u32) -> Result<Option<Bytes>, Memory>
-    ensures { IfOk result IsValue }
-{
-    let digits = [digit(n / 100), digit(n / 10), digit(n)];
-    Ok(Some(Bytes::copy_of(alloc, &digits)?))
-}
-
-fn digit(n: u32) -> u8 {
-    b'0' + (n % 10) as u8
 }
