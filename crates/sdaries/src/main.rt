@@ -1,41 +1,25 @@
 //! The program: it runs a script of transactions and reports one reply a line.
 //!
-//! Meaning: `Outcome` (`specs/Outcome.antt`) says for each status what was taken, written and noted, and what the devices stand
-//! for, by the runs of sd_drive (`LedFrom`).
-//! Keeps: nothing behind a call.
-//! Promises: `top::top`: the run begins with the table that the devices stand for; each reply is the serial table's, each refusal
-//! has its cause, the committed transactions read as if they ran one after another, the report is the book's, and what a crash may
-//! leave at any moment was left before or stands for a world on the way (`outcome`); over sound devices a script is done unless a
-//! stream fails, a device fails in the opening, or memory wants (`complete`), and over others it tells them damaged (`damaged`);
-//! other words touch nothing (`usage`, `untouched`).
-//! Refuses: bad lines with `BadLine`, other words with `Usage`, devices that aren't sound with `Damaged`; faults and want of memory
-//! have their own status.
-//! Knows nothing of: how a line is driven, how an event is served.
-//! Stands on: sd_base, sd_model, sd_rig, sd_filerig, sd_chain, sd_recovered, sd_world, sd_state, sd_fits, sd_restart, sd_script,
-//! sd_report, sd_hall, sd_drive.
+//! Meaning: `top` of sd_top is what it does, over the devices that the words name; its exit status is the status's number.
+//! Keeps: nothing.
+//! Promises: no clause of its own: what a run does is promised by `top`; that the streams are the standard ones, and that the
+//! devices are those of the folder, is told by this text and by runs of the program.
+//! Refuses: what `top` refuses; a folder that can't be used as a device that failed.
+//! Knows nothing of: scripts, events, replies.
+//! Stands on: sd_base, sd_rig, sd_filerig, sd_top.
 //!
 //! To change:
-//! - free: bodies, proofs
-//! - dear: the clauses of `top`, `Outcome`
-//! - frozen: the statuses' numbers, the words of a command
+//! - free: bodies
+//! - dear: nothing
+//! - frozen: nothing
 #![tactic(auto)]
-
-mod input;
-mod output;
-mod status;
-#[cfg(test)]
-mod tests;
-mod top;
-mod words;
 
 use sd_base::{Memory, OpenGate, Refusal, StdSink, StdSource};
 use sd_filerig::FileRig;
 use sd_rig::{MemRig, Rig};
-use status::Status;
+use sd_top::{Status, place, report_unopened, top};
 use std::process::ExitCode;
 use std::{env, io};
-use top::{report_unopened, top};
-use words::place;
 
 fn main(rt: HostRuntime) -> ExitCode {
     ExitCode::from(run(&rt).number())

@@ -1,0 +1,181 @@
+-- What `top` answers, status by status.
+use Rattle.std.specs.Prelude.{◌≡◌, ◌⊎◌, ℕ, ◌<◌, true, List, [], ◌∷◌, Option, None, Some, length, codes}
+use Rattle.sd_base.specs.Streams.{Appends, Rises}
+use Rattle.sd_base.specs.declared.ids.Rid.{Rid}
+use Rattle.sd_base.specs.declared.refusal.Cause.{Cause}
+use Rattle.sd_base.specs.declared.refusal.Refusal.{Refusal}
+use Rattle.sd_base.specs.declared.refusal.Refusal.TheVariants as R
+use Rattle.sd_model.specs.Acts.{Serial}
+use Rattle.sd_model.specs.History.{History}
+use Rattle.sd_model.specs.declared.event.Entry.{Entry}
+use Rattle.sd_chain.specs.Checks.{DevicesAreSound}
+use Rattle.sd_chain.specs.Faults.{FailsFirstAt}
+use Rattle.sd_script.specs.declared.line.Line.{Line}
+use Rattle.sd_script.specs.Reading.{IsScript, IsBadAt}
+use Rattle.sd_world.specs.Serving.{Telling}
+use Rattle.sd_report.specs.Words.{line_of}
+use Rattle.sd_report.specs.Report.{bad_text, damaged_text, report}
+use Rattle.sd_drive.specs.Driving.{IsTold, World}
+use Rattle.sd_top.specs.declared.status.Status.{Status}
+use Rattle.sd_top.specs.declared.status.Status.TheVariants as status
+use Rattle.sd_top.specs.Sides.{Ends, SourceSide, SinkSide}
+use Rattle.sd_top.specs.Input.{Taken, IsAtEnd}
+use Rattle.sd_top.specs.Output.{AppendsFront}
+use Rattle.sd_top.specs.Opening.{AreRead, LedFrom}
+
+-- The source gave this text: all that it had, or 4,194,305 bytes, which is more than a script has.
+pub record Gave (source source' : SourceSide) (text : List ℕ) : Type 0 where
+  pub taken : Taken source.left text source'.left
+  pub whole : length text < 4194305 → IsAtEnd source'.left
+
+-- The text is a script of these lines. The book begins with the table that the devices stood for, and its entries lead from the
+-- world that they told to this one, in which each committed transaction has read what it reads where they run one after another.
+-- No entry tells a fault of a device that wasn't there, and none is untold but those of a failure of all. The devices that come back
+-- stand for the last world, and at any moment since the call began a crash may have left only what it might have left before the call,
+-- or what stands for a world on the way.
+pub record Replayed {G : Type 0} (tell : Telling G) (rig rig' : G) (book : Option History) (text : List ℕ) (lines : List Line)
+    (history : History) (world : World) : Type 0 where
+  pub script : IsScript text lines
+  pub book_is : book ≡ Some history
+  pub led : LedFrom tell lines rig rig' history.opening history.entries world
+  pub serial : Serial world.core.scene.state.start world.core.scene.state.done
+
+-- Each line has its reply, and the sink has got the report of this book and nothing else.
+pub record Reported (sink sink' : SinkSide) (lines : List Line) (history : History) (world : World) : Type 0 where
+  pub told : IsTold world.core.scene.state world.told
+  pub report : Appends sink.written (report lines history.entries) sink'.written
+
+-- Each line has its reply. The sink failed, and has got a front of the report.
+pub record CutShort (sink sink' : SinkSide) (lines : List Line) (history : History) (world : World) : Type 0 where
+  pub told : IsTold world.core.scene.state world.told
+  pub front : AppendsFront sink.written (report lines history.entries) sink'.written
+  pub failed : Rises sink.faults sink'.faults
+
+-- the text is written whole, or a front of it, where the sink failed
+abbrev pub WrittenUnless : SinkSide → List ℕ → SinkSide → Type 0
+WrittenUnless sink text sink' =
+    Appends sink.written text sink'.written
+    ⊎ (Rises sink.faults sink'.faults × AppendsFront sink.written text sink'.written)
+
+-- the text is bad at a line first, and the sink has got just that
+abbrev pub TellsFirst : List ℕ → SinkSide → SinkSide → Type 0
+TellsFirst text sink sink' = (line : ℕ) × IsBadAt text line × WrittenUnless sink (bad_text line Cause.Word) sink'
+
+-- what is written where a device failed in the opening
+abbrev pub device_text : List ℕ
+device_text = line_of (codes "device" ∷ [])
+
+-- A device failed in the reading of the devices, which read as before.
+pub record FailsAtOnce {G : Type 0} (tell : Telling G) (rig rig' : G) : Type 0 where
+  pub read : AreRead tell rig rig'
+  pub faults : Rises (tell.faults rig) (tell.faults rig')
+
+-- A device failed behind the reading, in a recovery or a join: the entries so far lead to a world in which that is told.
+pub record FailsLater {G : Type 0} (tell : Telling G) (lines : List Line) (rig rig' : G) : Type 0 where
+  pub table : List (Rid × List ℕ)
+  pub entries : List Entry
+  pub last : World
+  pub led : LedFrom tell lines rig rig' table entries last
+  pub failed : last.told.failed ≡ true
+  pub faults : Rises (tell.faults rig) (tell.faults rig')
+
+-- The text is a script, and a device failed in the opening, which the sink has got told.
+pub record FailedOpening {G : Type 0} (tell : Telling G) (text : List ℕ) (old new : Ends G) : Type 0 where
+  pub lines : List Line
+  pub script : IsScript text lines
+  pub fails : FailsAtOnce tell old.rig new.rig ⊎ FailsLater tell lines old.rig new.rig
+  pub written : WrittenUnless old.sink device_text new.sink
+
+-- The text is a script. The devices were read without a fault, and aren't sound; where they fail first the sink has got told.
+pub record FoundDamaged {G : Type 0} (tell : Telling G) (text : List ℕ) (old new : Ends G) : Type 0 where
+  pub lines : List Line
+  pub script : IsScript text lines
+  pub dev : ℕ
+  pub at : ℕ
+  pub unsound : DevicesAreSound (tell.seen old.rig) → ⊥
+  pub first : FailsFirstAt (tell.seen old.rig) dev at
+  pub read : AreRead tell old.rig new.rig
+  pub quiet : tell.faults new.rig ≡ tell.faults old.rig
+  pub written : WrittenUnless old.sink (damaged_text dev at) new.sink
+
+-- The text is a script, and the reading of the devices found no memory.
+pub record HalfRead {G : Type 0} (tell : Telling G) (text : List ℕ) (rig rig' : G) : Type 0 where
+  pub lines : List Line
+  pub script : IsScript text lines
+  pub read : AreRead tell rig rig'
+  pub quiet : tell.faults rig' ≡ tell.faults rig
+
+-- The text is a script, and the opening behind the reading found no memory: its entries so far lead to this world.
+pub record HalfOpened {G : Type 0} (tell : Telling G) (text : List ℕ) (rig rig' : G) : Type 0 where
+  pub lines : List Line
+  pub script : IsScript text lines
+  pub table : List (Rid × List ℕ)
+  pub entries : List Entry
+  pub world : World
+  pub led : LedFrom tell lines rig rig' table entries world
+
+-- a book that is there has the replies so far; none is there before the opening and in it
+abbrev pub IsPartial : {G : Type 0} → Telling G → List ℕ → G → G → Option History → Type 0
+IsPartial tell text rig rig' None = (rig' ≡ rig) ⊎ (HalfRead tell text rig rig' ⊎ HalfOpened tell text rig rig')
+IsPartial tell text rig rig' (Some history) =
+    (lines : List Line) × (world : World) × Replayed tell rig rig' (Some history) text lines history world
+
+-- What each status says of a text that was read, of the sink and the devices before and after, and of the book.
+abbrev pub Answers : {G : Type 0} → Telling G → Status → List ℕ → Ends G → Ends G → Option History → Type 0
+Answers tell status.Done text old new book = (lines : List Line) × (history : History) × (world : World)
+    × Replayed tell old.rig new.rig book text lines history world × Reported old.sink new.sink lines history world
+Answers tell status.BadLine text old new book = TellsFirst text old.sink new.sink × (book ≡ None) × (new.rig ≡ old.rig)
+Answers tell status.WriteFault text old new book = (lines : List Line) × (history : History) × (world : World)
+    × Replayed tell old.rig new.rig book text lines history world × CutShort old.sink new.sink lines history world
+Answers tell status.NoMemory text old new book =
+    IsPartial tell text old.rig new.rig book × (new.sink.written ≡ old.sink.written)
+Answers tell status.Damaged text old new book = FoundDamaged tell text old new × (book ≡ None)
+Answers tell status.Device text old new book = FailedOpening tell text old new × (book ≡ None)
+Answers tell status.Usage text old new book = ⊥
+Answers tell status.ReadFault text old new book = ⊥
+
+-- the source gave a text, and the status says this of it
+abbrev pub AnswersAll : {G : Type 0} → Telling G → Status → SourceSide → SourceSide → Ends G → Ends G → Option History
+    → Type 0
+AnswersAll tell s source source' old new book =
+    (text : List ℕ) × Gave source source' text × Answers tell s text old new book
+
+-- no script was read: nothing is written, there is no book, and the devices are as they were
+abbrev pub IsUntouched : {G : Type 0} → Ends G → Ends G → Option History → Type 0
+IsUntouched old new book = (book ≡ None) × (new.sink.written ≡ old.sink.written) × (new.rig ≡ old.rig)
+
+-- What each status says of a call whose words are a command: of the source, the sink and the devices, before and after, and of
+-- the book.
+abbrev pub Outcome : {G : Type 0} → Telling G → Status → SourceSide → SourceSide → Ends G → Ends G → Option History
+    → Type 0
+Outcome tell status.ReadFault source source' old new book = Rises source.faults source'.faults × IsUntouched old new book
+Outcome tell status.NoMemory source source' old new book =
+    IsUntouched old new book ⊎ AnswersAll tell status.NoMemory source source' old new book
+Outcome tell status.Usage source source' old new book = ⊥
+Outcome tell s source source' old new book = AnswersAll tell s source source' old new book
+
+-- what becomes of a report
+abbrev pub Delivers : Status → SinkSide → List ℕ → SinkSide → Type 0
+Delivers status.Done sink text sink' = Appends sink.written text sink'.written
+Delivers status.WriteFault sink text sink' =
+    Rises sink.faults sink'.faults × AppendsFront sink.written text sink'.written
+Delivers status.NoMemory sink text sink' = sink'.written ≡ sink.written
+Delivers s sink text sink' = ⊥
+
+-- a bad line is told
+abbrev pub TellsBad : Status → ℕ → Cause → SinkSide → SinkSide → Type 0
+TellsBad status.BadLine line cause sink sink' = WrittenUnless sink (bad_text line cause) sink'
+TellsBad status.NoMemory line cause sink sink' = sink'.written ≡ sink.written
+TellsBad s line cause sink sink' = ⊥
+
+-- that the devices aren't sound is told, where there is memory for it
+abbrev pub TellsDamaged : Status → ℕ → ℕ → SinkSide → SinkSide → Type 0
+TellsDamaged status.Damaged dev at sink sink' = WrittenUnless sink (damaged_text dev at) sink'
+TellsDamaged status.NoMemory dev at sink sink' = sink'.written ≡ sink.written
+TellsDamaged s dev at sink sink' = ⊥
+
+-- the opening ended for this: devices that aren't sound are told, and one that failed
+abbrev pub TellsUnopened : Refusal → Status → SinkSide → SinkSide → Type 0
+TellsUnopened R.Failed s sink sink' = (s ≡ status.Device) × WrittenUnless sink device_text sink'
+TellsUnopened (R.Damaged dev at) s sink sink' = TellsDamaged s dev at sink sink'
+TellsUnopened n s sink sink' = (s ≡ status.NoMemory) × (sink'.written ≡ sink.written)

@@ -1,0 +1,31 @@
+//! The top call: a script from its source to its report, over nine devices.
+//!
+//! Meaning: `Outcome` (`specs/Outcome.antt`) says for each status what was taken, written and noted, and what the devices stand
+//! for, by the runs of sd_drive (`LedFrom`).
+//! Keeps: nothing behind a call.
+//! Promises: `top`: the run begins with the table that the devices stand for; each reply is the serial table's, each refusal
+//! has its cause, the committed transactions read as if they ran one after another, the report is the book's, and what a crash may
+//! leave at any moment was left before or stands for a world on the way (`outcome`); over sound devices a script is done unless a
+//! stream fails, a device fails in the opening, or memory wants (`complete`), and over others it tells them damaged (`damaged`);
+//! other words touch nothing (`usage`, `untouched`).
+//! Refuses: bad lines with `BadLine`, other words with `Usage`, devices that aren't sound with `Damaged`; faults and want of memory
+//! have their own status.
+//! Knows nothing of: how a line is driven, how an event is served, which files or streams there are.
+//! Stands on: sd_base, sd_model, sd_rig, sd_chain, sd_recovered, sd_world, sd_state, sd_fits, sd_restart, sd_script, sd_report,
+//! sd_hall, sd_drive.
+//!
+//! To change:
+//! - free: bodies, proofs
+//! - dear: the clauses of `top`, `Outcome`
+//! - frozen: the statuses' numbers, the words of a command
+#![tactic(auto)]
+
+mod input;
+mod output;
+mod replaying;
+mod status;
+mod words;
+
+pub use replaying::{Done, report_unopened, top};
+pub use status::Status;
+pub use words::place;
