@@ -17,7 +17,7 @@ use std::collections::BTreeMap;
 
 /// A transaction without a Commit or End: what it has open, by the indices of the records in their log, the top last; and the
 /// LSNs of its first and last record.
-#[derive(Debug, Drop)]
+#[derive(Drop)]
 pub struct Loser {
     pub txn: TxnId,
     pub open: Sequence<usize>,

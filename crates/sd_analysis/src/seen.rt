@@ -17,7 +17,7 @@ use std::alloc::Global;
 
 /// What the records so far tell of a transaction: its open ones by their indices in the log, the top last; the LSN of its
 /// last record, or 0; the index of the record that closed it; the index and the `prev` of its first record.
-#[derive(Debug, Drop)]
+#[derive(Drop)]
 pub(crate) struct Seen {
     pub(crate) open: Vec<usize>,
     pub(crate) last: Lsn,

@@ -12,13 +12,13 @@ const FEW: usize = 14;
 
 /// A list of bytes. Contracts see it as the list itself. Up to 14 bytes stand in place, as those of most names and numbers; more
 /// have memory of their own.
-#[derive(Debug, Drop)]
+#[derive(Drop)]
 pub struct Bytes {
     held: Held,
 }
 
 // Where the bytes are: the first so many of an array, or all of a vector.
-#[derive(Debug, Drop)]
+#[derive(Drop)]
 enum Held {
     Few { count: u8, array: [u8; FEW] },
     Many(Box<Vec<u8>>),

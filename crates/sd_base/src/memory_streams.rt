@@ -9,7 +9,7 @@ use std::alloc::Global;
 use std::marker::Model;
 
 /// Bytes in memory, with the numbers of the calls that are to fail, counted from 1.
-#[derive(Debug, Drop)]
+#[derive(Drop)]
 pub struct MemSource {
     bytes: Vec<u8>,
     at: usize,
@@ -91,7 +91,7 @@ impl Source for MemSource {
 }
 
 /// A sink in memory. Its room is taken when it is made.
-#[derive(Debug, Drop)]
+#[derive(Drop)]
 pub struct MemSink {
     bytes: Vec<u8>,
     room: usize,

@@ -14,7 +14,7 @@ pub trait Duplicate: Sized {
 }
 
 /// A list that owns its items. Contracts see it as the list itself.
-#[derive(Debug, Drop)]
+#[derive(Drop)]
 pub struct Sequence<X> {
     items: Vec<X>,
 }

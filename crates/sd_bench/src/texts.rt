@@ -10,7 +10,7 @@ use sd_script::{Kind, Script};
 use std::alloc::Global;
 
 /// What a text repeats.
-#[derive(Clone, Copy, Debug, PartialEq, Eq)]
+#[derive(Clone, Copy, PartialEq, Eq)]
 pub enum Piece {
     /// The four lines of a transfer with a name of its own.
     Transfer,

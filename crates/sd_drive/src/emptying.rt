@@ -18,7 +18,7 @@ use sd_rig::Rig;
 use sd_state::Complex;
 
 /// What becomes of it.
-#[derive(Clone, Copy, Debug, PartialEq, Eq)]
+#[derive(Clone, Copy, PartialEq, Eq)]
 pub(crate) enum Going {
     /// The pool hasn't the page, or is that of an instance that is up.
     Stays,

@@ -25,7 +25,7 @@ use sd_rig::Rig;
 use sd_state::Complex;
 
 /// What the reply to a helping event tells.
-#[derive(Clone, Copy, Debug, PartialEq, Eq)]
+#[derive(Clone, Copy, PartialEq, Eq)]
 pub(crate) enum Answer {
     /// The instance has the page as it asked.
     Had,
@@ -44,7 +44,7 @@ pub(crate) enum Answer {
 }
 
 // What a round of a pull came to.
-#[derive(Clone, Copy, Debug, PartialEq, Eq)]
+#[derive(Clone, Copy, PartialEq, Eq)]
 enum Course {
     // The page came nearer, and is to be asked for again.
     Again,

@@ -21,7 +21,7 @@ use sd_state::Complex;
 use sd_survive::needed;
 
 /// Whose entries are noted: those of a line, under its session and number, or those of the opening, under 0 and 0.
-#[derive(Clone, Copy, Debug)]
+#[derive(Clone, Copy)]
 pub(crate) struct Owner {
     pub(crate) session: u8,
     pub(crate) line: u32,
@@ -29,7 +29,7 @@ pub(crate) struct Owner {
 }
 
 /// How the recovery of an instance ended.
-#[derive(Clone, Copy, Debug, PartialEq, Eq)]
+#[derive(Clone, Copy, PartialEq, Eq)]
 pub(crate) enum Outcome {
     /// It came to its end.
     Ended,

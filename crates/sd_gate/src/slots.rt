@@ -8,7 +8,7 @@ use crate::gate::is_open;
 use byteorder::{BigEndian, ByteOrder};
 
 /// Which of two slots counts: the open one with the greater number. `other` tells whether the other slot is open too.
-#[derive(Clone, Copy, Debug, PartialEq, Eq)]
+#[derive(Clone, Copy, PartialEq, Eq)]
 pub enum Chosen {
     Neither,
     First { other: bool },

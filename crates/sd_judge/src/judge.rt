@@ -13,7 +13,7 @@ use std::marker::Model;
 
 /// The serial table with what each transaction waits for. Contracts see what it holds, and `scene_of` that is a scene
 /// (`specs/Scenes.antt`).
-#[derive(Debug, Drop)]
+#[derive(Drop)]
 pub struct Judge {
     watch: Watch,
 }

@@ -10,7 +10,7 @@ use sd_reclock::{Asked, Standing};
 use std::alloc::Global;
 
 /// The serial table as a keeper of claims.
-#[derive(Debug, Drop)]
+#[derive(Drop)]
 pub struct Table {
     pub serial: SerialTable,
 }

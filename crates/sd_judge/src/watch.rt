@@ -22,7 +22,7 @@ use std::alloc::Global;
 use std::collections::BTreeMap;
 
 /// The table, and who waits for what. `scene` (`specs/Watches.antt`) is what it stands for.
-#[derive(Debug, Drop)]
+#[derive(Drop)]
 pub struct Watch {
     pub table: Table,
     pub waits: BTreeMap<TxnId, Asked>,

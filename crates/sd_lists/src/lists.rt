@@ -13,7 +13,7 @@ use sd_model::{Claim, Done, Inst, Life, Rows};
 use std::alloc::Global;
 
 /// The lists. `meaning` (`specs/Lists.antt`) is the state that they stand for.
-#[derive(Debug, Drop)]
+#[derive(Drop)]
 pub struct Lists {
     pub start: Rows,
     pub done: Vec<Done>,

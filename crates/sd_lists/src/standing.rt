@@ -13,7 +13,7 @@ use sd_model::{Act, Claim, Inst, Life};
 use std::alloc::Global;
 
 /// What a transaction is at one moment: claims are in the order in which they were asked for.
-#[derive(Debug, Drop)]
+#[derive(Drop)]
 pub struct Standing {
     pub life: Life,
     pub acts: Sequence<Act>,

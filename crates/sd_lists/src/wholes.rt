@@ -14,7 +14,7 @@ use sd_model::{Inst, Life};
 use std::alloc::Global;
 
 /// What happens to each transaction.
-#[derive(Clone, Copy, Debug)]
+#[derive(Clone, Copy)]
 pub enum Change {
     /// Nothing.
     Keep,
@@ -27,7 +27,7 @@ pub enum Change {
 }
 
 /// What happens to the status of each instance.
-#[derive(Clone, Copy, Debug)]
+#[derive(Clone, Copy)]
 pub enum Turn {
     /// Nothing.
     Keep,

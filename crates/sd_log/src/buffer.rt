@@ -20,7 +20,7 @@ use std::marker::Model;
 const HEAD: usize = 4;
 
 /// Four bytes for the group's length, and the records' bytes behind them. There is always room for the next gate.
-#[derive(Debug, Drop)]
+#[derive(Drop)]
 pub struct Buffer {
     bytes: Vec<u8>,
 }

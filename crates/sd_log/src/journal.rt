@@ -17,7 +17,7 @@ use std::marker::Model;
 const WIDE: usize = AREA_LEN as usize / END_LEN;
 
 /// A group: where it ends, how many records it has, and the greatest LSN of the log up to its end.
-#[derive(Clone, Copy, Debug)]
+#[derive(Clone, Copy)]
 pub struct Mark {
     pub end: u32,
     pub count: usize,
@@ -26,7 +26,7 @@ pub struct Mark {
 
 /// The groups from `start` to `gate` and the records of the tail. `room` is how many records more find memory, each with
 /// a mark of its own.
-#[derive(Debug, Drop)]
+#[derive(Drop)]
 pub struct Journal {
     start: u32,
     gate: u32,

@@ -26,7 +26,7 @@ use std::alloc::Global;
 use std::marker::Model;
 
 /// The log of an instance in memory: the groups that are forced, and the records of the tail, which aren't yet.
-#[derive(Debug, Drop)]
+#[derive(Drop)]
 pub struct Log {
     inst: InstNo,
     journal: Journal,

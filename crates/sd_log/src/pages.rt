@@ -15,7 +15,7 @@ use std::marker::Model;
 const CHAINS: usize = PAGES as usize + 1;
 
 /// A record's chain, and one more than the index of the record before it on this chain, or 0.
-#[derive(Clone, Copy, Debug)]
+#[derive(Clone, Copy)]
 pub struct Link {
     pub chain: u16,
     pub before: u32,
@@ -23,7 +23,7 @@ pub struct Link {
 
 /// Which page each record changes, with the records of a page linked from the last to the first. `last` has of each
 /// chain one more than the index of its last record, or 0.
-#[derive(Debug, Drop)]
+#[derive(Drop)]
 pub struct Pages {
     last: Vec<u32>,
     links: Vec<Link>,

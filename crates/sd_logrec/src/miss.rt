@@ -6,7 +6,7 @@ ghost use Rattle.sd_logrec.specs.declared.miss.Miss.TheVariants as M;
 use sd_base::Memory;
 use std::alloc::{AllocError, AllocFailed};
 
-#[derive(Debug, Drop)]
+#[derive(Drop)]
 pub enum Miss {
     /// No such part stands here.
     Nothing,

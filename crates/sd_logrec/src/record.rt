@@ -9,7 +9,7 @@ use crate::{Recs, Spans};
 use sd_base::{Bytes, Lsn, PageNo, TxnId, value_len};
 
 /// A record of an instance's log. `prev` is the LSN of the transaction's former record, or 0.
-#[derive(Debug, Drop)]
+#[derive(Drop)]
 pub enum Record {
     /// The instance starts an epoch.
     Start {

@@ -6,7 +6,7 @@ use sd_base::{Duplicate, Lsn, Memory, PageNo, TxnId};
 use std::marker::Model;
 
 /// A list that owns its items, which are copied as they are. Contracts see it as the list itself.
-#[derive(Debug, Drop)]
+#[derive(Drop)]
 pub struct Rows<X> {
     items: Vec<X>,
 }

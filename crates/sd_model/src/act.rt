@@ -3,7 +3,7 @@
 use sd_base::{Bytes, Rid, Sequence, TxnId};
 
 /// One thing that a transaction did; `None` stands for an absent record.
-#[derive(Debug, Drop)]
+#[derive(Drop)]
 pub enum Act {
     /// It found this at the record.
     Read { rid: Rid, value: Option<Bytes> },
@@ -14,14 +14,14 @@ pub enum Act {
 }
 
 /// A committed transaction with its acts, the first one first.
-#[derive(Debug, Drop)]
+#[derive(Drop)]
 pub struct Done {
     pub txn: TxnId,
     pub acts: Sequence<Act>,
 }
 
 /// The strongest claim that a transaction has on a record.
-#[derive(Clone, Copy, Debug, PartialEq, Eq)]
+#[derive(Clone, Copy, PartialEq, Eq)]
 pub enum Claim {
     Free,
     Shared,
@@ -29,13 +29,13 @@ pub enum Claim {
 }
 
 /// What a transaction was doing when the force of its log failed.
-#[derive(Clone, Copy, Debug, PartialEq, Eq)]
+#[derive(Clone, Copy, PartialEq, Eq)]
 pub enum Cut {
     Committing,
 }
 
 /// Where a transaction stands.
-#[derive(Clone, Copy, Debug, PartialEq, Eq)]
+#[derive(Clone, Copy, PartialEq, Eq)]
 pub enum Life {
     /// It isn't there.
     Gone,
@@ -50,7 +50,7 @@ pub enum Life {
 }
 
 /// An instance: its status, its epoch, the begins in it, and its joins that failed since the epoch was told.
-#[derive(Clone, Copy, Debug)]
+#[derive(Clone, Copy)]
 pub struct Inst {
     pub status: sd_base::Status,
     pub epoch: u32,

@@ -14,7 +14,7 @@ use std::marker::Model;
 
 /// The opening table, the entries since, and how many more there is room for (`specs/History.antt`). A short entry of no line is
 /// kept in few bytes once another stands behind it; each other, and the newest, stands whole (`specs/Booked.antt`).
-#[derive(Debug, Drop)]
+#[derive(Drop)]
 pub struct Book {
     opening: Table,
     // How each entry but the newest is kept.

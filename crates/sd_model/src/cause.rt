@@ -8,7 +8,7 @@ use crate::event::Event;
 use sd_base::Refusal;
 
 /// A cause of refusal. A refusal may have several: `TooLong` has `Long`, `Over` and `Digits`.
-#[derive(Clone, Copy, Debug)]
+#[derive(Clone, Copy)]
 pub enum Cause {
     /// The complex is closed.
     Shut,

@@ -4,7 +4,7 @@ use crate::rows::Rows;
 use sd_base::{Bytes, InstNo, Lsn, Mode, PageNo, Pick, Place, Refusal, Rid, Trouble, TxnId, Word};
 
 /// What is asked.
-#[derive(Debug, Drop)]
+#[derive(Drop)]
 pub enum Event {
     /// Begin a transaction at the instance.
     Begin {
@@ -134,7 +134,7 @@ pub enum Event {
 }
 
 /// What is answered.
-#[derive(Debug, Drop)]
+#[derive(Drop)]
 pub enum Reply {
     /// This transaction began.
     Began(TxnId),
@@ -165,7 +165,7 @@ pub enum Reply {
 }
 
 /// An event with its reply.
-#[derive(Debug, Drop)]
+#[derive(Drop)]
 pub struct Entry {
     /// The session that asked; 0 is the caller.
     pub session: u8,

@@ -8,7 +8,7 @@ use crate::event::{Entry, Event, Reply};
 use sd_base::{InstNo, Mode, PageNo, Refusal};
 
 /// What an instance does with a page.
-#[derive(Clone, Copy, Debug, PartialEq, Eq)]
+#[derive(Clone, Copy, PartialEq, Eq)]
 pub enum Deed {
     AskShared,
     AskExcl,
@@ -19,7 +19,7 @@ pub enum Deed {
 }
 
 /// A short reply; the instance that it names stands beside it.
-#[derive(Clone, Copy, Debug, PartialEq, Eq)]
+#[derive(Clone, Copy, PartialEq, Eq)]
 pub enum Answer {
     Did,
     Have,
@@ -30,7 +30,7 @@ pub enum Answer {
 }
 
 /// An entry of line 0: what an instance did with a page, and how that was answered (`specs/Booked.antt`).
-#[derive(Clone, Copy, Debug)]
+#[derive(Clone, Copy)]
 pub struct Help {
     pub session: u8,
     pub inst: InstNo,
@@ -42,7 +42,7 @@ pub struct Help {
 }
 
 /// How a book keeps an entry.
-#[derive(Clone, Copy, Debug)]
+#[derive(Clone, Copy)]
 pub enum Noted {
     /// It is the next of those that stand whole.
     Whole,
@@ -51,7 +51,7 @@ pub enum Noted {
 }
 
 // What is done, by whom and with which page.
-#[derive(Clone, Copy, Debug)]
+#[derive(Clone, Copy)]
 struct Asked {
     deed: Deed,
     inst: InstNo,
@@ -59,7 +59,7 @@ struct Asked {
 }
 
 // The answer, and whom it names.
-#[derive(Clone, Copy, Debug)]
+#[derive(Clone, Copy)]
 struct Told {
     answer: Answer,
     named: InstNo,

@@ -8,7 +8,7 @@ use sd_base::{Bytes, Memory};
 use std::alloc::Global;
 
 /// Why a text has no sum with a number.
-#[derive(Clone, Copy, Debug, PartialEq, Eq)]
+#[derive(Clone, Copy, PartialEq, Eq)]
 pub enum NoSum {
     /// The text is no number text.
     NotNumber,

@@ -6,7 +6,7 @@ use sd_base::{Bytes, Duplicate, Memory, Rid};
 use std::marker::Model;
 
 /// A list that owns records with their values. Contracts see it as the list itself.
-#[derive(Debug, Drop)]
+#[derive(Drop)]
 pub struct Rows {
     items: Vec<(Rid, Bytes)>,
 }

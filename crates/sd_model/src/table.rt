@@ -11,7 +11,7 @@ use std::collections::BTreeMap;
 use std::marker::Model;
 
 /// Records with their values. Contracts see the list of its records; `contents` of the list says what a record has.
-#[derive(Debug, Drop)]
+#[derive(Drop)]
 pub struct Table {
     records: BTreeMap<Rid, Bytes>,
 }

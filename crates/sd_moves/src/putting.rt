@@ -33,7 +33,7 @@ use sd_state::Complex;
 use sd_twin::{Chosen, Twin, choose, put};
 
 /// Why a page isn't written.
-#[derive(Clone, Copy, Debug, PartialEq, Eq)]
+#[derive(Clone, Copy, PartialEq, Eq)]
 pub enum Unput {
     /// A read failed. The devices read as before.
     Unread,

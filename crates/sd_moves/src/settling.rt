@@ -42,7 +42,7 @@ use std::alloc::{AllocFailed, Global};
 use std::collections::BTreeMap;
 
 /// Why a device isn't settled.
-#[derive(Clone, Copy, Debug, PartialEq, Eq)]
+#[derive(Clone, Copy, PartialEq, Eq)]
 pub enum Unsettled {
     /// The sync failed, and the instance that settles the device has fallen.
     Unsynced,

@@ -25,7 +25,7 @@ use sd_state::Complex;
 use std::alloc::Global;
 
 /// What is to become of a record that is there.
-#[derive(Clone, Copy, Debug)]
+#[derive(Clone, Copy)]
 pub enum Edit<'a> {
     /// It has this value.
     To(&'a [u8]),
@@ -36,7 +36,7 @@ pub enum Edit<'a> {
 }
 
 /// What an edit comes to, once the record's lock is given.
-#[derive(Debug, Drop)]
+#[derive(Drop)]
 pub enum Plan {
     /// The record gets this value, in its slot of this capacity.
     Put { capacity: u16, after: Option<Bytes> },

@@ -29,7 +29,7 @@ use sd_rig::Rig;
 use sd_state::Complex;
 
 // A slot for a new record, with its capacity.
-#[derive(Clone, Copy, Debug)]
+#[derive(Clone, Copy)]
 struct Vacancy {
     slot: u16,
     capacity: u16,

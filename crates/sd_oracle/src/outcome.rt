@@ -4,7 +4,7 @@ use sd_base::{InstNo, Rid, Sequence, TxnId};
 use std::alloc::Global;
 
 /// What a caller tells beside a reply, where the serial table leaves several states open (`specs/Outcomes.antt`).
-#[derive(Debug, Drop)]
+#[derive(Drop)]
 pub struct Outcome {
     /// At `Failed`: the instance that fell, if one did.
     pub fell: Option<InstNo>,

@@ -15,7 +15,7 @@ use std::marker::Model;
 
 /// A complex as one table and a list of committed transactions. Contracts see its lists, and `state_of` them is its
 /// state (`Lists.antt` of sd_lists).
-#[derive(Debug, Drop)]
+#[derive(Drop)]
 pub struct SerialTable {
     lists: Lists,
 }

@@ -1,7 +1,7 @@
 //! What the plain program says of an event with its reply.
 
 /// Whether a reply is the serial table's.
-#[derive(Clone, Copy, Debug, PartialEq, Eq)]
+#[derive(Clone, Copy, PartialEq, Eq)]
 pub enum Verdict {
     /// It follows, and the state has moved on.
     Follows,

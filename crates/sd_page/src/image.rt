@@ -16,7 +16,7 @@ use sd_base::{Lsn, MAX_CAPACITY, PageNo, Refusal, lent_value};
 use std::marker::Model;
 
 /// The image of a page: its 1,024 bytes. Contracts see the page that they spell.
-#[derive(Clone, Copy, Debug)]
+#[derive(Clone, Copy)]
 pub struct Image {
     bytes: [u8; PAGE_BYTES],
 }

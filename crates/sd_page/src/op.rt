@@ -3,7 +3,7 @@
 use sd_base::Bytes;
 
 /// Sets the value of a slot, or makes a slot at the end of the page.
-#[derive(Debug, Drop)]
+#[derive(Drop)]
 pub struct Op {
     /// The slot; where it is the count of slots, a new slot of `capacity` bytes is made.
     pub slot: u16,

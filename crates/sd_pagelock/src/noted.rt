@@ -15,7 +15,7 @@ pub(crate) const GROUP: u16 = 32;
 pub(crate) const GROUPS: u16 = 32;
 
 /// Of each group of 32 pages a set of instances, which has each that uses one of the pages.
-#[derive(Debug, Drop)]
+#[derive(Drop)]
 pub(crate) struct Noted {
     groups: Vec<InstSet>,
 }

@@ -10,14 +10,14 @@ use std::alloc::Global;
 use std::marker::Model;
 
 /// An instance asks for a page, in a mode.
-#[derive(Clone, Copy, Debug, PartialEq, Eq)]
+#[derive(Clone, Copy, PartialEq, Eq)]
 pub struct Ask {
     pub by: InstNo,
     pub mode: Mode,
 }
 
 /// The asks for one page. Contracts see their list, the oldest first.
-#[derive(Debug, Drop)]
+#[derive(Drop)]
 pub(crate) struct Queue {
     asks: Vec<Ask>,
 }

@@ -15,7 +15,7 @@ use std::num::NonZeroUsize;
 
 /// A buffer pool. Each image is in a box of its own, so a page that goes to another pool moves by a pointer. Contracts
 /// see the list of the pages with their images, the last used first, and the number of the frames.
-#[derive(Debug, Drop)]
+#[derive(Drop)]
 pub struct Pool {
     cache: LruCache<PageNo, Box<Image>>,
 }

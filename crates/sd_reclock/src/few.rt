@@ -17,7 +17,7 @@ use std::marker::Model;
 const ROOM: usize = 8;
 
 /// Who holds which record, of a few records. Contracts see the list of locked records, each with its holders.
-#[derive(Debug, Drop)]
+#[derive(Drop)]
 pub struct Few {
     rows: Vec<(Rid, Holders)>,
 }

@@ -17,7 +17,7 @@ use std::marker::Model;
 
 /// The locks on one record. Contracts see the list of holders, each with its mode. A lock that is the only one takes
 /// no memory.
-#[derive(Debug, Drop)]
+#[derive(Drop)]
 pub struct Holders {
     first: Option<(TxnId, Mode)>,
     others: Others,

@@ -18,7 +18,7 @@ use std::alloc::Global;
 use std::marker::Model;
 
 /// Who holds which record. Contracts see the list of locked records, each with its holders.
-#[derive(Debug, Drop)]
+#[derive(Drop)]
 pub struct Locks {
     few: Few,
     many: Many,

@@ -20,7 +20,7 @@ use std::marker::Model;
 use std::ops::Bound;
 
 /// Who holds which record, of any number of records. Contracts see the list of locked records, each with its holders.
-#[derive(Debug, Drop)]
+#[derive(Drop)]
 pub struct Many {
     records: BTreeMap<Rid, Holders>,
     // It may name a record too many, after a want of memory, and never one too few.

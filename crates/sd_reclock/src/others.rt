@@ -14,7 +14,7 @@ use std::marker::Model;
 use std::ops::Bound;
 
 /// Locks on one record. Contracts see the list of holders, each with its mode.
-#[derive(Debug, Drop)]
+#[derive(Drop)]
 pub struct Others {
     modes: BTreeMap<TxnId, Mode>,
 }

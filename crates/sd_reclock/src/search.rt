@@ -24,7 +24,7 @@ pub trait Standing {
 
 /// The locks and the waits as they are while a transaction asks for a lock. A wait of the asker that the
 /// waits have counts for nothing.
-#[derive(Clone, Copy, Debug)]
+#[derive(Clone, Copy)]
 pub struct Asking<'a, L: Standing> {
     pub locks: &'a L,
     pub waits: &'a BTreeMap<TxnId, Asked>,
@@ -129,7 +129,7 @@ impl<L: Standing> Asking<'_, L> {
 }
 
 // One that was met, and the place of one that waits for it.
-#[derive(Debug, Drop)]
+#[derive(Drop)]
 struct Met {
     txn: TxnId,
     from: usize,

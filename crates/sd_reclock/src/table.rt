@@ -21,7 +21,7 @@ use std::marker::Model;
 ///
 /// A call looks first, does what else may find no memory, and changes last: after `look` is Ok it
 /// can `grant`; after `Blocked` it notes the `wait`; else it ends the wait by `calm`.
-#[derive(Debug, Drop)]
+#[derive(Drop)]
 pub struct RecordLocks {
     locks: Locks,
     waits: BTreeMap<TxnId, Asked>,

@@ -7,7 +7,7 @@ ghost use Rattle.sd_reclock.specs.Locks.{raised};
 use sd_base::{Mode, Rid};
 
 /// The lock that a transaction waits for.
-#[derive(Clone, Copy, Debug)]
+#[derive(Clone, Copy)]
 pub struct Asked {
     pub rid: Rid,
     pub mode: Mode,

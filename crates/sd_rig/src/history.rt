@@ -8,7 +8,7 @@ use std::alloc::Global;
 use std::marker::Model;
 
 /// What was done. The bytes of a write stand apart. No device has 2 ^ 32 bytes, so places and counts have 32 bits.
-#[derive(Clone, Copy, Debug)]
+#[derive(Clone, Copy)]
 pub enum Entry {
     Wrote {
         dev: u8,

@@ -26,7 +26,7 @@ use sd_state::Complex;
 use sd_txn::TxnState;
 
 /// What an undo of a transaction comes to.
-#[derive(Clone, Copy, Debug)]
+#[derive(Clone, Copy)]
 pub enum Due {
     /// It doesn't roll back.
     Nothing,

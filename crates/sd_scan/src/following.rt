@@ -16,7 +16,7 @@ use sd_log::Placed;
 use sd_logrec::Record;
 
 /// What the records so far say: the greatest LSN, and the epoch of the last Start, or the master's.
-#[derive(Clone, Copy, Debug)]
+#[derive(Clone, Copy)]
 pub struct Past {
     lsn: Lsn,
     epoch: u32,

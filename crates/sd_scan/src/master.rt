@@ -42,7 +42,7 @@ impl Master {
 }
 
 /// The slots of a master aren't well formed, or both are open with equal counts.
-#[derive(Clone, Copy, Debug, PartialEq, Eq)]
+#[derive(Clone, Copy, PartialEq, Eq)]
 pub struct Unsound;
 
 /// The master that counts on a log device, of which the bytes in front of its area suffice; `None` where neither slot is

@@ -21,7 +21,7 @@ use sd_rig::LOG_LEN;
 use std::alloc::Global;
 
 /// A log device as it was read: its groups, and the master that counts, if any does.
-#[derive(Debug, Drop)]
+#[derive(Drop)]
 pub struct Scanned {
     pub log: Log,
     pub master: Option<Master>,

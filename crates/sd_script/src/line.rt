@@ -4,7 +4,7 @@ use sd_base::{Bytes, InstNo, Mode, PageNo, Pick, Rid, Word};
 
 /// What a line says. The ordinal of a line of a transaction is that of its begin line among the begin lines, counted
 /// from 0.
-#[derive(Debug, Drop)]
+#[derive(Drop)]
 pub enum Form {
     /// `complex N P F`: so many instances, pages, and frames for each instance.
     Complex {
@@ -135,7 +135,7 @@ pub enum Form {
 }
 
 /// A line of a script.
-#[derive(Debug, Drop)]
+#[derive(Drop)]
 pub struct Line {
     /// Its number in the text, counted from 1.
     pub number: u32,

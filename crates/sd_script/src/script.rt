@@ -19,14 +19,14 @@ use std::marker::Model;
 const SHORT_LINE: usize = 8;
 
 /// What a script is read for.
-#[derive(Clone, Copy, Debug, PartialEq, Eq)]
+#[derive(Clone, Copy, PartialEq, Eq)]
 pub enum Kind {
     /// Its lines are done one after another.
     Replay,
 }
 
 /// A script. Contracts see the list of its lines.
-#[derive(Debug, Drop)]
+#[derive(Drop)]
 pub struct Script {
     lines: Vec<Line>,
 }

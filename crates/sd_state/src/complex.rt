@@ -11,7 +11,7 @@ use sd_txn::TxnTable;
 
 /// A checkpoint that an instance has begun: the LSN of its begin, the low below which the log isn't needed once it ends, and
 /// the tables of its begin (ARIES, section 5.4).
-#[derive(Debug, Drop)]
+#[derive(Drop)]
 pub struct Checkpoint {
     pub begin: Lsn,
     pub low: Lsn,
@@ -20,14 +20,14 @@ pub struct Checkpoint {
 }
 
 /// A fall that is due: the instance that acted, and the log that it failed to force.
-#[derive(Clone, Copy, Debug, PartialEq, Eq)]
+#[derive(Clone, Copy, PartialEq, Eq)]
 pub struct Due {
     pub inst: InstNo,
     pub log: InstNo,
 }
 
 /// What a complex is made for: instances 1 to `insts`, pages 0 to `pages` less one, and so many frames in each pool.
-#[derive(Clone, Copy, Debug, PartialEq, Eq)]
+#[derive(Clone, Copy, PartialEq, Eq)]
 pub struct Shape {
     pub insts: u8,
     pub pages: u16,

@@ -27,7 +27,7 @@ use sd_rig::Rig;
 use sd_state::Complex;
 
 /// What a step of a recovery comes to.
-#[derive(Clone, Copy, Debug, PartialEq, Eq)]
+#[derive(Clone, Copy, PartialEq, Eq)]
 pub enum Recovery {
     /// A task is done, and the recovery goes on.
     Step,

@@ -21,7 +21,7 @@ use sd_state::Complex;
 use sd_txn::{TxnState, TxnTable};
 
 /// A task of a recovery.
-#[derive(Clone, Copy, Debug)]
+#[derive(Clone, Copy)]
 pub enum Task {
     /// A device that isn't settled is synced, and a log is read again.
     Settle(u8),

@@ -12,7 +12,7 @@ use sd_rig::Rig;
 
 /// Two slots of a device, one behind the other, each a gate byte and a body. `at` is the place of the first gate and
 /// `body` the length of a body, both in bytes.
-#[derive(Clone, Copy, Debug, PartialEq, Eq)]
+#[derive(Clone, Copy, PartialEq, Eq)]
 pub struct Twin {
     pub dev: u8,
     pub at: u32,

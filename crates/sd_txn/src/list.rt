@@ -17,7 +17,7 @@ use std::alloc::Global;
 use std::marker::Model;
 
 /// Transactions by their numbers, in order of begin. Contracts see the list of both.
-#[derive(Debug, Drop)]
+#[derive(Drop)]
 pub(crate) struct TxnList {
     txns: IndexMap<TxnId, Txn>,
 }

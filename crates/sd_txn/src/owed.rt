@@ -18,7 +18,7 @@ pub(crate) fn undo_len(rec: &OpenRec) -> u64
 
 /// Sums over transactions: the bytes of the undo of their open records, how many records are open, and how many of the
 /// transactions have a record in the log.
-#[derive(Debug, Drop)]
+#[derive(Drop)]
 pub(crate) struct Owed {
     pub(crate) undo: u64,
     pub(crate) records: u64,

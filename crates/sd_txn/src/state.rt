@@ -19,7 +19,7 @@ pub enum TxnState {
 
 /// A record of the log that a rollback undoes: its LSN, the LSN of the transaction's record before it, the record that
 /// it changed, and the value that was there.
-#[derive(Debug, Drop)]
+#[derive(Drop)]
 pub struct OpenRec {
     pub lsn: Lsn,
     pub prev: Lsn,

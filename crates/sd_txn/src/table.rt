@@ -22,7 +22,7 @@ const FULL: usize = 64;
 
 /// The transaction table of one instance. Contracts see its unresolved transactions in order of begin, and how many
 /// began in the epoch of the last begin.
-#[derive(Debug, Drop)]
+#[derive(Drop)]
 pub struct TxnTable {
     inst: InstNo,
     epoch: u32,

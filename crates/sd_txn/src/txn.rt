@@ -16,7 +16,7 @@ use std::marker::Model;
 
 /// An unresolved transaction. A mark is the number of records that were open when it was saved, by its name, in the
 /// order of the saves; so the marks above a number are the last ones. The bytes of its undo are a running sum.
-#[derive(Debug, Drop)]
+#[derive(Drop)]
 pub(crate) struct Txn {
     state: TxnState,
     marks: IndexMap<Vec<u8>, usize>,

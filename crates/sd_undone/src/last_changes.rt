@@ -15,7 +15,7 @@ use std::collections::BTreeMap;
 use std::marker::Model;
 
 /// The LSN of the last change of a record by this transaction, and of the last one by others before it, or 0.
-#[derive(Clone, Copy, Debug, PartialEq, Eq)]
+#[derive(Clone, Copy, PartialEq, Eq)]
 pub struct Last {
     txn: TxnId,
     own: Lsn,
@@ -70,7 +70,7 @@ impl Last {
 }
 
 /// Of each record that the logs change, its last changes. Contracts see a map's entries; `seen_in` says what they tell.
-#[derive(Debug, Drop)]
+#[derive(Drop)]
 pub struct LastChanges {
     lasts: BTreeMap<Rid, Last>,
 }
