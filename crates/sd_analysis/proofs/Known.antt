@@ -16,7 +16,7 @@ use Rattle.sd_analysis.specs.declared.seen.Seen.{Seen}
 use Rattle.sd_analysis.specs.Losers.{record_at}
 use Rattle.sd_analysis.specs.Faults.{IsFirst, MayCome}
 use Rattle.sd_analysis.specs.Misplaced.{Covers, Finds, IsLeast}
-use Rattle.sd_analysis.specs.Seen.{closed_by, with_record, EndsAt, Fits, Judged, Tells, TellsOf, TellsAll}
+use Rattle.sd_analysis.specs.Seen.{closed_by, with_record, EndsAt, SeenFits, Judged, Tells, TellsOf, TellsAll}
 use Rattle.sd_analysis.proofs.Closers.{ends_off, ends_own, finds_next, finds_silent}
 use Rattle.sd_analysis.proofs.Steps.{least_more}
 use Rattle.sd_analysis.proofs.Prefixes.{advance-own}
@@ -24,7 +24,7 @@ use Rattle.sd_chain.proofs.Whose.{none_open, own_of, silent_of, advance-off, aft
 
 -- what is seen of the transaction of x before x, which comes next
 pub record Ready (log : List Placed) (xs : List Rec) (x : Rec) (seen : Seen) : Type 0 where
-  pub fits : Fits log (after_all x.txn none_yet xs) seen
+  pub fits : SeenFits log (after_all x.txn none_yet xs) seen
   pub first : IsFirst log x.txn seen.first seen.first_prev
   pub prev : seen.first_prev ≡ first_prev x.txn (xs ++ x ∷ [])
   pub closed : EndsAt xs x.txn seen.closed
@@ -39,10 +39,10 @@ any_off t (y ∷ ys) x off = ⊎_elim (λ is. rw is refl) (λ not. rw not (any_o
 
 -- a row of the table, or a new one
 pub ready_from : (log : List Placed) (xs : List Rec) (x : Rec) (at : ℕ) (row : Option Seen) (fresh seen : Seen) → of_txn x.txn x ≡ true
-    → xs ≡ flats (take at log) → record_at log at ≡ Some x → TellsOf log xs x.txn row → Fits log none_yet fresh → fresh.first ≡ at
+    → xs ≡ flats (take at log) → record_at log at ≡ Some x → TellsOf log xs x.txn row → SeenFits log none_yet fresh → fresh.first ≡ at
     → fresh.first_prev ≡ x.prev → fresh.closed ≡ None → seen ≡ unwrap_or row fresh → Ready log xs x seen
 ready_from log xs x at None fresh seen own front there none fits first prev closed is = subst (Ready log xs x) (sym is) (record {
-  fits = subst (λ (q : Sofar). Fits log q fresh) (sym (after_all-none x.txn none_yet xs none)) fits;
+  fits = subst (λ (q : Sofar). SeenFits log q fresh) (sym (after_all-none x.txn none_yet xs none)) fits;
   first = subst (λ (n : ℕ). IsFirst log x.txn n fresh.first_prev) (sym first) (record {
     here = x;
     there = there;
@@ -62,10 +62,10 @@ ready_from log xs x at (Some row) fresh seen own front there tells fits first pr
 
 -- with the record
 pub tells_more : (log : List Placed) (xs : List Rec) (x : Rec) (seen new : Seen) → of_txn x.txn x ≡ true → Ready log xs x seen
-    → Fits log (with_record (after_all x.txn none_yet xs) x) new
+    → SeenFits log (with_record (after_all x.txn none_yet xs) x) new
     → new.first ≡ seen.first → new.first_prev ≡ seen.first_prev → new.closed ≡ closed_by (length xs) x seen.closed → Tells log (xs ++ x ∷ []) x.txn new
 tells_more log xs x seen new own ready fits first prev closed = record {
-  fits = subst (λ (q : Sofar). Fits log q new)
+  fits = subst (λ (q : Sofar). SeenFits log q new)
       (sym (after_all-append x.txn none_yet xs (x ∷ []) ∙ advance-own x.txn (after_all x.txn none_yet xs) x own)) fits;
   there = some_more x.txn xs x own;
   first = subst (λ (n : ℕ). IsFirst log x.txn n new.first_prev) (sym first)
@@ -79,7 +79,7 @@ pub tells_other : (log : List Placed) (xs : List Rec) (x : Rec) (t : TxnId) (row
     → TellsOf log (xs ++ x ∷ []) t row
 tells_other log xs x t None off none = any_off t xs x off ∙ none
 tells_other log xs x t (Some seen) off tells = record {
-  fits = subst (λ (q : Sofar). Fits log q seen)
+  fits = subst (λ (q : Sofar). SeenFits log q seen)
       (sym (after_all-append t none_yet xs (x ∷ []) ∙ advance-off t (after_all t none_yet xs) x off)) tells.fits;
   there = any_off t xs x off ∙ tells.there;
   first = tells.first;
@@ -127,7 +127,7 @@ pub record Noting (log : List Placed) (at : ℕ) (x : Rec) (t : TxnId) (seen : S
 pub noting : (log : List Placed) (at : ℕ) (d : Placed) (t : TxnId) (rows : List (TxnId × Seen)) (row : Option Seen) (fresh seen : Seen)
     → at < length log → TellsAll log (flats (take at log)) rows
     → Some t ≡ cond (speaks (rec_at log at d).kind) (Some (rec_at log at d).txn) None → row ≡ lookup (same_txn t) rows
-    → Fits log none_yet fresh → fresh.first ≡ at → fresh.first_prev ≡ (rec_at log at d).prev → fresh.closed ≡ None → seen ≡ unwrap_or row fresh
+    → SeenFits log none_yet fresh → fresh.first ≡ at → fresh.first_prev ≡ (rec_at log at d).prev → fresh.closed ≡ None → seen ≡ unwrap_or row fresh
     → Noting log at (rec_at log at d) t seen
 noting log at d t rows row fresh seen lt known says row_is fits first prev closed seen_is =
     let x = rec_at log at d in
@@ -151,7 +151,7 @@ length_front log at lt = length-map (take at log) (λ (p : Placed). flat p.rec) 
 -- what it shows
 pub finds_it : (log : List Placed) (at : ℕ) (x : Rec) (t : TxnId) (seen : Seen) (found : Option ℕ) → at < length log → Noting log at x t seen
     → ((k : ℕ) → seen.closed ≡ Some k → found ≡ Some k)
-    → ((sofar : Sofar) → Fits log sofar seen → seen.closed ≡ None → Judged at (MayCome sofar seen.first_prev x) found)
+    → ((sofar : Sofar) → SeenFits log sofar seen → seen.closed ≡ None → Judged at (MayCome sofar seen.first_prev x) found)
     → Finds (flats (take at log)) (flats (take (at + 1) log)) found
 finds_it log at x t seen found lt noting shut next =
     let xs = flats (take at log) in

@@ -9,7 +9,7 @@ use Rattle.sd_log.specs.Logs.{flats}
 use Rattle.sd_chain.specs.Order.{speaks, none_yet, after_all}
 use Rattle.sd_chain.proofs.Whose.{first_prev-there, other_of, own_of}
 use Rattle.sd_analysis.specs.declared.seen.Seen.{Seen}
-use Rattle.sd_analysis.specs.Seen.{closed_by, with_record, Fits, OthersStay, Tells, TellsOf, TellsAll}
+use Rattle.sd_analysis.specs.Seen.{closed_by, with_record, SeenFits, OthersStay, Tells, TellsOf, TellsAll}
 use Rattle.sd_analysis.proofs.Known.{found_at, flats-more, length_front, rec_at, spoken, tells_more, tells_other, Noting}
 use Rattle.sd_base.proofs.SameIds.{cases_txn, eq-same, ne-same}
 
@@ -36,7 +36,7 @@ noting_more log at d t seen lt tells says =
 
 -- with that record noted
 pub tells_on : (log : List Placed) (at : ℕ) (x : Rec) (t : TxnId) (seen new : Seen) → at < length log → Noting log at x t seen
-    → Fits log (with_record (after_all x.txn none_yet (flats (take at log))) x) new → new.first ≡ seen.first
+    → SeenFits log (with_record (after_all x.txn none_yet (flats (take at log))) x) new → new.first ≡ seen.first
     → new.first_prev ≡ seen.first_prev → new.closed ≡ closed_by at x seen.closed
     → Tells log (flats (take (at + 1) log)) t new
 tells_on log at x t seen new lt noting fits first prev closed =

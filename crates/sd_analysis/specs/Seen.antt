@@ -14,7 +14,7 @@ use Rattle.sd_analysis.specs.Faults.{IsFirst}
 use Rattle.sd_analysis.specs.Losers.{AreAt}
 
 -- what is seen is what the records so far leave, with indices of the log for open records
-pub record Fits (log : List Placed) (sofar : Sofar) (seen : Seen) : Type 0 where
+pub record SeenFits (log : List Placed) (sofar : Sofar) (seen : Seen) : Type 0 where
   pub updates : Each (λ x. x.kind ≡ Update) sofar.open_ones
   pub open_is : AreAt log seen.open.items sofar.open_ones
   pub last_is : seen.last ≡ sofar.last
@@ -43,7 +43,7 @@ closed_by at x (Some k) = Some k
 
 -- What is seen of t after these records, of which one or more are its own.
 pub record Tells (log : List Placed) (xs : List Rec) (t : TxnId) (seen : Seen) : Type 0 where
-  pub fits : Fits log (after_all t none_yet xs) seen
+  pub fits : SeenFits log (after_all t none_yet xs) seen
   pub there : list_any (of_txn t) xs ≡ true
   pub first : IsFirst log t seen.first seen.first_prev
   pub prev : seen.first_prev ≡ first_prev t xs

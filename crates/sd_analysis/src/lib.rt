@@ -22,5 +22,5 @@ mod owing;
 mod seen;
 mod table;
 
-pub use losers::{Fault, Loser, Losers, analyse};
+pub use losers::{AnalysisError, Loser, Losers, analyse};
 pub use owing::{owed, reserve};

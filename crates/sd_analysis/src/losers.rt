@@ -6,7 +6,7 @@ ghost use Rattle.sd_chain.specs.Faults.{IsFirstMisplaced};
 ghost use Rattle.sd_analysis.specs.Losers.{AreLosers, AreTidy};
 ghost use Rattle.sd_analysis.specs.Misplaced.{IsLeast};
 ghost use Rattle.sd_analysis.specs.Seen.{TellsAll};
-ghost use Rattle.sd_analysis.specs.declared.losers.Fault.TheVariants as F;
+ghost use Rattle.sd_analysis.specs.declared.losers.AnalysisError.TheVariants as F;
 
 use crate::seen::Seen;
 use crate::table::{least, note_run};
@@ -30,26 +30,26 @@ pub type Losers = Sequence<Loser>;
 
 /// Why a log has no losers.
 #[derive(Clone, Copy, Debug, PartialEq, Eq)]
-pub enum Fault {
+pub enum AnalysisError {
     /// The record of this index isn't in its transaction's order.
     Disorder { at: usize },
     /// There was no memory.
     Memory,
 }
 
-impl From<Memory> for Fault {
+impl From<Memory> for AnalysisError {
     ghost from_gives = { λ _ fault. fault ≡ F.Memory };
 
     fn from(_: Memory) -> Self {
-        Fault::Memory
+        AnalysisError::Memory
     }
 }
 
-impl<T: Drop> From<AllocFailed<T>> for Fault {
+impl<T: Drop> From<AllocFailed<T>> for AnalysisError {
     ghost from_gives = { λ _ fault. fault ≡ F.Memory };
 
     fn from(_: AllocFailed<T>) -> Self {
-        Fault::Memory
+        AnalysisError::Memory
     }
 }
 
@@ -59,7 +59,7 @@ impl<T: Drop> From<AllocFailed<T>> for Fault {
 /// it closes its transaction and a record of that stands behind it, it doesn't name the record of its transaction before
 /// it, it ends what is open, it undoes something else than the top, or it begins a transaction that stays open and names a
 /// record before it.
-pub fn analyse(alloc: Global, log: &[Placed]) -> Result<Losers, Fault>
+pub fn analyse(alloc: Global, log: &[Placed]) -> Result<Losers, AnalysisError>
     requires spelled { AreSpelled log.now }
     ensures in_order { OnOk result (AreTidy log.now) }
     ensures losers { IfOk result (AreLosers log.now) }
@@ -83,7 +83,7 @@ fn losers_of(
     log: &[Placed],
     table: BTreeMap<TxnId, Seen>,
     worst: Option<usize>,
-) -> Result<Losers, Fault>
+) -> Result<Losers, AnalysisError>
     requires known { TellsAll log.now (flats log.now) table.entries }
     requires least { IsLeast (flats log.now) worst }
     ensures in_order { OnOk result (AreTidy log.now) }
@@ -105,7 +105,7 @@ fn losers_of(
         })?;
     }
     match worst {
-        Some(at) => Err(Fault::Disorder { at }),
+        Some(at) => Err(AnalysisError::Disorder { at }),
         None => Ok(Sequence::of(losers)),
     }
 }

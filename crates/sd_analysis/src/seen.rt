@@ -8,7 +8,7 @@ ghost use Rattle.sd_chain.specs.Records.{ends};
 ghost use Rattle.sd_chain.specs.Order.{none_yet, Sofar, UndoesTop};
 ghost use Rattle.sd_analysis.specs.Losers.{record_at};
 ghost use Rattle.sd_analysis.specs.Faults.{Joins, MayCome};
-ghost use Rattle.sd_analysis.specs.Seen.{closed_by, with_record, Fits, Judged};
+ghost use Rattle.sd_analysis.specs.Seen.{closed_by, with_record, Judged, SeenFits};
 
 use sd_base::{Lsn, Memory, lent_value, same_value};
 use sd_log::Placed;
@@ -29,7 +29,7 @@ pub(crate) struct Seen {
 impl Seen {
     /// Before the first record, whose index and `prev` these are.
     pub(crate) fn new(alloc: Global, first: usize, first_prev: Lsn) -> Seen
-        ensures empty { (log : List Placed) → Fits log none_yet result }
+        ensures empty { (log : List Placed) → SeenFits log none_yet result }
         ensures first { result.first ≡ first }
         ensures prev { result.first_prev ≡ first_prev }
         ensures closed { result.closed ≡ None }
@@ -47,7 +47,7 @@ impl Seen {
     /// that closed the transaction, or else this one where it may not come.
     pub(crate) fn misplaced(&self, log: &[Placed], at: usize, rec: &Record) -> Option<usize>
         ensures shut { (k : ℕ) → self.now.closed ≡ Some k → result ≡ Some k }
-        ensures next { (sofar : Sofar) → Fits log.now sofar self.now → self.now.closed ≡ None
+        ensures next { (sofar : Sofar) → SeenFits log.now sofar self.now → self.now.closed ≡ None
             → Judged at (MayCome sofar self.now.first_prev (flat rec.now)) result }
     {
         if self.closed.is_some() || self.allows(log, rec) {
@@ -59,14 +59,14 @@ impl Seen {
     // Whether the transaction's next record may be this one. What its undos take back is known only where its first
     // record is the first that it wrote.
     fn allows(&self, log: &[Placed], rec: &Record) -> bool
-        ensures { (sofar : Sofar) → Fits log.now sofar self.now → (IsTrue result ↔ MayCome sofar self.now.first_prev (flat rec.now)) }
+        ensures { (sofar : Sofar) → SeenFits log.now sofar self.now → (IsTrue result ↔ MayCome sofar self.now.first_prev (flat rec.now)) }
     {
         self.comes_next(rec) && (self.first_prev != 0 || self.undoes_top(log, rec))
     }
 
     // Whether the record may come next, whatever it undoes.
     fn comes_next(&self, rec: &Record) -> bool
-        ensures { (log : List Placed) (sofar : Sofar) → Fits log sofar self.now → (IsTrue result ↔ Joins sofar (flat rec.now)) }
+        ensures { (log : List Placed) (sofar : Sofar) → SeenFits log sofar self.now → (IsTrue result ↔ Joins sofar (flat rec.now)) }
     {
         if self.last != 0 && prev_of(rec) != self.last {
             return false;
@@ -89,7 +89,7 @@ impl Seen {
 
     // Whether the record undoes the top, if it undoes anything.
     fn undoes_top(&self, log: &[Placed], rec: &Record) -> bool
-        ensures { (sofar : Sofar) → Fits log.now sofar self.now
+        ensures { (sofar : Sofar) → SeenFits log.now sofar self.now
             → (IsTrue result ↔ ((flat rec.now).kind ≡ Clr → UndoesTop (flat rec.now) sofar.open_ones)) }
     {
         if !is_clr(rec) {
@@ -106,8 +106,8 @@ impl Seen {
 
     /// Takes note of its next record, which has this index.
     pub(crate) fn note(&mut self, at: usize, rec: &Record) -> Result<(), Memory>
-        ensures noted { OnOk result ((log : List Placed) (sofar : Sofar) → record_at log at ≡ Some (flat rec.now) → Fits log sofar self.old
-            → Fits log (with_record sofar (flat rec.now)) self.new) }
+        ensures noted { OnOk result ((log : List Placed) (sofar : Sofar) → record_at log at ≡ Some (flat rec.now) → SeenFits log sofar self.old
+            → SeenFits log (with_record sofar (flat rec.now)) self.new) }
         ensures closed { OnOk result (self.new.closed ≡ closed_by at (flat rec.now) self.old.closed) }
         ensures first { self.new.first ≡ self.old.first }
         ensures prev { self.new.first_prev ≡ self.old.first_prev }

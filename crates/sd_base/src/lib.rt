@@ -36,7 +36,7 @@ pub use ids::{InstNo, Lsn, PageNo, Rid, TxnId};
 pub use limits::{MAX_CAPACITY, MAX_SLOTS, NO_VALUE, PAGES};
 pub use memory_streams::{MemSink, MemSource};
 pub use place::{Mode, Place, Status};
-pub use refusal::{Cause, Failed, Memory, Refusal};
+pub use refusal::{Failed, LineError, Memory, Refusal};
 pub use sequence::{Duplicate, Sequence};
 pub use set::InstSet;
 pub use standard_streams::{StdSink, StdSource};

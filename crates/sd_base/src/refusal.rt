@@ -18,7 +18,7 @@ pub struct Memory;
 
 /// What is wrong with a script line, the first that holds.
 #[derive(Clone, Copy, Debug, PartialEq, Eq)]
-pub enum Cause {
+pub enum LineError {
     Size,
     Byte,
     Order,
@@ -84,7 +84,7 @@ pub enum Refusal {
     /// 25: the devices aren't sound; the first failing check names this place.
     Damaged { dev: u8, at: u64 },
     /// 26: the script's line is bad.
-    BadLine { line: u32, cause: Cause },
+    BadLine { line: u32, cause: LineError },
     /// 27: there is no such transaction now.
     NoTxn,
     /// 28: the value isn't a number.

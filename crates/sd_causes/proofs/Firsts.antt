@@ -4,7 +4,7 @@ use Rattle.sd_model.specs.declared.cause.Cause.{Cause}
 use Rattle.sd_model.specs.declared.cause.Cause.TheVariants.{Shut, NoTxn, Down, Busy, Long, Lock, SlotLock, Lost, Away, Full, NoRecord, NotNumber, Digits, Over, Log, Lsn, TooMany, Begins, NoMark, Frame, Moving, Asks, Dirty, Check, NotDown, NotRecovered, Rig, Cut}
 use Rattle.sd_model.specs.declared.event.Event.{Event}
 use Rattle.sd_model.specs.State.{State}
-use Rattle.sd_model.specs.Causes.{number, has}
+use Rattle.sd_model.specs.Causes.{number, has_cause}
 use Rattle.sd_model.specs.Applies.{First}
 use Rattle.sd_causes.specs.Firsts.{IsFirstOf, NoneFirst}
 
@@ -49,19 +49,19 @@ pub off : {A : Type 0} → false ≡ true → A
 off e = absurd (true≢false (sym e))
 
 pub first-here : (m : State) (e : Event) (c : Cause) (cs : List Cause) → First m e c → IsFirstOf m e c (c ∷ cs)
-first-here m e c cs f = (ap (λ (b : Bool). cond b true (has c cs)) (eq-eqb (number c) (number c) refl), f)
+first-here m e c cs f = (ap (λ (b : Bool). cond b true (has_cause c cs)) (eq-eqb (number c) (number c) refl), f)
 
 cond-true : (b x : Bool) → x ≡ true → cond b true x ≡ true
 cond-true true x e = refl
 cond-true false x e = e
 
 pub first-later : (m : State) (e : Event) (c d : Cause) (cs : List Cause) → IsFirstOf m e c cs → IsFirstOf m e c (d ∷ cs)
-first-later m e c d cs h = (cond-true (eqb (number c) (number d)) (has c cs) h.0, h.1)
+first-later m e c d cs h = (cond-true (eqb (number c) (number d)) (has_cause c cs) h.0, h.1)
 
 pub none-first : (m : State) (e : Event) (d : Cause) (cs : List Cause) → (First m e d → ⊥) → NoneFirst m e cs → NoneFirst m e (d ∷ cs)
 none-first m e d cs never rest c h = go (eqb (number c) (number d)) refl h.0
   where
-    go : (b : Bool) → eqb (number c) (number d) ≡ b → cond b true (has c cs) ≡ true → ⊥
+    go : (b : Bool) → eqb (number c) (number d) ≡ b → cond b true (has_cause c cs) ≡ true → ⊥
     go true is has_it = never (subst (First m e) (same_number c d is) h.1)
     go false is has_it = rest c (has_it, h.1)
 

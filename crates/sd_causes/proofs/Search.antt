@@ -5,7 +5,7 @@ use Rattle.sd_base.specs.declared.ids.Rid.{Rid}
 use Rattle.sd_model.specs.declared.act.Claim.{Claim}
 use Rattle.sd_model.specs.declared.act.Claim.TheVariants.{Free, Shared, Excl}
 use Rattle.sd_lists.specs.declared.standing.Standing.{Standing}
-use Rattle.sd_model.specs.Claims.{raised, Clash}
+use Rattle.sd_model.specs.Claims.{raised_claim, Clash}
 use Rattle.sd_model.specs.Applies.{Changes}
 use Rattle.sd_model.specs.State.{State, Part, gone}
 use Rattle.sd_lists.specs.Lists.{claim_from, claims_in, part_of, part_from, part_in}
@@ -62,7 +62,7 @@ claim_from-any : (c : Claim) (xs : List (Rid × Claim)) (r : Rid) → AnyOf (λ 
 claim_from-any c [] r = inr refl
 claim_from-any c (x ∷ xs) r = ⊎_elim
     (λ e. inl (inl e))
-    (λ ne. ⊎_elim (λ a. inl (inr a)) (λ e. inr (ap (λ (b : Bool). claim_from (cond b (raised x.1 c) c) xs r) (ne-same_rid x.0 r ne) ∙ e)) (claim_from-any c xs r))
+    (λ ne. ⊎_elim (λ a. inl (inr a)) (λ e. inr (ap (λ (b : Bool). claim_from (cond b (raised_claim x.1 c) c) xs r) (ne-same_rid x.0 r ne) ∙ e)) (claim_from-any c xs r))
     (cases_rid x.0 r)
 
 pub claim-any : (P : Rid → Type 0) (xs : List (Rid × Claim)) (r : Rid) → (claims_in xs r ≡ Free → ⊥) → P r → AnyOf (λ (x : Rid × Claim). P x.0) xs

@@ -5,26 +5,26 @@ use Rattle.sd_base.specs.declared.ids.Rid.{Rid}
 use Rattle.sd_base.specs.Ids.{same_rid}
 use Rattle.sd_model.specs.declared.act.Claim.{Claim}
 use Rattle.sd_model.specs.declared.act.Claim.TheVariants.{Free, Shared, Excl}
-use Rattle.sd_model.specs.Claims.{raised, Holds}
+use Rattle.sd_model.specs.Claims.{raised_claim, Holds}
 use Rattle.sd_model.specs.State.{State, view}
 use Rattle.sd_lists.specs.Lists.{claim_from, claims_in}
 use Rattle.sd_causes.specs.Claimers.{AnySlot}
 use Rattle.sd_causes.proofs.Search.{AnyOf}
 use Rattle.sd_base.proofs.SameIds.{cases_rid, eq-same_rid, ne-same_rid}
 
-raised-split : (a b : Claim) → Holds (raised a b) → Holds a ⊎ Holds b
+raised-split : (a b : Claim) → Holds (raised_claim a b) → Holds a ⊎ Holds b
 raised-split Free b h = inr h
 raised-split Shared b h = inl tt
 raised-split Excl b h = inl tt
 
-raised-new : (a b : Claim) → Holds a → Holds (raised a b)
+raised-new : (a b : Claim) → Holds a → Holds (raised_claim a b)
 raised-new Free b h = absurd h
 raised-new Shared Free h = tt
 raised-new Shared Shared h = tt
 raised-new Shared Excl h = tt
 raised-new Excl b h = tt
 
-raised-old : (a b : Claim) → Holds b → Holds (raised a b)
+raised-old : (a b : Claim) → Holds b → Holds (raised_claim a b)
 raised-old Free b h = h
 raised-old Shared Free h = absurd h
 raised-old Shared Shared h = tt
@@ -35,31 +35,31 @@ raised-old Excl b h = tt
 abbrev On : Rid → Rid × Claim → Type 0
 On r x = (x.0 ≡ r) × Holds x.1
 
-at_rid : (r : Rid) (x : Rid × Claim) (c : Claim) → x.0 ≡ r → cond (same_rid x.0 r) (raised x.1 c) c ≡ raised x.1 c
-at_rid r x c e = ap (λ (b : Bool). cond b (raised x.1 c) c) (eq-same_rid x.0 r e)
+at_rid : (r : Rid) (x : Rid × Claim) (c : Claim) → x.0 ≡ r → cond (same_rid x.0 r) (raised_claim x.1 c) c ≡ raised_claim x.1 c
+at_rid r x c e = ap (λ (b : Bool). cond b (raised_claim x.1 c) c) (eq-same_rid x.0 r e)
 
-off_rid : (r : Rid) (x : Rid × Claim) (c : Claim) → (x.0 ≡ r → ⊥) → cond (same_rid x.0 r) (raised x.1 c) c ≡ c
-off_rid r x c ne = ap (λ (b : Bool). cond b (raised x.1 c) c) (ne-same_rid x.0 r ne)
+off_rid : (r : Rid) (x : Rid × Claim) (c : Claim) → (x.0 ≡ r → ⊥) → cond (same_rid x.0 r) (raised_claim x.1 c) c ≡ c
+off_rid r x c ne = ap (λ (b : Bool). cond b (raised_claim x.1 c) c) (ne-same_rid x.0 r ne)
 
 holds-some : (c : Claim) (xs : List (Rid × Claim)) (r : Rid) → Holds (claim_from c xs r) → Holds c ⊎ AnyOf (On r) xs
 holds-some c [] r h = inl h
 holds-some c (x ∷ xs) r h = ⊎_elim
-    (λ (now : Holds (cond (same_rid x.0 r) (raised x.1 c) c)). ⊎_elim
+    (λ (now : Holds (cond (same_rid x.0 r) (raised_claim x.1 c) c)). ⊎_elim
     (λ e. ⊎_elim (λ new. inr (inl (e, new))) (λ old. inl old) (raised-split x.1 c (subst Holds (at_rid r x c e) now)))
     (λ ne. inl (subst Holds (off_rid r x c ne) now))
     (cases_rid x.0 r))
     (λ a. inr (inr a))
-    (holds-some (cond (same_rid x.0 r) (raised x.1 c) c) xs r h)
+    (holds-some (cond (same_rid x.0 r) (raised_claim x.1 c) c) xs r h)
 
 some-holds : (c : Claim) (xs : List (Rid × Claim)) (r : Rid) → Holds c ⊎ AnyOf (On r) xs → Holds (claim_from c xs r)
 some-holds c [] r (inl h) = h
 some-holds c [] r (inr a) = absurd a
-some-holds c (x ∷ xs) r (inl h) = some-holds (cond (same_rid x.0 r) (raised x.1 c) c) xs r (inl (⊎_elim
+some-holds c (x ∷ xs) r (inl h) = some-holds (cond (same_rid x.0 r) (raised_claim x.1 c) c) xs r (inl (⊎_elim
     (λ e. subst Holds (sym (at_rid r x c e)) (raised-old x.1 c h))
     (λ ne. subst Holds (sym (off_rid r x c ne)) h)
     (cases_rid x.0 r)))
-some-holds c (x ∷ xs) r (inr (inl on)) = some-holds (cond (same_rid x.0 r) (raised x.1 c) c) xs r (inl (subst Holds (sym (at_rid r x c on.0)) (raised-new x.1 c on.1)))
-some-holds c (x ∷ xs) r (inr (inr a)) = some-holds (cond (same_rid x.0 r) (raised x.1 c) c) xs r (inr a)
+some-holds c (x ∷ xs) r (inr (inl on)) = some-holds (cond (same_rid x.0 r) (raised_claim x.1 c) c) xs r (inl (subst Holds (sym (at_rid r x c on.0)) (raised-new x.1 c on.1)))
+some-holds c (x ∷ xs) r (inr (inr a)) = some-holds (cond (same_rid x.0 r) (raised_claim x.1 c) c) xs r (inr a)
 
 -- there is a claim on a slot of the page in which t finds no record
 abbrev pub HasSlot : State → TxnId → ℕ → (Rid → Claim) → Type 0

@@ -1,7 +1,7 @@
 //! How the instances stand of which an event asks something.
 
 ghost use Rattle.std.specs.Prelude.{◌↔◌, IsTrue};
-ghost use Rattle.sd_model.specs.Applies.{IsActive, TakesChecks, Serves, IsNotDown, IsNotRecovered};
+ghost use Rattle.sd_model.specs.Applies.{IsActive, TakesChecks, MayServe, IsNotDown, IsNotRecovered};
 ghost use Rattle.sd_lists.specs.Lists.{meaning};
 
 use crate::fields::{first_instance, inst_of};
@@ -11,7 +11,7 @@ use sd_model::Event;
 
 /// Whether the acting instance stands so that it serves the event.
 pub fn serves(lists: &Lists, event: &Event) -> bool
-    ensures { IsTrue result ↔ Serves (meaning lists.now) event.now }
+    ensures { IsTrue result ↔ MayServe (meaning lists.now) event.now }
 {
     match event {
         Event::Ask { inst, .. }

@@ -4,10 +4,10 @@ use Rattle.std.specs.Prelude.{filter}
 use Rattle.std.proofs.lemmas.Bool.{cases_Bool, cases_eq, cases_lt}
 use Rattle.sd_logrec.specs.View.{Rec}
 use Rattle.sd_chain.specs.Records.{of_page, Each}
-use Rattle.sd_chain.specs.Image.{Image, chain, newest, Sound}
+use Rattle.sd_chain.specs.Storage.{Storage, chain, newest, Sound}
 use Rattle.sd_chain.specs.Changes.{IsAbovePage}
 use Rattle.sd_chain.proofs.Lists.{Each-front, Each-weaker, filter-cons, filter-skip}
-use Rattle.sd_chain.specs.Image.{all_of, sorted, inserted}
+use Rattle.sd_chain.specs.Storage.{all_of, sorted, inserted}
 use Rattle.sd_chain.proofs.Chains.{replay_rises}
 use Rattle.sd_chain.proofs.Lists.{Each-back}
 
@@ -42,7 +42,7 @@ Each-all_of_back P logs (suc n) j lt a = ⊎_elim
     (λ ne. Each-all_of_back P logs n j (omega arith) (Each-back P (logs n) (all_of logs n) a))
     (cases_eq j n)
 
-pub records_low : (img : Image) → Sound img → (p j : ℕ) → j < 9
+pub records_low : (img : Storage) → Sound img → (p j : ℕ) → j < 9
     → Each (λ x. of_page p x ≡ true → x.lsn ≤ (newest img p).lsn) (img.logs j)
 unfolding chain newest
 records_low img sound p j lt =
@@ -52,7 +52,7 @@ records_low img sound p j lt =
     (Each-sorted_back (λ x. x.lsn ≤ (newest img p).lsn) (filter (of_page p) (all_of img.logs 9)) low))
 
 -- so only the page's LSN has to be passed, where logs are eight
-pub above_page : (img : Image) → Sound img → ((j : ℕ) → 9 ≤ j → img.logs j ≡ []) → (y : Rec) → (newest img y.page).lsn < y.lsn
+pub above_page : (img : Storage) → Sound img → ((j : ℕ) → 9 ≤ j → img.logs j ≡ []) → (y : Rec) → (newest img y.page).lsn < y.lsn
     → IsAbovePage img y
 above_page img sound eight y lt = record {
   records = λ j. ⊎_elim

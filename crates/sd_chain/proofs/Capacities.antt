@@ -6,7 +6,7 @@ use Rattle.sd_logrec.specs.View.Kind.{Update, Clr, Commit, End, Plain}
 use Rattle.sd_base.specs.Values.{size}
 use Rattle.sd_page.specs.Page.{Page, Slot}
 use Rattle.sd_chain.specs.Pages.{value, capacity, write, redo, replay, FitAll, FitsKind}
-use Rattle.sd_chain.specs.Image.{Image, chain, newest, all_of}
+use Rattle.sd_chain.specs.Storage.{Storage, chain, newest, all_of}
 use Rattle.sd_chain.proofs.Lists.{cond_both, Each-filter, Each-sorted}
 
 abbrev Within : List Slot → Type 0
@@ -42,7 +42,7 @@ within_replay floor page (x ∷ xs) k a w =
     (λ is. let f = within_kind x.kind x page.slots k.0 (a.0 (ltb-true floor x.lsn is)).found in
     within_write page.slots x.slot x.cap x.after w f.0 f.1) (λ is. w))
 
-chain_changes : (img : Image) (p : ℕ) → Each (λ x. changes x.kind ≡ true) (chain img p)
+chain_changes : (img : Storage) (p : ℕ) → Each (λ x. changes x.kind ≡ true) (chain img p)
 unfolding chain
 chain_changes img p =
     Each-sorted (λ x. changes x.kind ≡ true) _
@@ -56,7 +56,7 @@ chain_changes img p =
     each_tells [] = tt
     each_tells (x ∷ xs) = ((λ e. first (changes x.kind) (eqb x.page p) e), each_tells xs)
 
-pub newest-within : (img : Image) (p : ℕ) → Within (img.disk p).slots → FitAll (img.disk p).lsn (img.disk p) (chain img p)
+pub newest-within : (img : Storage) (p : ℕ) → Within (img.disk p).slots → FitAll (img.disk p).lsn (img.disk p) (chain img p)
     → Within (newest img p).slots
 unfolding newest
 newest-within img p w fit = within_replay (img.disk p).lsn (img.disk p) (chain img p) (chain_changes img p) fit w

@@ -7,7 +7,7 @@ use Rattle.sd_logrec.specs.View.{Rec}
 use Rattle.sd_chain.specs.Records.{of_page, Each}
 use Rattle.sd_page.specs.Page.{Page}
 use Rattle.sd_chain.specs.Pages.{redo, replay, FitAll}
-use Rattle.sd_chain.specs.Image.{Image, sorted, all_of, chain}
+use Rattle.sd_chain.specs.Storage.{Storage, sorted, all_of, chain}
 use Rattle.sd_chain.specs.Changes.{Appended}
 use Rattle.sd_chain.proofs.Lists.{Each-append, Each-front, Each-back, Each-filter, filter-cons, filter-skip, sorted_last, all_of-same, cond_both}
 
@@ -55,7 +55,7 @@ all_of-split i y logs logs' (suc n) lt here others =
     (cases_eq n i)
 
 -- a record of another page, or of none, leaves the chain
-pub chain-other : (i : ℕ) (y : Rec) (old new : Image) → Appended i y old new → (p : ℕ) → of_page p y ≡ false
+pub chain-other : (i : ℕ) (y : Rec) (old new : Storage) → Appended i y old new → (p : ℕ) → of_page p y ≡ false
     → chain new p ≡ chain old p
 unfolding chain
 chain-other i y old new app p not_its =
@@ -65,7 +65,7 @@ chain-other i y old new app p not_its =
     ∙ sym (filter-append (of_page p) s.front s.back) ∙ ap (filter (of_page p)) (sym s.old))
 
 -- a record above those of its page stands at the end of the chain
-pub chain-push : (i : ℕ) (y : Rec) (old new : Image) → Appended i y old new → (p : ℕ) → of_page p y ≡ true
+pub chain-push : (i : ℕ) (y : Rec) (old new : Storage) → Appended i y old new → (p : ℕ) → of_page p y ≡ true
     → ((j : ℕ) → Each (λ x. of_page p x ≡ true → x.lsn < y.lsn) (old.logs j)) → chain new p ≡ chain old p ++ y ∷ []
 unfolding chain
 chain-push i y old new app p its above =

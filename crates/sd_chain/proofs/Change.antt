@@ -8,7 +8,7 @@ use Rattle.sd_chain.specs.Records.{Val, of_page, of_rid, at, changes, Each}
 use Rattle.sd_base.specs.Values.{size}
 use Rattle.sd_page.specs.Page.{Page}
 use Rattle.sd_chain.specs.Pages.{value, capacity, redo, FitAll, FitsKind}
-use Rattle.sd_chain.specs.Image.{Image, chain, newest, now, opens, Open, HasPlace, Linked, Alone, StackFits, Sound}
+use Rattle.sd_chain.specs.Storage.{Storage, chain, newest, now, opens, Open, HasPlace, Linked, Alone, StackFits, Sound}
 use Rattle.sd_chain.specs.Changes.{Appended, IsAbovePage}
 use Rattle.sd_chain.proofs.Lists.{Each-weaker, Each-both}
 use Rattle.sd_chain.proofs.Newest
@@ -18,7 +18,7 @@ use Rattle.sd_chain.proofs.Opens.{Each-stack}
 use Rattle.sd_chain.proofs.Apart.{none_at}
 use Rattle.sd_base.proofs.SameIds.{cases_txn}
 
-module _ (i : ℕ) (y : Rec) (old new : Image) (app : Appended i y old new) (changes_it : changes y.kind ≡ true)
+module _ (i : ℕ) (y : Rec) (old new : Storage) (app : Appended i y old new) (changes_it : changes y.kind ≡ true)
     (above : IsAbovePage old y) (fits : FitsKind y.kind y (newest old y.page).slots)
     (free : (t : TxnId) → t ≢ y.txn → Open old t → filter (at y.page y.slot) (opens old t) ≡ []) (sound : Sound old) where
   fit_here : FitAll (old.disk y.page).lsn (old.disk y.page) (chain old y.page)

@@ -9,7 +9,7 @@ use Rattle.sd_chain.specs.Records.{Val, of_page, at, changes, ends, Each, home, 
 use Rattle.sd_logrec.specs.View.Kind.{Update, Clr, Commit, End, Plain}
 use Rattle.sd_page.specs.Page.{Page}
 use Rattle.sd_chain.specs.Pages.{replay, FitsKind}
-use Rattle.sd_chain.specs.Image.{Image, chain, newest, opens, Open, Sound, Recovered}
+use Rattle.sd_chain.specs.Storage.{Storage, chain, newest, opens, Open, Sound, Recovered}
 use Rattle.sd_chain.specs.Changes.{Appended, CanUpdate, CanUndo, Written}
 use Rattle.sd_chain.proofs.Lists.{Each-append, Each-front, Each-back, filter-skip, cond_both}
 use Rattle.sd_chain.proofs.Newest
@@ -17,7 +17,7 @@ use Rattle.sd_chain.proofs.Newest.{at_is, at_from, of_rid_is, of_rid_from, pages
 use mathlib.Core.Path.{fun_ext}
 use Rattle.std.proofs.Common.{append_assoc, append-nil}
 use Rattle.std.proofs.lemmas.List.Elements.{filter-append}
-use Rattle.sd_chain.specs.Image.{all_of, sorted}
+use Rattle.sd_chain.specs.Storage.{all_of, sorted}
 use Rattle.sd_chain.specs.Cuts.{Logs, cut, whole, EachSound, Gained, Pops, IsTopsPage, IsLone, CanUpdateWhole, CanUndoWhole, PutPage}
 use Rattle.sd_chain.proofs.Stacks.{stack_from-append, step-own, step-other}
 use Rattle.sd_chain.proofs.Update
@@ -35,7 +35,7 @@ filter-all_of p logs logs' e (suc n) =
     ∙ ap (λ (l : List Rec). filter (of_page p) (logs n) ++ l) (filter-all_of p logs logs' e n)
     ∙ sym (filter-append (of_page p) (logs n) (all_of logs n))
 
-pub newest-by_page : (p : ℕ) (old new : Image) → ((j : ℕ) → filter (of_page p) (new.logs j) ≡ filter (of_page p) (old.logs j))
+pub newest-by_page : (p : ℕ) (old new : Storage) → ((j : ℕ) → filter (of_page p) (new.logs j) ≡ filter (of_page p) (old.logs j))
     → new.disk p ≡ old.disk p → newest new p ≡ newest old p
 unfolding newest chain
 newest-by_page p old new e d =
@@ -111,7 +111,7 @@ module _ (i : ℕ) (y : Rec) (old new : Logs) (g : Gained i y old new) (keeps : 
   pub cut-same : keeps i ≡ false → cut keeps new ≡ cut keeps old
   cut-same dropped = ap₂ (λ (l : ℕ → List Rec) (d : ℕ → Page). record_of l d) (fun_ext each) (fun_ext g.disk)
     where
-      record_of : (ℕ → List Rec) → (ℕ → Page) → Image
+      record_of : (ℕ → List Rec) → (ℕ → Page) → Storage
       record_of l d = record { logs = l; disk = d }
 
       each : (j : ℕ) → new.base j ++ cond (keeps j) (new.tail j) [] ≡ old.base j ++ cond (keeps j) (old.tail j) []
@@ -123,7 +123,7 @@ module _ (i : ℕ) (y : Rec) (old new : Logs) (g : Gained i y old new) (keeps : 
           (cases_eq j i)
 
   -- what holds of each image before holds after, where a record may be appended
-  by_tail : (P : Image → Type 0) → P (cut keeps old) → (keeps i ≡ true → P (cut keeps new)) → P (cut keeps new)
+  by_tail : (P : Storage → Type 0) → P (cut keeps old) → (keeps i ≡ true → P (cut keeps new)) → P (cut keeps new)
   by_tail P was f = ⊎_elim f (λ dropped. subst P (sym (cut-same dropped)) was) (cases_Bool (keeps i))
 
 -- a cut keeps the front of each log

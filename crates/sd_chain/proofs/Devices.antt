@@ -7,12 +7,12 @@ use Rattle.std.proofs.lemmas.List.{drop-drop, drop-take, get_or-drop, get_or-tak
 use Rattle.sd_base.specs.Twin.{body_at, body_of, chosen_body, is_open, number_of, slot_of}
 use Rattle.sd_logrec.specs.View.{Rec}
 use Rattle.sd_logrec.specs.Kept.{kept}
-use Rattle.sd_page.specs.Page.{Fits, Page}
+use Rattle.sd_page.specs.Page.{Page, PageFits}
 use Rattle.sd_page.proofs.Told.{told}
 use Rattle.sd_rig.specs.Devices.{AgreesOutside}
 use Rattle.sd_rig.specs.Devices as rig
 use Rattle.sd_chain.specs.Images.{Tails}
-use Rattle.sd_chain.specs.Crashes.{Leaves, DuringForce, DuringPut}
+use Rattle.sd_chain.specs.Crashes.{CrashLeaves, DuringForce, DuringPut}
 use Rattle.sd_chain.specs.Bytes.{disk_page, log_of, page_in, records_of, stable, twin_at, PutsTwin, ForcesLog}
 use Rattle.sd_base.proofs.Twins.{byte_within, part_within, open_within, body_within}
 
@@ -68,11 +68,11 @@ disk_others p q old new a ne = ap (page_in q) (chosen_same (twin_at q) 1024 old 
     (λ ge. part_behind (twin_at p) 2050 (twin_at q) 2050 old new a (omega (arith, ge, ne)))
     (cases_lt q p)))
 
-logs_same : (j : ℕ) (a b : rig.Image) → a j ≡ b j → log_of a j ≡ log_of b j
+logs_same : (j : ℕ) (a b : rig.DeviceImages) → a j ≡ b j → log_of a j ≡ log_of b j
 logs_same j a b same = ap (λ (bytes : List ℕ). cond {A = List Rec} (ltb 0 j && ltb j 9) (records_of (kept bytes)) []) same
 
-pub put-during : (p : ℕ) (page : Page) (tails : Tails) (may : ℕ → Page → Type 0) (before after : rig.Image) → Fits page
-    → Leaves tails may (stable before) → PutsTwin p page before after → DuringPut p page tails may (stable after)
+pub put-during : (p : ℕ) (page : Page) (tails : Tails) (may : ℕ → Page → Type 0) (before after : rig.DeviceImages) → PageFits page
+    → CrashLeaves tails may (stable before) → PutsTwin p page before after → DuringPut p page tails may (stable after)
 put-during p page tails may before after fits could w = record {
   before = stable before;
   could = could;
@@ -87,8 +87,8 @@ put-during p page tails may before after fits could w = record {
       (cases_eq j 0);
 }
 
-pub force-during : (i : ℕ) (tails : Tails) (may : ℕ → Page → Type 0) (before after : rig.Image) → i ≢ 0
-    → Leaves tails may (stable before) → ForcesLog i tails before after → DuringForce i tails may (stable after)
+pub force-during : (i : ℕ) (tails : Tails) (may : ℕ → Page → Type 0) (before after : rig.DeviceImages) → i ≢ 0
+    → CrashLeaves tails may (stable before) → ForcesLog i tails before after → DuringForce i tails may (stable after)
 force-during i tails may before after is_log could w = record {
   before = stable before;
   could = could;

@@ -8,7 +8,7 @@ use Rattle.sd_chain.specs.Records.{Val, of_page, at, changes, ends, Each, home, 
 use Rattle.sd_logrec.specs.View.Kind.{Update, Clr, Commit, End, Plain}
 use Rattle.sd_page.specs.Page.{Page}
 use Rattle.sd_chain.specs.Pages.{value, redo, FitsKind}
-use Rattle.sd_chain.specs.Image.{Image, newest, Sound, Recovered}
+use Rattle.sd_chain.specs.Storage.{Storage, newest, Sound, Recovered}
 use Rattle.sd_chain.specs.Changes.{IsAbovePage, Written}
 use Rattle.sd_chain.proofs.Lists.{Each-append, Each-front, Each-back, filter-skip, cond_both}
 use Rattle.sd_chain.proofs.Newest
@@ -137,7 +137,7 @@ module _ (i : ℕ) (y : Rec) (old new : Tails) (g : Grows i y old new) (own : sp
       ∙ ap (version' keeps) (sym e))
       (λ ne. Newest.newest-other i y before after app p ne ∙ safe.same disk all keeps p ∙ sym (redone.others keeps p ne))
       (cases_eq p y.page))
-      (λ dropped. ap (λ (img : Image). newest img p)
+      (λ dropped. ap (λ (img : Storage). newest img p)
       (cut-same i y (with_disk old disk) (with_disk new disk) (gained i y old new g disk) keeps dropped)
       ∙ safe.same disk all keeps p ∙ sym (redone.without keeps p dropped))
       (cases_Bool (keeps i))
@@ -289,7 +289,7 @@ module _ (i : ℕ) (y : Rec) (old new : Tails) (g : Grows i y old new) (own : sp
         (λ kept. Newest.newest-none i y (cut keeps (with_disk old disk)) (cut keeps (with_disk new disk))
         (cut-appended i y (with_disk old disk) (with_disk new disk) (gained i y old new g disk) keeps kept) no_page p
         ∙ safe.same disk all keeps p)
-        (λ dropped. ap (λ (img : Image). newest img p)
+        (λ dropped. ap (λ (img : Storage). newest img p)
         (cut-same i y (with_disk old disk) (with_disk new disk) (gained i y old new g disk) keeps dropped)
         ∙ safe.same disk all keeps p)
         (cases_Bool (keeps i));
@@ -317,7 +317,7 @@ module _ (i : ℕ) (y : Rec) (old new : Tails) (g : Grows i y old new) (own : sp
       ⊎_elim
       (λ kept. by_list kept (filter (at p s) (stack y.txn (log old (home y.txn)))) refl)
       (λ dropped. subst (λ (v : Val). Recovered (cut keeps (with_disk new disk)) p s v) (sym (commits.without keeps dropped p s))
-      (subst (λ (img : Image). Recovered img p s (value keeps p s))
+      (subst (λ (img : Storage). Recovered img p s (value keeps p s))
       (sym (cut-same i y (with_disk old disk) (with_disk new disk) (gained i y old new g disk) keeps dropped))
       (gives disk all keeps p s)))
       (cases_Bool (keeps i))
@@ -339,7 +339,7 @@ cut-settled : (i : ℕ) (kept : Bool) (old new : Tails) → Settled i kept old n
     → cut keeps (with_disk new disk) ≡ cut (kept_at i kept keeps) (with_disk old disk)
 cut-settled i kept old new s disk keeps = ap (λ (l : ℕ → List Rec). record_of l) (fun_ext each)
   where
-    record_of : (ℕ → List Rec) → Image
+    record_of : (ℕ → List Rec) → Storage
     record_of l = record { logs = l; disk = disk }
 
     no_tail : (b : Bool) → cond {A = List Rec} b [] [] ≡ []
@@ -379,7 +379,7 @@ module _ (i : ℕ) (kept : Bool) (old new : Tails) (s : Settled i kept old new) 
         ap₂ (λ (a b : List Rec). a ++ b) (s.other_bases j ne) (s.other_tails j ne) ∙ safe.eight j le;
     numbered = numbered_settled version safe;
     order = λ keeps j t. subst (Tidy t)
-        (sym (ap (λ (img : Image). img.logs j)
+        (sym (ap (λ (img : Storage). img.logs j)
         (cut-settled i kept old new s (λ p. record { lsn = 0; number = p; slots = [] }) keeps)))
         (safe.order (kept_at i kept keeps) j t);
     pops = λ t. ⊎_elim
@@ -389,13 +389,13 @@ module _ (i : ℕ) (kept : Bool) (old new : Tails) (s : Settled i kept old new) 
         (cases_eq (home t) i);
     sound = λ disk all keeps. subst Sound (sym (cut-settled i kept old new s disk keeps))
         (safe.sound disk all (kept_at i kept keeps));
-    same = λ disk all keeps p. ap (λ (img : Image). newest img p) (cut-settled i kept old new s disk keeps)
+    same = λ disk all keeps p. ap (λ (img : Storage). newest img p) (cut-settled i kept old new s disk keeps)
         ∙ safe.same disk all (kept_at i kept keeps) p;
   }
 
   pub settled-gives : (value : Keeps → ℕ → ℕ → Val) → Gives old may value → Gives new may (λ keeps. value (kept_at i kept keeps))
   settled-gives value gives disk all keeps p q =
-      subst (λ (img : Image). Recovered img p q (value (kept_at i kept keeps) p q))
+      subst (λ (img : Storage). Recovered img p q (value (kept_at i kept keeps) p q))
       (sym (cut-settled i kept old new s disk keeps)) (gives disk all (kept_at i kept keeps) p q)
 
 -- a log is read from a later place
@@ -499,7 +499,7 @@ module _ (Holds : TxnId → ℕ → ℕ → Type 0) (one_holder : (t u : TxnId) 
   none_open tails t p s held u ne each = none_held u p s (λ h. ne (one_holder u t p s h held)) (stack u (log tails (home u))) each
 
 -- An opened image has no tails, and leaves itself alone.
-module _ (img : Image) (sound : Sound img) (eight : (j : ℕ) → 9 ≤ j → img.logs j ≡ [])
+module _ (img : Storage) (sound : Sound img) (eight : (j : ℕ) → 9 ≤ j → img.logs j ≡ [])
     (numbered : (j : ℕ) → Each (λ x. 0 < x.lsn) (img.logs j)) (order : (j : ℕ) (t : TxnId) → Tidy t (img.logs j)) where
   abbrev pub opened : Tails
   opened = record { base = img.logs; tail = λ j. [] }
@@ -513,7 +513,7 @@ module _ (img : Image) (sound : Sound img) (eight : (j : ℕ) → 9 ≤ j → im
   cut_opened disk all keeps =
       ap₂ (λ (l : ℕ → List Rec) (d : ℕ → Page). record_of l d) (fun_ext (λ j. log_opened (keeps j) j)) (fun_ext all)
     where
-      record_of : (ℕ → List Rec) → (ℕ → Page) → Image
+      record_of : (ℕ → List Rec) → (ℕ → Page) → Storage
       record_of l d = record { logs = l; disk = d }
 
   pub opening-safe : IsSafe opened (λ p x. x ≡ img.disk p) (λ keeps p. newest img p)
@@ -523,10 +523,10 @@ module _ (img : Image) (sound : Sound img) (eight : (j : ℕ) → 9 ≤ j → im
     order = λ keeps j t. subst (Tidy t) (sym (log_opened (keeps j) j)) (order j t);
     pops = λ t. tt;
     sound = λ disk all keeps. subst Sound (sym (cut_opened disk all keeps)) sound;
-    same = λ disk all keeps p. ap (λ (i : Image). newest i p) (cut_opened disk all keeps);
+    same = λ disk all keeps p. ap (λ (i : Storage). newest i p) (cut_opened disk all keeps);
   }
 
   pub opening-gives : (value : ℕ → ℕ → Val) → ((p s : ℕ) → Recovered img p s (value p s))
       → Gives opened (λ p x. x ≡ img.disk p) (λ keeps. value)
   opening-gives value gives disk all keeps p s =
-      subst (λ (i : Image). Recovered i p s (value p s)) (sym (cut_opened disk all keeps)) (gives p s)
+      subst (λ (i : Storage). Recovered i p s (value p s)) (sym (cut_opened disk all keeps)) (gives p s)

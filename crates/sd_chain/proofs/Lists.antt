@@ -3,7 +3,7 @@ use Rattle.std.proofs.Common.{◌≡◌, ℕ, zero, suc, ◌<◌, Bool, true, fa
 use Rattle.std.specs.Prelude.{filter}
 use Rattle.sd_logrec.specs.View.{Rec}
 use Rattle.sd_chain.specs.Records.{Each}
-use Rattle.sd_chain.specs.Image.{inserted, sorted, all_of}
+use Rattle.sd_chain.specs.Storage.{inserted, sorted, all_of}
 
 pub Each-append : {A : Type 0} (P : A → Type 0) (xs ys : List A) → Each P xs → Each P ys → Each P (xs ++ ys)
 Each-append P [] ys a b = b

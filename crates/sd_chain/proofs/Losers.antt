@@ -7,7 +7,7 @@ use Rattle.sd_base.specs.Ids.{same_txn}
 use Rattle.sd_logrec.specs.View.{Rec}
 use Rattle.sd_chain.specs.Records.{Each, home, IsOpen, stack}
 use Rattle.sd_chain.specs.Order.{speaks, of_txn}
-use Rattle.sd_chain.specs.Image.{Image, Sound, Recovered, Open, opens}
+use Rattle.sd_chain.specs.Storage.{Storage, Sound, Recovered, Open, opens}
 use Rattle.sd_chain.specs.Undoing.{Member, Apart}
 use Rattle.sd_chain.specs.Checks.{open_in}
 use Rattle.sd_chain.specs.Laws.{AreOpen}
@@ -99,7 +99,7 @@ next n = omega arith
 insts-once : Once insts
 insts-once = once-rising 0 insts (next 0, (next 1, (next 2, (next 3, (next 4, (next 5, (next 6, (next 7, tt))))))))
 
-module _ (img : Image) (o : OwnLogs img) where
+module _ (img : Storage) (o : OwnLogs img) where
   of_log : (j : ℕ) (t : TxnId) → Member t (open_in (img.logs j)) → home t ≡ j
   of_log j t m = named j t (img.logs j) (o.own j) (open_in-is t (img.logs j) m).1
 

@@ -2,9 +2,9 @@
 use Rattle.std.proofs.Common.{ℕ}
 use Rattle.sd_page.specs.Page.{Page}
 use Rattle.sd_chain.specs.Records.{Val}
-use Rattle.sd_chain.specs.Image.{Image}
+use Rattle.sd_chain.specs.Storage.{Storage}
 use Rattle.sd_chain.specs.Images.{Tails, Keeps, IsSafe, Gives, Allowed}
-use Rattle.sd_chain.specs.Crashes.{Leaves}
+use Rattle.sd_chain.specs.Crashes.{CrashLeaves}
 use Rattle.sd_chain.specs.Laws.{Narrows}
 
 module _ (wide may : ℕ → Page → Type 0) (narrows : Narrows wide may) where
@@ -28,5 +28,5 @@ module _ (wide may : ℕ → Page → Type 0) (narrows : Narrows wide may) where
   narrowed-gives tails value gives disk a keeps p s = gives disk (allowed-wide disk a) keeps p s
 
   -- what this one leaves the wider one may leave
-  pub narrowed-leaves : (tails : Tails) (img : Image) → Leaves tails may img → Leaves tails wide img
+  pub narrowed-leaves : (tails : Tails) (img : Storage) → CrashLeaves tails may img → CrashLeaves tails wide img
   narrowed-leaves tails img l = record { logs = l.logs; disks = allowed-wide img.disk l.disks }

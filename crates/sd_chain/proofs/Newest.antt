@@ -5,7 +5,7 @@ use Rattle.sd_logrec.specs.View.{Rec}
 use Rattle.sd_chain.specs.Records.{of_page, of_rid, at, changes}
 use Rattle.sd_page.specs.Page.{Page}
 use Rattle.sd_chain.specs.Pages.{value, redo, replay, FitAll, FitsKind}
-use Rattle.sd_chain.specs.Image.{Image, chain, newest, now, HasPlace}
+use Rattle.sd_chain.specs.Storage.{Storage, chain, newest, now, HasPlace}
 use Rattle.sd_chain.specs.Changes.{Appended, IsAbovePage}
 use Rattle.sd_chain.proofs.Chains.{chain-other, chain-push, replay-append, replay_rises, FitAll-append}
 use Rattle.sd_chain.proofs.Slots.{value-write_same, value-write_other, length-write, capacity-write}
@@ -42,7 +42,7 @@ of_page_ne p x ne = let e : eqb x.page p ≡ false = ne_eqb x.page p (λ e. ne (
 of_page_none : (p : ℕ) (x : Rec) → changes x.kind ≡ false → of_page p x ≡ false
 of_page_none p x k = rw k refl
 
-module _ (i : ℕ) (y : Rec) (old new : Image) (app : Appended i y old new) where
+module _ (i : ℕ) (y : Rec) (old new : Storage) (app : Appended i y old new) where
   newest_kept : (p : ℕ) → of_page p y ≡ false → newest new p ≡ newest old p
   unfolding newest
   newest_kept p other =

@@ -6,7 +6,7 @@ use Rattle.sd_base.specs.declared.ids.TxnId.{TxnId}
 use Rattle.sd_base.specs.Ids.{same_txn}
 use Rattle.sd_chain.specs.Records.{ends, Each, home, stack, step, stack_from, moved, rest}
 use Rattle.sd_logrec.specs.View.Kind.{Update, Clr, Commit, End, Plain}
-use Rattle.sd_chain.specs.Image.{Image, opens, Open}
+use Rattle.sd_chain.specs.Storage.{Storage, opens, Open}
 use Rattle.sd_chain.specs.Changes.{Appended}
 use Rattle.sd_chain.proofs.Lists.{Each-append, Each-front}
 use Rattle.sd_chain.proofs.Stacks.{stack-push, step-other, step-own}
@@ -36,7 +36,7 @@ pub Each-stack : (P : Rec → Type 0) (t : TxnId) (log : List Rec) → Each (λ 
     → Each P (stack t log)
 Each-stack P t log b = Each-stack_from P t [] log tt b
 
-module _ (i : ℕ) (y : Rec) (old new : Image) (app : Appended i y old new) where
+module _ (i : ℕ) (y : Rec) (old new : Storage) (app : Appended i y old new) where
   pub opens-other : (t : TxnId) → t ≢ y.txn → opens new t ≡ opens old t
   opens-other t ne = ⊎_elim
       (λ e. ap (λ (k : ℕ). stack t (new.logs k)) e ∙ ap (stack t) app.here ∙ stack-push t (old.logs i) y

@@ -8,11 +8,11 @@ use Rattle.sd_chain.specs.Records.{Val, of_page, of_rid, at, Each, home, stack, 
 use Rattle.sd_base.specs.Values.{size}
 use Rattle.sd_page.specs.Page.{Page}
 use Rattle.sd_chain.specs.Pages.{value, capacity, replay, FitAll}
-use Rattle.sd_chain.specs.Image.{Image, chain, newest, now, opens, Open, HasPlace, Linked, Alone, Sound, Recovered}
+use Rattle.sd_chain.specs.Storage.{Storage, chain, newest, now, opens, Open, HasPlace, Linked, Alone, Sound, Recovered}
 use Rattle.sd_chain.specs.Changes.{Written}
 use Rattle.sd_chain.proofs.Lists.{Each-weaker}
 use Rattle.sd_chain.proofs.Capacities.{newest-within}
-use Rattle.sd_chain.specs.Image.{sorted}
+use Rattle.sd_chain.specs.Storage.{sorted}
 use Rattle.sd_chain.proofs.Lists.{all_of-same}
 use Rattle.sd_chain.proofs.Chains.{replay_rises}
 use Rattle.sd_chain.proofs.Apart.{Recovered-same}
@@ -26,7 +26,7 @@ replay_low floor page (x ∷ xs) a =
     let ih = replay_low floor page xs a.1 in
     rw is (ih.0, ((λ lt. absurd (omega (arith, a.0, lt))), ih.1))
 
-module _ (p : ℕ) (old new : Image) (w : Written p old new) (sound : Sound old) where
+module _ (p : ℕ) (old new : Storage) (w : Written p old new) (sound : Sound old) where
   chain_same : (q : ℕ) → chain new q ≡ chain old q
   unfolding chain
   chain_same q = ap (λ (l : List Rec). sorted (filter (of_page q) l)) (all_of-same old.logs new.logs 9 (λ j lt. w.logs j))

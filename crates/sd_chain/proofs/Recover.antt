@@ -6,7 +6,7 @@ use Rattle.sd_logrec.specs.View.{Rec}
 use Rattle.sd_base.specs.declared.ids.TxnId.{TxnId}
 use Rattle.sd_chain.specs.Records.{Val, at, Each}
 use Rattle.sd_chain.specs.Undoing.{undo_one, undo_all, EachFound, stacks_of, Member, Apart}
-use Rattle.sd_chain.specs.Image.{Image, now, opens, Open, Linked, undone, Sound, Recovered}
+use Rattle.sd_chain.specs.Storage.{Storage, now, opens, Open, Linked, undone, Sound, Recovered}
 use Rattle.sd_chain.proofs.Lists.{filter-cons, filter-skip}
 use Rattle.sd_chain.proofs.Newest.{at_is, at_from}
 use Rattle.std.proofs.Common.{append-nil}
@@ -60,7 +60,7 @@ undo_all-undone f (x ∷ xs) p s = undo_all-undone (undo_one f x) xs p s ∙ ⊎
     ∙ sym (ap (undone (f p s)) (filter-skip (at p s) x xs is)))
     (cases_Bool (at p s x))
 
-module _ (img : Image) (sound : Sound img) (p s : ℕ) where
+module _ (img : Storage) (sound : Sound img) (p s : ℕ) where
   none_in : (t : TxnId) → Open img t → filter (at p s) (opens img t) ≢ [] → (ts : List TxnId) → Each (Open img) ts
       → Each (λ u. t ≢ u) ts → filter (at p s) (stacks_of img ts) ≡ []
   none_in t o some [] a b = refl
@@ -121,7 +121,7 @@ module _ (img : Image) (sound : Sound img) (p s : ℕ) where
       (one_has ts a b)
 
 -- In a sound image each of them is found as it left its place, so a record that isn't shows that the image isn't sound.
-pub found_all : (img : Image) → Sound img → (ts : List TxnId) → Each (Open img) ts → Apart ts
+pub found_all : (img : Storage) → Sound img → (ts : List TxnId) → Each (Open img) ts → Apart ts
     → EachFound (now img) (stacks_of img ts)
 found_all img sound ts a b = linked_found (now img) (stacks_of img ts) (λ p s. ⊎_elim
     (λ r. subst (Linked (now img p s)) (sym r.3) ((sound.stacks r.0 r.1).linked p s))

@@ -10,7 +10,7 @@ use Rattle.sd_logrec.specs.View.Kind.{Update, Clr, Commit, End, Plain}
 use Rattle.sd_base.specs.Values.{size}
 use Rattle.sd_page.specs.Page.{Page}
 use Rattle.sd_chain.specs.Pages.{value, capacity}
-use Rattle.sd_chain.specs.Image.{Image, newest, now, opens, Open, HasPlace, Linked, undone, Alone, StackFits, Sound, Recovered}
+use Rattle.sd_chain.specs.Storage.{Storage, newest, now, opens, Open, HasPlace, Linked, undone, Alone, StackFits, Sound, Recovered}
 use Rattle.sd_chain.specs.Changes.{Appended}
 use Rattle.sd_chain.proofs.Lists.{Each-back, Each-weaker}
 use Rattle.sd_chain.proofs.Newest
@@ -28,7 +28,7 @@ moved_none Commit x stk e = refl
 moved_none End x stk e = refl
 moved_none Plain x stk e = refl
 
-module _ (i : ℕ) (y : Rec) (old new : Image) (app : Appended i y old new) (no_page : changes y.kind ≡ false) where
+module _ (i : ℕ) (y : Rec) (old new : Storage) (app : Appended i y old new) (no_page : changes y.kind ≡ false) where
   now_same : (p s : ℕ) → now new p s ≡ now old p s
   now_same p s = ap (λ (q : Page). value q.slots s) (Newest.newest-none i y old new app no_page p)
 

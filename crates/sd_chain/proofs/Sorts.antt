@@ -10,7 +10,7 @@ use Rattle.std.proofs.lemmas.List.Sums.{sum_by-cons}
 use Rattle.sd_chain.proofs.Above.{Each-sorted_back, Each-filter_back}
 use Rattle.std.proofs.lemmas.List.Sorted.{sum_by-IsPermutation, All-permutation}
 use Rattle.std.proofs.lemmas.List.Elements.{All-nil, All-cons, All-head, All-tail}
-use Rattle.sd_chain.specs.Image.{sorted, inserted}
+use Rattle.sd_chain.specs.Storage.{sorted, inserted}
 
 abbrev pub Rising : List Rec → Type 0
 Rising [] = Unit {0}

@@ -42,7 +42,7 @@ numbered : (inst : ℕ) (chosen : Bool) (m : Master) (past : Past) (rs : List Re
 numbered inst chosen m past [] follow = tt
 numbered inst chosen m past (r ∷ rs) follow = (let h = follow.0 in omega (arith, h), numbered inst chosen m (after_record past r) rs follow.3)
 
-module _ (devices : rig.Image) (sound : DevicesAreSound devices) where
+module _ (devices : rig.DeviceImages) (sound : DevicesAreSound devices) where
   -- a log inside, or none
   inside : (P : List Rec → Type 0) (j : ℕ) → P [] → (1 ≤ j → j ≤ 8 → P (map flat (records_in (devices j)))) → P (log_of devices j)
   inside P j none some = ⊎_elim

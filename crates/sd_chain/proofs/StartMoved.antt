@@ -10,10 +10,10 @@ use Rattle.sd_base.specs.Values.{size}
 use Rattle.sd_page.specs.Page.{Page}
 use Rattle.sd_chain.specs.Pages.{value, capacity, redo, replay, FitAll}
 use Rattle.sd_chain.specs.Order.{of_txn}
-use Rattle.sd_chain.specs.Image.{Image, chain, newest, now, opens, Open, HasPlace, Linked, undone, Alone, StackFits, Sound, Recovered}
+use Rattle.sd_chain.specs.Storage.{Storage, chain, newest, now, opens, Open, HasPlace, Linked, undone, Alone, StackFits, Sound, Recovered}
 use Rattle.sd_chain.proofs.Lists.{Each-append, Each-back, Each-weaker, filter-cons, filter-skip}
 use Rattle.std.proofs.lemmas.List.Elements.{filter-append}
-use Rattle.sd_chain.specs.Image.{all_of, inserted, sorted}
+use Rattle.sd_chain.specs.Storage.{all_of, inserted, sorted}
 use Rattle.sd_chain.specs.Changes.{StartMoved}
 use Rattle.sd_chain.proofs.Stacks.{stack_from-append}
 use Rattle.sd_chain.proofs.Whose.{step-off, ends-off}
@@ -126,7 +126,7 @@ pub stack_from-none : (t : TxnId) (stk xs : List Rec) → Each (λ x. of_txn t x
 stack_from-none t stk [] a = refl
 stack_from-none t stk (x ∷ xs) a = stack_from-none t (step t stk x) xs a.1 ∙ step-off t stk x a.0
 
-module _ (i : ℕ) (gone : List Rec) (old new : Image) (m : StartMoved i gone old new) where
+module _ (i : ℕ) (gone : List Rec) (old new : Storage) (m : StartMoved i gone old new) where
   same_high : (p j : ℕ) → of_high (old.disk p).lsn p (new.logs j) ≡ of_high (old.disk p).lsn p (old.logs j)
   same_high p j = ⊎_elim
       (λ e. let f = (old.disk p).lsn in

@@ -11,7 +11,7 @@ use Rattle.std.specs.Prelude.{IsPermutation}
 use Rattle.std.specs.List.Sorted.{IsNonDecreasingBy}
 use Rattle.std.proofs.Common.{suc, ltb-true}
 use Rattle.std.proofs.lemmas.List.Sorted.{IsPermutation-sym, sum_by-IsPermutation}
-use Rattle.sd_chain.specs.Image.{sorted}
+use Rattle.sd_chain.specs.Storage.{sorted}
 use Rattle.sd_chain.proofs.Sorts.{Rising, Slow, rising_of, few_of, one, total_is, total-sorted, high, sort_is, Each-from_all}
 use Rattle.sd_chain.proofs.StartMoved.{fit_to_high, fit_from_high, replay_high}
 

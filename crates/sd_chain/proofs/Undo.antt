@@ -7,7 +7,7 @@ use Rattle.sd_base.specs.declared.ids.TxnId.{TxnId}
 use Rattle.sd_chain.specs.Records.{Val, at, changes, ends, Each, home, moved, rest}
 use Rattle.sd_base.specs.Values.{size}
 use Rattle.sd_chain.specs.Pages.{capacity, FitsKind}
-use Rattle.sd_chain.specs.Image.{Image, newest, now, opens, Open, HasPlace, Linked, undone, Alone, StackFits, Sound, Recovered}
+use Rattle.sd_chain.specs.Storage.{Storage, newest, now, opens, Open, HasPlace, Linked, undone, Alone, StackFits, Sound, Recovered}
 use Rattle.sd_chain.specs.Changes.{Appended, CanUndo}
 use Rattle.sd_chain.proofs.Lists.{Each-weaker, filter-cons, filter-skip}
 use Rattle.sd_chain.proofs.Newest.{at_is, at_from}
@@ -17,7 +17,7 @@ use Rattle.sd_chain.proofs.Apart.{Recovered-same, apart, nil_or}
 use Rattle.sd_chain.proofs.Change
 use Rattle.sd_base.proofs.SameIds.{cases_txn}
 
-module _ (i : ℕ) (y top : Rec) (below : List Rec) (old new : Image) (app : Appended i y old new) (own : home y.txn ≡ i)
+module _ (i : ℕ) (y top : Rec) (below : List Rec) (old new : Storage) (app : Appended i y old new) (own : home y.txn ≡ i)
     (can : CanUndo old y top below) (sound : Sound old) where
   changes_it : changes y.kind ≡ true
   changes_it = ap changes can.kind

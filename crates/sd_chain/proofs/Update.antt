@@ -8,7 +8,7 @@ use Rattle.sd_chain.specs.Records.{Val, at, changes, ends, Each, home, moved}
 use Rattle.sd_base.specs.Values.{size}
 use Rattle.sd_page.specs.Page.{Page, Slot}
 use Rattle.sd_chain.specs.Pages.{value, capacity, write, FitsKind}
-use Rattle.sd_chain.specs.Image.{Image, newest, now, opens, Open, HasPlace, Linked, undone, Alone, StackFits, Sound, Recovered}
+use Rattle.sd_chain.specs.Storage.{Storage, newest, now, opens, Open, HasPlace, Linked, undone, Alone, StackFits, Sound, Recovered}
 use Rattle.sd_chain.specs.Changes.{Appended, CanUpdate}
 use Rattle.sd_chain.proofs.Lists.{Each-weaker, filter-cons, filter-skip}
 use Rattle.sd_chain.proofs.Slots.{length-write, capacity-write}
@@ -25,7 +25,7 @@ value_past [] s le = refl
 value_past (x ∷ xs) zero le = absurd (omega arith)
 value_past (x ∷ xs) (suc s) le = value_past xs s (omega arith)
 
-module _ (i : ℕ) (y : Rec) (old new : Image) (app : Appended i y old new) (own : home y.txn ≡ i) (can : CanUpdate old y)
+module _ (i : ℕ) (y : Rec) (old new : Storage) (app : Appended i y old new) (own : home y.txn ≡ i) (can : CanUpdate old y)
     (sound : Sound old) where
   changes_it : changes y.kind ≡ true
   changes_it = ap changes can.kind

@@ -14,7 +14,7 @@ use Rattle.sd_base.specs.Values.{size}
 use Rattle.sd_rig.specs.Devices as rig
 use Rattle.sd_chain.specs.Records.{ends, stack, Each}
 use Rattle.sd_chain.specs.Order.{Tidy, speaks}
-use Rattle.sd_chain.specs.Image.{Sound}
+use Rattle.sd_chain.specs.Storage.{Sound}
 use Rattle.sd_chain.specs.Bytes.{log_of, stable, twin_at}
 
 -- the kept records of a log, each with its place; none of a log that breaks the format
@@ -178,7 +178,7 @@ reserve log = sum_by (reserve_for log) (open_in log)
 abbrev pub owed : List Rec → ℕ
 owed log = sum_by (λ t. 1 + length (stack t log)) (open_in log)
 
-abbrev pub owed_by_all : rig.Image → ℕ
+abbrev pub owed_by_all : rig.DeviceImages → ℕ
 owed_by_all devices = sum_by (λ j. owed (log_of devices j)) (1 ∷ 2 ∷ 3 ∷ 4 ∷ 5 ∷ 6 ∷ 7 ∷ 8 ∷ [])
 
 -- where the next gate stands
@@ -187,16 +187,16 @@ gate_of (Whole groups gate) = gate
 gate_of (BadGroup at) = at
 gate_of (NoRecord at) = at
 
-abbrev pub RoomIsLeft : ℕ → rig.Image → Type 0
+abbrev pub RoomIsLeft : ℕ → rig.DeviceImages → Type 0
 RoomIsLeft j devices = gate_of (kept (devices j)) + reserve (log_of devices j) + 1 ≤ 1048576
 
 -- No LSN is so great that the records owed would pass the end.
-pub record LsnsAreLeft (devices : rig.Image) : Type 0 where
+pub record LsnsAreLeft (devices : rig.DeviceImages) : Type 0 where
   pub logs : (j : ℕ) → Each (λ x. x.lsn + owed_by_all devices < 2 ^ 62) (log_of devices j)
   pub pages : (p : ℕ) → p < 1024 → ((stable devices).disk p).lsn + owed_by_all devices < 2 ^ 62
 
 -- all of them
-pub record DevicesAreSound (devices : rig.Image) : Type 0 where
+pub record DevicesAreSound (devices : rig.DeviceImages) : Type 0 where
   pub masters : (j : ℕ) → 1 ≤ j → j ≤ 8 → MasterIsSound (devices j)
   pub groups : (j : ℕ) → 1 ≤ j → j ≤ 8 → GroupsAreSound j (devices j)
   pub txns : (j : ℕ) → 1 ≤ j → j ≤ 8 → TxnsAreSound (devices j)

@@ -6,7 +6,7 @@ use Rattle.sd_chain.specs.Records.{of_page, at, Each, home, stack, step, IsOpen}
 use Rattle.sd_logrec.specs.View.Kind.{Update, Clr}
 use Rattle.sd_page.specs.Page.{Page}
 use Rattle.sd_chain.specs.Pages.{FitsKind}
-use Rattle.sd_chain.specs.Image.{Image, newest, opens, Open, Sound}
+use Rattle.sd_chain.specs.Storage.{Storage, newest, opens, Open, Sound}
 use Rattle.sd_chain.specs.Changes.{IsAbovePage, CanUndo}
 
 -- what is forced, what isn't, and the pages
@@ -16,11 +16,11 @@ pub record Logs : Type 0 where
   pub disk : ℕ → Page
 
 -- the image that has the tails of these logs
-abbrev pub cut : (ℕ → Bool) → Logs → Image
+abbrev pub cut : (ℕ → Bool) → Logs → Storage
 cut keeps logs = record { logs = λ j. logs.base j ++ cond (keeps j) (logs.tail j) []; disk = logs.disk }
 
 -- the image that has all tails
-abbrev pub whole : Logs → Image
+abbrev pub whole : Logs → Storage
 whole logs = cut (λ j. true) logs
 
 -- whichever tails a crash leaves

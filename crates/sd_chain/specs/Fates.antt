@@ -7,7 +7,7 @@ use Rattle.sd_logrec.specs.View.{Rec, Kind}
 use Rattle.sd_logrec.specs.View.Kind.{Update, Clr, Commit, End, Plain}
 use Rattle.sd_chain.specs.Records.{Each, IsOpen, home}
 use Rattle.sd_chain.specs.Order.{speaks, of_txn, MayFollow}
-use Rattle.sd_chain.specs.Image.{Image}
+use Rattle.sd_chain.specs.Storage.{Storage}
 
 pub data Fate : Type 0 where
   -- no record of it is kept
@@ -53,7 +53,7 @@ abbrev pub fate : TxnId → List Rec → Fate
 fate t log = fate_by (list_any (commits t) log) (list_any (finishes t) log) (list_any (of_txn t) log)
 
 -- by the log of its own instance
-abbrev pub fate_in : Image → TxnId → Fate
+abbrev pub fate_in : Storage → TxnId → Fate
 fate_in img t = fate t (img.logs (home t))
 
 -- unknown is one of which no record is kept

@@ -15,7 +15,7 @@ use Rattle.sd_rig.specs.Devices as rig
 use Rattle.sd_chain.specs.Records.{IsOpen, ends}
 use Rattle.sd_chain.specs.Pages.{FitAll, FitsPage, replay}
 use Rattle.sd_chain.specs.Order.{Sofar, UndoesTop, after_all, first_prev, none_yet, of_txn, speaks}
-use Rattle.sd_chain.specs.Image.{Open, StackFits, chain, opens}
+use Rattle.sd_chain.specs.Storage.{Open, StackFits, chain, opens}
 use Rattle.sd_chain.specs.Bytes.{stable, twin_at}
 use Rattle.sd_chain.specs.Checks.{Follow, GroupsAreSound, IsPageSlot, IsSlot, IsWhole, LsnsAreLeft, MasterIsSound, MayCome, Past, RoomIsLeft, StartFits, TwinIsSound, TxnsAreSound, after_record, gate_of, is_end_check, lsn_of, past_of, placed_of, records_in}
 
@@ -125,13 +125,13 @@ LogFailsAt inst bytes at =
     ⊎ (MasterIsSound bytes × GroupsAreSound inst bytes × ((place : ℕ) × TxnsFailAt bytes place × (at ≡ 130 + place))))
 
 -- Of the logs the first that isn't sound.
-pub record FailsInLog (devices : rig.Image) (dev at : ℕ) : Type 0 where
+pub record FailsInLog (devices : rig.DeviceImages) (dev at : ℕ) : Type 0 where
   pub some : 1 ≤ dev
   pub few : dev ≤ 8
   pub before : (j : ℕ) → 1 ≤ j → j < dev → LogIsSound j (devices j)
   pub here : LogFailsAt dev (devices dev) at
 
-abbrev pub LogsAreSound : rig.Image → Type 0
+abbrev pub LogsAreSound : rig.DeviceImages → Type 0
 LogsAreSound devices = (j : ℕ) → 1 ≤ j → j ≤ 8 → LogIsSound j (devices j)
 
 -- 4: the twins of pages
@@ -147,27 +147,27 @@ TwinFailsAt p bytes at =
     ⊎ ((FirstFails p bytes → ⊥) × (IsPageSlot p (twin_at p + 1025) bytes → ⊥) × (at ≡ twin_at p + 1025))
 
 -- Of the twins the first that isn't sound.
-pub record FailsInTwin (devices : rig.Image) (dev at : ℕ) : Type 0 where
+pub record FailsInTwin (devices : rig.DeviceImages) (dev at : ℕ) : Type 0 where
   pub data_device : dev ≡ 0
   pub page : ℕ
   pub few : page < 1024
   pub before : (p : ℕ) → p < page → TwinIsSound p (devices 0)
   pub here : TwinFailsAt page (devices 0) at
 
-abbrev pub TwinsAreSound : rig.Image → Type 0
+abbrev pub TwinsAreSound : rig.DeviceImages → Type 0
 TwinsAreSound devices = (p : ℕ) → p < 1024 → TwinIsSound p (devices 0)
 
 -- 5: the chains of pages
 
-abbrev pub disk_of : rig.Image → ℕ → Page
+abbrev pub disk_of : rig.DeviceImages → ℕ → Page
 disk_of devices p = (stable devices).disk p
 
 -- each record of the page above its disk image fits the page that it finds
-abbrev pub ChainIsSound : rig.Image → ℕ → Type 0
+abbrev pub ChainIsSound : rig.DeviceImages → ℕ → Type 0
 ChainIsSound devices p = FitAll (disk_of devices p).lsn (disk_of devices p) (chain (stable devices) p)
 
 -- The first record of the chain, by LSN and device, that doesn't fit the page that it finds stands at this place.
-pub record ChainFailsAt (devices : rig.Image) (p dev at : ℕ) : Type 0 where
+pub record ChainFailsAt (devices : rig.DeviceImages) (p dev at : ℕ) : Type 0 where
   pub index : ℕ
   pub place : ℕ
   pub rec : Record
@@ -183,19 +183,19 @@ pub record ChainFailsAt (devices : rig.Image) (p dev at : ℕ) : Type 0 where
   pub misfit : FitsPage (replay (disk_of devices p).lsn (disk_of devices p) before) (flat rec) → ⊥
 
 -- Of the pages the first whose chain isn't sound.
-pub record FailsInChain (devices : rig.Image) (dev at : ℕ) : Type 0 where
+pub record FailsInChain (devices : rig.DeviceImages) (dev at : ℕ) : Type 0 where
   pub page : ℕ
   pub few : page < 1024
   pub before : (p : ℕ) → p < page → ChainIsSound devices p
   pub here : ChainFailsAt devices page dev at
 
-abbrev pub ChainsAreSound : rig.Image → Type 0
+abbrev pub ChainsAreSound : rig.DeviceImages → Type 0
 ChainsAreSound devices = (p : ℕ) → p < 1024 → ChainIsSound devices p
 
 -- 6: the stacks of transactions
 
 -- The lowest record of the transaction's stack stands at this place of its own log.
-pub record StandsLowest (devices : rig.Image) (t : TxnId) (at : ℕ) : Type 0 where
+pub record StandsLowest (devices : rig.DeviceImages) (t : TxnId) (at : ℕ) : Type 0 where
   pub index : ℕ
   pub place : ℕ
   pub rec : Record
@@ -205,7 +205,7 @@ pub record StandsLowest (devices : rig.Image) (t : TxnId) (at : ℕ) : Type 0 wh
   pub parts : opens (stable devices) t ≡ above ++ flat rec ∷ []
 
 -- Of the open transactions the first whose stack isn't as it was left.
-pub record FailsInStack (devices : rig.Image) (dev at : ℕ) : Type 0 where
+pub record FailsInStack (devices : rig.DeviceImages) (dev at : ℕ) : Type 0 where
   pub txn : TxnId
   pub home : dev ≡ txn.inst
   pub open_ : Open (stable devices) txn
@@ -213,18 +213,18 @@ pub record FailsInStack (devices : rig.Image) (dev at : ℕ) : Type 0 where
   pub wrong : StackFits (stable devices) txn → ⊥
   pub lowest : StandsLowest devices txn at
 
-abbrev pub StacksAreSound : rig.Image → Type 0
+abbrev pub StacksAreSound : rig.DeviceImages → Type 0
 StacksAreSound devices = (t : TxnId) → Open (stable devices) t → StackFits (stable devices) t
 
 -- 7: room for what ends the open transactions
 
 -- The log has room, and LSNs are left in all.
-pub record EndsFit (j : ℕ) (devices : rig.Image) : Type 0 where
+pub record EndsFit (j : ℕ) (devices : rig.DeviceImages) : Type 0 where
   pub room : RoomIsLeft j devices
   pub lsns : LsnsAreLeft devices
 
 -- Of the logs the first that lacks it, at its next gate.
-pub record FailsInRoom (devices : rig.Image) (dev at : ℕ) : Type 0 where
+pub record FailsInRoom (devices : rig.DeviceImages) (dev at : ℕ) : Type 0 where
   pub some : 1 ≤ dev
   pub few : dev ≤ 8
   pub before : (j : ℕ) → 1 ≤ j → j < dev → EndsFit j devices
@@ -234,7 +234,7 @@ pub record FailsInRoom (devices : rig.Image) (dev at : ℕ) : Type 0 where
 -- all
 
 -- the first check that fails, and its least place
-abbrev pub FailsFirstAt : rig.Image → ℕ → ℕ → Type 0
+abbrev pub FailsFirstAt : rig.DeviceImages → ℕ → ℕ → Type 0
 FailsFirstAt devices dev at =
     FailsInLog devices dev at
     ⊎ ((LogsAreSound devices × FailsInTwin devices dev at)

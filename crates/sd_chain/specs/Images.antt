@@ -6,7 +6,7 @@ use Rattle.sd_chain.specs.Records.{Val, of_page, at, changes, Each, home, stack,
 use Rattle.sd_logrec.specs.View.Kind.{Update, Clr}
 use Rattle.sd_page.specs.Page.{Page}
 use Rattle.sd_chain.specs.Pages.{FitsKind, redo}
-use Rattle.sd_chain.specs.Image.{newest, Sound, Recovered}
+use Rattle.sd_chain.specs.Storage.{newest, Sound, Recovered}
 use Rattle.sd_chain.specs.Order.{of_txn, speaks, Tidy, MayFollow, after_all, none_yet}
 use Rattle.sd_chain.specs.Cuts.{Logs, cut, Pops}
 

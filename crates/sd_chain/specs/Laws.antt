@@ -6,18 +6,18 @@ use Rattle.std.specs.Prelude.{◌≡◌, ℕ, ◌≤◌, ◌<◌, Bool, false, t
 use Rattle.std.specs.List.Sorted.{IsNonDecreasingBy}
 use Rattle.sd_base.specs.declared.ids.TxnId.{TxnId}
 use Rattle.sd_logrec.specs.View.{Rec}
-use Rattle.sd_page.specs.Page.{Fits, Page}
+use Rattle.sd_page.specs.Page.{Page, PageFits}
 use Rattle.sd_rig.specs.Devices as rig
 use Rattle.sd_chain.specs.Undoing.{undo_all, stacks_of, EachFound, Member, Apart}
 use Rattle.sd_chain.specs.Records.{Val, at, of_page, changes, ends, Each, home, stack, IsOpen}
 use Rattle.sd_chain.specs.Pages.{FitAll, replay}
-use Rattle.sd_chain.specs.Image.{Image, Open, Sound, Recovered, newest, now, opens, sorted}
+use Rattle.sd_chain.specs.Storage.{Storage, Open, Sound, Recovered, newest, now, opens, sorted}
 use Rattle.sd_chain.specs.Order.{Tidy, speaks}
 use Rattle.sd_chain.specs.Bytes.{PutsTwin, ForcesLog, stable}
 use Rattle.sd_chain.specs.Checks.{DevicesAreSound}
 use Rattle.sd_chain.specs.Fates.{Fate, fate_in}
 use Rattle.sd_chain.specs.Losers.{OwnLogs, losers_in, table_in}
-use Rattle.sd_chain.specs.Crashes.{Leaves, StandsFor, DuringForce, DuringPut}
+use Rattle.sd_chain.specs.Crashes.{CrashLeaves, StandsFor, DuringForce, DuringPut}
 use Rattle.sd_chain.specs.Images.{Tails, Keeps, IsSafe, Gives, Allowed, Grows, Redone, Commits, Settled, Shortened, MayChange, MayUndo, MaySeal, all_kept, kept_at, log, or_written}
 
 -- each law below is over what a crash may leave of each page
@@ -25,15 +25,15 @@ abbrev pub May : Type 1
 May = ℕ → Page → Type 0
 
 -- what a crash may leave of each page right after an opening: what was read
-abbrev pub as_read : Image → ℕ → Page → Type 0
+abbrev pub as_read : Storage → ℕ → Page → Type 0
 as_read img p x = x ≡ img.disk p
 
 -- the logs of an image, without tails
-abbrev pub opened : Image → Tails
-opened img = record { base = img.logs; tail = λ j. [] }
+abbrev pub without_tails : Storage → Tails
+without_tails img = record { base = img.logs; tail = λ j. [] }
 
 -- an image from which a complex may be opened
-pub record Opens (img : Image) : Type 0 where
+pub record Opens (img : Storage) : Type 0 where
   pub sound : Sound img
   pub eight : (j : ℕ) → 9 ≤ j → img.logs j ≡ []
   pub numbered : (j : ℕ) → Each (λ x. 0 < x.lsn) (img.logs j)
@@ -41,15 +41,15 @@ pub record Opens (img : Image) : Type 0 where
 
 -- that of sound devices is one
 abbrev pub SoundOpens : Type 0
-SoundOpens = (devices : rig.Image) → DevicesAreSound devices → Opens (stable devices) × OwnLogs (stable devices)
+SoundOpens = (devices : rig.DeviceImages) → DevicesAreSound devices → Opens (stable devices) × OwnLogs (stable devices)
 
 -- opening
 abbrev pub OpeningIsSafe : Type 0
-OpeningIsSafe = (img : Image) → Opens img → IsSafe (opened img) (as_read img) (λ keeps. newest img)
+OpeningIsSafe = (img : Storage) → Opens img → IsSafe (without_tails img) (as_read img) (λ keeps. newest img)
 
 abbrev pub OpeningGives : Type 0
-OpeningGives = (img : Image) → Opens img → (value : ℕ → ℕ → Val) → ((p s : ℕ) → Recovered img p s (value p s))
-    → Gives (opened img) (as_read img) (λ keeps. value)
+OpeningGives = (img : Storage) → Opens img → (value : ℕ → ℕ → Val) → ((p s : ℕ) → Recovered img p s (value p s))
+    → Gives (without_tails img) (as_read img) (λ keeps. value)
 
 -- a record is appended to log i, that of its transaction's instance
 pub record Appends (i : ℕ) (y : Rec) (old new : Tails) : Type 0 where
@@ -135,7 +135,7 @@ ShorteningGives may = (i : ℕ) (gone : List Rec) (old new : Tails) → Shortene
 
 -- in a sound image recovery gives each record one value
 abbrev pub RecoveredIsOne : Type 0
-RecoveredIsOne = (img : Image) → Sound img → (p s : ℕ) (v w : Val) → Recovered img p s v → Recovered img p s w → v ≡ w
+RecoveredIsOne = (img : Storage) → Sound img → (p s : ℕ) (v w : Val) → Recovered img p s v → Recovered img p s w → v ≡ w
 
 -- records of a page that a sort brought into the order of their LSNs fit it exactly where the chain does, and replay to
 -- the same
@@ -149,19 +149,19 @@ MergedReplay = (floor : ℕ) (page : Page) (xs merged : List Rec) → IsPermutat
     → replay floor page merged ≡ replay floor page (sorted xs)
 
 -- these are the open transactions of an image, each once; those with nothing open may be left out
-pub record AreOpen (img : Image) (ts : List TxnId) : Type 0 where
+pub record AreOpen (img : Storage) (ts : List TxnId) : Type 0 where
   pub each : Each (Open img) ts
   pub once : Apart ts
   pub all : (t : TxnId) → Open img t → (opens img t ≡ []) ⊎ Member t ts
 
 -- undoing all that is open in the newest values gives what recovery gives
 abbrev pub UndoingRecovers : Type 0
-UndoingRecovers = (img : Image) → Sound img → (ts : List TxnId) → AreOpen img ts → (p s : ℕ)
+UndoingRecovers = (img : Storage) → Sound img → (ts : List TxnId) → AreOpen img ts → (p s : ℕ)
     → Recovered img p s (undo_all (now img) (stacks_of img ts) p s)
 
 -- and finds each record as it left its place
 abbrev pub UndoingFinds : Type 0
-UndoingFinds = (img : Image) → Sound img → (ts : List TxnId) → AreOpen img ts → EachFound (now img) (stacks_of img ts)
+UndoingFinds = (img : Storage) → Sound img → (ts : List TxnId) → AreOpen img ts → EachFound (now img) (stacks_of img ts)
 
 -- what may be left of each page, may be left by the wider one, too
 abbrev pub Narrows : May → May → Type 0
@@ -178,19 +178,19 @@ NarrowedGives wide may = Narrows wide may → (tails : Tails) (value : Keeps →
 
 -- and what this one leaves the wider one may leave
 abbrev pub NarrowedLeaves : May → May → Type 0
-NarrowedLeaves wide may = Narrows wide may → (tails : Tails) (img : Image) → Leaves tails may img → Leaves tails wide img
+NarrowedLeaves wide may = Narrows wide may → (tails : Tails) (img : Storage) → CrashLeaves tails may img → CrashLeaves tails wide img
 
 -- the listed ones are the open transactions
 abbrev pub LosersAreOpen : Type 0
-LosersAreOpen = (img : Image) → OwnLogs img → AreOpen img (losers_in img)
+LosersAreOpen = (img : Storage) → OwnLogs img → AreOpen img (losers_in img)
 
 -- they are those whose fate is open
 abbrev pub LosersHaveFateOpen : Type 0
-LosersHaveFateOpen = (img : Image) → OwnLogs img → (t : TxnId) → Member t (losers_in img) ↔ (fate_in img t ≡ Fate.Open)
+LosersHaveFateOpen = (img : Storage) → OwnLogs img → (t : TxnId) → Member t (losers_in img) ↔ (fate_in img t ≡ Fate.Open)
 
 -- and undoing all that they have open gives what recovery gives
 abbrev pub OpeningRecovers : Type 0
-OpeningRecovers = (img : Image) → OwnLogs img → Sound img → (p s : ℕ) → Recovered img p s (table_in img p s)
+OpeningRecovers = (img : Storage) → OwnLogs img → Sound img → (p s : ℕ) → Recovered img p s (table_in img p s)
 
 -- no two transactions hold one record
 abbrev pub OneHolder : (TxnId → ℕ → ℕ → Type 0) → Type 0
@@ -208,25 +208,25 @@ LocksKeepApart holds = OneHolder holds → (tails : Tails) → HoldsOpen holds t
 
 -- what a crash leaves of safe logs and pages stands for the table that belongs to it
 abbrev pub LeftStands : May → Type 0
-LeftStands may = (tails : Tails) (version : Keeps → ℕ → Page) (value : Keeps → ℕ → ℕ → Val) (img : Image)
-    → IsSafe tails may version → Gives tails may value → Leaves tails may img → StandsFor tails value img
+LeftStands may = (tails : Tails) (version : Keeps → ℕ → Page) (value : Keeps → ℕ → ℕ → Val) (img : Storage)
+    → IsSafe tails may version → Gives tails may value → CrashLeaves tails may img → StandsFor tails value img
 
 -- and so does what it leaves while a log is forced
 abbrev pub ForceLeaves : May → Type 0
-ForceLeaves may = (i : ℕ) (tails : Tails) (img : Image) → DuringForce i tails may img → Leaves tails may img
+ForceLeaves may = (i : ℕ) (tails : Tails) (img : Storage) → DuringForce i tails may img → CrashLeaves tails may img
 
 -- or while a page is written, whose new image may be left too
 abbrev pub PutLeaves : May → Type 0
-PutLeaves may = (p : ℕ) (page : Page) (tails : Tails) (img : Image) → DuringPut p page tails may img
-    → Leaves tails (or_written may p page) img
+PutLeaves may = (p : ℕ) (page : Page) (tails : Tails) (img : Storage) → DuringPut p page tails may img
+    → CrashLeaves tails (or_written may p page) img
 
 -- the same of devices, whose other bytes are as they might be left before: a twin that is put, and a log that is forced
 abbrev pub TwinIsPut : May → Type 0
-TwinIsPut may = (p : ℕ) (page : Page) (tails : Tails) (before after : rig.Image) → Fits page → Leaves tails may (stable before)
+TwinIsPut may = (p : ℕ) (page : Page) (tails : Tails) (before after : rig.DeviceImages) → PageFits page → CrashLeaves tails may (stable before)
     → PutsTwin p page before after
     → DuringPut p page tails may (stable after)
 
 abbrev pub LogIsForced : May → Type 0
-LogIsForced may = (i : ℕ) (tails : Tails) (before after : rig.Image) → i ≢ 0 → Leaves tails may (stable before)
+LogIsForced may = (i : ℕ) (tails : Tails) (before after : rig.DeviceImages) → i ≢ 0 → CrashLeaves tails may (stable before)
     → ForcesLog i tails before after
     → DuringForce i tails may (stable after)

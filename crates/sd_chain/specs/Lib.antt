@@ -1,6 +1,6 @@
 pub mod Records
 pub mod Pages
-pub mod Image
+pub mod Storage
 pub mod Bytes
 pub mod Checks
 pub mod Changes

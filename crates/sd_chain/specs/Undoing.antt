@@ -3,7 +3,7 @@ use Rattle.std.specs.Prelude.{◌≡◌, ◌≢◌, ◌⊎◌, ℕ, cond, List, 
 use Rattle.sd_base.specs.declared.ids.TxnId.{TxnId}
 use Rattle.sd_logrec.specs.View.{Rec}
 use Rattle.sd_chain.specs.Records.{Val, Each, at}
-use Rattle.sd_chain.specs.Image.{Image, opens}
+use Rattle.sd_chain.specs.Storage.{Storage, opens}
 
 -- the values with one record undone
 abbrev pub undo_one : (ℕ → ℕ → Val) → Rec → ℕ → ℕ → Val
@@ -20,7 +20,7 @@ EachFound f [] = Unit {0}
 EachFound f (x ∷ xs) = (f x.page x.slot ≡ x.after) × EachFound (undo_one f x) xs
 
 -- the stacks of these transactions, one after another
-abbrev pub stacks_of : Image → List TxnId → List Rec
+abbrev pub stacks_of : Storage → List TxnId → List Rec
 stacks_of img [] = []
 stacks_of img (t ∷ ts) = opens img t ++ stacks_of img ts
 

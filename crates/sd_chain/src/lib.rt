@@ -1,7 +1,7 @@
 //! What the devices of a complex stand for: chains of records, newest pages, and the table that recovery gives.
 //!
 //! Meaning: `stable` is what the devices' bytes keep (`specs/Bytes.antt`); `newest` and `Recovered` say what that stands
-//! for, `Sound` when it does (`specs/Image.antt`); `IsSafe` says it of each image that a crash may leave
+//! for, `Sound` when it does (`specs/Storage.antt`); `IsSafe` says it of each image that a crash may leave
 //! (`specs/Images.antt`).
 //! Keeps: nothing.
 //! Promises: each event that its premises allow leaves all these images sound, and recovery gives what it should

@@ -3,7 +3,7 @@ use Rattle.std.proofs.Common.{◌≡◌, ◌⊎◌, inl, inr, ⊎_elim, ℕ, tru
 use Rattle.sd_logrec.specs.View.{Rec}
 use Rattle.sd_page.specs.Page.{Page}
 use Rattle.sd_chain.specs.Laws.{May}
-use Rattle.sd_pagelock.specs.Places.{Entry}
+use Rattle.sd_pagelock.specs.Places.{PageEntry}
 use Rattle.sd_pagelock.specs.Rows.{dirtied}
 use Rattle.sd_pagelock.proofs.Members.{not_both}
 use Rattle.sd_pagelock.proofs.Uses
@@ -33,11 +33,11 @@ module _ {may may' : May} (a j : ℕ) (image : Page) (y : Rec) (b : Base may) (b
   where_now p = ⊎_elim (λ q. inl q)
       (by_seat b' (d'.entry p) j (Quiet p (b'.tails.tail j) ⊎ (d'.entry p ≡ dirtied a))
       (λ settled is. ⊎_elim
-      (λ e. inr (is ∙ ap (λ (k : ℕ). Entry.Excl k true) (sym e)))
+      (λ e. inr (is ∙ ap (λ (k : ℕ). PageEntry.Excl k true) (sym e)))
       (λ off. not_both (undo-coherent.live j p (Uses.excl-uses j true (d'.entry p) is)) (u.change.stays.active j ∙ off))
       u.whose)
       (λ loose lost. not_both loose (u.change.stays.loose j u.change.low ∙ put_here j false b.loose j refl))
-      (λ z due is. inr (is ∙ ap (λ (k : ℕ). Entry.Excl k true) (ap (λ (x : ℕ × ℕ). x.0) (the_same due u.change.stays.due)))))
+      (λ z due is. inr (is ∙ ap (λ (k : ℕ). PageEntry.Excl k true) (ap (λ (x : ℕ × ℕ). x.0) (the_same due u.change.stays.due)))))
       (undo-coherent.unforced j p)
 
   pub undo_fails-coherent : Coherent (failing a j true b') d'

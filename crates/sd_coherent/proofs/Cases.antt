@@ -5,7 +5,7 @@ use Rattle.std.proofs.lemmas.Option.{same_Some}
 use Rattle.sd_logrec.specs.View.{Rec}
 use Rattle.sd_page.specs.Page.{Page}
 use Rattle.sd_chain.specs.Laws.{May}
-use Rattle.sd_pagelock.specs.Places.{Entry}
+use Rattle.sd_pagelock.specs.Places.{PageEntry}
 use Rattle.sd_coherent.specs.World.{Base, Dir, put_at}
 use Rattle.sd_coherent.specs.Coherent.{Coherent, Quiet, Sits}
 use Rattle.sd_coherent.specs.Moves.{OneCopy}
@@ -31,19 +31,19 @@ pub put_still : {A : Type 0} (i : ℕ) (v : A) (f : ℕ → A) (j : ℕ) → f j
 put_still i v f j is = ⊎_elim (λ e. put_here i v f j e) (λ ne. put_other i v f j ne ∙ is) (cases_eq j i)
 
 -- the three ways in which a page sits
-pub by_seat : {may : May} (b : Base may) (e : Entry) (j : ℕ) (A : Type 0) → (b.loose j ≡ false → e ≡ Entry.Excl j true → A)
-    → (b.loose j ≡ true → e ≡ Entry.Lost → A) → ((a : ℕ) → b.due ≡ Some (a, j) → e ≡ Entry.Excl a true → A) → Sits b e j → A
+pub by_seat : {may : May} (b : Base may) (e : PageEntry) (j : ℕ) (A : Type 0) → (b.loose j ≡ false → e ≡ PageEntry.Excl j true → A)
+    → (b.loose j ≡ true → e ≡ PageEntry.Lost → A) → ((a : ℕ) → b.due ≡ Some (a, j) → e ≡ PageEntry.Excl a true → A) → Sits b e j → A
 by_seat b e j A own lost due (inl s) = own s.0 s.1
 by_seat b e j A own lost due (inr (inl s)) = lost s.0 s.1
 by_seat b e j A own lost due (inr (inr s)) = due s.0 s.1 s.2
 
-pub own_seat : {may : May} (b : Base may) (e : Entry) (j : ℕ) → b.loose j ≡ false → e ≡ Entry.Excl j true → Sits b e j
+pub own_seat : {may : May} (b : Base may) (e : PageEntry) (j : ℕ) → b.loose j ≡ false → e ≡ PageEntry.Excl j true → Sits b e j
 own_seat b e j loose is = inl (loose, is)
 
-pub lost_seat : {may : May} (b : Base may) (e : Entry) (j : ℕ) → b.loose j ≡ true → e ≡ Entry.Lost → Sits b e j
+pub lost_seat : {may : May} (b : Base may) (e : PageEntry) (j : ℕ) → b.loose j ≡ true → e ≡ PageEntry.Lost → Sits b e j
 lost_seat b e j loose is = inr (inl (loose, is))
 
-pub due_seat : {may : May} (b : Base may) (e : Entry) (j a : ℕ) → b.due ≡ Some (a, j) → e ≡ Entry.Excl a true → Sits b e j
+pub due_seat : {may : May} (b : Base may) (e : PageEntry) (j a : ℕ) → b.due ≡ Some (a, j) → e ≡ PageEntry.Excl a true → Sits b e j
 due_seat b e j a due is = inr (inr (a, due, is))
 
 -- the copy that there is, of a page whose newest version is another word for the same

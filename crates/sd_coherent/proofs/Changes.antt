@@ -13,12 +13,12 @@ use Rattle.sd_chain.specs.Laws.{May}
 use Rattle.sd_chain.proofs.Lists.{Each-append, Each-weaker}
 use Rattle.sd_chain.proofs.Newest.{and_true}
 use Rattle.sd_pagelock.specs.Directory.{kept_rec}
-use Rattle.sd_pagelock.specs.Places.{Entry, changed, holds, owns, passes, uses}
+use Rattle.sd_pagelock.specs.Places.{PageEntry, changed, holds, owns, passes, uses}
 use Rattle.sd_pagelock.specs.Rows.{dirtied}
 use Rattle.sd_pagelock.proofs.Drops.{owner-holds, owner-passes, owner-uses}
 use Rattle.sd_pagelock.proofs.Members.{not_both}
 use Rattle.sd_pagelock.proofs.Uses
-use Rattle.sd_coherent.specs.World.{Base, Dir, Stays, now}
+use Rattle.sd_coherent.specs.World.{Base, Dir, Stays, newest_version}
 use Rattle.sd_coherent.specs.Coherent.{Coherent, NoneBefore, Quiet, Sits}
 use Rattle.sd_coherent.specs.Changes.{Changes, ChangeKeeps, ChangeMayCome, OthersHaveNone, RestKeeps, SealKeeps, UndoMayCome}
 use Rattle.sd_coherent.proofs.Cases.{at_page, by_seat, copy_same, due_seat, lost_seat, none_some, one_copy, own_seat, seated, the_same}
@@ -41,12 +41,12 @@ lone may a i p b d c held acts j ne = ⊎_elim (λ q. q)
     holder : holds (d.entry p) a ≡ true
     holder = owner-holds a a (d.entry p) held ∙ eq-eqb a a refl
 
-    a_is : (j : ℕ) → d.entry p ≡ Entry.Excl j true → a ≡ j
-    a_is j is = sym (eqb-true j a (sym (ap (λ (l : Entry). owns l a) is) ∙ held))
+    a_is : (j : ℕ) → d.entry p ≡ PageEntry.Excl j true → a ≡ j
+    a_is j is = sym (eqb-true j a (sym (ap (λ (l : PageEntry). owns l a) is) ∙ held))
 
 -- the page in memory is the newest version
-pub held-now : {may : May} (a p : ℕ) (image : Page) (b : Base may) (d : Dir) → Coherent b d → d.pool a p ≡ Some image → image ≡ now b p
-held-now a p image b d c copy = sym (cond_some (holds (d.entry p) a) (now b p) image (sym (c.copies a p) ∙ copy)).1
+pub held-now : {may : May} (a p : ℕ) (image : Page) (b : Base may) (d : Dir) → Coherent b d → d.pool a p ≡ Some image → image ≡ newest_version b p
+held-now a p image b d c copy = sym (cond_some (holds (d.entry p) a) (newest_version b p) image (sym (c.copies a p) ∙ copy)).1
 
 pub change-may_come : (may : May) → ChangeMayCome may
 change-may_come may a i image y b d c held acts copy kind follows rises fits free =
@@ -102,7 +102,7 @@ grown_eight : (i : ℕ) (y : Rec) (old new : Tails) → Grows i y old new → 1 
 grown_eight i y old new g low none = (g.base 0 ∙ none.0, g.others 0 (λ e. omega (arith, low, e)) ∙ none.1)
 
 -- where a page sits depends on marks and on what is due
-pub sits_still : {may may' : May} (b : Base may) (b' : Base may') → Stays b b' → (e : Entry) (j : ℕ) → 1 ≤ j
+pub sits_still : {may may' : May} (b : Base may) (b' : Base may') → Stays b b' → (e : PageEntry) (j : ℕ) → 1 ≤ j
     → Sits b e j → Sits b' e j
 sits_still b b' s e j lo = by_seat b e j (Sits b' e j)
     (λ settled is. own_seat b' e j (s.loose j lo ∙ settled) is)
@@ -131,53 +131,53 @@ kept (Some x) false l e = absurd (cc)
 
 module _ {may may' : May} (a i : ℕ) (image : Page) (y : Rec) (b : Base may) (b' : Base may') (d d' : Dir) (c : Coherent b d)
     (s : Changes a i image y b b' d d') where
-  is_now : image ≡ now b y.page
+  is_now : image ≡ newest_version b y.page
   is_now = held-now a y.page image b d c s.copy
 
-  now_here : redo image y ≡ now b' y.page
+  now_here : redo image y ≡ newest_version b' y.page
   now_here = ap (λ (x : Page). redo x y) is_now ∙ sym (s.redone.here all_kept refl)
 
-  now_other : (q : ℕ) → q ≢ y.page → now b q ≡ now b' q
+  now_other : (q : ℕ) → q ≢ y.page → newest_version b q ≡ newest_version b' q
   now_other q ne = sym (s.redone.others all_kept q ne)
 
-  found : d.entry y.page ≢ Entry.Lost
-  found lost = not_both s.held (ap (λ (l : Entry). owns l a) lost)
+  found : d.entry y.page ≢ PageEntry.Lost
+  found lost = not_both s.held (ap (λ (l : PageEntry). owns l a) lost)
 
   rec_here : b'.rec_lsn y.page ≡ Some (unwrap_or (b.rec_lsn y.page) y.lsn)
   rec_here = s.rec_lsn ∙ kept (b.rec_lsn y.page) (changed (d.entry y.page)) y.lsn (c.marks y.page)
 
   sits_new : Sits b' (dirtied a) i
   sits_new = ⊎_elim
-      (λ own. own_seat b' (dirtied a) i (s.stays.loose i s.low ∙ own.1) (ap (λ (k : ℕ). Entry.Excl k true) own.0))
+      (λ own. own_seat b' (dirtied a) i (s.stays.loose i s.low ∙ own.1) (ap (λ (k : ℕ). PageEntry.Excl k true) own.0))
       (λ f. due_seat b' (dirtied a) i a (s.stays.due ∙ f.0) refl) s.acts
 
   unforced_here : (j : ℕ) → Quiet y.page (b'.tails.tail j) ⊎ Sits b' (d'.entry y.page) j
   unforced_here j = ⊎_elim
-      (λ e. inr (subst (λ (k : ℕ). Sits b' (d'.entry y.page) k) (sym e) (subst (λ (l : Entry). Sits b' l i) (sym s.entry) sits_new)))
+      (λ e. inr (subst (λ (k : ℕ). Sits b' (d'.entry y.page) k) (sym e) (subst (λ (l : PageEntry). Sits b' l i) (sym s.entry) sits_new)))
       (λ ne. inl (subst (Quiet y.page) (sym (s.grows.others j ne)) (lone may a i y.page b d c s.held s.acts j ne)))
       (cases_eq j i)
 
   unforced_other : (j q : ℕ) → q ≢ y.page → Quiet q (b'.tails.tail j) ⊎ Sits b' (d'.entry q) j
   unforced_other j q ne = ⊎_elim
       (λ quiet. inl (quiet_still i y b.tails b'.tails s.grows q (not_of y q ne) j quiet))
-      (λ sits. inr (subst (λ (l : Entry). Sits b' l j) (sym (s.others.entries q ne)) (sits_still b b' s.stays (d.entry q) j sits.0 sits.1)))
+      (λ sits. inr (subst (λ (l : PageEntry). Sits b' l j) (sym (s.others.entries q ne)) (sits_still b b' s.stays (d.entry q) j sits.0 sits.1)))
       (seated b d c q j)
 
   copies_here : (k : ℕ) → d'.pool k y.page ≡ cond (eqb a k) (Some (redo image y)) None
   copies_here k = one_copy s.redone_copy k ∙ ap (λ (o : Option Page). cond (eqb a k) (Some (redo image y)) o) (c.copies k y.page)
-      ∙ ap (λ (t : Bool). cond (eqb a k) (Some (redo image y)) (cond t (Some (now b y.page)) None))
+      ∙ ap (λ (t : Bool). cond (eqb a k) (Some (redo image y)) (cond t (Some (newest_version b y.page)) None))
       (owner-holds a k (d.entry y.page) s.held)
       ∙ once (eqb a k)
     where
-      once : (t : Bool) → cond t (Some (redo image y)) (cond t (Some (now b y.page)) None) ≡ cond t (Some (redo image y)) None
+      once : (t : Bool) → cond t (Some (redo image y)) (cond t (Some (newest_version b y.page)) None) ≡ cond t (Some (redo image y)) None
       once true = refl
       once false = refl
 
   passing_here : d'.moving y.page ≡ None
   passing_here = s.moving ∙ c.moving y.page
-      ∙ ap (λ (t : Bool). cond t (Some (now b y.page)) None) (owner-passes a (d.entry y.page) s.held)
+      ∙ ap (λ (t : Bool). cond t (Some (newest_version b y.page)) None) (owner-passes a (d.entry y.page) s.held)
 
-  rises : (now b y.page).lsn < y.lsn
+  rises : (newest_version b y.page).lsn < y.lsn
   rises = subst (λ (x : Page). x.lsn < y.lsn) is_now s.rises
 
   -- the first change that the disk lacks: the former one, or y
@@ -186,7 +186,7 @@ module _ {may may' : May} (a i : ℕ) (image : Page) (y : Rec) (b : Base may) (b
   first_here None e x m j = each_log i y b.tails b'.tails s.grows (λ r. of_page y.page r ≡ true → x.lsn < r.lsn → y.lsn ≤ r.lsn)
       (λ is lt. omega arith) j
       (let is = ap (λ (v : Page). v.lsn) (c.clean y.page (sym (c.marks y.page) ∙ ap is_some e) x m) in
-      Each-weaker (λ r. of_page y.page r ≡ true → r.lsn ≤ (now b y.page).lsn) (λ r. of_page y.page r ≡ true → x.lsn < r.lsn → y.lsn ≤ r.lsn)
+      Each-weaker (λ r. of_page y.page r ≡ true → r.lsn ≤ (newest_version b y.page).lsn) (λ r. of_page y.page r ≡ true → x.lsn < r.lsn → y.lsn ≤ r.lsn)
       (λ r low of lt. let l = low of in absurd (omega (arith, l, is, lt)))
       (log b.tails j) (Versions.low b.tails may b.version c.safe b.disk c.reads y.page j))
   first_here (Some l) e x m j = each_log i y b.tails b'.tails s.grows (λ r. of_page y.page r ≡ true → x.lsn < r.lsn → l ≤ r.lsn)
@@ -202,25 +202,25 @@ module _ {may may' : May} (a i : ℕ) (image : Page) (y : Rec) (b : Base may) (b
     eight = grown_eight i y b.tails b'.tails s.grows s.low c.eight;
     reads = s.reads;
     still = λ settled p x m. c.still (sym s.stays.loose_disk ∙ settled) p x (s.stays.less p x m) ∙ sym (s.stays.disk p);
-    copies = λ k. at_page y.page (λ q. d'.pool k q ≡ cond (holds (d'.entry q) k) (Some (now b' q)) None)
+    copies = λ k. at_page y.page (λ q. d'.pool k q ≡ cond (holds (d'.entry q) k) (Some (newest_version b' q)) None)
         (copies_here k ∙ ap (λ (x : Page). cond (eqb a k) (Some x) None) now_here
-        ∙ ap (λ (l : Entry). cond (holds l k) (Some (now b' y.page)) None) (sym s.entry))
+        ∙ ap (λ (l : PageEntry). cond (holds l k) (Some (newest_version b' y.page)) None) (sym s.entry))
         (λ q ne. s.others.pools k q ne ∙ c.copies k q
-        ∙ ap₂ (λ (l : Entry) (v : Page). cond (holds l k) (Some v) None) (sym (s.others.entries q ne)) (now_other q ne));
-    moving = at_page y.page (λ q. d'.moving q ≡ cond (passes (d'.entry q)) (Some (now b' q)) None)
-        (passing_here ∙ ap (λ (l : Entry). cond (passes l) (Some (now b' y.page)) None) (sym s.entry))
+        ∙ ap₂ (λ (l : PageEntry) (v : Page). cond (holds l k) (Some v) None) (sym (s.others.entries q ne)) (now_other q ne));
+    moving = at_page y.page (λ q. d'.moving q ≡ cond (passes (d'.entry q)) (Some (newest_version b' q)) None)
+        (passing_here ∙ ap (λ (l : PageEntry). cond (passes l) (Some (newest_version b' y.page)) None) (sym s.entry))
         (λ q ne. s.others.moving q ne ∙ c.moving q
-        ∙ ap₂ (λ (l : Entry) (v : Page). cond (passes l) (Some v) None) (sym (s.others.entries q ne)) (now_other q ne));
+        ∙ ap₂ (λ (l : PageEntry) (v : Page). cond (passes l) (Some v) None) (sym (s.others.entries q ne)) (now_other q ne));
     live = λ k. at_page y.page (λ q. uses (d'.entry q) k ≡ true → b'.active k ≡ true)
         (λ u. s.stays.active k ∙ c.live k y.page (owner-uses a k (d.entry y.page) s.held
-        ∙ (sym (ap (λ (l : Entry). uses l k) s.entry) ∙ u)))
-        (λ q ne u. s.stays.active k ∙ c.live k q (ap (λ (l : Entry). uses l k) (sym (s.others.entries q ne)) ∙ u));
+        ∙ (sym (ap (λ (l : PageEntry). uses l k) s.entry) ∙ u)))
+        (λ q ne u. s.stays.active k ∙ c.live k q (ap (λ (l : PageEntry). uses l k) (sym (s.others.entries q ne)) ∙ u));
     unforced = λ j. at_page y.page (λ q. Quiet q (b'.tails.tail j) ⊎ Sits b' (d'.entry q) j) (unforced_here j) (unforced_other j);
     ready = ready_still b b' d c s.stays;
     marks = at_page y.page (λ q. is_some (b'.rec_lsn q) ≡ changed (d'.entry q))
         (ap is_some rec_here ∙ sym (ap changed s.entry))
         (λ q ne. ap is_some (s.other_rec q ne) ∙ c.marks q ∙ ap changed (sym (s.others.entries q ne)));
-    clean = at_page y.page (λ q. changed (d'.entry q) ≡ false → (x : Page) → may' q x → x ≡ now b' q)
+    clean = at_page y.page (λ q. changed (d'.entry q) ≡ false → (x : Page) → may' q x → x ≡ newest_version b' q)
         (λ e. not_both (ap changed s.entry) e)
         (λ q ne e x m. c.clean q (ap changed (sym (s.others.entries q ne)) ∙ e) x (s.stays.less q x m) ∙ now_other q ne);
     first = at_page y.page (λ q. (l : ℕ) → b'.rec_lsn q ≡ Some l → (x : Page) → may' q x → (j : ℕ) → NoneBefore q l x (log b'.tails j))
@@ -228,7 +228,7 @@ module _ {may may' : May} (a i : ℕ) (image : Page) (y : Rec) (b : Base may) (b
         (first_here (b.rec_lsn y.page) refl x (s.stays.less y.page x m) j))
         (λ q ne l e x m j. each_log i y b.tails b'.tails s.grows (λ r. of_page q r ≡ true → x.lsn < r.lsn → l ≤ r.lsn)
         (λ is lt. not_both is (not_of y q ne)) j (c.first q l (sym (s.other_rec q ne) ∙ e) x (s.stays.less q x m) j));
-    below = at_page y.page (λ q. (l : ℕ) → b'.rec_lsn q ≡ Some l → d'.entry q ≢ Entry.Lost → l ≤ (now b' q).lsn)
+    below = at_page y.page (λ q. (l : ℕ) → b'.rec_lsn q ≡ Some l → d'.entry q ≢ PageEntry.Lost → l ≤ (newest_version b' q).lsn)
         (λ l e there. subst (λ (v : Page). l ≤ v.lsn) now_here
         (subst (λ (l : ℕ). l ≤ y.lsn) (the_same rec_here e) (below_here (b.rec_lsn y.page) refl)))
         (λ q ne l e there. subst (λ (v : Page). l ≤ v.lsn) (now_other q ne)
@@ -243,7 +243,7 @@ change-keeps may may' a i image y b b' d d' c s = change-coherent a i image y b 
 -- versions and RecLSNs stay, and logs have no other records of pages
 module _ {may may' : May} (b : Base may) (b' : Base may') (d : Dir) (c : Coherent b d) (s : Stays b b')
     (safe : IsSafe b'.tails may' b'.version) (reads : Allowed may' b'.disk)
-    (eight : (b'.tails.base 0 ≡ []) × (b'.tails.tail 0 ≡ [])) (version : (p : ℕ) → now b' p ≡ now b p)
+    (eight : (b'.tails.base 0 ≡ []) × (b'.tails.tail 0 ≡ [])) (version : (p : ℕ) → newest_version b' p ≡ newest_version b p)
     (rec_lsn : (p : ℕ) → b'.rec_lsn p ≡ b.rec_lsn p)
     (quiet : (p j : ℕ) → Quiet p (b.tails.tail j) → Quiet p (b'.tails.tail j))
     (first : (p l : ℕ) (x : Page) (j : ℕ) → NoneBefore p l x (log b.tails j) → NoneBefore p l x (log b'.tails j)) where
@@ -253,8 +253,8 @@ module _ {may may' : May} (b : Base may) (b' : Base may') (d : Dir) (c : Coheren
     eight = eight;
     reads = reads;
     still = λ settled p x m. c.still (sym s.loose_disk ∙ settled) p x (s.less p x m) ∙ sym (s.disk p);
-    copies = λ k p. c.copies k p ∙ copy_same (holds (d.entry p) k) (now b p) (now b' p) (λ h. version p);
-    moving = λ p. c.moving p ∙ copy_same (passes (d.entry p)) (now b p) (now b' p) (λ h. version p);
+    copies = λ k p. c.copies k p ∙ copy_same (holds (d.entry p) k) (newest_version b p) (newest_version b' p) (λ h. version p);
+    moving = λ p. c.moving p ∙ copy_same (passes (d.entry p)) (newest_version b p) (newest_version b' p) (λ h. version p);
     live = λ k p u. s.active k ∙ c.live k p u;
     unforced = λ j p. ⊎_elim (λ q. inl (quiet p j q)) (λ sits. inr (sits_still b b' s (d.entry p) j sits.0 sits.1)) (seated b d c p j);
     ready = ready_still b b' d c s;

@@ -11,7 +11,7 @@ use Rattle.sd_chain.specs.Images.{log}
 use Rattle.sd_chain.specs.Laws.{May}
 use Rattle.sd_chain.proofs.Images
 use Rattle.sd_chain.proofs.Lists.{Each-append, Each-back, Each-both, Each-front, Each-weaker}
-use Rattle.sd_coherent.specs.World.{now}
+use Rattle.sd_coherent.specs.World.{newest_version}
 use Rattle.sd_coherent.specs.Coherent.{NoneBefore, Quiet}
 use Rattle.sd_coherent.specs.Checkpoints.{CoverBegins, CoverGrows, CoverPuts, CoverSettles, CoverStays, MayShorten, OnDisk, Shut, ShortenKeeps}
 use Rattle.sd_coherent.proofs.Cases.{left_none}
@@ -25,7 +25,7 @@ cover-begins may low j b d c least p x m = go (b.rec_lsn p) refl
   where
     go : (o : Option ℕ) → b.rec_lsn p ≡ o → Each (OnDisk low p x) (log b.tails j)
     go None e = let is = ap (λ (v : Page). v.lsn) (c.clean p (sym (c.marks p) ∙ ap is_some e) x m) in
-        Each-weaker (λ r. of_page p r ≡ true → r.lsn ≤ (now b p).lsn) (OnDisk low p x)
+        Each-weaker (λ r. of_page p r ≡ true → r.lsn ≤ (newest_version b p).lsn) (OnDisk low p x)
         (λ r h of lt. let a = h of in omega (arith, a, is))
         (log b.tails j) (Versions.low b.tails may b.version c.safe b.disk c.reads p j)
     go (Some l) e = Each-weaker (λ r. of_page p r ≡ true → x.lsn < r.lsn → l ≤ r.lsn) (OnDisk low p x)
@@ -45,8 +45,8 @@ cover-settles may may' low i j kept b b' s less cov p x m =
 pub cover-puts : (may may' : May) → CoverPuts may may'
 cover-puts may may' low j p b b' d c leaves same cov q x m = subst (Each (OnDisk low q x)) (sym same) (⊎_elim
     (λ old. cov q x old)
-    (λ w. let e = ap (λ (v : Page). v.lsn) w.1 in let f = ap (λ (k : ℕ). (now b k).lsn) w.0 in
-    Each-weaker (λ r. of_page q r ≡ true → r.lsn ≤ (now b q).lsn) (OnDisk low q x)
+    (λ w. let e = ap (λ (v : Page). v.lsn) w.1 in let f = ap (λ (k : ℕ). (newest_version b k).lsn) w.0 in
+    Each-weaker (λ r. of_page q r ≡ true → r.lsn ≤ (newest_version b q).lsn) (OnDisk low q x)
     (λ r h of lt. let a = h of in omega (arith, a, e, f))
     (log b.tails j) (Versions.low b.tails may b.version c.safe b.disk c.reads q j))
     (leaves q x m))

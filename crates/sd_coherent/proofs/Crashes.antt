@@ -3,7 +3,7 @@ use Rattle.sd_chain.specs.Images.{or_written}
 use Rattle.sd_chain.specs.Laws.{May}
 use Rattle.sd_chain.proofs.Images
 use Rattle.sd_chain.proofs.Left.{force-leaves, left-stands, put-leaves}
-use Rattle.sd_coherent.specs.World.{now}
+use Rattle.sd_coherent.specs.World.{newest_version}
 use Rattle.sd_coherent.specs.Crashes.{ForceLeftStands, LeftStands, PutGives, PutLeftStands}
 
 pub stands : (may : May) → LeftStands may
@@ -16,6 +16,6 @@ pub put-gives : (may : May) → PutGives may
 put-gives may p b d values c none gives = Images.write-gives b.tails may b.version c.safe p none b.disk c.reads values gives
 
 pub put-stands : (may : May) → PutLeftStands may
-put-stands may p b d values img c none gives during = left-stands b.tails (or_written may p (now b p)) b.version values img
+put-stands may p b d values img c none gives during = left-stands b.tails (or_written may p (newest_version b p)) b.version values img
     (Images.write-safe b.tails may b.version c.safe p none b.disk c.reads) (put-gives may p b d values c none gives)
-    (put-leaves p (now b p) b.tails may img during)
+    (put-leaves p (newest_version b p) b.tails may img during)

@@ -8,13 +8,13 @@ use Rattle.sd_logrec.specs.View.{Rec}
 use Rattle.sd_logrec.specs.View.Kind.{Update}
 use Rattle.sd_page.specs.Page.{Page, empty_page}
 use Rattle.sd_chain.specs.Pages.{redo}
-use Rattle.sd_chain.specs.Image.{Image, all_of, chain, newest, Sound}
+use Rattle.sd_chain.specs.Storage.{Storage, all_of, chain, newest, Sound}
 use Rattle.sd_chain.specs.Images.{Grows, MayChange, Settled, Tails, kept_at}
 use Rattle.sd_chain.specs.Laws.{May, Opens, as_read}
-use Rattle.sd_pagelock.specs.Places.{Entry, receives}
+use Rattle.sd_pagelock.specs.Places.{PageEntry, receives}
 use Rattle.sd_pagelock.specs.Rows.{fallen}
 use Rattle.sd_pagelock.proofs.Uses.{excl-found}
-use Rattle.sd_coherent.specs.World.{Base, Dir, now, put_at}
+use Rattle.sd_coherent.specs.World.{Base, Dir, newest_version, put_at}
 use Rattle.sd_coherent.specs.Coherent.{Coherent}
 use Rattle.sd_coherent.specs.Statuses.{opened_base, opened_dir, with_status}
 use Rattle.sd_coherent.specs.Named.{IsNamed, IsRedone, version_of}
@@ -33,7 +33,7 @@ use Rattle.sd_coherent.proofs.Puts.{forced-none, write-keeps}
 
 -- ---- opened
 
-abbrev blank : Image
+abbrev blank : Storage
 blank = record { logs = λ j. []; disk = empty_page }
 
 is_sound : Sound blank
@@ -90,7 +90,7 @@ begun-coherent = status-keeps (as_read blank) first_base first_dir one one opene
 
 abbrev held_dir : Dir
 held_dir = record {
-  entry = put_at 5 (Entry.Excl 1 false) first_dir.entry;
+  entry = put_at 5 (PageEntry.Excl 1 false) first_dir.entry;
   pool = λ i p. cond (eqb i 1 && eqb p 5) (Some (empty_page p)) None;
   moving = first_dir.moving;
 }
@@ -101,7 +101,7 @@ held-coherent = lock-keeps (as_read blank) begun_base first_dir held_dir 5 1 mod
   idle = refl;
   forced = λ j e. absurd (cc);
   others = record {
-    entries = λ q ne. put_other 5 (Entry.Excl 1 false) first_dir.entry q ne;
+    entries = λ q ne. put_other 5 (PageEntry.Excl 1 false) first_dir.entry q ne;
     pools = λ i q ne. elsewhere i q ne;
     moving = λ q ne. refl;
   };
@@ -143,7 +143,7 @@ changed_base = record {
 
 abbrev changed_dir : Dir
 changed_dir = record {
-  entry = put_at 5 (Entry.Excl 1 true) held_dir.entry;
+  entry = put_at 5 (PageEntry.Excl 1 true) held_dir.entry;
   pool = λ i p. cond (eqb i 1 && eqb p 5) (Some (redo (empty_page p) change)) None;
   moving = held_dir.moving;
 }
@@ -156,7 +156,7 @@ grows = record {
   base = λ j. refl;
 }
 
-may_change : MayChange 1 begun_base.tails (now begun_base) change
+may_change : MayChange 1 begun_base.tails (newest_version begun_base) change
 may_change = change-may_come (as_read blank) 1 1 (empty_page 5) change begun_base held_dir held-coherent refl
     (inl (refl, refl, refl)) refl refl
     (record { alive = tt; prev = refl; done = λ e. absurd (cc); undo = λ e. absurd (cc) }) (omega arith)
@@ -187,7 +187,7 @@ changed-coherent = change-keeps (as_read blank) (as_read blank) 1 1 (empty_page 
       };
       moving = refl;
       others = record {
-        entries = λ q ne. put_other 5 (Entry.Excl 1 true) held_dir.entry q ne;
+        entries = λ q ne. put_other 5 (PageEntry.Excl 1 true) held_dir.entry q ne;
         pools = λ i q ne. elsewhere i q ne;
         moving = λ q ne. refl;
       };
@@ -218,7 +218,7 @@ changed-coherent = change-keeps (as_read blank) (as_read blank) 1 1 (empty_page 
 -- the page sets out before its holder's log is forced
 abbrev hasty_dir : Dir
 hasty_dir = record {
-  entry = put_at 5 (Entry.Moving 2 modes.Excl [] true) changed_dir.entry;
+  entry = put_at 5 (PageEntry.Moving 2 modes.Excl [] true) changed_dir.entry;
   pool = λ i p. None;
   moving = put_at 5 (Some (redo (empty_page 5) change)) none;
 }
@@ -229,14 +229,14 @@ unforced_move c = ⊎_elim
     (by_seat changed_base (hasty_dir.entry 5) 1 ⊥ (λ settled is. absurd (cc)) (λ loose lost. absurd (cc)) (λ a due is. none_some refl due))
     (c.unforced 1 5)
 
-newest_changed : (now changed_base 5).lsn ≡ 1
+newest_changed : (newest_version changed_base 5).lsn ≡ 1
 unfolding newest chain all_of
 newest_changed = refl
 
 -- another pool has the page as it was before the change
 stale_copy : (d : Dir) → Coherent changed_base d → d.pool 2 5 ≡ Some (empty_page 5) → ⊥
 stale_copy d c stale =
-    let old : 0 ≡ (now changed_base 5).lsn = ap (λ (x : Page). x.lsn)
+    let old : 0 ≡ (newest_version changed_base 5).lsn = ap (λ (x : Page). x.lsn)
     ((each-newest (as_read blank) changed_base d c 5 2).1 (empty_page 5) stale).1 in
     let wrong : 0 ≡ 1 = old ∙ newest_changed in
     absurd (omega (arith, wrong))
@@ -292,14 +292,14 @@ forced-coherent = settle-keeps (as_read blank) (as_read blank) 1 true changed_ba
 -- ---- and the page is put
 
 abbrev put_disk : ℕ → Page
-put_disk = put_at 5 (now forced_base 5) blank.disk
+put_disk = put_at 5 (newest_version forced_base 5) blank.disk
 
 abbrev put_may : May
 put_may p x = x ≡ put_disk p
 
 abbrev put_dir : Dir
 put_dir = record {
-  entry = put_at 5 (Entry.Excl 1 false) changed_dir.entry;
+  entry = put_at 5 (PageEntry.Excl 1 false) changed_dir.entry;
   pool = changed_dir.pool;
   moving = changed_dir.moving;
 }
@@ -310,8 +310,8 @@ put-coherent = write-keeps (as_read blank) put_may 5 forced_base changed_dir put
     (forced-none (as_read blank) forced_base changed_dir 5 forced-coherent refl (excl-found 1 true) (λ j e settled. refl))
     (record {
       leaves = λ q x m. ⊎_elim
-          (λ e. inr (e, m ∙ put_here 5 (now forced_base 5) blank.disk q e))
-          (λ ne. inl (m ∙ put_other 5 (now forced_base 5) blank.disk q ne))
+          (λ e. inr (e, m ∙ put_here 5 (newest_version forced_base 5) blank.disk q e))
+          (λ ne. inl (m ∙ put_other 5 (newest_version forced_base 5) blank.disk q ne))
           (cases_eq q 5);
       left = record { reads = λ q. refl; still = λ e q x m. m };
     })
@@ -319,7 +319,7 @@ put-coherent = write-keeps (as_read blank) put_may 5 forced_base changed_dir put
     (record {
       there = refl;
       here = refl;
-      others = λ q ne. put_other 5 (Entry.Excl 1 false) changed_dir.entry q ne;
+      others = λ q ne. put_other 5 (PageEntry.Excl 1 false) changed_dir.entry q ne;
       no_rec = refl;
       other_rec = λ q ne. put_other 5 None changed_base.rec_lsn q ne;
       pool = λ k q. refl;
@@ -335,7 +335,7 @@ fallen_dir = record {
   moving = λ p. cond (receives (changed_dir.entry p) 1) None None;
 }
 
-page_5_is_lost : fallen_dir.entry 5 ≡ Entry.Lost
+page_5_is_lost : fallen_dir.entry 5 ≡ PageEntry.Lost
 page_5_is_lost = refl
 
 fallen-coherent : Coherent (fell 1 (failing 1 1 true changed_base)) fallen_dir

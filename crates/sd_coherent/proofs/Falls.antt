@@ -3,13 +3,13 @@ use Rattle.std.proofs.Common.{◌≡◌, ◌⊎◌, inl, inr, ⊎_elim, ℕ, ◌
 use Rattle.std.proofs.lemmas.Bool.{cases_eq}
 use Rattle.sd_page.specs.Page.{Page}
 use Rattle.sd_chain.specs.Laws.{May}
-use Rattle.sd_pagelock.specs.Places.{Entry, changed, holds, passes, receives, uses}
+use Rattle.sd_pagelock.specs.Places.{PageEntry, changed, holds, passes, receives, uses}
 use Rattle.sd_pagelock.specs.Rows.{fallen}
 use Rattle.sd_pagelock.proofs.Drops.{changed-fallen}
 use Rattle.sd_pagelock.proofs.Falls.{holds-fallen, uses-fallen}
 use Rattle.sd_pagelock.proofs.Members.{not_both}
 use Rattle.sd_pagelock.proofs.Uses
-use Rattle.sd_coherent.specs.World.{Base, now, put_at}
+use Rattle.sd_coherent.specs.World.{Base, newest_version, put_at}
 use Rattle.sd_coherent.specs.Coherent.{Sits}
 use Rattle.sd_coherent.specs.Falls.{BeginKeeps, DueOf, FallKeeps, SettledFallKeeps, begun, fell}
 use Rattle.sd_coherent.proofs.Cases.{by_seat, lost_seat, none_some, one_copy, own_seat, put_here, put_other, put_still, the_same}
@@ -28,7 +28,7 @@ due_is i a j b h e = ⊎_elim
     h
 
 -- where a page sat, its rest sits
-sits_fallen : {may : May} (i : ℕ) (b : Base may) → DueOf i b → (j : ℕ) (e : Entry) → Sits b e j → Sits (fell i b) (fallen i e) j
+sits_fallen : {may : May} (i : ℕ) (b : Base may) → DueOf i b → (j : ℕ) (e : PageEntry) → Sits b e j → Sits (fell i b) (fallen i e) j
 sits_fallen i b due j e = by_seat b e j (Sits (fell i b) (fallen i e) j)
     (λ settled is. ⊎_elim
     (λ mine. lost_seat (fell i b) (fallen i e) j (put_here i true b.loose j mine) (falls j mine is))
@@ -38,8 +38,8 @@ sits_fallen i b due j e = by_seat b e j (Sits (fell i b) (fallen i e) j)
     (λ a is_due is. let whose = due_is i a j b due is_due in
     lost_seat (fell i b) (fallen i e) j (put_still i true b.loose j whose.1) (falls a whose.0 is))
   where
-    falls : (k : ℕ) → k ≡ i → e ≡ Entry.Excl k true → fallen i e ≡ Entry.Lost
-    falls k mine is = ap (fallen i) (is ∙ ap (λ (z : ℕ). Entry.Excl z true) mine) ∙ Uses.excl-falls i
+    falls : (k : ℕ) → k ≡ i → e ≡ PageEntry.Excl k true → fallen i e ≡ PageEntry.Lost
+    falls k mine is = ap (fallen i) (is ∙ ap (λ (z : ℕ). PageEntry.Excl z true) mine) ∙ Uses.excl-falls i
 
 pub fall-keeps : (may : May) → FallKeeps may
 fall-keeps may i b old new c due f = record {
@@ -48,14 +48,14 @@ fall-keeps may i b old new c due f = record {
   reads = c.reads;
   still = c.still;
   copies = λ k p. pools k p ∙ ap (λ (o : Option Page). cond (eqb i k) None o) (c.copies k p)
-      ∙ drop_copy (eqb i k) (holds (old.entry p) k) (now b p)
-      ∙ sym (ap (λ (t : Bool). cond t (Some (now b p)) None) (ap (λ (l : Entry). holds l k) (f.entry p) ∙ holds-fallen i k (old.entry p)));
+      ∙ drop_copy (eqb i k) (holds (old.entry p) k) (newest_version b p)
+      ∙ sym (ap (λ (t : Bool). cond t (Some (newest_version b p)) None) (ap (λ (l : PageEntry). holds l k) (f.entry p) ∙ holds-fallen i k (old.entry p)));
   moving = λ p. f.moving p ∙ ap (λ (o : Option Page). cond (receives (old.entry p) i) None o) (c.moving p)
-      ∙ drop_copy (receives (old.entry p) i) (passes (old.entry p)) (now b p)
-      ∙ sym (ap (λ (t : Bool). cond t (Some (now b p)) None) (ap passes (f.entry p) ∙ Uses.passes-fallen i (old.entry p)));
-  live = λ k p u. live k p (sym (uses-fallen i k (old.entry p)) ∙ (sym (ap (λ (l : Entry). uses l k) (f.entry p)) ∙ u));
+      ∙ drop_copy (receives (old.entry p) i) (passes (old.entry p)) (newest_version b p)
+      ∙ sym (ap (λ (t : Bool). cond t (Some (newest_version b p)) None) (ap passes (f.entry p) ∙ Uses.passes-fallen i (old.entry p)));
+  live = λ k p u. live k p (sym (uses-fallen i k (old.entry p)) ∙ (sym (ap (λ (l : PageEntry). uses l k) (f.entry p)) ∙ u));
   unforced = λ j p. ⊎_elim (λ q. inl q)
-      (λ sits. inr (subst (λ (l : Entry). Sits (fell i b) l j) (sym (f.entry p)) (sits_fallen i b due j (old.entry p) sits)))
+      (λ sits. inr (subst (λ (l : PageEntry). Sits (fell i b) l j) (sym (f.entry p)) (sits_fallen i b due j (old.entry p) sits)))
       (c.unforced j p);
   ready = ready;
   marks = λ p. c.marks p ∙ sym (ap changed (f.entry p) ∙ changed-fallen i (old.entry p));

@@ -7,11 +7,11 @@ use Rattle.sd_page.specs.Page.{Page}
 use Rattle.sd_chain.specs.Records.{of_page}
 use Rattle.sd_chain.specs.Images.{all_kept}
 use Rattle.sd_chain.specs.Laws.{May}
-use Rattle.sd_pagelock.specs.Places.{Entry, holds, passes}
+use Rattle.sd_pagelock.specs.Places.{PageEntry, holds, passes}
 use Rattle.sd_pagelock.specs.Rows.{dirtied}
 use Rattle.sd_pagelock.proofs.Members.{not_both}
 use Rattle.sd_pagelock.proofs.Uses
-use Rattle.sd_coherent.specs.World.{Base, Dir, now}
+use Rattle.sd_coherent.specs.World.{Base, Dir, newest_version}
 use Rattle.sd_coherent.specs.Coherent.{Coherent, Quiet, Sits}
 use Rattle.sd_coherent.specs.Forces.{FailKeeps, SettledFailKeeps, SettleKeeps, Settles, failing}
 use Rattle.sd_coherent.proofs.Cases.{by_seat, copy_same, due_seat, lost_seat, none_some, own_seat, put_other, seated, the_same}
@@ -21,7 +21,7 @@ use Rattle.sd_coherent.proofs.Versions.{Each-settled}
 module _ {may may' : May} (i : ℕ) (kept : Bool) (old : Base may) (new : Base may') (d : Dir) (c : Coherent old d)
     (s : Settles i kept old new) (how : (kept ≡ true) ⊎ ((old.loose i ≡ true) × (old.due ≡ None))) where
   -- the tail has nothing of a page that isn't lost, or is kept
-  matters : (p : ℕ) → d.entry p ≢ Entry.Lost → (kept ≡ true) ⊎ Quiet p (old.tails.tail i)
+  matters : (p : ℕ) → d.entry p ≢ PageEntry.Lost → (kept ≡ true) ⊎ Quiet p (old.tails.tail i)
   matters p found = ⊎_elim (λ k. inl k)
       (λ l. inr (⊎_elim (λ q. q)
       (by_seat old (d.entry p) i (Quiet p (old.tails.tail i))
@@ -29,7 +29,7 @@ module _ {may may' : May} (i : ℕ) (kept : Bool) (old : Base may) (new : Base m
       (c.unforced i p)))
       how
 
-  same : (p : ℕ) → d.entry p ≢ Entry.Lost → now new p ≡ now old p
+  same : (p : ℕ) → d.entry p ≢ PageEntry.Lost → newest_version new p ≡ newest_version old p
   same p found = s.version all_kept p
       ∙ Versions.version-settled old.tails may old.version c.safe old.disk c.reads i kept p (matters p found)
 
@@ -78,9 +78,9 @@ module _ {may may' : May} (i : ℕ) (kept : Bool) (old : Base may) (new : Base m
     reads = s.reads;
     still = λ settled p x m. c.still (sym s.loose_disk ∙ settled) p x (s.less p x m) ∙ sym (s.disk p);
     copies = λ k p. c.copies k p
-        ∙ copy_same (holds (d.entry p) k) (now old p) (now new p) (λ h. same p (Uses.held-found k (d.entry p) h));
+        ∙ copy_same (holds (d.entry p) k) (newest_version old p) (newest_version new p) (λ h. same p (Uses.held-found k (d.entry p) h));
     moving = λ p. c.moving p
-        ∙ copy_same (passes (d.entry p)) (now old p) (now new p) (λ h. same p (Uses.passes-found (d.entry p) h));
+        ∙ copy_same (passes (d.entry p)) (newest_version old p) (newest_version new p) (λ h. same p (Uses.passes-found (d.entry p) h));
     live = λ k p u. s.active k ∙ c.live k p u;
     unforced = unforced;
     ready = ready;
@@ -137,7 +137,7 @@ settled_fail-keeps may a i b d c idle settled whose = fail-keeps may a i true b 
     (λ p. ⊎_elim (λ q. inl q)
     (by_seat b (d.entry p) i (Quiet p (b.tails.tail i) ⊎ (d.entry p ≡ dirtied a))
     (λ mark is. ⊎_elim
-    (λ own. inr (is ∙ ap (λ (k : ℕ). Entry.Excl k true) (sym own)))
+    (λ own. inr (is ∙ ap (λ (k : ℕ). PageEntry.Excl k true) (sym own)))
     (λ other. not_both (c.live i p (Uses.excl-uses i true (d.entry p) is)) other.0) whose)
     (λ loose lost. not_both loose settled) (λ z due is. none_some idle due))
     (c.unforced i p))

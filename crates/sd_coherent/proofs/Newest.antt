@@ -8,35 +8,35 @@ use Rattle.sd_logrec.specs.View.{Rec}
 use Rattle.sd_page.specs.Page.{Page}
 use Rattle.sd_chain.specs.Records.{IsOpen, Val, at, home, stack}
 use Rattle.sd_chain.specs.Pages.{value}
-use Rattle.sd_chain.specs.Image.{Image, Linked}
-use Rattle.sd_chain.specs.Image as images
+use Rattle.sd_chain.specs.Storage.{Linked, Storage}
+use Rattle.sd_chain.specs.Storage as images
 use Rattle.sd_chain.specs.Cuts.{cut}
 use Rattle.sd_chain.specs.Images.{Gives, Keeps, all_kept, log, with_disk}
 use Rattle.sd_chain.specs.Laws.{May}
-use Rattle.sd_pagelock.specs.Places.{Entry, holds, owns, passes}
+use Rattle.sd_pagelock.specs.Places.{PageEntry, holds, owns, passes}
 use Rattle.sd_pagelock.proofs.Drops.{owner-holds, owner-passes}
 use Rattle.sd_pagelock.proofs.Members.{not_both}
 use Rattle.sd_pagelock.proofs.Uses
-use Rattle.sd_coherent.specs.World.{Base, Dir, now}
+use Rattle.sd_coherent.specs.World.{Base, Dir, newest_version}
 use Rattle.sd_coherent.specs.Coherent.{Coherent, Quiet}
 use Rattle.sd_coherent.specs.Newest.{ActiveTailsCount, CommittedIsThere, EachCopyIsNewest, InactiveHasNone, MovingIsNewest, NewestIsHigh, OneMayUpdate, OpenIsThere, QuietTailsAgree, UpIsSettled}
 use Rattle.sd_coherent.proofs.Cases.{by_seat, none_some}
 use Rattle.sd_coherent.proofs.Versions
 
 -- who owns a page is its only user
-only : (i k : ℕ) (e : Entry) → owns e i ≡ true → owns e k ≡ true → k ≡ i
-only i k Entry.Free o u = absurd (cc)
-only i k Entry.Lost o u = absurd (cc)
-only i k (Entry.Shared set writer) o u = absurd (cc)
-only i k (Entry.Excl holder dirty) o u = sym (eqb-true holder k u) ∙ eqb-true holder i o
-only i k (Entry.Moving to mode rest dirty) o u = absurd (cc)
+only : (i k : ℕ) (e : PageEntry) → owns e i ≡ true → owns e k ≡ true → k ≡ i
+only i k PageEntry.Free o u = absurd (cc)
+only i k PageEntry.Lost o u = absurd (cc)
+only i k (PageEntry.Shared set writer) o u = absurd (cc)
+only i k (PageEntry.Excl holder dirty) o u = sym (eqb-true holder k u) ∙ eqb-true holder i o
+only i k (PageEntry.Moving to mode rest dirty) o u = absurd (cc)
 
 pub one-updates : (may : May) → OneMayUpdate may
 one-updates may b d c p i o = record {
   updates = λ k u. only i k (d.entry p) o u;
-  copies = λ k ne. c.copies k p ∙ ap (λ (t : Bool). cond t (Some (now b p)) None)
+  copies = λ k ne. c.copies k p ∙ ap (λ (t : Bool). cond t (Some (newest_version b p)) None)
       (owner-holds i k (d.entry p) o ∙ ne_eqb i k (λ e. ne (sym e)));
-  moving = c.moving p ∙ ap (λ (t : Bool). cond t (Some (now b p)) None) (owner-passes i (d.entry p) o);
+  moving = c.moving p ∙ ap (λ (t : Bool). cond t (Some (newest_version b p)) None) (owner-passes i (d.entry p) o);
 }
 
 -- where the test holds there is a copy, and a copy tells that it does
@@ -48,10 +48,10 @@ there t x o is = (
 )
 
 pub each-newest : (may : May) → EachCopyIsNewest may
-each-newest may b d c p i = there (holds (d.entry p) i) (now b p) (d.pool i p) (c.copies i p)
+each-newest may b d c p i = there (holds (d.entry p) i) (newest_version b p) (d.pool i p) (c.copies i p)
 
 pub moving-newest : (may : May) → MovingIsNewest may
-moving-newest may b d c p = there (passes (d.entry p)) (now b p) (d.moving p) (c.moving p)
+moving-newest may b d c p = there (passes (d.entry p)) (newest_version b p) (d.moving p) (c.moving p)
 
 pub tails-agree : (may : May) → QuietTailsAgree may
 tails-agree may b d c keeps keeps' p agree = Versions.version-agree b.tails may b.version c.safe b.disk c.reads keeps keeps' p agree
@@ -83,16 +83,16 @@ pub newest-high : (may : May) → NewestIsHigh may
 newest-high may b d c p j = Versions.low b.tails may b.version c.safe b.disk c.reads p j
 
 module _ {may : May} (b : Base may) (d : Dir) (c : Coherent b d) (p s : ℕ) where
-  all : Image
+  all : Storage
   all = cut all_kept (with_disk b.tails b.disk)
 
-  now_is : images.now all p s ≡ value (now b p).slots s
+  now_is : images.now all p s ≡ value (newest_version b p).slots s
   unfolding all
   now_is = ap (λ (v : Page). value v.slots s) (c.safe.same b.disk c.reads all_kept p)
 
   pub value-committed : (values : Keeps → ℕ → ℕ → Val) → Gives b.tails may values
       → ((t : TxnId) → IsOpen t (log b.tails (home t)) → filter (at p s) (stack t (log b.tails (home t))) ≡ [])
-      → value (now b p).slots s ≡ values all_kept p s
+      → value (newest_version b p).slots s ≡ values all_kept p s
   unfolding all
   value-committed values gives none = ⊎_elim
       (λ o. absurd (o.2 (none o.0 o.1)))
@@ -100,7 +100,7 @@ module _ {may : May} (b : Base may) (d : Dir) (c : Coherent b d) (p s : ℕ) whe
       (gives b.disk c.reads all_kept p s)
 
   pub value-open : (t : TxnId) (top : Rec) (below : List Rec) → IsOpen t (log b.tails (home t))
-      → filter (at p s) (stack t (log b.tails (home t))) ≡ top ∷ below → value (now b p).slots s ≡ top.after
+      → filter (at p s) (stack t (log b.tails (home t))) ≡ top ∷ below → value (newest_version b p).slots s ≡ top.after
   unfolding all
   value-open t top below alive e = sym now_is
       ∙ (subst (Linked (images.now all p s)) e (((c.safe.sound b.disk c.reads all_kept).stacks t alive).linked p s)).0

@@ -6,7 +6,7 @@ use Rattle.sd_logrec.specs.View.{Rec}
 use Rattle.sd_page.specs.Page.{Page}
 use Rattle.sd_chain.specs.Records.{of_page}
 use Rattle.sd_chain.specs.Pages.{FitAll, redo, replay}
-use Rattle.sd_chain.specs.Image.{chain, newest}
+use Rattle.sd_chain.specs.Storage.{chain, newest}
 use Rattle.sd_chain.specs.Cuts.{cut}
 use Rattle.sd_chain.specs.Images.{IsSafe, all_kept, log, or_written, with_disk}
 use Rattle.sd_chain.specs.Laws.{May}
@@ -14,10 +14,10 @@ use Rattle.sd_chain.proofs.Chains.{replay_rises}
 use Rattle.sd_chain.proofs.Images
 use Rattle.sd_chain.proofs.Lists.{Each-weaker, cond_both}
 use Rattle.sd_chain.proofs.Narrowed.{narrowed-safe}
-use Rattle.sd_pagelock.specs.Places.{Entry, changed, holds, passes, uses}
+use Rattle.sd_pagelock.specs.Places.{PageEntry, changed, holds, passes, uses}
 use Rattle.sd_pagelock.proofs.Members.{not_both}
 use Rattle.sd_pagelock.proofs.Uses
-use Rattle.sd_coherent.specs.World.{Base, Dir, now}
+use Rattle.sd_coherent.specs.World.{Base, Dir, newest_version}
 use Rattle.sd_coherent.specs.Coherent.{Coherent, NoneBefore, Quiet, Sits}
 use Rattle.sd_coherent.specs.Puts.{Cleaned, ForcedHasNone, LostHasNone, NoneUnforced, PutIsSafe, Puts, SameLsnIsSame, SyncKeeps, TryKeeps, UnputKeeps, WriteKeeps, with_device}
 use Rattle.sd_coherent.proofs.Cases.{at_page, by_seat, no_more, none_some}
@@ -45,12 +45,12 @@ lost-none may b d p c idle settled lost j = ⊎_elim (λ q. q)
 module _ {may : May} (p : ℕ) (b : Base may) (d : Dir) (c : Coherent b d) (none : NoneUnforced b p) (may' : May) (disk : ℕ → Page)
     (loose : Bool) (dev : Puts p b may' disk loose) where
   pub put-safe : IsSafe b.tails may' b.version
-  put-safe = narrowed-safe (or_written may p (now b p)) may' dev.leaves b.tails b.version
+  put-safe = narrowed-safe (or_written may p (newest_version b p)) may' dev.leaves b.tails b.version
       (Images.write-safe b.tails may b.version c.safe p none b.disk c.reads)
 
   -- nothing is above the newest version
-  none_above : (l : ℕ) (x : Page) → x ≡ now b p → (j : ℕ) → NoneBefore p l x (log b.tails j)
-  none_above l x is j = Each-weaker (λ r. of_page p r ≡ true → r.lsn ≤ (now b p).lsn) (λ r. of_page p r ≡ true → x.lsn < r.lsn → l ≤ r.lsn)
+  none_above : (l : ℕ) (x : Page) → x ≡ newest_version b p → (j : ℕ) → NoneBefore p l x (log b.tails j)
+  none_above l x is j = Each-weaker (λ r. of_page p r ≡ true → r.lsn ≤ (newest_version b p).lsn) (λ r. of_page p r ≡ true → x.lsn < r.lsn → l ≤ r.lsn)
       (λ r h of lt. let low = h of in let e = ap (λ (v : Page). v.lsn) is in absurd (omega (arith, low, e, lt)))
       (log b.tails j) (Versions.low b.tails may b.version c.safe b.disk c.reads p j)
 
@@ -70,7 +70,7 @@ module _ {may : May} (p : ℕ) (b : Base may) (d : Dir) (c : Coherent b d) (none
     unforced = λ j q. c.unforced j q;
     ready = c.ready;
     marks = c.marks;
-    clean = at_page p (λ q. changed (d.entry q) ≡ false → (x : Page) → may' q x → x ≡ now b q)
+    clean = at_page p (λ q. changed (d.entry q) ≡ false → (x : Page) → may' q x → x ≡ newest_version b q)
         (λ e. not_both dirty e)
         (λ q ne e x m. c.clean q e x (was q x ne m));
     first = at_page p (λ q. (l : ℕ) → b.rec_lsn q ≡ Some l → (x : Page) → may' q x → (j : ℕ) → NoneBefore q l x (log b.tails j))
@@ -80,38 +80,38 @@ module _ {may : May} (p : ℕ) (b : Base may) (d : Dir) (c : Coherent b d) (none
   }
 
   -- a put that arrives, of a held page or a lost one
-  pub written-coherent : (rec_lsn : ℕ → Option ℕ) (d' : Dir) → ((x : Page) → may' p x → x ≡ now b p) → Cleaned p b rec_lsn d d'
+  pub written-coherent : (rec_lsn : ℕ → Option ℕ) (d' : Dir) → ((x : Page) → may' p x → x ≡ newest_version b p) → Cleaned p b rec_lsn d d'
       → Coherent (with_device may' b disk loose rec_lsn) d'
   written-coherent rec_lsn d' exact w = record {
     safe = put-safe;
     eight = c.eight;
     reads = dev.left.reads;
     still = dev.left.still;
-    copies = λ k. at_page p (λ q. d'.pool k q ≡ cond (holds (d'.entry q) k) (Some (now b q)) None)
+    copies = λ k. at_page p (λ q. d'.pool k q ≡ cond (holds (d'.entry q) k) (Some (newest_version b q)) None)
         (w.pool k p ∙ c.copies k p
-        ∙ ap (λ (t : Bool). cond t (Some (now b p)) None) (sym (ap (λ (l : Entry). holds l k) w.here ∙ Uses.holds-written k (d.entry p))))
-        (λ q ne. w.pool k q ∙ c.copies k q ∙ ap (λ (l : Entry). cond (holds l k) (Some (now b q)) None) (sym (w.others q ne)));
-    moving = at_page p (λ q. d'.moving q ≡ cond (passes (d'.entry q)) (Some (now b q)) None)
+        ∙ ap (λ (t : Bool). cond t (Some (newest_version b p)) None) (sym (ap (λ (l : PageEntry). holds l k) w.here ∙ Uses.holds-written k (d.entry p))))
+        (λ q ne. w.pool k q ∙ c.copies k q ∙ ap (λ (l : PageEntry). cond (holds l k) (Some (newest_version b q)) None) (sym (w.others q ne)));
+    moving = at_page p (λ q. d'.moving q ≡ cond (passes (d'.entry q)) (Some (newest_version b q)) None)
         (w.moving p ∙ c.moving p
-        ∙ ap (λ (t : Bool). cond t (Some (now b p)) None) (sym (ap passes w.here ∙ Uses.passes-written (d.entry p))))
-        (λ q ne. w.moving q ∙ c.moving q ∙ ap (λ (l : Entry). cond (passes l) (Some (now b q)) None) (sym (w.others q ne)));
+        ∙ ap (λ (t : Bool). cond t (Some (newest_version b p)) None) (sym (ap passes w.here ∙ Uses.passes-written (d.entry p))))
+        (λ q ne. w.moving q ∙ c.moving q ∙ ap (λ (l : PageEntry). cond (passes l) (Some (newest_version b q)) None) (sym (w.others q ne)));
     live = λ k. at_page p (λ q. uses (d'.entry q) k ≡ true → b.active k ≡ true)
-        (λ u. c.live k p (sym (ap (λ (l : Entry). uses l k) w.here ∙ Uses.uses-written k (d.entry p)) ∙ u))
-        (λ q ne u. c.live k q (ap (λ (l : Entry). uses l k) (sym (w.others q ne)) ∙ u));
+        (λ u. c.live k p (sym (ap (λ (l : PageEntry). uses l k) w.here ∙ Uses.uses-written k (d.entry p)) ∙ u))
+        (λ q ne u. c.live k q (ap (λ (l : PageEntry). uses l k) (sym (w.others q ne)) ∙ u));
     unforced = λ j. at_page p (λ q. Quiet q (b.tails.tail j) ⊎ Sits (with_device may' b disk loose rec_lsn) (d'.entry q) j)
         (inl (none j))
-        (λ q ne. subst (λ (l : Entry). Quiet q (b.tails.tail j) ⊎ Sits b l j) (sym (w.others q ne)) (c.unforced j q));
+        (λ q ne. subst (λ (l : PageEntry). Quiet q (b.tails.tail j) ⊎ Sits b l j) (sym (w.others q ne)) (c.unforced j q));
     ready = c.ready;
     marks = at_page p (λ q. is_some (rec_lsn q) ≡ changed (d'.entry q))
         (ap is_some w.no_rec ∙ sym (ap changed w.here ∙ Uses.clean-written (d.entry p) w.there))
         (λ q ne. ap is_some (w.other_rec q ne) ∙ c.marks q ∙ ap changed (sym (w.others q ne)));
-    clean = at_page p (λ q. changed (d'.entry q) ≡ false → (x : Page) → may' q x → x ≡ now b q)
+    clean = at_page p (λ q. changed (d'.entry q) ≡ false → (x : Page) → may' q x → x ≡ newest_version b q)
         (λ e x m. exact x m)
         (λ q ne e x m. c.clean q (ap changed (sym (w.others q ne)) ∙ e) x (was q x ne m));
     first = at_page p (λ q. (l : ℕ) → rec_lsn q ≡ Some l → (x : Page) → may' q x → (j : ℕ) → NoneBefore q l x (log b.tails j))
         (λ l e. none_some w.no_rec e)
         (λ q ne l e x m. c.first q l (sym (w.other_rec q ne) ∙ e) x (was q x ne m));
-    below = at_page p (λ q. (l : ℕ) → rec_lsn q ≡ Some l → d'.entry q ≢ Entry.Lost → l ≤ (now b q).lsn)
+    below = at_page p (λ q. (l : ℕ) → rec_lsn q ≡ Some l → d'.entry q ≢ PageEntry.Lost → l ≤ (newest_version b q).lsn)
         (λ l e found. none_some w.no_rec e)
         (λ q ne l e found. c.below q l (sym (w.other_rec q ne) ∙ e) (λ lost. found (w.others q ne ∙ lost)));
   }

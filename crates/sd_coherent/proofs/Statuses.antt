@@ -2,10 +2,10 @@
 use Rattle.std.proofs.Common.{◌≡◌, inl, ⊎_elim, ℕ, Bool, true, false, cond, [], ◌++◌, None, Some, refl, sym, ap, ◌∙◌, subst, append-nil}
 use Rattle.std.specs.Prelude.{is_some}
 use Rattle.sd_page.specs.Page.{Page}
-use Rattle.sd_chain.specs.Image.{newest}
+use Rattle.sd_chain.specs.Storage.{newest}
 use Rattle.sd_chain.specs.Laws.{May}
 use Rattle.sd_chain.proofs.Images.{opening-safe}
-use Rattle.sd_pagelock.specs.Places.{Entry, changed, holds, passes, uses}
+use Rattle.sd_pagelock.specs.Places.{PageEntry, changed, holds, passes, uses}
 use Rattle.sd_pagelock.specs.Rows.{nowhere}
 use Rattle.sd_pagelock.proofs.Members.{not_both}
 use Rattle.sd_coherent.specs.Coherent.{NoneBefore}
@@ -27,7 +27,7 @@ is_changed : (b : Bool) → b ≡ changed (nowhere b)
 is_changed true = refl
 is_changed false = refl
 
-is_lost : (b : Bool) → b ≡ true → nowhere b ≡ Entry.Lost
+is_lost : (b : Bool) → b ≡ true → nowhere b ≡ PageEntry.Lost
 is_lost true e = refl
 is_lost false e = not_both e refl
 

@@ -12,7 +12,7 @@ use Rattle.sd_chain.specs.Laws.{May}
 use Rattle.sd_pagelock.specs.Places.{changed, owns}
 use Rattle.sd_pagelock.specs.Directory.{kept_rec}
 use Rattle.sd_pagelock.specs.Rows.{dirtied}
-use Rattle.sd_coherent.specs.World.{Base, Dir, Stays, now}
+use Rattle.sd_coherent.specs.World.{Base, Dir, Stays, newest_version}
 use Rattle.sd_coherent.specs.Coherent.{Coherent}
 use Rattle.sd_coherent.specs.Moves.{Elsewhere, OneCopy}
 
@@ -75,7 +75,7 @@ ChangeMayCome may = (a i : ℕ) (image : Page) (y : Rec) (b : Base may) (d : Dir
     → FitsKind Update y image.slots
     → ((t : TxnId) → t ≢ y.txn → IsOpen t (b.tails.base (home t))
     → filter (at y.page y.slot) (stack t (log b.tails (home t))) ≡ [])
-    → MayChange i b.tails (now b) y
+    → MayChange i b.tails (newest_version b) y
 
 -- The record takes back the top of its transaction's stack.
 pub record IsUndo (y top : Rec) (below own : List Rec) : Type 0 where
@@ -92,7 +92,7 @@ pub record IsUndo (y top : Rec) (below own : List Rec) : Type 0 where
 abbrev pub UndoMayCome : May → Type 0
 UndoMayCome may = (a i : ℕ) (image : Page) (y top : Rec) (below : List Rec) (b : Base may) (d : Dir) → Coherent b d
     → owns (d.entry y.page) a ≡ true → Acts b a i → d.pool a y.page ≡ Some image → image.lsn < y.lsn
-    → IsUndo y top below (log b.tails (home y.txn)) → MayUndo i b.tails (now b) y top below
+    → IsUndo y top below (log b.tails (home y.txn)) → MayUndo i b.tails (newest_version b) y top below
 
 -- A change keeps coherence.
 abbrev pub ChangeKeeps : May → May → Type 0

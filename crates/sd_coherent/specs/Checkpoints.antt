@@ -6,7 +6,7 @@ use Rattle.sd_chain.specs.Records.{Each, IsOpen, of_page}
 use Rattle.sd_chain.specs.Order.{speaks}
 use Rattle.sd_chain.specs.Images.{Grows, Settled, Shortened, Tails, log, or_written}
 use Rattle.sd_chain.specs.Laws.{May, Narrows}
-use Rattle.sd_coherent.specs.World.{Base, Dir, now}
+use Rattle.sd_coherent.specs.World.{Base, Dir, newest_version}
 use Rattle.sd_coherent.specs.Coherent.{Coherent}
 
 -- The record, where it is of this page and below low, is on this disk image of it.
@@ -67,7 +67,7 @@ CoverSettles may may' = (low i j : ℕ) (kept : Bool) (b : Base may) (b' : Base 
 -- A page is put.
 abbrev pub CoverPuts : May → May → Type 0
 CoverPuts may may' = (low i p : ℕ) (b : Base may) (b' : Base may') (d : Dir) → Coherent b d
-    → ((q : ℕ) (x : Page) → may' q x → or_written may p (now b p) q x) → log b'.tails i ≡ log b.tails i → Covered low i b → Covered low i b'
+    → ((q : ℕ) (x : Page) → may' q x → or_written may p (newest_version b p) q x) → log b'.tails i ≡ log b.tails i → Covered low i b → Covered low i b'
 
 -- All else leaves log i as it is, and at most as much of device 0.
 abbrev pub CoverStays : May → May → Type 0

@@ -4,7 +4,7 @@ use Rattle.sd_base.specs.declared.place.Mode.{Mode}
 use Rattle.sd_page.specs.Page.{Page}
 use Rattle.sd_chain.specs.Laws.{May}
 use Rattle.sd_pagelock.specs.Directory.{kept_rec}
-use Rattle.sd_pagelock.specs.Places.{Entry, Formed, changed, holds, is_free, passes, receives, uses}
+use Rattle.sd_pagelock.specs.Places.{Formed, PageEntry, changed, holds, is_free, passes, receives, uses}
 use Rattle.sd_pagelock.specs.Rows.{fallen, given_excl, given_shared, locked, may_raise, may_share, may_yield, raised, taken}
 use Rattle.sd_coherent.specs.World.{Base, Dir}
 use Rattle.sd_coherent.specs.Coherent.{Coherent}
@@ -21,26 +21,26 @@ pub record OneCopy (p i : ℕ) (copy : Option Page) (old new : Dir) : Type 0 whe
   pub others : (k : ℕ) → k ≢ i → new.pool k p ≡ old.pool k p
 
 -- The copies of page p are those that its new entry names, each of them this image.
-pub record Moved (p : ℕ) (image : Page) (to : Entry) (old new : Dir) : Type 0 where
+pub record Moved (p : ℕ) (image : Page) (to : PageEntry) (old new : Dir) : Type 0 where
   pub here : new.entry p ≡ to
   pub copies : (i : ℕ) → new.pool i p ≡ cond (holds to i) (Some image) None
   pub passing : new.moving p ≡ cond (passes to) (Some image) None
   pub others : Elsewhere p old new
 
 -- Such a row: it finds the page, keeps what the disk lacks, and leaves the page to active instances.
-pub record IsRow {may : May} (b : Base may) (from to : Entry) : Type 0 where
-  pub found : from ≢ Entry.Lost
+pub record IsRow {may : May} (b : Base may) (from to : PageEntry) : Type 0 where
+  pub found : from ≢ PageEntry.Lost
   pub changed : changed to ≡ changed from
   pub live : (i : ℕ) → uses to i ≡ true → b.active i ≡ true
 
 -- Where the image comes from: a pool, the moving place, or device 0, of a page that no pool has.
 abbrev pub Source : {may : May} → Base may → Dir → ℕ → Page → Type 0
 Source b d p image = ((i : ℕ) × (d.pool i p ≡ Some image)) ⊎ ((d.moving p ≡ Some image)
-    ⊎ ((d.entry p ≡ Entry.Free) × (image ≡ b.disk p)))
+    ⊎ ((d.entry p ≡ PageEntry.Free) × (image ≡ b.disk p)))
 
 -- Where one has the page alone, changed, its log has no tail, or isn't settled.
 abbrev pub ForcedFor : {may : May} → Base may → Dir → ℕ → Type 0
-ForcedFor b d p = (j : ℕ) → d.entry p ≡ Entry.Excl j true → b.loose j ≡ false → b.tails.tail j ≡ []
+ForcedFor b d p = (j : ℕ) → d.entry p ≡ PageEntry.Excl j true → b.loose j ≡ false → b.tails.tail j ≡ []
 
 -- A row may come now: no force is under way and no fall is due, the page is forced for, and other pages stay.
 pub record MayMove {may : May} (b : Base may) (old new : Dir) (p : ℕ) : Type 0 where
@@ -51,12 +51,12 @@ pub record MayMove {may : May} (b : Base may) (old new : Dir) (p : ℕ) : Type 0
 
 -- Any row keeps coherence.
 abbrev pub RowKeeps : May → Type 0
-RowKeeps may = (b : Base may) (old new : Dir) (p : ℕ) (image : Page) (to : Entry) → Coherent b old → b.due ≡ None
+RowKeeps may = (b : Base may) (old new : Dir) (p : ℕ) (image : Page) (to : PageEntry) → Coherent b old → b.due ≡ None
     → ForcedFor b old p → IsRow b (old.entry p) to → Source b old p image → Moved p image to old new → Coherent b new
 
 -- And the page keeps its RecLSN, whatever LSN the directory was given with the row.
 abbrev pub RowKeepsRec : May → Type 0
-RowKeepsRec may = (b : Base may) (d : Dir) (p : ℕ) (to : Entry) (rec : Option ℕ) → Coherent b d → changed to ≡ changed (d.entry p)
+RowKeepsRec may = (b : Base may) (d : Dir) (p : ℕ) (to : PageEntry) (rec : Option ℕ) → Coherent b d → changed to ≡ changed (d.entry p)
     → kept_rec (changed (d.entry p)) (changed to) (b.rec_lsn p) rec ≡ b.rec_lsn p
 
 -- i reads a free page from device 0.

@@ -2,11 +2,11 @@
 use Rattle.std.specs.Prelude.{◌≡◌, ℕ, Bool, List}
 use Rattle.sd_logrec.specs.View.{Rec}
 use Rattle.sd_page.specs.Page.{Page}
-use Rattle.sd_chain.specs.Image.{newest}
+use Rattle.sd_chain.specs.Storage.{newest}
 use Rattle.sd_chain.specs.Cuts.{cut}
 use Rattle.sd_chain.specs.Images.{Allowed, IsSafe, Keeps, MayChange, MaySeal, MayUndo, Redone, Settled, Tails, kept_at, with_disk}
 use Rattle.sd_chain.specs.Laws.{Appends, May, Narrows}
-use Rattle.sd_coherent.specs.World.{Base, Dir, now}
+use Rattle.sd_coherent.specs.World.{Base, Dir, newest_version}
 use Rattle.sd_coherent.specs.Coherent.{Coherent}
 
 -- the newest versions of these logs over this disk
@@ -44,11 +44,11 @@ SealNamed may may' = (i : ℕ) (y : Rec) (b : Base may) (d : Dir) (new : Tails) 
 -- A change comes.
 abbrev pub ChangeNamed : May → May → Type 0
 ChangeNamed may may' = (i : ℕ) (y : Rec) (b : Base may) (d : Dir) (new : Tails) (disk : ℕ → Page) → Coherent b d
-    → Appends i y b.tails new → MayChange i b.tails (now b) y → Narrows may may' → Allowed may' disk
+    → Appends i y b.tails new → MayChange i b.tails (newest_version b) y → Narrows may may' → Allowed may' disk
     → IsRedone may' i y new disk b.version
 
 -- An undo comes.
 abbrev pub UndoNamed : May → May → Type 0
 UndoNamed may may' = (i : ℕ) (y top : Rec) (below : List Rec) (b : Base may) (d : Dir) (new : Tails) (disk : ℕ → Page) → Coherent b d
-    → Appends i y b.tails new → MayUndo i b.tails (now b) y top below → Narrows may may' → Allowed may' disk
+    → Appends i y b.tails new → MayUndo i b.tails (newest_version b) y top below → Narrows may may' → Allowed may' disk
     → IsRedone may' i y new disk b.version

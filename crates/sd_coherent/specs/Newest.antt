@@ -7,8 +7,8 @@ use Rattle.sd_chain.specs.Records.{Each, IsOpen, Val, at, home, of_page, stack}
 use Rattle.sd_chain.specs.Pages.{value}
 use Rattle.sd_chain.specs.Images.{Gives, Keeps, all_kept, log}
 use Rattle.sd_chain.specs.Laws.{May}
-use Rattle.sd_pagelock.specs.Places.{Entry, holds, owns, passes}
-use Rattle.sd_coherent.specs.World.{Base, Dir, now}
+use Rattle.sd_pagelock.specs.Places.{PageEntry, holds, owns, passes}
+use Rattle.sd_coherent.specs.World.{Base, Dir, newest_version}
 use Rattle.sd_coherent.specs.Coherent.{Coherent, Quiet}
 
 -- Nobody but i may update page p, or has a copy of it, and none is on its way.
@@ -25,13 +25,13 @@ OneMayUpdate may = (b : Base may) (d : Dir) → Coherent b d → (p i : ℕ) →
 -- the newest version.
 abbrev pub EachCopyIsNewest : May → Type 0
 EachCopyIsNewest may = (b : Base may) (d : Dir) → Coherent b d → (p i : ℕ)
-    → (holds (d.entry p) i ≡ true → d.pool i p ≡ Some (now b p))
-    × ((x : Page) → d.pool i p ≡ Some x → (holds (d.entry p) i ≡ true) × (x ≡ now b p))
+    → (holds (d.entry p) i ≡ true → d.pool i p ≡ Some (newest_version b p))
+    × ((x : Page) → d.pool i p ≡ Some x → (holds (d.entry p) i ≡ true) × (x ≡ newest_version b p))
 
 -- And so is what moves.
 abbrev pub MovingIsNewest : May → Type 0
-MovingIsNewest may = (b : Base may) (d : Dir) → Coherent b d → (p : ℕ) → (passes (d.entry p) ≡ true → d.moving p ≡ Some (now b p))
-    × ((x : Page) → d.moving p ≡ Some x → (passes (d.entry p) ≡ true) × (x ≡ now b p))
+MovingIsNewest may = (b : Base may) (d : Dir) → Coherent b d → (p : ℕ) → (passes (d.entry p) ≡ true → d.moving p ≡ Some (newest_version b p))
+    × ((x : Page) → d.moving p ≡ Some x → (passes (d.entry p) ≡ true) × (x ≡ newest_version b p))
 
 -- Tails without a record of the page make no difference to its version.
 abbrev pub QuietTailsAgree : May → Type 0
@@ -40,8 +40,8 @@ QuietTailsAgree may = (b : Base may) (d : Dir) → Coherent b d → (keeps keeps
 
 -- So, where the page isn't lost, only the tails of active instances count.
 abbrev pub ActiveTailsCount : May → Type 0
-ActiveTailsCount may = (b : Base may) (d : Dir) → Coherent b d → b.due ≡ None → (p : ℕ) → d.entry p ≢ Entry.Lost
-    → now b p ≡ b.version b.active p
+ActiveTailsCount may = (b : Base may) (d : Dir) → Coherent b d → b.due ≡ None → (p : ℕ) → d.entry p ≢ PageEntry.Lost
+    → newest_version b p ≡ b.version b.active p
 
 -- A settled log of an instance that isn't active has no record of a page in its tail.
 abbrev pub InactiveHasNone : May → Type 0
@@ -55,7 +55,7 @@ UpIsSettled may = (b : Base may) (d : Dir) → Coherent b d → b.due ≡ None �
 -- No record of a page is above its newest version's LSN.
 abbrev pub NewestIsHigh : May → Type 0
 NewestIsHigh may = (b : Base may) (d : Dir) → Coherent b d → (p j : ℕ)
-    → Each (λ x. of_page p x ≡ true → x.lsn ≤ (now b p).lsn) (log b.tails j)
+    → Each (λ x. of_page p x ≡ true → x.lsn ≤ (newest_version b p).lsn) (log b.tails j)
 
 -- ---- values: what recovery gives where all tails are kept
 
@@ -64,10 +64,10 @@ abbrev pub CommittedIsThere : May → Type 0
 CommittedIsThere may = (b : Base may) (d : Dir) → Coherent b d → (values : Keeps → ℕ → ℕ → Val) → Gives b.tails may values
     → (p s : ℕ)
     → ((t : TxnId) → IsOpen t (log b.tails (home t)) → filter (at p s) (stack t (log b.tails (home t))) ≡ [])
-    → value (now b p).slots s ≡ values all_kept p s
+    → value (newest_version b p).slots s ≡ values all_kept p s
 
 -- One that a transaction has open has that one's last value.
 abbrev pub OpenIsThere : May → Type 0
 OpenIsThere may = (b : Base may) (d : Dir) → Coherent b d → (p s : ℕ) (t : TxnId) (top : Rec) (below : List Rec)
     → IsOpen t (log b.tails (home t)) → filter (at p s) (stack t (log b.tails (home t))) ≡ top ∷ below
-    → value (now b p).slots s ≡ top.after
+    → value (newest_version b p).slots s ≡ top.after

@@ -3,9 +3,9 @@ use Rattle.std.specs.Prelude.{◌≡◌, ◌≢◌, ℕ, ◌≤◌, Bool, true, 
 use Rattle.sd_page.specs.Page.{Page}
 use Rattle.sd_chain.specs.Images.{Allowed, IsSafe, or_written}
 use Rattle.sd_chain.specs.Laws.{May, Narrows}
-use Rattle.sd_pagelock.specs.Places.{Entry, changed, is_lost}
+use Rattle.sd_pagelock.specs.Places.{PageEntry, changed, is_lost}
 use Rattle.sd_pagelock.specs.Rows.{may_write, written}
-use Rattle.sd_coherent.specs.World.{Base, Dir, now}
+use Rattle.sd_coherent.specs.World.{Base, Dir, newest_version}
 use Rattle.sd_coherent.specs.Coherent.{Coherent, Quiet}
 use Rattle.sd_coherent.specs.Moves.{ForcedFor}
 
@@ -34,7 +34,7 @@ pub record IsLeft (may : May) (disk : ℕ → Page) (loose : Bool) : Type 0 wher
 
 -- What a put of page p's newest version leaves of device 0, whatever it answers.
 pub record Puts {may : May} (p : ℕ) (b : Base may) (may' : May) (disk : ℕ → Page) (loose : Bool) : Type 0 where
-  pub leaves : (q : ℕ) (x : Page) → may' q x → or_written may p (now b p) q x
+  pub leaves : (q : ℕ) (x : Page) → may' q x → or_written may p (newest_version b p) q x
   pub left : IsLeft may' disk loose
 
 -- Page p, changed and at rest or lost, is called clean: so says its entry, and it has no RecLSN.
@@ -51,14 +51,14 @@ pub record Cleaned {may : May} (p : ℕ) (b : Base may) (rec_lsn : ℕ → Optio
 
 -- A page that isn't lost, and whose holder's tail is forced, has no record in a tail.
 abbrev pub ForcedHasNone : May → Type 0
-ForcedHasNone may = (b : Base may) (d : Dir) (p : ℕ) → Coherent b d → b.due ≡ None → d.entry p ≢ Entry.Lost → ForcedFor b d p
+ForcedHasNone may = (b : Base may) (d : Dir) (p : ℕ) → Coherent b d → b.due ≡ None → d.entry p ≢ PageEntry.Lost → ForcedFor b d p
     → NoneUnforced b p
 
 -- Nor has a lost page, once all logs are settled: its newest version is built of forced records.
 abbrev pub LostHasNone : May → Type 0
 LostHasNone may = (b : Base may) (d : Dir) (p : ℕ) → Coherent b d → b.due ≡ None
     → ((j : ℕ) → 1 ≤ j → j ≤ 8 → b.loose j ≡ false)
-    → d.entry p ≡ Entry.Lost → NoneUnforced b p
+    → d.entry p ≡ PageEntry.Lost → NoneUnforced b p
 
 -- Then each image is sound while the page is put, and after.
 abbrev pub PutIsSafe : May → May → Type 0
@@ -73,7 +73,7 @@ TryKeeps may may' = (p : ℕ) (b : Base may) (d : Dir) (disk : ℕ → Page) (lo
 -- A put that arrives keeps coherence: the page is on disk, whatever a crash leaves.
 abbrev pub WriteKeeps : May → May → Type 0
 WriteKeeps may may' = (p : ℕ) (b : Base may) (old new : Dir) (disk : ℕ → Page) (loose : Bool) (rec_lsn : ℕ → Option ℕ)
-    → Coherent b old → NoneUnforced b p → Puts p b may' disk loose → ((x : Page) → may' p x → x ≡ now b p)
+    → Coherent b old → NoneUnforced b p → Puts p b may' disk loose → ((x : Page) → may' p x → x ≡ newest_version b p)
     → Cleaned p b rec_lsn old new
     → Coherent (with_device may' b disk loose rec_lsn) new
 
@@ -84,10 +84,10 @@ SyncKeeps may may' = (b : Base may) (d : Dir) (disk : ℕ → Page) (loose : Boo
 
 -- A page that device 0 reads with the LSN of its newest version is that version: nothing is to be put.
 abbrev pub SameLsnIsSame : May → Type 0
-SameLsnIsSame may = (b : Base may) (d : Dir) (p : ℕ) → Coherent b d → (now b p).lsn ≡ (b.disk p).lsn → now b p ≡ b.disk p
+SameLsnIsSame may = (b : Base may) (d : Dir) (p : ℕ) → Coherent b d → (newest_version b p).lsn ≡ (b.disk p).lsn → newest_version b p ≡ b.disk p
 
 -- So the page may be called clean without a put, where device 0 is settled.
 abbrev pub UnputKeeps : May → Type 0
 UnputKeeps may = (p : ℕ) (b : Base may) (old new : Dir) (rec_lsn : ℕ → Option ℕ) → Coherent b old → NoneUnforced b p
-    → b.loose_disk ≡ false → (now b p).lsn ≡ (b.disk p).lsn → Cleaned p b rec_lsn old new
+    → b.loose_disk ≡ false → (newest_version b p).lsn ≡ (b.disk p).lsn → Cleaned p b rec_lsn old new
     → Coherent (with_device may b b.disk b.loose_disk rec_lsn) new

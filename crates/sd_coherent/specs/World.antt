@@ -3,7 +3,7 @@ use Rattle.std.specs.Prelude.{◌≡◌, ℕ, ◌≤◌, Bool, Option, eqb, cond
 use Rattle.sd_page.specs.Page.{Page}
 use Rattle.sd_chain.specs.Images.{Tails, Keeps, all_kept}
 use Rattle.sd_chain.specs.Laws.{May}
-use Rattle.sd_pagelock.specs.Places.{Entry}
+use Rattle.sd_pagelock.specs.Places.{PageEntry}
 
 -- Logs, device 0 and the instances, where a crash may leave each page of device 0 so.
 pub record Base (may : May) : Type 0 where
@@ -28,13 +28,13 @@ pub record Base (may : May) : Type 0 where
 
 -- The directory's entries, the copies in each instance's pool, and the copies on their way.
 pub record Dir : Type 0 where
-  pub entry : ℕ → Entry
+  pub entry : ℕ → PageEntry
   pub pool : ℕ → ℕ → Option Page
   pub moving : ℕ → Option Page
 
 -- the newest version of a page: with the records of all tails
-abbrev pub now : {may : May} → Base may → ℕ → Page
-now b p = b.version all_kept p
+abbrev pub newest_version : {may : May} → Base may → ℕ → Page
+newest_version b p = b.version all_kept p
 
 -- with this value at i
 abbrev pub put_at : {A : Type 0} → ℕ → A → (ℕ → A) → ℕ → A

@@ -19,7 +19,7 @@ use Rattle.sd_model.specs.declared.event.Reply.{Reply}
 use Rattle.sd_model.specs.declared.event.Reply.TheVariants as reply
 use Rattle.sd_model.specs.Acts.{Puts, live, undone}
 use Rattle.sd_model.specs.Applies.{First, HasPage}
-use Rattle.sd_model.specs.Causes.{has, order}
+use Rattle.sd_model.specs.Causes.{has_cause, order}
 use Rattle.sd_model.specs.Changes.{goal, undid_part}
 use Rattle.sd_model.specs.Refusing.{Refuses, causes_of, counted}
 use Rattle.sd_model.specs.State.{Part, State, fall, lost_part, put_part, turned, with_life}
@@ -62,11 +62,11 @@ lost-acts false p = refl
 
 -- no cause of it leaves an act, and no join is counted
 record IsCalm (m : State) (e : Event) : Type 0 where
-  no_record : has Cause.NoRecord (order e) ≡ false
-  no_number : has Cause.NotNumber (order e) ≡ false
-  digits : has Cause.Digits (order e) ≡ false
-  over : has Cause.Over (order e) ≡ false
-  cut : has Cause.Cut (order e) ≡ false
+  no_record : has_cause Cause.NoRecord (order e) ≡ false
+  no_number : has_cause Cause.NotNumber (order e) ≡ false
+  digits : has_cause Cause.Digits (order e) ≡ false
+  over : has_cause Cause.Over (order e) ≡ false
+  cut : has_cause Cause.Cut (order e) ≡ false
   uncounted : counted e m ≡ m
 
 unlike : {A : Type 0} {b : Bool} → b ≡ true → b ≡ false → A
@@ -79,7 +79,7 @@ module _ (m m' : State) where
   falls-acts : (j : ℕ) → m' ≡ fall j m → NoneActs m m'
   falls-acts j is t = ap (λ (s : State). (s.part t).acts) is ∙ lost-acts (eqb j t.inst) (m.part t)
 
-  refused-acts : (e : Event) (c : Cause) → IsCalm m e → has c (order e) ≡ true → Refuses m e c m' → NoneActs m m'
+  refused-acts : (e : Event) (c : Cause) → IsCalm m e → has_cause c (order e) ≡ true → Refuses m e c m' → NoneActs m m'
   refused-acts e Cause.NoRecord calm there h = unlike there calm.no_record
   refused-acts e Cause.NotNumber calm there h = unlike there calm.no_number
   refused-acts e Cause.Digits calm there h = unlike there calm.digits
@@ -120,13 +120,13 @@ module _ (m m' : State) where
   helps-acts e r help s = absurd help
 
 -- a cause of the devices is told as their failure
-rig-fails : (n : Refusal) → has Cause.Rig (causes_of n) ≡ true → is_failed (reply.Refused n) ≡ false → ⊥
+rig-fails : (n : Refusal) → has_cause Cause.Rig (causes_of n) ≡ true → is_failed (reply.Refused n) ≡ false → ⊥
 rig-fails R.Failed named fine = absurd (cc)
 rig-fails n named fine = absurd (cc)
 
 module _ (m m' : State) where
-  refused-same : (e : Event) (n : Refusal) (c : Cause) → IsCalm m e → is_failed (reply.Refused n) ≡ false → has c (causes_of n) ≡ true
-      → has c (order e) ≡ true → Refuses m e c m' → m' ≡ m
+  refused-same : (e : Event) (n : Refusal) (c : Cause) → IsCalm m e → is_failed (reply.Refused n) ≡ false → has_cause c (causes_of n) ≡ true
+      → has_cause c (order e) ≡ true → Refuses m e c m' → m' ≡ m
   refused-same e n Cause.NoRecord calm fine named there h = unlike there calm.no_record
   refused-same e n Cause.NotNumber calm fine named there h = unlike there calm.no_number
   refused-same e n Cause.Digits calm fine named there h = unlike there calm.digits
@@ -168,7 +168,7 @@ module _ (m m' : State) where
   ask-open i p mode s shut = by s.0 s.1 s.3
       (sym (ap (λ (k : State). (k.inst 1).status) (helps-same (event.Ask i p mode) (reply.Refused R.PoolFull) tt refl s)) ∙ shut)
     where
-      by : (c : Cause) → has c (Cause.Frame ∷ []) ≡ true → First m (event.Ask i p mode) c → (m.inst 1).status ≡ S.Closed → ⊥
+      by : (c : Cause) → has_cause c (Cause.Frame ∷ []) ≡ true → First m (event.Ask i p mode) c → (m.inst 1).status ≡ S.Closed → ⊥
       by Cause.Frame named first closed = first.1.0 closed
       by c named first closed = absurd (cc)
 
@@ -176,14 +176,14 @@ module _ (m m' : State) where
   take-open i p s shut = by s.0 s.1 s.3
       (sym (ap (λ (k : State). (k.inst 1).status) (helps-same (event.Take i p) (reply.Refused R.PoolFull) tt refl s)) ∙ shut)
     where
-      by : (c : Cause) → has c (Cause.Frame ∷ []) ≡ true → First m (event.Take i p) c → (m.inst 1).status ≡ S.Closed → ⊥
+      by : (c : Cause) → has_cause c (Cause.Frame ∷ []) ≡ true → First m (event.Take i p) c → (m.inst 1).status ≡ S.Closed → ⊥
       by Cause.Frame named first closed = first.1.0 closed
       by c named first closed = absurd (cc)
 
 -- ---- a refusal for want of a page
 
 module _ (m m' : State) where
-  away-stays : (e : Event) (c : Cause) → has c (Cause.Away ∷ []) ≡ true → Refuses m e c m' → m' ≡ m
+  away-stays : (e : Event) (c : Cause) → has_cause c (Cause.Away ∷ []) ≡ true → Refuses m e c m' → m' ≡ m
   away-stays e Cause.NoRecord away h = absurd (cc)
   away-stays e Cause.NotNumber away h = absurd (cc)
   away-stays e Cause.Digits away h = absurd (cc)
@@ -217,7 +217,7 @@ away-open m e first closed = let there = first.0 in absurd (cc)
 pub need-open : (m m' : State) (e : Event) (place : Place) → Step m e (reply.Refused (R.NeedPage place)) m' → (m'.inst 1).status ≡ S.Closed → ⊥
 need-open m m' e place s shut = by s.0 s.1 s.3 (sym (ap (λ (k : State). (k.inst 1).status) (need-stays m m' e place s)) ∙ shut)
   where
-    by : (c : Cause) → has c (Cause.Away ∷ []) ≡ true → First m e c → (m.inst 1).status ≡ S.Closed → ⊥
+    by : (c : Cause) → has_cause c (Cause.Away ∷ []) ≡ true → First m e c → (m.inst 1).status ≡ S.Closed → ⊥
     by Cause.Away named first closed = away-open m e first closed
     by c named first closed = absurd (cc)
 
@@ -236,7 +236,7 @@ pub undo-needs : (m : State) (t : TxnId) (place : Place) (m' : State) → Step m
     → HasPage m (event.Undo t) × ((m.inst t.inst).status ≡ S.Up)
 undo-needs m t place m' s = by s.0 s.1 s.3
   where
-    by : (c : Cause) → has c (Cause.Away ∷ []) ≡ true → First m (event.Undo t) c → HasPage m (event.Undo t) × ((m.inst t.inst).status ≡ S.Up)
+    by : (c : Cause) → has_cause c (Cause.Away ∷ []) ≡ true → First m (event.Undo t) c → HasPage m (event.Undo t) × ((m.inst t.inst).status ≡ S.Up)
     by Cause.Away away first = (first.2, is-up (m.inst t.inst).status first.1.1.1.0)
     by c away first = absurd (cc)
 

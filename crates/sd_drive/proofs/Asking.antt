@@ -5,7 +5,7 @@ use Rattle.sd_model.specs.declared.event.Event.{Event}
 use Rattle.sd_model.specs.declared.event.Event.TheVariants as event
 use Rattle.sd_model.specs.declared.event.Reply.{Reply}
 use Rattle.sd_model.specs.declared.event.Reply.TheVariants as reply
-use Rattle.sd_pagelock.specs.Places.{Entry, changed, holds, receives}
+use Rattle.sd_pagelock.specs.Places.{PageEntry, changed, holds, receives}
 use Rattle.sd_world.specs.Pages.{is_duty}
 use Rattle.sd_world.specs.Serving.{Core, Telling, Turns}
 use Rattle.sd_drive.specs.Bodies.{entry_in}
@@ -61,15 +61,15 @@ due-as : {G : Type 0} (tell : Telling G) (old : Hall G) (start : Start G) (w : W
     → makes_room w.core.pages i v ≡ cond {A = Event} b (event.Flush i v) (event.Evict i v)
 due-as tell old start w there i v b is =
     ap (λ (c : Bool). cond {A = Event} c (event.Flush i v) (event.Evict i v))
-    (ap (λ (e : Entry). changed e && is_duty i e) (entry-is tell old.body w.core (fits-now tell start old w there) v) ∙ is)
+    (ap (λ (e : PageEntry). changed e && is_duty i e) (entry-is tell old.body w.core (fits-now tell start old w there) v) ∙ is)
 
 module _ {G : Type 0} (tell : Telling G) (old : Hall G) (i v : ℕ) (lt : v < 1024)
     (has : holds (entry_in old.body v) i ≡ true) (rests : receives (entry_in old.body v) i ≡ false) where
   has-now : (start : Start G) (w : World) → IsIn tell start old w → holds (w.core.pages.entry v) i ≡ true
-  has-now start w there = ap (λ (e : Entry). holds e i) (entry-is tell old.body w.core (fits-now tell start old w there) v) ∙ has
+  has-now start w there = ap (λ (e : PageEntry). holds e i) (entry-is tell old.body w.core (fits-now tell start old w there) v) ∙ has
 
   rests-now : (start : Start G) (w : World) → IsIn tell start old w → receives (w.core.pages.entry v) i ≡ false
-  rests-now start w there = ap (λ (e : Entry). receives e i) (entry-is tell old.body w.core (fits-now tell start old w there) v) ∙ rests
+  rests-now start w there = ap (λ (e : PageEntry). receives e i) (entry-is tell old.body w.core (fits-now tell start old w there) v) ∙ rests
 
   pub room-evicted : (new : Hall G) (r : Reply)
       → (changed (entry_in old.body v) && is_duty i (entry_in old.body v)) ≡ false

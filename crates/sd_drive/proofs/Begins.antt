@@ -11,7 +11,7 @@ use Rattle.sd_model.specs.declared.event.Reply.TheVariants as reply
 use Rattle.sd_script.specs.declared.line.Form.{Form}
 use Rattle.sd_script.specs.declared.line.Form.TheVariants as form
 use Rattle.sd_script.specs.declared.line.Line.{Line}
-use Rattle.sd_script.specs.Order.{begun, begun_by, has}
+use Rattle.sd_script.specs.Order.{begun, begun_by, has_name}
 use Rattle.sd_world.specs.Serving.{Telling}
 use Rattle.sd_drive.specs.declared.driver.Driver.{Driver}
 use Rattle.sd_drive.specs.Driving.{Cursor, Work, World, done, works_of}
@@ -23,17 +23,17 @@ use Rattle.sd_drive.proofs.Naming.{begun-more, named-none, named-push}
 use Rattle.sd_drive.specs.Running.{Start}
 
 -- where the begin is refused the name has no transaction, as before
-none-now : (names : List (List ℕ)) (txns : List (Option TxnId)) (name q : List ℕ) → has names name ≡ false
+none-now : (names : List (List ℕ)) (txns : List (Option TxnId)) (name q : List ℕ) → has_name names name ≡ false
     → cond {A = Option TxnId} (bytes_eq name q) None (named names txns q) ≡ named names txns q
 none-now names txns name q fresh = ⊎_elim
     (λ (same : bytes_eq name q ≡ true).
     ap (λ (b : Bool). cond {A = Option TxnId} b None (named names txns q)) same
-    ∙ sym (named-none names txns q (subst (λ (x : List ℕ). has names x ≡ false) ((bytes_decides name q).0 same) fresh)))
+    ∙ sym (named-none names txns q (subst (λ (x : List ℕ). has_name names x ≡ false) ((bytes_decides name q).0 same) fresh)))
     (λ (differ : bytes_eq name q ≡ false). ap (λ (b : Bool). cond {A = Option TxnId} b None (named names txns q)) differ)
     (cases_Bool (bytes_eq name q))
 
 module _ (names : List (List ℕ)) (txns : List (Option TxnId)) (known : Names) (all : (q : List ℕ) → named names txns q ≡ known q)
-    (inst : ℕ) (name : List ℕ) (fresh : has names name ≡ false) where
+    (inst : ℕ) (name : List ℕ) (fresh : has_name names name ≡ false) where
   names-after : (r : Reply) (q : List ℕ)
       → cond {A = Option TxnId} (bytes_eq name q) (began_by r) (named names txns q) ≡ named_by (form.Begin inst name) r known q
   names-after (reply.Began t) q = ap (λ (o : Option TxnId). cond {A = Option TxnId} (bytes_eq name q) (Some t) o) (all q)
@@ -41,7 +41,7 @@ module _ (names : List (List ℕ)) (txns : List (Option TxnId)) (known : Names) 
 
 module _ {G : Type 0} (tell : Telling G) (start : Start G) (lines : List Line) (n : ℕ) (line : Line) (at : slice_get lines n ≡ Some line)
     (old : Driver G) (w : World) (r : Reached tell start lines n old w) (inst : ℕ) (name : List ℕ) (is : line.form ≡ form.Begin inst name)
-    (fresh : has (begun (take n lines)) name ≡ false) where
+    (fresh : has_name (begun (take n lines)) name ≡ false) where
   now-begun : begun (take (n + 1) lines) ≡ begun (take n lines) ++ name ∷ []
   now-begun = begun-more lines n line at ∙ ap (λ (f : Form). begun (take n lines) ++ begun_by f) is
 

@@ -8,7 +8,7 @@ use Rattle.sd_model.specs.declared.event.Reply.{Reply}
 use Rattle.sd_script.specs.declared.line.Form.TheVariants as form
 use Rattle.sd_script.specs.declared.line.Line.{Line}
 use Rattle.sd_script.specs.Forms.{IsForm}
-use Rattle.sd_script.specs.Order.{Follows, begun, has}
+use Rattle.sd_script.specs.Order.{Follows, begun, has_name}
 use Rattle.sd_world.specs.PageCauses.{names_page}
 use Rattle.sd_world.specs.Serving.{Telling}
 use Rattle.sd_hall.specs.Served.{IsServed}
@@ -116,7 +116,7 @@ module _ {G : Type 0} (tell : Telling G) (old : Driver G) (line : Line) where
         let follows = subst (Follows (take n lines)) is may.follows in
         let fits = subst IsForm is may.form in
         let c = came start w w.told.known line (works_of (drop (n + 1) lines)) Cursor.Once r.there (begin-due-now start w lines n at r) in
-        let fresh : has (begun (take n lines)) name ≡ false = isnt (has (begun (take n lines)) name) follows.1 in
+        let fresh : has_name (begun (take n lines)) name ≡ false = isnt (has_name (begun (take n lines)) name) follows.1 in
         came-begin tell start lines n line at old w r inst name is fresh new same
         (subst (λ h. Came tell h line.session line.number (event.Begin inst) line (works_of (drop (n + 1) lines)) Cursor.Once start w) (sym hall) c)
         (kept c.before c.reply c.noted)

@@ -9,7 +9,7 @@ use Rattle.std.proofs.lemmas.Grind.{flat_map-append}
 use Rattle.std.proofs.lemmas.Option.{slice_get-get_or, slice_get_within}
 use Rattle.sd_base.specs.declared.ids.TxnId.{TxnId}
 use Rattle.sd_script.specs.declared.line.Line.{Line}
-use Rattle.sd_script.specs.Order.{begun, begun_by, has, ordinal_of}
+use Rattle.sd_script.specs.Order.{begun, begun_by, has_name, ordinal_of}
 use Rattle.sd_script.proofs.Ordinals.{named_at, no_ordinal, ordinal_push}
 use Rattle.sd_drive.specs.Reaching.{at_ordinal, named}
 
@@ -54,7 +54,7 @@ earlier txns o None within = refl
 earlier txns o (Some k) within = before-last txns o k (within k refl)
 
 -- one name more has one transaction more
-pub named-push : (names : List (List ℕ)) (txns : List (Option TxnId)) (new q : List ℕ) (o : Option TxnId) → has names new ≡ false
+pub named-push : (names : List (List ℕ)) (txns : List (Option TxnId)) (new q : List ℕ) (o : Option TxnId) → has_name names new ≡ false
     → length txns ≡ length names → named (names ++ new ∷ []) (txns ++ o ∷ []) q ≡ cond (bytes_eq new q) o (named names txns q)
 named-push names txns new q o fresh count =
     ap (at_ordinal (txns ++ o ∷ [])) (ordinal_push names new q fresh) ∙ ⊎_elim
@@ -69,7 +69,7 @@ named-push names txns new q o fresh count =
     (cases_Bool (bytes_eq new q))
 
 -- a name that wasn't begun has none
-pub named-none : (names : List (List ℕ)) (txns : List (Option TxnId)) (q : List ℕ) → has names q ≡ false → named names txns q ≡ None
+pub named-none : (names : List (List ℕ)) (txns : List (Option TxnId)) (q : List ℕ) → has_name names q ≡ false → named names txns q ≡ None
 named-none names txns q fresh = ap (at_ordinal txns) (no_ordinal names q fresh)
 
 -- an ordinal is that of a transaction that is known

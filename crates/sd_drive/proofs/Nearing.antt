@@ -10,9 +10,9 @@ use Rattle.sd_model.specs.State.{State}
 use Rattle.sd_model.specs.Causes.{order}
 use Rattle.sd_pagelock.specs.declared.queue.Ask.{Ask}
 use Rattle.sd_pagelock.specs.Asks.{oldest, open_asks, queued}
-use Rattle.sd_pagelock.specs.Places.{Entry, holds, holds_as, is_free, is_lost, passes, receives, rests}
+use Rattle.sd_pagelock.specs.Places.{PageEntry, holds, holds_as, is_free, is_lost, passes, receives, rests}
 use Rattle.sd_pagelock.specs.Rows.{may_raise, taken}
-use Rattle.sd_world.specs.Pages.{Pages, asked, given, placed, put}
+use Rattle.sd_world.specs.Pages.{Pages, asked, given, page_placed, put}
 use Rattle.sd_world.specs.Answers.{Moves}
 use Rattle.sd_world.proofs.Causes.{cause-said, none-says}
 use Rattle.sd_drive.specs.Measure.{GivesUp, IsNearer, comes_to, steps}
@@ -34,19 +34,19 @@ neither false b none = (refl, none)
 pub put-here : {X : Type 0} (p : ℕ) (x : X) (f : ℕ → X) → (put p x f) p ≡ x
 put-here {X} p x f = ap (λ (b : Bool). cond {A = X} b x (f p)) (eq-eqb p p refl)
 
-can-rest : (e : Entry) → is_free e ≡ false → is_lost e ≡ false → passes e ≡ false → rests e ≡ true
-can-rest Entry.Free free lost on = none_left (sym free)
-can-rest (Entry.Shared set writer) free lost on = refl
-can-rest (Entry.Excl holder dirty) free lost on = refl
-can-rest (Entry.Moving to mode rest dirty) free lost on = none_left (sym on)
-can-rest Entry.Lost free lost on = none_left (sym lost)
+can-rest : (e : PageEntry) → is_free e ≡ false → is_lost e ≡ false → passes e ≡ false → rests e ≡ true
+can-rest PageEntry.Free free lost on = none_left (sym free)
+can-rest (PageEntry.Shared set writer) free lost on = refl
+can-rest (PageEntry.Excl holder dirty) free lost on = refl
+can-rest (PageEntry.Moving to mode rest dirty) free lost on = none_left (sym on)
+can-rest PageEntry.Lost free lost on = none_left (sym lost)
 
 -- page p is there now, and fewer steps are to go
-placed-nearer : (i : ℕ) (mode : Mode) (p : ℕ) (w w1 : Pages) (to : Entry)
-    → steps i mode to (open_asks to (w1.asks p)) < steps i mode (w.entry p) (w.asks p) → IsNearer i mode p w (placed p to w1)
+placed-nearer : (i : ℕ) (mode : Mode) (p : ℕ) (w w1 : Pages) (to : PageEntry)
+    → steps i mode to (open_asks to (w1.asks p)) < steps i mode (w.entry p) (w.asks p) → IsNearer i mode p w (page_placed p to w1)
 placed-nearer i mode p w w1 to less =
-    nearer-steps i mode p w.entry (placed p to w1).entry (w.asks p) ((placed p to w1).asks p)
-    (subst (λ (e : Entry). steps i mode e ((placed p to w1).asks p) < steps i mode (w.entry p) (w.asks p)) (sym (put-here p to w1.entry))
+    nearer-steps i mode p w.entry (page_placed p to w1).entry (w.asks p) ((page_placed p to w1).asks p)
+    (subst (λ (e : PageEntry). steps i mode e ((page_placed p to w1).asks p) < steps i mode (w.entry p) (w.asks p)) (sym (put-here p to w1.entry))
     (subst (λ (xs : List Ask). steps i mode to xs < steps i mode (w.entry p) (w.asks p)) (sym (put-here p (open_asks to (w1.asks p)) w1.asks)) less))
 
 module _ (m : State) (w : Pages) (i p : ℕ) (mode : Mode) (m1 : State) (w1 : Pages) where
@@ -77,19 +77,19 @@ module _ (m : State) (w : Pages) (i p : ℕ) (mode : Mode) (m1 : State) (w1 : Pa
         place = ap (λ (x : Pages). x.entry p) is
 
         had : holds (w.entry p) of ≡ true
-        had = ap (λ (e : Entry). holds e of) (sym place)
+        had = ap (λ (e : PageEntry). holds e of) (sym place)
             ∙ is-so (holds (w1.entry p) of) (none-says m1 w1 (event.Give of p) (order (event.Give of p)) Cause.Away g.0 refl refl)
 
         first : oldest of (queued i mode (w.asks p)) ≡ Some (to, then)
         first = ap (oldest of) (sym queue) ∙ g.1.1
 
-        less : (e : Entry) (xs : List Ask) → e ≡ w.entry p → xs ≡ queued i mode (w.asks p)
+        less : (e : PageEntry) (xs : List Ask) → e ≡ w.entry p → xs ≡ queued i mode (w.asks p)
             → steps i mode (given of (to, then) e) (open_asks (given of (to, then) e) xs) < steps i mode (w.entry p) (w.asks p)
-        less e xs at by = subst (λ (x : Entry). steps i mode (given of (to, then) x) (open_asks (given of (to, then) x) xs) < steps i mode (w.entry p) (w.asks p)) (sym at)
+        less e xs at by = subst (λ (x : PageEntry). steps i mode (given of (to, then) x) (open_asks (given of (to, then) x) xs) < steps i mode (w.entry p) (w.asks p)) (sym at)
             (subst (λ (ys : List Ask). steps i mode (given of (to, then) (w.entry p)) (open_asks (given of (to, then) (w.entry p)) ys) < steps i mode (w.entry p) (w.asks p)) (sym by)
             (give-steps of i to mode then (w.entry p) (w.asks p) there lacks.0 had first))
 
-        gave : IsNearer i mode p w (placed p (given of (to, then) (w1.entry p)) w1)
+        gave : IsNearer i mode p w (page_placed p (given of (to, then) (w1.entry p)) w1)
         gave = placed-nearer i mode p w w1 (given of (to, then) (w1.entry p)) (less (w1.entry p) (w1.asks p) place queue)
 
   -- it is on its way
@@ -102,33 +102,33 @@ module _ (m : State) (w : Pages) (i p : ℕ) (mode : Mode) (m1 : State) (w1 : Pa
 
     -- and the receiver took it
     pub take-nearer : (m2 : State) (w2 : Pages) → Moves m1 w1 (event.Take to p) reply.Did m2 w2 → IsNearer i mode p w w2
-    take-nearer m2 w2 t = subst (λ (x : Pages). IsNearer i mode p w x) (sym (t.1 ∙ ap (λ (x : Pages). placed p (taken (x.entry p)) x) still)) took
+    take-nearer m2 w2 t = subst (λ (x : Pages). IsNearer i mode p w x) (sym (t.1 ∙ ap (λ (x : Pages). page_placed p (taken (x.entry p)) x) still)) took
       where
-        took : IsNearer i mode p w (placed p (taken (w.entry p)) w)
+        took : IsNearer i mode p w (page_placed p (taken (w.entry p)) w)
         took = placed-nearer i mode p w w (taken (w.entry p)) (take-steps i mode (w.entry p) (w.asks p) on-way)
 
 -- ---- room
 
-free-comes : (i : ℕ) (e : Entry) → is_free e ≡ true → comes_to i e ≡ i
-free-comes i Entry.Free free = refl
-free-comes i (Entry.Shared set writer) free = none_left free
-free-comes i (Entry.Excl holder dirty) free = none_left free
-free-comes i (Entry.Moving to mode rest dirty) free = none_left free
-free-comes i Entry.Lost free = none_left free
+free-comes : (i : ℕ) (e : PageEntry) → is_free e ≡ true → comes_to i e ≡ i
+free-comes i PageEntry.Free free = refl
+free-comes i (PageEntry.Shared set writer) free = none_left free
+free-comes i (PageEntry.Excl holder dirty) free = none_left free
+free-comes i (PageEntry.Moving to mode rest dirty) free = none_left free
+free-comes i PageEntry.Lost free = none_left free
 
-free-held : (e : Entry) (k : ℕ) → is_free e ≡ true → holds e k ≡ false
-free-held Entry.Free k free = refl
-free-held (Entry.Shared set writer) k free = none_left free
-free-held (Entry.Excl holder dirty) k free = none_left free
-free-held (Entry.Moving to mode rest dirty) k free = none_left free
-free-held Entry.Lost k free = none_left free
+free-held : (e : PageEntry) (k : ℕ) → is_free e ≡ true → holds e k ≡ false
+free-held PageEntry.Free k free = refl
+free-held (PageEntry.Shared set writer) k free = none_left free
+free-held (PageEntry.Excl holder dirty) k free = none_left free
+free-held (PageEntry.Moving to mode rest dirty) k free = none_left free
+free-held PageEntry.Lost k free = none_left free
 
-moving-comes : (i to : ℕ) (e : Entry) → receives e to ≡ true → comes_to i e ≡ to
-moving-comes i to Entry.Free on = none_left on
-moving-comes i to (Entry.Shared set writer) on = none_left on
-moving-comes i to (Entry.Excl holder dirty) on = none_left on
-moving-comes i to (Entry.Moving t mode rest dirty) on = eqb-true t to on
-moving-comes i to Entry.Lost on = none_left on
+moving-comes : (i to : ℕ) (e : PageEntry) → receives e to ≡ true → comes_to i e ≡ to
+moving-comes i to PageEntry.Free on = none_left on
+moving-comes i to (PageEntry.Shared set writer) on = none_left on
+moving-comes i to (PageEntry.Excl holder dirty) on = none_left on
+moving-comes i to (PageEntry.Moving t mode rest dirty) on = eqb-true t to on
+moving-comes i to PageEntry.Lost on = none_left on
 
 -- room was made in the pool into which the page comes
 module _ (i p : ℕ) (mode : Mode) (at v : ℕ) (w w2 : Pages) (g : GivesUp at v w w2) where

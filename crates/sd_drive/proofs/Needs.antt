@@ -13,9 +13,9 @@ use Rattle.sd_model.specs.declared.event.Event.TheVariants as event
 use Rattle.sd_model.specs.declared.event.Reply.{Reply}
 use Rattle.sd_model.specs.declared.event.Reply.TheVariants as reply
 use Rattle.sd_model.specs.State.{State}
-use Rattle.sd_pagelock.specs.Places.{Entry, holds_as, is_free}
+use Rattle.sd_pagelock.specs.Places.{PageEntry, holds_as, is_free}
 use Rattle.sd_pagelock.specs.Rows.{locked, may_raise, raised}
-use Rattle.sd_world.specs.Pages.{Pages, placed}
+use Rattle.sd_world.specs.Pages.{Pages, page_placed}
 use Rattle.sd_world.specs.PageCauses.{IsAway, decided, names_page, page_of, undo_page}
 use Rattle.sd_world.specs.Answers.{Gets, Moves}
 use Rattle.sd_world.proofs.Causes.{cause-said}
@@ -27,7 +27,7 @@ abbrev reads : ℕ → Mode → Option Puller
 reads i m = Some (record { inst = i; mode = m })
 
 -- who pulls has the page as it needs it
-pulls-holds : (i : ℕ) (mode : Mode) (for : Puller) (place : Entry) → reads i mode ≡ Some for → holds_as for.mode place for.inst ≡ true
+pulls-holds : (i : ℕ) (mode : Mode) (for : Puller) (place : PageEntry) → reads i mode ≡ Some for → holds_as for.mode place for.inst ≡ true
     → holds_as mode place i ≡ true
 pulls-holds i mode for place is has = subst (λ (x : Puller). holds_as x.mode place x.inst ≡ true) (sym (ap got is)) has
   where
@@ -61,24 +61,24 @@ locked-holds : (i : ℕ) (mode : Mode) → holds_as mode (locked i mode) i ≡ t
 locked-holds i modes.Shared = ap (λ (b : Bool). cond b true false) (eq-eqb i i refl)
 locked-holds i modes.Excl = eq-eqb i i refl
 
-raised-holds : (i : ℕ) (mode : Mode) (e : Entry) → may_raise i e ≡ true → holds_as mode (raised i e) i ≡ true
-raised-holds i modes.Shared (Entry.Shared set writer) may = eq-eqb i i refl
-raised-holds i modes.Excl (Entry.Shared set writer) may = eq-eqb i i refl
-raised-holds i mode Entry.Free may = absurd (cc)
-raised-holds i mode (Entry.Excl holder dirty) may = absurd (cc)
-raised-holds i mode (Entry.Moving to m rest dirty) may = absurd (cc)
-raised-holds i mode Entry.Lost may = absurd (cc)
+raised-holds : (i : ℕ) (mode : Mode) (e : PageEntry) → may_raise i e ≡ true → holds_as mode (raised i e) i ≡ true
+raised-holds i modes.Shared (PageEntry.Shared set writer) may = eq-eqb i i refl
+raised-holds i modes.Excl (PageEntry.Shared set writer) may = eq-eqb i i refl
+raised-holds i mode PageEntry.Free may = absurd (cc)
+raised-holds i mode (PageEntry.Excl holder dirty) may = absurd (cc)
+raised-holds i mode (PageEntry.Moving to m rest dirty) may = absurd (cc)
+raised-holds i mode PageEntry.Lost may = absurd (cc)
 
 -- the page is there then
 pub gets-holds : (i p : ℕ) (mode : Mode) (w w' : Pages) → Gets i p mode w w' → holds_as mode (w'.entry p) i ≡ true
 gets-holds i p mode w w' h = subst (λ (x : Pages). holds_as mode (x.entry p) i ≡ true) (sym h.1)
     (go (holds_as mode (w.entry p) i) (is_free (w.entry p)) refl refl h.0)
   where
-    now-there : (to : Entry) → holds_as mode to i ≡ true → holds_as mode ((placed p to w).entry p) i ≡ true
-    now-there to has = subst (λ (b : Bool). holds_as mode (cond {A = Entry} b to (w.entry p)) i ≡ true) (sym (eq-eqb p p refl)) has
+    now-there : (to : PageEntry) → holds_as mode to i ≡ true → holds_as mode ((page_placed p to w).entry p) i ≡ true
+    now-there to has = subst (λ (b : Bool). holds_as mode (cond {A = PageEntry} b to (w.entry p)) i ≡ true) (sym (eq-eqb p p refl)) has
 
     go : (b c : Bool) → holds_as mode (w.entry p) i ≡ b → is_free (w.entry p) ≡ c → (b || (c || may_raise i (w.entry p))) ≡ true
-        → holds_as mode ((cond {A = Pages} b w (placed p (cond {A = Entry} b (w.entry p) (cond {A = Entry} c (locked i mode) (raised i (w.entry p)))) w)).entry p) i ≡ true
+        → holds_as mode ((cond {A = Pages} b w (page_placed p (cond {A = PageEntry} b (w.entry p) (cond {A = PageEntry} c (locked i mode) (raised i (w.entry p)))) w)).entry p) i ≡ true
     go true c has free may = has
     go false true has free may = now-there (locked i mode) (locked-holds i mode)
     go false false has free may = now-there (raised i (w.entry p)) (raised-holds i mode (w.entry p) may)

@@ -10,7 +10,7 @@ use Rattle.sd_model.specs.declared.event.Event.TheVariants as event
 use Rattle.sd_model.specs.declared.event.Reply.{Reply}
 use Rattle.sd_model.specs.declared.event.Reply.TheVariants as reply
 use Rattle.sd_model.specs.State.{State}
-use Rattle.sd_rig.specs.Devices.{Image, Leaves}
+use Rattle.sd_rig.specs.Devices.{DeviceImages, Leaves}
 use Rattle.sd_script.specs.declared.line.Line.{Line}
 use Rattle.sd_world.specs.Leading.{Leads}
 use Rattle.sd_world.specs.Serving.{Core, Telling}
@@ -59,7 +59,7 @@ opening-first m known (Some c) works = refl
 
 module _ {G : Type 0} (tell : Telling G) (old : Driver G) (start : Core) (lines : List Line) (rig : G) (is : IsRigIn rig old.hall.body)
     (k : Keeps tell start old.hall) (empty : old.hall.book.entries ≡ [])
-    (now : (d : G) (img : Image) → tell.since d (tell.moment d) img → Leaves (tell.leaves d) img) where
+    (now : (d : G) (img : DeviceImages) → tell.since d (tell.moment d) img → Leaves (tell.leaves d) img) where
   abbrev pub first : Start G
   first = begin_of old lines start rig
 
@@ -356,7 +356,7 @@ module _ {G : Type 0} (tell : Telling G) (old here : Driver G) (i : ℕ) (on : I
 -- ---- all of it
 
 module _ {G : Type 0} (tell : Telling G) (old : Driver G) (empty : old.hall.book.entries ≡ []) (none : old.txns.items ≡ [])
-    (now : (d : G) (img : Image) → tell.since d (tell.moment d) img → Leaves (tell.leaves d) img) where
+    (now : (d : G) (img : DeviceImages) → tell.since d (tell.moment d) img → Leaves (tell.leaves d) img) where
   -- whatever it begins with, it comes to a world of which this holds
   abbrev pub Opened : (Start G → List Line → World → Type 0) → Type 0
   Opened P = (start : Core) (lines : List Line) (rig : G) → IsRigIn rig old.hall.body → Keeps tell start old.hall

@@ -6,7 +6,7 @@ use Rattle.sd_base.specs.declared.place.Status.{Status}
 use Rattle.sd_model.specs.declared.event.Event.TheVariants as event
 use Rattle.sd_model.specs.declared.event.Reply.{Reply}
 use Rattle.sd_model.specs.declared.event.Reply.TheVariants as reply
-use Rattle.sd_pagelock.specs.Places.{Entry, changed, holds}
+use Rattle.sd_pagelock.specs.Places.{PageEntry, changed, holds}
 use Rattle.sd_script.specs.declared.line.Line.{Line}
 use Rattle.sd_world.specs.Pages.{Pages, is_duty}
 use Rattle.sd_world.specs.Serving.{Core, Telling}
@@ -228,7 +228,7 @@ opens-same tell old place next same start w lines on = (
 module _ {G : Type 0} (tell : Telling G) (old : Driver G) (i p : ℕ) (low : 1 ≤ i) (high : i ≤ 8) where
   going-now : (w : Core) → fits_in tell.seen tell.leaves old.hall.body w
       → going_as (w.scene.state.inst i).status (w.pages.entry p) i ≡ going_as (status_in old.hall.body i) (entry_in old.hall.body p) i
-  going-now w f = ap₂ (λ (s : Status) (e : Entry). going_as s e i) (sym (status-is tell old.hall.body w f i low high)) (entry-is tell old.hall.body w f p)
+  going-now w f = ap₂ (λ (s : Status) (e : PageEntry). going_as s e i) (sym (status-is tell old.hall.body w f i low high)) (entry-is tell old.hall.body w f p)
 
   module _ (lt : p < 1024) where
     abbrev Is : Going → Type 0

@@ -7,7 +7,7 @@ use Rattle.sd_model.specs.declared.event.Event.{Event}
 use Rattle.sd_model.specs.declared.event.Event.TheVariants as event
 use Rattle.sd_model.specs.declared.event.Reply.{Reply}
 use Rattle.sd_model.specs.declared.event.Reply.TheVariants as reply
-use Rattle.sd_world.specs.Pages.{Pages, held}
+use Rattle.sd_world.specs.Pages.{Pages, held_count}
 use Rattle.sd_world.specs.Serving.{Core, Telling}
 use Rattle.sd_world.proofs.Causes.{cause-said}
 use Rattle.sd_hall.specs.declared.hall.Hall.{Hall}
@@ -126,7 +126,7 @@ pub full-inst : (i p : ℕ) (mode : Mode) (a b : Core) → Happens (event.Ask i 
 unfolding copies_of
 full-inst i p mode a b h = (
   ask-open a.scene.state b.scene.state i p mode h.plays.step,
-  subst (λ (w : Pages). w.frames ≤ held w.entry i 1024) (sym h.moves.leaves)
+  subst (λ (w : Pages). w.frames ≤ held_count w.entry i 1024) (sym h.moves.leaves)
       (cause-said a.scene.state a.pages (event.Ask i p mode) R.PoolFull b.scene.state b.pages Cause.Frame h.moves refl refl).1,
 )
 
@@ -134,7 +134,7 @@ pub full-taker : (to p : ℕ) (a b : Core) → Happens (event.Take to p) (reply.
 unfolding copies_of
 full-taker to p a b h = (
   take-open a.scene.state b.scene.state to p h.plays.step,
-  subst (λ (w : Pages). w.frames ≤ held w.entry to 1024) (sym h.moves.leaves)
+  subst (λ (w : Pages). w.frames ≤ held_count w.entry to 1024) (sym h.moves.leaves)
       (cause-said a.scene.state a.pages (event.Take to p) R.PoolFull b.scene.state b.pages Cause.Frame h.moves refl refl),
 )
 

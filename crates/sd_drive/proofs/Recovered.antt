@@ -13,7 +13,7 @@ use Rattle.sd_model.specs.declared.event.Event.TheVariants as event
 use Rattle.sd_model.specs.declared.event.Reply.{Reply}
 use Rattle.sd_model.specs.declared.event.Reply.TheVariants as reply
 use Rattle.sd_model.specs.Applies.{First, IsRecovering}
-use Rattle.sd_model.specs.Causes.{has, order}
+use Rattle.sd_model.specs.Causes.{has_cause, order}
 use Rattle.sd_model.specs.State.{State}
 use Rattle.sd_model.specs.Step.{Step}
 use Rattle.sd_world.specs.PageCauses.{IsNeededPage}
@@ -152,7 +152,7 @@ module _ {G : Type 0} (tell : Telling G) (of : Owner) (new : Hall G) (start : St
 begin-plain : (m m' : State) (i by : ℕ) (r : Reply) → Step m (event.RecoverBegin i by) r m' → is_need r ≡ false
 begin-plain m m' i by (reply.Refused (R.NeedPage place)) s = absurd (never s.0 s.1 s.3.0)
   where
-    never : (c : Cause) → has c (Cause.Away ∷ []) ≡ true → has c (order (event.RecoverBegin i by)) ≡ true → ⊥
+    never : (c : Cause) → has_cause c (Cause.Away ∷ []) ≡ true → has_cause c (order (event.RecoverBegin i by)) ≡ true → ⊥
     never Cause.Away away there = absurd (cc)
     never c away there = absurd (cc)
 begin-plain m m' i by r s = refl
@@ -241,7 +241,7 @@ needs-recovering : (m m' : State) (i : ℕ) (place : Place) → Step m (event.Re
     → (by : ℕ) × ((m.inst i).status ≡ S.Recovering by)
 needs-recovering m m' i place s = go s.0 s.1 s.3
   where
-    go : (c : Cause) → has c (Cause.Away ∷ []) ≡ true → First m (event.RecoverStep i) c → (by : ℕ) × ((m.inst i).status ≡ S.Recovering by)
+    go : (c : Cause) → has_cause c (Cause.Away ∷ []) ≡ true → First m (event.RecoverStep i) c → (by : ℕ) × ((m.inst i).status ≡ S.Recovering by)
     go Cause.Away away first = is-recovering (m.inst i).status first.1.1.0
     go c away first = absurd (cc)
 

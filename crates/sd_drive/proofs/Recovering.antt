@@ -22,7 +22,7 @@ use Rattle.sd_drive.specs.declared.recovery.Owner.{Owner}
 use Rattle.sd_drive.specs.Recoveries.{DoesSome, DueOf, GoneOn, IsDueOf, RecoversTo}
 use Rattle.sd_drive.specs.Pulls.{Pull}
 use Rattle.sd_drive.specs.Reaching.{AreDriven, AtLine, DrivesLine, DrivesSome, IsSame, KnowsAll, Reached}
-use Rattle.sd_drive.specs.Recovering.{IsRecovering, RecoversNow, RecoversOn, RecoversSome, WaitsToRecover}
+use Rattle.sd_drive.specs.Recovering.{LineRecovers, RecoversNow, RecoversOn, RecoversSome, WaitsToRecover}
 use Rattle.sd_drive.specs.Running.{Start}
 use Rattle.sd_drive.proofs.Bodies.{fits-now, status-is}
 use Rattle.sd_drive.proofs.Lines.{first-here, knows-as, knows-more, passes-by}
@@ -198,7 +198,7 @@ module _ {G : Type 0} (tell : Telling G) (start : Start G) (lines : List Line) (
 
 module _ {G : Type 0} (tell : Telling G) (old : Driver G) (line : Line) (is : line.form ≡ form.RecoverAll) (i : ℕ) where
   -- the complex fits a core when it is asked how the instance stands
-  pub recovers-fit : IsRecovering tell old line i → (w : Core) × fits_in tell.seen tell.leaves old.hall.body w
+  pub recovers-fit : LineRecovers tell old line i → (w : Core) × fits_in tell.seen tell.leaves old.hall.body w
   recovers-fit a = (
     a.world.core,
     fits-now tell a.start old.hall a.world (there-on tell a.start a.lines a.n line a.next is old i a.world a.recovers),
@@ -217,7 +217,7 @@ module _ {G : Type 0} (tell : Telling G) (old : Driver G) (line : Line) (is : li
           → IsDueOf (owner-of line) (Work.Do line) (works_of (drop (n + 1) lines)) (Cursor.Recovers i) (event.RecoverBegin i i) w
       due-now start w lines n waits = record { stands = waits.due.stands; session = refl; line = refl; opening = refl }
 
-      pub recover-due : IsRecovering tell old line i → DueOf tell old.hall (owner-of line) (Cursor.Recovers i) (event.RecoverBegin i i)
+      pub recover-due : LineRecovers tell old line i → DueOf tell old.hall (owner-of line) (Cursor.Recovers i) (event.RecoverBegin i i)
       recover-due a =
           let waits = waits-now a.start a.world a.lines a.n a.next a.recovers in
           record {
@@ -276,7 +276,7 @@ module _ {G : Type 0} (tell : Telling G) (old : Driver G) (line : Line) (is : li
   recovers-begin start w lines n at d r = (w, recovers-first tell start lines n line at is old w r)
 
   module _ (here : Driver G) (i : ℕ) (on : InRecoveries tell old line here i) where
-    pub recovers-in : AtLine tell old line → IsRecovering tell here line i
+    pub recovers-in : AtLine tell old line → LineRecovers tell here line i
     recovers-in a =
         let h = on a.start a.world a.lines a.n a.next a.driven a.reached in
         record { start = a.start; world = h.0; lines = a.lines; n = a.n; next = a.next; recovers = h.1 }

@@ -22,8 +22,8 @@ use Rattle.sd_model.specs.State.{State, fresh}
 use Rattle.sd_script.specs.declared.line.Form.{Form}
 use Rattle.sd_script.specs.declared.line.Form.TheVariants as form
 use Rattle.sd_script.specs.declared.line.Line.{Line}
-use Rattle.sd_pagelock.specs.Places.{Entry as Place, holds}
-use Rattle.sd_world.specs.Pages.{Pages, placed}
+use Rattle.sd_pagelock.specs.Places.{PageEntry, holds}
+use Rattle.sd_world.specs.Pages.{Pages, page_placed}
 use Rattle.sd_world.specs.PageCauses.{IsNeededPage}
 use Rattle.sd_world.specs.Serving.{Core}
 use Rattle.sd_drive.specs.Driving.{Cursor, IsTold, Progress, Tells, Work, done, followed, is_up, leaver, leavers, marked, stays, untold}
@@ -51,10 +51,10 @@ state s1 s2 = record fresh {
 
 -- no pool has a page; page 0 is there alone, or changed
 abbrev none : Pages
-none = record { frames = 1; entry = λ p. Place.Free; asks = λ p. []; number = λ p. 0; begun = λ i. false }
+none = record { frames = 1; entry = λ p. PageEntry.Free; asks = λ p. []; number = λ p. 0; begun = λ i. false }
 
 abbrev page : Bool → Pages
-page dirty = placed 0 (Place.Excl 1 dirty) none
+page dirty = page_placed 0 (PageEntry.Excl 1 dirty) none
 
 abbrev core : Status → Status → Pages → Core
 core s1 s2 w = record {
@@ -194,8 +194,8 @@ o7 = done o6 Work.Opening [] (reply.Joined 1)
 
 -- whoever has a page is up, so nothing goes
 at-1 : (q : ℕ) (b : Bool) → eqb 0 q ≡ b → (j : ℕ) → eqb 1 j ≡ false → holds ((page true).entry q) j ≡ false
-at-1 q true is j other = ap (λ (b : Bool). holds (cond {A = Place} b (Place.Excl 1 true) Place.Free) j) is ∙ other
-at-1 q false is j other = ap (λ (b : Bool). holds (cond {A = Place} b (Place.Excl 1 true) Place.Free) j) is
+at-1 q true is j other = ap (λ (b : Bool). holds (cond {A = PageEntry} b (PageEntry.Excl 1 true) PageEntry.Free) j) is ∙ other
+at-1 q false is j other = ap (λ (b : Bool). holds (cond {A = PageEntry} b (PageEntry.Excl 1 true) PageEntry.Free) j) is
 
 up-or-none : (j : ℕ) → IsIdle (core S.Up S.Up (page true)) j
 up-or-none j = go (eqb 1 j) refl
@@ -222,7 +222,7 @@ all-opened = (refl, refl)
 -- ---- pools that are emptied: instance 2 has recovered, and has page 0 changed, but this run has instance 1 alone
 
 abbrev kept : Bool → Pages
-kept dirty = placed 0 (Place.Excl 2 dirty) none
+kept dirty = page_placed 0 (PageEntry.Excl 2 dirty) none
 
 abbrev p1 : Progress
 p1 = stays (untold 1 1 []) Work.Opening [] (Cursor.Joins 1) Pull.Idle

@@ -6,7 +6,7 @@ use Rattle.sd_model.specs.declared.event.Event.TheVariants as event
 use Rattle.sd_model.specs.declared.event.Reply.TheVariants as reply
 use Rattle.sd_model.specs.State.{State}
 use Rattle.sd_model.specs.Causes.{order}
-use Rattle.sd_pagelock.specs.Places.{Entry, Formed, holds, receives}
+use Rattle.sd_pagelock.specs.Places.{Formed, PageEntry, holds, receives}
 use Rattle.sd_pagelock.specs.Asks.{open_asks}
 use Rattle.sd_pagelock.specs.Rows.{fallen, written}
 use Rattle.sd_pagelock.proofs.Falls.{holds-fallen}
@@ -21,30 +21,30 @@ put-else : {X : Type 0} (v q : ℕ) (x : X) (f : ℕ → X) → v ≢ q → (put
 put-else {X} v q x f ne = ap (λ (b : Bool). cond {A = X} b x (f q)) (ne_eqb v q ne)
 
 -- a page doesn't move to who has a copy
-pub held-still : (e : Entry) (i : ℕ) → Formed e → holds e i ≡ true → receives e i ≡ false
-held-still Entry.Free i formed had = refl
-held-still (Entry.Shared set writer) i formed had = refl
-held-still (Entry.Excl holder dirty) i formed had = refl
-held-still (Entry.Moving to mode rest dirty) i formed had = go (eqb to i) refl
+pub held-still : (e : PageEntry) (i : ℕ) → Formed e → holds e i ≡ true → receives e i ≡ false
+held-still PageEntry.Free i formed had = refl
+held-still (PageEntry.Shared set writer) i formed had = refl
+held-still (PageEntry.Excl holder dirty) i formed had = refl
+held-still (PageEntry.Moving to mode rest dirty) i formed had = go (eqb to i) refl
   where
     go : (b : Bool) → eqb to i ≡ b → b ≡ false
     go true is = unlike had (ap (λ (k : ℕ). has k rest) (sym (eqb-true to i is)) ∙ formed.1)
     go false is = refl
-held-still Entry.Lost i formed had = refl
+held-still PageEntry.Lost i formed had = refl
 
-written-holds : (e : Entry) (i : ℕ) → holds (written e) i ≡ holds e i
-written-holds Entry.Free i = refl
-written-holds (Entry.Shared set writer) i = refl
-written-holds (Entry.Excl holder dirty) i = refl
-written-holds (Entry.Moving to mode rest dirty) i = refl
-written-holds Entry.Lost i = refl
+written-holds : (e : PageEntry) (i : ℕ) → holds (written e) i ≡ holds e i
+written-holds PageEntry.Free i = refl
+written-holds (PageEntry.Shared set writer) i = refl
+written-holds (PageEntry.Excl holder dirty) i = refl
+written-holds (PageEntry.Moving to mode rest dirty) i = refl
+written-holds PageEntry.Lost i = refl
 
-written-receives : (e : Entry) (i : ℕ) → receives (written e) i ≡ receives e i
-written-receives Entry.Free i = refl
-written-receives (Entry.Shared set writer) i = refl
-written-receives (Entry.Excl holder dirty) i = refl
-written-receives (Entry.Moving to mode rest dirty) i = refl
-written-receives Entry.Lost i = refl
+written-receives : (e : PageEntry) (i : ℕ) → receives (written e) i ≡ receives e i
+written-receives PageEntry.Free i = refl
+written-receives (PageEntry.Shared set writer) i = refl
+written-receives (PageEntry.Excl holder dirty) i = refl
+written-receives (PageEntry.Moving to mode rest dirty) i = refl
+written-receives PageEntry.Lost i = refl
 
 module _ (m : State) (w : Pages) (i v : ℕ) (lt : v < 1024) (still : receives (w.entry v) i ≡ false) (m1 : State) (w1 : Pages) where
   -- the copy goes
@@ -52,7 +52,7 @@ module _ (m : State) (w : Pages) (i v : ℕ) (lt : v < 1024) (still : receives (
   evict-gives h = subst (λ (x : Pages). GivesUp i v w x) (sym h.1) (record {
     below = lt;
     had = is-so (holds (w.entry v) i) (none-says m w (event.Evict i v) (order (event.Evict i v)) Cause.Away h.0 refl refl);
-    gone = ap (λ (e : Entry). holds e i) (put-here v (fallen i (w.entry v)) w.entry) ∙ holds-fallen i i (w.entry v)
+    gone = ap (λ (e : PageEntry). holds e i) (put-here v (fallen i (w.entry v)) w.entry) ∙ holds-fallen i i (w.entry v)
         ∙ ap (λ (b : Bool). cond b false (holds (w.entry v) i)) (eq-eqb i i refl);
     still = still;
     others = λ q ne. put-else v q (fallen i (w.entry v)) w.entry ne;
@@ -65,7 +65,7 @@ module _ (m : State) (w : Pages) (i v : ℕ) (lt : v < 1024) (still : receives (
       let here : w1.entry v ≡ written (w.entry v) = ap (λ (x : Pages). x.entry v) h.1 ∙ put-here v (written (w.entry v)) w.entry in
       record {
         below = lt;
-        had = sym (written-holds (w.entry v) i) ∙ ap (λ (e : Entry). holds e i) (sym here) ∙ g.had;
+        had = sym (written-holds (w.entry v) i) ∙ ap (λ (e : PageEntry). holds e i) (sym here) ∙ g.had;
         gone = g.gone;
         still = still;
         others = λ q ne. g.others q ne ∙ ap (λ (x : Pages). x.entry q) h.1 ∙ put-else v q (written (w.entry v)) w.entry ne;
@@ -74,5 +74,5 @@ module _ (m : State) (w : Pages) (i v : ℕ) (lt : v < 1024) (still : receives (
 
   -- where it is written it moves no more than before
   pub flush-still : Moves m w (event.Flush i v) reply.Did m1 w1 → receives (w1.entry v) i ≡ false
-  flush-still h = ap (λ (x : Pages). receives (x.entry v) i) h.1 ∙ ap (λ (e : Entry). receives e i) (put-here v (written (w.entry v)) w.entry)
+  flush-still h = ap (λ (x : Pages). receives (x.entry v) i) h.1 ∙ ap (λ (e : PageEntry). receives e i) (put-here v (written (w.entry v)) w.entry)
       ∙ written-receives (w.entry v) i ∙ still

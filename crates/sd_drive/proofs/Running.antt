@@ -3,7 +3,7 @@ use Rattle.std.proofs.Common.{◌≡◌, ◌⊎◌, true, ⊎_elim, ℕ, ◌+◌
 use Rattle.std.specs.Prelude.{None, min}
 use Rattle.sd_base.specs.Streams.{Rises}
 use Rattle.sd_base.specs.declared.refusal.Refusal.TheVariants as R
-use Rattle.sd_rig.specs.Devices.{Image, Leaves}
+use Rattle.sd_rig.specs.Devices.{DeviceImages, Leaves}
 use Rattle.sd_rig.specs.Spans.{span-then, span-weaker, elapses-then}
 use Rattle.sd_model.specs.declared.event.Entry.{Entry}
 use Rattle.sd_model.specs.declared.event.Event.{Event}
@@ -64,7 +64,7 @@ rises-later es a b c h k = rises-then 18446744073709551615 a b c (faults-rise es
 -- ---- images on the way
 
 -- what stood on the way stands on it once it goes on
-pub way-grows : (start mid new : World) (es : List Entry) (e : Entry) (img : Image) → Advances mid e new
+pub way-grows : (start mid new : World) (es : List Entry) (e : Entry) (img : DeviceImages) → Advances mid e new
     → StandsOnWay start es mid img → StandsOnWay start (es ++ e ∷ []) new img
 way-grows start mid new es e img a s = record {
   front = s.front;
@@ -77,7 +77,7 @@ way-grows start mid new es e img a s = record {
 }
 
 -- the end of the way is on it
-pub way-ends : (start last : World) (es : List Entry) (img : Image) → Drives start es last → stands_for img last.core.scene.state
+pub way-ends : (start last : World) (es : List Entry) (img : DeviceImages) → Drives start es last → stands_for img last.core.scene.state
     → StandsOnWay start es last img
 way-ends start last es img d s = record {
   front = es;
@@ -95,7 +95,7 @@ module _ {G : Type 0} (tell : Telling G) (start : Start G) (entries : List Entry
   abbrev old : G
   old = start.rig
 
-  abbrev on_way : Image → Type 0
+  abbrev on_way : DeviceImages → Type 0
   on_way = StandsOnWay start.world entries w
 
   -- devices that pass from one world's state to the next one's
@@ -110,10 +110,10 @@ module _ {G : Type 0} (tell : Telling G) (start : Start G) (entries : List Entry
     faults = faults-grow entries e (tell.faults old) (tell.faults a) (tell.faults b) r.faults f;
   }
     where
-      after : Image → Type 0
+      after : DeviceImages → Type 0
       after img = StandsOnWay start.world (entries ++ e ∷ []) w' img
 
-      one : (img : Image) → stands_for img w.core.scene.state ⊎ stands_for img w'.core.scene.state → after img
+      one : (img : DeviceImages) → stands_for img w.core.scene.state ⊎ stands_for img w'.core.scene.state → after img
       one img s = ⊎_elim
           (λ s. way-grows start.world w w' entries e img adv (way-ends start.world w entries img d s))
           (λ s. way-ends start.world w' (entries ++ e ∷ []) img (drives-grow entries e start.world w w' d adv) s)
@@ -153,7 +153,7 @@ module _ {G : Type 0} (tell : Telling G) (start : Start G) (entries : List Entry
 
 -- a complex that fits a world, open or closed: whatever a crash may leave of its devices stands for its state
 pub body-stands : {G : Type 0} (tell : Telling G) (body : Body G) (core : Core) → fits_body tell.seen tell.leaves body core
-    → (img : Image) → Leaves (tell.leaves (rig_of body)) img → stands_for img core.scene.state
+    → (img : DeviceImages) → Leaves (tell.leaves (rig_of body)) img → stands_for img core.scene.state
 body-stands tell (Body.Open c) core f img left = fits-left (tell.seen c.rig) (tell.leaves c.rig) (parts c) core f img left
 body-stands tell (Body.Closed rig shape) core f img left = f.fits.stands img left
 
@@ -161,7 +161,7 @@ body-stands tell (Body.Closed rig shape) core f img left = f.fits.stands img lef
 
 -- Before the first call the devices are as they were, and each image that a crash may leave stands for the start.
 pub ran-start : {G : Type 0} (tell : Telling G) (start : Start G) (body : Body G) → start.rig ≡ rig_of body
-    → ((img : Image) → tell.since (rig_of body) (tell.moment (rig_of body)) img → Leaves (tell.leaves (rig_of body)) img)
+    → ((img : DeviceImages) → tell.since (rig_of body) (tell.moment (rig_of body)) img → Leaves (tell.leaves (rig_of body)) img)
     → fits_body tell.seen tell.leaves body start.world.core → Ran tell start body [] start.world
 ran-start tell start body same now fits = record {
   drives = refl;

@@ -13,7 +13,7 @@ use Rattle.sd_world.specs.Leading.{Leads}
 use Rattle.sd_world.specs.Serving.{Core}
 use Rattle.sd_drive.specs.Driving.{Advances, Cursor, Drives, Helps, Known, Own, Progress, Tells, TellsAt, TellsFirst, TellsWork, Work, World, cursor_in, due_works, event_at, fails, followed, goes_on, marked, number_of, puller_of, session_of, stays}
 use Rattle.sd_drive.specs.Pulls.{IsDue, IsPulled, Pull, Puller, helped, is_pulling, is_vain, puller}
-use Rattle.sd_drive.specs.Standing.{IsBorne, Pulling, Stands, is_failed, is_need}
+use Rattle.sd_drive.specs.Standing.{EventIsDue, IsBorne, Pulling, is_failed, is_need}
 use Rattle.sd_drive.proofs.Acts.{IsHelp, helps-acts, helps-same, same-acts}
 
 -- ---- runs of worlds
@@ -57,7 +57,7 @@ unfailed-borne (Work.Do line) failed no_ = no_
 
 -- ---- the first try
 
-module _ (known : Known) (work : Work) (rest : List Work) (c : Cursor) (e : Event) (w : World) (s : Stands known work rest c e w)
+module _ (known : Known) (work : Work) (rest : List Work) (c : Cursor) (e : Event) (w : World) (s : EventIsDue known work rest c e w)
     (w' : Core) (x : Entry) (session : x.session ≡ session_of work) (number : x.line ≡ number_of work) (is : x.event ≡ e) where
   tells-own : (then : Progress) → Own w.core.scene.state w' w.told work rest c x.event x.reply then → Tells w.core w' w.told x then
   tells-own then own = tells-at w w' work rest c x then s.unfailed s.first s.at

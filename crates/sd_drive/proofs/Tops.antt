@@ -59,7 +59,7 @@ row-of (Some x) t c m to forced whole log alive is rolls names logged live_row =
     (λ s. absurd (s.ended alive))
     logged
 
-module _ (seen : rig.Image) (leaves : Outcomes) (c : Parts) (w : Core) (f : Fits seen leaves c w) (t : TxnId) (low : 1 ≤ t.inst) (high : t.inst ≤ 8)
+module _ (seen : rig.DeviceImages) (leaves : Outcomes) (c : Parts) (w : Core) (f : Fits seen leaves c w) (t : TxnId) (low : 1 ≤ t.inst) (high : t.inst ≤ 8)
     (goes : GoesBack w.scene.state t) where
   abbrev m : State
   m = w.scene.state
@@ -106,7 +106,7 @@ module _ (seen : rig.Image) (leaves : Outcomes) (c : Parts) (w : Core) (f : Fits
       last (Some o) is = (o, ap (λ (r : Option Transaction). option_and_then top r) row.row ∙ is, there o is)
 
 -- An undo that wants a page wants that of the transaction's last open record.
-pub wanted-page : (seen : rig.Image) (leaves : Outcomes) (c : Parts) (t : TxnId) (place : Place) (w w' : Core) → 1 ≤ t.inst → t.inst ≤ 8
+pub wanted-page : (seen : rig.DeviceImages) (leaves : Outcomes) (c : Parts) (t : TxnId) (place : Place) (w w' : Core) → 1 ≤ t.inst → t.inst ≤ 8
     → Turns w (event.Undo t) (reply.Refused (R.NeedPage place)) w' → Fits seen leaves c w'
     → (o : OpenRec) × (top_at (txns_at c t.inst) t ≡ Some o) × (o.rid.page ≡ undo_page w.scene.state t)
 wanted-page seen leaves c t place w w' low high turns f =

@@ -3,12 +3,12 @@ use Rattle.std.proofs.Common.{◌≡◌, ℕ, zero, suc, ◌≤◌, Bool, true, 
 use Rattle.std.specs.Prelude.{Option, None, Some, IsNone, IsSome, is_some}
 use Rattle.sd_page.specs.Page.{Page}
 use Rattle.sd_pagelock.specs.Directory.{entry_at}
-use Rattle.sd_pagelock.specs.Places.{Entry, holds}
+use Rattle.sd_pagelock.specs.Places.{PageEntry, holds}
 use Rattle.sd_pool.specs.Buffers.{IsPool, image_at}
-use Rattle.sd_rig.specs.Devices.{Image}
-use Rattle.sd_coherent.specs.World.{now}
+use Rattle.sd_rig.specs.Devices.{DeviceImages}
+use Rattle.sd_coherent.specs.World.{newest_version}
 use Rattle.sd_sound.specs.Logs.{Outcomes}
-use Rattle.sd_world.specs.Pages.{held}
+use Rattle.sd_world.specs.Pages.{held_count}
 use Rattle.sd_world.specs.Serving.{Core}
 use Rattle.sd_state.specs.Good.{base_of}
 use Rattle.sd_state.specs.Images.{leaves_by, log_by}
@@ -17,10 +17,10 @@ use Rattle.sd_fits.specs.Fits.{Fits}
 use Rattle.sd_drive.specs.Driven.{IsFull}
 use Rattle.sd_drive.specs.Measure.{copies_of}
 
-none-held : (entry : ℕ → Entry) (i n : ℕ) → ((q : ℕ) → holds (entry q) i ≡ false) → held entry i n ≡ 0
+none-held : (entry : ℕ → PageEntry) (i n : ℕ) → ((q : ℕ) → holds (entry q) i ≡ false) → held_count entry i n ≡ 0
 none-held entry i zero none = refl
 none-held entry i (suc n) none =
-    let rest : held entry i n ≡ 0 = none-held entry i n none in
+    let rest : held_count entry i n ≡ 0 = none-held entry i n none in
     let here : cond {A = ℕ} (holds (entry n) i) 1 0 ≡ 0 = ap (λ (b : Bool). cond {A = ℕ} b 1 0) (none n) in
     omega (arith, rest, here)
 
@@ -36,11 +36,11 @@ some-if : (b : Bool) (x : Page) → is_some (cond {A = Option Page} b (Some x) N
 some-if true x = refl
 some-if false x = refl
 
-module _ (seen : Image) (leaves : Outcomes) (c : Parts) (w : Core) (f : Fits seen leaves c w) (i : ℕ) where
+module _ (seen : DeviceImages) (leaves : Outcomes) (c : Parts) (w : Core) (f : Fits seen leaves c w) (i : ℕ) where
   in-pool : (q : ℕ) → is_some (image_at (pool_at c i) q) ≡ holds (entry_at c.directory q) i
   in-pool q =
       let b = base_of seen (leaves_by c (λ j. false) leaves) (log_by c (λ j. false)) c in
-      ap (λ (o : Option Page). is_some o) ((f.good.half (λ j. false)).coherent.copies i q) ∙ some-if (holds (entry_at c.directory q) i) (now b q)
+      ap (λ (o : Option Page). is_some o) ((f.good.half (λ j. false)).coherent.copies i q) ∙ some-if (holds (entry_at c.directory q) i) (newest_version b q)
 
   pub pool-holds : (v : ℕ) → IsSome (image_at (pool_at c i) v) → holds (entry_at c.directory v) i ≡ true
   pool-holds v there = sym (in-pool v) ∙ there
@@ -48,7 +48,7 @@ module _ (seen : Image) (leaves : Outcomes) (c : Parts) (w : Core) (f : Fits see
   none-copied : (pool_at c i).held ≡ [] → copies_of w.pages.entry i ≡ 0
   unfolding copies_of
   none-copied empty = none-held w.pages.entry i 1024 (λ q.
-      ap (λ (e : Entry). holds e i) (f.pages.entry q) ∙ sym (in-pool q)
+      ap (λ (e : PageEntry). holds e i) (f.pages.entry q) ∙ sym (in-pool q)
       ∙ ap (λ (es : List (ℕ × Page)). is_some (image_at (record { held = es; frames = (pool_at c i).frames }) q)) empty)
 
   pub some-held : 1 ≤ i → i ≤ 8 → IsPool (pool_at c i) → IsFull i w → (pool_at c i).held ≡ [] → ⊥

@@ -5,7 +5,7 @@ use Rattle.sd_base.specs.declared.place.Status.{Status}
 use Rattle.sd_base.specs.declared.place.Status.TheVariants as S
 use Rattle.sd_pagelock.specs.declared.queue.Ask.{Ask}
 use Rattle.sd_pagelock.specs.Directory.{asks_at, entry_at}
-use Rattle.sd_pagelock.specs.Places.{Entry}
+use Rattle.sd_pagelock.specs.Places.{PageEntry}
 use Rattle.sd_state.specs.Complexes.{parts}
 use Rattle.sd_state.specs.Parts.{status_at, txns_at}
 use Rattle.sd_txn.specs.Transactions.{depth_at}
@@ -18,10 +18,10 @@ status_in (Some (Body.Open c)) i = status_at (parts c) i
 status_in (Some (Body.Closed rig shape)) i = S.Closed
 
 -- where a page is
-abbrev pub entry_in : {G : Type 0} → Option (Body G) → ℕ → Entry
-entry_in None p = Entry.Free
+abbrev pub entry_in : {G : Type 0} → Option (Body G) → ℕ → PageEntry
+entry_in None p = PageEntry.Free
 entry_in (Some (Body.Open c)) p = entry_at (parts c).directory p
-entry_in (Some (Body.Closed rig shape)) p = Entry.Free
+entry_in (Some (Body.Closed rig shape)) p = PageEntry.Free
 
 -- who asks for it
 abbrev pub asks_in : {G : Type 0} → Option (Body G) → ℕ → List Ask

@@ -8,12 +8,12 @@ use Rattle.sd_world.specs.Serving.{Core, Telling, Turns}
 use Rattle.sd_hall.specs.declared.hall.Hall.{Hall}
 use Rattle.sd_drive.specs.Driven.{IsIn}
 use Rattle.sd_drive.specs.Driving.{Cursor, Known, Work, World, followed, goes_on}
-use Rattle.sd_drive.specs.Standing.{NoneActs, Stands}
+use Rattle.sd_drive.specs.Standing.{EventIsDue, NoneActs}
 use Rattle.sd_drive.specs.Running.{Start}
 
 -- the event is due in this world, for a line of this session and number
 pub record IsDueFor (session number : ℕ) (e : Event) (known : Known) (line : Line) (rest : List Work) (c : Cursor) (w : World) : Type 0 where
-  pub stands : Stands known (Work.Do line) rest c e w
+  pub stands : EventIsDue known (Work.Do line) rest c e w
   pub session_is : session ≡ line.session
   pub number_is : number ≡ line.number
 

@@ -19,7 +19,7 @@ use Rattle.sd_drive.specs.Driven.{IsIn}
 use Rattle.sd_drive.specs.Driving.{Cursor, Work, World, behind, followed, number_of, session_of, stays}
 use Rattle.sd_drive.specs.Pulls.{Pull}
 use Rattle.sd_drive.specs.Running.{Start}
-use Rattle.sd_drive.specs.Standing.{Pulling, Stands}
+use Rattle.sd_drive.specs.Standing.{EventIsDue, Pulling}
 
 abbrev pub is_opening : Work → Bool
 is_opening Work.Opening = true
@@ -27,7 +27,7 @@ is_opening (Work.Do line) = false
 
 -- the event is due in this world, for a work of this owner
 pub record IsDueOf (of : Owner) (work : Work) (rest : List Work) (c : Cursor) (e : Event) (w : World) : Type 0 where
-  pub stands : Stands w.told.known work rest c e w
+  pub stands : EventIsDue w.told.known work rest c e w
   pub session : of.session ≡ session_of work
   pub line : of.line ≡ number_of work
   pub opening : of.is_opening ≡ is_opening work

@@ -27,7 +27,7 @@ RecoversOn tell start lines n line driver i w =
     ⊎ ((next_down w.core.scene.state i ≡ None) × Reached tell start lines (n + 1) driver w)
 
 -- in some script the line recovers those from i on
-pub record IsRecovering {G : Type 0} (tell : Telling G) (driver : Driver G) (line : Line) (i : ℕ) : Type 0 where
+pub record LineRecovers {G : Type 0} (tell : Telling G) (driver : Driver G) (line : Line) (i : ℕ) : Type 0 where
   pub start : Start G
   pub world : World
   pub lines : List Line

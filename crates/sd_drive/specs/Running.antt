@@ -2,7 +2,7 @@
 use Rattle.std.specs.Prelude.{◌≡◌, ℕ, true, List, [], ◌∷◌, ◌++◌}
 use Rattle.sd_base.specs.declared.ids.Rid.{Rid}
 use Rattle.sd_base.specs.Streams.{Rises}
-use Rattle.sd_rig.specs.Devices.{Elapses, Image, Leaves, Span}
+use Rattle.sd_rig.specs.Devices.{DeviceImages, Elapses, Leaves, Span}
 use Rattle.sd_model.specs.State.{State}
 use Rattle.sd_model.specs.declared.event.Entry.{Entry}
 use Rattle.sd_world.specs.Serving.{FaultsAre, Telling}
@@ -23,7 +23,7 @@ FaultsOf [] old new = new ≡ old
 FaultsOf (e ∷ es) old new = (next : ℕ) × FaultsAre e.event e.reply old next × FaultsOf es next new
 
 -- The image stands for the state of a world on the way: a front of the entries leads to it, and the rest on to the last world.
-pub record StandsOnWay (start : World) (entries : List Entry) (last : World) (img : Image) : Type 0 where
+pub record StandsOnWay (start : World) (entries : List Entry) (last : World) (img : DeviceImages) : Type 0 where
   pub front : List Entry
   pub rest : List Entry
   pub parts : entries ≡ front ++ rest
@@ -48,7 +48,7 @@ pub record Ran {G : Type 0} (tell : Telling G) (start : Start G) (body : Body G)
 -- What the devices read, and whatever a crash may leave of them, stands for the state.
 pub record AllStand {G : Type 0} (tell : Telling G) (rig : G) (m : State) : Type 0 where
   pub reads : stands_for (tell.seen rig) m
-  pub left : (img : Image) → Leaves (tell.leaves rig) img → stands_for img m
+  pub left : (img : DeviceImages) → Leaves (tell.leaves rig) img → stands_for img m
 
 -- The entries lead from the start to the last world, for which the devices stand.
 pub record Led {G : Type 0} (tell : Telling G) (start : Start G) (rig : G) (entries : List Entry) (last : World) : Type 0 where

@@ -17,7 +17,7 @@ use Rattle.sd_drive.specs.Driving.{Cursor, Known, Work, World, cursor_in, due_wo
 use Rattle.sd_drive.specs.Pulls.{Pull, Puller, is_pulling, is_vain, puller}
 
 -- this work is the next one or under way; it stands there, so this event is due, and no page is pulled
-pub record Stands (known : Known) (work : Work) (rest : List Work) (c : Cursor) (e : Event) (w : World) : Type 0 where
+pub record EventIsDue (known : Known) (work : Work) (rest : List Work) (c : Cursor) (e : Event) (w : World) : Type 0 where
   pub known_is : w.told.known ≡ known
   pub first : due_works w.core.scene.state w.told ≡ work ∷ rest
   pub at : cursor_in w.core.scene.state w.told.known work w.told.cursor ≡ Some c

@@ -16,7 +16,7 @@ ghost use Rattle.sd_drive.specs.Running.{Breaks, Start};
 ghost use Rattle.sd_drive.specs.Driving.{Cursor, World, IsTold, is_down, is_up, lister_by};
 ghost use Rattle.sd_script.specs.declared.line.Form.TheVariants as form;
 ghost use Rattle.sd_drive.specs.Lines.{Names, event_of, rolls_back};
-ghost use Rattle.sd_drive.specs.Recovering.{IsRecovering, IsRestarting, RecoversNow, RecoversSome, RestartBreaks, Restarts, RestartsSome};
+ghost use Rattle.sd_drive.specs.Recovering.{IsRestarting, LineRecovers, RecoversNow, RecoversSome, RestartBreaks, Restarts, RestartsSome};
 ghost use Rattle.sd_drive.specs.Reaching.{AreDriven, AtLine, DrivesLine, DrivesSome, IsJoining, IsOpening, IsPlain, IsRolledBack, IsSame, IsShort, JoinBreaks, Joins, JoinsAll, JoinsNow, JoinsSome, Knows, OpensSome, Reached, Undoes, UndoesAll, UndoesSome, at_ordinal, began_by, begin_of, is_joined, is_rows, is_step, ordinal_in};
 
 use crate::emptying::{Going, going_of};
@@ -382,7 +382,7 @@ impl<G: Rig> Driver<G> {
 
     // An instance recovers itself, where it is down. Whether the line goes on.
     fn recover_down(&mut self, line: &Line, inst: InstNo) -> Result<bool, Memory>
-        requires at { IsRecovering (telling G.seen G.leaves G.moment G.since G.faults) self.old line.now inst }
+        requires at { LineRecovers (telling G.seen G.leaves G.moment G.since G.faults) self.old line.now inst }
         requires recovers { line.now.form ≡ form.RecoverAll }
         requires low { 1 ≤ inst }
         requires high { inst ≤ 8 }

@@ -10,9 +10,9 @@ use Rattle.sd_base.specs.declared.refusal.Refusal.TheVariants as R
 use Rattle.sd_base.specs.declared.trouble.Pick.{Pick}
 use Rattle.sd_base.specs.declared.trouble.Trouble.{Trouble}
 use Rattle.sd_model.specs.Applies.{First, PassesAll}
-use Rattle.sd_model.specs.Causes.{before, has, order}
+use Rattle.sd_model.specs.Causes.{before, has_cause, order}
 use Rattle.sd_model.specs.Exact.{IsOfFreeSlot}
-use Rattle.sd_model.specs.Placed.{Stands}
+use Rattle.sd_model.specs.Lives.{SuitsStatus}
 use Rattle.sd_model.specs.Scenes.{is_running, of_running}
 use Rattle.sd_model.specs.State.{State}
 use Rattle.sd_model.specs.declared.act.Life.{Life}
@@ -21,7 +21,7 @@ use Rattle.sd_model.specs.declared.event.Event.{Event}
 use Rattle.sd_model.specs.declared.event.Event.TheVariants.{Arm, Back, FailAll, Insert, Reopen}
 use Rattle.sd_model.specs.declared.event.Reply.{Reply}
 use Rattle.sd_model.specs.declared.event.Reply.TheVariants as reply
-use Rattle.sd_rig.specs.Devices.{Elapses, Image, IsUnchanged, LeavesOnly}
+use Rattle.sd_rig.specs.Devices.{DeviceImages, Elapses, IsUnchanged, LeavesOnly}
 use Rattle.sd_rig.specs.Devices as rig
 use Rattle.sd_chain.specs.Checks.{DevicesAreSound}
 use Rattle.sd_sound.specs.Logs.{Outcomes}
@@ -65,9 +65,9 @@ closed-later leaves leaves' w e r f less = let k = closed-stays leaves leaves' w
   pages = k.pages;
 }
 
-none-runs : (life : Life) (s : Status) → s ≡ S.Closed → Stands life s → is_running life ≡ false
+none-runs : (life : Life) (s : Status) → s ≡ S.Closed → SuitsStatus life s → is_running life ≡ false
 none-runs Life.Gone s e stands = refl
-none-runs Life.Running s e stands = absurd (subst (Stands Life.Running) e stands)
+none-runs Life.Running s e stands = absurd (subst (SuitsStatus Life.Running) e stands)
 none-runs Life.Retained s e stands = refl
 none-runs (Life.Rolling to) s e stands = refl
 none-runs (Life.Doubt cut) s e stands = refl
@@ -80,7 +80,7 @@ closed-waits leaves w f asks t = f.waits t ∙ sym (ap (λ (b : Bool). cond {A =
 
 -- ---- what it refuses
 
-shut-first : (e : Event) → IsShutOut e → (has Cause.Shut (order e) ≡ true) × (before Cause.Shut (order e) ≡ [])
+shut-first : (e : Event) → IsShutOut e → (has_cause Cause.Shut (order e) ≡ true) × (before Cause.Shut (order e) ≡ [])
 shut-first (FailAll pick) out = absurd out
 shut-first (Arm trouble) out = absurd out
 shut-first Reopen out = absurd out
@@ -141,14 +141,14 @@ module _ {G : Type 0} (tell : Telling G) where
   )
 
   calm-passes : (old new : G) (m m' : State) → LeavesNoMore tell old new
-      → ((img : Image) → rig.Leaves (tell.leaves old) img → stands_for img m) → Passes tell stands_for old new m m'
+      → ((img : DeviceImages) → rig.Leaves (tell.leaves old) img → stands_for img m) → Passes tell stands_for old new m m'
   calm-passes old new m m' calm each = record {
     time = calm.time;
     span = record { each = λ img s. inl (each img (calm.span.each img s)) };
   }
 
   -- devices on which no call is made
-  pub calm-still : (d : G) → ((img : Image) → tell.since d (tell.moment d) img → rig.Leaves (tell.leaves d) img) → LeavesNoMore tell d d
+  pub calm-still : (d : G) → ((img : DeviceImages) → tell.since d (tell.moment d) img → rig.Leaves (tell.leaves d) img) → LeavesNoMore tell d d
   calm-still d now = record {
     less = λ k le bytes left. left;
     time = record { later = omega arith; splits = λ t img le s. inl s; keeps = λ t img le s. s };
@@ -158,7 +158,7 @@ module _ {G : Type 0} (tell : Telling G) where
   -- devices that were crashed
   pub calm-crash : (old new : G) → NoneMore (tell.leaves old) (tell.leaves new)
       → Elapses (tell.moment old) (tell.moment new) (tell.since old) (tell.since new)
-      → ((img : Image) → tell.since new (tell.moment old) img → rig.Leaves (tell.leaves old) img ⊎ rig.Leaves (tell.leaves new) img)
+      → ((img : DeviceImages) → tell.since new (tell.moment old) img → rig.Leaves (tell.leaves old) img ⊎ rig.Leaves (tell.leaves new) img)
       → LeavesNoMore tell old new
   calm-crash old new less time step = record {
     less = less;
@@ -170,7 +170,7 @@ module _ {G : Type 0} (tell : Telling G) where
   pub calm-unchanged : (old new : G)
       → IsUnchanged (tell.seen old) (tell.seen new) (tell.leaves old) (tell.leaves new) (tell.moment old) (tell.moment new)
       (tell.since old) (tell.since new)
-      → ((img : Image) → tell.since old (tell.moment old) img → rig.Leaves (tell.leaves old) img) → LeavesNoMore tell old new
+      → ((img : DeviceImages) → tell.since old (tell.moment old) img → rig.Leaves (tell.leaves old) img) → LeavesNoMore tell old new
   calm-unchanged old new u now = record {
     less = λ d le bytes left. (u.outcomes d bytes).0 left;
     time = record {
@@ -221,7 +221,7 @@ module _ {G : Type 0} (tell : Telling G) where
   -- ---- a closed complex
 
   pub shut-served : (e : Event) → IsShutOut e → (d : G) (shape : Shape)
-      → ((img : Image) → tell.since d (tell.moment d) img → rig.Leaves (tell.leaves d) img)
+      → ((img : DeviceImages) → tell.since d (tell.moment d) img → rig.Leaves (tell.leaves d) img)
       → ServingHall tell e (Some (reply.Refused R.Down)) (Body.Closed d shape) (Body.Closed d shape)
   shut-served e out d shape now = (
     λ w f. (
@@ -344,7 +344,7 @@ module _ {G : Type 0} (tell : Telling G) where
   -- ---- a complex that is open isn't opened
 
   pub opened-refused : (c : Complex G) (status : Status) → status_at (parts c) 1 ≡ status
-      → ((img : Image) → tell.since c.rig (tell.moment c.rig) img → rig.Leaves (tell.leaves c.rig) img)
+      → ((img : DeviceImages) → tell.since c.rig (tell.moment c.rig) img → rig.Leaves (tell.leaves c.rig) img)
       → Serving tell Reopen (Some (reply.Refused (R.NotDown status))) c c
   opened-refused c status is now = (
     λ w f. refused-serves tell c now w f Reopen (R.NotDown status) Cause.NotDown (record {

@@ -21,7 +21,7 @@ use Rattle.sd_model.specs.declared.event.Event.{Event}
 use Rattle.sd_model.specs.declared.event.Reply.{Reply}
 use Rattle.sd_page.specs.Page.{Page, Slot}
 use Rattle.sd_pagelock.specs.Rows.{dirtied}
-use Rattle.sd_rig.specs.Devices.{Image}
+use Rattle.sd_rig.specs.Devices.{DeviceImages}
 use Rattle.sd_txn.specs.Owing.{owed_of, reserve_of}
 use Rattle.sd_txn.specs.Transactions.{Transaction, Transactions, span_at}
 use Rattle.sd_chain.specs.Bytes.{disk_page}
@@ -33,7 +33,7 @@ use Rattle.sd_coherent.specs.Named.{version_of}
 use Rattle.sd_sound.specs.Logs.{Outcomes, all_at, tails_of}
 use Rattle.sd_sound.proofs.Kept.{forced-gate}
 use Rattle.sd_world.specs.Bounds.{Bounds, bounds_after, cost, counts, with_slot}
-use Rattle.sd_world.specs.Pages.{Pages, numbered, placed}
+use Rattle.sd_world.specs.Pages.{Pages, numbered, page_placed}
 use Rattle.sd_world.specs.Serving.{Core}
 use Rattle.sd_state.specs.Changing.{Change, IsMade, LacksLsns, LacksRoom, change_of, changed_log, flat_of, image_for, owed_then, row_for, update, with_changed}
 use Rattle.sd_state.specs.Good.{Good, IsTold}
@@ -100,7 +100,7 @@ owes-two false false was told told_then more = omega arith
 
 -- ---- the complex with the change
 
-module _ (k : Change) (seen : Image) (leaves : Outcomes) (c after : Parts) (m' : State) (w : Core) (f : Fits seen leaves c w)
+module _ (k : Change) (seen : DeviceImages) (leaves : Outcomes) (c after : Parts) (m' : State) (w : Core) (f : Fits seen leaves c w)
     (made : IsMade k c after) where
   abbrev i : ℕ
   i = home k.txn
@@ -155,7 +155,7 @@ module _ (k : Change) (seen : Image) (leaves : Outcomes) (c after : Parts) (m' :
 
   module _ (good : Good seen leaves Pending.Idle new m') where
     abbrev pages_then : Pages
-    pages_then = numbered p k.lsn (placed p (dirtied i) w.pages)
+    pages_then = numbered p k.lsn (page_placed p (dirtied i) w.pages)
 
     abbrev still : Keeps
     still j = false
@@ -288,7 +288,7 @@ module _ (k : Change) (seen : Image) (leaves : Outcomes) (c after : Parts) (m' :
 
 -- ---- a change that finds no room, or no LSN
 
-module _ (t : TxnId) (r : Rid) (capacity : ℕ) (v : Val) (seen : Image) (leaves : Outcomes) (c : Parts) (w : Core) (f : Fits seen leaves c w)
+module _ (t : TxnId) (r : Rid) (capacity : ℕ) (v : Val) (seen : DeviceImages) (leaves : Outcomes) (c : Parts) (w : Core) (f : Fits seen leaves c w)
     (low : 1 ≤ home t) (high : home t ≤ 8) (up : status_at c (home t) ≡ S.Up) where
   settled-there : is_loose c (home t) ≡ false
   settled-there = ⊎_elim (λ e. e) (λ due. let e = sym f.idle ∙ due in absurd (cc))

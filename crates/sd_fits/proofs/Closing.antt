@@ -9,7 +9,7 @@ use Rattle.sd_model.specs.Fields.{nobody}
 use Rattle.sd_model.specs.Kept.{Kept}
 use Rattle.sd_model.specs.Listed.{Listed}
 use Rattle.sd_model.specs.Marks.{Marked}
-use Rattle.sd_model.specs.Placed.{Placed}
+use Rattle.sd_model.specs.Lives.{LivesAreSound}
 use Rattle.sd_model.specs.Recoverers.{Recoverers}
 use Rattle.sd_model.specs.Scenes.{is_running}
 use Rattle.sd_model.specs.State.{State, closed, lost}
@@ -24,7 +24,7 @@ use Rattle.sd_model.proofs.Recoverers.{step-recoverers}
 use Rattle.sd_model.specs.Step.{Step}
 use Rattle.sd_rig.specs.Devices as rig
 use Rattle.sd_chain.specs.Bytes.{stable}
-use Rattle.sd_chain.specs.Image.{Recovered}
+use Rattle.sd_chain.specs.Storage.{Recovered}
 use Rattle.sd_sound.specs.Logs.{Outcomes}
 use Rattle.sd_world.specs.Bounds.{bounds_after}
 use Rattle.sd_world.specs.Serving.{Core, Turns}
@@ -52,7 +52,7 @@ doubts-same : (m : State) (ts : List TxnId)
 doubts-same m ts = ap (λ (test : TxnId → Bool). filter test ts) (fun_ext (λ (t : TxnId). cond-doubts true (m.part t)))
 
 -- an image that stands for a state stands for it once all have failed
-pub closed-stands : (m : State) (img : rig.Image) → Stands m Pending.Idle img → Stands (closed m) Pending.Idle img
+pub closed-stands : (m : State) (img : rig.DeviceImages) → Stands m Pending.Idle img → Stands (closed m) Pending.Idle img
 closed-stands m img s = record {
   sound = s.sound;
   recovered = λ p r. subst (Recovered (stable img) p r)
@@ -71,9 +71,9 @@ closed-stands m img s = record {
 -- What is left stands for the world's state and is within its sums, which is one to which a run leads; and at most as much may be
 -- left then.
 module _ (leaves leaves' : Outcomes) (w : Core) (less : NoneMore leaves leaves') (pick : Pick)
-    (stands : (img : rig.Image) → rig.Leaves leaves img → Stands w.scene.state Pending.Idle img)
-    (sums : (img : rig.Image) → rig.Leaves leaves img → IsWithinSums img w.bounds)
-    (kept : Kept w.scene.state) (placed : Placed w.scene.state) (listed : Listed w.scene.state) (marked : Marked w.scene.state)
+    (stands : (img : rig.DeviceImages) → rig.Leaves leaves img → Stands w.scene.state Pending.Idle img)
+    (sums : (img : rig.DeviceImages) → rig.Leaves leaves img → IsWithinSums img w.bounds)
+    (kept : Kept w.scene.state) (placed : LivesAreSound w.scene.state) (listed : Listed w.scene.state) (marked : Marked w.scene.state)
     (recoverers : Recoverers w.scene.state) where
   abbrev m : State
   m = w.scene.state
@@ -84,7 +84,7 @@ module _ (leaves leaves' : Outcomes) (w : Core) (less : NoneMore leaves leaves')
   step : Step m (FailAll pick) reply.Did (closed m)
   step = (tt, refl)
 
-  was-left : (img : rig.Image) → rig.Leaves leaves' img → rig.Leaves leaves img
+  was-left : (img : rig.DeviceImages) → rig.Leaves leaves' img → rig.Leaves leaves img
   was-left img left d le = less d le (img d) (left d le)
 
   turns : Turns w (FailAll pick) reply.Did next

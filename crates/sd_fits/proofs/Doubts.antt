@@ -11,10 +11,10 @@ use Rattle.sd_model.specs.Acts.{Puts, live}
 use Rattle.sd_model.specs.State.{Part, State}
 use Rattle.sd_logrec.specs.View.{Rec}
 use Rattle.sd_page.specs.Page.{Page}
-use Rattle.sd_rig.specs.Devices.{Image}
+use Rattle.sd_rig.specs.Devices.{DeviceImages}
 use Rattle.sd_chain.specs.Bytes.{disk_page}
 use Rattle.sd_chain.specs.Fates.{commits}
-use Rattle.sd_chain.specs.Image.{HasPlace}
+use Rattle.sd_chain.specs.Storage.{HasPlace}
 use Rattle.sd_chain.specs.Images.{Keeps}
 use Rattle.sd_chain.specs.Records.{Each, home}
 use Rattle.sd_coherent.specs.Named.{version_of}
@@ -25,7 +25,7 @@ use Rattle.sd_state.specs.Values.{is_committed, is_doubt, put_of}
 use Rattle.sd_fits.specs.Fits.{FitsDoubts, HaveSlots}
 
 -- The transaction's Commit was kept before, too, with tails by which page p had at most these slots.
-pub record HadCommit (seen : Image) (c : Parts) (moved : Keeps) (u : TxnId) (p count : ℕ) : Type 0 where
+pub record HadCommit (seen : DeviceImages) (c : Parts) (moved : Keeps) (u : TxnId) (p count : ℕ) : Type 0 where
   pub keeps : Keeps
   pub commits : is_committed (kept_logs (tails_of (log_by c moved)) keeps) u ≡ true
   pub slots : length (version_of (tails_of (log_by c moved)) (disk_page (seen 0)) keeps p).slots ≤ count
@@ -73,7 +73,7 @@ commits-more u base tail y true none = ap (list_any (commits u)) (sym (append_as
     or-false true = refl
     or-false false = refl
 
-module _ (seen seen' : Image) (c c' : Parts) (m m' : State) where
+module _ (seen seen' : DeviceImages) (c c' : Parts) (m m' : State) where
   pub doubts-on : FitsDoubts seen c m → DoubtsStay m m'
       → ((moved keeps : Keeps) (u : TxnId) → is_doubt (m'.part u).life ≡ true
       → is_committed (kept_logs (tails_of (log_by c' moved)) keeps) u ≡ true → (p : ℕ)
@@ -103,7 +103,7 @@ part-stays t p m m' rests part = record {
     by : (P : TxnId → Part → Type 0) → P t p → ((u : TxnId) → P u (m.part u)) → (u : TxnId) → P u (m'.part u)
     by P own others u = subst (P u) (sym (part u)) (each_txn t P p m.part own (λ v ne. others v) u)
 
-module _ (seen seen' : Image) (c c' : Parts) (m m' : State) (d : FitsDoubts seen c m) (stay : DoubtsStay m m') where
+module _ (seen seen' : DeviceImages) (c c' : Parts) (m m' : State) (d : FitsDoubts seen c m) (stay : DoubtsStay m m') where
   -- where the same records are kept, over the same pages or with the same versions
   pub doubts-kept : (to : Keeps → Keeps)
       → ((moved keeps : Keeps) (j : ℕ) → kept_logs (tails_of (log_by c' moved)) keeps j ≡ kept_logs (tails_of (log_by c moved))

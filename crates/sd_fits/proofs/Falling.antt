@@ -28,7 +28,7 @@ use Rattle.sd_chain.specs.Records.{IsOpen, home}
 use Rattle.sd_log.specs.Logs.{LogState, without_tail}
 use Rattle.sd_logrec.specs.View.{Rec}
 use Rattle.sd_pagelock.specs.Asks.{asks_without, open_asks}
-use Rattle.sd_pagelock.specs.Places.{Entry}
+use Rattle.sd_pagelock.specs.Places.{PageEntry}
 use Rattle.sd_pagelock.specs.Rows.{fallen}
 use Rattle.sd_page.specs.Page.{Page}
 use Rattle.sd_pool.specs.Buffers.{Buffers}
@@ -46,7 +46,7 @@ use Rattle.sd_state.specs.Parts.{Begun, Parts, check_at, count_at, log_at, no_lo
 use Rattle.sd_state.specs.Values.{Pending, is_doubt}
 use Rattle.sd_state.proofs.Items.{item-kept, item-set}
 use Rattle.sd_state.proofs.Standing.{one-place}
-use Rattle.sd_moves.specs.Falling.{IsFallen, emptied, is_recovered_by, logs_by, owed_dropped, with_fallen}
+use Rattle.sd_moves.specs.Falling.{IsFallen, emptied_pool, is_recovered_by, logs_by, owed_dropped, with_fallen}
 use Rattle.sd_moves.proofs.FallBounds.{fallen-great, fallen-log, fallen-owes, fallen-versions, kept_by}
 use Rattle.sd_moves.proofs.FallDropped.{kept-all}
 use Rattle.sd_moves.proofs.FallFinal.{when-dropped}
@@ -66,7 +66,7 @@ fell_core i before number sums w = record {
 }
 
 -- the numbers that pages have in a complex
-abbrev pub numbers_of : rig.Image → Outcomes → Parts → ℕ → ℕ
+abbrev pub numbers_of : rig.DeviceImages → Outcomes → Parts → ℕ → ℕ
 numbers_of seen leaves c p = (newest_of seen leaves c p).lsn
 
 -- who fell is down
@@ -98,13 +98,13 @@ fall-stays i before = record {
 
 -- ---- pages and sums
 
-module _ (i : ℕ) (seen : rig.Image) (leaves : Outcomes) (pend : Pending) (c new : Parts) (m : State) (low : 1 ≤ i) (high : i ≤ 8)
+module _ (i : ℕ) (seen : rig.DeviceImages) (leaves : Outcomes) (pend : Pending) (c new : Parts) (m : State) (low : 1 ≤ i) (high : i ≤ 8)
     (g : Good seen leaves pend c m) (is : new ≡ with_fallen i new c) (f : IsFallen i c new) where
   pub fallen-pages : (w : Pages) → FitsPages seen leaves c w → FitsPages seen leaves new (fell i (numbers_of seen leaves new) w)
   fallen-pages w fits = record {
     frames = λ j lo hi. frames j ∙ fits.frames j lo hi;
     entry = λ p. ap (fallen i) (fits.entry p) ∙ sym (f.entries p);
-    asks = λ p. ap₂ (λ (e : Entry) asks. open_asks (fallen i e) (asks_without i asks)) (fits.entry p) (fits.asks p) ∙ sym (f.asks p);
+    asks = λ p. ap₂ (λ (e : PageEntry) asks. open_asks (fallen i e) (asks_without i asks)) (fits.entry p) (fits.asks p) ∙ sym (f.asks p);
     number = λ p there. refl;
     begun = begun;
   }
@@ -112,8 +112,8 @@ module _ (i : ℕ) (seen : rig.Image) (leaves : Outcomes) (pend : Pending) (c ne
       frames : (j : ℕ) → (pool_at new j).frames ≡ (pool_at c j).frames
       frames j = ap (λ (k : Parts). (pool_at k j).frames) is ∙ ⊎_elim
           (λ e. subst (λ (k : ℕ). (pool_at (with_fallen i new c) k).frames ≡ (pool_at c k).frames) (sym e)
-          (ap (λ (b : Buffers). b.frames) (item-set no_pool c.pools i (emptied (pool_at c i)) low high g.shape.pools)))
-          (λ ne. ap (λ (b : Buffers). b.frames) (item-kept no_pool c.pools i (emptied (pool_at c i)) low j ne))
+          (ap (λ (b : Buffers). b.frames) (item-set no_pool c.pools i (emptied_pool (pool_at c i)) low high g.shape.pools)))
+          (λ ne. ap (λ (b : Buffers). b.frames) (item-kept no_pool c.pools i (emptied_pool (pool_at c i)) low j ne))
           (cases_eq j i)
 
       begun : (j : ℕ) → (fell i (numbers_of seen leaves new) w).begun j ≡ is_some (check_at new j)
@@ -210,7 +210,7 @@ fell-life (Life.Doubt cut) = (refl, λ e. cc, λ w. w)
 
 -- A call changed i's alone of a complex that fitted w, and left pages and sums that fit so; then i falls, from a state in which the
 -- transactions of others are as they were.
-module _ (i : ℕ) (seen seen' : rig.Image) (leaves leaves' : Outcomes) (pend : Pending) (old mid new : Parts) (m before : State) (w : Core)
+module _ (i : ℕ) (seen seen' : rig.DeviceImages) (leaves leaves' : Outcomes) (pend : Pending) (old mid new : Parts) (m before : State) (w : Core)
     (low : 1 ≤ i) (high : i ≤ 8) (fitted : Fits seen leaves old w) (g : Good seen' leaves' pend mid m) (else : IsElsewhere i old mid)
     (is : new ≡ with_fallen i new mid) (f : IsFallen i mid new)
     (same : (t : TxnId) → home t ≢ i → before.part t ≡ w.scene.state.part t) where

@@ -57,7 +57,7 @@ zero-any false false = refl
 
 -- ---- a fresh complex
 
-module _ (leaves : Outcomes) (seen : rig.Image) (frames : ℕ) (c : Parts) (devices : AreBlank seen leaves) (f : IsFresh frames c) where
+module _ (leaves : Outcomes) (seen : rig.DeviceImages) (frames : ℕ) (c : Parts) (devices : AreBlank seen leaves) (f : IsFresh frames c) where
   last-none : (j : ℕ) → 1 ≤ j → j ≤ 8 → last_lsn (scanned (log_at c j)) ≡ 0
   last-none j low high = ap (λ (l : LogState). last_lsn (scanned l)) (log-is seen leaves frames c devices f j low high)
 

@@ -15,7 +15,7 @@ use Rattle.sd_rig.specs.Devices as rig
 use Rattle.sd_txn.specs.Owing.{owed_of}
 use Rattle.sd_chain.specs.Bytes.{disk_page}
 use Rattle.sd_chain.specs.Checks.{owed, reserve}
-use Rattle.sd_chain.specs.Image.{newest}
+use Rattle.sd_chain.specs.Storage.{newest}
 use Rattle.sd_chain.specs.Images.{Keeps, Tails, all_kept, kept_at}
 use Rattle.sd_coherent.specs.Named.{version_of}
 use Rattle.sd_sound.specs.Logs.{Logs, Outcomes, all_at, base_at, kept_logs, tail_at, tails_of}
@@ -64,7 +64,7 @@ masters-left leaves leaves' kept most was i low high bytes left =
 -- ---- forced
 
 -- Log i, which is settled, is forced; then it owes what it owes with its tail.
-module _ (i owes : ℕ) (seen seen' : rig.Image) (leaves leaves' : Outcomes) (pend : Pending) (c : Parts) (m : State)
+module _ (i owes : ℕ) (seen seen' : rig.DeviceImages) (leaves leaves' : Outcomes) (pend : Pending) (c : Parts) (m : State)
     (g : Good seen leaves pend c m) (low : 1 ≤ i) (high : i ≤ 8) (settled : is_loose c i ≡ false)
     (disk : seen' 0 ≡ seen 0) (is : owes ≡ owed (all_at (log_at c i))) where
   abbrev log : LogState
@@ -202,7 +202,7 @@ module _ (i owes : ℕ) (seen seen' : rig.Image) (leaves leaves' : Outcomes) (pe
 -- ---- a force that fails
 
 -- The force of log i, which was settled, failed: the log is as it was, and owes what it owes either way.
-module _ (a i : ℕ) (seen seen' : rig.Image) (leaves leaves' : Outcomes) (pend : Pending) (c : Parts) (m : State)
+module _ (a i : ℕ) (seen seen' : rig.DeviceImages) (leaves leaves' : Outcomes) (pend : Pending) (c : Parts) (m : State)
     (g : Good seen leaves pend c m) (low : 1 ≤ i) (high : i ≤ 8) (settled : is_loose c i ≡ false) (disk : seen' 0 ≡ seen 0) where
   abbrev failed : Parts
   failed = with_failed a i c

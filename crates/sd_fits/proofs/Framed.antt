@@ -9,15 +9,15 @@ use Rattle.sd_model.specs.declared.event.Event.TheVariants.{Write, Add, Insert, 
 use Rattle.sd_model.specs.declared.event.Reply.{Reply}
 use Rattle.sd_model.specs.declared.event.Reply.TheVariants as reply
 use Rattle.sd_pagelock.specs.Places.{holds_as}
-use Rattle.sd_world.specs.Answers.{Answers, DidBefore, Fails, Leaves, Moves, Rebuilds, Undoes}
-use Rattle.sd_world.specs.Pages.{Pages, had, placed}
+use Rattle.sd_world.specs.Answers.{Answers, DidBefore, Fails, Moves, Rebuilds, RefusalLeaves, Undoes}
+use Rattle.sd_world.specs.Pages.{Pages, had, page_placed}
 use Rattle.sd_world.specs.Serving.{Core, Turns}
 
 abbrev frames_of : Pages → ℕ
 frames_of w = w.frames
 
 had-frames : (b : Bool) (p i : ℕ) (mode : Mode) (w : Pages)
-    → (cond {A = Pages} b w (placed p (had i mode (w.entry p)) w)).frames ≡ w.frames
+    → (cond {A = Pages} b w (page_placed p (had i mode (w.entry p)) w)).frames ≡ w.frames
 had-frames true p i mode w = refl
 had-frames false p i mode w = refl
 
@@ -59,7 +59,7 @@ fails-frames : (m : State) (w : Pages) (e : Event) (m' : State) (w' : Pages) →
 fails-frames m w e m' w' (Fails.stays state is) = ap frames_of is
 fails-frames m w e m' w' (Fails.falls j between number may state before is) = ap frames_of is ∙ before-frames m e w between before
 
-leaves-frames : (m : State) (w : Pages) (e : Event) (n : Refusal) (m' : State) (w' : Pages) → Leaves m w e n m' w' → w'.frames ≡ w.frames
+leaves-frames : (m : State) (w : Pages) (e : Event) (n : Refusal) (m' : State) (w' : Pages) → RefusalLeaves m w e n m' w' → w'.frames ≡ w.frames
 leaves-frames m w e R.Failed m' w' h = fails-frames m w e m' w' h
 leaves-frames m w e R.CutCommit m' w' h = ap frames_of h.1
 leaves-frames m w e n m' w' h = ap frames_of h

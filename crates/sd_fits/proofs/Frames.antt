@@ -5,15 +5,15 @@ use Rattle.std.specs.List.{IsDistinct, AllByRecursion}
 use Rattle.std.specs.Map.{keys_of, lookup}
 use Rattle.std.proofs.lemmas.Bool.{cases_eq, cases_lt}
 use Rattle.sd_pagelock.specs.Directory.{entry_at}
-use Rattle.sd_pagelock.specs.Places.{Entry, holds}
+use Rattle.sd_pagelock.specs.Places.{PageEntry, holds}
 use Rattle.sd_pool.specs.Buffers as buffers
 use Rattle.sd_pool.specs.Buffers.{Buffers, IsPool}
 use Rattle.sd_rig.specs.Devices as rig
 use Rattle.sd_page.specs.Page.{Page}
-use Rattle.sd_coherent.specs.World.{now}
+use Rattle.sd_coherent.specs.World.{newest_version}
 use Rattle.sd_model.specs.State.{State}
 use Rattle.sd_sound.specs.Logs.{Outcomes}
-use Rattle.sd_world.specs.Pages.{Pages, held}
+use Rattle.sd_world.specs.Pages.{Pages, held_count}
 use Rattle.sd_state.specs.Good.{Good, base_of}
 use Rattle.sd_state.specs.Images.{leaves_by, log_by}
 use Rattle.sd_state.specs.Parts.{Parts, pool_at}
@@ -65,7 +65,7 @@ below-inside f k (suc n) lt new = ⊎_elim
     past : (x y : ℕ) → x + suc y ≡ suc (x + y)
     past x y = omega arith
 
-held-below : (entry : ℕ → Entry) (i n : ℕ) → held entry i n ≡ below (λ q. holds (entry q) i) n
+held-below : (entry : ℕ → PageEntry) (i n : ℕ) → held_count entry i n ≡ below (λ q. holds (entry q) i) n
 held-below entry i zero = refl
 held-below entry i (suc n) = ap (λ (k : ℕ). cond {A = ℕ} (holds (entry n) i) 1 0 + k) (held-below entry i n)
 
@@ -108,9 +108,9 @@ module _ {X : Type 0} where
 
 -- ---- the pool of an instance, where no page from n on is in a pool
 
-module _ (seen : rig.Image) (leaves : Outcomes) (pend : Pending) (c : Parts) (m : State) (g : Good seen leaves pend c m)
+module _ (seen : rig.DeviceImages) (leaves : Outcomes) (pend : Pending) (c : Parts) (m : State) (g : Good seen leaves pend c m)
     (w : Pages) (f : FitsPages seen leaves c w) (i n : ℕ) (low : 1 ≤ i) (high : i ≤ 8) (pool : IsPool (pool_at c i))
-    (past : (q : ℕ) → n ≤ q → entry_at c.directory q ≡ Entry.Free) where
+    (past : (q : ℕ) → n ≤ q → entry_at c.directory q ≡ PageEntry.Free) where
   some-if : (b : Bool) (x : Page) → is_some (cond {A = Option Page} b (Some x) None) ≡ b
   some-if true x = refl
   some-if false x = refl
@@ -119,27 +119,27 @@ module _ (seen : rig.Image) (leaves : Outcomes) (pend : Pending) (c : Parts) (m 
   has-copy : (q : ℕ) → is_some (buffers.image_at (pool_at c i) q) ≡ holds (entry_at c.directory q) i
   has-copy q =
       let b = base_of seen (leaves_by c (λ j. false) leaves) (log_by c (λ j. false)) c in
-      ap is_some ((g.half (λ j. false)).coherent.copies i q) ∙ some-if (holds (entry_at c.directory q) i) (now b q)
+      ap is_some ((g.half (λ j. false)).coherent.copies i q) ∙ some-if (holds (entry_at c.directory q) i) (newest_version b q)
 
   none-past : (q : ℕ) → n ≤ q → buffers.image_at (pool_at c i) q ≡ None
   none-past q le =
       let b = base_of seen (leaves_by c (λ j. false) leaves) (log_by c (λ j. false)) c in
       (g.half (λ j. false)).coherent.copies i q
-      ∙ ap (λ (e : Entry). cond {A = Option Page} (holds e i) (Some (now b q)) None) (past q le)
+      ∙ ap (λ (e : PageEntry). cond {A = Option Page} (holds e i) (Some (newest_version b q)) None) (past q le)
 
-  held-there : held w.entry i n ≡ length (pool_at c i).held
+  held-there : held_count w.entry i n ≡ length (pool_at c i).held
   held-there = held-below w.entry i n
       ∙ below-same (λ q. holds (w.entry q) i) (λ q. is_some (buffers.image_at (pool_at c i) q))
-      (λ q. ap (λ (e : Entry). holds e i) (f.entry q) ∙ sym (has-copy q)) n
+      (λ q. ap (λ (e : PageEntry). holds e i) (f.entry q) ∙ sym (has-copy q)) n
       ∙ found-below (pool_at c i).held n pool.distinct none-past
 
   -- each frame has a page exactly where the world says that the instance holds so many
-  pub frames-held : length (pool_at c i).held ≡ (pool_at c i).frames → w.frames ≤ held w.entry i n
+  pub frames-held : length (pool_at c i).held ≡ (pool_at c i).frames → w.frames ≤ held_count w.entry i n
   frames-held full =
       let there = held-there in
       let frames = f.frames i low high in omega (arith, there, frames, full)
 
-  pub frames-left : (length (pool_at c i).held ≡ (pool_at c i).frames → ⊥) → w.frames ≤ held w.entry i n → ⊥
+  pub frames-left : (length (pool_at c i).held ≡ (pool_at c i).frames → ⊥) → w.frames ≤ held_count w.entry i n → ⊥
   frames-left room all =
       let there = held-there in
       let frames = f.frames i low high in

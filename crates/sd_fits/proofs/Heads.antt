@@ -11,9 +11,9 @@ use Rattle.sd_base.specs.declared.place.Status.TheVariants as S
 use Rattle.sd_base.proofs.SameIds.{cases_txn, eq-same, ne-same}
 use Rattle.sd_model.specs.Applies.{count_of}
 use Rattle.sd_model.specs.Listed.{IsAmong, NoneTwice}
-use Rattle.sd_model.specs.Placed.{Stands}
+use Rattle.sd_model.specs.Lives.{SuitsStatus}
 use Rattle.sd_model.specs.State.{State}
-use Rattle.sd_model.specs.StepLaws.{IsReady, IsUp}
+use Rattle.sd_model.specs.StepLaws.{IsUp, MayAct}
 use Rattle.sd_model.specs.declared.act.Life.{Life}
 use Rattle.sd_model.proofs.Counting.{count-true}
 use Rattle.sd_rig.specs.Devices as rig
@@ -96,18 +96,18 @@ unstood : (o : Option Transaction) (life : Life) (forced whole : Fate) → Names
 unstood None life forced whole n is = n
 unstood (Some x) life forced whole n is = absurd (cc)
 
-doubtful : (life : Life) → IsInDoubt life → Stands life S.Up → ⊥
+doubtful : (life : Life) → IsInDoubt life → SuitsStatus life S.Up → ⊥
 doubtful Life.Gone d placed = d
 doubtful Life.Running d placed = d
 doubtful Life.Retained d placed = d
 doubtful (Life.Rolling to) d placed = d
 doubtful (Life.Doubt cut) d placed = placed
 
-retained : (life : Life) → life ≡ Life.Retained → Stands life S.Up → ⊥
-retained life e placed = subst (λ (l : Life). Stands l S.Up) e placed
+retained : (life : Life) → life ≡ Life.Retained → SuitsStatus life S.Up → ⊥
+retained life e placed = subst (λ (l : Life). SuitsStatus l S.Up) e placed
 
 -- at an instance that is up whoever is there is at work
-works-up : (s : TxnState) (life : Life) (forced whole : Fate) → StandsAs s life forced whole → Stands life S.Up
+works-up : (s : TxnState) (life : Life) (forced whole : Fate) → StandsAs s life forced whole → SuitsStatus life S.Up
     → (s ≡ TxnState.Running) ⊎ ((to : Option ℕ) × (s ≡ TxnState.Rolling to))
 works-up TxnState.Running life forced whole h placed = inl refl
 works-up (TxnState.Rolling to) life forced whole h placed = inr (to, refl)
@@ -118,7 +118,7 @@ works-up TxnState.Committed life forced whole h placed = absurd (doubtful life h
 
 -- ---- what is seen of a complex
 
-module _ (seen : rig.Image) (leaves : Outcomes) (pend : Pending) (c : Parts) (m : State) (g : Good seen leaves pend c m) where
+module _ (seen : rig.DeviceImages) (leaves : Outcomes) (pend : Pending) (c : Parts) (m : State) (g : Good seen leaves pend c m) where
   -- an instance is up exactly where the complex says so
   pub is-up : (i : ℕ) → 1 ≤ i → i ≤ 8 → status_at c i ≡ S.Up → IsUp m i
   is-up i low high up = record { up = sym (g.instances i low high).status ∙ up; opened = g.not_closed }
@@ -143,10 +143,10 @@ module _ (seen : rig.Image) (leaves : Outcomes) (pend : Pending) (c : Parts) (m 
   pub up-works : (t : TxnId) (s : TxnState) → 1 ≤ home t → home t ≤ 8 → status_at c (home t) ≡ S.Up
       → state_at (txns_at c (home t)) t ≡ Some s → (s ≡ TxnState.Running) ⊎ ((to : Option ℕ) × (s ≡ TxnState.Rolling to))
   up-works t s low high up is = works-up s (m.part t).life _ _ (stands-as t s low high is)
-      (subst (λ (v : Status). Stands (m.part t).life v) (is-up (home t) low high up).up (g.placed.stands t))
+      (subst (λ (v : Status). SuitsStatus (m.part t).life v) (is-up (home t) low high up).up (g.placed.stands t))
 
   pub is-ready : (t : TxnId) → 1 ≤ home t → home t ≤ 8 → status_at c (home t) ≡ S.Up
-      → state_at (txns_at c (home t)) t ≡ Some TxnState.Running → IsReady m t
+      → state_at (txns_at c (home t)) t ≡ Some TxnState.Running → MayAct m t
   is-ready t low high up runs = record { runs = stands-as t TxnState.Running low high runs; at = is-up (home t) low high up }
 
   -- The instance has as many unresolved transactions as its table has rows.

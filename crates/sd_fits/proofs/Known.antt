@@ -4,7 +4,7 @@ use Rattle.std.specs.Prelude.{Option, None, Some, IsSome, option_map}
 use Rattle.sd_base.specs.Waits.{Wait}
 use Rattle.sd_base.specs.declared.ids.TxnId.{TxnId}
 use Rattle.sd_model.specs.declared.act.Life.{Life}
-use Rattle.sd_rig.specs.Devices.{Image}
+use Rattle.sd_rig.specs.Devices.{DeviceImages}
 use Rattle.sd_txn.specs.Transactions.{IsUnresolved, Transaction, txn_at}
 use Rattle.sd_chain.specs.Records.{home}
 use Rattle.sd_sound.specs.Logs.{Outcomes}
@@ -24,7 +24,7 @@ the-row None some = absurd (cc)
 the-row (Some x) some = (x, refl)
 
 -- who has a row isn't gone
-pub known-there : (seen : Image) (leaves : Outcomes) (c : Parts) (w : Core) → Fits seen leaves c w → (t : TxnId) → 1 ≤ home t → home t ≤ 8
+pub known-there : (seen : DeviceImages) (leaves : Outcomes) (c : Parts) (w : Core) → Fits seen leaves c w → (t : TxnId) → 1 ≤ home t → home t ≤ 8
     → IsUnresolved (txns_at c (home t)) t → (w.scene.state.part t).life ≡ Life.Gone → ⊥
 known-there seen leaves c w f t low high known gone = let x = the-row (txn_at (txns_at c (home t)) t) known in
     some-there seen leaves Pending.Idle c w.scene.state f.good t x.0.state low high

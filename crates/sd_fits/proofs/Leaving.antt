@@ -9,7 +9,7 @@ use Rattle.sd_base.specs.Waits.{Wait, with_wait}
 use Rattle.sd_base.specs.declared.ids.TxnId.{TxnId}
 use Rattle.sd_base.specs.declared.place.Status.TheVariants as S
 use Rattle.sd_base.proofs.SameIds.{cases_txn, each_txn, eq-same, ne-same}
-use Rattle.sd_rig.specs.Devices.{Image}
+use Rattle.sd_rig.specs.Devices.{DeviceImages}
 use Rattle.sd_model.specs.Applies.{HasPut}
 use Rattle.sd_model.specs.Listed.{IsAtWork}
 use Rattle.sd_model.specs.Scenes.{is_running, of_running}
@@ -69,7 +69,7 @@ pub without-others : (table : Transactions) (t : TxnId) → OthersStay table (wi
 without-others table t u ne = others-left t u (λ e. ne (sym e)) table.unresolved
 
 -- What is known where t leaves: c is the complex before the call, and mid that before its row and its locks go.
-pub record Leaves (t : TxnId) (seen : Image) (leaves : Outcomes) (pend : Pending) (c mid new : Parts) (m m' : State) : Type 0 where
+pub record Leaves (t : TxnId) (seen : DeviceImages) (leaves : Outcomes) (pend : Pending) (c mid new : Parts) (m m' : State) : Type 0 where
   pub low : 1 ≤ home t
   pub high : home t ≤ 8
   pub mid_good : Good seen leaves pend mid m
@@ -82,7 +82,7 @@ pub record Leaves (t : TxnId) (seen : Image) (leaves : Outcomes) (pend : Pending
   pub spans : (u : TxnId) → t ≢ u → span_at (txns_at mid (home u)) u ≡ span_at (txns_at c (home u)) u
   pub opens : (u : TxnId) → t ≢ u → IsOpen u (all_at (log_at c (home u))) → IsOpen u (all_at (log_at mid (home u)))
 
-module _ (t : TxnId) (seen seen' : Image) (leaves leaves' : Outcomes) (pend : Pending) (c mid new : Parts) (w : Core) (m' : State) (b' : Bounds)
+module _ (t : TxnId) (seen seen' : DeviceImages) (leaves leaves' : Outcomes) (pend : Pending) (c mid new : Parts) (w : Core) (m' : State) (b' : Bounds)
     (f : Fits seen leaves c w) (l : Leaves t seen' leaves' pend c mid new w.scene.state m')
     (pages : FitsPages seen' leaves' mid w.pages) (bounds : FitsBounds seen' leaves' mid b')
     (doubts : FitsDoubts seen' mid w.scene.state) where

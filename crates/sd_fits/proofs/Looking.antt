@@ -14,7 +14,7 @@ use Rattle.sd_model.specs.Waits as claims
 use Rattle.sd_model.specs.Waits.{claim_of}
 use Rattle.sd_model.specs.declared.act.Claim.{Claim}
 use Rattle.sd_reclock.specs.Locks as locks
-use Rattle.sd_rig.specs.Devices.{Image}
+use Rattle.sd_rig.specs.Devices.{DeviceImages}
 use Rattle.sd_sound.specs.Logs.{Outcomes}
 use Rattle.sd_state.specs.Good.{Good}
 use Rattle.sd_state.specs.Parts.{Parts}
@@ -90,7 +90,7 @@ clash-back modes.Excl Claim.Shared clash = record { held = modes.Shared; is = re
 clash-back modes.Excl Claim.Excl clash = record { held = modes.Excl; is = refl; clashes = tt }
 
 -- the locks of a good complex are the claims of its state
-pub locks-agree : (seen : Image) (leaves : Outcomes) (pend : Pending) (c : Parts) (m : State) → Good seen leaves pend c m
+pub locks-agree : (seen : DeviceImages) (leaves : Outcomes) (pend : Pending) (c : Parts) (m : State) → Good seen leaves pend c m
     → Agrees (locks.stands c.locks) (claims.stands m)
 locks-agree seen leaves pend c m g = record {
   there = λ t wait u s. (s.other, clash-there wait.mode s.mode ((m.part u).claims wait.rid) (sym (g.locks u wait.rid) ∙ s.holds) s.clashes);

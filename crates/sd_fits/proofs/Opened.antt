@@ -26,7 +26,7 @@ use Rattle.sd_rig.specs.Devices as rig
 use Rattle.sd_chain.specs.Bytes.{disk_page, log_of, records_of, stable}
 use Rattle.sd_chain.specs.Checks.{DevicesAreSound, open_in, owed_by_all, past_of, placed_of, records_in}
 use Rattle.sd_chain.specs.Fates.{Fate, fate_in}
-use Rattle.sd_chain.specs.Image.{Image, opens}
+use Rattle.sd_chain.specs.Storage.{Storage, opens}
 use Rattle.sd_chain.specs.Losers.{OwnLogs, losers_in}
 use Rattle.sd_chain.specs.Order.{of_txn}
 use Rattle.sd_chain.specs.Records.{Each, at, home}
@@ -70,7 +70,7 @@ page-below disk (suc n) p lt = ⊎_elim
     (cases_lt p n)
 
 -- devices are within their own sums
-pub own-sums : (devices : rig.Image) → IsWithinSums devices (sums_of devices)
+pub own-sums : (devices : rig.DeviceImages) → IsWithinSums devices (sums_of devices)
 own-sums devices = record {
   slots = λ p. within-itself _;
   reach = λ i low high. omega arith;
@@ -152,8 +152,8 @@ clean-or-down : (b : Bool) → (cond {A = Status} b S.Down S.Clean ≡ S.Clean) 
 clean-or-down true = inr refl
 clean-or-down false = inl refl
 
-module _ (devices : rig.Image) (sound : DevicesAreSound devices) where
-  abbrev img : Image
+module _ (devices : rig.DeviceImages) (sound : DevicesAreSound devices) where
+  abbrev img : Storage
   img = stable devices
 
   abbrev m : State

@@ -18,7 +18,7 @@ use Rattle.sd_rig.specs.Devices.{LeavesOnly}
 use Rattle.sd_txn.specs.Owing.{owed_of}
 use Rattle.sd_chain.specs.Bytes.{disk_page, log_of, stable}
 use Rattle.sd_chain.specs.Checks.{gate_of, owed, owed_by_all, reserve}
-use Rattle.sd_chain.specs.Image.{Image, newest}
+use Rattle.sd_chain.specs.Storage.{Storage, newest}
 use Rattle.sd_chain.specs.Images.{Keeps, all_kept}
 use Rattle.sd_chain.specs.Records.{Each}
 use Rattle.sd_chain.proofs.Lists.{Each-weaker}
@@ -64,9 +64,9 @@ count-is : (o : Option (List ℕ)) (n : ℕ) → IfSome o (λ body. number_of bo
 count-is None n some none = none refl
 count-is (Some body) n some none = sym some ∙ sym (number_of-take 8 body (omega arith))
 
-module _ (seen : rig.Image) (leaves : Outcomes) (frames : ℕ) (c : Parts) (m : State) (on : IsOpenedOn frames seen leaves c)
+module _ (seen : rig.DeviceImages) (leaves : Outcomes) (frames : ℕ) (c : Parts) (m : State) (on : IsOpenedOn frames seen leaves c)
     (o : OpensTo seen m) (b : Bounds) (s : IsWithinSums seen b) where
-  abbrev img : Image
+  abbrev img : Storage
   img = stable seen
 
   only : (d : ℕ) → d ≤ 8 → LeavesOnly (seen d) (leaves d)

@@ -7,10 +7,10 @@ use Rattle.sd_model.specs.State.{State}
 use Rattle.sd_model.specs.declared.event.Event.{Event}
 use Rattle.sd_model.specs.declared.event.Reply.{Reply}
 use Rattle.sd_pagelock.specs.Directory.{asks_at, entry_at}
-use Rattle.sd_pagelock.specs.Places.{Entry, is_lost}
+use Rattle.sd_pagelock.specs.Places.{PageEntry, is_lost}
 use Rattle.sd_rig.specs.Devices as rig
 use Rattle.sd_world.specs.Bounds.{bounds_after}
-use Rattle.sd_world.specs.Pages.{Pages, placed}
+use Rattle.sd_world.specs.Pages.{Pages, page_placed}
 use Rattle.sd_world.specs.Serving.{Core, FaultsAre, Passes, Telling, Turns}
 use Rattle.sd_state.specs.Complexes.{parts}
 use Rattle.sd_state.specs.Good.{Good}
@@ -24,7 +24,7 @@ use Rattle.sd_fits.proofs.Places.{kept-pages, moved-fits, placed-pages, repaged}
 use Rattle.sd_fits.proofs.Served.{bounds-stay, fits-left, still-passes, still-serves}
 
 -- Page p went by this row from where it was, and wasn't lost.
-module _ {G : Type 0} (tell : Telling G) (old new : Complex G) (p : ℕ) (row : Entry → Entry) (same : new.rig ≡ old.rig)
+module _ {G : Type 0} (tell : Telling G) (old new : Complex G) (p : ℕ) (row : PageEntry → PageEntry) (same : new.rig ≡ old.rig)
     (only : parts new ≡ record (parts old) { pools = (parts new).pools; directory = (parts new).directory })
     (frames : (j : ℕ) → (pool_at (parts new) j).frames ≡ (pool_at (parts old) j).frames)
     (good : (pend : Pending) (m : State) → Good (tell.seen old.rig) (tell.leaves old.rig) pend (parts old) m
@@ -32,7 +32,7 @@ module _ {G : Type 0} (tell : Telling G) (old new : Complex G) (p : ℕ) (row : 
     (set : IsSet p (row (entry_at (parts old).directory p)) None (parts old).directory (parts new).directory)
     (found : is_lost (entry_at (parts old).directory p) ≡ false) where
   abbrev passed-pages : Core → Pages
-  passed-pages w = placed p (row (w.pages.entry p)) w.pages
+  passed-pages w = page_placed p (row (w.pages.entry p)) w.pages
 
   -- a world whose page went so is fitted then,
   pub passed-fits : (e : Event) (r : Reply) (w : Core) → fits_by tell.seen tell.leaves old w
@@ -41,12 +41,12 @@ module _ {G : Type 0} (tell : Telling G) (old new : Complex G) (p : ℕ) (row : 
       (good Pending.Idle w.scene.state f.good) (passed-pages w) (bounds_after w.bounds e r)
       (placed-pages (parts new).pools (parts new).directory (tell.seen old.rig) (tell.leaves old.rig) (parts old) w f frames p
       (row (w.pages.entry p)) None
-      (subst (λ (x : Entry). IsSet p (row x) None (parts old).directory (parts new).directory) (sym (f.pages.entry p)) set)
+      (subst (λ (x : PageEntry). IsSet p (row x) None (parts old).directory (parts new).directory) (sym (f.pages.entry p)) set)
       (λ there. ap is_lost (f.pages.entry p) ∙ found))
       (bounds-stay (tell.seen old.rig) (parts old) w.bounds e r f.bounds)
 
   -- and the event is served that turns it so
-  pub passed-served : ((img : rig.Image) → tell.since old.rig (tell.moment old.rig) img → rig.Leaves (tell.leaves old.rig) img)
+  pub passed-served : ((img : rig.DeviceImages) → tell.since old.rig (tell.moment old.rig) img → rig.Leaves (tell.leaves old.rig) img)
       → (e : Event) (r : Reply) → FaultsAre e r (tell.faults old.rig) (tell.faults new.rig)
       → ((w : Core) → fits_by tell.seen tell.leaves old w → Turns w e r (repaged w (passed-pages w) e r))
       → Serving tell e (Some r) old new
@@ -64,7 +64,7 @@ pub kept-spared : {G : Type 0} (tell : Telling G) (old new : Complex G) (p : ℕ
     → ((pend : Pending) (m : State) → Good (tell.seen old.rig) (tell.leaves old.rig) pend (parts old) m
     → Good (tell.seen new.rig) (tell.leaves new.rig) pend (parts new) m)
     → IsAsked p (asks_at (parts old).directory p) (parts old).directory (parts new).directory
-    → ((img : rig.Image) → tell.since old.rig (tell.moment old.rig) img → rig.Leaves (tell.leaves old.rig) img)
+    → ((img : rig.DeviceImages) → tell.since old.rig (tell.moment old.rig) img → rig.Leaves (tell.leaves old.rig) img)
     → (e : Event) → Serving tell e None old new
 kept-spared {G} tell old new p same is good asked now e = (
   (λ w f. record {

@@ -14,7 +14,7 @@ use Rattle.sd_model.specs.declared.event.Event.{Event}
 use Rattle.sd_model.specs.declared.event.Reply.{Reply}
 use Rattle.sd_pagelock.specs.Asks.{open_asks, queued}
 use Rattle.sd_pagelock.specs.Directory.{DirectoryState, asks_at, entry_at}
-use Rattle.sd_pagelock.specs.Places.{Entry, is_lost}
+use Rattle.sd_pagelock.specs.Places.{PageEntry, is_lost}
 use Rattle.sd_pool.specs.Buffers.{Buffers}
 use Rattle.sd_rig.specs.Devices as rig
 use Rattle.sd_rig.specs.Devices.{IsUnchanged}
@@ -24,7 +24,7 @@ use Rattle.sd_coherent.specs.Named.{version_of}
 use Rattle.sd_sound.specs.Logs.{Outcomes, tails_of}
 use Rattle.sd_world.specs.Answers.{Moves}
 use Rattle.sd_world.specs.Bounds.{Bounds, Within, bounds_after}
-use Rattle.sd_world.specs.Pages.{Pages, asked, placed, put}
+use Rattle.sd_world.specs.Pages.{Pages, asked, page_placed, put}
 use Rattle.sd_world.specs.Serving.{Core, Passes, Serves, Spares, Telling, Turns}
 use Rattle.sd_state.specs.Complexes.{parts}
 use Rattle.sd_state.specs.Good.{Good}
@@ -63,7 +63,7 @@ frames-kept c i pool places low high eight same j = ⊎_elim
 
 -- ---- pools and directory are others
 
-module _ (pools : List Buffers) (places : DirectoryState Page) (seen : rig.Image) (leaves : Outcomes) (c : Parts) (w : Core)
+module _ (pools : List Buffers) (places : DirectoryState Page) (seen : rig.DeviceImages) (leaves : Outcomes) (c : Parts) (w : Core)
     (f : Fits seen leaves c w) where
   abbrev turned : Parts
   turned = record c { pools = pools; directory = places }
@@ -86,8 +86,8 @@ module _ (pools : List Buffers) (places : DirectoryState Page) (seen : rig.Image
 
   module _ (frames : (j : ℕ) → (pool_at turned j).frames ≡ (pool_at c j).frames) where
     -- a page has another place, and is lost there only if it was
-    pub placed-pages : (p : ℕ) (to : Entry) (rec : Option ℕ) → IsSet p to rec c.directory places
-        → (is_lost to ≡ false → is_lost (w.pages.entry p) ≡ false) → FitsPages seen leaves turned (placed p to w.pages)
+    pub placed-pages : (p : ℕ) (to : PageEntry) (rec : Option ℕ) → IsSet p to rec c.directory places
+        → (is_lost to ≡ false → is_lost (w.pages.entry p) ≡ false) → FitsPages seen leaves turned (page_placed p to w.pages)
     placed-pages p to rec set found = record {
       frames = λ j low high. frames j ∙ f.pages.frames j low high;
       entry = put-case (λ q e. e ≡ entry_at places q) p to w.pages.entry (sym set.entry)
@@ -131,9 +131,9 @@ module _ (pools : List Buffers) (places : DirectoryState Page) (seen : rig.Image
 module _ {G : Type 0} (tell : Telling G) (old new : G)
     (u : IsUnchanged (tell.seen old) (tell.seen new) (tell.leaves old) (tell.leaves new) (tell.moment old) (tell.moment new)
     (tell.since old) (tell.since new))
-    (now : (img : rig.Image) → tell.since old (tell.moment old) img → rig.Leaves (tell.leaves old) img) where
+    (now : (img : rig.DeviceImages) → tell.since old (tell.moment old) img → rig.Leaves (tell.leaves old) img) where
   -- each image since then stands,
-  pub read-passes : (m m' : State) → ((img : rig.Image) → rig.Leaves (tell.leaves old) img → stands_for img m)
+  pub read-passes : (m m' : State) → ((img : rig.DeviceImages) → rig.Leaves (tell.leaves old) img → stands_for img m)
       → Passes tell stands_for old new m m'
   read-passes m m' each = record {
     time = record {
@@ -184,7 +184,7 @@ module _ {G : Type 0} (tell : Telling G) (old new : G)
 pub read-serves : {G : Type 0} (tell : Telling G) (e : Event) (r : Reply) (old new : Complex G) (w w' : Core)
     → IsUnchanged (tell.seen old.rig) (tell.seen new.rig) (tell.leaves old.rig) (tell.leaves new.rig) (tell.moment old.rig)
     (tell.moment new.rig) (tell.since old.rig) (tell.since new.rig)
-    → ((img : rig.Image) → tell.since old.rig (tell.moment old.rig) img → rig.Leaves (tell.leaves old.rig) img)
+    → ((img : rig.DeviceImages) → tell.since old.rig (tell.moment old.rig) img → rig.Leaves (tell.leaves old.rig) img)
     → fits_by tell.seen tell.leaves old w → Turns w e r w' → fits_by tell.seen tell.leaves new w'
     → Serves {C = Complex G} tell stands_for (λ c. c.rig) (fits_by tell.seen tell.leaves) e r old new w w'
 read-serves tell e r old new w w' u now f turns then = record {
@@ -198,7 +198,7 @@ read-serves tell e r old new w w' u now f turns then = record {
 pub read-spares : {G : Type 0} (tell : Telling G) (old new : Complex G) (w : Core)
     → IsUnchanged (tell.seen old.rig) (tell.seen new.rig) (tell.leaves old.rig) (tell.leaves new.rig) (tell.moment old.rig)
     (tell.moment new.rig) (tell.since old.rig) (tell.since new.rig)
-    → ((img : rig.Image) → tell.since old.rig (tell.moment old.rig) img → rig.Leaves (tell.leaves old.rig) img)
+    → ((img : rig.DeviceImages) → tell.since old.rig (tell.moment old.rig) img → rig.Leaves (tell.leaves old.rig) img)
     → fits_by tell.seen tell.leaves old w → fits_by tell.seen tell.leaves new w
     → Spares {C = Complex G} tell stands_for (λ c. c.rig) (fits_by tell.seen tell.leaves) old new w
 read-spares tell old new w u now f then = record {

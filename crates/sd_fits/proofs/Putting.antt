@@ -24,7 +24,7 @@ use Rattle.sd_fits.proofs.Doubts.{doubts-kept, same-doubts}
 use Rattle.sd_fits.proofs.Forcing.{masters-left, no-more}
 
 -- Device 0 reads otherwise, with the same newest versions, and is settled or not; the directory is this one.
-module _ (loose : Bool) (places : DirectoryState Page) (seen seen' : rig.Image) (leaves leaves' : Outcomes) (c : Parts)
+module _ (loose : Bool) (places : DirectoryState Page) (seen seen' : rig.DeviceImages) (leaves leaves' : Outcomes) (c : Parts)
     (versions : SameVersions seen seen' c) where
   abbrev there : Parts
   there = record (with_loose_disk loose c) { directory = places }

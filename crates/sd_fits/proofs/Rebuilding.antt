@@ -5,13 +5,13 @@ use Rattle.sd_page.specs.Page.{Page}
 use Rattle.sd_model.specs.State.{State}
 use Rattle.sd_pagelock.specs.Asks.{open_asks}
 use Rattle.sd_pagelock.specs.Directory.{DirectoryState, asks_at, entry_at}
-use Rattle.sd_pagelock.specs.Places.{Entry}
+use Rattle.sd_pagelock.specs.Places.{PageEntry}
 use Rattle.sd_rig.specs.Devices as rig
 use Rattle.sd_moves.specs.Putting.{SameVersions, with_loose_disk}
 use Rattle.sd_sound.specs.Logs.{Outcomes}
 use Rattle.sd_world.specs.Answers.{IsLowestLost, Rebuilds, Steps}
 use Rattle.sd_world.specs.Bounds.{Bounds}
-use Rattle.sd_world.specs.Pages.{Pages, placed, renumbered}
+use Rattle.sd_world.specs.Pages.{Pages, page_placed, renumbered}
 use Rattle.sd_world.specs.Serving.{Core}
 use Rattle.sd_state.specs.Forcing.{KeepMasters}
 use Rattle.sd_state.specs.Good.{Good}
@@ -25,31 +25,31 @@ use Rattle.sd_fits.proofs.Putting.{put-fits}
 
 -- page p is free, and pages have these numbers
 abbrev pub freed : ℕ → (ℕ → ℕ) → Pages → Pages
-freed p number w = renumbered number (placed p Entry.Free w)
+freed p number w = renumbered number (page_placed p PageEntry.Free w)
 
 -- a step of a recovery frees the lowest lost page
 pub frees-lowest : (m : State) (i p : ℕ) (number : ℕ → ℕ) (w : Pages) → IsLowestLost w.entry p → Steps m i w (freed p number w)
-frees-lowest m i p number w lowest = (placed p Entry.Free w, number, Rebuilds.frees p lowest refl, refl)
+frees-lowest m i p number w lowest = (page_placed p PageEntry.Free w, number, Rebuilds.frees p lowest refl, refl)
 
 -- Device 0 reads otherwise, with the same newest versions, and is settled; the directory says that p is free.
-module _ (p : ℕ) (places : DirectoryState Page) (seen : rig.Image) (leaves : Outcomes) (c : Parts)
-    (set : IsSet p Entry.Free None c.directory places) where
+module _ (p : ℕ) (places : DirectoryState Page) (seen : rig.DeviceImages) (leaves : Outcomes) (c : Parts)
+    (set : IsSet p PageEntry.Free None c.directory places) where
   -- the pages that it fitted it fits with p free, by the numbers of their newest versions,
   freed-pages : (w : Pages) → FitsPages seen leaves c w
       → FitsPages seen leaves (record c { pools = c.pools; directory = places }) (freed p (numbers_of seen leaves c) w)
   freed-pages w f = record {
     frames = f.frames;
-    entry = put-case (λ q e. e ≡ entry_at places q) p Entry.Free w.entry (sym set.entry)
+    entry = put-case (λ q e. e ≡ entry_at places q) p PageEntry.Free w.entry (sym set.entry)
         (λ q ne. f.entry q ∙ sym (set.others q ne));
-    asks = put-case (λ q asks. asks ≡ asks_at places q) p (open_asks Entry.Free (w.asks p)) w.asks
-        (ap (open_asks Entry.Free) (f.asks p) ∙ sym set.asks)
+    asks = put-case (λ q asks. asks ≡ asks_at places q) p (open_asks PageEntry.Free (w.asks p)) w.asks
+        (ap (open_asks PageEntry.Free) (f.asks p) ∙ sym set.asks)
         (λ q ne. f.asks q ∙ sym (set.other_asks q ne));
     number = λ q found. refl;
     begun = f.begun;
   }
 
   -- and where it is good then, the world that has them
-  pub freed-fits : (seen' : rig.Image) (leaves' : Outcomes) → SameVersions seen seen' c → KeepMasters leaves leaves'
+  pub freed-fits : (seen' : rig.DeviceImages) (leaves' : Outcomes) → SameVersions seen seen' c → KeepMasters leaves leaves'
       → (w : Core) → Fits seen leaves c w → (sums : Bounds)
       → Good seen' leaves' Pending.Idle (record (with_loose_disk false c) { directory = places }) w.scene.state
       → FitsBounds seen leaves c sums

@@ -18,10 +18,10 @@ use Rattle.sd_model.specs.State.{State}
 use Rattle.sd_page.specs.Page.{Page}
 use Rattle.sd_pagelock.specs.Asks.{open_asks}
 use Rattle.sd_pagelock.specs.Directory.{DirectoryState, asks_at, entry_at}
-use Rattle.sd_pagelock.specs.Places.{Entry, is_lost}
+use Rattle.sd_pagelock.specs.Places.{PageEntry, is_lost}
 use Rattle.sd_pagelock.specs.Rows.{dirtied}
 use Rattle.sd_pool.specs.Buffers.{Buffers, image_at}
-use Rattle.sd_rig.specs.Devices.{Image}
+use Rattle.sd_rig.specs.Devices.{DeviceImages}
 use Rattle.sd_txn.specs.Transactions.{OthersStay, Transactions, txn_at}
 use Rattle.sd_chain.specs.Bytes.{disk_page}
 use Rattle.sd_chain.specs.Cuts.{cut}
@@ -41,7 +41,7 @@ use Rattle.sd_coherent.proofs.Newest.{tails-agree}
 use Rattle.sd_sound.specs.Logs.{Outcomes, all_at, base_at, kept_logs, may_of, next_lsn, tail_at, tails_of}
 use Rattle.sd_sound.proofs.Appends.{appended-log}
 use Rattle.sd_world.specs.Bounds.{Bounds}
-use Rattle.sd_world.specs.Pages.{Pages, numbered, placed, put}
+use Rattle.sd_world.specs.Pages.{Pages, numbered, page_placed, put}
 use Rattle.sd_world.specs.Serving.{Core}
 use Rattle.sd_state.specs.Changing.{with_changed}
 use Rattle.sd_state.specs.Good.{Good, Half, base_of, dir_of}
@@ -95,7 +95,7 @@ pub record Records (i : ℕ) (rec : Record) (image : Page) (pool : Buffers) (pla
   pub other_entries : (q : ℕ) → q ≢ (flat rec).page → entry_at places q ≡ entry_at c.directory q
   pub other_asks : (q : ℕ) → q ≢ (flat rec).page → asks_at places q ≡ asks_at c.directory q
 
-module _ (i : ℕ) (rec : Record) (spare : ℕ) (image : Page) (table : Transactions) (pool : Buffers) (places : DirectoryState Page) (seen : Image)
+module _ (i : ℕ) (rec : Record) (spare : ℕ) (image : Page) (table : Transactions) (pool : Buffers) (places : DirectoryState Page) (seen : DeviceImages)
     (leaves : Outcomes) (c : Parts) (m' : State) (w : Core) (f : Fits seen leaves c w) (r : Records i rec image pool places c) where
   abbrev y : Rec
   y = flat rec
@@ -207,7 +207,7 @@ module _ (i : ℕ) (rec : Record) (spare : ℕ) (image : Page) (table : Transact
           (h.coherent.unforced j p)))
           (cases_eq j i)
         where
-          excl-same : (n : ℕ) → Entry.Excl i true ≡ Entry.Excl n true → n ≡ i
+          excl-same : (n : ℕ) → PageEntry.Excl i true ≡ PageEntry.Excl n true → n ≡ i
           excl-same n e = cc
 
       version-redone : (keeps : Keeps) → keeps i ≡ true → version_of is disk keeps p ≡ redo image y
@@ -269,7 +269,7 @@ module _ (i : ℕ) (rec : Record) (spare : ℕ) (image : Page) (table : Transact
     -- ---- pages
 
     abbrev pub pages_then : Pages
-    pages_then = numbered p y.lsn (placed p (dirtied i) w.pages)
+    pages_then = numbered p y.lsn (page_placed p (dirtied i) w.pages)
 
     put-here : {X : Type 0} (v : X) (g : ℕ → X) (q : ℕ) → q ≡ p → put p v g q ≡ v
     put-here {X} v g q e = ap (λ (b : Bool). cond {A = X} b v (g q)) (eq-eqb p q (sym e))

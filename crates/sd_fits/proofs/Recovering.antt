@@ -8,7 +8,7 @@ use Rattle.sd_base.specs.declared.ids.TxnId.{TxnId}
 use Rattle.sd_base.specs.declared.place.Status.{Status}
 use Rattle.sd_base.specs.declared.place.Status.TheVariants as S
 use Rattle.sd_base.specs.declared.refusal.Refusal.TheVariants as R
-use Rattle.sd_rig.specs.Devices.{Image}
+use Rattle.sd_rig.specs.Devices.{DeviceImages}
 use Rattle.sd_log.specs.Logs.{LogState}
 use Rattle.sd_reclock.specs.Locks.{waits}
 use Rattle.sd_txn.specs.Owing.{owed_of}
@@ -17,7 +17,7 @@ use Rattle.sd_chain.specs.Records.{IsOpen, home}
 use Rattle.sd_model.specs.Applies.{Clear, First, HasPut}
 use Rattle.sd_model.specs.Fields.{nobody}
 use Rattle.sd_model.specs.Listed.{IsAtWork}
-use Rattle.sd_model.specs.Placed.{Stands}
+use Rattle.sd_model.specs.Lives.{SuitsStatus}
 use Rattle.sd_model.specs.Scenes.{is_running, of_running}
 use Rattle.sd_model.specs.State.{Part, State, fall, lost, lost_part}
 use Rattle.sd_model.specs.declared.act.Life.{Life}
@@ -55,7 +55,7 @@ begun_core i by w = record {
   bounds = bounds_after w.bounds (RecoverBegin i by) reply.Did;
 }
 
-module _ (i by : ℕ) (seen : Image) (leaves : Outcomes) (c : Parts) (w : Core) (f : Fits seen leaves c w) (low : 1 ≤ i) (high : i ≤ 8)
+module _ (i by : ℕ) (seen : DeviceImages) (leaves : Outcomes) (c : Parts) (w : Core) (f : Fits seen leaves c w) (low : 1 ≤ i) (high : i ≤ 8)
     (good : Good seen leaves Pending.Idle (with_recovering i by c) (recovers i by w.scene.state)) where
   abbrev begun : Parts
   begun = with_recovering i by c
@@ -135,7 +135,7 @@ pub record IsAside (i : ℕ) (old mid : Parts) : Type 0 where
   pub waits : (t : TxnId) → waits mid.locks t ≡ waits old.locks t
 
 -- who is of an instance that is recovered neither runs nor rolls back
-resting : (life : Life) (by : ℕ) → Stands life (S.Recovering by)
+resting : (life : Life) (by : ℕ) → SuitsStatus life (S.Recovering by)
     → (is_running life ≡ false) × ((life ≡ Life.Rolling None) → ⊥) × (IsAtWork life → ⊥)
 resting Life.Gone by s = (refl, λ e. cc, λ w. w)
 resting Life.Running by s = absurd s
@@ -151,7 +151,7 @@ fell-rests Life.Retained = (refl, λ e. cc, λ w. w)
 fell-rests (Life.Rolling to) = (refl, λ e. cc, λ w. w)
 fell-rests (Life.Doubt cut) = (refl, λ e. cc, λ w. w)
 
-module _ (i by : ℕ) (seen : Image) (leaves : Outcomes) (c : Parts) (w : Core) (f : Fits seen leaves c w) (low : 1 ≤ i) (high : i ≤ 8)
+module _ (i by : ℕ) (seen : DeviceImages) (leaves : Outcomes) (c : Parts) (w : Core) (f : Fits seen leaves c w) (low : 1 ≤ i) (high : i ≤ 8)
     (recovers : status_at c i ≡ S.Recovering by) where
   abbrev m : State
   m = w.scene.state
@@ -164,7 +164,7 @@ module _ (i by : ℕ) (seen : Image) (leaves : Outcomes) (c : Parts) (w : Core) 
 
   pub rests : (t : TxnId) → home t ≡ i
       → (is_running (m.part t).life ≡ false) × (((m.part t).life ≡ Life.Rolling None) → ⊥) × (IsAtWork (m.part t).life → ⊥)
-  rests t own = resting (m.part t).life by (subst (λ (s : Status). Stands (m.part t).life s)
+  rests t own = resting (m.part t).life by (subst (λ (s : Status). SuitsStatus (m.part t).life s)
       (ap (λ (j : ℕ). (m.inst j).status) own ∙ recovers-at) (f.good.placed.stands t))
 
   -- a step that leaves the state turns the world so
@@ -185,7 +185,7 @@ module _ (i by : ℕ) (seen : Image) (leaves : Outcomes) (c : Parts) (w : Core) 
   numbers-step number = (w.pages, number, undoes (Undoes.none refl), refl)
 
   -- what of the complex isn't of i is as it was: it fits on with these pages and sums
-  pub aside-fits : (seen' : Image) (leaves' : Outcomes) (mid : Parts) (pages : Pages) (sums : Bounds) → IsAside i c mid → mid.due ≡ None
+  pub aside-fits : (seen' : DeviceImages) (leaves' : Outcomes) (mid : Parts) (pages : Pages) (sums : Bounds) → IsAside i c mid → mid.due ≡ None
       → Good seen' leaves' Pending.Idle mid m → FitsPages seen' leaves' mid pages → FitsBounds seen' leaves' mid sums
       → FitsDoubts seen' mid m → Fits seen' leaves' mid (record { scene = w.scene; pages = pages; bounds = sums })
   aside-fits seen' leaves' mid pages sums a idle good fit bounds doubts = record {
@@ -203,7 +203,7 @@ module _ (i by : ℕ) (seen : Image) (leaves : Outcomes) (c : Parts) (w : Core) 
 
   -- ---- a device fails, and the recoverer falls
 
-  module _ (seen' : Image) (leaves' : Outcomes) (mid new : Parts) (between : Pages) (by_low : 1 ≤ by) (by_high : by ≤ 8) (a : IsAside i c mid)
+  module _ (seen' : DeviceImages) (leaves' : Outcomes) (mid new : Parts) (between : Pages) (by_low : 1 ≤ by) (by_high : by ≤ 8) (a : IsAside i c mid)
       (good : Good seen' leaves' Pending.Idle mid m) (is : new ≡ with_fallen by new mid) (fallen : IsFallen by mid new) where
     abbrev number : ℕ → ℕ
     number = numbers_of seen' leaves' new

@@ -6,7 +6,7 @@ use Rattle.sd_base.specs.Waits.{Waits, with_wait}
 use Rattle.sd_base.specs.declared.place.Status.{Status}
 use Rattle.sd_base.specs.declared.place.Status.TheVariants as S
 use Rattle.sd_base.specs.declared.refusal.Refusal.{Refusal}
-use Rattle.sd_rig.specs.Devices.{Image, Leaves}
+use Rattle.sd_rig.specs.Devices.{DeviceImages, Leaves}
 use Rattle.sd_model.specs.Applies.{First, IsActive}
 use Rattle.sd_model.specs.Causes.{before, order}
 use Rattle.sd_model.specs.Exact.{IsOfFreeSlot, NamesWhom}
@@ -17,7 +17,7 @@ use Rattle.sd_model.specs.State.{State}
 use Rattle.sd_model.specs.declared.cause.Cause.{Cause}
 use Rattle.sd_model.specs.declared.event.Event.{Event}
 use Rattle.sd_model.specs.declared.event.Reply.TheVariants as reply
-use Rattle.sd_world.specs.Answers.{NamesPlace, Leaves as PagesLeft}
+use Rattle.sd_world.specs.Answers.{NamesPlace, RefusalLeaves}
 use Rattle.sd_world.specs.Bounds.{Allows}
 use Rattle.sd_world.specs.PageCauses.{NoneSays, PagesAgree}
 use Rattle.sd_world.specs.Serving.{Core, Serves, Telling, Turns}
@@ -47,7 +47,7 @@ is-active i s (inl up) = ap (active_as i) up
 is-active i s (inr (inl again)) = ap (active_as i) again
 is-active i s (inr (inr own)) = ap (active_as i) own ∙ eq-eqb i i refl
 
-module _ (seen : Image) (leaves : Outcomes) (c : Parts) (w : Core) (f : Fits seen leaves c w) (i : ℕ) (low : 1 ≤ i)
+module _ (seen : DeviceImages) (leaves : Outcomes) (c : Parts) (w : Core) (f : Fits seen leaves c w) (i : ℕ) (low : 1 ≤ i)
     (high : i ≤ 8) where
   -- an instance that is active serves events of pages,
   pub active-serves : is_active c i ≡ true → IsActive i (w.scene.state.inst i).status
@@ -77,9 +77,9 @@ pub record IsFor (m : State) (w : Core) (e : Event) (n : Refusal) (cause : Cause
   pub passes : NoneSays m w.pages e (before cause (order e))
   pub says : PagesAgree m w.pages e cause
   pub place : NamesPlace m w.pages e n
-  pub left : PagesLeft m w.pages e n m w.pages
+  pub left : RefusalLeaves m w.pages e n m w.pages
 
-pub refused-turns : (seen : Image) (leaves : Outcomes) (c : Parts) (w : Core) → Fits seen leaves c w → (e : Event) (n : Refusal)
+pub refused-turns : (seen : DeviceImages) (leaves : Outcomes) (c : Parts) (w : Core) → Fits seen leaves c w → (e : Event) (n : Refusal)
     (cause : Cause) → IsFor w.scene.state w e n cause → Turns w e (reply.Refused n) (passed w w.scene.waits e (reply.Refused n))
 refused-turns seen leaves c w f e n cause is = turns-on w w.scene.waits e (reply.Refused n)
     (cause, is.names, is.tells, is.first, is.refuses)
@@ -98,7 +98,7 @@ refused-turns seen leaves c w f e n cause is = turns-on w w.scene.waits e (reply
 
 -- One that leaves all as it is serves the event.
 pub refused-serves : {G : Type 0} (tell : Telling G) (c : Complex G)
-    → ((img : Image) → tell.since c.rig (tell.moment c.rig) img → Leaves (tell.leaves c.rig) img)
+    → ((img : DeviceImages) → tell.since c.rig (tell.moment c.rig) img → Leaves (tell.leaves c.rig) img)
     → (w : Core) → fits_by tell.seen tell.leaves c w → (e : Event) (n : Refusal) (cause : Cause) → IsFor w.scene.state w e n cause
     → (w' : Core) × Serves {C = Complex G} tell stands_for (λ k. k.rig) (fits_by tell.seen tell.leaves) e
     (reply.Refused n) c c w w'

@@ -22,7 +22,7 @@ use Rattle.sd_model.proofs.Recoverers.{step-recoverers}
 use Rattle.sd_model.proofs.RowsKept.{row-kept}
 use Rattle.sd_rig.specs.Devices as rig
 use Rattle.sd_chain.specs.Bytes.{stable}
-use Rattle.sd_chain.specs.Image.{Image, newest}
+use Rattle.sd_chain.specs.Storage.{Storage, newest}
 use Rattle.sd_chain.specs.Losers.{OwnLogs}
 use Rattle.sd_chain.proofs.Soundly.{sound-opens}
 use Rattle.sd_sound.specs.Logs.{Outcomes}
@@ -48,11 +48,11 @@ either true b e = inl refl
 either false b e = inr e
 
 -- one of the first pages is lost where one is said to be
-lost-page : (img : Image) (n : ℕ) → some_lost img n ≡ true → (p : ℕ) × (is_lost_in img p ≡ true)
+lost-page : (img : Storage) (n : ℕ) → some_lost img n ≡ true → (p : ℕ) × (is_lost_in img p ≡ true)
 lost-page img zero e = absurd (cc)
 lost-page img (suc n) e = ⊎_elim (λ here. (n, here)) (λ below. lost-page img n below) (either (is_lost_in img n) (some_lost img n) e)
 
-page-lost : (img : Image) (p n : ℕ) → p < n → is_lost_in img p ≡ true → some_lost img n ≡ true
+page-lost : (img : Storage) (p n : ℕ) → p < n → is_lost_in img p ≡ true → some_lost img n ≡ true
 page-lost img p zero lt e = absurd (omega (arith, lt))
 page-lost img p (suc n) lt e = ⊎_elim
     (λ below. ap (λ (b : Bool). is_lost_in img n || b) (page-lost img p n below e) ∙ or-true (is_lost_in img n))
@@ -71,8 +71,8 @@ down-is false e = absurd (cc)
 
 -- ---- the state
 
-module _ (devices : rig.Image) (leaves : Outcomes) (w : Core) (f : FitsClosed leaves w) (left : rig.Leaves leaves devices) where
-  abbrev img : Image
+module _ (devices : rig.DeviceImages) (leaves : Outcomes) (w : Core) (f : FitsClosed leaves w) (left : rig.Leaves leaves devices) where
+  abbrev img : Storage
   img = stable devices
 
   abbrev m : State

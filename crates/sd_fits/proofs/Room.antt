@@ -19,7 +19,7 @@ use Rattle.sd_world.specs.Bounds.{Bounds}
 use Rattle.sd_moves.proofs.FallBounds.{sum-less}
 use Rattle.sd_fits.specs.Fits.{FitsBounds}
 
-module _ (i : ℕ) (seen : rig.Image) (leaves : Outcomes) (pend : Pending) (c : Parts) (m : State) (b : Bounds)
+module _ (i : ℕ) (seen : rig.DeviceImages) (leaves : Outcomes) (pend : Pending) (c : Parts) (m : State) (b : Bounds)
     (g : Good seen leaves pend c m) (f : FitsBounds seen leaves c b) (low : 1 ≤ i) (high : i ≤ 8) (settled : is_loose c i ≡ false)
     (tells : tells_log (status_at c i) ≡ true) where
   -- where a record of so many bytes finds no room, the log reaches so far

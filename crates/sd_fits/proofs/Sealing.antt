@@ -109,7 +109,7 @@ most-more f g (suc n) more =
 
 -- Log i, which is settled, has the record of the next LSN and of no page; no table owes more; and the ends that are owed take
 -- no more bytes with the record than without it, but for the extra ones.
-module _ (i spare extra : ℕ) (y : Record) (txns : List Transactions) (epochs : List ℕ) (seen : rig.Image) (leaves : Outcomes) (pend : Pending)
+module _ (i spare extra : ℕ) (y : Record) (txns : List Transactions) (epochs : List ℕ) (seen : rig.DeviceImages) (leaves : Outcomes) (pend : Pending)
     (c : Parts) (m : State) (g : Good seen leaves pend c m) (low : 1 ≤ i) (high : i ≤ 8) (settled : is_loose c i ≡ false)
     (quiet : changes (flat y).kind ≡ false) (next : (flat y).lsn ≡ next_lsn (log_at c i) 0)
     (takes : reserve (all_at (log_at c i) ++ flat y ∷ []) + length (spelling y) + 5 ≤ reserve (all_at (log_at c i)) + extra)

@@ -6,7 +6,7 @@ use Rattle.sd_base.specs.Waits.{Wait, Waits, with_wait}
 use Rattle.sd_base.specs.declared.ids.Rid.{Rid}
 use Rattle.sd_base.specs.declared.ids.TxnId.{TxnId}
 use Rattle.sd_base.proofs.SameIds.{cases_txn, eq-same, ne-same}
-use Rattle.sd_rig.specs.Devices.{Image, Leaves}
+use Rattle.sd_rig.specs.Devices.{DeviceImages, Leaves}
 use Rattle.sd_model.specs.Exact.{IsExact, IsOfFreeSlot}
 use Rattle.sd_model.specs.Fields.{nobody, txn_of}
 use Rattle.sd_model.specs.Scenes.{asked_of, is_running, of_running, waits_after}
@@ -62,7 +62,7 @@ masters-most old (CheckEnd j) i n f = go (cond (eqb j i) 1 0)
 masters-most old e i n f = f
 
 -- what was within the sums is within those after any event
-pub bounds-stay : (seen : Image) {leaves : Outcomes} (c : Parts) (b : Bounds) (e : Event) (r : Reply) → FitsBounds seen leaves c b
+pub bounds-stay : (seen : DeviceImages) {leaves : Outcomes} (c : Parts) (b : Bounds) (e : Event) (r : Reply) → FitsBounds seen leaves c b
     → FitsBounds seen leaves c (bounds_after b e r)
 bounds-stay seen c b e r f = record {
   slots = λ moved keeps p. slots-within _ b.slots e r p (f.slots moved keeps p);
@@ -80,7 +80,7 @@ bounds-stay seen c b e r f = record {
 
 -- ---- waits
 
-module _ (seen : Image) (leaves : Outcomes) (c : Parts) (w : Core) (f : Fits seen leaves c w) where
+module _ (seen : DeviceImages) (leaves : Outcomes) (c : Parts) (w : Core) (f : Fits seen leaves c w) where
   abbrev m : State
   m = w.scene.state
 
@@ -139,7 +139,7 @@ module _ (seen : Image) (leaves : Outcomes) (c : Parts) (w : Core) (f : Fits see
 
 -- ---- locks that are held as they were
 
-module _ (locks : LockTable) (seen : Image) (leaves : Outcomes) (pend : Pending) (c : Parts) (m : State) (g : Good seen leaves pend c m)
+module _ (locks : LockTable) (seen : DeviceImages) (leaves : Outcomes) (pend : Pending) (c : Parts) (m : State) (g : Good seen leaves pend c m)
     (same : (t : TxnId) (r : Rid) → held locks t r ≡ held c.locks t r) where
   abbrev relocked : Parts
   relocked = with_locks locks c
@@ -225,7 +225,7 @@ passed w asks e r = record {
   bounds = bounds_after w.bounds e r;
 }
 
-module _ (locks : LockTable) (asks : Waits) (e : Event) (r : Reply) (seen : Image) (leaves : Outcomes) (c : Parts) (w : Core)
+module _ (locks : LockTable) (asks : Waits) (e : Event) (r : Reply) (seen : DeviceImages) (leaves : Outcomes) (c : Parts) (w : Core)
     (f : Fits seen leaves c w) where
   -- A call that changes locks alone, and these in their waits alone: the complex fits on.
   pub stays-fitting : ((t : TxnId) (q : Rid) → held locks t q ≡ held c.locks t q) → ((t : TxnId) → waits locks t ≡ asks t)
@@ -285,21 +285,21 @@ turns-on w asks e r step then exact unused moves within = record {
 -- ---- devices that stay as they are
 
 pub still-passes : {G : Type 0} (tell : Telling G) (d : G) (m m' : State)
-    → ((img : Image) → tell.since d (tell.moment d) img → Leaves (tell.leaves d) img)
-    → ((img : Image) → Leaves (tell.leaves d) img → stands_for img m) → Passes tell stands_for d d m m'
+    → ((img : DeviceImages) → tell.since d (tell.moment d) img → Leaves (tell.leaves d) img)
+    → ((img : DeviceImages) → Leaves (tell.leaves d) img → stands_for img m) → Passes tell stands_for d d m m'
 still-passes tell d m m' now each = record {
   time = record { later = omega arith; splits = λ t img le s. inl s; keeps = λ t img le s. s };
   span = record { each = λ img s. inl (each img (now img s)) };
 }
 
 -- each image that a crash leaves of a complex that fits stands
-pub fits-left : (seen : Image) (leaves : Outcomes) (c : Parts) (w : Core) → Fits seen leaves c w → (img : Image) → Leaves leaves img
+pub fits-left : (seen : DeviceImages) (leaves : Outcomes) (c : Parts) (w : Core) → Fits seen leaves c w → (img : DeviceImages) → Leaves leaves img
     → stands_for img w.scene.state
 fits-left seen leaves c w f img left = left-stands leaves seen img Pending.Idle c w.scene.state f.good left
 
 -- The call of an event that makes no device call serves it, where the event turns the world so and the complex fits that.
 pub still-serves : {G : Type 0} (tell : Telling G) (e : Event) (r : Reply) (old new : Complex G) (w w' : Core) → old.rig ≡ new.rig
-    → ((img : Image) → tell.since old.rig (tell.moment old.rig) img → Leaves (tell.leaves old.rig) img)
+    → ((img : DeviceImages) → tell.since old.rig (tell.moment old.rig) img → Leaves (tell.leaves old.rig) img)
     → fits_by tell.seen tell.leaves old w → Turns w e r w' → fits_by tell.seen tell.leaves new w'
     → Serves {C = Complex G} tell stands_for (λ c. c.rig) (fits_by tell.seen tell.leaves) e r old new w w'
 still-serves tell e r old new w w' same now f turns then = record {
@@ -311,7 +311,7 @@ still-serves tell e r old new w w' same now f turns then = record {
 
 -- Want of memory that leaves the complex as it is spares it.
 pub still-spares : {G : Type 0} (tell : Telling G) (old new : Complex G) (w : Core) → old ≡ new
-    → ((img : Image) → tell.since old.rig (tell.moment old.rig) img → Leaves (tell.leaves old.rig) img)
+    → ((img : DeviceImages) → tell.since old.rig (tell.moment old.rig) img → Leaves (tell.leaves old.rig) img)
     → fits_by tell.seen tell.leaves old w
     → Spares {C = Complex G} tell stands_for (λ c. c.rig) (fits_by tell.seen tell.leaves) old new w
 still-spares tell old new w same now f = subst

@@ -10,7 +10,7 @@ use Rattle.sd_log.specs.Logs.{LogState}
 use Rattle.sd_logrec.specs.View.{Rec}
 use Rattle.sd_model.specs.Acts.{live}
 use Rattle.sd_model.specs.Listed.{IsAtWork}
-use Rattle.sd_model.specs.Placed.{Stands}
+use Rattle.sd_model.specs.Lives.{SuitsStatus}
 use Rattle.sd_model.specs.State.{State}
 use Rattle.sd_model.specs.declared.act.Life.{Life}
 use Rattle.sd_page.specs.Page.{Page}
@@ -41,10 +41,10 @@ use Rattle.sd_fits.proofs.Falling.{numbers_of}
 use Rattle.sd_fits.proofs.Forcing.{versions-same}
 
 -- nobody is at work on an instance that isn't up
-nobody-works : (life : Life) (s : Status) → s ≢ S.Up → Stands life s → IsAtWork life → ⊥
+nobody-works : (life : Life) (s : Status) → s ≢ S.Up → SuitsStatus life s → IsAtWork life → ⊥
 nobody-works life s down stands works = by life stands works
   where
-    never : (s : Status) → s ≢ S.Up → Stands Life.Running s → ⊥
+    never : (s : Status) → s ≢ S.Up → SuitsStatus Life.Running s → ⊥
     never S.Up ne h = ne refl
     never S.Down ne h = h
     never (S.Recovering by) ne h = h
@@ -52,14 +52,14 @@ nobody-works life s down stands works = by life stands works
     never S.Restarting ne h = h
     never S.Closed ne h = h
 
-    by : (life : Life) → Stands life s → IsAtWork life → ⊥
+    by : (life : Life) → SuitsStatus life s → IsAtWork life → ⊥
     by Life.Gone stands works = works
     by Life.Running stands works = never s down stands
     by Life.Retained stands works = works
     by (Life.Rolling to) stands works = never s down stands
     by (Life.Doubt cut) stands works = works
 
-module _ (i : ℕ) (seen : rig.Image) (leaves : Outcomes) (c found : Parts) (m : State) (low : 1 ≤ i) (high : i ≤ 8)
+module _ (i : ℕ) (seen : rig.DeviceImages) (leaves : Outcomes) (c found : Parts) (m : State) (low : 1 ≤ i) (high : i ≤ 8)
     (g : Good seen leaves Pending.Idle c m) (was_loose : is_loose c i ≡ true) (idle : c.due ≡ None)
     (only : LeavesOnly (seen i) (leaves i)) (reads : (d : ℕ) → d ≤ 8 → leaves d (seen d)) (read : IsReread i (seen i) c found) where
   abbrev new : Parts
@@ -119,14 +119,14 @@ module _ (i : ℕ) (seen : rig.Image) (leaves : Outcomes) (c found : Parts) (m :
   at-work : (t : TxnId) → home t ≡ i → IsAtWork (m.part t).life → ⊥
   at-work t is works = nobody-works (m.part t).life (status_at c i)
       (not-up i seen leaves c found m low high g was_loose idle only reads read)
-      (subst (λ (k : ℕ). Stands (m.part t).life (status_at c k)) is (subst (Stands (m.part t).life) (sym status) (g.placed.stands t)))
+      (subst (λ (k : ℕ). SuitsStatus (m.part t).life (status_at c k)) is (subst (SuitsStatus (m.part t).life) (sym status) (g.placed.stands t)))
       works
     where
       status : status_at c (home t) ≡ (m.inst (home t)).status
       status = subst (λ (k : ℕ). status_at c k ≡ (m.inst k).status) (sym is) (g.instances i low high).status
 
 -- A complex that fits fits the same world then, with pages numbered anew.
-pub reread-fits : (i : ℕ) (seen : rig.Image) (leaves : Outcomes) (c found : Parts) (w : Core) → 1 ≤ i → i ≤ 8
+pub reread-fits : (i : ℕ) (seen : rig.DeviceImages) (leaves : Outcomes) (c found : Parts) (w : Core) → 1 ≤ i → i ≤ 8
     → Fits seen leaves c w → is_loose c i ≡ true → LeavesOnly (seen i) (leaves i) → ((d : ℕ) → d ≤ 8 → leaves d (seen d))
     → IsReread i (seen i) c found → (sums : Bounds) → FitsBounds seen leaves c sums
     → Fits seen leaves (with_reread i found c) (record {
@@ -158,9 +158,9 @@ reread-fits i seen leaves c found w low high f was_loose only reads read sums b 
     working = at-work i seen leaves c found w.scene.state low high f.good was_loose f.idle only reads read
 
 -- Less may be left, and all else is as it was: the complex fits on.
-pub less-fits : (seen seen' : rig.Image) (leaves leaves' : Outcomes) (c : Parts) (w : Core) → Fits seen leaves c w
+pub less-fits : (seen seen' : rig.DeviceImages) (leaves leaves' : Outcomes) (c : Parts) (w : Core) → Fits seen leaves c w
     → Less leaves leaves' → ((d : ℕ) → seen' d ≡ seen d) → ((d : ℕ) → d ≤ 8 → leaves' d (seen' d)) → Fits seen' leaves' c w
-less-fits seen seen' leaves leaves' c w f less same reads = subst (λ (s : rig.Image). Fits s leaves' c w) (sym (fun_ext same)) (record {
+less-fits seen seen' leaves leaves' c w f less same reads = subst (λ (s : rig.DeviceImages). Fits s leaves' c w) (sym (fun_ext same)) (record {
   good = less-good seen leaves leaves' Pending.Idle c w.scene.state f.good less (λ d le. subst (leaves' d) (same d) (reads d le));
   idle = f.idle;
   rolling = f.rolling;

@@ -1,6 +1,6 @@
 -- A call that leaves the parts of a complex and its devices as they are. For the calls of events that are refused.
 use Rattle.std.proofs.Common.{◌≡◌, sym, subst}
-use Rattle.sd_rig.specs.Devices.{Image, Leaves}
+use Rattle.sd_rig.specs.Devices.{DeviceImages, Leaves}
 use Rattle.sd_model.specs.declared.event.Event.{Event}
 use Rattle.sd_model.specs.declared.event.Reply.{Reply}
 use Rattle.sd_world.specs.Serving.{Core, Passes, Serves, Spares, Telling, Turns}
@@ -16,7 +16,7 @@ module _ {G : Type 0} (tell : Telling G) (old new : Complex G) (same : new.rig �
   moved-fits w f = subst (λ d. Fits (tell.seen d) (tell.leaves d) (parts new) w) (sym same) f
 
   module _ (stays : parts new ≡ parts old)
-      (now : (img : Image) → tell.since old.rig (tell.moment old.rig) img → Leaves (tell.leaves old.rig) img)
+      (now : (img : DeviceImages) → tell.since old.rig (tell.moment old.rig) img → Leaves (tell.leaves old.rig) img)
       (w : Core) (f : fits_by tell.seen tell.leaves old w) where
     kept-fits : (w' : Core) → fits_by tell.seen tell.leaves old w' → fits_by tell.seen tell.leaves new w'
     kept-fits w' f' = moved-fits w' (subst (λ c. Fits (tell.seen old.rig) (tell.leaves old.rig) c w') (sym stays) f')

@@ -10,8 +10,8 @@ use Rattle.sd_page.specs.Page.{Page}
 use Rattle.sd_rig.specs.Devices as rig
 use Rattle.sd_chain.specs.Bytes.{disk_page, log_of, records_of, stable}
 use Rattle.sd_chain.specs.Checks.{gate_of, owed, owed_by_all, reserve}
-use Rattle.sd_chain.specs.Crashes.{Leaves, StandsFor}
-use Rattle.sd_chain.specs.Image.{newest}
+use Rattle.sd_chain.specs.Crashes.{CrashLeaves, StandsFor}
+use Rattle.sd_chain.specs.Storage.{newest}
 use Rattle.sd_chain.specs.Images.{Allowed, Keeps}
 use Rattle.sd_chain.specs.Records.{Each, Val}
 use Rattle.sd_chain.proofs.Lists.{Each-front, Each-weaker}
@@ -42,7 +42,7 @@ use Rattle.sd_fits.proofs.Served.{masters-most, slots-within}
 use Rattle.sd_fits.specs.Sums.{HaveLsnsTo, IsWithinSums, LeftIsWithinSums}
 
 -- what is within the sums is within those after any event
-pub sums-stay : (devices : rig.Image) (b : Bounds) (e : Event) (r : Reply) → IsWithinSums devices b
+pub sums-stay : (devices : rig.DeviceImages) (b : Bounds) (e : Event) (r : Reply) → IsWithinSums devices b
     → IsWithinSums devices (bounds_after b e r)
 sums-stay devices b e r s = record {
   slots = λ p. slots-within _ b.slots e r p (s.slots p);
@@ -66,7 +66,7 @@ few great o owes most less sum = omega arith
 within : (x great o owes most : ℕ) → x ≤ great → o ≤ owes → great + owes ≤ most → x + o ≤ most
 within x great o owes most low few sum = omega arith
 
-module _ (leaves : Outcomes) (seen img : rig.Image) (c : Parts) (w : Core) (f : Fits seen leaves c w) (left : rig.Leaves leaves img) where
+module _ (leaves : Outcomes) (seen img : rig.DeviceImages) (c : Parts) (w : Core) (f : Fits seen leaves c w) (left : rig.Leaves leaves img) where
   abbrev moved : Keeps
   moved = which c img
 
@@ -90,7 +90,7 @@ module _ (leaves : Outcomes) (seen img : rig.Image) (c : Parts) (w : Core) (f : 
   allowed : Allowed (may_of leaves') (disk_page (img 0))
   allowed p = (img 0, left' 0 (omega arith), refl)
 
-  there : Leaves (tails_of logs) (may_of leaves') (stable img)
+  there : CrashLeaves (tails_of logs) (may_of leaves') (stable img)
   there = record {
     logs = logs-ready logs img h.coherent.eight.0 h.coherent.safe.eight ready;
     disks = λ p. (img 0, left' 0 (omega arith), refl);

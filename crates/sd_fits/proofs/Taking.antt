@@ -13,7 +13,7 @@ use Rattle.sd_base.specs.declared.place.Mode.TheVariants as modes
 use Rattle.sd_base.specs.declared.place.Status.TheVariants as S
 use Rattle.sd_model.specs.Acts.{live}
 use Rattle.sd_model.specs.Applies.{HasPut}
-use Rattle.sd_model.specs.Claims.{Claims, Holds, raised, with_claim}
+use Rattle.sd_model.specs.Claims.{Claims, Holds, raised_claim, with_claim}
 use Rattle.sd_model.specs.Listed.{IsAtWork}
 use Rattle.sd_model.specs.Scenes.{is_running}
 use Rattle.sd_model.specs.State.{Part, State, took, took_part, view}
@@ -31,7 +31,7 @@ use Rattle.sd_model.proofs.Claims.{claim-here}
 use Rattle.sd_reclock.specs.Answers.{IsFree}
 use Rattle.sd_reclock.specs.Locks as locks
 use Rattle.sd_reclock.specs.Locks.{LockTable, waits}
-use Rattle.sd_rig.specs.Devices.{Image}
+use Rattle.sd_rig.specs.Devices.{DeviceImages}
 use Rattle.sd_chain.specs.Records.{home}
 use Rattle.sd_sound.specs.Logs.{Outcomes}
 use Rattle.sd_world.specs.Bounds.{Bounds, bounds_after}
@@ -48,7 +48,7 @@ use Rattle.sd_fits.proofs.Doubts.{DoubtsStay, doubts-kept}
 
 -- ---- two takes of one record are one
 
-raised-twice : (a b : Claim) → raised a (raised a b) ≡ raised a b
+raised-twice : (a b : Claim) → raised_claim a (raised_claim a b) ≡ raised_claim a b
 raised-twice Claim.Free b = refl
 raised-twice Claim.Shared Claim.Free = refl
 raised-twice Claim.Shared Claim.Shared = refl
@@ -58,8 +58,8 @@ raised-twice Claim.Excl b = refl
 claim-twice : (r : Rid) (mode : Claim) (claims : Claims) (q : Rid) → with_claim r mode (with_claim r mode claims) q ≡ with_claim r mode claims q
 claim-twice r mode claims q = by (same_rid r q)
   where
-    by : (b : Bool) → cond b (raised mode (cond b (raised mode (claims q)) (claims q))) (cond b (raised mode (claims q)) (claims q))
-        ≡ cond b (raised mode (claims q)) (claims q)
+    by : (b : Bool) → cond b (raised_claim mode (cond b (raised_claim mode (claims q)) (claims q))) (cond b (raised_claim mode (claims q)) (claims q))
+        ≡ cond b (raised_claim mode (claims q)) (claims q)
     by true = raised-twice mode (claims q)
     by false = refl
 
@@ -137,7 +137,7 @@ on-stays m m' on = record {
   puts = λ u doubt. ap live (on.doubts u (sym (ap is_doubt (on.lives u)) ∙ doubt));
 }
 
-module _ (table : LockTable) (asks : Waits) (m' : State) (b : Bounds) (seen : Image) (leaves : Outcomes) (c : Parts) (w : Core)
+module _ (table : LockTable) (asks : Waits) (m' : State) (b : Bounds) (seen : DeviceImages) (leaves : Outcomes) (c : Parts) (w : Core)
     (f : Fits seen leaves c w) where
   abbrev then_core : Core
   then_core = record { scene = record { state = m'; waits = asks }; pages = w.pages; bounds = b }
@@ -174,7 +174,7 @@ module _ (table : LockTable) (asks : Waits) (m' : State) (b : Bounds) (seen : Im
   }
 
 -- A transaction that runs has the lock, raised to the mode, and finds what it sees: the complex is good with that read noted.
-pub noted-good : (seen : Image) (leaves : Outcomes) (c : Parts) (m : State) (t : TxnId) (r : Rid) (mode : Mode) (v : Content)
+pub noted-good : (seen : DeviceImages) (leaves : Outcomes) (c : Parts) (m : State) (t : TxnId) (r : Rid) (mode : Mode) (v : Content)
     (locks_then : LockTable) → Good seen leaves Pending.Idle c m → c.due ≡ None → status_at c (home t) ≡ S.Up
     → (m.part t).life ≡ Life.Running → IsFree (locks.stands c.locks) t (locks.wait_for r mode) → v ≡ view m t r
     → ((u : TxnId) (q : Rid) → locks.held locks_then u q
@@ -200,7 +200,7 @@ noted-good seen leaves c m t r mode v locks_then g idle up runs free is given =
           (eq-same t t refl));
     })
   where
-    mode-holds : (md : Mode) (claim : Claim) → Holds (raised (claim_of md) claim)
+    mode-holds : (md : Mode) (claim : Claim) → Holds (raised_claim (claim_of md) claim)
     mode-holds modes.Shared Claim.Free = tt
     mode-holds modes.Shared Claim.Shared = tt
     mode-holds modes.Shared Claim.Excl = tt

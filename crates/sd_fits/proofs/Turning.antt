@@ -14,7 +14,7 @@ use Rattle.sd_model.specs.Scenes.{is_running}
 use Rattle.sd_model.specs.State.{Part, State, put_part}
 use Rattle.sd_model.specs.declared.act.Life.{Life}
 use Rattle.sd_reclock.specs.Locks.{LockTable, waits}
-use Rattle.sd_rig.specs.Devices.{Image}
+use Rattle.sd_rig.specs.Devices.{DeviceImages}
 use Rattle.sd_txn.specs.Owing.{owed_of}
 use Rattle.sd_txn.specs.Transactions.{OthersStay, Transaction, Transactions, span_at, txn_at}
 use Rattle.sd_chain.specs.Records.{IsOpen, home}
@@ -59,14 +59,14 @@ turned_core t p asks b w = record {
 }
 
 -- once t waits for nothing, each wait is of one that runs
-pub ended-asks : (t : TxnId) (p : Part) (seen : Image) (leaves : Outcomes) (c : Parts) (w : Core) → Fits seen leaves c w
+pub ended-asks : (t : TxnId) (p : Part) (seen : DeviceImages) (leaves : Outcomes) (c : Parts) (w : Core) → Fits seen leaves c w
     → (u : TxnId) → is_running ((put_part t p w.scene.state).part u).life ≡ false → with_wait t None w.scene.waits u ≡ None
 ended-asks t p seen leaves c w f = each_txn t (λ u (q : Part). is_running q.life ≡ false → with_wait t None w.scene.waits u ≡ None)
     p w.scene.state.part
     (λ off. ap (λ (b : Bool). cond {A = Option Wait} b None (w.scene.waits t)) (eq-same t t refl))
     (λ u ne off. ap (λ (b : Bool). cond {A = Option Wait} b None (w.scene.waits u)) (ne-same t u ne) ∙ f.waiting u off)
 
-module _ (t : TxnId) (p : Part) (table : Transactions) (locks : LockTable) (asks : Waits) (b : Bounds) (seen : Image) (leaves : Outcomes)
+module _ (t : TxnId) (p : Part) (table : Transactions) (locks : LockTable) (asks : Waits) (b : Bounds) (seen : DeviceImages) (leaves : Outcomes)
     (c : Parts) (w : Core) (f : Fits seen leaves c w) (h : HasTurned t p table locks asks c w.scene.state) where
   abbrev m : State
   m = w.scene.state

@@ -4,13 +4,13 @@ use Rattle.std.proofs.Common.{◌≡◌, ℕ, true, false, List, map, filter, sy
 use Rattle.sd_base.specs.declared.ids.Rid.{Rid}
 use Rattle.sd_base.specs.declared.ids.TxnId.{TxnId}
 use Rattle.sd_logrec.specs.View.{Rec}
-use Rattle.sd_model.specs.Acts.{after, live, seen}
+use Rattle.sd_model.specs.Acts.{after, live, seen_over}
 use Rattle.sd_model.specs.Claims.{Owns}
 use Rattle.sd_model.specs.State.{State, now}
 use Rattle.sd_model.specs.Tables.{Contents}
 use Rattle.sd_model.proofs.Claims.{seen-apart}
 use Rattle.sd_model.proofs.Swap.{after-append}
-use Rattle.sd_rig.specs.Devices.{Image}
+use Rattle.sd_rig.specs.Devices.{DeviceImages}
 use Rattle.sd_chain.specs.Images.{Keeps, all_kept}
 use Rattle.sd_chain.specs.Pages.{value}
 use Rattle.sd_chain.specs.Records.{home, stack}
@@ -24,7 +24,7 @@ use Rattle.sd_state.specs.Values.{Pending, as_done, decided, is_committed, is_do
 use Rattle.sd_state.proofs.ChangedLists.{each-front}
 use Rattle.sd_fits.proofs.Values.{after-doubts, doubt-commits, none-owned}
 
-module _ (seen_by : Image) (leaves : Outcomes) (c : Parts) (m : State) (r : Rid) (g : Good seen_by leaves Pending.Idle c m)
+module _ (seen_by : DeviceImages) (leaves : Outcomes) (c : Parts) (m : State) (r : Rid) (g : Good seen_by leaves Pending.Idle c m)
     (unclaimed : (u : TxnId) → Owns ((m.part u).claims r) → ⊥) where
   abbrev still : Keeps
   still j = false
@@ -36,7 +36,7 @@ module _ (seen_by : Image) (leaves : Outcomes) (c : Parts) (m : State) (r : Rid)
   kept = kept_logs (tails_of (log_by c still)) all_kept
 
   -- those in doubt put nothing there
-  doubts-still : (u : TxnId) → is_doubt (m.part u).life ≡ true → (base : Contents) → seen base (live (m.part u).acts) r ≡ base r
+  doubts-still : (u : TxnId) → is_doubt (m.part u).life ≡ true → (base : Contents) → seen_over base (live (m.part u).acts) r ≡ base r
   doubts-still u doubt base = seen-apart (m.part u).claims base (live (m.part u).acts) r
       (g.kept.covered u (doubt-commits (m.part u).life doubt)).owned (unclaimed u)
 

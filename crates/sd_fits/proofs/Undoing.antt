@@ -26,10 +26,10 @@ use Rattle.sd_model.specs.declared.event.Event.TheVariants.{Undo}
 use Rattle.sd_model.specs.declared.event.Reply.TheVariants as reply
 use Rattle.sd_page.specs.Page.{Page}
 use Rattle.sd_pagelock.specs.Directory.{entry_at}
-use Rattle.sd_pagelock.specs.Places.{Entry, is_lost, owns}
+use Rattle.sd_pagelock.specs.Places.{PageEntry, is_lost, owns}
 use Rattle.sd_pagelock.specs.Rows.{dirtied}
 use Rattle.sd_pool.specs.Buffers.{Buffers}
-use Rattle.sd_rig.specs.Devices.{Image}
+use Rattle.sd_rig.specs.Devices.{DeviceImages}
 use Rattle.sd_txn.specs.Owing.{owed_of}
 use Rattle.sd_txn.specs.Transactions.{Transaction, Transactions, ids, span_at, top, txn_at}
 use Rattle.sd_txn.specs.declared.state.OpenRec.{OpenRec}
@@ -44,7 +44,7 @@ use Rattle.sd_sound.specs.Logs.{Outcomes, all_at, tails_of}
 use Rattle.sd_sound.proofs.Appends.{appended-log}
 use Rattle.sd_world.specs.Bounds.{Bounds, bounds_after}
 use Rattle.sd_world.specs.PageCauses.{last_page, undo_page}
-use Rattle.sd_world.specs.Pages.{numbered, placed}
+use Rattle.sd_world.specs.Pages.{numbered, page_placed}
 use Rattle.sd_world.specs.Serving.{Core}
 use Rattle.sd_state.specs.Changing.{with_changed}
 use Rattle.sd_state.specs.Good.{Good}
@@ -71,7 +71,7 @@ use Rattle.sd_fits.proofs.Taking.{GoesOnAs, on-stays, put-more}
 
 -- ---- who rolls back
 
-module _ (t : TxnId) (to : Option ℕ) (seen : Image) (leaves : Outcomes) (c : Parts) (w : Core) (f : Fits seen leaves c w)
+module _ (t : TxnId) (to : Option ℕ) (seen : DeviceImages) (leaves : Outcomes) (c : Parts) (w : Core) (f : Fits seen leaves c w)
     (rolls : (w.scene.state.part t).life ≡ Life.Rolling to) (low : 1 ≤ home t) (high : home t ≤ 8) (up : status_at c (home t) ≡ S.Up) where
   abbrev m : State
   m = w.scene.state
@@ -143,22 +143,22 @@ undid-on t to m rolls = record {
 }
 
 -- who has a page alone has it
-owned-there : (e : Entry) (i : ℕ) → owns e i ≡ true → is_lost e ≡ false
-owned-there Entry.Free i h = refl
-owned-there (Entry.Shared set writer) i h = refl
-owned-there (Entry.Excl holder dirty) i h = refl
-owned-there (Entry.Moving to mode rest dirty) i h = refl
-owned-there Entry.Lost i h = absurd (cc)
+owned-there : (e : PageEntry) (i : ℕ) → owns e i ≡ true → is_lost e ≡ false
+owned-there PageEntry.Free i h = refl
+owned-there (PageEntry.Shared set writer) i h = refl
+owned-there (PageEntry.Excl holder dirty) i h = refl
+owned-there (PageEntry.Moving to mode rest dirty) i h = refl
+owned-there PageEntry.Lost i h = absurd (cc)
 
 -- the world then: the page is its instance's, changed, with the LSN of the record
 abbrev pub undone_core : TxnId → ℕ → ℕ → Core → Core
 undone_core t p lsn w = record {
   scene = record { state = undid t w.scene.state; waits = w.scene.waits };
-  pages = numbered p lsn (placed p (dirtied (home t)) w.pages);
+  pages = numbered p lsn (page_placed p (dirtied (home t)) w.pages);
   bounds = bounds_after w.bounds (Undo t) reply.Step;
 }
 
-module _ (t : TxnId) (to : Option ℕ) (seen : Image) (leaves : Outcomes) (c new : Parts) (w : Core) (f : Fits seen leaves c w)
+module _ (t : TxnId) (to : Option ℕ) (seen : DeviceImages) (leaves : Outcomes) (c new : Parts) (w : Core) (f : Fits seen leaves c w)
     (rolls : RollsTo t to w.scene.state) (low : 1 ≤ home t) (high : home t ≤ 8) (up : status_at c (home t) ≡ S.Up)
     (once : IsDistinct same_txn (ids (txns_at c (home t)))) (h : HasUndone (home t) c.due t c new)
     (held : owns (entry_at c.directory h.o.rid.page) (home t) ≡ true)
@@ -323,6 +323,6 @@ module _ (t : TxnId) (to : Option ℕ) (seen : Image) (leaves : Outcomes) (c new
   -- the page's number doesn't fall
   pub undone-number : w.pages.number p ≤ (flat y).lsn
   undone-number =
-      let there : is_lost (w.pages.entry p) ≡ false = owned-there (w.pages.entry p) a (ap (λ (e : Entry). owns e a) (f.pages.entry p) ∙ held) in
+      let there : is_lost (w.pages.entry p) ≡ false = owned-there (w.pages.entry p) a (ap (λ (e : PageEntry). owns e a) (f.pages.entry p) ∙ held) in
       let number = f.pages.number p there in
       let copy = ap (λ (z : Page). z.lsn) copy-newest in omega (arith, number, copy)

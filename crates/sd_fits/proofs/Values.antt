@@ -13,7 +13,7 @@ use Rattle.sd_logrec.specs.View.{Rec}
 use Rattle.sd_page.specs.Page.{Page, Slot, empty_page}
 use Rattle.sd_pagelock.specs.Directory.{entry_at}
 use Rattle.sd_pagelock.specs.Places.{holds}
-use Rattle.sd_model.specs.Acts.{Puts, after, live, seen}
+use Rattle.sd_model.specs.Acts.{Puts, after, live, seen_over}
 use Rattle.sd_model.specs.Claims.{Claims, Clash, Owns}
 use Rattle.sd_model.specs.Kept.{MayCommit}
 use Rattle.sd_model.specs.State.{State, now, view}
@@ -25,11 +25,11 @@ use Rattle.sd_model.proofs.Claims.{seen-apart}
 use Rattle.sd_model.proofs.Swap.{after-append}
 use Rattle.sd_reclock.specs.Answers.{IsFree}
 use Rattle.sd_reclock.specs.Locks.{stands, wait_for}
-use Rattle.sd_rig.specs.Devices.{Image}
+use Rattle.sd_rig.specs.Devices.{DeviceImages}
 use Rattle.sd_txn.specs.Transactions.{Transaction, txn_at}
 use Rattle.sd_chain.specs.Fates.{fate}
 use Rattle.sd_chain.specs.Bytes.{disk_page}
-use Rattle.sd_chain.specs.Image.{HasPlace}
+use Rattle.sd_chain.specs.Storage.{HasPlace}
 use Rattle.sd_chain.specs.Images.{Keeps, all_kept}
 use Rattle.sd_chain.specs.Pages.{value}
 use Rattle.sd_chain.specs.Records.{Each, IsOpen, at, home, stack}
@@ -53,26 +53,26 @@ use Rattle.sd_fits.specs.Fits.{FitsDoubts, HaveSlots}
 
 -- the first of the open changes of a record is what is seen there
 put-seen : (base : Contents) (r : Rid) (xs : List Rec) (top : Rec) (below : List Rec) → filter (at r.page r.slot) xs ≡ top ∷ below
-    → seen base (map put_of xs) r ≡ top.after
+    → seen_over base (map put_of xs) r ≡ top.after
 unfolding same_rid
 put-seen base r [] top below e = absurd (cc)
 put-seen base r (x ∷ xs) top below e = by (at r.page r.slot x) e (put-seen base r xs top below)
   where
     by : (b : Bool) → cond {A = List Rec} b (x ∷ filter (at r.page r.slot) xs) (filter (at r.page r.slot) xs) ≡ top ∷ below
-        → (filter (at r.page r.slot) xs ≡ top ∷ below → seen base (map put_of xs) r ≡ top.after)
-        → cond b x.after (seen base (map put_of xs) r) ≡ top.after
+        → (filter (at r.page r.slot) xs ≡ top ∷ below → seen_over base (map put_of xs) r ≡ top.after)
+        → cond b x.after (seen_over base (map put_of xs) r) ≡ top.after
     by true is ih = let same : x ≡ top = cc in ap (λ (y : Rec). y.after) same
     by false is ih = ih is
 
 -- where there is none, the table's is
-none-seen : (base : Contents) (r : Rid) (xs : List Rec) → filter (at r.page r.slot) xs ≡ [] → seen base (map put_of xs) r ≡ base r
+none-seen : (base : Contents) (r : Rid) (xs : List Rec) → filter (at r.page r.slot) xs ≡ [] → seen_over base (map put_of xs) r ≡ base r
 unfolding same_rid
 none-seen base r [] e = refl
 none-seen base r (x ∷ xs) e = by (at r.page r.slot x) e (none-seen base r xs)
   where
     by : (b : Bool) → cond {A = List Rec} b (x ∷ filter (at r.page r.slot) xs) (filter (at r.page r.slot) xs) ≡ []
-        → (filter (at r.page r.slot) xs ≡ [] → seen base (map put_of xs) r ≡ base r)
-        → cond b x.after (seen base (map put_of xs) r) ≡ base r
+        → (filter (at r.page r.slot) xs ≡ [] → seen_over base (map put_of xs) r ≡ base r)
+        → cond b x.after (seen_over base (map put_of xs) r) ≡ base r
     by true is ih = absurd (cc)
     by false is ih = ih is
 
@@ -96,7 +96,7 @@ none-owned claims r (x ∷ xs) none each = by (at r.page r.slot x) refl (none-ow
 -- what those in doubt leave of a record, where those that are committed put nothing there
 pub after-doubts : (m : State) (committed : TxnId → Bool) (r : Rid)
     → ((u : TxnId) → is_doubt (m.part u).life ≡ true → committed u ≡ true → (base : Contents)
-    → seen base (live (m.part u).acts) r ≡ base r)
+    → seen_over base (live (m.part u).acts) r ≡ base r)
     → (us : List TxnId) (base : Contents)
     → after base (map (as_done m) (filter committed (filter (λ u. is_doubt (m.part u).life) us))) r ≡ base r
 after-doubts m committed r still [] base = refl
@@ -106,7 +106,7 @@ after-doubts m committed r still (u ∷ us) base = by (is_doubt (m.part u).life)
         → ((under : Contents) → after under (map (as_done m) (filter committed (filter (λ v. is_doubt (m.part v).life) us))) r ≡ under r)
         → after base (map (as_done m) (cond {A = List TxnId} b (u ∷ filter committed (filter (λ v. is_doubt (m.part v).life) us))
         (filter committed (filter (λ v. is_doubt (m.part v).life) us)))) r ≡ base r
-    two true is doubt ih = ih (seen base (live (m.part u).acts)) ∙ still u doubt is base
+    two true is doubt ih = ih (seen_over base (live (m.part u).acts)) ∙ still u doubt is base
     two false is doubt ih = ih base
 
     by : (b : Bool) → is_doubt (m.part u).life ≡ b
@@ -149,12 +149,12 @@ placed-none r version (x ∷ xs) beyond each = by (at r.page r.slot x) refl (pla
 -- nor is what is put to slots of their pages
 puts-none : (r : Rid) (version : ℕ → Page) (puts : Puts) → length (version r.page).slots ≤ r.slot → HaveSlots version puts
     → (base : Contents)
-    → seen base puts r ≡ base r
+    → seen_over base puts r ≡ base r
 unfolding same_rid
 puts-none r version [] beyond each base = refl
 puts-none r version (put ∷ puts) beyond each base = by (same_rid put.0 r) refl (puts-none r version puts beyond each.1 base)
   where
-    by : (b : Bool) → same_rid put.0 r ≡ b → seen base puts r ≡ base r → cond b put.1 (seen base puts r) ≡ base r
+    by : (b : Bool) → same_rid put.0 r ≡ b → seen_over base puts r ≡ base r → cond b put.1 (seen_over base puts r) ≡ base r
     by true is ih =
         let same = the-same put.0 r is in
         let slot = each.0 in
@@ -166,7 +166,7 @@ puts-none r version (put ∷ puts) beyond each base = by (same_rid put.0 r) refl
 -- ---- what is seen
 
 -- What a transaction that runs has put is what its log has open.
-module _ (seen_by : Image) (leaves : Outcomes) (c : Parts) (m : State) (t : TxnId) (g : Good seen_by leaves Pending.Idle c m)
+module _ (seen_by : DeviceImages) (leaves : Outcomes) (c : Parts) (m : State) (t : TxnId) (g : Good seen_by leaves Pending.Idle c m)
     (up : status_at c (home t) ≡ S.Up) (runs : (m.part t).life ≡ Life.Running) where
   pub running-open : IsOpen t (all_at (log_at c (home t)))
   running-open = let bounds = up-there c g.shape.statuses (home t) up in
@@ -183,7 +183,7 @@ module _ (seen_by : Image) (leaves : Outcomes) (c : Parts) (m : State) (t : TxnI
       by None gone row = let clash = sym runs ∙ gone in absurd (cc)
       by (Some x) names row = row.puts
 
-module _ (seen_by : Image) (leaves : Outcomes) (c : Parts) (m : State) (t : TxnId) (r : Rid)
+module _ (seen_by : DeviceImages) (leaves : Outcomes) (c : Parts) (m : State) (t : TxnId) (r : Rid)
     (g : Good seen_by leaves Pending.Idle c m)
     (up : status_at c (home t) ≡ S.Up) (runs : (m.part t).life ≡ Life.Running) where
   abbrev still : Keeps
@@ -205,7 +205,7 @@ module _ (seen_by : Image) (leaves : Outcomes) (c : Parts) (m : State) (t : TxnI
   kept = kept_logs (tails_of (log_by c still)) all_kept
 
   module _ (doubts : (u : TxnId) → is_doubt (m.part u).life ≡ true → is_committed kept u ≡ true → (base : Contents)
-      → seen base (live (m.part u).acts) r ≡ base r) where
+      → seen_over base (live (m.part u).acts) r ≡ base r) where
     values-now : values m Pending.Idle kept r.page r.slot ≡ now m r
     values-now = ap (λ (f : Contents). f r) (after-append m.start m.done (decided m Pending.Idle kept))
         ∙ ap (λ (us : List TxnId). after (now m) (map (as_done m) (filter (is_committed kept) us)) r)
@@ -221,7 +221,7 @@ module _ (seen_by : Image) (leaves : Outcomes) (c : Parts) (m : State) (t : TxnI
         (λ keeps. values m Pending.Idle (kept_logs (tails_of (log_by c still)) keeps)) h.gives none
         ∙ values-now
         ∙ sym (none-seen (now m) r (stack t (all_at (log_at c (home t)))) (none t alive))
-        ∙ sym (ap (λ (ps : Puts). seen (now m) ps r) puts)
+        ∙ sym (ap (λ (ps : Puts). seen_over (now m) ps r) puts)
 
   -- A record behind the last slot of its page is absent.
   pub beyond-absent : FitsDoubts seen_by c m → length (newest_of seen_by leaves c r.page).slots ≤ r.slot → view m t r ≡ None
@@ -234,7 +234,7 @@ module _ (seen_by : Image) (leaves : Outcomes) (c : Parts) (m : State) (t : TxnI
       past (x ∷ xs) (suc s) le = past xs s (omega (arith, le))
 
       doubts-none : (u : TxnId) → is_doubt (m.part u).life ≡ true → is_committed kept u ≡ true → (base : Contents)
-          → seen base (live (m.part u).acts) r ≡ base r
+          → seen_over base (live (m.part u).acts) r ≡ base r
       doubts-none u doubt is base = puts-none r (newest_of seen_by leaves c) (live (m.part u).acts) beyond
           (doubts still all_kept u doubt is) base
 
@@ -255,7 +255,7 @@ module _ (seen_by : Image) (leaves : Outcomes) (c : Parts) (m : State) (t : TxnI
         (λ e. unclaimed u ne (subst Owns (sym e) tt)) (h.held u (each-front _ _ _ opens))
 
     -- those in doubt put nothing there
-    doubts-still : (u : TxnId) → is_doubt (m.part u).life ≡ true → (base : Contents) → seen base (live (m.part u).acts) r ≡ base r
+    doubts-still : (u : TxnId) → is_doubt (m.part u).life ≡ true → (base : Contents) → seen_over base (live (m.part u).acts) r ≡ base r
     doubts-still u doubt base = seen-apart (m.part u).claims base (live (m.part u).acts) r
         (g.kept.covered u (doubt-commits (m.part u).life doubt)).owned
         (unclaimed u (λ e. let clash = sym doubt ∙ ap (λ (v : TxnId). is_doubt (m.part v).life) (sym e) ∙ ap is_doubt runs in
@@ -266,7 +266,7 @@ module _ (seen_by : Image) (leaves : Outcomes) (c : Parts) (m : State) (t : TxnI
         value-open (base_of seen_by (leaves_by c still leaves) (log_by c still) c)
         (dir_of c) h.coherent r.page r.slot t top below alive e
         ∙ sym (put-seen (now m) r (stack t (all_at (log_at c (home t)))) top below e)
-        ∙ sym (ap (λ (ps : Puts). seen (now m) ps r) puts)
+        ∙ sym (ap (λ (ps : Puts). seen_over (now m) ps r) puts)
     newest-sees [] e = committed-sees (λ u doubt is. doubts-still u doubt)
         (λ u opens. ⊎_elim (λ same. subst (λ (v : TxnId). filter (at r.page r.slot) (stack v (all_at (log_at c (home v)))) ≡ [])
         same e)
@@ -277,13 +277,13 @@ module _ (seen_by : Image) (leaves : Outcomes) (c : Parts) (m : State) (t : TxnI
     newest-seen = newest-sees mine refl
 
 -- the copy that an instance holds is the newest version
-pub copy-newest : (seen_by : Image) (leaves : Outcomes) (pend : Pending) (c : Parts) (m : State) (t : TxnId) (p : ℕ) → Good seen_by leaves pend c m
+pub copy-newest : (seen_by : DeviceImages) (leaves : Outcomes) (pend : Pending) (c : Parts) (m : State) (t : TxnId) (p : ℕ) → Good seen_by leaves pend c m
     → holds (entry_at c.directory p) (home t) ≡ true → image_for t p c ≡ newest_of seen_by leaves c p
 copy-newest seen_by leaves pend c m t p g held =
     ap (λ (o : Option Page). unwrap_or o (empty_page p)) ((each-copy-is-newest leaves seen_by pend c m g p (home t)).0 held)
 
 -- So the copy at the transaction's instance has what the transaction sees.
-pub copy-seen : (seen_by : Image) (leaves : Outcomes) (c : Parts) (m : State) (t : TxnId) (r : Rid) (mode : Mode)
+pub copy-seen : (seen_by : DeviceImages) (leaves : Outcomes) (c : Parts) (m : State) (t : TxnId) (r : Rid) (mode : Mode)
     → Good seen_by leaves Pending.Idle c m → status_at c (home t) ≡ S.Up → (m.part t).life ≡ Life.Running
     → IsFree (stands c.locks) t (wait_for r mode) → holds (entry_at c.directory r.page) (home t) ≡ true
     → value (image_for t r.page c).slots r.slot ≡ view m t r

@@ -12,7 +12,7 @@ use Rattle.sd_world.specs.Pages.{Pages}
 use Rattle.sd_moves.proofs.FallBounds.{sum-less}
 use Rattle.sd_fits.specs.Fits.{FitsBounds, FitsPages}
 
-module _ (txns : List Transactions) (locks : LockTable) (seen : rig.Image) (leaves : Outcomes) (c : Parts) where
+module _ (txns : List Transactions) (locks : LockTable) (seen : rig.DeviceImages) (leaves : Outcomes) (c : Parts) where
   abbrev worked : Parts
   worked = record c { txns = txns; locks = locks }
 

@@ -1,6 +1,6 @@
 -- A complex that is open or closed, and a call of an event on it: what it promises, in one word.
 use Rattle.std.specs.Prelude.{◌≡◌, ℕ, List, Option}
-use Rattle.sd_rig.specs.Devices.{Elapses, Image, Leaves, Span}
+use Rattle.sd_rig.specs.Devices.{DeviceImages, Elapses, Leaves, Span}
 use Rattle.sd_model.specs.declared.event.Event.{Event}
 use Rattle.sd_model.specs.declared.event.Event.TheVariants.{Arm, FailAll, Reopen}
 use Rattle.sd_model.specs.declared.event.Reply.{Reply}
@@ -21,7 +21,7 @@ pub record FitsShut (leaves : ℕ → List ℕ → Type 0) (frames : ℕ) (w : C
   pub frames_are : w.pages.frames ≡ frames
 
 -- the complex fits the world, open or closed
-abbrev pub fits_body : {G : Type 0} → (G → Image) → (G → ℕ → List ℕ → Type 0) → Body G → Core → Type 0
+abbrev pub fits_body : {G : Type 0} → (G → DeviceImages) → (G → ℕ → List ℕ → Type 0) → Body G → Core → Type 0
 fits_body seen leaves (Body.Open c) w = fits_by seen leaves c w
 fits_body seen leaves (Body.Closed rig shape) w = FitsShut (leaves rig) shape.frames w
 

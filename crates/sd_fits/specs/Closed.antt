@@ -6,12 +6,12 @@ use Rattle.sd_base.specs.declared.trouble.Pick.{Pick}
 use Rattle.sd_model.specs.Kept.{Kept}
 use Rattle.sd_model.specs.Listed.{Listed}
 use Rattle.sd_model.specs.Marks.{Marked}
-use Rattle.sd_model.specs.Placed.{Placed}
+use Rattle.sd_model.specs.Lives.{LivesAreSound}
 use Rattle.sd_model.specs.Recoverers.{Recoverers}
 use Rattle.sd_model.specs.State.{closed}
 use Rattle.sd_model.specs.declared.event.Event.TheVariants.{FailAll, Reopen}
 use Rattle.sd_model.specs.declared.event.Reply.TheVariants as reply
-use Rattle.sd_pagelock.specs.Places.{Entry}
+use Rattle.sd_pagelock.specs.Places.{PageEntry}
 use Rattle.sd_rig.specs.Devices as rig
 use Rattle.sd_sound.specs.Logs.{Outcomes}
 use Rattle.sd_world.specs.Bounds.{Bounds, bounds_after}
@@ -27,7 +27,7 @@ use Rattle.sd_fits.specs.Sums.{IsWithinSums}
 
 -- no page is in a pool or lost, nobody asks for one, and no checkpoint is begun
 pub record AreEmptied (w : Pages) : Type 0 where
-  pub entry : (p : ℕ) → w.entry p ≡ Entry.Free
+  pub entry : (p : ℕ) → w.entry p ≡ PageEntry.Free
   pub asks : (p : ℕ) → w.asks p ≡ []
   pub begun : (i : ℕ) → w.begun i ≡ false
 
@@ -35,10 +35,10 @@ pub record AreEmptied (w : Pages) : Type 0 where
 -- sums. The state is one to which a run leads, as far as a reopening asks for that; nobody waits, and no pool has a page.
 pub record FitsClosed (leaves : Outcomes) (w : Core) : Type 0 where
   pub closed : (i : ℕ) → (w.scene.state.inst i).status ≡ S.Closed
-  pub stands : (img : rig.Image) → rig.Leaves leaves img → Stands w.scene.state Pending.Idle img
-  pub sums : (img : rig.Image) → rig.Leaves leaves img → IsWithinSums img w.bounds
+  pub stands : (img : rig.DeviceImages) → rig.Leaves leaves img → Stands w.scene.state Pending.Idle img
+  pub sums : (img : rig.DeviceImages) → rig.Leaves leaves img → IsWithinSums img w.bounds
   pub kept : Kept w.scene.state
-  pub placed : Placed w.scene.state
+  pub placed : LivesAreSound w.scene.state
   pub listed : Listed w.scene.state
   pub marked : Marked w.scene.state
   pub recoverers : Recoverers w.scene.state
@@ -54,7 +54,7 @@ closed_core sums w = record {
 }
 
 -- the world once that opens again from these devices
-abbrev pub reopened_core : rig.Image → Core → Core
+abbrev pub reopened_core : rig.DeviceImages → Core → Core
 reopened_core devices w = opened_core w.pages.frames devices (opened_again devices w.scene.state)
     (bounds_after w.bounds Reopen reply.Did)
 
@@ -62,7 +62,7 @@ reopened_core devices w = opened_core w.pages.frames devices (opened_again devic
 
 -- All instances fail: the event turns the world so, and what is left fits it.
 abbrev pub AllFail : Outcomes → Outcomes → Type 0
-AllFail leaves leaves' = (seen : rig.Image) (c : Parts) (w : Core) (pick : Pick) → Fits seen leaves c w → NoneMore leaves leaves'
+AllFail leaves leaves' = (seen : rig.DeviceImages) (c : Parts) (w : Core) (pick : Pick) → Fits seen leaves c w → NoneMore leaves leaves'
     → Turns w (FailAll pick) reply.Did (closed_core (bounds_after w.bounds (FailAll pick) reply.Did) w)
     × FitsClosed leaves' (closed_core (bounds_after w.bounds (FailAll pick) reply.Did) w)
 
@@ -79,6 +79,6 @@ ClosedStays leaves leaves' = (w : Core) → FitsClosed leaves w → NoneMore lea
 -- A complex that is opened from devices as a crash may leave them, and leaves them alone then: the event turns the world so, and
 -- the complex fits it.
 abbrev pub ClosedReopens : Outcomes → Outcomes → Type 0
-ClosedReopens leaves leaves' = (devices : rig.Image) (c : Parts) (w : Core) → FitsClosed leaves w → rig.Leaves leaves devices
+ClosedReopens leaves leaves' = (devices : rig.DeviceImages) (c : Parts) (w : Core) → FitsClosed leaves w → rig.Leaves leaves devices
     → IsOpenedOn w.pages.frames devices leaves' c
     → Turns w Reopen reply.Did (reopened_core devices w) × Fits devices leaves' c (reopened_core devices w)

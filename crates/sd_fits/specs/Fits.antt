@@ -15,7 +15,7 @@ use Rattle.sd_model.specs.Tables.{Content}
 use Rattle.sd_txn.specs.Transactions.{span_at}
 use Rattle.sd_page.specs.Page.{Page}
 use Rattle.sd_pagelock.specs.Directory.{asks_at, entry_at}
-use Rattle.sd_pagelock.specs.Places.{Entry, is_lost}
+use Rattle.sd_pagelock.specs.Places.{PageEntry, is_lost}
 use Rattle.sd_reclock.specs.Locks.{waits}
 use Rattle.sd_rig.specs.Devices as rig
 use Rattle.sd_chain.specs.Bytes.{disk_page}
@@ -36,7 +36,7 @@ use Rattle.sd_state.specs.Values.{Pending, is_committed, is_doubt}
 
 -- Each page is where the world says, with the same asks; the newest version of one that isn't lost has the world's number; and
 -- the same instances have begun checkpoints.
-pub record FitsPages (seen : rig.Image) (leaves : Outcomes) (c : Parts) (w : Pages) : Type 0 where
+pub record FitsPages (seen : rig.DeviceImages) (leaves : Outcomes) (c : Parts) (w : Pages) : Type 0 where
   pub frames : (i : ℕ) → 1 ≤ i → i ≤ 8 → (pool_at c i).frames ≡ w.frames
   pub entry : (p : ℕ) → w.entry p ≡ entry_at c.directory p
   pub asks : (p : ℕ) → w.asks p ≡ asks_at c.directory p
@@ -58,7 +58,7 @@ abbrev pub ReachesAtMost : ℕ → LogState → Type 0
 ReachesAtMost n log = (log.gate + reserve (base_at log) ≤ n) × ((forced log).gate + reserve (all_at log) ≤ n)
 
 -- No real number is above the world's sums, whatever a crash leaves.
-pub record FitsBounds (seen : rig.Image) (leaves : Outcomes) (c : Parts) (b : Bounds) : Type 0 where
+pub record FitsBounds (seen : rig.DeviceImages) (leaves : Outcomes) (c : Parts) (b : Bounds) : Type 0 where
   pub slots : (moved keeps : Keeps) (p : ℕ)
       → AreWithin (capacities (version_of (tails_of (log_by c moved)) (disk_page (seen 0)) keeps p)) (b.slots p)
   pub reach : (moved : Keeps) (i : ℕ) → 1 ≤ i → i ≤ 8 → ReachesAtMost (b.reach i) (log_by c moved i)
@@ -71,13 +71,13 @@ abbrev pub HaveSlots : (ℕ → Page) → Puts → Type 0
 HaveSlots version puts = Each (λ (put : Rid × Content). put.0.slot < length (version put.0.page).slots) puts
 
 -- Whatever a crash leaves with the Commit of a transaction in doubt has the slots to which that put something.
-abbrev pub FitsDoubts : rig.Image → Parts → State → Type 0
+abbrev pub FitsDoubts : rig.DeviceImages → Parts → State → Type 0
 FitsDoubts seen c m = (moved keeps : Keeps) (t : TxnId) → is_doubt (m.part t).life ≡ true
     → is_committed (kept_logs (tails_of (log_by c moved)) keeps) t ≡ true
     → HaveSlots (version_of (tails_of (log_by c moved)) (disk_page (seen 0)) keeps) (live (m.part t).acts)
 
 -- The complex is as the world says: between any two events nothing is under way, no fall is due, and no End waits for its force.
-pub record Fits (seen : rig.Image) (leaves : Outcomes) (c : Parts) (w : Core) : Type 0 where
+pub record Fits (seen : rig.DeviceImages) (leaves : Outcomes) (c : Parts) (w : Core) : Type 0 where
   pub good : Good seen leaves Pending.Idle c w.scene.state
   pub idle : c.due ≡ None
   pub rolling : (t : TxnId) → (w.scene.state.part t).life ≡ Life.Rolling None → IsOpen t (all_at (log_at c (home t)))
@@ -91,18 +91,18 @@ pub record Fits (seen : rig.Image) (leaves : Outcomes) (c : Parts) (w : Core) : 
 
 -- Whatever a crash leaves of a complex that fits stands for the world's state.
 abbrev pub FitsStands : Outcomes → Type 0
-FitsStands leaves = (seen img : rig.Image) (c : Parts) (w : Core) → Fits seen leaves c w → rig.Leaves leaves img
+FitsStands leaves = (seen img : rig.DeviceImages) (c : Parts) (w : Core) → Fits seen leaves c w → rig.Leaves leaves img
     → Stands w.scene.state Pending.Idle img
 
 -- the world in which nothing has happened
 abbrev pub fresh_core : ℕ → Core
 fresh_core frames = record {
   scene = record { state = fresh; waits = λ t. None };
-  pages = record { frames = frames; entry = λ p. Entry.Free; asks = λ p. []; number = λ p. 0; begun = λ i. false };
+  pages = record { frames = frames; entry = λ p. PageEntry.Free; asks = λ p. []; number = λ p. 0; begun = λ i. false };
   bounds = record { slots = λ p. []; reach = λ i. 0; lsns = 0; masters = λ i. 0 };
 }
 
 -- A fresh complex fits it.
 abbrev pub FreshFits : Outcomes → Type 0
-FreshFits leaves = (seen : rig.Image) (frames : ℕ) (c : Parts) → AreBlank seen leaves → IsFresh frames c
+FreshFits leaves = (seen : rig.DeviceImages) (frames : ℕ) (c : Parts) → AreBlank seen leaves → IsFresh frames c
     → Fits seen leaves c (fresh_core frames)

@@ -9,7 +9,7 @@ use Rattle.sd_rig.specs.Devices as rig
 use Rattle.sd_rig.specs.Devices.{LeavesOnly}
 use Rattle.sd_chain.specs.Bytes.{disk_page, log_of, stable}
 use Rattle.sd_chain.specs.Checks.{gate_of, owed_by_all, reserve}
-use Rattle.sd_chain.specs.Image.{Image, newest}
+use Rattle.sd_chain.specs.Storage.{Storage, newest}
 use Rattle.sd_chain.specs.Losers.{losers_in, table_in}
 use Rattle.sd_sound.specs.Logs.{Outcomes}
 use Rattle.sd_world.specs.Bounds.{Bounds}
@@ -26,13 +26,13 @@ abbrev pub NoneMore : Outcomes → Outcomes → Type 0
 NoneMore leaves leaves' = (d : ℕ) → d ≤ 8 → (bytes : List ℕ) → leaves' d bytes → leaves d bytes
 
 -- A complex that was opened from these devices, which a crash leaves as they read.
-pub record IsOpenedOn (frames : ℕ) (devices : rig.Image) (leaves : Outcomes) (c : Parts) : Type 0 where
+pub record IsOpenedOn (frames : ℕ) (devices : rig.DeviceImages) (leaves : Outcomes) (c : Parts) : Type 0 where
   pub only : (d : ℕ) → d ≤ 8 → LeavesOnly (devices d) (leaves d)
   pub size : length (devices 0) ≡ rig.device_len 0
   pub opened : AreOpened frames devices c
 
 -- no page is in a pool, and those are lost whose newest version the disk lacks
-abbrev pub opened_pages : ℕ → Image → Pages
+abbrev pub opened_pages : ℕ → Storage → Pages
 opened_pages frames img = record {
   frames = frames;
   entry = λ p. place_of (is_lost_in img p);
@@ -42,7 +42,7 @@ opened_pages frames img = record {
 }
 
 -- the world of a complex that is opened from these devices, with this state and these sums
-abbrev pub opened_core : ℕ → rig.Image → State → Bounds → Core
+abbrev pub opened_core : ℕ → rig.DeviceImages → State → Bounds → Core
 opened_core frames devices m sums = record {
   scene = record { state = m; waits = λ t. None };
   pages = opened_pages frames (stable devices);
@@ -61,7 +61,7 @@ top_page disk zero = 0
 top_page disk (suc n) = max (disk n).lsn (top_page disk n)
 
 -- what the devices have of slots, bytes, LSNs and counts
-abbrev pub sums_of : rig.Image → Bounds
+abbrev pub sums_of : rig.DeviceImages → Bounds
 sums_of devices = record {
   slots = λ p. capacities (newest (stable devices) p);
   reach = λ i. gate_of (kept (devices i)) + reserve (log_of devices i);
@@ -71,7 +71,7 @@ sums_of devices = record {
 
 -- The state of the serial table that the devices tell: the table is what recovery gives, and whom they leave open stays, with an
 -- exclusive claim on each record that it has open.
-abbrev pub opening_state : rig.Image → State
+abbrev pub opening_state : rig.DeviceImages → State
 opening_state devices = let img = stable devices in record {
   start = λ r. table_in img r.page r.slot;
   done = [];
@@ -82,10 +82,10 @@ opening_state devices = let img = stable devices in record {
 }
 
 -- the world of which they tell
-abbrev pub opening_core : ℕ → rig.Image → Core
+abbrev pub opening_core : ℕ → rig.DeviceImages → Core
 opening_core frames devices = opened_core frames devices (opening_state devices) (sums_of devices)
 
 -- A complex that was opened from sound devices fits it.
 abbrev pub OpenedFits : Outcomes → Type 0
-OpenedFits leaves = (frames : ℕ) (devices : rig.Image) (c : Parts) → IsOpenedOn frames devices leaves c
+OpenedFits leaves = (frames : ℕ) (devices : rig.DeviceImages) (c : Parts) → IsOpenedOn frames devices leaves c
     → Fits devices leaves c (opening_core frames devices)

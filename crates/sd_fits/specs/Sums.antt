@@ -4,7 +4,7 @@ use Rattle.sd_logrec.specs.Kept.{kept, master}
 use Rattle.sd_rig.specs.Devices as rig
 use Rattle.sd_chain.specs.Bytes.{disk_page, log_of, stable}
 use Rattle.sd_chain.specs.Checks.{gate_of, owed_by_all, reserve}
-use Rattle.sd_chain.specs.Image.{newest}
+use Rattle.sd_chain.specs.Storage.{newest}
 use Rattle.sd_chain.specs.Records.{Each}
 use Rattle.sd_sound.specs.Logs.{Outcomes}
 use Rattle.sd_world.specs.Bounds.{Bounds}
@@ -13,14 +13,14 @@ use Rattle.sd_state.specs.Parts.{Parts}
 use Rattle.sd_fits.specs.Fits.{AreWithin, Fits, capacities}
 
 -- no LSN of these devices, with the records that are owed, is above n
-pub record HaveLsnsTo (n : ℕ) (devices : rig.Image) : Type 0 where
+pub record HaveLsnsTo (n : ℕ) (devices : rig.DeviceImages) : Type 0 where
   pub owed : owed_by_all devices ≤ n
   pub logs : (j : ℕ) → Each (λ x. x.lsn + owed_by_all devices ≤ n) (log_of devices j)
   pub pages : (p : ℕ) → p < 1024 → (disk_page (devices 0) p).lsn + owed_by_all devices ≤ n
 
 -- The slots of each page's newest version, each log with what it reserves, all LSNs, and the counts of masters are within the
 -- sums.
-pub record IsWithinSums (devices : rig.Image) (b : Bounds) : Type 0 where
+pub record IsWithinSums (devices : rig.DeviceImages) (b : Bounds) : Type 0 where
   pub slots : (p : ℕ) → AreWithin (capacities (newest (stable devices) p)) (b.slots p)
   pub reach : (i : ℕ) → 1 ≤ i → i ≤ 8 → gate_of (kept (devices i)) + reserve (log_of devices i) ≤ b.reach i
   pub lsns : HaveLsnsTo b.lsns devices
@@ -28,5 +28,5 @@ pub record IsWithinSums (devices : rig.Image) (b : Bounds) : Type 0 where
 
 -- Whatever a crash leaves of a complex that fits is within the world's sums.
 abbrev pub LeftIsWithinSums : Outcomes → Type 0
-LeftIsWithinSums leaves = (seen img : rig.Image) (c : Parts) (w : Core) → Fits seen leaves c w → rig.Leaves leaves img
+LeftIsWithinSums leaves = (seen img : rig.DeviceImages) (c : Parts) (w : Core) → Fits seen leaves c w → rig.Leaves leaves img
     → IsWithinSums img w.bounds

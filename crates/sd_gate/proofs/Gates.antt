@@ -3,7 +3,7 @@ use Rattle.std.proofs.Common.{◌≡◌, ◌≢◌, ◌⊎◌, inl, inr, ℕ, �
 use Rattle.std.specs.Prelude.{◌==◌, Result, Ok, Err, OnOk}
 use Rattle.std.proofs.lemmas.List.{get_or-drop, get_or-take}
 use Rattle.sd_base.specs.Twin.{body_at, is_open}
-use Rattle.sd_rig.specs.Devices.{AgreesOutside, Image, Leaves, LeavesOnly, LeavesSame, overwritten}
+use Rattle.sd_rig.specs.Devices.{AgreesOutside, DeviceImages, Leaves, LeavesOnly, LeavesSame, overwritten}
 use Rattle.sd_rig.specs.Ranges.{outside_behind, outside_place, outside_same, outside_then, outside_wider, written_part}
 use Rattle.sd_gate.specs.Gates.{Closes, Fills, LeavesOthers, Writes}
 
@@ -26,11 +26,11 @@ pub written_body : (gate : ℕ) (body old new : List ℕ) → gate + 1 + length 
 written_body gate body old new h made = ap (body_at (length body) gate) made ∙ written_part (gate + 1) body old h
 
 -- what is left of the others after one more call was left of them before
-pub others_from : (dev : ℕ) (leaves leaves' : ℕ → List ℕ → Type 0) (img : Image) → ((d : ℕ) → d ≢ dev → LeavesSame (leaves d) (leaves' d)) → LeavesOthers dev leaves' img → LeavesOthers dev leaves img
+pub others_from : (dev : ℕ) (leaves leaves' : ℕ → List ℕ → Type 0) (img : DeviceImages) → ((d : ℕ) → d ≢ dev → LeavesSame (leaves d) (leaves' d)) → LeavesOthers dev leaves' img → LeavesOthers dev leaves img
 others_from dev leaves leaves' img same others d h ne = (same d ne (img d)).0 (others d h ne)
 
 -- with no call a crash leaves what is read
-pub closes_none : (dev gate : ℕ) (seen : Image) (leaves : ℕ → List ℕ → Type 0) (img : Image) → dev ≤ 8 → LeavesOnly (seen dev) (leaves dev) → Leaves leaves img → Closes dev gate seen leaves img
+pub closes_none : (dev gate : ℕ) (seen : DeviceImages) (leaves : ℕ → List ℕ → Type 0) (img : DeviceImages) → dev ≤ 8 → LeavesOnly (seen dev) (leaves dev) → Leaves leaves img → Closes dev gate seen leaves img
 closes_none dev gate seen leaves img le only left =
     let here : img dev ≡ seen dev = (only (img dev)).0 (left dev le) in
     record {
@@ -44,7 +44,7 @@ outside_slot gate n a b c f g =
     outside_then gate (n + 1) a b c (outside_wider gate (n + 1) (gate + 1) n a b f (omega arith) (omega arith)) (outside_wider gate (n + 1) gate 1 b c g (omega arith) (omega arith))
 
 -- while the body is written the gate is closed
-pub fills_while_written : (dev gate : ℕ) (body : List ℕ) (seen : Image) (leaves : ℕ → List ℕ → Type 0) (img : Image) → is_open gate (seen dev) ≡ false → Writes dev (gate + 1) (length body) seen leaves img → Fills dev gate (length body) body seen leaves img
+pub fills_while_written : (dev gate : ℕ) (body : List ℕ) (seen : DeviceImages) (leaves : ℕ → List ℕ → Type 0) (img : DeviceImages) → is_open gate (seen dev) ≡ false → Writes dev (gate + 1) (length body) seen leaves img → Fills dev gate (length body) body seen leaves img
 fills_while_written dev gate body seen leaves img closed w = record {
   others = w.others;
   outside = outside_wider gate (length body + 1) (gate + 1) (length body) (seen dev) (img dev) w.outside (omega arith) (omega arith);
@@ -52,7 +52,7 @@ fills_while_written dev gate body seen leaves img closed w = record {
 }
 
 -- while the gate is written the body is whole
-pub fills_while_opened : (dev gate : ℕ) (body : List ℕ) (seen seen' : Image) (leaves leaves' : ℕ → List ℕ → Type 0) (img : Image) → AgreesOutside (gate + 1) (length body) (seen dev) (seen' dev) → body_at (length body) gate (seen' dev) ≡ body → ((d : ℕ) → d ≢ dev → LeavesSame (leaves d) (leaves' d)) → Writes dev gate 1 seen' leaves' img → Fills dev gate (length body) body seen leaves img
+pub fills_while_opened : (dev gate : ℕ) (body : List ℕ) (seen seen' : DeviceImages) (leaves leaves' : ℕ → List ℕ → Type 0) (img : DeviceImages) → AgreesOutside (gate + 1) (length body) (seen dev) (seen' dev) → body_at (length body) gate (seen' dev) ≡ body → ((d : ℕ) → d ≢ dev → LeavesSame (leaves d) (leaves' d)) → Writes dev gate 1 seen' leaves' img → Fills dev gate (length body) body seen leaves img
 fills_while_opened dev gate body seen seen' leaves leaves' img first whole same w = record {
   others = others_from dev leaves leaves' img same w.others;
   outside = outside_slot gate (length body) (seen dev) (seen' dev) (img dev) first w.outside;

@@ -2,9 +2,9 @@
 use Rattle.std.proofs.Common.{◌≡◌, ℕ, ◌+◌, ◌≤◌, Option, None, Some, refl, sym, ap, ◌∙◌, subst, arith}
 use Rattle.sd_base.specs.declared.place.Status.TheVariants as S
 use Rattle.sd_base.specs.declared.trouble.Pick.{Pick}
-use Rattle.sd_rig.specs.Devices.{Image, Leaves}
+use Rattle.sd_rig.specs.Devices.{DeviceImages, Leaves}
 use Rattle.sd_model.specs.Listed.{Listed}
-use Rattle.sd_model.specs.Placed.{Stands}
+use Rattle.sd_model.specs.Lives.{SuitsStatus}
 use Rattle.sd_model.specs.declared.act.Life.{Life}
 use Rattle.sd_model.specs.declared.event.Event.{Event}
 use Rattle.sd_model.specs.declared.event.Event.TheVariants as event
@@ -27,9 +27,9 @@ use Rattle.sd_hall.proofs.Paid.{HasFallen, turns-paid}
 -- nothing is owed on a closed complex
 pub closed-owes : (leaves : Outcomes) (w : Core) → FitsClosed leaves w → (e : Event) → IsOwed w e → ⊥
 closed-owes leaves w f (event.Commit t) owed =
-    subst (λ (life : Life). Stands life S.Closed) owed (subst (Stands (w.scene.state.part t).life) (f.closed t.inst) (f.placed.stands t))
+    subst (λ (life : Life). SuitsStatus life S.Closed) owed (subst (SuitsStatus (w.scene.state.part t).life) (f.closed t.inst) (f.placed.stands t))
 closed-owes leaves w f (event.Undo t) owed =
-    subst (λ (life : Life). Stands life S.Closed) owed.1 (subst (Stands (w.scene.state.part t).life) (f.closed t.inst) (f.placed.stands t))
+    subst (λ (life : Life). SuitsStatus life S.Closed) owed.1 (subst (SuitsStatus (w.scene.state.part t).life) (f.closed t.inst) (f.placed.stands t))
 closed-owes leaves w f (event.Fail i) owed = let clash = sym (f.closed i) ∙ owed.2 in absurd (cc)
 closed-owes leaves w f e owed = owed
 
@@ -64,7 +64,7 @@ module _ {G : Type 0} (tell : Telling G) where
 
   -- nothing was done
   pub spared-in : (e : Event) (old new : Option (Body G)) (w : Core) → fits_in tell.seen tell.leaves old w → old ≡ new
-      → ((d : G) (img : Image) → tell.since d (tell.moment d) img → Leaves (tell.leaves d) img) → ServesIn tell e None old new
+      → ((d : G) (img : DeviceImages) → tell.since d (tell.moment d) img → Leaves (tell.leaves d) img) → ServesIn tell e None old new
   spared-in e old new w f same now = subst (ServesIn tell e None old) same (idle old f)
     where
       idle : (body : Option (Body G)) → fits_in tell.seen tell.leaves body w → ServesIn tell e None body body

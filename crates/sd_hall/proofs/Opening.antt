@@ -10,7 +10,7 @@ use Rattle.sd_base.specs.declared.refusal.Refusal.TheVariants as R
 use Rattle.sd_model.specs.Reopening.{loser}
 use Rattle.sd_model.specs.State.{Part, gone}
 use Rattle.sd_model.specs.declared.event.Event.TheVariants.{Reopen}
-use Rattle.sd_rig.specs.Devices.{Image, Leaves, LeavesOnly, device_len}
+use Rattle.sd_rig.specs.Devices.{DeviceImages, Leaves, LeavesOnly, device_len}
 use Rattle.sd_chain.specs.Bytes.{stable}
 use Rattle.sd_chain.specs.Checks.{DevicesAreSound}
 use Rattle.sd_world.specs.Serving.{Core, Telling, refused}
@@ -38,7 +38,7 @@ down-or-clean true = refl
 down-or-clean false = refl
 
 -- whom devices leave open is not up, and owes nothing
-pub opening-owes : (devices : Image) → entries_owed (opening_state devices) ≡ 0
+pub opening-owes : (devices : DeviceImages) → entries_owed (opening_state devices) ≡ 0
 opening-owes devices =
     let img = stable devices in
     rests-none (opening_state devices) (λ t. left-part (is_loser img t) (has_open img t)) (λ i. down-or-clean (is_down_in img i))
@@ -62,14 +62,14 @@ module _ {G : Type 0} (tell : Telling G) (old new : G) (calm : CalmsFrom tell ol
   pub opened-on : (frames : ℕ) (c : Parts) → length (tell.seen old 0) ≡ device_len 0
       → ((d : ℕ) → d ≤ 8 → LeavesOnly (tell.seen old d) (tell.leaves new d)) → AreOpened frames (tell.seen old) c
       → IsOpenedOn frames (tell.seen new) (tell.leaves new) c
-  opened-on frames c size only opened = subst (λ (devices : Image). IsOpenedOn frames devices (tell.leaves new) c) same-reads
+  opened-on frames c size only opened = subst (λ (devices : DeviceImages). IsOpenedOn frames devices (tell.leaves new) c) same-reads
       (record { only = only; size = size; opened = opened })
 
   -- what is opened fits the world that the devices told
   pub opening-fits : (frames : ℕ) (c : Parts) → IsOpenedOn frames (tell.seen new) (tell.leaves new) c
       → Fits (tell.seen new) (tell.leaves new) c (opening_core frames (tell.seen old))
   opening-fits frames c on =
-      subst (λ (devices : Image). Fits (tell.seen new) (tell.leaves new) c (opening_core frames devices)) (sym same-reads)
+      subst (λ (devices : DeviceImages). Fits (tell.seen new) (tell.leaves new) c (opening_core frames devices)) (sym same-reads)
       (opened-world (tell.leaves new) frames (tell.seen new) c on)
 
   -- why a closed complex stays closed: a device failed, or there was no memory

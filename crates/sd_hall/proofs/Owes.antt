@@ -26,7 +26,7 @@ use Rattle.sd_model.specs.Fields.{rid_of, txn_of}
 use Rattle.sd_model.specs.Applies.{Clear}
 use Rattle.sd_model.specs.Listed.{IsAmong, Listed, NoneTwice}
 use Rattle.sd_model.specs.Refusing.{Refuses, counted, found}
-use Rattle.sd_model.specs.State.{Part, State, closed, committed, cut_commit, fall, freed, gone, joined, lost, lost_part, put_inst, put_part, read_at, started, took, took_part, turned, view, with_life, with_status, wrote}
+use Rattle.sd_model.specs.State.{Part, State, begun_part, closed, committed, cut_commit, fall, freed, gone, joined, lost, lost_part, put_inst, put_part, read_at, took, took_part, turned, view, with_life, with_status, wrote}
 use Rattle.sd_model.specs.Tables.{Content}
 use Rattle.sd_model.specs.Step.{Row, Step}
 use Rattle.sd_model.proofs.Acts.{live_from-append}
@@ -357,7 +357,7 @@ begun-owed m i x m' l s =
     let one : sum_by (λ t. entries_of_part (m.part t)) (x ∷ []) ≡ entries_of_part (m.part x) + 0 =
     sum_by-cons (λ t. entries_of_part (m.part t)) x [] in
     let stands = inst-owed base i (record (m.inst i) { begins = (m.inst i).begins + 1 }) 0 (omega arith) in
-    let put = put-owed with_inst x started 1 (once-more m.begun x l.once new.0) (omega arith) in
+    let put = put-owed with_inst x begun_part 1 (once-more m.begun x l.once new.0) (omega arith) in
     subst (λ (y : State). entries_owed y ≤ entries_owed m + 1) (sym s.1.1) (omega (arith, none, more, one, stands, put))
 
 -- whatever equals a state that owes so much

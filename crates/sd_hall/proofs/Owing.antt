@@ -11,7 +11,7 @@ use Rattle.sd_model.specs.declared.act.Life.{Life}
 use Rattle.sd_model.specs.declared.event.Event.{Event}
 use Rattle.sd_model.specs.declared.event.Event.TheVariants as event
 use Rattle.sd_pagelock.specs.Directory.{entry_at}
-use Rattle.sd_pagelock.specs.Places.{Entry, owns}
+use Rattle.sd_pagelock.specs.Places.{PageEntry, owns}
 use Rattle.sd_chain.specs.Fates.{Fate}
 use Rattle.sd_world.specs.PageCauses.{undo_page}
 use Rattle.sd_world.specs.Serving.{Core, Telling}
@@ -83,13 +83,13 @@ module _ {G : Type 0} (tell : Telling G) (c : Complex G) (w : Core) (f : fits_by
         let same = row.many in
         let last = last-there row.x (omega (arith, same, above)) in
         let down = deep in
-        ap (λ (e : Entry). owns e t.inst) (page-is last.0 last.1)
+        ap (λ (e : PageEntry). owns e t.inst) (page-is last.0 last.1)
         ∙ next (omega (arith, down, above)) last.0 (last-is ∙ last.1)
 
     next-so : (goal to < length (live (m.part t).acts) → owns (w.pages.entry (undo_page m t)) t.inst ≡ true) → OwnsNext t to
     next-so owned above o last =
         let down = deep in
-        ap (λ (e : Entry). owns e t.inst) (sym (page-is o (sym last-is ∙ last))) ∙ owned (omega (arith, down, above))
+        ap (λ (e : PageEntry). owns e t.inst) (sym (page-is o (sym last-is ∙ last))) ∙ owned (omega (arith, down, above))
 
   pub undo-owed : (t : TxnId) → 1 ≤ t.inst → t.inst ≤ 8
       → IsTrue b ↔ ((to : Option ℕ) × (state_at (txns_at (parts c) t.inst) t ≡ Some (TxnState.Rolling to)) × OwnsNext t to)

@@ -14,7 +14,7 @@ use Rattle.sd_model.specs.Acts.{live}
 use Rattle.sd_model.specs.Applies.{First, HasPage}
 use Rattle.sd_model.specs.Changes.{goal, undid, undid_part}
 use Rattle.sd_model.specs.Listed.{IsAmong, Listed, NoneTwice}
-use Rattle.sd_model.specs.Placed.{MayRun, Placed, Stands}
+use Rattle.sd_model.specs.Lives.{LivesAreSound, MayRun, SuitsStatus}
 use Rattle.sd_model.specs.Refusing.{Names, Refuses}
 use Rattle.sd_model.specs.State.{Part, State, committed, cut_commit, fall, freed, gone, put_part, turned, with_life}
 use Rattle.sd_model.specs.Step.{Row, Step}
@@ -25,13 +25,14 @@ use Rattle.sd_model.specs.declared.event.Event.{Event}
 use Rattle.sd_model.specs.declared.event.Event.TheVariants.{Commit, Fail, Undo}
 use Rattle.sd_model.specs.declared.event.Reply.{Reply}
 use Rattle.sd_model.specs.declared.event.Reply.TheVariants as reply
-use Rattle.sd_pagelock.specs.Places.{Entry, is_lost, owns}
-use Rattle.sd_world.specs.Answers.{Fails, Leaves, Moves}
+use Rattle.sd_pagelock.specs.Places.{owns}
+use Rattle.sd_world.specs.Answers.{Fails, Moves, RefusalLeaves}
 use Rattle.sd_world.specs.PageCauses.{PagesAgree, undo_page}
 use Rattle.sd_world.specs.Pages.{Pages}
 use Rattle.sd_world.specs.Serving.{Core, Turns}
 use Rattle.sd_state.specs.Sums.{sum_to}
 use Rattle.sd_moves.proofs.FallBounds.{sum-less}
+use Rattle.sd_rollback.proofs.Undone.{owned-lost}
 use Rattle.sd_hall.specs.Ledger.{IsOwed, entries_of, entries_of_inst, entries_of_part, entries_owed, owed_more}
 use Rattle.sd_hall.proofs.Owes.{fall-owed, fallen-owed, lost-owed, of_insts, of_txns, rolls-owes, sums-less, undid-owes}
 
@@ -135,14 +136,6 @@ may-run S.Restarting may = absurd may
 may-run S.Closed may = absurd may
 may-run (S.Recovering by) may = absurd may
 
--- who owns a page finds it not lost
-owned-there : (e : Entry) (i : ℕ) → owns e i ≡ true → is_lost e ≡ true → ⊥
-owned-there Entry.Free i owned lost = absurd (cc)
-owned-there (Entry.Shared set writer) i owned lost = absurd (cc)
-owned-there (Entry.Excl holder dirty) i owned lost = absurd (cc)
-owned-there (Entry.Moving to mode rest dirty) i owned lost = absurd (cc)
-owned-there Entry.Lost i owned lost = absurd (cc)
-
 rig-failed : (n : Refusal) → Names Cause.Rig n → n ≡ R.Failed
 rig-failed R.Failed h = refl
 rig-failed n h = absurd (cc)
@@ -155,7 +148,7 @@ HasFallen e r m' = (t : TxnId) → e ≡ Undo t → r ≡ reply.Refused R.Failed
 equal-paid : (m x m' : State) → m' ≡ x → entries_owed x + 1 ≤ entries_owed m → entries_owed m' + 1 ≤ entries_owed m
 equal-paid m x m' is less = subst (λ (y : State). entries_owed y + 1 ≤ entries_owed m) (sym is) less
 
-module _ (m : State) (l : Listed m) (placed : Placed m) (opened : (m.inst 1).status ≢ S.Closed) where
+module _ (m : State) (l : Listed m) (placed : LivesAreSound m) (opened : (m.inst 1).status ≢ S.Closed) where
   -- a commit of one that runs is refused only where its force fails
   commit-refused : (t : TxnId) (c : Cause) (m' : State) → (m.part t).life ≡ Life.Running → First m (Commit t) c
       → Refuses m (Commit t) c m'
@@ -165,7 +158,7 @@ module _ (m : State) (l : Listed m) (placed : Placed m) (opened : (m.inst 1).sta
   commit-refused t Cause.NoTxn m' runs f h = let clash : Life.Running ≡ Life.Gone = sym runs ∙ f.2 in absurd (cc)
   commit-refused t Cause.Down m' runs f h =
       absurd (f.2 (may-run (m.inst t.inst).status
-      (subst (λ (life : Life). Stands life (m.inst t.inst).status) runs (placed.stands t))))
+      (subst (λ (life : Life). SuitsStatus life (m.inst t.inst).status) runs (placed.stands t))))
   commit-refused t Cause.Busy m' runs f h = let clash : Life.Running ≡ Life.Rolling f.2.0 = sym runs ∙ f.2.1 in absurd (cc)
   commit-refused t c m' runs f h = let clash = f.0 in absurd (cc)
 
@@ -181,7 +174,7 @@ module _ (m : State) (l : Listed m) (placed : Placed m) (opened : (m.inst 1).sta
     owes = rolls-owes m t l.once to rolls
 
     up : (m.inst t.inst).status ≡ S.Up
-    up = may-run (m.inst t.inst).status (subst (λ (life : Life). Stands life (m.inst t.inst).status) rolls (placed.stands t))
+    up = may-run (m.inst t.inst).status (subst (λ (life : Life). SuitsStatus life (m.inst t.inst).status) rolls (placed.stands t))
 
     turn-paid : (p : Part) → entries_of_part p + 1 ≤ entries_of_part (m.part t) → entries_owed (put_part t p m) + 1 ≤ entries_owed m
     turn-paid p less = put-paid m t p 1 l.once (rolls-there m t l to rolls) less
@@ -217,17 +210,17 @@ module _ (m : State) (l : Listed m) (placed : Placed m) (opened : (m.inst 1).sta
           same-goal x y e = cc
 
       -- so it is refused only where a device fails
-      undo-refused : (c : Cause) → Names c n → First m (Undo t) c → PagesAgree m w (Undo t) c → Leaves m w (Undo t) n m' w'
+      undo-refused : (c : Cause) → Names c n → First m (Undo t) c → PagesAgree m w (Undo t) c → RefusalLeaves m w (Undo t) n m' w'
           → entries_owed m' + 1 ≤ entries_owed m
       undo-refused Cause.Rig names f agree leaves =
           let failed = rig-failed n names in
           undo-fails w w' m' (fell t refl (ap reply.Refused failed))
-          (subst (λ (x : Refusal). Leaves m w (Undo t) x m' w') failed leaves)
+          (subst (λ (x : Refusal). RefusalLeaves m w (Undo t) x m' w') failed leaves)
       undo-refused Cause.Shut names f agree leaves = absurd (opened f.2)
       undo-refused Cause.NoTxn names f agree leaves = let clash : Life.Rolling to ≡ Life.Gone = sym rolls ∙ f.2 in absurd (cc)
       undo-refused Cause.Down names f agree leaves = absurd (f.2 up)
       undo-refused Cause.Lost names f agree leaves =
-          let says = agree refl in absurd (owned-there (w.entry (undo_page m t)) t.inst (owned says.0) says.1)
+          let says = agree refl in absurd (owned-lost (w.entry (undo_page m t)) t.inst (owned says.0) says.1)
       undo-refused Cause.Away names f agree leaves =
           let says = agree refl in let clash : true ≡ false = sym (owned says.0) ∙ says.1 in absurd (cc)
       undo-refused c names f agree leaves = let clash = f.0 in absurd (cc)
@@ -239,7 +232,7 @@ owed-none w (Undo t) r owed = refl
 owed-none w (Fail i) r owed = refl
 owed-none w e r owed = absurd owed
 
-module _ (w w' : Core) (l : Listed w.scene.state) (placed : Placed w.scene.state) (opened : (w.scene.state.inst 1).status ≢ S.Closed) where
+module _ (w w' : Core) (l : Listed w.scene.state) (placed : LivesAreSound w.scene.state) (opened : (w.scene.state.inst 1).status ≢ S.Closed) where
   abbrev m : State
   m = w.scene.state
 

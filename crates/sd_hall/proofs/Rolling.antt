@@ -4,7 +4,7 @@ use Rattle.std.specs.Prelude.{Option, None, Some, option_map}
 use Rattle.sd_base.specs.declared.ids.TxnId.{TxnId}
 use Rattle.sd_base.specs.declared.place.Status.TheVariants as S
 use Rattle.sd_model.specs.Acts.{live}
-use Rattle.sd_model.specs.Placed.{Stands}
+use Rattle.sd_model.specs.Lives.{SuitsStatus}
 use Rattle.sd_model.specs.State.{State}
 use Rattle.sd_model.specs.declared.act.Life.{Life}
 use Rattle.sd_chain.specs.Fates.{Fate}
@@ -61,7 +61,7 @@ module _ {G : Type 0} (tell : Telling G) (c : Complex G) (w : Core) (f : fits_by
 
   up-there : (to : Option ℕ) → (m.part t).life ≡ Life.Rolling to → status_at (parts c) t.inst ≡ S.Up
   up-there to rolls = (f.good.instances t.inst low high).status ∙ may-run (m.inst t.inst).status
-      (subst (λ (life : Life). Stands life (m.inst t.inst).status) rolls (f.good.placed.stands t))
+      (subst (λ (life : Life). SuitsStatus life (m.inst t.inst).status) rolls (f.good.placed.stands t))
 
   -- one that rolls back has a row
   pub has-row : (to : Option ℕ) → (m.part t).life ≡ Life.Rolling to → HasRow t (parts c) m

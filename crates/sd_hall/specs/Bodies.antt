@@ -7,7 +7,7 @@ use Rattle.sd_model.specs.declared.event.Event.{Event}
 use Rattle.sd_model.specs.declared.event.Event.TheVariants.{RecoverStep, Undo}
 use Rattle.sd_model.specs.declared.event.Reply.{Reply}
 use Rattle.sd_model.specs.declared.event.Reply.TheVariants.{Refused, Step}
-use Rattle.sd_rig.specs.Devices.{Image}
+use Rattle.sd_rig.specs.Devices.{DeviceImages}
 use Rattle.sd_state.specs.Complexes.{parts}
 use Rattle.sd_state.specs.declared.complex.Complex.{Complex}
 use Rattle.sd_world.specs.Serving.{Core, Telling}
@@ -17,7 +17,7 @@ use Rattle.sd_survive.specs.Recovering.{AwaitsPage, HasCleared, HasOneLess}
 use Rattle.sd_hall.specs.Served.{IsDownThen}
 
 -- it fits the world, open or closed
-abbrev pub fits_in : {G : Type 0} → (G → Image) → (G → ℕ → List ℕ → Type 0) → Option (Body G) → Core → Type 0
+abbrev pub fits_in : {G : Type 0} → (G → DeviceImages) → (G → ℕ → List ℕ → Type 0) → Option (Body G) → Core → Type 0
 fits_in seen leaves None w = ⊥
 fits_in seen leaves (Some body) w = fits_body seen leaves body w
 

@@ -3,7 +3,7 @@
 ghost use Rattle.std.specs.Prelude.{◌≡◌, ℕ, true, None, Some, cond};
 ghost use Rattle.sd_coherent.specs.Newest.{IsAlone};
 ghost use Rattle.sd_page.specs.Page.{Page};
-ghost use Rattle.sd_pagelock.specs.Directory.{entry_at, image_at as moving_at};
+ghost use Rattle.sd_pagelock.specs.Directory.{entry_at, moving_image_at};
 ghost use Rattle.sd_pagelock.specs.Places.{holds, owns, passes};
 ghost use Rattle.sd_pool.specs.Buffers.{image_at};
 ghost use Rattle.sd_state.specs.Complexes.{parts};
@@ -34,6 +34,6 @@ pub fn page_locks<G: Rig>(hall: &Hall<G>)
         → (holds (entry_at (parts c).directory p) i ≡ true)
         × (x ≡ newest_of (G.seen c.rig) (G.leaves c.rig) (parts c) p) }
     ensures moving { (c : Complex G) → open_in hall.now.body ≡ Some c → (p : ℕ)
-        → moving_at (parts c).directory p ≡ cond (passes (entry_at (parts c).directory p))
+        → moving_image_at (parts c).directory p ≡ cond (passes (entry_at (parts c).directory p))
         (Some (newest_of (G.seen c.rig) (G.leaves c.rig) (parts c) p)) None }
 {}

@@ -6,7 +6,7 @@ ghost use Rattle.sd_model.specs.declared.event.Reply.{Reply};
 ghost use Rattle.sd_model.specs.declared.event.Reply.TheVariants as reply;
 ghost use Rattle.sd_state.specs.Complexes.{parts};
 ghost use Rattle.sd_state.specs.Parts.{status_at, IsShape};
-ghost use Rattle.sd_world.specs.Serving.{Core, answered, began, did, found, gave, had_or_asked, joined, listed, placed_at, refused};
+ghost use Rattle.sd_world.specs.Serving.{Core, answered, began_reply, did, found_reply, gave, had_or_asked, joined_reply, listed, placed_at, refused};
 ghost use Rattle.sd_world.specs.Serving.{step_or_finished, telling};
 ghost use Rattle.sd_fits.specs.Fits.{Fits};
 ghost use Rattle.sd_fits.specs.Serving.{Serving};
@@ -87,7 +87,7 @@ pub(crate) fn serve<G: Rig>(c: &mut Complex<G>, e: &Event, answer: &mut Reply) -
 // The reply to a begin.
 fn as_began(done: Result<TxnId, Refusal>, answer: &mut Reply) -> Result<(), Memory>
     requires { answer.old ≡ reply.Did }
-    ensures { told_in result answer.new ≡ began done }
+    ensures { told_in result answer.new ≡ began_reply done }
 {
     match done {
         Ok(t) => put(answer, Reply::Began(t)),
@@ -98,7 +98,7 @@ fn as_began(done: Result<TxnId, Refusal>, answer: &mut Reply) -> Result<(), Memo
 // The reply to a read.
 fn as_found(done: Result<Option<Bytes>, Refusal>, answer: &mut Reply) -> Result<(), Memory>
     requires { answer.old ≡ reply.Did }
-    ensures { told_in result answer.new ≡ found done }
+    ensures { told_in result answer.new ≡ found_reply done }
 {
     match done {
         Ok(value) => put(answer, Reply::Value(value)),
@@ -163,7 +163,7 @@ fn as_gave(done: Result<InstNo, Refusal>, answer: &mut Reply) -> Result<(), Memo
 // The reply to a join.
 fn as_joined(done: Result<u32, Refusal>, answer: &mut Reply) -> Result<(), Memory>
     requires { answer.old ≡ reply.Did }
-    ensures { told_in result answer.new ≡ joined done }
+    ensures { told_in result answer.new ≡ joined_reply done }
 {
     match done {
         Ok(epoch) => put(answer, Reply::Joined { epoch }),

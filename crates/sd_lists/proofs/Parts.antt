@@ -8,13 +8,13 @@ use Rattle.sd_model.specs.declared.act.Claim.TheVariants.{Free}
 use Rattle.sd_model.specs.declared.act.Inst.{Inst}
 use Rattle.sd_lists.specs.declared.standing.Standing.{Standing}
 use Rattle.sd_base.specs.Ids.{same_txn, same_rid}
-use Rattle.sd_model.specs.Claims.{raised, with_claim}
+use Rattle.sd_model.specs.Claims.{raised_claim, with_claim}
 use Rattle.sd_model.specs.State.{Part, gone}
 use Rattle.sd_lists.specs.Lists.{claim_from, claims_in, part_of, part_from, part_in, unjoined, inst_from, inst_in}
 
-pub claim_from-snoc : (c : Claim) (xs : List (Rid × Claim)) (x : Rid × Claim) (q : Rid) → claim_from c (xs ++ x ∷ []) q ≡ cond (same_rid x.0 q) (raised x.1 (claim_from c xs q)) (claim_from c xs q)
+pub claim_from-snoc : (c : Claim) (xs : List (Rid × Claim)) (x : Rid × Claim) (q : Rid) → claim_from c (xs ++ x ∷ []) q ≡ cond (same_rid x.0 q) (raised_claim x.1 (claim_from c xs q)) (claim_from c xs q)
 claim_from-snoc c [] x q = refl
-claim_from-snoc c (y ∷ ys) x q = claim_from-snoc (cond (same_rid y.0 q) (raised y.1 c) c) ys x q
+claim_from-snoc c (y ∷ ys) x q = claim_from-snoc (cond (same_rid y.0 q) (raised_claim y.1 c) c) ys x q
 
 pub claims-more : (xs : List (Rid × Claim)) (r : Rid) (mode : Claim) → (λ q. claims_in (xs ++ (r, mode) ∷ []) q) ≡ with_claim r mode (claims_in xs)
 claims-more xs r mode = λ i q. claim_from-snoc Free xs (r, mode) q i

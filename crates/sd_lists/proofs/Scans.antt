@@ -7,13 +7,13 @@ use Rattle.sd_model.specs.declared.act.Act.TheVariants.{Read, Put, Undo}
 use Rattle.sd_model.specs.declared.act.Done.{Done}
 use Rattle.sd_base.specs.Ids.{same_rid}
 use Rattle.sd_model.specs.Tables.{Content, Contents}
-use Rattle.sd_model.specs.Acts.{Puts, undone, live_from, live, seen, after}
+use Rattle.sd_model.specs.Acts.{Puts, undone, live_from, live, seen_over, after}
 use Rattle.sd_model.proofs.Acts.{live_from-append}
 use Rattle.sd_model.proofs.Swap.{after-agree}
 
 -- what is seen depends on the first acts alone, less the puts that later undos took back
 abbrev pub Scanned : List Act → ℕ → ℕ → Rid → Type 0
-Scanned acts left undos r = (base : Contents) → seen base (live acts) r ≡ seen base (drop undos (live (take left acts))) r
+Scanned acts left undos r = (base : Contents) → seen_over base (live acts) r ≡ seen_over base (drop undos (live (take left acts))) r
 
 -- an act is the last one of the first acts
 pub record IsLast (acts : List Act) (n left : ℕ) (a b : Act) : Type 0 where
@@ -31,24 +31,24 @@ drop-undone u [] = drop-nil u ∙ sym (drop-nil (u + 1))
 drop-undone u (p ∷ puts) = ap (λ k. drop k (p ∷ puts)) (sym (add-one u))
 
 pub back-read : (acts : List Act) (n left undos : ℕ) (r q : Rid) (v : Content) (a : Act) → IsLast acts n left a (Read q v) → Scanned acts left undos r → Scanned acts n undos r
-back-read acts n left undos r q v a i h = λ base. h base ∙ ap (λ l. seen base (drop undos l) r) (live-back acts n left a (Read q v) i)
+back-read acts n left undos r q v a i h = λ base. h base ∙ ap (λ l. seen_over base (drop undos l) r) (live-back acts n left a (Read q v) i)
 
 pub back-undo : (acts : List Act) (n left undos : ℕ) (r : Rid) (a : Act) → IsLast acts n left a Undo → Scanned acts left undos r → Scanned acts n (undos + 1) r
-back-undo acts n left undos r a i h = λ base. h base ∙ (ap (λ l. seen base (drop undos l) r) (live-back acts n left a Undo i) ∙ ap (λ l. seen base l r) (drop-undone undos (live (take n acts))))
+back-undo acts n left undos r a i h = λ base. h base ∙ (ap (λ l. seen_over base (drop undos l) r) (live-back acts n left a Undo i) ∙ ap (λ l. seen_over base l r) (drop-undone undos (live (take n acts))))
 
 pub back-skip : (acts : List Act) (n left undos fewer : ℕ) (r q : Rid) (v : Content) (a : Act) → IsLast acts n left a (Put q v) → undos ≡ suc fewer → Scanned acts left undos r → Scanned acts n fewer r
-back-skip acts n left undos fewer r q v a i f h = λ base. h base ∙ (ap (λ l. seen base (drop undos l) r) (live-back acts n left a (Put q v) i) ∙ ap (λ k. seen base (drop k ((q, v) ∷ live (take n acts))) r) f)
+back-skip acts n left undos fewer r q v a i f h = λ base. h base ∙ (ap (λ l. seen_over base (drop undos l) r) (live-back acts n left a (Put q v) i) ∙ ap (λ k. seen_over base (drop k ((q, v) ∷ live (take n acts))) r) f)
 
 put-first : (acts : List Act) (n left undos : ℕ) (r q : Rid) (v : Content) (a : Act) (b : Bool) → IsLast acts n left a (Put q v) → undos ≡ 0 → same_rid q r ≡ b → Scanned acts left undos r
-    → (base : Contents) → seen base (live acts) r ≡ cond b v (seen base (live (take n acts)) r)
-put-first acts n left undos r q v a b i z same h base = h base ∙ (ap (λ l. seen base (drop undos l) r) (live-back acts n left a (Put q v) i)
-    ∙ (ap (λ k. seen base (drop k ((q, v) ∷ live (take n acts))) r) z ∙ ap (λ t. cond t v (seen base (live (take n acts)) r)) same))
+    → (base : Contents) → seen_over base (live acts) r ≡ cond b v (seen_over base (live (take n acts)) r)
+put-first acts n left undos r q v a b i z same h base = h base ∙ (ap (λ l. seen_over base (drop undos l) r) (live-back acts n left a (Put q v) i)
+    ∙ (ap (λ k. seen_over base (drop k ((q, v) ∷ live (take n acts))) r) z ∙ ap (λ t. cond t v (seen_over base (live (take n acts)) r)) same))
 
 pub back-other : (acts : List Act) (n left undos : ℕ) (r q : Rid) (v : Content) (a : Act) → IsLast acts n left a (Put q v) → undos ≡ 0 → same_rid q r ≡ false → Scanned acts left undos r → Scanned acts n undos r
-back-other acts n left undos r q v a i z same h = λ base. put-first acts n left undos r q v a false i z same h base ∙ ap (λ k. seen base (drop k (live (take n acts))) r) (sym z)
+back-other acts n left undos r q v a i z same h = λ base. put-first acts n left undos r q v a false i z same h base ∙ ap (λ k. seen_over base (drop k (live (take n acts))) r) (sym z)
 
 pub back-here : (acts : List Act) (n left undos : ℕ) (r q : Rid) (v : Content) (a : Act) → IsLast acts n left a (Put q v) → undos ≡ 0 → same_rid q r ≡ true → Scanned acts left undos r
-    → (base : Contents) → seen base (live acts) r ≡ v
+    → (base : Contents) → seen_over base (live acts) r ≡ v
 back-here acts n left undos r q v a i z same h base = put-first acts n left undos r q v a true i z same h base
 
 -- what is seen of one record over a table depends on that record of the table alone

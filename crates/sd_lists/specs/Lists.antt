@@ -11,13 +11,13 @@ use Rattle.sd_lists.specs.declared.standing.Standing.{Standing}
 use Rattle.sd_lists.specs.declared.lists.Lists.{Lists}
 use Rattle.sd_base.specs.Ids.{same_txn, same_rid}
 use Rattle.sd_model.specs.Tables.{contents}
-use Rattle.sd_model.specs.Claims.{Claims, raised}
+use Rattle.sd_model.specs.Claims.{Claims, raised_claim}
 use Rattle.sd_model.specs.State.{State, Part, gone, fresh}
 
 -- the strongest of the claims on a record, over one that was there before
 abbrev pub claim_from : Claim → List (Rid × Claim) → Rid → Claim
 claim_from c [] r = c
-claim_from c (x ∷ xs) r = claim_from (cond (same_rid x.0 r) (raised x.1 c) c) xs r
+claim_from c (x ∷ xs) r = claim_from (cond (same_rid x.0 r) (raised_claim x.1 c) c) xs r
 
 abbrev pub claims_in : List (Rid × Claim) → Claims
 claims_in xs r = claim_from Free xs r

@@ -1,8 +1,8 @@
 //! What a transaction is at one moment, and look-ups in lists of changes.
 
 ghost use Rattle.std.specs.Prelude.{◌≡◌, ◌++◌, ◌∷◌, [], IfOk, option_copied, filter, leb, ℕ, List};
-ghost use Rattle.sd_model.specs.State.{gone, started, took_part, with_life, lost_part};
-ghost use Rattle.sd_model.specs.Claims.{raised};
+ghost use Rattle.sd_model.specs.State.{gone, begun_part, took_part, with_life, lost_part};
+ghost use Rattle.sd_model.specs.Claims.{raised_claim};
 ghost use Rattle.sd_model.specs.Changes.{mark_of, with_mark, swept_part, undid_part};
 ghost use Rattle.sd_lists.specs.Lists.{part_of, part_at, part_in, claims_in, inst_in};
 
@@ -24,7 +24,7 @@ pub struct Standing {
 impl Standing {
     /// One that has just begun.
     pub fn started(alloc: Global) -> Standing
-        ensures { part_of result ≡ started }
+        ensures { part_of result ≡ begun_part }
     {
         Standing::bare(alloc, Life::Running)
     }
@@ -260,7 +260,7 @@ pub fn find_mark(marks: &[(Word, usize)], name: &[u8]) -> Option<usize>
 }
 
 fn raise(mode: Claim, old: Claim) -> Claim
-    ensures { result ≡ raised mode old }
+    ensures { result ≡ raised_claim mode old }
 {
     match (mode, old) {
         (Claim::Free, old) => old,

@@ -3,14 +3,14 @@
 ghost use Rattle.std.specs.Prelude.{◌≡◌, option_copied, length};
 ghost use Rattle.std.specs.Option.{unwrap_or};
 ghost use Rattle.sd_model.specs.Tables.{Contents, contents};
-ghost use Rattle.sd_model.specs.Acts.{seen, live, after};
+ghost use Rattle.sd_model.specs.Acts.{seen_over, live, after};
 
 use sd_base::{Bytes, Rid, lent_value};
 use sd_model::{Act, Done};
 
 /// The last live put of the record; `None` where there is none.
 pub fn last_put<'a>(acts: &'a [Act], rid: &Rid) -> Option<&'a Option<Bytes>>
-    ensures { (base : Contents) → seen base (live acts.now) rid.now ≡ unwrap_or (option_copied result) (base rid.now) }
+    ensures { (base : Contents) → seen_over base (live acts.now) rid.now ≡ unwrap_or (option_copied result) (base rid.now) }
 {
     // Each undo that was passed takes back the next put before it.
     let mut undos: usize = 0;
@@ -60,7 +60,7 @@ pub fn committed<'a>(start: &'a [(Rid, Bytes)], done: &'a [Done], rid: &Rid) -> 
 
 // What the record has after the transaction, where it had `old` before it.
 fn overlaid<'a>(old: Option<&'a [u8]>, transaction: &'a Done, rid: &Rid) -> Option<&'a [u8]>
-    ensures { (base : Contents) → base rid.now ≡ option_copied old.entry → option_copied result ≡ seen base (live transaction.now.acts) rid.now }
+    ensures { (base : Contents) → base rid.now ≡ option_copied old.entry → option_copied result ≡ seen_over base (live transaction.now.acts) rid.now }
 {
     match last_put(transaction.acts.items(), rid) {
         Some(put) => lent_value(put),

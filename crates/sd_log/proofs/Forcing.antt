@@ -10,7 +10,7 @@ use Rattle.sd_logrec.specs.Kept.{StandsAt, Whole, area, fits_area, reading, spel
 use Rattle.sd_logrec.specs.Spelling.{HasSpelling, four}
 use Rattle.sd_logrec.proofs.Groups.{gate_closed, group_behind, groups_end}
 use Rattle.sd_logrec.proofs.Lengths.{length-four}
-use Rattle.sd_rig.specs.Devices.{AgreesOutside, Image}
+use Rattle.sd_rig.specs.Devices.{AgreesOutside, DeviceImages}
 use Rattle.sd_rig.specs.Ranges.{outside_before}
 use Rattle.sd_log.specs.Buffers.{framed}
 use Rattle.sd_gate.specs.Gates.{Fills}
@@ -107,7 +107,7 @@ either_tail log old new t stands a (inr body) = by_gate (is_open (forced_at log)
     by_gate false shut = inl (without_tail log old new t stands a shut)
     by_gate true shown = inr (with_tail log old new t stands a shown body)
 
-pub forces_of : (log : LogState) (seen : Image) (leaves : ℕ → List ℕ → Type 0) (img : Image) → IsTailed log → StandsOn log (seen log.inst)
+pub forces_of : (log : LogState) (seen : DeviceImages) (leaves : ℕ → List ℕ → Type 0) (img : DeviceImages) → IsTailed log → StandsOn log (seen log.inst)
     → Fills log.inst (forced_at log) (5 + tail_len log) (framed (spelled log.tail)) seen leaves img → Forces log seen leaves img
 forces_of log seen leaves img t stands f = record {
   others = f.others;

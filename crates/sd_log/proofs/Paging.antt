@@ -11,7 +11,7 @@ use Rattle.sd_base.proofs.Lists.{slice_get-take}
 use Rattle.sd_log.specs.ByPage.{places_of}
 use Rattle.sd_log.specs.PagesInside.{AreLinked, IsPages, chain_of, last_of}
 use Rattle.sd_log.specs.declared.pages.Link.{Link}
-use Rattle.sd_log.specs.declared.pages.Pages.TheInside.{Inside}
+use Rattle.sd_log.specs.declared.pages.PageChains.TheInside.{Inside}
 use Rattle.sd_log.proofs.Linked.{IsLast, ends, last-le, last-more, linked-at, linked-less, linked-more}
 
 -- the chains of links and one more

@@ -1,6 +1,6 @@
 -- What a crash may leave of the devices while a log is forced.
 use Rattle.std.specs.Prelude.{◌⊎◌, ℕ, ◌+◌, List}
-use Rattle.sd_rig.specs.Devices.{AgreesOutside, Image}
+use Rattle.sd_rig.specs.Devices.{AgreesOutside, DeviceImages}
 use Rattle.sd_gate.specs.Gates.{LeavesOthers}
 use Rattle.sd_log.specs.Logs.{LogState, StandsOn, forced, tail_len}
 
@@ -16,7 +16,7 @@ abbrev pub StandsEither : LogState → List ℕ → Type 0
 StandsEither log device = StandsOn log device ⊎ StandsOn (forced log) device
 
 -- An image in which the log stands with its tail or without it, and all else is as it might be before.
-pub record Forces (log : LogState) (seen : Image) (leaves : ℕ → List ℕ → Type 0) (img : Image) : Type 0 where
+pub record Forces (log : LogState) (seen : DeviceImages) (leaves : ℕ → List ℕ → Type 0) (img : DeviceImages) : Type 0 where
   pub others : LeavesOthers log.inst leaves img
   pub outside : AgreesOutside (forced_at log) (forced_len log) (seen log.inst) (img log.inst)
   pub whole : StandsEither log (img log.inst)

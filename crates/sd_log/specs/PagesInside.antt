@@ -1,7 +1,7 @@
 -- What is inside the records of each page: chains of links, each from a record to the one before it.
 use Rattle.std.specs.Prelude.{◌≡◌, ℕ, suc, ◌-◌, ◌<◌, ◌==◌, if◌then◌else◌, List, [], ◌∷◌, ◌++◌, map, get_or, vec_len, vec_capacity}
 use Rattle.sd_log.specs.declared.pages.Link.{Link}
-use Rattle.sd_log.specs.declared.pages.Pages.TheInside.{Inside}
+use Rattle.sd_log.specs.declared.pages.PageChains.TheInside.{Inside}
 
 -- The chain of each record, and how many records more find memory.
 pub record PagesState : Type 0 where

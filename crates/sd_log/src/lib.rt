@@ -15,7 +15,7 @@
 //! Held by the caller: a crash leaves of the device what it reads, and the log's groups stand there (`force`).
 //!
 //! To change:
-//! - free: bodies and private helpers, `Journal`, `Buffer` and `Pages` inside
+//! - free: bodies and private helpers, `Journal`, `Buffer` and `PageChains` inside
 //! - dear: `LogState`, the clauses of `append` and `force`, `Forces` (`specs/Forces.antt`)
 //! - frozen: the bytes of a group, and the calls of a force in their order (docs/FORMATS.md)
 #![tactic(auto)]

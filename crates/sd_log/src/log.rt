@@ -16,7 +16,7 @@ ghost use Rattle.sd_log.specs.Marks.{entry};
 use crate::area::Area;
 use crate::buffer::Buffer;
 use crate::journal::Journal;
-use crate::pages::Pages;
+use crate::pages::PageChains;
 use crate::placed::Placed;
 use crate::reading::read_groups;
 use sd_base::{Failed, InstNo, Lsn, Memory, PageNo, Refusal};
@@ -30,7 +30,7 @@ use std::marker::Model;
 pub struct Log {
     inst: InstNo,
     journal: Journal,
-    pages: Pages,
+    pages: PageChains,
     tail: Buffer,
     spare: usize,
 }
@@ -52,7 +52,7 @@ impl Log {
     pub fn new(alloc: Global, inst: InstNo) -> Result<Log, Memory>
         ensures { IfOk result (λ log. log ≡ record { inst = inst; start = 0; gate = 0; groups = []; tail = []; spare = 0 }) }
     {
-        let pages = Pages::new(alloc)?;
+        let pages = PageChains::new(alloc)?;
         let tail = Buffer::new(alloc)?;
         Ok(Log {
             inst,
@@ -314,7 +314,7 @@ fn read_from(alloc: Global, inst: InstNo, start: u32, bytes: &[u8]) -> Result<Ar
         }
         Err(_) => return Err(Memory),
     }
-    let pages = Pages::of(alloc, journal.placed())?;
+    let pages = PageChains::of(alloc, journal.placed())?;
     let tail = Buffer::new(alloc)?;
     Ok(Area::Whole(Log {
         inst,

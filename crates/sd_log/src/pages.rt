@@ -24,12 +24,12 @@ pub struct Link {
 /// Which page each record changes, with the records of a page linked from the last to the first. `last` has of each
 /// chain one more than the index of its last record, or 0.
 #[derive(Drop)]
-pub struct Pages {
+pub struct PageChains {
     last: Vec<u32>,
     links: Vec<Link>,
 }
 
-impl Model for Pages {
+impl Model for PageChains {
     ghost use Rattle.sd_log.specs.PagesInside.{PagesState};
 
     ghost Value = { PagesState };
@@ -41,14 +41,14 @@ impl Model for Pages {
     ghost invariant = { IsPages };
 }
 
-impl Pages {
+impl PageChains {
     /// No records.
     pub fn new(alloc: Global) -> Result<Self, Memory>
         ensures { IfOk result (λ p. p.chains ≡ []) }
     {
         let last = Vec::from_elem(alloc, 0u32, CHAINS)?;
         let links = Vec::new(alloc);
-        Ok(Pages { last, links })
+        Ok(PageChains { last, links })
     }
 
     /// These records.
@@ -56,7 +56,7 @@ impl Pages {
         requires { length placed.now + 1 < 2 ^ 32 }
         ensures { IfOk result (λ p. p.chains ≡ changed_pages placed.now) }
     {
-        let mut pages = Pages::new(alloc)?;
+        let mut pages = PageChains::new(alloc)?;
         pages.reserve(placed.len())?;
         for p in placed {
             pages.push(&p.rec);

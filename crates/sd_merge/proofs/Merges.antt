@@ -11,7 +11,7 @@ use Rattle.sd_logrec.specs.Spelling.{HasSpelling}
 use Rattle.sd_logrec.specs.View.{Rec, flat}
 use Rattle.sd_log.specs.declared.placed.Placed.{Placed}
 use Rattle.sd_log.specs.Logs.{AreSpelled, LogState, flats, forced_in, log_in, without_tail}
-use Rattle.sd_chain.specs.Image.{all_of, sorted}
+use Rattle.sd_chain.specs.Storage.{all_of, sorted}
 use Rattle.sd_chain.specs.Records.{changes, of_page}
 use Rattle.sd_chain.proofs.Newest.{and_true}
 use Rattle.sd_chain.proofs.Ties.{slow_of}

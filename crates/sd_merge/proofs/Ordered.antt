@@ -5,7 +5,7 @@ use Rattle.std.proofs.lemmas.Bool.{cases_Bool, eqb-true}
 use Rattle.std.proofs.lemmas.List.{append-nil, append_assoc}
 use Rattle.std.proofs.lemmas.List.Elements.{filter-append}
 use Rattle.sd_logrec.specs.View.{Rec}
-use Rattle.sd_chain.specs.Image.{all_of, inserted, sorted}
+use Rattle.sd_chain.specs.Storage.{all_of, inserted, sorted}
 use Rattle.sd_chain.specs.Records.{Each}
 use Rattle.sd_chain.proofs.Lists.{Each-filter, Each-weaker, cond_both, filter-cons, filter-skip}
 use Rattle.sd_chain.proofs.Sorts.{Slow, sorted_slow}

@@ -7,7 +7,7 @@ use Rattle.sd_logrec.specs.Spelling.{HasSpelling}
 use Rattle.sd_logrec.specs.View.{Rec, flat}
 use Rattle.sd_log.specs.declared.placed.Placed.{Placed}
 use Rattle.sd_log.specs.Logs.{LogState, log_in, lsn_of, scanned}
-use Rattle.sd_chain.specs.Image.{all_of}
+use Rattle.sd_chain.specs.Storage.{all_of}
 use Rattle.sd_chain.specs.Records.{Each, IsPageRecord, changes, of_page}
 use Rattle.sd_merge.specs.declared.change.Change.{Change}
 use Rattle.sd_merge.specs.declared.change.Wanted.{Wanted}

@@ -5,7 +5,7 @@ ghost use Rattle.std.specs.List.Sorted.{IsNonDecreasingBy};
 ghost use Rattle.sd_base.specs.declared.refusal.Refusal.TheVariants as R;
 ghost use Rattle.sd_logrec.specs.View.{flat};
 ghost use Rattle.sd_log.specs.Logs.{AreSpelled, flats, forced_in, log_in, scanned, without_tail};
-ghost use Rattle.sd_chain.specs.Image.{all_of, sorted};
+ghost use Rattle.sd_chain.specs.Storage.{all_of, sorted};
 ghost use Rattle.sd_chain.specs.Records.{of_page};
 ghost use Rattle.sd_merge.specs.Changes.{AllStand, AreChanges, ChangesPage, IsMerged, LsnsRise, chain_of, in_turn, is_change, is_forced_of, is_wanted, of_lsn, placed_in, found_of, redone_of};
 

@@ -12,7 +12,7 @@ use Rattle.sd_model.specs.declared.act.Life.TheVariants.{Doubt}
 use Rattle.sd_model.specs.Tables.{Content}
 use Rattle.sd_model.specs.Acts.{Puts, live_from, live, ReadsFrom}
 use Rattle.sd_model.specs.Claims.{with_claim, Holds, Owns, Clash}
-use Rattle.sd_model.specs.State.{State, Part, now, view, gone, started, put_part, put_inst, took, took_part, committed, cut_commit, began, read_at, looked_at, wrote}
+use Rattle.sd_model.specs.State.{State, Part, now, view, gone, begun_part, put_part, put_inst, took, took_part, committed, cut_commit, began, read_at, looked_at, wrote}
 use Rattle.sd_model.specs.Changes.{undid, undid_part, commit_all, AreInDoubt, is_swept, swept_part, swept, Recovered, IsLoser, Reopened}
 use Rattle.sd_model.specs.Kept.{MayCommit, Held, Owned, Kept, Lessens}
 use Rattle.sd_model.proofs.Acts.{ReadsFrom-append, live_from-append}
@@ -65,7 +65,7 @@ inst-kept m i x k = less-kept m (put_inst i x m) refl refl (λ t. less-same (m.p
 pub began-kept : (m : State) (i : ℕ) (x : TxnId) → Kept m → Kept (began i x m)
 began-kept m i x k =
     let m1 = put_inst i (record (m.inst i) { begins = (m.inst i).begins + 1 }) (record m { begun = m.begun ++ x ∷ [] }) in
-    put-kept m1 x started (less-kept m m1 refl refl (λ t. less-same (m.part t)) k) (record { reads = λ _. tt; covered = λ _. record { held = tt; owned = tt }; apart = λ u ne _ _ r clash. clash })
+    put-kept m1 x begun_part (less-kept m m1 refl refl (λ t. less-same (m.part t)) k) (record { reads = λ _. tt; covered = λ _. record { held = tt; owned = tt }; apart = λ u ne _ _ r clash. clash })
 
 -- another life, that may commit no sooner than the old one, and other marks
 pub turned-kept : (m : State) (t : TxnId) (life : Life) (marks : List (List ℕ × ℕ)) → (MayCommit life → MayCommit (m.part t).life) → Kept m → Kept (put_part t (record (m.part t) { life = life; marks = marks }) m)

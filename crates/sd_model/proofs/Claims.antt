@@ -6,8 +6,8 @@ use Rattle.sd_model.specs.declared.act.Act.TheVariants.{Read, Put, Undo}
 use Rattle.sd_model.specs.declared.act.Claim.{Claim}
 use Rattle.sd_model.specs.declared.act.Claim.TheVariants.{Free, Shared, Excl}
 use Rattle.sd_model.specs.Tables.{Contents}
-use Rattle.sd_model.specs.Acts.{Puts, undone, seen, ReadsFrom}
-use Rattle.sd_model.specs.Claims.{Claims, raised, with_claim, Holds, Owns, Clash}
+use Rattle.sd_model.specs.Acts.{Puts, undone, seen_over, ReadsFrom}
+use Rattle.sd_model.specs.Claims.{Claims, raised_claim, with_claim, Holds, Owns, Clash}
 use Rattle.sd_model.specs.Kept.{Held, Owned}
 use Rattle.sd_model.proofs.Acts.{seen-agree}
 use Rattle.sd_base.proofs.SameIds.{cases_rid, eq-same_rid, ne-same_rid}
@@ -26,41 +26,41 @@ clash-of Free d o h = absurd o
 clash-of Shared d o h = absurd o
 clash-of Excl d o h = h
 
-pub raised-clash : (a b c : Claim) → Clash (raised a b) c → Clash a c ⊎ Clash b c
+pub raised-clash : (a b c : Claim) → Clash (raised_claim a b) c → Clash a c ⊎ Clash b c
 raised-clash Free b c k = inr k
 raised-clash Shared Free c k = inl k
 raised-clash Shared Shared c k = inl k
 raised-clash Shared Excl c k = inr k
 raised-clash Excl b c k = inl k
 
-pub raised-holds : (a b : Claim) → Holds b → Holds (raised a b)
+pub raised-holds : (a b : Claim) → Holds b → Holds (raised_claim a b)
 raised-holds Free b h = h
 raised-holds Shared Free h = tt
 raised-holds Shared Shared h = tt
 raised-holds Shared Excl h = tt
 raised-holds Excl b h = tt
 
-pub raised-owns : (a b : Claim) → Owns b → Owns (raised a b)
+pub raised-owns : (a b : Claim) → Owns b → Owns (raised_claim a b)
 raised-owns Free b h = h
 raised-owns Shared Free h = absurd h
 raised-owns Shared Shared h = absurd h
 raised-owns Shared Excl h = tt
 raised-owns Excl b h = tt
 
-pub shared-holds : (b : Claim) → Holds (raised Shared b)
+pub shared-holds : (b : Claim) → Holds (raised_claim Shared b)
 shared-holds Free = tt
 shared-holds Shared = tt
 shared-holds Excl = tt
 
 -- the claims with one more, at each record
-pub each_claim : (P : Rid → Claim → Type 0) (r : Rid) (mode : Claim) (claims : Claims) → P r (raised mode (claims r)) → ((q : Rid) → P q (claims q)) → (q : Rid) → P q (with_claim r mode claims q)
+pub each_claim : (P : Rid → Claim → Type 0) (r : Rid) (mode : Claim) (claims : Claims) → P r (raised_claim mode (claims r)) → ((q : Rid) → P q (claims q)) → (q : Rid) → P q (with_claim r mode claims q)
 each_claim P r mode claims here others q = ⊎_elim
-    (λ e. subst (λ (b : Bool). P q (cond b (raised mode (claims q)) (claims q))) (sym (eq-same_rid r q e)) (subst (λ (s : Rid). P s (raised mode (claims s))) e here))
-    (λ ne. subst (λ (b : Bool). P q (cond b (raised mode (claims q)) (claims q))) (sym (ne-same_rid r q ne)) (others q))
+    (λ e. subst (λ (b : Bool). P q (cond b (raised_claim mode (claims q)) (claims q))) (sym (eq-same_rid r q e)) (subst (λ (s : Rid). P s (raised_claim mode (claims s))) e here))
+    (λ ne. subst (λ (b : Bool). P q (cond b (raised_claim mode (claims q)) (claims q))) (sym (ne-same_rid r q ne)) (others q))
     (cases_rid r q)
 
-pub claim-here : (r : Rid) (mode : Claim) (claims : Claims) → with_claim r mode claims r ≡ raised mode (claims r)
-claim-here r mode claims = ap (λ (b : Bool). cond b (raised mode (claims r)) (claims r)) (eq-same_rid r r refl)
+pub claim-here : (r : Rid) (mode : Claim) (claims : Claims) → with_claim r mode claims r ≡ raised_claim mode (claims r)
+claim-here r mode claims = ap (λ (b : Bool). cond b (raised_claim mode (claims r)) (claims r)) (eq-same_rid r r refl)
 
 pub Held-append : (claims : Claims) (xs ys : List Act) → Held claims xs → Held claims ys → Held claims (xs ++ ys)
 Held-append claims [] ys a b = b
@@ -83,17 +83,17 @@ Owned-undone claims [] a = tt
 Owned-undone claims (p ∷ puts) a = a.1
 
 -- a record that isn't claimed alone isn't put
-pub seen-apart : (claims : Claims) (base : Contents) (puts : Puts) (r : Rid) → Owned claims puts → (Owns (claims r) → ⊥) → seen base puts r ≡ base r
+pub seen-apart : (claims : Claims) (base : Contents) (puts : Puts) (r : Rid) → Owned claims puts → (Owns (claims r) → ⊥) → seen_over base puts r ≡ base r
 seen-apart claims base [] r o no_claim = refl
 seen-apart claims base (p ∷ puts) r o no_claim = ⊎_elim
     (λ e. absurd (no_claim (subst (λ (s : Rid). Owns (claims s)) e o.0)))
-    (λ ne. ap (λ (b : Bool). cond b p.1 (seen base puts r)) (ne-same_rid p.0 r ne) ∙ seen-apart claims base puts r o.1 no_claim)
+    (λ ne. ap (λ (b : Bool). cond b p.1 (seen_over base puts r)) (ne-same_rid p.0 r ne) ∙ seen-apart claims base puts r o.1 no_claim)
     (cases_rid p.0 r)
 
 -- puts of one and reads of another whose claims don't conflict
-pub reads-apart : (mine theirs : Claims) (base : Contents) (puts own : Puts) (acts : List Act) → Owned mine puts → Held theirs acts → ((r : Rid) → Clash (mine r) (theirs r) → ⊥) → ReadsFrom base own acts → ReadsFrom (seen base puts) own acts
+pub reads-apart : (mine theirs : Claims) (base : Contents) (puts own : Puts) (acts : List Act) → Owned mine puts → Held theirs acts → ((r : Rid) → Clash (mine r) (theirs r) → ⊥) → ReadsFrom base own acts → ReadsFrom (seen_over base puts) own acts
 reads-apart mine theirs base puts own [] o c apart a = tt
 reads-apart mine theirs base puts own (Read r v ∷ acts) o c apart a =
-    (a.0 ∙ seen-agree base (seen base puts) own r (sym (seen-apart mine base puts r o (λ k. apart r (clash-of (mine r) (theirs r) k c.0)))), reads-apart mine theirs base puts own acts o c.1 apart a.1)
+    (a.0 ∙ seen-agree base (seen_over base puts) own r (sym (seen-apart mine base puts r o (λ k. apart r (clash-of (mine r) (theirs r) k c.0)))), reads-apart mine theirs base puts own acts o c.1 apart a.1)
 reads-apart mine theirs base puts own (Put r v ∷ acts) o c apart a = reads-apart mine theirs base puts ((r, v) ∷ own) acts o c apart a
 reads-apart mine theirs base puts own (Undo ∷ acts) o c apart a = reads-apart mine theirs base puts (undone own) acts o c apart a

@@ -8,12 +8,12 @@ use Rattle.sd_model.specs.declared.act.Done.{Done}
 use Rattle.sd_model.specs.declared.act.Life.{Life}
 use Rattle.sd_model.specs.declared.act.Life.TheVariants.{Gone, Running, Retained, Rolling, Doubt}
 use Rattle.sd_model.specs.Tables.{Contents}
-use Rattle.sd_model.specs.Acts.{Puts, after, live, seen}
+use Rattle.sd_model.specs.Acts.{Puts, after, live, seen_over}
 use Rattle.sd_model.specs.State.{State, Part, gone}
 use Rattle.sd_model.specs.Changes.{swept, swept_part, is_swept, commit_all}
 use Rattle.sd_model.specs.Apart.{done_of, dones}
 use Rattle.sd_model.specs.Kept.{Kept}
-use Rattle.sd_model.specs.Placed.{Placed, IsDoubt}
+use Rattle.sd_model.specs.Lives.{LivesAreSound, IsDoubt}
 use Rattle.sd_model.specs.Listed.{IsAmong, NoneTwice, Listed}
 use Rattle.sd_model.specs.Finishing.{is_doubt, picks, standing}
 use Rattle.sd_model.proofs.Moves.{doubt-may}
@@ -96,7 +96,7 @@ module _ (m : State) (i : ℕ) (kept : TxnId → Bool) where
           (λ no. and_left (is_doubt (m.part u).life) (kept u) no)
           (cases_Bool (is_doubt (m.part u).life))
 
-module _ (m : State) (k : Kept m) (pl : Placed m) (i : ℕ) (t : TxnId) (own : t.inst ≡ i) (life : (m.part t).life ≡ Doubt Cut.Committing)
+module _ (m : State) (k : Kept m) (pl : LivesAreSound m) (i : ℕ) (t : TxnId) (own : t.inst ≡ i) (life : (m.part t).life ≡ Doubt Cut.Committing)
     (kept : TxnId → Bool) (found : kept t ≡ true) where
   abbrev mid : State
   mid = commit_all (t ∷ []) m
@@ -135,10 +135,10 @@ module _ (m : State) (k : Kept m) (pl : Placed m) (i : ℕ) (t : TxnId) (own : t
 
   -- one that is picked puts no record in common with t
   swaps : (u : TxnId) → t ≢ u → f u ≡ true → (base : Contents) (ds : List Done) (r : Rid)
-      → after (seen (seen base (puts t)) (puts u)) ds r ≡ after (seen (seen base (puts u)) (puts t)) ds r
+      → after (seen_over (seen_over base (puts t)) (puts u)) ds r ≡ after (seen_over (seen_over base (puts u)) (puts t)) ds r
   swaps u ne is base ds r =
       let doubt = doubt_of (m.part u).life (and_parts (is_doubt (m.part u).life) (kept u) is).0 in
-      after-agree (seen (seen base (puts t)) (puts u)) (seen (seen base (puts u)) (puts t)) ds r
+      after-agree (seen_over (seen_over base (puts t)) (puts u)) (seen_over (seen_over base (puts u)) (puts t)) ds r
       (seen-swap (puts t) (puts u) (kept-disjoint m k t u ne (doubt-may (m.part t).life t_doubt) (doubt-may (m.part u).life doubt)) base r)
 
   -- over any table: t first and then those that are still picked, or all as they are listed
@@ -158,7 +158,7 @@ module _ (m : State) (k : Kept m) (pl : Placed m) (i : ℕ) (t : TxnId) (own : t
       ⊎_elim
       (λ is. ap (λ (ds : List Done). after base (done_of m t ∷ ds) r) (both-taken m end f g u us o is)
       ∙ swaps u ne is base (chosen end g us) r
-      ∙ moved (seen base (puts u)) us once.1 a r
+      ∙ moved (seen_over base (puts u)) us once.1 a r
       ∙ sym (ap (λ (ds : List Done). after base ds r) (taken m f u us is)))
       (λ no. ap (λ (ds : List Done). after base (done_of m t ∷ ds) r) (passed end g u us (o.0 ∙ no))
       ∙ moved base us once.1 a r

@@ -10,7 +10,7 @@ use Rattle.sd_model.specs.Tables.{Contents}
 use Rattle.sd_model.specs.Acts.{live, Reads, after, Serial}
 use Rattle.sd_model.specs.Claims.{Clash}
 use Rattle.sd_model.specs.State.{State, Part, now, gone, put_part, fall, closed, committed, lost, lost_part}
-use Rattle.sd_model.specs.Kept.{MayCommit, Covered, Kept, Fits, Lessens}
+use Rattle.sd_model.specs.Kept.{MayCommit, Covered, Kept, PartFits, Lessens}
 use Rattle.sd_model.proofs.Acts.{after-snoc, Serial-snoc}
 use Rattle.sd_model.proofs.Claims.{clash-sym, reads-apart}
 use Rattle.sd_base.proofs.SameIds.{each_txn, ne-same}
@@ -27,7 +27,7 @@ apart-put t p f mine others = each_txn t (λ u (x : Part). (v : TxnId) → u ≢
     (λ v ne. subst (λ (b : Bool). Apart p (cond b p (f v))) (sym (ne-same t v ne)) (mine v ne))
     (λ u ne v differ. each_txn t (λ w (x : Part). u ≢ w → Apart (f u) x) p f (λ _. apart-sym p (f u) (mine u ne)) (λ w _ d. others u w d) v differ)
 
-pub put-kept : (m : State) (t : TxnId) (p : Part) → Kept m → Fits m t p → Kept (put_part t p m)
+pub put-kept : (m : State) (t : TxnId) (p : Part) → Kept m → PartFits m t p → Kept (put_part t p m)
 put-kept m t p k fits = record {
   serial = k.serial;
   reads = each_txn t (λ u (x : Part). MayCommit x.life → Reads (now m) x.acts) p m.part fits.reads (λ u ne. k.reads u);

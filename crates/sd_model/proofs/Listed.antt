@@ -11,10 +11,10 @@ use Rattle.sd_model.specs.declared.event.Event.{Event}
 use Rattle.sd_model.specs.declared.event.Event.TheVariants.{Begin}
 use Rattle.sd_model.specs.declared.event.Reply.{Reply}
 use Rattle.sd_model.specs.declared.event.Reply.TheVariants.{Began}
-use Rattle.sd_model.specs.State.{State, Part, started, began, committed}
+use Rattle.sd_model.specs.State.{State, Part, begun_part, began, committed}
 use Rattle.sd_model.specs.StepLaws.{next_txn}
 use Rattle.sd_model.specs.Applies.{count_of, is_unresolved}
-use Rattle.sd_model.specs.Placed.{IsDoubt}
+use Rattle.sd_model.specs.Lives.{IsDoubt}
 use Rattle.sd_model.specs.Step.{Step}
 use Rattle.sd_model.specs.Run.{Run}
 use Rattle.sd_model.specs.Listed.{IsAmong, NoneTwice, IsAtWork, Below, EachBelow, Listed}
@@ -45,12 +45,12 @@ calm-listed m m' c l = record {
 began-listed : (m : State) (i : ℕ) → (m.inst i).status ≡ Up → Listed m → Listed (began i (next_txn m i) m)
 began-listed m i up l = let x = next_txn m i in let later : ℕ → Inst = (began i x m).inst in let new = next-new m i m.begun up l.bounds in record {
   bounds = each-more later m.begun x (each-rises m.inst later m.begun (begin-rises m i) l.bounds) (next-below m i);
-  there = each_txn x (λ u (p : Part). p.life ≢ Gone → IsAmong u (m.begun ++ x ∷ [])) started m.part (λ _. among-last m.begun x) (λ u _ ne. among-more m.begun x u (l.there u ne));
+  there = each_txn x (λ u (p : Part). p.life ≢ Gone → IsAmong u (m.begun ++ x ∷ [])) begun_part m.part (λ _. among-last m.begun x) (λ u _ ne. among-more m.begun x u (l.there u ne));
   once = once-more m.begun x l.once new;
-  doubts = each_txn x (λ u (p : Part). IsDoubt p.life → IsAmong u m.cuts) started m.part (λ d. absurd d) (λ u _. l.doubts u);
+  doubts = each_txn x (λ u (p : Part). IsDoubt p.life → IsAmong u m.cuts) begun_part m.part (λ d. absurd d) (λ u _. l.doubts u);
   cut_once = l.cut_once;
   cut_begun = λ t a. among-more m.begun x t (l.cut_begun t a);
-  cut_rests = each_txn x (λ u (p : Part). IsAmong u m.cuts → IsAtWork p.life → ⊥) started m.part (λ a _. new (l.cut_begun x a)) (λ u _. l.cut_rests u);
+  cut_rests = each_txn x (λ u (p : Part). IsAmong u m.cuts → IsAtWork p.life → ⊥) begun_part m.part (λ a _. new (l.cut_begun x a)) (λ u _. l.cut_rests u);
 }
 
 committed-listed : (m : State) (t : TxnId) → Listed m → Listed (committed t m)
@@ -121,8 +121,8 @@ filter-snoc p (t ∷ ts) x e = go (p t) (filter-snoc p ts x e)
 pub count-began : (m : State) (i : ℕ) → (m.inst i).status ≡ Up → Listed m → count_of (began i (next_txn m i) m) i ≡ count_of m i + 1
 count-began m i up l =
     let x = next_txn m i in
-    let part : TxnId → Part = λ u. cond (same_txn x u) started (m.part u) in
-    let here : counts part i x ≡ true = ap (λ (b : Bool). eqb i i && is_unresolved (cond b started (m.part x)).life) (eq-same x x refl) ∙ ap (λ (b : Bool). b && true) (eq-eqb i i refl) in
+    let part : TxnId → Part = λ u. cond (same_txn x u) begun_part (m.part u) in
+    let here : counts part i x ≡ true = ap (λ (b : Bool). eqb i i && is_unresolved (cond b begun_part (m.part x)).life) (eq-same x x refl) ∙ ap (λ (b : Bool). b && true) (eq-eqb i i refl) in
     filter-snoc (counts part i) m.begun x here
     ∙ ap (λ (n : List TxnId). length n + 1) (same-filter (counts part i) (counts m.part i) m.begun m.inst
-    (λ t b. ap (λ (c : Bool). eqb t.inst i && is_unresolved (cond c started (m.part t)).life) (ne-same x t (next-other m i t up b))) l.bounds)
+    (λ t b. ap (λ (c : Bool). eqb t.inst i && is_unresolved (cond c begun_part (m.part t)).life) (ne-same x t (next-other m i t up b))) l.bounds)

@@ -15,7 +15,7 @@ use Rattle.sd_model.specs.declared.event.Reply.{Reply}
 use Rattle.sd_model.specs.declared.event.Reply.TheVariants.{Began, Value, Did, At, Rows, Have, Asked, Gave, Step as Stepped, Finished, Joined, Shown, Refused}
 use Rattle.sd_model.specs.Tables.{Content}
 use Rattle.sd_model.specs.Acts.{Puts, live_from, live}
-use Rattle.sd_model.specs.State.{State, Part, gone, started, put_part, put_inst, with_life, took, took_part, fall, closed, committed, cut_commit, lost_part, read_at, looked_at, wrote, turned}
+use Rattle.sd_model.specs.State.{State, Part, gone, begun_part, put_part, put_inst, with_life, took, took_part, fall, closed, committed, cut_commit, lost_part, read_at, looked_at, wrote, turned}
 use Rattle.sd_model.specs.Changes.{commit_all, swept_part, is_swept, swept, IsLoser}
 use Rattle.sd_model.specs.declared.cause.Cause.{Cause}
 use Rattle.sd_model.specs.declared.cause.Cause.TheVariants.{NoRecord, NotNumber, Over, Digits, Rig, Cut}
@@ -29,7 +29,7 @@ use Rattle.sd_model.proofs.Marks.{put-marked, sized-more, marked-sized, back-siz
 gone-sized : Sized gone
 gone-sized = record { marks = tt; target = tt }
 
-started-sized : Sized started
+started-sized : Sized begun_part
 started-sized = record { marks = tt; target = tt }
 
 took-sized : (p : Part) (r : Rid) (mode : Claim) (acts : List Act) → ((puts : Puts) → length puts ≤ length (live_from puts acts)) → Sized p → Sized (took_part r mode acts p)
@@ -96,7 +96,7 @@ cut-marked m t k = fall-marked t.inst (put_part t (record (m.part t) { life = Do
     (put-marked (record m { cuts = m.cuts ++ t ∷ [] }) t (record (m.part t) { life = Doubt Committing; marks = [] }) (record { marks = tt; target = tt }) (record { sized = k.sized }))
 
 pub row-marked : (m : State) (e : Event) (reply : Reply) (m' : State) → Row m e reply m' → Marked m → Marked m'
-row-marked m (Begin i) (Began x) m' h k = subst Marked (sym h.1) (put-marked (put_inst i (record (m.inst i) { begins = (m.inst i).begins + 1 }) (record m { begun = m.begun ++ x ∷ [] })) x started started-sized (record { sized = k.sized }))
+row-marked m (Begin i) (Began x) m' h k = subst Marked (sym h.1) (put-marked (put_inst i (record (m.inst i) { begins = (m.inst i).begins + 1 }) (record m { begun = m.begun ++ x ∷ [] })) x begun_part started-sized (record { sized = k.sized }))
 row-marked m (Read t r) (Value v) m' h k = subst Marked (sym h.2) (read-marked m t r v k)
 row-marked m (Write t r new) Did m' h k = subst Marked (sym h.3) (write-marked m t r (Some h.0) (Some new) k)
 row-marked m (Add t r by) Did m' h k = subst Marked (sym h.5) (write-marked m t r (Some h.0) (Some h.1) k)

@@ -10,7 +10,7 @@ use Rattle.sd_model.specs.declared.act.Life.TheVariants.{Gone, Running, Retained
 use Rattle.sd_model.specs.State.{State, Part, gone, put_part, put_inst, with_status, with_life, lost, lost_part, freed, fall, closed, committed, began}
 use Rattle.sd_model.specs.Changes.{is_swept, swept_part, after_recovery, swept, IsLoser, Left}
 use Rattle.sd_model.specs.StepLaws.{next_txn}
-use Rattle.sd_model.specs.Placed.{MayRun, IsDoubt}
+use Rattle.sd_model.specs.Lives.{MayRun, IsDoubt}
 use Rattle.sd_model.specs.Listed.{IsAtWork}
 use Rattle.sd_model.specs.Kept.{MayCommit}
 use Rattle.sd_model.proofs.Placed.{each_inst, lost-doubt}

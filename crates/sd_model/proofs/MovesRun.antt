@@ -17,7 +17,7 @@ use Rattle.sd_model.specs.Fields.{txn_of}
 use Rattle.sd_model.specs.Refusing.{Refuses, counted}
 use Rattle.sd_model.specs.Step.{Row, Step}
 use Rattle.sd_model.specs.Run.{Run}
-use Rattle.sd_model.specs.Placed.{MayRun}
+use Rattle.sd_model.specs.Lives.{MayRun}
 use Rattle.sd_model.specs.Kept.{MayCommit}
 use Rattle.sd_model.proofs.Moves.{Keeps, doubted, is_up, runs-works, rolls-works, life-calm, gone-calm, works-calm, inst-calm, rest-calm, fall-calm, closed-calm, swept-calm, left-calm}
 

@@ -10,7 +10,7 @@ use Rattle.sd_model.specs.declared.act.Life.TheVariants.{Gone, Retained}
 use Rattle.sd_model.specs.Acts.{live}
 use Rattle.sd_model.specs.State.{State, fresh}
 use Rattle.sd_model.specs.Opened.{IsOpened}
-use Rattle.sd_model.specs.Placed.{Stands, IsFallen, IsDoubt, Placed}
+use Rattle.sd_model.specs.Lives.{SuitsStatus, IsFallen, IsDoubt, LivesAreSound}
 use Rattle.sd_model.specs.Listed.{IsAmong, NoneTwice, Below, EachBelow, Listed}
 use Rattle.sd_model.specs.Marks.{AtMost, Goes, Marked}
 use Rattle.sd_model.proofs.Serial.{fresh-opening}
@@ -28,7 +28,7 @@ fresh-opened = record {
 }
   where
     gone_not_lost : {A : Type 0} → Gone ≡ Retained → A
-    gone_not_lost e = absurd (subst (λ (l : Life). Stands l Up) e tt)
+    gone_not_lost e = absurd (subst (λ (l : Life). SuitsStatus l Up) e tt)
 
 abbrev IsEither : Status → Type 0
 IsEither s = (s ≡ Clean) ⊎ (s ≡ Down)
@@ -43,11 +43,11 @@ no_doubt : (l : Life) → (l ≡ Gone) ⊎ (l ≡ Retained) → IsDoubt l → �
 no_doubt l (inl e) d = subst IsDoubt e d
 no_doubt l (inr e) d = subst IsDoubt e d
 
-stands : (l : Life) (s : Status) → (l ≡ Gone) ⊎ (l ≡ Retained) → (l ≡ Retained → s ≡ Down) → Stands l s
-stands l s (inl e) down = subst (λ (x : Life). Stands x s) (sym e) tt
-stands l s (inr e) down = subst (λ (x : Life). Stands x s) (sym e) (subst IsFallen (sym (down e)) tt)
+stands : (l : Life) (s : Status) → (l ≡ Gone) ⊎ (l ≡ Retained) → (l ≡ Retained → s ≡ Down) → SuitsStatus l s
+stands l s (inl e) down = subst (λ (x : Life). SuitsStatus x s) (sym e) tt
+stands l s (inr e) down = subst (λ (x : Life). SuitsStatus x s) (sym e) (subst IsFallen (sym (down e)) tt)
 
-pub opened-placed : (m : State) → IsOpened m → Placed m
+pub opened-placed : (m : State) → IsOpened m → LivesAreSound m
 opened-placed m o = record {
   stands = λ t. stands (m.part t).life (m.inst t.inst).status (o.opening.losers t) (λ e. o.down t.inst (t, refl, e));
   one = λ t u d. absurd (no_doubt (m.part t).life (o.opening.losers t) d);

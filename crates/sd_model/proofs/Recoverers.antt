@@ -15,7 +15,7 @@ use Rattle.sd_model.specs.declared.cause.Cause.{Cause}
 use Rattle.sd_model.specs.declared.cause.Cause.TheVariants.{NoRecord, NotNumber, Over, Digits, Rig, Cut}
 use Rattle.sd_model.specs.State.{State, Part, put_part, put_inst, with_status, freed, fall, closed, began, joined, committed, cut_commit}
 use Rattle.sd_model.specs.Changes.{commit_all, after_recovery, swept, Recovered, Left}
-use Rattle.sd_model.specs.Applies.{Serves, IsActive, IsRecovering, Clear}
+use Rattle.sd_model.specs.Applies.{MayServe, IsActive, IsRecovering, Clear}
 use Rattle.sd_model.specs.Refusing.{Refuses, counted}
 use Rattle.sd_model.specs.Step.{Row, Step}
 use Rattle.sd_model.specs.Run.{Run}
@@ -59,10 +59,10 @@ joined-recovers m i epoch r = one-recovers m i
     (record { status = Up; epoch = epoch; begins = 0; failed = 0 }) (λ by e. absurd (cc)) (λ _. refl) r
 
 -- who may begin a recovery
-may_begin : (m : State) (i by : ℕ) → ((Serves m (RecoverBegin i by) → ⊥) → ⊥) → (by ≡ i) ⊎ ((m.inst by).status ≡ Up)
+may_begin : (m : State) (i by : ℕ) → ((MayServe m (RecoverBegin i by) → ⊥) → ⊥) → (by ≡ i) ⊎ ((m.inst by).status ≡ Up)
 may_begin m i by n = ⊎_elim (λ e. inl e) (λ ne. inr (is_up (m.inst by).status (λ no. n (λ s. ⊎_elim ne no s)))) (cases_eq by i)
 
-begun-recovers : (m : State) (i by : ℕ) → (((m.inst i).status ≡ Down → ⊥) → ⊥) → ((Serves m (RecoverBegin i by) → ⊥) → ⊥) → Recoverers m
+begun-recovers : (m : State) (i by : ℕ) → (((m.inst i).status ≡ Down → ⊥) → ⊥) → ((MayServe m (RecoverBegin i by) → ⊥) → ⊥) → Recoverers m
     → Recoverers (put_inst i (with_status (Recovering by) (m.inst i)) m)
 begun-recovers m i by down serves r = one-recovers m i (with_status (Recovering by) (m.inst i))
     (λ other e. let same : by ≡ other = cc in subst (λ (n : ℕ). (n ≡ i) ⊎ ((m.inst n).status ≡ Up)) same (may_begin m i by serves))

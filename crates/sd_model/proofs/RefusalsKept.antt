@@ -8,7 +8,7 @@ use Rattle.sd_model.specs.declared.event.Event.TheVariants.{Write, Add, Delete, 
 use Rattle.sd_model.specs.State.{State}
 use Rattle.sd_model.specs.Fields.{txn_of, rid_of}
 use Rattle.sd_model.specs.declared.cause.Cause.{Cause}
-use Rattle.sd_model.specs.Causes.{has, before, order}
+use Rattle.sd_model.specs.Causes.{has_cause, before, order}
 use Rattle.sd_model.specs.declared.cause.Cause.TheVariants.{NoRecord, NotNumber, Over, Digits, Rig, Cut}
 use Rattle.sd_model.specs.Applies.{PassesAll, First, Locked}
 use Rattle.sd_model.specs.Refusing.{Refuses, found, counted}
@@ -22,7 +22,7 @@ off e = absurd (true≢false (sym e))
 found-kept : (m : State) (e : Event) → (Locked m (txn_of e) (rid_of e) Excl → ⊥) → Kept m → Kept (found e m)
 found-kept m e free k = look-kept m (txn_of e) (rid_of e) _ (λ u ne clash. free (u, ne, clash)) refl k
 
-no_record : (m : State) (e : Event) → has NoRecord (order e) ≡ true → PassesAll m e (before NoRecord (order e)) → Locked m (txn_of e) (rid_of e) Excl → ⊥
+no_record : (m : State) (e : Event) → has_cause NoRecord (order e) ≡ true → PassesAll m e (before NoRecord (order e)) → Locked m (txn_of e) (rid_of e) Excl → ⊥
 no_record m (Write t r v) h c = c.1.1.1.1.1.0
 no_record m (Add t r by) h c = c.1.1.1.1.0
 no_record m (Delete t r) h c = c.1.1.1.1.0
@@ -30,20 +30,20 @@ no_record m (Back t None) h c = off h
 no_record m (Back t (Some k)) h c = off h
 no_record m e h c = off h
 
-not_number : (m : State) (e : Event) → has NotNumber (order e) ≡ true → PassesAll m e (before NotNumber (order e)) → Locked m (txn_of e) (rid_of e) Excl → ⊥
+not_number : (m : State) (e : Event) → has_cause NotNumber (order e) ≡ true → PassesAll m e (before NotNumber (order e)) → Locked m (txn_of e) (rid_of e) Excl → ⊥
 not_number m (Add t r by) h c = c.1.1.1.1.0
 not_number m (Back t None) h c = off h
 not_number m (Back t (Some k)) h c = off h
 not_number m e h c = off h
 
-over : (m : State) (e : Event) → has Over (order e) ≡ true → PassesAll m e (before Over (order e)) → Locked m (txn_of e) (rid_of e) Excl → ⊥
+over : (m : State) (e : Event) → has_cause Over (order e) ≡ true → PassesAll m e (before Over (order e)) → Locked m (txn_of e) (rid_of e) Excl → ⊥
 over m (Write t r v) h c = c.1.1.1.1.1.0
 over m (Add t r by) h c = c.1.1.1.1.0
 over m (Back t None) h c = off h
 over m (Back t (Some k)) h c = off h
 over m e h c = off h
 
-digits : (m : State) (e : Event) → has Digits (order e) ≡ true → PassesAll m e (before Digits (order e)) → Locked m (txn_of e) (rid_of e) Excl → ⊥
+digits : (m : State) (e : Event) → has_cause Digits (order e) ≡ true → PassesAll m e (before Digits (order e)) → Locked m (txn_of e) (rid_of e) Excl → ⊥
 digits m (Add t r by) h c = c.1.1.1.1.0
 digits m (Back t None) h c = off h
 digits m (Back t (Some k)) h c = off h

@@ -17,7 +17,7 @@ use Rattle.sd_model.specs.State.{State, Part, now, gone, committed}
 use Rattle.sd_model.specs.Changes.{commit_all, AreInDoubt, HasLoser, IsLoser, Reopened}
 use Rattle.sd_model.specs.Applies.{IsLost}
 use Rattle.sd_model.specs.Apart.{done_of, dones}
-use Rattle.sd_model.specs.Placed.{Stands, Placed}
+use Rattle.sd_model.specs.Lives.{SuitsStatus, LivesAreSound}
 use Rattle.sd_model.specs.Listed.{IsAmong, NoneTwice, Listed}
 use Rattle.sd_model.specs.Finishing.{is_doubt, picks, picked, standing}
 use Rattle.sd_model.specs.Reopening.{MayReopen, Finds, left_part, reopened}
@@ -136,7 +136,7 @@ doubt_is (Rolling to) is = absurd (cc)
 doubt_is (Doubt Committing) is = refl
 
 -- whoever is there while its instance is closed lost or is in doubt
-closed_life : (l : Life) → l ≢ Gone → Stands l Closed → IsLost l
+closed_life : (l : Life) → l ≢ Gone → SuitsStatus l Closed → IsLost l
 closed_life Gone ne s = absurd (ne refl)
 closed_life Running ne s = absurd s
 closed_life Retained ne s = inl refl
@@ -159,11 +159,11 @@ module _ (commits : TxnId → Bool) (m : State) (l : Listed m) where
       ap (λ (s : Contents). after s (commit_all kept m).done) (all_start m kept) ∙ ap (after m.start) (all_done m kept kept_once)
 
   pub closed-may : (stays : TxnId → Bool) (holds : TxnId → Rid → Bool) (lost : Bool) (is_down : ℕ → Bool)
-      → Placed m → ((i : ℕ) → (m.inst i).status ≡ Closed) → Finds commits stays holds lost is_down m → MayReopen kept stays holds lost is_down m
+      → LivesAreSound m → ((i : ℕ) → (m.inst i).status ≡ Closed) → Finds commits stays holds lost is_down m → MayReopen kept stays holds lost is_down m
   closed-may stays holds lost is_down p shut f = record {
     doubt = in_doubt m kept kept_once (λ u a. doubt_is (m.part u).life (kept_is u a).0);
     lives = λ t is. subst (λ (q : Part). IsLost q.life) (sym (same t is))
-        (closed_life (m.part t).life (f.there t is) (subst (Stands (m.part t).life) (shut t.inst) (p.stands t)));
+        (closed_life (m.part t).life (f.there t is) (subst (SuitsStatus (m.part t).life) (shut t.inst) (p.stands t)));
     claims = λ t r is has. ap (λ (q : Part). q.claims r) (same t is) ∙ f.claims t r is has;
     down = f.down;
     others = f.others;

@@ -10,7 +10,7 @@ use Rattle.sd_model.specs.declared.event.Event.{Event}
 use Rattle.sd_model.specs.declared.event.Event.TheVariants.{Commit}
 use Rattle.sd_model.specs.declared.event.Reply.{Reply}
 use Rattle.sd_model.specs.declared.event.Reply.TheVariants.{Did}
-use Rattle.sd_model.specs.State.{State, Part, gone, started, began, committed}
+use Rattle.sd_model.specs.State.{State, Part, gone, begun_part, began, committed}
 use Rattle.sd_model.specs.StepLaws.{next_txn}
 use Rattle.sd_model.specs.Kept.{MayCommit}
 use Rattle.sd_model.specs.Step.{Step}
@@ -96,9 +96,9 @@ calm-ended m m' c k = record {
 
 began-ended : (m : State) (i : ℕ) → (m.inst i).status ≡ Up → Ended m → Ended (began i (next_txn m i) m)
 began-ended m i up k = let x = next_txn m i in let later : ℕ → Inst = (began i x m).inst in record {
-  mays = each_txn x (λ u (p : Part). MayCommit p.life → Below later u) started m.part (λ _. next-below m i) (λ u _ may. below-rises m.inst later u (begin-rises m i u.inst) (k.mays u may));
+  mays = each_txn x (λ u (p : Part). MayCommit p.life → Below later u) begun_part m.part (λ _. next-below m i) (λ u _ may. below-rises m.inst later u (begin-rises m i u.inst) (k.mays u may));
   bounds = each-rises m.inst later (txns m.done) (begin-rises m i) k.bounds;
-  over = each_txn x (λ u (p : Part). IsAmong u (txns m.done) → MayCommit p.life → ⊥) started m.part (λ a _. next-new m i (txns m.done) up k.bounds a) (λ u _. k.over u);
+  over = each_txn x (λ u (p : Part). IsAmong u (txns m.done) → MayCommit p.life → ⊥) begun_part m.part (λ a _. next-new m i (txns m.done) up k.bounds a) (λ u _. k.over u);
   once = k.once;
 }
 

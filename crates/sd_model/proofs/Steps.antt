@@ -15,7 +15,7 @@ use Rattle.sd_model.specs.Listing.{AreRows}
 use Rattle.sd_model.specs.declared.cause.Cause.{Cause}
 use Rattle.sd_model.specs.Applies.{Changes, IsLong, IsRecovering, IsRolling, count_of}
 use Rattle.sd_model.specs.Step.{Step}
-use Rattle.sd_model.specs.StepLaws.{IsOpen, IsUp, IsReady, IsShort, IsUnused, MayJoin, IsOfTxn, next_txn}
+use Rattle.sd_model.specs.StepLaws.{IsOpen, IsUp, MayAct, IsShort, IsUnused, MayJoin, IsOfTxn, next_txn}
 
 not-gone : (life : Life) → life ≡ Running → life ≡ Gone → ⊥
 not-gone life e f = cc
@@ -49,13 +49,13 @@ join-step m i epoch opened j = (
 pub begin-step : (m : State) (i : ℕ) → IsUp m i → (m.inst i).begins < 4294967295 → count_of m i < 64 → Step m (Begin i) (Began (next_txn m i)) (began i (next_txn m i) m)
 begin-step m i k left few = ((k.opened, ((λ n. n k.up), ((λ many. omega arith), ((λ none. omega arith), tt)))), (refl, refl))
 
-pub insert-step : (m : State) (t : TxnId) (r : Rid) (value : List ℕ) (capacity : ℕ) → IsReady m t → IsShort value capacity → IsUnused m t r → Step m (Insert t r.page value capacity) (At r) (wrote t r None (Some value) m)
+pub insert-step : (m : State) (t : TxnId) (r : Rid) (value : List ℕ) (capacity : ℕ) → MayAct m t → IsShort value capacity → IsUnused m t r → Step m (Insert t r.page value capacity) (At r) (wrote t r None (Some value) m)
 insert-step m t r value capacity k short unused = (
   (k.at.opened, (not-gone _ k.runs, ((λ n. n k.at.up), (not-rolling _ k.runs, (short-not_long t r.page value capacity short, (tt, (tt, (tt, (tt, (tt, (tt, tt))))))))))),
   (k.runs, refl, sym unused.absent, unused.free, refl),
 )
 
-pub full-step : (m : State) (t : TxnId) (p : ℕ) (value : List ℕ) (capacity : ℕ) → IsReady m t → IsShort value capacity → Step m (Insert t p value capacity) (Refused R.PageFull) m
+pub full-step : (m : State) (t : TxnId) (p : ℕ) (value : List ℕ) (capacity : ℕ) → MayAct m t → IsShort value capacity → Step m (Insert t p value capacity) (Refused R.PageFull) m
 full-step m t p value capacity k short = (
   Cause.Full,
   refl,
@@ -64,7 +64,7 @@ full-step m t p value capacity k short = (
   refl,
 )
 
-pub too_long-step : (m : State) (t : TxnId) (p : ℕ) (value : List ℕ) (capacity : ℕ) → IsReady m t → IsLong (Insert t p value capacity) → Step m (Insert t p value capacity) (Refused R.TooLong) m
+pub too_long-step : (m : State) (t : TxnId) (p : ℕ) (value : List ℕ) (capacity : ℕ) → MayAct m t → IsLong (Insert t p value capacity) → Step m (Insert t p value capacity) (Refused R.TooLong) m
 too_long-step m t p value capacity k long = (
   Cause.Long,
   refl,
@@ -89,7 +89,7 @@ no_txn-step m (Undo t) opened of gone = (Cause.NoTxn, refl, tt, (refl, (opened, 
 no_txn-step m (Commit t) opened of gone = (Cause.NoTxn, refl, tt, (refl, (opened, tt), gone), refl)
 no_txn-step m e opened of gone = off of
 
-pub commit-step : (m : State) (t : TxnId) → IsReady m t → Step m (Commit t) Did (committed t m)
+pub commit-step : (m : State) (t : TxnId) → MayAct m t → Step m (Commit t) Did (committed t m)
 commit-step m t k = ((k.at.opened, (not-gone _ k.runs, ((λ n. n k.at.up), (not-rolling _ k.runs, (tt, tt))))), (k.runs, refl))
 
 pub list-step : (m : State) (i p : ℕ) (rows : List (Rid × List ℕ)) → IsUp m i → ((t : TxnId) → Changes m t p → ⊥) → AreRows p (now m) rows → Step m (Listing i p) (Rows rows) m

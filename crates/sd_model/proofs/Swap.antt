@@ -6,7 +6,7 @@ use Rattle.sd_model.specs.declared.act.Done.{Done}
 use Rattle.sd_model.specs.declared.act.Claim.{Claim}
 use Rattle.sd_model.specs.declared.act.Claim.TheVariants.{Free, Shared, Excl}
 use Rattle.sd_model.specs.Tables.{Contents}
-use Rattle.sd_model.specs.Acts.{Puts, live, seen, after}
+use Rattle.sd_model.specs.Acts.{Puts, live, seen_over, after}
 use Rattle.sd_model.specs.Claims.{Holds, Owns}
 use Rattle.sd_model.specs.State.{State}
 use Rattle.sd_model.specs.Kept.{MayCommit, Kept}
@@ -14,20 +14,20 @@ use Rattle.sd_model.specs.Apart.{Untouched, Disjoint, EachApart, done_of, dones,
 use Rattle.sd_model.proofs.Acts.{seen-agree}
 use Rattle.sd_model.proofs.Claims.{clash-of, seen-apart}
 
-pub seen-swap : (a b : Puts) → Disjoint a b → (base : Contents) (r : Rid) → seen (seen base a) b r ≡ seen (seen base b) a r
+pub seen-swap : (a b : Puts) → Disjoint a b → (base : Contents) (r : Rid) → seen_over (seen_over base a) b r ≡ seen_over (seen_over base b) a r
 seen-swap a b apart base r = ⊎_elim
-    (λ (u : Untouched a r). seen-agree (seen base a) base b r (u base) ∙ sym (u (seen base b)))
-    (λ (u : Untouched b r). u (seen base a) ∙ sym (seen-agree (seen base b) base a r (u base)))
+    (λ (u : Untouched a r). seen-agree (seen_over base a) base b r (u base) ∙ sym (u (seen_over base b)))
+    (λ (u : Untouched b r). u (seen_over base a) ∙ sym (seen-agree (seen_over base b) base a r (u base)))
     (apart r)
 
 pub after-agree : (base other : Contents) (c : List Done) (r : Rid) → base r ≡ other r → after base c r ≡ after other c r
 after-agree base other [] r e = e
-after-agree base other (d ∷ c) r e = after-agree (seen base (live d.acts)) (seen other (live d.acts)) c r (seen-agree base other (live d.acts) r e)
+after-agree base other (d ∷ c) r e = after-agree (seen_over base (live d.acts)) (seen_over other (live d.acts)) c r (seen-agree base other (live d.acts) r e)
 
 -- one that shares no record with the others may as well come first
 pub after-late : (base : Contents) (d : List Done) (x : Done) → EachApart x d → (r : Rid) → after base (d ++ x ∷ []) r ≡ after base (x ∷ d) r
 after-late base [] x a r = refl
-after-late base (y ∷ d) x a r = after-late (seen base (live y.acts)) d x a.1 r ∙ after-agree (seen (seen base (live y.acts)) (live x.acts)) (seen (seen base (live x.acts)) (live y.acts)) d r (seen-swap (live y.acts) (live x.acts) a.0 base r)
+after-late base (y ∷ d) x a r = after-late (seen_over base (live y.acts)) d x a.1 r ∙ after-agree (seen_over (seen_over base (live y.acts)) (live x.acts)) (seen_over (seen_over base (live x.acts)) (live y.acts)) d r (seen-swap (live y.acts) (live x.acts) a.0 base r)
 
 cases_owns : (c : Claim) → Owns c ⊎ (Owns c → ⊥)
 cases_owns Free = inr (λ x. x)
@@ -49,7 +49,7 @@ kept-disjoint m k t u ne a b r = ⊎_elim
 
 pub after-append : (start : Contents) (xs ys : List Done) → after start (xs ++ ys) ≡ after (after start xs) ys
 after-append start [] ys = refl
-after-append start (x ∷ xs) ys = after-append (seen start (live x.acts)) xs ys
+after-append start (x ∷ xs) ys = after-append (seen_over start (live x.acts)) xs ys
 
 others-apart : (m : State) → Kept m → (t : TxnId) → MayCommit (m.part t).life → (us : List TxnId) → AreOthers m t us → EachApart (done_of m t) (dones m us)
 others-apart m k t may [] o = tt

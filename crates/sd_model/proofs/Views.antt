@@ -8,8 +8,8 @@ use Rattle.sd_model.specs.declared.act.Life.{Life}
 use Rattle.sd_model.specs.declared.act.Life.TheVariants.{Gone}
 use Rattle.sd_base.specs.Ids.{same_txn, same_rid}
 use Rattle.sd_model.specs.Tables.{Content}
-use Rattle.sd_model.specs.Acts.{Puts, live, seen}
-use Rattle.sd_model.specs.State.{State, Part, now, view, started, put_part, took_part, began, wrote, committed}
+use Rattle.sd_model.specs.Acts.{Puts, live, seen_over}
+use Rattle.sd_model.specs.State.{State, Part, now, view, begun_part, put_part, took_part, began, wrote, committed}
 use Rattle.sd_model.specs.Applies.{count_of, is_unresolved}
 use Rattle.sd_model.proofs.Acts.{live_from-append, after-snoc}
 use Rattle.sd_base.proofs.SameIds.{eq-same, ne-same}
@@ -29,14 +29,14 @@ part-elsewhere m t u p ne = put-elsewhere t u p m.part ne
 pub view_after-write : (m : State) (t : TxnId) (r : Rid) (v w : Content) (q : Rid) → view (wrote t r v w m) t q ≡ cond (same_rid r q) w (view m t q)
 view_after-write m t r v w q =
     let acts = Act.Read r v ∷ Act.Put r w ∷ [] in
-    ap (λ (p : Part). seen (now m) (live p.acts) q) (put-here t (took_part r Excl acts (m.part t)) m.part)
-    ∙ ap (λ (puts : Puts). seen (now m) puts q) (live_from-append [] (m.part t).acts acts)
+    ap (λ (p : Part). seen_over (now m) (live p.acts) q) (put-here t (took_part r Excl acts (m.part t)) m.part)
+    ∙ ap (λ (puts : Puts). seen_over (now m) puts q) (live_from-append [] (m.part t).acts acts)
 
 pub now_after-commit : (m : State) (t : TxnId) → now (committed t m) ≡ view m t
 now_after-commit m t = after-snoc m.start m.done (record { txn = t; acts = (m.part t).acts })
 
 pub view_after-begin : (m : State) (i : ℕ) (x : TxnId) → view (began i x m) x ≡ now m
-view_after-begin m i x = ap (λ (p : Part). seen (now m) (live p.acts)) (put-here x started m.part)
+view_after-begin m i x = ap (λ (p : Part). seen_over (now m) (live p.acts)) (put-here x begun_part m.part)
 
 gone-resolved : (life : Life) → life ≡ Gone → is_unresolved life ≡ false
 gone-resolved life e = ap is_unresolved e

@@ -27,14 +27,14 @@ abbrev pub live : List Act → Puts
 live acts = live_from [] acts
 
 -- what a record has where the puts stand over a table: the last put of it, else what the table has
-abbrev pub seen : Contents → Puts → Contents
-seen base [] r = base r
-seen base (p ∷ puts) r = cond (same_rid p.0 r) p.1 (seen base puts r)
+abbrev pub seen_over : Contents → Puts → Contents
+seen_over base [] r = base r
+seen_over base (p ∷ puts) r = cond (same_rid p.0 r) p.1 (seen_over base puts r)
 
 -- each read found the last put before it that was live then, else what the table has
 abbrev pub ReadsFrom : Contents → Puts → List Act → Type 0
 ReadsFrom base puts [] = Unit {0}
-ReadsFrom base puts (Read r v ∷ acts) = (v ≡ seen base puts r) × ReadsFrom base puts acts
+ReadsFrom base puts (Read r v ∷ acts) = (v ≡ seen_over base puts r) × ReadsFrom base puts acts
 ReadsFrom base puts (Put r v ∷ acts) = ReadsFrom base ((r, v) ∷ puts) acts
 ReadsFrom base puts (Undo ∷ acts) = ReadsFrom base (undone puts) acts
 
@@ -44,9 +44,9 @@ Reads base acts = ReadsFrom base [] acts
 -- the table after these transactions, one after another
 abbrev pub after : Contents → List Done → Contents
 after start [] = start
-after start (d ∷ done) = after (seen start (live d.acts)) done
+after start (d ∷ done) = after (seen_over start (live d.acts)) done
 
 -- each reads what it would read if they ran one after another
 abbrev pub Serial : Contents → List Done → Type 0
 Serial start [] = Unit {0}
-Serial start (d ∷ done) = Reads start d.acts × Serial (seen start (live d.acts)) done
+Serial start (d ∷ done) = Reads start d.acts × Serial (seen_over start (live d.acts)) done

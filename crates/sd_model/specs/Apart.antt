@@ -4,13 +4,13 @@ use Rattle.sd_base.specs.declared.ids.TxnId.{TxnId}
 use Rattle.sd_base.specs.declared.ids.Rid.{Rid}
 use Rattle.sd_model.specs.declared.act.Done.{Done}
 use Rattle.sd_model.specs.Tables.{Contents}
-use Rattle.sd_model.specs.Acts.{Puts, live, seen}
+use Rattle.sd_model.specs.Acts.{Puts, live, seen_over}
 use Rattle.sd_model.specs.State.{State}
 use Rattle.sd_model.specs.Kept.{MayCommit}
 
 -- the puts leave the record as it was
 abbrev pub Untouched : Puts → Rid → Type 0
-Untouched puts r = (base : Contents) → seen base puts r ≡ base r
+Untouched puts r = (base : Contents) → seen_over base puts r ≡ base r
 
 -- no record is put by both
 abbrev pub Disjoint : Puts → Puts → Type 0

@@ -18,7 +18,7 @@ use Rattle.sd_model.specs.Fields.{txn_of, rid_of, mode_of, inst_of}
 use Rattle.sd_model.specs.Numbers.{IsNumber, IsLongSum, IsSum}
 use Rattle.sd_model.specs.Changes.{mark_of, goal}
 use Rattle.sd_model.specs.declared.cause.Cause.{Cause}
-use Rattle.sd_model.specs.Causes.{order, before, has}
+use Rattle.sd_model.specs.Causes.{order, before, has_cause}
 
 -- it runs transactions, or recovers itself or another
 abbrev pub IsActive : ℕ → Status → Type 0
@@ -28,18 +28,18 @@ abbrev pub TakesChecks : Status → Type 0
 TakesChecks s = (s ≡ Status.Up) ⊎ (s ≡ Status.Restarting)
 
 -- the acting instance stands so that it serves the event
-abbrev pub Serves : State → Event → Type 0
-Serves m (Ask i p mode) = IsActive i (m.inst i).status
-Serves m (Give i p) = IsActive i (m.inst i).status
-Serves m (Take i p) = IsActive i (m.inst i).status
-Serves m (Evict i p) = IsActive i (m.inst i).status
-Serves m (Flush i p) = IsActive i (m.inst i).status
-Serves m (Force i) = IsActive i (m.inst i).status
-Serves m (Fail i) = IsActive i (m.inst i).status
-Serves m (CheckBegin i) = TakesChecks (m.inst i).status
-Serves m (CheckEnd i) = TakesChecks (m.inst i).status
-Serves m (RecoverBegin i by) = (by ≡ i) ⊎ ((m.inst by).status ≡ Status.Up)
-Serves m e = (m.inst (inst_of e)).status ≡ Status.Up
+abbrev pub MayServe : State → Event → Type 0
+MayServe m (Ask i p mode) = IsActive i (m.inst i).status
+MayServe m (Give i p) = IsActive i (m.inst i).status
+MayServe m (Take i p) = IsActive i (m.inst i).status
+MayServe m (Evict i p) = IsActive i (m.inst i).status
+MayServe m (Flush i p) = IsActive i (m.inst i).status
+MayServe m (Force i) = IsActive i (m.inst i).status
+MayServe m (Fail i) = IsActive i (m.inst i).status
+MayServe m (CheckBegin i) = TakesChecks (m.inst i).status
+MayServe m (CheckEnd i) = TakesChecks (m.inst i).status
+MayServe m (RecoverBegin i by) = (by ≡ i) ⊎ ((m.inst by).status ≡ Status.Up)
+MayServe m e = (m.inst (inst_of e)).status ≡ Status.Up
 
 -- running, retained or in doubt
 abbrev pub is_unresolved : Life → Bool
@@ -146,7 +146,7 @@ IsSlotLocked m e = Unit {0}
 abbrev pub Says : State → Event → Cause → Type 0
 Says m e Cause.Shut = (m.inst 1).status ≡ Status.Closed
 Says m e Cause.NoTxn = (m.part (txn_of e)).life ≡ Gone
-Says m e Cause.Down = Serves m e → ⊥
+Says m e Cause.Down = MayServe m e → ⊥
 Says m e Cause.Busy = IsBusy m e
 Says m e Cause.Long = IsLong e
 Says m e Cause.Lock = Locked m (txn_of e) (rid_of e) (mode_of e)
@@ -202,4 +202,4 @@ Clear m e = PassesAll m e (order e)
 
 -- the first cause that applies
 abbrev pub First : State → Event → Cause → Type 0
-First m e c = (has c (order e) ≡ true) × PassesAll m e (before c (order e)) × Says m e c
+First m e c = (has_cause c (order e) ≡ true) × PassesAll m e (before c (order e)) × Says m e c

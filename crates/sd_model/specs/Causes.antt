@@ -34,9 +34,9 @@ number Cause.NotRecovered = 25
 number Cause.Rig = 26
 number Cause.Cut = 27
 
-abbrev pub has : Cause → List Cause → Bool
-has c [] = false
-has c (d ∷ ds) = cond (eqb (number c) (number d)) true (has c ds)
+abbrev pub has_cause : Cause → List Cause → Bool
+has_cause c [] = false
+has_cause c (d ∷ ds) = cond (eqb (number c) (number d)) true (has_cause c ds)
 
 -- those that are tried before a cause
 abbrev pub before : Cause → List Cause → List Cause

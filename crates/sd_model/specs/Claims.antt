@@ -9,16 +9,16 @@ abbrev pub Claims : Type 0
 Claims = Rid → Claim
 
 -- the old claim, and one in this mode more
-abbrev pub raised : Claim → Claim → Claim
-raised Free old = old
-raised Shared Free = Shared
-raised Shared Shared = Shared
-raised Shared Excl = Excl
-raised Excl old = Excl
+abbrev pub raised_claim : Claim → Claim → Claim
+raised_claim Free old = old
+raised_claim Shared Free = Shared
+raised_claim Shared Shared = Shared
+raised_claim Shared Excl = Excl
+raised_claim Excl old = Excl
 
 -- the claims with one in this mode on r more
 abbrev pub with_claim : Rid → Claim → Claims → Claims
-with_claim r mode claims q = cond (same_rid r q) (raised mode (claims q)) (claims q)
+with_claim r mode claims q = cond (same_rid r q) (raised_claim mode (claims q)) (claims q)
 
 -- there is a claim
 abbrev pub Holds : Claim → Type 0

@@ -11,7 +11,7 @@ use Rattle.sd_model.specs.State.{State}
 use Rattle.sd_model.specs.Changes.{swept, commit_all}
 use Rattle.sd_model.specs.Apart.{dones}
 use Rattle.sd_model.specs.Kept.{Kept}
-use Rattle.sd_model.specs.Placed.{IsDoubt, Placed}
+use Rattle.sd_model.specs.Lives.{IsDoubt, LivesAreSound}
 use Rattle.sd_model.specs.Listed.{Listed}
 
 abbrev pub is_doubt : Life → Bool
@@ -36,7 +36,7 @@ standing m kept = after m.start (m.done ++ dones m (picked m kept))
 -- The recovery of i ends with its one in doubt committed. The table stays, though others that were cut before are still
 -- in doubt.
 abbrev pub FinishedCommitted : Type 0
-FinishedCommitted = (m : State) → Kept m → Placed m → Listed m → (i : ℕ) (t : TxnId) → t.inst ≡ i → (m.part t).life ≡ Doubt Cut.Committing
+FinishedCommitted = (m : State) → Kept m → LivesAreSound m → Listed m → (i : ℕ) (t : TxnId) → t.inst ≡ i → (m.part t).life ≡ Doubt Cut.Committing
     → (kept : TxnId → Bool) → kept t ≡ true → (r : Rid) → standing (swept i (commit_all (t ∷ []) m)) kept r ≡ standing m kept r
 
 -- the recovery of i ends with none committed, where no commit of one in doubt there is kept: the table stays

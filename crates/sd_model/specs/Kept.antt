@@ -42,7 +42,7 @@ pub record Kept (m : State) : Type 0 where
   pub apart : (t u : TxnId) → t ≢ u → MayCommit (m.part t).life → MayCommit (m.part u).life → (r : Rid) → Clash ((m.part t).claims r) ((m.part u).claims r) → ⊥
 
 -- t's part may be p
-pub record Fits (m : State) (t : TxnId) (p : Part) : Type 0 where
+pub record PartFits (m : State) (t : TxnId) (p : Part) : Type 0 where
   pub reads : MayCommit p.life → Reads (now m) p.acts
   pub covered : MayCommit p.life → Covered p.claims p.acts
   pub apart : (u : TxnId) → t ≢ u → MayCommit p.life → MayCommit (m.part u).life → (r : Rid) → Clash (p.claims r) ((m.part u).claims r) → ⊥

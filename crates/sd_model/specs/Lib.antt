@@ -18,7 +18,7 @@ pub mod Kept
 pub mod StepLaws
 pub mod ViewLaws
 pub mod RunLaws
-pub mod Placed
+pub mod Lives
 pub mod Listed
 pub mod Opened
 pub mod StayLaws

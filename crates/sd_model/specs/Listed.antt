@@ -6,7 +6,7 @@ use Rattle.sd_model.specs.declared.act.Inst.{Inst}
 use Rattle.sd_model.specs.declared.act.Life.{Life}
 use Rattle.sd_model.specs.declared.act.Life.TheVariants.{Gone, Running, Retained, Rolling, Doubt}
 use Rattle.sd_model.specs.State.{State}
-use Rattle.sd_model.specs.Placed.{IsDoubt}
+use Rattle.sd_model.specs.Lives.{IsDoubt}
 
 -- t stands in the list
 abbrev pub IsAmong : TxnId → List TxnId → Type 0

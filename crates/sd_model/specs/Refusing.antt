@@ -11,7 +11,7 @@ use Rattle.sd_model.specs.declared.act.Life.TheVariants as Life
 use Rattle.sd_model.specs.State.{State, view, put_inst, looked_at, fall, cut_commit}
 use Rattle.sd_model.specs.Fields.{txn_of, rid_of, inst_of}
 use Rattle.sd_model.specs.declared.cause.Cause.{Cause}
-use Rattle.sd_model.specs.Causes.{has}
+use Rattle.sd_model.specs.Causes.{has_cause}
 use Rattle.sd_model.specs.Applies.{Changes}
 
 -- the causes of a refusal; those of text and devices come from no event
@@ -43,7 +43,7 @@ causes_of R.NotNumber = Cause.NotNumber ∷ []
 causes_of n = []
 
 abbrev pub Names : Cause → Refusal → Type 0
-Names c n = has c (causes_of n) ≡ true
+Names c n = has_cause c (causes_of n) ≡ true
 
 -- the lowest transaction with an exclusive claim on a record of the page
 abbrev pub IsLowestChanger : State → ℕ → TxnId → Type 0

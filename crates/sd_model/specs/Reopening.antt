@@ -11,7 +11,7 @@ use Rattle.sd_model.specs.Claims.{Claims}
 use Rattle.sd_model.specs.State.{State, Part, now, gone, with_status}
 use Rattle.sd_model.specs.Changes.{commit_all, AreInDoubt, Reopened}
 use Rattle.sd_model.specs.Applies.{IsLost}
-use Rattle.sd_model.specs.Placed.{Placed}
+use Rattle.sd_model.specs.Lives.{LivesAreSound}
 use Rattle.sd_model.specs.Listed.{Listed}
 use Rattle.sd_model.specs.Finishing.{picked, standing}
 
@@ -55,7 +55,7 @@ pub record Finds (commits stays : TxnId → Bool) (holds : TxnId → Rid → Boo
 -- a closed complex may reopen from what it finds: those in doubt whose commit is kept are committed
 abbrev pub ClosedMayReopen : Type 0
 ClosedMayReopen = (commits stays : TxnId → Bool) (holds : TxnId → Rid → Bool) (lost : Bool) (is_down : ℕ → Bool) (m : State)
-    → Placed m → Listed m → ((i : ℕ) → (m.inst i).status ≡ Closed) → Finds commits stays holds lost is_down m
+    → LivesAreSound m → Listed m → ((i : ℕ) → (m.inst i).status ≡ Closed) → Finds commits stays holds lost is_down m
     → MayReopen (picked m commits) stays holds lost is_down m
 
 -- the table of a complex that opened again is the one that stood

@@ -9,7 +9,7 @@ use Rattle.sd_model.specs.declared.event.Event.{Event}
 use Rattle.sd_model.specs.declared.event.Reply.{Reply}
 use Rattle.sd_model.specs.declared.event.Entry.{Entry}
 use Rattle.sd_model.specs.Tables.{Contents}
-use Rattle.sd_model.specs.Acts.{Puts, live, seen, after, Serial}
+use Rattle.sd_model.specs.Acts.{Puts, live, seen_over, after, Serial}
 use Rattle.sd_model.specs.State.{State, Part, began, fresh}
 use Rattle.sd_model.specs.Changes.{goal}
 use Rattle.sd_model.specs.Applies.{count_of}
@@ -41,7 +41,7 @@ RunKeeps P = (entries : List Entry) (m m' : State) → Run m entries m' → P m 
 
 -- puts that share no record may be made in either order
 abbrev pub PutsCommute : Type 0
-PutsCommute = (a b : Puts) → Disjoint a b → (base : Contents) (r : Rid) → seen (seen base a) b r ≡ seen (seen base b) a r
+PutsCommute = (a b : Puts) → Disjoint a b → (base : Contents) (r : Rid) → seen_over (seen_over base a) b r ≡ seen_over (seen_over base b) a r
 
 -- a transaction that shares no record with those before it may as well come before them
 abbrev pub LateIsEarly : Type 0

@@ -13,7 +13,7 @@ use Rattle.sd_model.specs.declared.act.Cut.TheVariants as Cut
 use Rattle.sd_model.specs.declared.act.Inst.{Inst}
 use Rattle.sd_base.specs.Ids.{same_txn}
 use Rattle.sd_model.specs.Tables.{Content, Contents}
-use Rattle.sd_model.specs.Acts.{live, seen, after}
+use Rattle.sd_model.specs.Acts.{live, seen_over, after}
 use Rattle.sd_model.specs.Claims.{Claims, with_claim}
 
 -- a transaction: a mark is a name with the number of live puts at that moment
@@ -41,7 +41,7 @@ now m = after m.start m.done
 
 -- what the transaction finds: its last live put of a record, else what the committed ones left
 abbrev pub view : State → TxnId → Contents
-view m t = seen (now m) (live (m.part t).acts)
+view m t = seen_over (now m) (live (m.part t).acts)
 
 abbrev pub no_claims : Claims
 no_claims r = Free
@@ -50,8 +50,8 @@ abbrev pub gone : Part
 gone = record { life = Life.Gone; acts = []; marks = []; claims = no_claims }
 
 -- one that has just begun
-abbrev pub started : Part
-started = record { life = Life.Running; acts = []; marks = []; claims = no_claims }
+abbrev pub begun_part : Part
+begun_part = record { life = Life.Running; acts = []; marks = []; claims = no_claims }
 
 -- t's part is p
 abbrev pub put_part : TxnId → Part → State → State
@@ -131,7 +131,7 @@ cut_commit t m = fall t.inst (put_part t (record (m.part t) { life = Life.Doubt 
 
 -- x begins
 abbrev pub began : ℕ → TxnId → State → State
-began i x m = put_part x started (put_inst i (record (m.inst i) { begins = (m.inst i).begins + 1 }) (record m { begun = m.begun ++ x ∷ [] }))
+began i x m = put_part x begun_part (put_inst i (record (m.inst i) { begins = (m.inst i).begins + 1 }) (record m { begun = m.begun ++ x ∷ [] }))
 
 -- i is up in this epoch
 abbrev pub joined : ℕ → ℕ → State → State

@@ -13,7 +13,7 @@ use Rattle.sd_model.specs.State.{State, now, view, joined, began, wrote, committ
 use Rattle.sd_model.specs.Listing.{AreRows}
 use Rattle.sd_model.specs.Fields.{txn_of}
 use Rattle.sd_model.specs.declared.cause.Cause.{Cause}
-use Rattle.sd_model.specs.Causes.{order, has}
+use Rattle.sd_model.specs.Causes.{order, has_cause}
 use Rattle.sd_model.specs.Applies.{Changes, IsLong, count_of}
 use Rattle.sd_model.specs.Step.{Step}
 
@@ -27,7 +27,7 @@ pub record IsUp (m : State) (i : ℕ) : Type 0 where
   pub opened : IsOpen m
 
 -- the transaction runs at an instance that is up
-pub record IsReady (m : State) (t : TxnId) : Type 0 where
+pub record MayAct (m : State) (t : TxnId) : Type 0 where
   pub runs : (m.part t).life ≡ Running
   pub at : IsUp m t.inst
 
@@ -54,7 +54,7 @@ next_txn m i = record { inst = i; epoch = (m.inst i).epoch; seq = (m.inst i).beg
 
 -- the event is of a transaction
 abbrev pub IsOfTxn : Event → Type 0
-IsOfTxn e = has Cause.NoTxn (order e) ≡ true
+IsOfTxn e = has_cause Cause.NoTxn (order e) ≡ true
 
 abbrev pub JoinedSteps : Type 0
 JoinedSteps = (m : State) (i epoch : ℕ) → IsOpen m → MayJoin m i epoch → Step m (Join i) (Joined epoch) (joined i epoch m)
@@ -63,19 +63,19 @@ abbrev pub BeganSteps : Type 0
 BeganSteps = (m : State) (i : ℕ) → IsUp m i → (m.inst i).begins < 4294967295 → count_of m i < 64 → Step m (Begin i) (Began (next_txn m i)) (began i (next_txn m i) m)
 
 abbrev pub InsertedSteps : Type 0
-InsertedSteps = (m : State) (t : TxnId) (r : Rid) (value : List ℕ) (capacity : ℕ) → IsReady m t → IsShort value capacity → IsUnused m t r → Step m (Insert t r.page value capacity) (At r) (wrote t r None (Some value) m)
+InsertedSteps = (m : State) (t : TxnId) (r : Rid) (value : List ℕ) (capacity : ℕ) → MayAct m t → IsShort value capacity → IsUnused m t r → Step m (Insert t r.page value capacity) (At r) (wrote t r None (Some value) m)
 
 abbrev pub FullSteps : Type 0
-FullSteps = (m : State) (t : TxnId) (p : ℕ) (value : List ℕ) (capacity : ℕ) → IsReady m t → IsShort value capacity → Step m (Insert t p value capacity) (Refused R.PageFull) m
+FullSteps = (m : State) (t : TxnId) (p : ℕ) (value : List ℕ) (capacity : ℕ) → MayAct m t → IsShort value capacity → Step m (Insert t p value capacity) (Refused R.PageFull) m
 
 abbrev pub TooLongSteps : Type 0
-TooLongSteps = (m : State) (t : TxnId) (p : ℕ) (value : List ℕ) (capacity : ℕ) → IsReady m t → IsLong (Insert t p value capacity) → Step m (Insert t p value capacity) (Refused R.TooLong) m
+TooLongSteps = (m : State) (t : TxnId) (p : ℕ) (value : List ℕ) (capacity : ℕ) → MayAct m t → IsLong (Insert t p value capacity) → Step m (Insert t p value capacity) (Refused R.TooLong) m
 
 abbrev pub NoTxnSteps : Type 0
 NoTxnSteps = (m : State) (e : Event) → IsOpen m → IsOfTxn e → (m.part (txn_of e)).life ≡ Gone → Step m e (Refused R.NoTxn) m
 
 abbrev pub CommittedSteps : Type 0
-CommittedSteps = (m : State) (t : TxnId) → IsReady m t → Step m (Commit t) Did (committed t m)
+CommittedSteps = (m : State) (t : TxnId) → MayAct m t → Step m (Commit t) Did (committed t m)
 
 abbrev pub ListedSteps : Type 0
 ListedSteps = (m : State) (i p : ℕ) (rows : List (Rid × List ℕ)) → IsUp m i → ((t : TxnId) → Changes m t p → ⊥) → AreRows p (now m) rows → Step m (Listing i p) (Rows rows) m

@@ -7,7 +7,7 @@ ghost use Rattle.sd_model.specs.SerialLaws.{RunIsSerial, RunIsKept, FreshIsOpeni
 ghost use Rattle.sd_model.specs.WaitLaws.{BlockedIsLocked, DeadlockIsLocked, BlockedOrDeadlock};
 ghost use Rattle.sd_model.specs.SceneLaws.{OnlyRunningWait, CallerWaits, OthersWaitOn, SceneRunKeeps, StepPlays, SceneRunGrows, ScenesGiveRun, RunHasScenes};
 ghost use Rattle.sd_model.specs.Kept.{Kept};
-ghost use Rattle.sd_model.specs.Placed.{Placed};
+ghost use Rattle.sd_model.specs.Lives.{LivesAreSound};
 ghost use Rattle.sd_model.specs.Listed.{Listed};
 ghost use Rattle.sd_model.specs.Marks.{Marked};
 ghost use Rattle.sd_model.specs.Recoverers.{Recoverers, RecovererIsActive};
@@ -71,8 +71,8 @@ pub fn commuting()
 /// Transactions stand where their instances let them, each that is there is listed once, marks are at most the live puts,
 /// and whoever recovers an instance is active.
 pub fn whereabouts()
-    ensures placed { StepKeeps Placed }
-    ensures placed_all { RunKeeps Placed }
+    ensures placed { StepKeeps LivesAreSound }
+    ensures placed_all { RunKeeps LivesAreSound }
     ensures listed { StepKeeps Listed }
     ensures listed_all { RunKeeps Listed }
     ensures marked { StepKeeps Marked }
@@ -99,7 +99,7 @@ pub fn lasting()
 /// A complex that is opened from devices begins as the laws of whereabouts want it, and so does a fresh one.
 pub fn openings()
     ensures fresh { FreshIsOpened }
-    ensures placed { OpenedIs Placed }
+    ensures placed { OpenedIs LivesAreSound }
     ensures listed { OpenedIs Listed }
     ensures marked { OpenedIs Marked }
     ensures recoverers { OpenedIs Recoverers }

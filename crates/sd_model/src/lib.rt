@@ -3,7 +3,7 @@
 //! Meaning: a `Table` is a finite map (`specs/Tables.antt`); a `Book` is the opening table with the entries since
 //! (`specs/History.antt`); `Step` says which reply may follow in a state, and what it leaves (`specs/Step.antt`); a `Scene`
 //! is a state with who waits for what (`specs/Scenes.antt`).
-//! Keeps: `Kept`, `Placed`, `Listed`, `Marked` and `Recoverers`, which each step keeps (`specs/Kept.antt` and the files of
+//! Keeps: `Kept`, `LivesAreSound`, `Listed`, `Marked` and `Recoverers`, which each step keeps (`specs/Kept.antt` and the files of
 //! those names).
 //! Promises: a run from an opening leaves transactions that read as if they ran one after another, what was committed
 //! stays committed, no id is given twice, and the end of a recovery leaves the table that stood (`laws.rt`).

@@ -5,9 +5,9 @@ use Rattle.std.specs.Box.{box_value}
 use Rattle.std.specs.Global.{Box}
 use Rattle.std.specs.Prelude.{Option, None, Some, IsSome, option_copied, option_map}
 use Rattle.sd_page.specs.Page.{Page}
-use Rattle.sd_rig.specs.Devices.{Image}
+use Rattle.sd_rig.specs.Devices.{DeviceImages}
 use Rattle.sd_model.specs.State.{State}
-use Rattle.sd_pagelock.specs.Directory.{DirectoryState, entry_at, image_at}
+use Rattle.sd_pagelock.specs.Directory.{DirectoryState, entry_at, moving_image_at}
 use Rattle.sd_pagelock.specs.Places.{holds, passes}
 use Rattle.sd_pool.specs.Buffers as buffers
 use Rattle.sd_pool.specs.Buffers.{Buffers}
@@ -50,14 +50,14 @@ some-boxed None x has = let clash : None ≡ Some has.box = has.there in absurd 
 some-boxed (Some box) x has = refl
 
 -- what is on its way, out of its box
-pub way-unboxed : (p : ℕ) (image : Option Page) (d e : DirectoryState (Box Page)) → option_map box_value (image_at e p) ≡ image
-    → ((q : ℕ) → q ≢ p → image_at e q ≡ image_at d q) → IsOnWay p image (unboxed d) (unboxed e)
+pub way-unboxed : (p : ℕ) (image : Option Page) (d e : DirectoryState (Box Page)) → option_map box_value (moving_image_at e p) ≡ image
+    → ((q : ℕ) → q ≢ p → moving_image_at e q ≡ moving_image_at d q) → IsOnWay p image (unboxed d) (unboxed e)
 way-unboxed p image d e here others = record {
   here = get_or-map (option_map box_value) e.images p None ∙ here;
   others = λ q ne. image-unboxed d e q (others q ne);
 }
 
-module _ (seen_now : Image) (leaves : Outcomes) (pend : Pending) (p : ℕ) where
+module _ (seen_now : DeviceImages) (leaves : Outcomes) (pend : Pending) (p : ℕ) where
   abbrev newest : Parts → Page
   newest c = newest_of seen_now leaves c p
 
@@ -92,30 +92,30 @@ module _ (seen_now : Image) (leaves : Outcomes) (pend : Pending) (p : ℕ) where
 
   module _ {G : Type 0} (c : Complex G) (m : State) (g : Good seen_now leaves pend (parts c) m)
       (moves : passes (entry_at (parts c).directory p) ≡ true) where
-    pub on-its-way : image_at (unboxed c.directory) p ≡ Some (newest (parts c))
+    pub on-its-way : moving_image_at (unboxed c.directory) p ≡ Some (newest (parts c))
     on-its-way =
         let h = g.half (λ j. false) in
         let leaves' : Outcomes = leaves_by (parts c) (λ j. false) leaves in
         let base = base_of seen_now leaves' (log_at (parts c)) (parts c) in
         (moving-newest (may_of leaves') base (dir_of (parts c)) h.coherent p).0 moves
 
-    in-boxes : option_map box_value (image_at c.directory p) ≡ Some (newest (parts c))
+    in-boxes : option_map box_value (moving_image_at c.directory p) ≡ Some (newest (parts c))
     in-boxes = sym (get_or-map (option_map box_value) c.directory.images p None) ∙ on-its-way
 
-    arrives : Boxed (image_at c.directory p) (newest (parts c))
-    arrives = boxed (image_at c.directory p) (newest (parts c)) in-boxes
+    arrives : Boxed (moving_image_at c.directory p) (newest (parts c))
+    arrives = boxed (moving_image_at c.directory p) (newest (parts c)) in-boxes
 
     -- what passes is there,
-    pub moving-there : (o : Option (Bor (Box Page))) → option_copied o ≡ image_at c.directory p → IsSome o
+    pub moving-there : (o : Option (Bor (Box Page))) → option_copied o ≡ moving_image_at c.directory p → IsSome o
     moving-there o lent = some-lent o arrives.box (lent ∙ arrives.there)
 
     -- and is the newest version
-    pub moving-is : (o : Option (Bor (Box Page))) → option_copied o ≡ image_at c.directory p → (b : Bor (Box Page)) → o ≡ Some b
+    pub moving-is : (o : Option (Bor (Box Page))) → option_copied o ≡ moving_image_at c.directory p → (b : Bor (Box Page)) → o ≡ Some b
         → b.now.value ≡ newest (parts c)
     moving-is o lent b is = ap box_value (lent-is o arrives.box (lent ∙ arrives.there) b is) ∙ arrives.value
 
     -- so it is where what passes arrives
-    module _ (o : Option (Box Page)) (came : o ≡ image_at c.directory p) where
+    module _ (o : Option (Box Page)) (came : o ≡ moving_image_at c.directory p) where
       pub arrived-there : IsSome o
       arrived-there = some-boxed o (newest (parts c)) (boxed o (newest (parts c)) (ap (option_map box_value) came ∙ in-boxes))
 

@@ -18,7 +18,7 @@ use Rattle.sd_rig.specs.Devices as rig
 use Rattle.sd_txn.specs.Owing.{owed_of}
 use Rattle.sd_txn.specs.Transactions.{Transactions}
 use Rattle.sd_chain.specs.Checks.{Follow, Past, after_record, past_of}
-use Rattle.sd_chain.specs.Image.{newest}
+use Rattle.sd_chain.specs.Storage.{newest}
 use Rattle.sd_chain.specs.Images.{Keeps, kept_at}
 use Rattle.sd_coherent.specs.Named.{version_of}
 use Rattle.sd_sound.specs.Logs.{Outcomes, after_records, past_at, records_at, tails_of}
@@ -101,7 +101,7 @@ unsettled-most c j = by (is_loose c j)
     by true = omega arith
     by false = told-most (status_at c j) (owed_of (txns_at c j)) (owed_at c j)
 
-module _ (i : ℕ) (seen : rig.Image) (leaves : Outcomes) (pend : Pending) (c new : Parts) (m : State) (low : 1 ≤ i) (high : i ≤ 8)
+module _ (i : ℕ) (seen : rig.DeviceImages) (leaves : Outcomes) (pend : Pending) (c new : Parts) (m : State) (low : 1 ≤ i) (high : i ≤ 8)
     (g : Good seen leaves pend c m) (parts : new ≡ with_fallen i new c) (f : IsFallen i c new) where
   abbrev o : Option ℕ
   o = owed_dropped i c

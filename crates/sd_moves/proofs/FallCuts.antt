@@ -8,7 +8,7 @@ use Rattle.sd_logrec.specs.View.{Rec}
 use Rattle.sd_model.specs.Kept.{Kept, MayCommit}
 use Rattle.sd_model.specs.Listed.{IsAmong, IsAtWork, Listed}
 use Rattle.sd_model.specs.Marks.{Marked, Sized}
-use Rattle.sd_model.specs.Placed.{IsDoubt, Placed}
+use Rattle.sd_model.specs.Lives.{IsDoubt, LivesAreSound}
 use Rattle.sd_model.specs.Recoverers.{Recoverers}
 use Rattle.sd_model.specs.State.{Part, State, cut_commit}
 use Rattle.sd_model.specs.declared.act.Life.{Life}
@@ -27,7 +27,7 @@ same-filtered f g [] same = refl
 same-filtered f g (x ∷ xs) same =
     ap₂ (λ (b : Bool) (ys : List TxnId). cond b (x ∷ ys) ys) (same x (inl refl)) (same-filtered f g xs (λ u a. same u (inr a)))
 
-module _ (t : TxnId) (m : State) (runs : (m.part t).life ≡ Life.Running) (opened : NotShut m) (kept : Kept m) (placed : Placed m)
+module _ (t : TxnId) (m : State) (runs : (m.part t).life ≡ Life.Running) (opened : NotShut m) (kept : Kept m) (placed : LivesAreSound m)
     (listed : Listed m) (marked : Marked m) (recoverers : Recoverers m) where
   abbrev i : ℕ
   i = home t

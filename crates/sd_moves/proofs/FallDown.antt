@@ -42,7 +42,7 @@ was-found (Some x) e = ap (λ (s : TxnState). Some s) (by x.state (let f : lost_
 abbrev pub IsDueOf : ℕ → Parts → Type 0
 IsDueOf i c = (c.due ≡ None) ⊎ ((j : ℕ) × (c.due ≡ Some (i, j)) × (is_loose c j ≡ true))
 
-module _ (i : ℕ) (table : Transactions) (n c : Parts) (seen : rig.Image) (leaves : Outcomes) (m : State)
+module _ (i : ℕ) (table : Transactions) (n c : Parts) (seen : rig.DeviceImages) (leaves : Outcomes) (m : State)
     (low : 1 ≤ i) (high : i ≤ 8) (due : IsDueOf i c) (f : IsLeft i c n) (lost_rows : AreLost (txns_at c i) table) where
   -- the rows name who is lost
   names-there : (pend : Pending) → Good seen leaves pend c m → (t : TxnId) → home t ≡ i
@@ -78,7 +78,7 @@ module _ (i : ℕ) (table : Transactions) (n c : Parts) (seen : rig.Image) (leav
       (none-else (Pending.Starts i) g) found-there (names-there (Pending.Starts i) g)
 
 -- who runs has a row
-pub runs-unresolved : (seen : rig.Image) (leaves : Outcomes) (c : Parts) (m : State) (t : TxnId) → 1 ≤ home t → home t ≤ 8
+pub runs-unresolved : (seen : rig.DeviceImages) (leaves : Outcomes) (c : Parts) (m : State) (t : TxnId) → 1 ≤ home t → home t ≤ 8
     → Good seen leaves (Pending.Commits t) c m → IsUnresolved (txns_at c (home t)) t
 runs-unresolved seen leaves c m t low high g = by (txn_at (txns_at c (home t)) t) ((g.instances (home t) low high).names t refl)
   where
@@ -90,7 +90,7 @@ runs-unresolved seen leaves c m t low high g = by (txn_at (txns_at c (home t)) t
     by None names = let clash : Life.Running ≡ Life.Gone = sym under.runs ∙ names in absurd (cc)
     by (Some x) names = refl
 
-module _ (t : TxnId) (table : Transactions) (n c : Parts) (seen : rig.Image) (leaves : Outcomes) (m : State)
+module _ (t : TxnId) (table : Transactions) (n c : Parts) (seen : rig.DeviceImages) (leaves : Outcomes) (m : State)
     (low : 1 ≤ home t) (high : home t ≤ 8) (due : IsDueOf (home t) c) (f : IsLeft (home t) c n)
     (rows : AreCut t (txns_at c (home t)) table) (g : Good seen leaves (Pending.Commits t) c m) where
   abbrev i : ℕ

@@ -13,7 +13,7 @@ use Rattle.sd_base.specs.declared.place.Status.TheVariants as S
 use Rattle.sd_logrec.specs.Kept.{master}
 use Rattle.sd_logrec.specs.View.{Rec}
 use Rattle.sd_log.specs.Logs.{LogState, StandsOn, forced, last_lsn, scanned, without_tail}
-use Rattle.sd_model.specs.Placed.{Stands}
+use Rattle.sd_model.specs.Lives.{SuitsStatus}
 use Rattle.sd_model.specs.State.{Part, State}
 use Rattle.sd_model.specs.declared.act.Claim.{Claim}
 use Rattle.sd_model.specs.declared.act.Life.{Life}
@@ -25,7 +25,7 @@ use Rattle.sd_chain.specs.Bytes.{disk_page}
 use Rattle.sd_chain.specs.Checks.{owed, reserve}
 use Rattle.sd_chain.specs.Cuts.{cut}
 use Rattle.sd_chain.specs.Fates.{Fate, fate}
-use Rattle.sd_chain.specs.Image.{Recovered}
+use Rattle.sd_chain.specs.Storage.{Recovered}
 use Rattle.sd_chain.specs.Images.{Gives, Keeps, Settled, kept_at, with_disk}
 use Rattle.sd_chain.specs.Order.{of_txn}
 use Rattle.sd_chain.specs.Records.{Each, IsOpen, home, stack}
@@ -56,10 +56,10 @@ without-sound : (j : ℕ) (bytes : List ℕ) (l : LogState) → LogIsSound j byt
 without-sound j bytes l s = record { ended = s.ended; follow = s.follow; room = s.room }
 
 -- who is of an instance that is down has no further records
-down-rests : (t : TxnId) (p : Part) → Stands p.life S.Down → GoesOn Pending.Idle t p → ⊥
+down-rests : (t : TxnId) (p : Part) → SuitsStatus p.life S.Down → GoesOn Pending.Idle t p → ⊥
 down-rests t p stands goes = by p.life stands goes
   where
-    by : (life : Life) → Stands life S.Down → GoesOn Pending.Idle t (record p { life = life }) → ⊥
+    by : (life : Life) → SuitsStatus life S.Down → GoesOn Pending.Idle t (record p { life = life }) → ⊥
     by Life.Gone stands goes = goes
     by Life.Running stands goes = stands
     by Life.Retained stands goes = goes
@@ -98,7 +98,7 @@ module _ (i : ℕ) (logs logs' : Logs) (here : logs' i ≡ without_tail (logs i)
   kept-all keeps = sym (fun_ext (kept-same keeps))
 
 -- What a crash may leave, with logs that begin somewhere, of which log i has no tail any more.
-module _ (i owes : ℕ) (seen : rig.Image) (leaves : Outcomes) (logs logs' : Logs) (c : Parts) (m : State)
+module _ (i owes : ℕ) (seen : rig.DeviceImages) (leaves : Outcomes) (logs logs' : Logs) (c : Parts) (m : State)
     (low : 1 ≤ i) (high : i ≤ 8) (h : Half seen leaves logs Pending.Idle c m) (was_loose : is_loose c i ≡ true) (idle : c.due ≡ None)
     (marks : length c.loose ≡ 9) (stands : (bytes : List ℕ) → leaves i bytes → StandsOn (logs i) bytes)
     (here : logs' i ≡ without_tail (logs i)) (elsewhere : (j : ℕ) → j ≢ i → logs' j ≡ logs j) where
@@ -213,7 +213,7 @@ module _ (i owes : ℕ) (seen : rig.Image) (leaves : Outcomes) (logs logs' : Log
     );
   }
 
-module _ (i owes : ℕ) (seen : rig.Image) (leaves : Outcomes) (c : Parts) (m : State) (low : 1 ≤ i) (high : i ≤ 8)
+module _ (i owes : ℕ) (seen : rig.DeviceImages) (leaves : Outcomes) (c : Parts) (m : State) (low : 1 ≤ i) (high : i ≤ 8)
     (g : Good seen leaves Pending.Idle c m) (down : status_at c i ≡ S.Down) (was_loose : is_loose c i ≡ true) (idle : c.due ≡ None)
     (only : LeavesOnly (seen i) (leaves i)) (stands : StandsOn (log_at c i) (seen i)) (one : other_at c i ≡ None)
     (counted : IfSome (chosen_body 0 64 (seen i)) (λ body. number_of body ≡ count_at c i))
@@ -342,7 +342,7 @@ module _ (i owes : ℕ) (seen : rig.Image) (leaves : Outcomes) (c : Parts) (m : 
 
   going-there : (t : TxnId) → 1 ≤ home t → home t ≤ 8 → GoesOn Pending.Idle t (m.part t) → IsOpen t (all_at (log_at dropped (home t)))
   going-there t lo hi goes = ⊎_elim
-      (λ e. absurd (down-rests t (m.part t) (subst (Stands (m.part t).life)
+      (λ e. absurd (down-rests t (m.part t) (subst (SuitsStatus (m.part t).life)
       (sym (g.instances (home t) lo hi).status ∙ ap (status_at c) e ∙ down) (g.placed.stands t)) goes))
       (λ ne. subst (λ (l : LogState). IsOpen t (all_at l)) (sym (log-else (home t) ne)) (g.going t lo hi goes))
       (cases_eq (home t) i)

@@ -36,7 +36,7 @@ front-rises inst chosen m (x ∷ xs) ys past f way = front-rises inst chosen m x
     on (records.BeginCheck l) h = h
     on (records.EndCheck l begin spans recs) h = h
 
-pub epoch-forced : (seen : rig.Image) (leaves : Outcomes) (pend : Pending) (c : Parts) (m : State) (i : ℕ) → 1 ≤ i → i ≤ 8
+pub epoch-forced : (seen : rig.DeviceImages) (leaves : Outcomes) (pend : Pending) (c : Parts) (m : State) (i : ℕ) → 1 ≤ i → i ≤ 8
     → Good seen leaves pend c m → is_loose c i ≡ false → status_at c i ≡ S.Up
     → (past_at (master (seen i)) (log_at c i)).epoch ≡ epoch_at c i
 epoch-forced seen leaves pend c m i low high g settled up =

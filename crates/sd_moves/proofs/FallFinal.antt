@@ -13,7 +13,7 @@ use Rattle.sd_state.specs.Good.{Good}
 use Rattle.sd_state.specs.Parts.{IsShape, Parts, is_loose, log_at, no_txns, owed_at, status_at, txns_at}
 use Rattle.sd_state.specs.Values.{Pending}
 use Rattle.sd_state.proofs.Items.{item-kept, item-set}
-use Rattle.sd_moves.specs.Falling.{IsFallen, IsLeft, Leaves, dropped_by, falls_at, is_recovered_by, logs_by, owed_as_up, owed_dropped, owed_unsettled, unsettles_at, with_dropped, with_fallen, with_left, with_lost}
+use Rattle.sd_moves.specs.Falling.{FallLeaves, IsFallen, IsLeft, dropped_by, falls_at, is_recovered_by, logs_by, owed_as_up, owed_dropped, owed_unsettled, unsettles_at, with_dropped, with_fallen, with_left, with_lost}
 use Rattle.sd_moves.proofs.FallDropped.{dropped-good}
 use Rattle.sd_moves.proofs.FallEpochs.{epoch-forced}
 use Rattle.sd_moves.proofs.FallLeft.{fallen-parts, fallen-table}
@@ -67,7 +67,7 @@ txns-dropped i None mid = refl
 txns-dropped i (Some owes) mid = refl
 
 module _ (i n : ℕ) (table : Transactions) (old x : Parts) (low : 1 ≤ i) (high : i ≤ 8) (shape : IsShape old) (place : n ≡ i - 1)
-    (left : Leaves i old x) where
+    (left : FallLeaves i old x) where
   abbrev mid : Parts
   mid = left.mid
 
@@ -161,7 +161,7 @@ module _ (i n : ℕ) (table : Transactions) (old x : Parts) (low : 1 ≤ i) (hig
         waits = left.left.waits;
       }
 
-  pub final-good : (seen : rig.Image) (leaves : Outcomes) (pend : Pending) (m m' : State) → Good seen leaves pend old m
+  pub final-good : (seen : rig.DeviceImages) (leaves : Outcomes) (pend : Pending) (m m' : State) → Good seen leaves pend old m
       → Good seen leaves Pending.Idle lost m' → Good seen leaves Pending.Idle (dropped_by i o lost) m'
   final-good seen leaves pend m m' was now = by o refl
     where

@@ -12,9 +12,9 @@ use Rattle.sd_model.specs.Listed.{IsAtWork}
 use Rattle.sd_model.specs.State.{Part, State}
 use Rattle.sd_model.specs.declared.act.Claim.{Claim}
 use Rattle.sd_model.specs.declared.act.Life.{Life}
-use Rattle.sd_pagelock.specs.Asks.{is_open, open_asks, asks_without}
+use Rattle.sd_pagelock.specs.Asks.{is_open_ask, open_asks, asks_without}
 use Rattle.sd_pagelock.specs.Directory.{asks_at, entry_at}
-use Rattle.sd_pagelock.specs.Places.{Entry}
+use Rattle.sd_pagelock.specs.Places.{PageEntry}
 use Rattle.sd_pagelock.specs.Rows.{fallen}
 use Rattle.sd_pagelock.specs.declared.queue.Ask.{Ask}
 use Rattle.sd_pool.specs.Buffers as buffers
@@ -24,7 +24,7 @@ use Rattle.sd_txn.specs.Owing.{owed_of, reserve_of}
 use Rattle.sd_txn.specs.Transactions.{Transactions, begins_in, txn_at, state_at}
 use Rattle.sd_chain.specs.Cuts.{cut}
 use Rattle.sd_chain.specs.Fates.{fate}
-use Rattle.sd_chain.specs.Image.{Recovered}
+use Rattle.sd_chain.specs.Storage.{Recovered}
 use Rattle.sd_chain.specs.Images.{Gives, Keeps, with_disk}
 use Rattle.sd_chain.specs.Records.{Each, IsOpen, home, stack}
 use Rattle.sd_chain.proofs.Lists.{Each-weaker}
@@ -43,7 +43,7 @@ use Rattle.sd_state.specs.Parts.{Begun, Parts, active_as, check_at, is_active, i
 use Rattle.sd_state.specs.Tables.{GoesOn, NamedOnce, NamesLife, RowIsLive, RowIsLogged, lock_of, tells_log}
 use Rattle.sd_state.specs.Values.{Pending, rid_of, values}
 use Rattle.sd_state.proofs.Items.{item-kept, item-set}
-use Rattle.sd_moves.specs.Falling.{IsLeft, emptied, falls_at, falls_with, owed_unsettled, with_lost}
+use Rattle.sd_moves.specs.Falling.{IsLeft, emptied_pool, falls_at, falls_with, owed_unsettled, with_lost}
 use Rattle.sd_moves.proofs.FallCoherent.{IsLoosened, loosened, loosened-keeps}
 use Rattle.sd_moves.proofs.FallModel.{IsFall}
 use Rattle.sd_moves.proofs.FallOwed.{owes-either}
@@ -73,7 +73,7 @@ goes-still pend t p other goes = by p.life goes
     by (Life.Rolling (Some n)) goes = goes
     by (Life.Doubt cut) goes = goes
 
-module _ (i : ℕ) (table : Transactions) (n c : Parts) (seen : rig.Image) (leaves : Outcomes) (pend : Pending) (m m' : State)
+module _ (i : ℕ) (table : Transactions) (n c : Parts) (seen : rig.DeviceImages) (leaves : Outcomes) (pend : Pending) (m m' : State)
     (low : 1 ≤ i) (high : i ≤ 8) (g : Good seen leaves pend c m)
     (due : (c.due ≡ None) ⊎ ((j : ℕ) × (c.due ≡ Some (i, j)) × (is_loose c j ≡ true)))
     (whose : (t : TxnId) → pend ≡ Pending.Commits t → home t ≡ i) (f : IsLeft i c n) (s : IsFall i pend m m')
@@ -146,9 +146,9 @@ module _ (i : ℕ) (table : Transactions) (n c : Parts) (seen : rig.Image) (leav
   falls = record {
     entry = f.entries;
     pool = λ p. ap (λ (pool : Buffers). buffers.image_at pool p)
-        (item-set no_pool c.pools i (emptied (pool_at c i)) low high g.shape.pools);
+        (item-set no_pool c.pools i (emptied_pool (pool_at c i)) low high g.shape.pools);
     other_pools = λ k p ne. ap (λ (pool : Buffers). buffers.image_at pool p)
-        (item-kept no_pool c.pools i (emptied (pool_at c i)) low k ne);
+        (item-kept no_pool c.pools i (emptied_pool (pool_at c i)) low k ne);
     moving = f.moving;
   }
 
@@ -296,18 +296,18 @@ module _ (i : ℕ) (table : Transactions) (n c : Parts) (seen : rig.Image) (leav
       (cases_eq (home t) i)
 
   -- who still asks is active, and another than i
-  asks-there : (p : ℕ) → Each (λ ask. (is_active new ask.by ≡ true) × (is_open (entry_at n.directory p) ask ≡ true)) (asks_at n.directory p)
-  asks-there p = subst (Each (λ ask. (is_active new ask.by ≡ true) × (is_open (entry_at n.directory p) ask ≡ true))) (sym (f.asks p))
-      (Each-weaker _ _ (λ (ask : Ask) a. (still-active ask.by a.1 a.0.0, ap (λ (e : Entry). is_open e ask) (f.entries p) ∙ a.2))
+  asks-there : (p : ℕ) → Each (λ ask. (is_active new ask.by ≡ true) × (is_open_ask (entry_at n.directory p) ask ≡ true)) (asks_at n.directory p)
+  asks-there p = subst (Each (λ ask. (is_active new ask.by ≡ true) × (is_open_ask (entry_at n.directory p) ask ≡ true))) (sym (f.asks p))
+      (Each-weaker _ _ (λ (ask : Ask) a. (still-active ask.by a.1 a.0.0, ap (λ (e : PageEntry). is_open_ask e ask) (f.entries p) ∙ a.2))
       (open_asks (fallen i (entry_at c.directory p)) (asks_without i (asks_at c.directory p)))
-      (asks-left (λ (ask : Ask). (is_active c ask.by ≡ true) × (is_open (entry_at c.directory p) ask ≡ true))
+      (asks-left (λ (ask : Ask). (is_active c ask.by ≡ true) × (is_open_ask (entry_at c.directory p) ask ≡ true))
       (fallen i (entry_at c.directory p)) i (asks_at c.directory p) (g.asks p)))
 
   pub fallen-good : Good seen leaves Pending.Idle new m'
   fallen-good = record {
     shape = record {
       logs = g.shape.logs;
-      pools = length-set c.pools (i - 1) (emptied (pool_at c i)) ∙ g.shape.pools;
+      pools = length-set c.pools (i - 1) (emptied_pool (pool_at c i)) ∙ g.shape.pools;
       txns = length-set c.txns (i - 1) table ∙ g.shape.txns;
       statuses = f.statuses;
       epochs = g.shape.epochs;

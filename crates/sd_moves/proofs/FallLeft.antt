@@ -7,7 +7,7 @@ use Rattle.std.specs.Global.{Box}
 use Rattle.sd_base.specs.declared.ids.TxnId.{TxnId}
 use Rattle.sd_page.specs.Page.{Page}
 use Rattle.sd_pagelock.specs.Asks.{asks_without, open_asks}
-use Rattle.sd_pagelock.specs.Directory.{DirectoryState, asks_at, entry_at, image_at, rec_lsn_at}
+use Rattle.sd_pagelock.specs.Directory.{DirectoryState, asks_at, entry_at, moving_image_at, rec_lsn_at}
 use Rattle.sd_pagelock.specs.Places.{receives}
 use Rattle.sd_pagelock.specs.Rows.{fallen}
 use Rattle.sd_pool.specs.Buffers.{Buffers}
@@ -17,13 +17,13 @@ use Rattle.sd_state.specs.Complexes.{unboxed}
 use Rattle.sd_state.specs.Parts.{Begun, IsShape, Parts, no_txns, pool_at, txns_at}
 use Rattle.sd_state.proofs.Answered.{table-lent}
 use Rattle.sd_state.proofs.Items.{item-set}
-use Rattle.sd_moves.specs.Falling.{HaveFallen, IsLeft, emptied, with_lost, with_left}
+use Rattle.sd_moves.specs.Falling.{HaveFallen, IsLeft, emptied_pool, with_lost, with_left}
 use Rattle.sd_moves.proofs.FallSteps.{all-fallen}
 
 -- the parts once pool, checkpoint, directory, locks and what is due are as a fall leaves them
 pub left-parts : (i : ℕ) (old mid : Parts) (pools : List Buffers) (checks : List (Option Begun)) (d : DirectoryState Page) (l : LockTable)
     → mid ≡ record old { statuses = mid.statuses; owed = mid.owed; loose = mid.loose }
-    → pools ≡ slice_set mid.pools (i - 1) (emptied (pool_at mid i))
+    → pools ≡ slice_set mid.pools (i - 1) (emptied_pool (pool_at mid i))
     → checks ≡ slice_set {A = Option Begun} mid.checks (i - 1) None
     → record mid { pools = pools; checks = checks; directory = d; locks = l; due = None }
     ≡ with_left i (record mid { pools = pools; checks = checks; directory = d; locks = l; due = None }) old
@@ -31,7 +31,7 @@ left-parts i old mid pools checks d l same pools_are checks_are =
     ap₂ (λ (ps : List Buffers) (cs : List (Option Begun)). record mid { pools = ps; checks = cs; directory = d; locks = l; due = None })
     pools_are checks_are
     ∙ ap (λ (p : Parts). record p {
-      pools = slice_set p.pools (i - 1) (emptied (pool_at p i));
+      pools = slice_set p.pools (i - 1) (emptied_pool (pool_at p i));
       statuses = mid.statuses;
       checks = slice_set {A = Option Begun} p.checks (i - 1) None;
       owed = mid.owed;
@@ -50,14 +50,14 @@ fallen-parts i n table old mid place left =
 
 -- what moves, as boxes hold it
 pub moving-unboxed : (i : ℕ) (old new : DirectoryState (Box Page)) (p : ℕ)
-    → image_at new p ≡ cond {A = Option (Box Page)} (receives (entry_at old p) i) None (image_at old p)
-    → image_at (unboxed new) p ≡ cond {A = Option Page} (receives (entry_at old p) i) None (image_at (unboxed old) p)
+    → moving_image_at new p ≡ cond {A = Option (Box Page)} (receives (entry_at old p) i) None (moving_image_at old p)
+    → moving_image_at (unboxed new) p ≡ cond {A = Option Page} (receives (entry_at old p) i) None (moving_image_at (unboxed old) p)
 moving-unboxed i old new p is =
     get_or-map (option_map box_value) new.images p None ∙ ap (option_map box_value) is ∙ by (receives (entry_at old p) i)
     ∙ ap (λ (o : Option Page). cond {A = Option Page} (receives (entry_at old p) i) None o) (sym (get_or-map (option_map box_value) old.images p None))
   where
-    by : (b : Bool) → option_map box_value (cond {A = Option (Box Page)} b None (image_at old p))
-        ≡ cond {A = Option Page} b None (option_map box_value (image_at old p))
+    by : (b : Bool) → option_map box_value (cond {A = Option (Box Page)} b None (moving_image_at old p))
+        ≡ cond {A = Option Page} b None (option_map box_value (moving_image_at old p))
     by true = refl
     by false = refl
 
@@ -66,7 +66,7 @@ pub record HasFallen (i : ℕ) (old new : DirectoryState Page) : Type 0 where
   pub entries : (p : ℕ) → entry_at new p ≡ fallen i (entry_at old p)
   pub rec_lsns : (p : ℕ) → rec_lsn_at new p ≡ rec_lsn_at old p
   pub asks : (p : ℕ) → asks_at new p ≡ open_asks (fallen i (entry_at old p)) (asks_without i (asks_at old p))
-  pub moving : (p : ℕ) → image_at new p ≡ cond {A = Option Page} (receives (entry_at old p) i) None (image_at old p)
+  pub moving : (p : ℕ) → moving_image_at new p ≡ cond {A = Option Page} (receives (entry_at old p) i) None (moving_image_at old p)
 
 pub left-fallen : (i : ℕ) (old mid : Parts) (pools : List Buffers) (checks : List (Option Begun)) (d : DirectoryState Page) (l : LockTable)
     → 1 ≤ i → i ≤ 8 → IsShape old → HaveFallen i 8 old mid → HasFallen i mid.directory d → l.locks ≡ mid.locks.locks

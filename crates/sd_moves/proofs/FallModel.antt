@@ -11,7 +11,7 @@ use Rattle.sd_model.specs.Applies.{IsRecovering}
 use Rattle.sd_model.specs.Kept.{Kept}
 use Rattle.sd_model.specs.Listed.{IsAtWork, Listed}
 use Rattle.sd_model.specs.Marks.{Marked, Sized}
-use Rattle.sd_model.specs.Placed.{Placed}
+use Rattle.sd_model.specs.Lives.{LivesAreSound}
 use Rattle.sd_model.specs.Recoverers.{Recoverers}
 use Rattle.sd_model.specs.State.{Part, State, fall, freed, lost, lost_part}
 use Rattle.sd_model.specs.Refusing.{counted}
@@ -43,7 +43,7 @@ use Rattle.sd_state.specs.Values.{Pending, as_done, is_committed, is_doubt, star
 -- What a fall of instance i makes of a state with something under way: those of i are at work no more, and have no marks.
 pub record IsFall (i : ℕ) (pend : Pending) (m m' : State) : Type 0 where
   pub kept : Kept m'
-  pub placed : Placed m'
+  pub placed : LivesAreSound m'
   pub listed : Listed m'
   pub marked : Marked m'
   pub recoverers : Recoverers m'
@@ -180,7 +180,7 @@ fallen-listed i m l = record {
   cut_rests = λ t a w. l.cut_rests t a (((fall-calm i m).part t).works w);
 }
 
-pub fall-is : (i : ℕ) (m : State) → NotShut m → Kept m → Placed m → Listed m → Marked m → Recoverers m → IsFall i Pending.Idle m (fall i m)
+pub fall-is : (i : ℕ) (m : State) → NotShut m → Kept m → LivesAreSound m → Listed m → Marked m → Recoverers m → IsFall i Pending.Idle m (fall i m)
 fall-is i m opened kept placed listed marked recoverers = record {
   kept = fall-kept i m kept;
   placed = fails-placed i m opened placed;
@@ -249,7 +249,7 @@ once-more i j m = ⊎_elim
     (cases_eq i j)
 
 pub start-falls : (i : ℕ) (m : State) → NotShut m → ((m.inst i).status ≡ S.Clean) ⊎ ((m.inst i).status ≡ S.Restarting)
-    → Kept m → Placed m → Listed m → Marked m → Recoverers m → IsFall i (Pending.Starts i) m (fall i (joins_once_more i m))
+    → Kept m → LivesAreSound m → Listed m → Marked m → Recoverers m → IsFall i (Pending.Starts i) m (fall i (joins_once_more i m))
 start-falls i m opened waits kept placed listed marked recoverers = record {
   kept = then.kept;
   placed = then.placed;

@@ -30,7 +30,7 @@ told-or-was S.Clean told was = inl (refl, refl)
 told-or-was S.Restarting told was = inl (refl, refl)
 told-or-was S.Closed told was = inr (refl, refl)
 
-module _ (seen : rig.Image) (leaves : Outcomes) (pend : Pending) (c : Parts) (m : State) (g : Good seen leaves pend c m)
+module _ (seen : rig.DeviceImages) (leaves : Outcomes) (pend : Pending) (c : Parts) (m : State) (g : Good seen leaves pend c m)
     (j : ℕ) (low : 1 ≤ j) (high : j ≤ 8) (settled : is_loose c j ≡ false) where
   abbrev one : Keeps
   one k = false

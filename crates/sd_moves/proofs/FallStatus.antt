@@ -6,8 +6,8 @@ use Rattle.sd_base.specs.declared.place.Status.{Status}
 use Rattle.sd_base.specs.declared.place.Status.TheVariants as S
 use Rattle.sd_model.specs.State.{freed, lost}
 use Rattle.sd_model.specs.declared.act.Life.{Life}
-use Rattle.sd_pagelock.specs.Asks.{asks_without, is_open, open_asks}
-use Rattle.sd_pagelock.specs.Places.{Entry}
+use Rattle.sd_pagelock.specs.Asks.{asks_without, is_open_ask, open_asks}
+use Rattle.sd_pagelock.specs.Places.{PageEntry}
 use Rattle.sd_pagelock.specs.declared.queue.Ask.{Ask}
 use Rattle.sd_chain.specs.Fates.{Fate}
 use Rattle.sd_chain.specs.Records.{Each}
@@ -119,19 +119,19 @@ names-lost (Some x) life f w n = stands-lost x.state life f w n
 -- ---- asks
 
 -- who still asks is another, who asked
-pub asks-left : (P : Ask → Type 0) (e : Entry) (i : ℕ) (asks : List Ask) → Each P asks
-    → Each (λ ask. P ask × (ask.by ≢ i) × (is_open e ask ≡ true)) (open_asks e (asks_without i asks))
+pub asks-left : (P : Ask → Type 0) (e : PageEntry) (i : ℕ) (asks : List Ask) → Each P asks
+    → Each (λ ask. P ask × (ask.by ≢ i) × (is_open_ask e ask ≡ true)) (open_asks e (asks_without i asks))
 asks-left P e i [] all = tt
-asks-left P e i (ask ∷ asks) all = by (not (eqb ask.by i)) refl (is_open e ask) refl (asks-left P e i asks all.1)
+asks-left P e i (ask ∷ asks) all = by (not (eqb ask.by i)) refl (is_open_ask e ask) refl (asks-left P e i asks all.1)
   where
     other : not (eqb ask.by i) ≡ true → ask.by ≢ i
     other is same = let clash : false ≡ true = sym (ap not (eq-eqb ask.by i same)) ∙ is in absurd (cc)
 
-    by : (b : Bool) → not (eqb ask.by i) ≡ b → (o : Bool) → is_open e ask ≡ o
-        → Each (λ ask. P ask × (ask.by ≢ i) × (is_open e ask ≡ true)) (filter (is_open e) (asks_without i asks))
-        → Each (λ ask. P ask × (ask.by ≢ i) × (is_open e ask ≡ true)) (filter (is_open e) (cond {A = List Ask} b (ask ∷ asks_without i asks) (asks_without i asks)))
-    by true is true at ih = subst (λ (b : Bool). Each (λ ask. P ask × (ask.by ≢ i) × (is_open e ask ≡ true)) (cond {A = List Ask} b
-        (ask ∷ filter (is_open e) (asks_without i asks)) (filter (is_open e) (asks_without i asks)))) (sym at) ((all.0, other is, at), ih)
-    by true is false at ih = subst (λ (b : Bool). Each (λ ask. P ask × (ask.by ≢ i) × (is_open e ask ≡ true)) (cond {A = List Ask} b
-        (ask ∷ filter (is_open e) (asks_without i asks)) (filter (is_open e) (asks_without i asks)))) (sym at) ih
+    by : (b : Bool) → not (eqb ask.by i) ≡ b → (o : Bool) → is_open_ask e ask ≡ o
+        → Each (λ ask. P ask × (ask.by ≢ i) × (is_open_ask e ask ≡ true)) (filter (is_open_ask e) (asks_without i asks))
+        → Each (λ ask. P ask × (ask.by ≢ i) × (is_open_ask e ask ≡ true)) (filter (is_open_ask e) (cond {A = List Ask} b (ask ∷ asks_without i asks) (asks_without i asks)))
+    by true is true at ih = subst (λ (b : Bool). Each (λ ask. P ask × (ask.by ≢ i) × (is_open_ask e ask ≡ true)) (cond {A = List Ask} b
+        (ask ∷ filter (is_open_ask e) (asks_without i asks)) (filter (is_open_ask e) (asks_without i asks)))) (sym at) ((all.0, other is, at), ih)
+    by true is false at ih = subst (λ (b : Bool). Each (λ ask. P ask × (ask.by ≢ i) × (is_open_ask e ask ≡ true)) (cond {A = List Ask} b
+        (ask ∷ filter (is_open_ask e) (asks_without i asks)) (filter (is_open_ask e) (asks_without i asks)))) (sym at) ih
     by false is o at ih = ih

@@ -5,7 +5,7 @@ use Rattle.sd_page.specs.Page.{Page}
 use Rattle.sd_model.specs.State.{State}
 use Rattle.sd_pagelock.specs.Directory as directory
 use Rattle.sd_pagelock.specs.Directory.{DirectoryState, entry_at}
-use Rattle.sd_pagelock.specs.Places.{Entry, is_lost}
+use Rattle.sd_pagelock.specs.Places.{PageEntry, is_lost}
 use Rattle.sd_pagelock.specs.Rows.{may_write, written}
 use Rattle.sd_rig.specs.Devices as rig
 use Rattle.sd_chain.specs.Bytes.{disk_page}
@@ -23,16 +23,16 @@ use Rattle.sd_moves.proofs.PutCleaned.{cleaned-good}
 use Rattle.sd_moves.proofs.PutMay.{lost-may}
 
 -- the newest version stays what it was
-pub still-newest : (p : ℕ) (im : Page) (seen seen' : rig.Image) (leaves leaves' : Outcomes) (c : Parts) → SameVersions seen seen' c
+pub still-newest : (p : ℕ) (im : Page) (seen seen' : rig.DeviceImages) (leaves leaves' : Outcomes) (c : Parts) → SameVersions seen seen' c
     → im ≡ newest_of seen leaves c p → im ≡ newest_of seen' leaves' c p
 still-newest p im seen seen' leaves leaves' c same newest = newest ∙ sym (same (λ j. false) all_kept p)
 
-pub rebuilt-good : (p : ℕ) (im : Page) (places : DirectoryState Page) (seen : rig.Image) (leaves : Outcomes) (pend : Pending)
+pub rebuilt-good : (p : ℕ) (im : Page) (places : DirectoryState Page) (seen : rig.DeviceImages) (leaves : Outcomes) (pend : Pending)
     (c : Parts) (m : State) → Good seen leaves pend c m → leaves 0 (seen 0) → MayRebuild p c → im ≡ newest_of seen leaves c p
-    → disk_page (seen 0) p ≡ im → IsSet p Entry.Free None c.directory places
-    → ((q : ℕ) → directory.image_at places q ≡ directory.image_at c.directory q)
+    → disk_page (seen 0) p ≡ im → IsSet p PageEntry.Free None c.directory places
+    → ((q : ℕ) → directory.moving_image_at places q ≡ directory.moving_image_at c.directory q)
     → Good seen leaves pend (with_directory places c) m
 rebuilt-good p im places seen leaves pend c m g left can newest there set moving =
     cleaned-good p im places seen leaves pend c m g left (lost-may p im seen leaves pend c m g can newest)
-    (ap (λ (e : Entry). may_write e || is_lost e) can.lost) (can.settled 0 (omega arith)) there
-    (subst (λ (e : Entry). IsSet p e None c.directory places) (sym (ap written can.lost)) set) moving
+    (ap (λ (e : PageEntry). may_write e || is_lost e) can.lost) (can.settled 0 (omega arith)) there
+    (subst (λ (e : PageEntry). IsSet p e None c.directory places) (sym (ap written can.lost)) set) moving

@@ -14,7 +14,7 @@ use Rattle.sd_model.specs.State.{State}
 use Rattle.sd_rig.specs.Devices as rig
 use Rattle.sd_chain.specs.Bytes.{disk_page}
 use Rattle.sd_chain.specs.Cuts.{cut}
-use Rattle.sd_chain.specs.Image.{Image, all_of, chain, newest, sorted}
+use Rattle.sd_chain.specs.Storage.{Storage, all_of, chain, newest, sorted}
 use Rattle.sd_chain.specs.Images.{Keeps, all_kept, with_disk}
 use Rattle.sd_chain.specs.Pages.{FitAll, replay}
 use Rattle.sd_chain.specs.Records.{of_page}
@@ -50,18 +50,18 @@ forced-at logs (suc j) = in-order logs j ∙ sym (append-nil (base_at (get_or lo
 abbrev none_kept : Keeps
 none_kept j = false
 
-abbrev without : Parts → (ℕ → Page) → Image
+abbrev without : Parts → (ℕ → Page) → Storage
 without c disk = cut none_kept (with_disk (tails_of (log_at c)) disk)
 
 chain-forced : (p : ℕ) (c : Parts) (disk : ℕ → Page) → forced_chain p c.logs ≡ chain (without c disk) p
 unfolding chain
 chain-forced p c disk = ap (λ (f : ℕ → List Rec). sorted (filter (of_page p) (all_of f 9))) (fun_ext (forced-at c.logs))
 
-newest-replayed : (img : Image) (p : ℕ) → newest img p ≡ replay (img.disk p).lsn (img.disk p) (chain img p)
+newest-replayed : (img : Storage) (p : ℕ) → newest img p ≡ replay (img.disk p).lsn (img.disk p) (chain img p)
 unfolding newest
 newest-replayed img p = refl
 
-module _ (p : ℕ) (seen : rig.Image) (leaves : Outcomes) (pend : Pending) (c : Parts) (m : State) (g : Good seen leaves pend c m)
+module _ (p : ℕ) (seen : rig.DeviceImages) (leaves : Outcomes) (pend : Pending) (c : Parts) (m : State) (g : Good seen leaves pend c m)
     (can : MayRebuild p c) where
   abbrev wide : Outcomes
   wide = leaves_by c none_kept leaves

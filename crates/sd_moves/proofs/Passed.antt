@@ -7,10 +7,10 @@ use Rattle.sd_logrec.specs.View.{flat}
 use Rattle.sd_page.specs.Page.{Page}
 use Rattle.sd_model.specs.State.{State}
 use Rattle.sd_pagelock.specs.declared.queue.Ask.{Ask}
-use Rattle.sd_pagelock.specs.Asks.{is_open, oldest, open_asks}
+use Rattle.sd_pagelock.specs.Asks.{is_open_ask, oldest, open_asks}
 use Rattle.sd_pagelock.specs.Directory.{DirectoryState, asks_at, entry_at, kept_rec, rec_lsn_at}
 use Rattle.sd_pagelock.specs.Directory as directory
-use Rattle.sd_pagelock.specs.Places.{Entry, Formed, changed, holds, owns, receives}
+use Rattle.sd_pagelock.specs.Places.{Formed, PageEntry, changed, holds, owns, receives}
 use Rattle.sd_pagelock.specs.Rows.{given_excl, given_shared, may_share, may_yield, taken}
 use Rattle.sd_pagelock.proofs.Losses.{changed-given, changed-taken}
 use Rattle.sd_pool.specs.Buffers as buffers
@@ -52,13 +52,13 @@ pub asked-some : (j : ℕ) (asks : List Ask) (to : ℕ) (mode : Mode) → oldest
 asked-some j asks to mode is none = let clash : None ≡ Some (to, mode) = sym (ap (oldest j) none) ∙ is in absurd (cc)
 
 -- what is set after a call that left places, RecLSNs and asks is set as it was before
-pub set-from : (p : ℕ) (to : Entry) (rec : Option ℕ) (old mid new : DirectoryState Page)
+pub set-from : (p : ℕ) (to : PageEntry) (rec : Option ℕ) (old mid new : DirectoryState Page)
     → ((q : ℕ) → entry_at mid q ≡ entry_at old q) → ((q : ℕ) → rec_lsn_at mid q ≡ rec_lsn_at old q)
     → ((q : ℕ) → asks_at mid q ≡ asks_at old q) → IsSet p to rec mid new → IsSet p to rec old new
 set-from p to rec old mid new entries rec_lsns asks s = record {
   entry = s.entry;
   rec_lsn = s.rec_lsn
-      ∙ ap₂ (λ (e : Entry) (l : Option ℕ). kept_rec (changed e) (changed to) l rec) (entries p) (rec_lsns p);
+      ∙ ap₂ (λ (e : PageEntry) (l : Option ℕ). kept_rec (changed e) (changed to) l rec) (entries p) (rec_lsns p);
   asks = s.asks ∙ ap (open_asks to) (asks p);
   others = λ q ne. s.others q ne ∙ entries q;
   other_rec_lsns = λ q ne. s.other_rec_lsns q ne ∙ rec_lsns q;
@@ -67,24 +67,24 @@ set-from p to rec old mid new entries rec_lsns asks s = record {
 
 -- ---- a page sets out
 
-module _ (p j i : ℕ) (mode : Mode) (seen : rig.Image) (leaves : Outcomes) (pend : Pending) (c : Parts) (m : State)
+module _ (p j i : ℕ) (mode : Mode) (seen : rig.DeviceImages) (leaves : Outcomes) (pend : Pending) (c : Parts) (m : State)
     (g : Good seen leaves pend c m) (idle : c.due ≡ None) (held : holds (entry_at c.directory p) j ≡ true)
     (asked : oldest j (asks_at c.directory p) ≡ Some (i, mode))
     (forced : owns (entry_at c.directory p) j ≡ true → is_loose c j ≡ false → (log_at c j).tail ≡ []) where
-  abbrev here : Entry
+  abbrev here : PageEntry
   here = entry_at c.directory p
 
   asker-active : is_active c i ≡ true
-  asker-active = (oldest-each (λ (ask : Ask). (is_active c ask.by ≡ true) × (is_open here ask ≡ true)) j (asks_at c.directory p) i mode
+  asker-active = (oldest-each (λ (ask : Ask). (is_active c ask.by ≡ true) × (is_open_ask here ask ≡ true)) j (asks_at c.directory p) i mode
       (g.asks p) asked).0
 
   -- the log of one that has the page alone is forced
   forced-for : (moved : Keeps) → ForcedFor (base_of seen (leaves_by c moved leaves) (log_by c moved) c) (dir_of c) p
   forced-for moved k excl settled =
-      let is : eqb k j ≡ true = sym (ap (λ (e : Entry). holds e j) excl) ∙ held in
+      let is : eqb k j ≡ true = sym (ap (λ (e : PageEntry). holds e j) excl) ∙ held in
       let own : k ≡ j = eqb-true k j is in
       ap (map flat) (tail-same c moved k ∙ ap (λ (n : ℕ). (log_at c n).tail) own
-      ∙ forced (ap (λ (e : Entry). owns e j) excl ∙ is) (subst (λ (n : ℕ). is_loose c n ≡ false) own settled))
+      ∙ forced (ap (λ (e : PageEntry). owns e j) excl ∙ is) (subst (λ (n : ℕ). is_loose c n ≡ false) own settled))
 
   module _ (places : DirectoryState Page)
       (way : IsOnWay p (buffers.image_at (pool_at c j) p) c.directory places) where
@@ -139,9 +139,9 @@ module _ (p j i : ℕ) (mode : Mode) (seen : rig.Image) (leaves : Outcomes) (pen
 
 -- ---- a page is taken
 
-module _ (p i : ℕ) (pool : Buffers) (seen : rig.Image) (leaves : Outcomes) (pend : Pending) (c : Parts) (m : State)
+module _ (p i : ℕ) (pool : Buffers) (seen : rig.DeviceImages) (leaves : Outcomes) (pend : Pending) (c : Parts) (m : State)
     (low : 1 ≤ i) (high : i ≤ 8) (g : Good seen leaves pend c m)
-    (comes : buffers.image_at pool p ≡ directory.image_at c.directory p)
+    (comes : buffers.image_at pool p ≡ directory.moving_image_at c.directory p)
     (else : (q : ℕ) → q ≢ p → buffers.image_at pool q ≡ buffers.image_at (pool_at c i) q)
     (places : DirectoryState Page) (set : IsSet p (taken (entry_at c.directory p)) None c.directory places)
     (way : IsOnWay p None c.directory places)
@@ -149,13 +149,13 @@ module _ (p i : ℕ) (pool : Buffers) (seen : rig.Image) (leaves : Outcomes) (pe
   abbrev arrived : Parts
   arrived = with_place i pool places c
 
-  abbrev take_to : Entry
+  abbrev take_to : PageEntry
   take_to = taken (entry_at c.directory p)
 
   -- a page on its way is nobody's alone
-  nobodys : (k : ℕ) → entry_at c.directory p ≡ Entry.Excl k true → ⊥
+  nobodys : (k : ℕ) → entry_at c.directory p ≡ PageEntry.Excl k true → ⊥
   nobodys k excl =
-      let clash : false ≡ true = sym (ap (λ (e : Entry). receives e i) excl) ∙ receiver in absurd (cc)
+      let clash : false ≡ true = sym (ap (λ (e : PageEntry). receives e i) excl) ∙ receiver in absurd (cc)
 
   take-coherent : (moved : Keeps) → Coherent (base_of seen (leaves_by c moved leaves) (log_by c moved) c) (dir_of arrived)
   take-coherent moved =
@@ -171,7 +171,7 @@ module _ (p i : ℕ) (pool : Buffers) (seen : rig.Image) (leaves : Outcomes) (pe
           moving = way.others;
         };
       })
-      formed receiver set.entry (one-copy p i pool places c low high g.shape.pools else (directory.image_at c.directory p) comes)
+      formed receiver set.entry (one-copy p i pool places c low high g.shape.pools else (directory.moving_image_at c.directory p) comes)
       way.here
 
   pub taken-good : Good seen leaves pend arrived m

@@ -12,10 +12,10 @@ use Rattle.sd_base.specs.declared.place.Mode.TheVariants as modes
 use Rattle.sd_page.specs.Page.{Page}
 use Rattle.sd_model.specs.State.{State}
 use Rattle.sd_pagelock.specs.declared.queue.Ask.{Ask}
-use Rattle.sd_pagelock.specs.Asks.{is_open, queued, stronger}
+use Rattle.sd_pagelock.specs.Asks.{is_open_ask, queued, stronger}
 use Rattle.sd_pagelock.specs.Directory as directory
 use Rattle.sd_pagelock.specs.Directory.{DirectoryState, asks_at, entry_at, rec_lsn_at}
-use Rattle.sd_pagelock.specs.Places.{Entry, Formed, changed, holds, passes, uses}
+use Rattle.sd_pagelock.specs.Places.{Formed, PageEntry, changed, holds, passes, uses}
 use Rattle.sd_pagelock.specs.Rows.{fallen, is_only, may_evict, may_raise, raised}
 use Rattle.sd_pagelock.proofs.Drops.{changed-fallen}
 use Rattle.sd_pagelock.proofs.Losses.{changed-raised}
@@ -29,7 +29,7 @@ use Rattle.sd_chain.specs.Records.{Each}
 use Rattle.sd_coherent.specs.Changes as changes_law
 use Rattle.sd_coherent.specs.Coherent.{Coherent, Quiet, Sits}
 use Rattle.sd_coherent.specs.Moves.{OneCopy}
-use Rattle.sd_coherent.specs.World.{Base, Dir, now}
+use Rattle.sd_coherent.specs.World.{Base, Dir, newest_version}
 use Rattle.sd_coherent.proofs.Changes.{rest-keeps}
 use Rattle.sd_coherent.proofs.Moves.{drop-keeps, raise-keeps, row_keeps-rec}
 use Rattle.sd_sound.specs.Logs.{Outcomes, may_of}
@@ -45,8 +45,8 @@ use Rattle.sd_state.proofs.Items.{item-kept, item-set}
 use Rattle.sd_moves.specs.Places.{IsAsked, with_directory}
 
 -- the ask's instance is active, and the place leaves the ask open
-abbrev pub IsLiveAsk : (ℕ → Bool) → Entry → Ask → Type 0
-IsLiveAsk active e ask = (active ask.by ≡ true) × (is_open e ask ≡ true)
+abbrev pub IsLiveAsk : (ℕ → Bool) → PageEntry → Ask → Type 0
+IsLiveAsk active e ask = (active ask.by ≡ true) × (is_open_ask e ask ≡ true)
 
 -- the tail of a log is the same, wherever the log begins
 pub tail-same : (c : Parts) (moved : Keeps) (j : ℕ) → (log_by c moved j).tail ≡ (log_at c j).tail
@@ -60,7 +60,7 @@ tail-same c moved j = by (moved j) (other_at c j)
 
 -- ---- pools and directory are others, and each page keeps its RecLSN
 
-module _ (pools : List Buffers) (places : DirectoryState Page) (seen : rig.Image) (leaves : Outcomes) (pend : Pending) (c : Parts)
+module _ (pools : List Buffers) (places : DirectoryState Page) (seen : rig.DeviceImages) (leaves : Outcomes) (pend : Pending) (c : Parts)
     (m : State) (g : Good seen leaves pend c m) (eight : length pools ≡ 8)
     (recs : (q : ℕ) → rec_lsn_at places q ≡ rec_lsn_at c.directory q)
     (asks : (q : ℕ) → Each (IsLiveAsk (is_active c) (entry_at places q)) (asks_at places q)) where
@@ -181,12 +181,12 @@ alike-coherent {may} b old new c entries pools moving = record {
   eight = c.eight;
   reads = c.reads;
   still = c.still;
-  copies = λ k q. pools k q ∙ subst (λ (e : Entry). old.pool k q ≡ cond (holds e k) (Some (now b q)) None) (sym (entries q))
+  copies = λ k q. pools k q ∙ subst (λ (e : PageEntry). old.pool k q ≡ cond (holds e k) (Some (newest_version b q)) None) (sym (entries q))
       (c.copies k q);
-  moving = λ q. moving q ∙ subst (λ (e : Entry). old.moving q ≡ cond (passes e) (Some (now b q)) None) (sym (entries q))
+  moving = λ q. moving q ∙ subst (λ (e : PageEntry). old.moving q ≡ cond (passes e) (Some (newest_version b q)) None) (sym (entries q))
       (c.moving q);
-  live = λ k q. subst (λ (e : Entry). uses e k ≡ true → b.active k ≡ true) (sym (entries q)) (c.live k q);
-  unforced = λ j q. subst (λ (e : Entry). Quiet q (b.tails.tail j) ⊎ Sits b e j) (sym (entries q)) (c.unforced j q);
+  live = λ k q. subst (λ (e : PageEntry). uses e k ≡ true → b.active k ≡ true) (sym (entries q)) (c.live k q);
+  unforced = λ j q. subst (λ (e : PageEntry). Quiet q (b.tails.tail j) ⊎ Sits b e j) (sym (entries q)) (c.unforced j q);
   ready = c.ready;
   marks = λ q. c.marks q ∙ ap changed (sym (entries q));
   clean = λ q is. c.clean q (ap changed (sym (entries q)) ∙ is);
@@ -196,7 +196,7 @@ alike-coherent {may} b old new c entries pools moving = record {
 
 -- ---- one page has another place
 
-module _ (p : ℕ) (to : Entry) (seen : rig.Image) (leaves : Outcomes) (pend : Pending) (c : Parts) (m : State)
+module _ (p : ℕ) (to : PageEntry) (seen : rig.DeviceImages) (leaves : Outcomes) (pend : Pending) (c : Parts) (m : State)
     (g : Good seen leaves pend c m) (places : DirectoryState Page) (set : IsSet p to None c.directory places)
     (same : changed to ≡ changed (entry_at c.directory p)) where
   abbrev any_leaves : Outcomes
@@ -212,27 +212,27 @@ module _ (p : ℕ) (to : Entry) (seen : rig.Image) (leaves : Outcomes) (pend : P
       (cases_eq q p)
 
   asks-here : Each (IsLiveAsk (is_active c) (entry_at places p)) (asks_at places p)
-  asks-here = subst (λ (e : Entry). Each (IsLiveAsk (is_active c) e) (asks_at places p)) (sym set.entry)
+  asks-here = subst (λ (e : PageEntry). Each (IsLiveAsk (is_active c) e) (asks_at places p)) (sym set.entry)
       (subst (Each (IsLiveAsk (is_active c) to)) (sym set.asks)
-      (each-left (λ (ask : Ask). is_active c ask.by ≡ true) (is_open to) (asks_at c.directory p)
-      (each-first (λ (ask : Ask). is_active c ask.by ≡ true) (λ (ask : Ask). is_open (entry_at c.directory p) ask ≡ true)
+      (each-left (λ (ask : Ask). is_active c ask.by ≡ true) (is_open_ask to) (asks_at c.directory p)
+      (each-first (λ (ask : Ask). is_active c ask.by ≡ true) (λ (ask : Ask). is_open_ask (entry_at c.directory p) ask ≡ true)
       (asks_at c.directory p) (g.asks p))))
 
   -- and each ask that is left is open
   pub asks-set : (q : ℕ) → Each (IsLiveAsk (is_active c) (entry_at places q)) (asks_at places q)
   asks-set q = ⊎_elim
       (λ e. subst (λ (k : ℕ). Each (IsLiveAsk (is_active c) (entry_at places k)) (asks_at places k)) (sym e) asks-here)
-      (λ ne. subst (λ (e : Entry). Each (IsLiveAsk (is_active c) e) (asks_at places q)) (sym (set.others q ne))
+      (λ ne. subst (λ (e : PageEntry). Each (IsLiveAsk (is_active c) e) (asks_at places q)) (sym (set.others q ne))
       (subst (Each (IsLiveAsk (is_active c) (entry_at c.directory q))) (sym (set.other_asks q ne)) (g.asks q)))
       (cases_eq q p)
 
 -- ---- the only holder has the page alone
 
-module _ (p i : ℕ) (seen : rig.Image) (leaves : Outcomes) (pend : Pending) (c : Parts) (m : State) (g : Good seen leaves pend c m)
+module _ (p i : ℕ) (seen : rig.DeviceImages) (leaves : Outcomes) (pend : Pending) (c : Parts) (m : State) (g : Good seen leaves pend c m)
     (places : DirectoryState Page) (set : IsSet p (raised i (entry_at c.directory p)) None c.directory places)
-    (moving : (q : ℕ) → directory.image_at places q ≡ directory.image_at c.directory q)
+    (moving : (q : ℕ) → directory.moving_image_at places q ≡ directory.moving_image_at c.directory q)
     (idle : c.due ≡ None) (sole : may_raise i (entry_at c.directory p) ≡ true) where
-  abbrev raise_to : Entry
+  abbrev raise_to : PageEntry
   raise_to = raised i (entry_at c.directory p)
 
   raise-coherent : (moved : Keeps)
@@ -265,17 +265,17 @@ both_second true b e = e
 both_second false b e = absurd (cc)
 
 -- who may evict a page holds it,
-pub evicts-held : (i : ℕ) (e : Entry) → may_evict i e ≡ true → holds e i ≡ true
-evicts-held i Entry.Free may = absurd (cc)
-evicts-held i Entry.Lost may = absurd (cc)
-evicts-held i (Entry.Shared set writer) may = both_first (has i set) (not (is_only i set && is_some writer)) may
-evicts-held i (Entry.Excl holder dirty) may = both_first (eqb holder i) (not dirty) may
-evicts-held i (Entry.Moving to mode rest dirty) may = may
+pub evicts-held : (i : ℕ) (e : PageEntry) → may_evict i e ≡ true → holds e i ≡ true
+evicts-held i PageEntry.Free may = absurd (cc)
+evicts-held i PageEntry.Lost may = absurd (cc)
+evicts-held i (PageEntry.Shared set writer) may = both_first (has i set) (not (is_only i set && is_some writer)) may
+evicts-held i (PageEntry.Excl holder dirty) may = both_first (eqb holder i) (not dirty) may
+evicts-held i (PageEntry.Moving to mode rest dirty) may = may
 
 -- and nobody has it alone, changed
-pub evicts-clean : (i : ℕ) (e : Entry) → may_evict i e ≡ true → (j : ℕ) → e ≡ Entry.Excl j true → ⊥
+pub evicts-clean : (i : ℕ) (e : PageEntry) → may_evict i e ≡ true → (j : ℕ) → e ≡ PageEntry.Excl j true → ⊥
 evicts-clean i e may j excl =
-    let b : (eqb j i && false) ≡ true = subst (λ (x : Entry). may_evict i x ≡ true) excl may in
+    let b : (eqb j i && false) ≡ true = subst (λ (x : PageEntry). may_evict i x ≡ true) excl may in
     let f : false ≡ true = both_second (eqb j i) false b in cc
 
 -- one pool is another, which differs in page p at most, and the directory is another
@@ -306,17 +306,17 @@ module _ (p i : ℕ) (pool : Buffers) (places : DirectoryState Page) (c : Parts)
     others = λ k ne. only-here k p ne;
   }
 
-module _ (p i : ℕ) (pool : Buffers) (seen : rig.Image) (leaves : Outcomes) (pend : Pending) (c : Parts) (m : State)
+module _ (p i : ℕ) (pool : Buffers) (seen : rig.DeviceImages) (leaves : Outcomes) (pend : Pending) (c : Parts) (m : State)
     (low : 1 ≤ i) (high : i ≤ 8) (g : Good seen leaves pend c m)
     (gone : buffers.image_at pool p ≡ None)
     (else : (q : ℕ) → q ≢ p → buffers.image_at pool q ≡ buffers.image_at (pool_at c i) q)
     (places : DirectoryState Page) (set : IsSet p (fallen i (entry_at c.directory p)) None c.directory places)
-    (moving : (q : ℕ) → directory.image_at places q ≡ directory.image_at c.directory q)
+    (moving : (q : ℕ) → directory.moving_image_at places q ≡ directory.moving_image_at c.directory q)
     (idle : c.due ≡ None) (formed : Formed (entry_at c.directory p)) (spare : may_evict i (entry_at c.directory p) ≡ true) where
   abbrev left : Parts
   left = with_place i pool places c
 
-  abbrev fall_to : Entry
+  abbrev fall_to : PageEntry
   fall_to = fallen i (entry_at c.directory p)
 
   drop-coherent : (moved : Keeps) → Coherent (base_of seen (leaves_by c moved leaves) (log_by c moved) c) (dir_of left)
@@ -346,7 +346,7 @@ module _ (p i : ℕ) (pool : Buffers) (seen : rig.Image) (leaves : Outcomes) (pe
 
 -- ---- a page is used
 
-module _ (i : ℕ) (pool : Buffers) (seen : rig.Image) (leaves : Outcomes) (pend : Pending) (c : Parts) (m : State)
+module _ (i : ℕ) (pool : Buffers) (seen : rig.DeviceImages) (leaves : Outcomes) (pend : Pending) (c : Parts) (m : State)
     (low : 1 ≤ i) (high : i ≤ 8) (g : Good seen leaves pend c m)
     (images : (q : ℕ) → buffers.image_at pool q ≡ buffers.image_at (pool_at c i) q) where
   abbrev touched : Parts
@@ -368,15 +368,15 @@ module _ (i : ℕ) (pool : Buffers) (seen : rig.Image) (leaves : Outcomes) (pend
 -- ---- an ask is queued
 
 -- it is open, and so is the stronger of it and an older one
-pub live-queued : (active : ℕ → Bool) (e : Entry) (i : ℕ) (mode : Mode) (asks : List Ask) → active i ≡ true
-    → is_open e (record { by = i; mode = mode }) ≡ true → Each (IsLiveAsk active e) asks
+pub live-queued : (active : ℕ → Bool) (e : PageEntry) (i : ℕ) (mode : Mode) (asks : List Ask) → active i ≡ true
+    → is_open_ask e (record { by = i; mode = mode }) ≡ true → Each (IsLiveAsk active e) asks
     → Each (IsLiveAsk active e) (queued i mode asks)
 live-queued active e i mode [] live wanted h = ((live, wanted), tt)
 live-queued active e i mode (a ∷ tail) live wanted h = go (eqb a.by i) refl (live-queued active e i mode tail live wanted h.1)
   where
-    stays : (old new : Mode) → is_open e (record { by = a.by; mode = old }) ≡ true
-        → is_open e (record { by = a.by; mode = new }) ≡ true
-        → is_open e (record { by = a.by; mode = stronger old new }) ≡ true
+    stays : (old new : Mode) → is_open_ask e (record { by = a.by; mode = old }) ≡ true
+        → is_open_ask e (record { by = a.by; mode = new }) ≡ true
+        → is_open_ask e (record { by = a.by; mode = stronger old new }) ≡ true
     stays modes.Shared new x y = y
     stays modes.Excl new x y = x
 
@@ -386,18 +386,18 @@ live-queued active e i mode (a ∷ tail) live wanted h = go (eqb a.by i) refl (l
     go true is rest = (
       (
         h.0.0,
-        stays a.mode mode h.0.1 (subst (λ (k : ℕ). is_open e (record { by = k; mode = mode }) ≡ true)
+        stays a.mode mode h.0.1 (subst (λ (k : ℕ). is_open_ask e (record { by = k; mode = mode }) ≡ true)
             (sym (eqb-true a.by i is)) wanted),
       ),
       h.1,
     )
     go false is rest = (h.0, rest)
 
-module _ (p : ℕ) (seen : rig.Image) (leaves : Outcomes) (pend : Pending) (c : Parts) (m : State)
+module _ (p : ℕ) (seen : rig.DeviceImages) (leaves : Outcomes) (pend : Pending) (c : Parts) (m : State)
     (g : Good seen leaves pend c m) (places : DirectoryState Page) (asks : List Ask) (asked : IsAsked p asks c.directory places)
     (live : Each (IsLiveAsk (is_active c) (entry_at c.directory p)) asks) where
   still-live : (q : ℕ) → Each (IsLiveAsk (is_active c) (entry_at places q)) (asks_at places q)
-  still-live q = subst (λ (e : Entry). Each (IsLiveAsk (is_active c) e) (asks_at places q)) (sym (asked.in_place.entries q))
+  still-live q = subst (λ (e : PageEntry). Each (IsLiveAsk (is_active c) e) (asks_at places q)) (sym (asked.in_place.entries q))
       (⊎_elim
       (λ e. subst (λ (k : ℕ). Each (IsLiveAsk (is_active c) (entry_at c.directory k)) (asks_at places k)) (sym e)
       (subst (Each (IsLiveAsk (is_active c) (entry_at c.directory p))) (sym asked.here) live))
@@ -412,7 +412,7 @@ module _ (p : ℕ) (seen : rig.Image) (leaves : Outcomes) (pend : Pending) (c : 
 
 -- the directory whose boxes are read, after an ask
 pub asked-unboxed : (d e : DirectoryState (Box Page)) (p : ℕ) (asks : List Ask) → ((q : ℕ) → entry_at e q ≡ entry_at d q)
-    → ((q : ℕ) → rec_lsn_at e q ≡ rec_lsn_at d q) → ((q : ℕ) → directory.image_at e q ≡ directory.image_at d q)
+    → ((q : ℕ) → rec_lsn_at e q ≡ rec_lsn_at d q) → ((q : ℕ) → directory.moving_image_at e q ≡ directory.moving_image_at d q)
     → asks_at e p ≡ asks → ((q : ℕ) → q ≢ p → asks_at e q ≡ asks_at d q) → IsAsked p asks (unboxed d) (unboxed e)
 asked-unboxed d e p asks entries rec_lsns images here others = record {
   in_place = record { entries = entries; rec_lsns = rec_lsns; moving = λ q. image-unboxed d e q (images q) };

@@ -5,8 +5,8 @@ use Rattle.std.specs.Result.{is_err}
 use Rattle.std.specs.Option.{option_map_or}
 use Rattle.std.proofs.lemmas.List.{get_or-set_other, get_or-set_same, length-set}
 use Rattle.sd_base.specs.Twin.{chosen_body, number_of}
-use Rattle.sd_page.specs.Page.{Fits, Page}
-use Rattle.sd_page.specs.Spelling.{spelling}
+use Rattle.sd_page.specs.Page.{Page, PageFits}
+use Rattle.sd_page.specs.Spelling.{page_spelling}
 use Rattle.sd_page.proofs.Told.{told}
 use Rattle.sd_model.specs.State.{State}
 use Rattle.sd_pagelock.specs.Directory as directory
@@ -82,28 +82,28 @@ put-errors (Err U.Unwritten) c new settled is = is
 abbrev pub twin_there : ℕ → Twin
 twin_there p = record { dev = 0; at = twin_at p; body = 1024 }
 
-module _ (p : ℕ) (im : Page) (seen seen' : rig.Image) (leaves leaves' : Outcomes) (pend : Pending) (c : Parts) (m : State)
+module _ (p : ℕ) (im : Page) (seen seen' : rig.DeviceImages) (leaves leaves' : Outcomes) (pend : Pending) (c : Parts) (m : State)
     (g : Good seen leaves pend c m) (left : leaves 0 (seen 0)) (can : MayBePut p im seen leaves c)
-    (small : p < 1024) (fits : Fits im) (t : Twin) (is : t ≡ twin_there p)
-    (body : List ℕ) (spelled : body ≡ spelling im) (now : ℕ) (since : ℕ → rig.Image → Type 0)
+    (small : p < 1024) (fits : PageFits im) (t : Twin) (is : t ≡ twin_there p)
+    (body : List ℕ) (spelled : body ≡ page_spelling im) (now : ℕ) (since : ℕ → rig.DeviceImages → Type 0)
     (moments : Span now since (Puts t.dev t.at t.body body seen leaves)) where
-  during : Span now since (Puts 0 (twin_at p) 1024 (spelling im) seen leaves)
-  during = subst (λ (u : Twin). Span now since (Puts u.dev u.at u.body (spelling im) seen leaves)) is
+  during : Span now since (Puts 0 (twin_at p) 1024 (page_spelling im) seen leaves)
+  during = subst (λ (u : Twin). Span now since (Puts u.dev u.at u.body (page_spelling im) seen leaves)) is
       (subst (λ (b : List ℕ). Span now since (Puts t.dev t.at t.body b seen leaves)) spelled moments)
 
   -- each image since it began stands
   pub put-images : Span now since (Stands m pend)
-  put-images = span-weaker now since (Puts 0 (twin_at p) 1024 (spelling im) seen leaves) (Stands m pend)
+  put-images = span-weaker now since (Puts 0 (twin_at p) 1024 (page_spelling im) seen leaves) (Stands m pend)
       (λ img f. tried.put-stands p im seen leaves pend c m g left can small fits img f) during
 
   module _ (others : (d : ℕ) → d ≢ t.dev → seen' d ≡ seen d)
       (others_leave : (d : ℕ) → d ≢ t.dev → LeavesSame (leaves d) (leaves' d)) (reads : (d : ℕ) → d ≤ 8 → leaves' d (seen' d))
-      (counts : (img : rig.Image) → rig.Leaves leaves' img → since now img) where
+      (counts : (img : rig.DeviceImages) → rig.Leaves leaves' img → since now img) where
     elsewhere : (d : ℕ) → d ≢ 0 → d ≢ t.dev
     elsewhere d ne e = ne (e ∙ ap (λ (u : Twin). u.dev) is)
 
-    puts : (bytes : List ℕ) → leaves' 0 bytes → IsPut 0 (twin_at p) 1024 (spelling im) seen leaves bytes
-    puts = put-outcomes leaves leaves' 0 (twin_at p) 1024 (spelling im) seen seen' reads (λ img l. during.each img (counts img l))
+    puts : (bytes : List ℕ) → leaves' 0 bytes → IsPut 0 (twin_at p) 1024 (page_spelling im) seen leaves bytes
+    puts = put-outcomes leaves leaves' 0 (twin_at p) 1024 (page_spelling im) seen seen' reads (λ img l. during.each img (counts img l))
 
     -- once it is Ok
     pub put-ok : LeavesOnly (seen' t.dev) (leaves' t.dev) → Good seen' leaves' pend c m
@@ -112,7 +112,7 @@ module _ (p : ℕ) (im : Page) (seen seen' : rig.Image) (leaves leaves' : Outcom
         (λ e. subst (λ (u : Twin). LeavesOnly (seen' u.dev) (leaves' u.dev)) is only) puts
 
     pub put-newest : chosen_body t.at t.body (seen' t.dev) ≡ Some body → disk_page (seen' 0) p ≡ newest_of seen leaves c p
-    put-newest there = ap (page_in p) (subst (λ (u : Twin). chosen_body u.at u.body (seen' u.dev) ≡ Some (spelling im)) is
+    put-newest there = ap (page_in p) (subst (λ (u : Twin). chosen_body u.at u.body (seen' u.dev) ≡ Some (page_spelling im)) is
         (there ∙ ap (λ (b : List ℕ). Some b) spelled)) ∙ told im fits
         ∙ tried.im-newest p im seen leaves pend c m g left can
 
@@ -137,7 +137,7 @@ module _ (p : ℕ) (im : Page) (seen seen' : rig.Image) (leaves leaves' : Outcom
 -- ---- a read
 
 -- while nothing changes no time passes,
-pub read-elapses : (seen seen' : rig.Image) (leaves leaves' : Outcomes) (t t' : ℕ) (since since' : ℕ → rig.Image → Type 0)
+pub read-elapses : (seen seen' : rig.DeviceImages) (leaves leaves' : Outcomes) (t t' : ℕ) (since since' : ℕ → rig.DeviceImages → Type 0)
     → IsUnchanged seen seen' leaves leaves' t t' since since' → Elapses t t' since since'
 read-elapses seen seen' leaves leaves' t t' since since' u = record {
   later = let e = u.clock in omega (arith, e);
@@ -150,7 +150,7 @@ pub same-then : (one two three : List ℕ → Type 0) → LeavesSame one two →
 same-then one two three f h bytes = (λ l. (f bytes).0 ((h bytes).0 l), λ l. (h bytes).1 ((f bytes).1 l))
 
 -- what the slots of a page, read, say of its LSN
-pub read-lsn : (p n : ℕ) (seen : rig.Image) (t : Twin) (chosen : Chosen) (out : List ℕ) → t ≡ twin_there p
+pub read-lsn : (p n : ℕ) (seen : rig.DeviceImages) (t : Twin) (chosen : Chosen) (out : List ℕ) → t ≡ twin_there p
     → TwinIsSound p (seen 0)
     → named_body chosen t.body out ≡ chosen_body t.at t.body (seen t.dev)
     → n ≡ option_map_or number_of (named_body chosen 1024 out) 0 → n ≡ (disk_page (seen 0) p).lsn
@@ -169,7 +169,7 @@ not-err (Ok x) P is h = h
 not-err (Err e) P is h = absurd (cc)
 
 -- the pool of whoever has the write of a page has its newest version
-pub duty-copy : (p i : ℕ) (seen : rig.Image) (leaves : Outcomes) (pend : Pending) (c : Parts) (m : State)
+pub duty-copy : (p i : ℕ) (seen : rig.DeviceImages) (leaves : Outcomes) (pend : Pending) (c : Parts) (m : State)
     → Good seen leaves pend c m → Formed (entry_at c.directory p) → is_duty i (entry_at c.directory p) ≡ true
     → buffers.image_at (pool_at c i) p ≡ Some (newest_of seen leaves c p)
 duty-copy p i seen leaves pend c m g formed duty =
@@ -181,12 +181,12 @@ pub forced-still : (i : ℕ) (b : Bool) (c : Parts) → (is_loose c i ≡ false 
 forced-still zero b c f settled = refl
 forced-still (suc k) b c f settled = f (sym (get_or-set_other c.loose 0 (suc k) b true (omega arith)) ∙ settled)
 
-pub clean-good : (p i : ℕ) (places : DirectoryState Page) (seen : rig.Image) (leaves : Outcomes) (pend : Pending) (c : Parts)
+pub clean-good : (p i : ℕ) (places : DirectoryState Page) (seen : rig.DeviceImages) (leaves : Outcomes) (pend : Pending) (c : Parts)
     (m : State) → Good seen leaves pend (with_loose_disk false c) m → leaves 0 (seen 0) → Formed (entry_at c.directory p)
     → c.due ≡ None
     → MayPut p i c → disk_page (seen 0) p ≡ newest_of seen leaves c p
     → IsSet p (written (entry_at c.directory p)) None c.directory places
-    → ((q : ℕ) → directory.image_at places q ≡ directory.image_at c.directory q)
+    → ((q : ℕ) → directory.moving_image_at places q ≡ directory.moving_image_at c.directory q)
     → Good seen leaves pend (with_written places c) m
 clean-good p i places seen leaves pend c m g left formed idle can there set moving =
     let size = length-set c.loose 0 false in

@@ -5,10 +5,10 @@ use Rattle.std.proofs.lemmas.Bool.{cases_eq}
 use Rattle.sd_page.specs.Page.{Page}
 use Rattle.sd_model.specs.State.{State}
 use Rattle.sd_pagelock.specs.declared.queue.Ask.{Ask}
-use Rattle.sd_pagelock.specs.Asks.{is_open}
+use Rattle.sd_pagelock.specs.Asks.{is_open_ask}
 use Rattle.sd_pagelock.specs.Directory as directory
 use Rattle.sd_pagelock.specs.Directory.{DirectoryState, asks_at, entry_at, kept_rec, rec_lsn_at}
-use Rattle.sd_pagelock.specs.Places.{Entry, changed, is_lost}
+use Rattle.sd_pagelock.specs.Places.{PageEntry, changed, is_lost}
 use Rattle.sd_pagelock.specs.Rows.{may_write, written}
 use Rattle.sd_pagelock.proofs.Uses.{clean-written}
 use Rattle.sd_rig.specs.Devices as rig
@@ -28,15 +28,15 @@ use Rattle.sd_moves.specs.Putting.{MayBePut}
 use Rattle.sd_moves.proofs.PutDevice.{device-good, with_marks}
 use Rattle.sd_moves.proofs.PutTried as tried
 
-module _ (p : ℕ) (im : Page) (places : DirectoryState Page) (seen : rig.Image) (leaves : Outcomes) (pend : Pending) (c : Parts)
+module _ (p : ℕ) (im : Page) (places : DirectoryState Page) (seen : rig.DeviceImages) (leaves : Outcomes) (pend : Pending) (c : Parts)
     (m : State) (g : Good seen leaves pend c m) (left : leaves 0 (seen 0)) (can : MayBePut p im seen leaves c)
     (writes : (may_write (entry_at c.directory p) || is_lost (entry_at c.directory p)) ≡ true) (settled : is_loose c 0 ≡ false)
     (there : disk_page (seen 0) p ≡ im) (set : IsSet p (written (entry_at c.directory p)) None c.directory places)
-    (moving : (q : ℕ) → directory.image_at places q ≡ directory.image_at c.directory q) where
+    (moving : (q : ℕ) → directory.moving_image_at places q ≡ directory.moving_image_at c.directory q) where
   abbrev new : Parts
   new = with_marks c.loose places c
 
-  abbrev place : Entry
+  abbrev place : PageEntry
   place = entry_at c.directory p
 
   module _ (moved : Keeps) where
@@ -72,18 +72,18 @@ module _ (p : ℕ) (im : Page) (places : DirectoryState Page) (seen : rig.Image)
       checks = h.checks;
     }
 
-  abbrev IsAsk : Entry → Ask → Type 0
-  IsAsk e ask = (is_active c ask.by ≡ true) × (is_open e ask ≡ true)
+  abbrev IsAsk : PageEntry → Ask → Type 0
+  IsAsk e ask = (is_active c ask.by ≡ true) × (is_open_ask e ask ≡ true)
 
   asks-there : (q : ℕ) → Each (IsAsk (entry_at places q)) (asks_at places q)
   asks-there q = ⊎_elim
       (λ e. subst (λ (k : ℕ). Each (IsAsk (entry_at places k)) (asks_at places k)) (sym e)
-      (subst (λ (e : Entry). Each (IsAsk e) (asks_at places p)) (sym set.entry)
+      (subst (λ (e : PageEntry). Each (IsAsk e) (asks_at places p)) (sym set.entry)
       (subst (Each (IsAsk (written place))) (sym set.asks)
-      (each-left (λ (ask : Ask). is_active c ask.by ≡ true) (is_open (written place)) (asks_at c.directory p)
-      (each-first (λ (ask : Ask). is_active c ask.by ≡ true) (λ (ask : Ask). is_open place ask ≡ true)
+      (each-left (λ (ask : Ask). is_active c ask.by ≡ true) (is_open_ask (written place)) (asks_at c.directory p)
+      (each-first (λ (ask : Ask). is_active c ask.by ≡ true) (λ (ask : Ask). is_open_ask place ask ≡ true)
       (asks_at c.directory p) (g.asks p))))))
-      (λ ne. subst (λ (e : Entry). Each (IsAsk e) (asks_at places q)) (sym (set.others q ne))
+      (λ ne. subst (λ (e : PageEntry). Each (IsAsk e) (asks_at places q)) (sym (set.others q ne))
       (subst (Each (IsAsk (entry_at c.directory q))) (sym (set.other_asks q ne)) (g.asks q)))
       (cases_eq q p)
 

@@ -7,7 +7,7 @@ use Rattle.sd_logrec.specs.Kept.{master}
 use Rattle.sd_log.specs.Logs.{StandsOn, forced}
 use Rattle.sd_page.specs.Page.{Page}
 use Rattle.sd_model.specs.State.{State}
-use Rattle.sd_pagelock.specs.Asks.{is_open}
+use Rattle.sd_pagelock.specs.Asks.{is_open_ask}
 use Rattle.sd_pagelock.specs.Directory.{DirectoryState, asks_at, entry_at}
 use Rattle.sd_rig.specs.Devices as rig
 use Rattle.sd_rig.specs.Devices.{LeavesOnly, LeavesSame}
@@ -23,7 +23,7 @@ use Rattle.sd_state.specs.Values.{Pending}
 abbrev pub with_marks : List Bool → DirectoryState Page → Parts → Parts
 with_marks marks places c = record c { loose = marks; directory = places }
 
-module _ (marks : List Bool) (places : DirectoryState Page) (seen seen' : rig.Image) (leaves leaves' : Outcomes) (pend : Pending)
+module _ (marks : List Bool) (places : DirectoryState Page) (seen seen' : rig.DeviceImages) (leaves leaves' : Outcomes) (pend : Pending)
     (c : Parts) (m : State) (g : Good seen leaves pend c m) (size : length marks ≡ 9)
     (kept : (d : ℕ) → d ≢ 0 → get_or marks d true ≡ is_loose c d) (others : (d : ℕ) → d ≢ 0 → seen' d ≡ seen d)
     (others_leave : (d : ℕ) → d ≢ 0 → LeavesSame (leaves d) (leaves' d)) where
@@ -61,7 +61,7 @@ module _ (marks : List Bool) (places : DirectoryState Page) (seen seen' : rig.Im
   pub device-good : ((moved : Keeps) → Half seen' (leaves_by c moved leaves') (log_by c moved) pend new m)
       → (get_or marks 0 true ≡ false → LeavesOnly (seen' 0) (leaves' 0))
       → ((moved : Keeps) (q : ℕ) (x : Page) → may_of leaves' q x → IsKnownLsn c (log_by c moved) x.lsn)
-      → ((q : ℕ) → Each (λ ask. (is_active c ask.by ≡ true) × (is_open (entry_at places q) ask ≡ true)) (asks_at places q))
+      → ((q : ℕ) → Each (λ ask. (is_active c ask.by ≡ true) × (is_open_ask (entry_at places q) ask ≡ true)) (asks_at places q))
       → Good seen' leaves' pend new m
   device-good half only lsns asks = record {
     shape = record {

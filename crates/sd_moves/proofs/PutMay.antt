@@ -8,7 +8,7 @@ use Rattle.sd_logrec.specs.View.{flat}
 use Rattle.sd_page.specs.Page.{Page}
 use Rattle.sd_model.specs.State.{State}
 use Rattle.sd_pagelock.specs.Directory.{entry_at}
-use Rattle.sd_pagelock.specs.Places.{Entry, Formed, changed, holds}
+use Rattle.sd_pagelock.specs.Places.{Formed, PageEntry, changed, holds}
 use Rattle.sd_pagelock.specs.Rows.{may_write}
 use Rattle.sd_pool.specs.Buffers as buffers
 use Rattle.sd_rig.specs.Devices as rig
@@ -17,7 +17,7 @@ use Rattle.sd_chain.specs.Bytes.{disk_page}
 use Rattle.sd_chain.specs.Images.{Keeps, all_kept}
 use Rattle.sd_coherent.specs.Named.{version_of}
 use Rattle.sd_coherent.specs.Puts.{NoneUnforced}
-use Rattle.sd_coherent.specs.World.{Base, now}
+use Rattle.sd_coherent.specs.World.{Base, newest_version}
 use Rattle.sd_coherent.proofs.Newest.{each-newest}
 use Rattle.sd_coherent.proofs.Puts.{forced-none, lost-none}
 use Rattle.sd_sound.specs.Logs.{Logs, Outcomes, may_of, tails_of}
@@ -36,33 +36,33 @@ use Rattle.sd_moves.proofs.Placed.{tail-same}
 -- ---- who has the write of a page
 
 -- it is changed
-pub write-changed : (e : Entry) → may_write e ≡ true → changed e ≡ true
-write-changed Entry.Free w = absurd (cc)
-write-changed (Entry.Shared set writer) w = w
-write-changed (Entry.Excl holder dirty) w = w
-write-changed (Entry.Moving to mode rest dirty) w = absurd (cc)
-write-changed Entry.Lost w = absurd (cc)
+pub write-changed : (e : PageEntry) → may_write e ≡ true → changed e ≡ true
+write-changed PageEntry.Free w = absurd (cc)
+write-changed (PageEntry.Shared set writer) w = w
+write-changed (PageEntry.Excl holder dirty) w = w
+write-changed (PageEntry.Moving to mode rest dirty) w = absurd (cc)
+write-changed PageEntry.Lost w = absurd (cc)
 
 -- it isn't lost
-pub write-found : (e : Entry) → may_write e ≡ true → e ≢ Entry.Lost
+pub write-found : (e : PageEntry) → may_write e ≡ true → e ≢ PageEntry.Lost
 write-found e w lost = let clash = sym w ∙ ap may_write lost in absurd (cc)
 
 -- its pool has the page
-pub duty-holds : (i : ℕ) (e : Entry) → Formed e → is_duty i e ≡ true → holds e i ≡ true
-duty-holds i Entry.Free f d = absurd (cc)
-duty-holds i (Entry.Shared set None) f d = absurd (cc)
-duty-holds i (Entry.Shared set (Some w)) f d = f.1 i (ap (λ (k : ℕ). Some k) (eqb-true w i d))
-duty-holds i (Entry.Excl holder dirty) f d = d
-duty-holds i (Entry.Moving to mode rest dirty) f d = absurd (cc)
-duty-holds i Entry.Lost f d = absurd (cc)
+pub duty-holds : (i : ℕ) (e : PageEntry) → Formed e → is_duty i e ≡ true → holds e i ≡ true
+duty-holds i PageEntry.Free f d = absurd (cc)
+duty-holds i (PageEntry.Shared set None) f d = absurd (cc)
+duty-holds i (PageEntry.Shared set (Some w)) f d = f.1 i (ap (λ (k : ℕ). Some k) (eqb-true w i d))
+duty-holds i (PageEntry.Excl holder dirty) f d = d
+duty-holds i (PageEntry.Moving to mode rest dirty) f d = absurd (cc)
+duty-holds i PageEntry.Lost f d = absurd (cc)
 
 -- and who else has it alone is nobody
-duty-alone : (i j : ℕ) (x : Bool) (e : Entry) → is_duty i e ≡ true → e ≡ Entry.Excl j x → j ≡ i
+duty-alone : (i j : ℕ) (x : Bool) (e : PageEntry) → is_duty i e ≡ true → e ≡ PageEntry.Excl j x → j ≡ i
 duty-alone i j x e d is = eqb-true j i (sym (ap (is_duty i) is) ∙ d)
 
 -- ---- the copy of who has the write
 
-module _ (p i : ℕ) (im : Page) (seen : rig.Image) (leaves : Outcomes) (pend : Pending) (c : Parts) (m : State)
+module _ (p i : ℕ) (im : Page) (seen : rig.DeviceImages) (leaves : Outcomes) (pend : Pending) (c : Parts) (m : State)
     (g : Good seen leaves pend c m) (held : buffers.image_at (pool_at c i) p ≡ Some im) (idle : c.due ≡ None) (can : MayPut p i c)
     (moved : Keeps) where
   abbrev wide : Outcomes
@@ -75,7 +75,7 @@ module _ (p i : ℕ) (im : Page) (seen : rig.Image) (leaves : Outcomes) (pend : 
   half = g.half moved
 
   -- it is the newest version
-  held-now : im ≡ now base p
+  held-now : im ≡ newest_version base p
   held-now = ((each-newest (may_of wide) base (dir_of c) half.coherent p i).1 im held).1
 
   -- and no tail has a record of the page
@@ -85,7 +85,7 @@ module _ (p i : ℕ) (im : Page) (seen : rig.Image) (leaves : Outcomes) (pend : 
       ap (map flat) (tail-same c moved j ∙ ap (λ (k : ℕ). (log_at c k).tail) own
       ∙ can.forced (subst (λ (k : ℕ). is_loose c k ≡ false) own settled)))
 
-pub held-may : (p i : ℕ) (im : Page) (seen : rig.Image) (leaves : Outcomes) (pend : Pending) (c : Parts) (m : State)
+pub held-may : (p i : ℕ) (im : Page) (seen : rig.DeviceImages) (leaves : Outcomes) (pend : Pending) (c : Parts) (m : State)
     → Good seen leaves pend c m → buffers.image_at (pool_at c i) p ≡ Some im → c.due ≡ None → MayPut p i c
     → MayBePut p im seen leaves c
 held-may p i im seen leaves pend c m g held idle can = record {
@@ -96,7 +96,7 @@ held-may p i im seen leaves pend c m g held idle can = record {
 
 -- ---- a lost page
 
-module _ (p : ℕ) (im : Page) (seen : rig.Image) (leaves : Outcomes) (pend : Pending) (c : Parts) (m : State)
+module _ (p : ℕ) (im : Page) (seen : rig.DeviceImages) (leaves : Outcomes) (pend : Pending) (c : Parts) (m : State)
     (g : Good seen leaves pend c m) (can : MayRebuild p c) (newest : im ≡ newest_of seen leaves c p) where
   -- each log, settled, begins at one place
   no_other : (j : ℕ) → other_at c j ≡ None
@@ -111,7 +111,7 @@ module _ (p : ℕ) (im : Page) (seen : rig.Image) (leaves : Outcomes) (pend : Pe
     lost_base = base_of seen (leaves_by c moved leaves) (log_by c moved) c
 
     -- so the newest version is the same wherever logs may begin,
-    lost-now : im ≡ now lost_base p
+    lost-now : im ≡ newest_version lost_base p
     lost-now = newest ∙ ap (λ (logs : Logs). version_of (tails_of logs) (disk_page (seen 0)) all_kept p)
         (sym (fun_ext (λ j. one-place c moved j (no_other j))))
 
@@ -130,8 +130,8 @@ module _ (p : ℕ) (im : Page) (seen : rig.Image) (leaves : Outcomes) (pend : Pe
 -- ---- a read
 
 -- An image that might be put before a read may be put after it.
-pub unchanged-may : (p : ℕ) (im : Page) (seen seen' : rig.Image) (leaves leaves' : Outcomes) (t t' : ℕ)
-    (since since' : ℕ → rig.Image → Type 0) → IsUnchanged seen seen' leaves leaves' t t' since since' → (pend : Pending)
+pub unchanged-may : (p : ℕ) (im : Page) (seen seen' : rig.DeviceImages) (leaves leaves' : Outcomes) (t t' : ℕ)
+    (since since' : ℕ → rig.DeviceImages → Type 0) → IsUnchanged seen seen' leaves leaves' t t' since since' → (pend : Pending)
     (c : Parts) (m : State) → MayPutImage p im seen leaves pend c m → ((d : ℕ) → d ≤ 8 → leaves' d (seen' d))
     → MayPutImage p im seen' leaves' pend c m
 unchanged-may p im seen seen' leaves leaves' t t' since since' u pend c m can reads = record {

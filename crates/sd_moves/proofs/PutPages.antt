@@ -4,25 +4,25 @@ use Rattle.std.specs.Prelude.{IfSome, ltb}
 use Rattle.std.specs.Option.{option_map_or}
 use Rattle.std.specs.Int.{w64, from_be_bytes}
 use Rattle.sd_base.specs.Twin.{number_of}
-use Rattle.sd_page.specs.Page.{Fits, Page}
+use Rattle.sd_page.specs.Page.{Page, PageFits}
 use Rattle.sd_page.specs.Reading.{eight_at, page_of}
-use Rattle.sd_page.specs.Spelling.{WellFormed, spelling}
+use Rattle.sd_page.specs.Spelling.{WellFormed, page_spelling}
 use Rattle.sd_page.proofs.Told.{told, told-lsn}
 use Rattle.sd_gate.proofs.Numbers.{number_of-take}
 use Rattle.sd_logrec.specs.View.{Rec}
 use Rattle.sd_chain.specs.Bytes.{page_in}
-use Rattle.sd_chain.specs.Image.{Image, Sound, chain, newest}
+use Rattle.sd_chain.specs.Storage.{Sound, Storage, chain, newest}
 use Rattle.sd_chain.specs.Pages.{redo, replay}
 use Rattle.sd_chain.proofs.Chains.{replay_rises}
 
 -- the first eight bytes of an image are its LSN
-lsn-first : (page : Page) → Fits page → from_be_bytes w64 (take 8 (spelling page)) ≡ page.lsn
+lsn-first : (page : Page) → PageFits page → from_be_bytes w64 (take 8 (page_spelling page)) ≡ page.lsn
 unfolding eight_at
 lsn-first page fits = told-lsn page fits
 
 -- so that is the number by which slots are compared
-pub number-spelled : (page : Page) → Fits page → number_of (spelling page) ≡ page.lsn
-number-spelled page fits = sym (number_of-take 8 (spelling page) (omega arith)) ∙ lsn-first page fits
+pub number-spelled : (page : Page) → PageFits page → number_of (page_spelling page) ≡ page.lsn
+number-spelled page fits = sym (number_of-take 8 (page_spelling page) (omega arith)) ∙ lsn-first page fits
 
 -- a body that is an image of page p has the LSN and the number of the page that it tells of
 pub body-lsn : (p : ℕ) (o : Option (List ℕ)) → IfSome o (λ b. WellFormed b p) → IfSome o (λ b. number_of b ≡ (page_in p o).lsn)
@@ -44,12 +44,12 @@ replay-number floor page (x ∷ xs) =
     one true = refl
     one false = refl
 
-pub newest-number : (img : Image) (p : ℕ) → (newest img p).number ≡ (img.disk p).number
+pub newest-number : (img : Storage) (p : ℕ) → (newest img p).number ≡ (img.disk p).number
 unfolding newest
 newest-number img p = replay-number (img.disk p).lsn (img.disk p) (chain img p)
 
 -- and raise its LSN
-pub newest-rises : (img : Image) (p : ℕ) → Sound img → (img.disk p).lsn ≤ (newest img p).lsn
+pub newest-rises : (img : Storage) (p : ℕ) → Sound img → (img.disk p).lsn ≤ (newest img p).lsn
 unfolding newest
 newest-rises img p sound =
     (replay_rises (img.disk p).lsn (img.disk p) (chain img p) (omega arith) (sound.pages p)).0

@@ -25,7 +25,7 @@ use Rattle.sd_moves.proofs.PutDevice.{device-good}
 
 -- ---- device 0, which a crash leaves as it reads, is called settled
 
-module _ (seen : rig.Image) (leaves : Outcomes) (pend : Pending) (c : Parts) (m : State) (g : Good seen leaves pend c m)
+module _ (seen : rig.DeviceImages) (leaves : Outcomes) (pend : Pending) (c : Parts) (m : State) (g : Good seen leaves pend c m)
     (only : LeavesOnly (seen 0) (leaves 0)) where
   abbrev new : Parts
   new = with_loose_disk false c
@@ -96,14 +96,14 @@ module _ (seen : rig.Image) (leaves : Outcomes) (pend : Pending) (c : Parts) (m 
 
 -- ---- a sync
 
-module _ (seen seen' : rig.Image) (leaves leaves' : Outcomes) (pend : Pending) (c : Parts) (m : State)
+module _ (seen seen' : rig.DeviceImages) (leaves leaves' : Outcomes) (pend : Pending) (c : Parts) (m : State)
     (g : Good seen leaves pend c m) (reads : (d : ℕ) → d ≤ 8 → leaves d (seen d))
     (reads' : (d : ℕ) → d ≤ 8 → leaves' d (seen' d)) (same : (d : ℕ) → seen' d ≡ seen d)
     (others_leave : (d : ℕ) → d ≢ 0 → LeavesSame (leaves d) (leaves' d)) where
   as-read : (d : ℕ) → d ≤ 8 → leaves' d (seen d)
   as-read d le = subst (leaves' d) (same d) (reads' d le)
 
-  there : (P : rig.Image → Type 0) → P seen → P seen'
+  there : (P : rig.DeviceImages → Type 0) → P seen → P seen'
   there P h = subst P (sym (fun_ext same)) h
 
   less : ((bytes : List ℕ) → leaves' 0 bytes → leaves 0 bytes) → Less leaves leaves'
@@ -114,12 +114,12 @@ module _ (seen seen' : rig.Image) (leaves leaves' : Outcomes) (pend : Pending) (
 
   -- after one that failed the complex is as it was,
   pub unsynced-good : LeavesSame (leaves 0) (leaves' 0) → Good seen' leaves' pend c m
-  unsynced-good stays = there (λ (s : rig.Image). Good s leaves' pend c m)
+  unsynced-good stays = there (λ (s : rig.DeviceImages). Good s leaves' pend c m)
       (less-good seen leaves leaves' pend c m g (less (λ bytes l. (stays bytes).0 l)) as-read)
 
   -- and after one that is Ok device 0 is settled
   pub synced-good : LeavesOnly (seen 0) (leaves' 0) → Good seen' leaves' pend (with_loose_disk false c) m
-  synced-good only = there (λ (s : rig.Image). Good s leaves' pend (with_loose_disk false c) m)
+  synced-good only = there (λ (s : rig.DeviceImages). Good s leaves' pend (with_loose_disk false c) m)
       (settled-good seen leaves' pend c m
       (less-good seen leaves leaves' pend c m g
       (less (λ bytes l. subst (leaves 0) (sym ((only bytes).0 l)) (reads 0 (omega arith)))) as-read)

@@ -7,8 +7,8 @@ use Rattle.std.proofs.lemmas.List.{get_or-set_other, get_or-set_same, length-set
 use Rattle.std.specs.List.{list_any}
 use Rattle.sd_base.specs.Twin.{chosen_body, number_of}
 use Rattle.sd_logrec.specs.View.{Rec}
-use Rattle.sd_page.specs.Page.{Fits, Page}
-use Rattle.sd_page.specs.Spelling.{WellFormed, spelling}
+use Rattle.sd_page.specs.Page.{Page, PageFits}
+use Rattle.sd_page.specs.Spelling.{WellFormed, page_spelling}
 use Rattle.sd_model.specs.State.{State}
 use Rattle.sd_rig.specs.Devices as rig
 use Rattle.sd_rig.specs.Devices.{LeavesOnly, LeavesSame}
@@ -24,7 +24,7 @@ use Rattle.sd_coherent.specs.Changes as changes_law
 use Rattle.sd_coherent.specs.Coherent.{Coherent}
 use Rattle.sd_coherent.specs.Named.{version_of}
 use Rattle.sd_coherent.specs.Puts as puts_law
-use Rattle.sd_coherent.specs.World.{Base, now}
+use Rattle.sd_coherent.specs.World.{Base, newest_version}
 use Rattle.sd_coherent.proofs.Changes.{rest-keeps}
 use Rattle.sd_coherent.proofs.Checkpoints.{cover-puts}
 use Rattle.sd_coherent.proofs.Crashes.{put-gives}
@@ -68,7 +68,7 @@ some-mapped (Some x) P Q f h = f x h
 
 -- ---- the put
 
-module _ (p : ℕ) (im : Page) (seen : rig.Image) (leaves : Outcomes) (pend : Pending) (c : Parts) (m : State)
+module _ (p : ℕ) (im : Page) (seen : rig.DeviceImages) (leaves : Outcomes) (pend : Pending) (c : Parts) (m : State)
     (g : Good seen leaves pend c m) (left : leaves 0 (seen 0)) (can : MayBePut p im seen leaves c) where
   module _ (moved : Keeps) where
     abbrev pub wide : Outcomes
@@ -83,14 +83,14 @@ module _ (p : ℕ) (im : Page) (seen : rig.Image) (leaves : Outcomes) (pend : Pe
     half : Half seen wide logs pend c m
     half = g.half moved
 
-    pub is-now : im ≡ now base p
+    pub is-now : im ≡ newest_version base p
     is-now = can.newest moved
 
     pub none : puts_law.NoneUnforced base p
     none = can.none moved
 
     -- so its newest version is the same whatever tails are kept
-    version-same : (keeps : Keeps) → base.version keeps p ≡ now base p
+    version-same : (keeps : Keeps) → base.version keeps p ≡ newest_version base p
     version-same keeps = Versions.version-agree base.tails (may_of wide) base.version half.coherent.safe base.disk
         half.coherent.reads keeps all_kept p (λ j. inr (none j))
 
@@ -147,10 +147,10 @@ module _ (p : ℕ) (im : Page) (seen : rig.Image) (leaves : Outcomes) (pend : Pe
       ((half none_kept).coherent.safe.sound (base none_kept).disk (half none_kept).coherent.reads all_kept))
 
   -- an image of another LSN than the slot that counts has a greater one
-  pub im-greater : p < 1024 → Fits im → (disk_page (seen 0) p).lsn ≢ im.lsn
-      → IfSome (chosen_body (twin_at p) 1024 (seen 0)) (λ b. number_of b < number_of (spelling im))
+  pub im-greater : p < 1024 → PageFits im → (disk_page (seen 0) p).lsn ≢ im.lsn
+      → IfSome (chosen_body (twin_at p) 1024 (seen 0)) (λ b. number_of b < number_of (page_spelling im))
   im-greater small fits differs = some-mapped (chosen_body (twin_at p) 1024 (seen 0))
-      (λ b. number_of b ≡ (disk_page (seen 0) p).lsn) (λ b. number_of b < number_of (spelling im))
+      (λ b. number_of b ≡ (disk_page (seen 0) p).lsn) (λ b. number_of b < number_of (page_spelling im))
       (λ b is. let e = number-spelled im fits in let r = rises in omega (arith, is, e, r, differs))
       (body-lsn p (chosen_body (twin_at p) 1024 (seen 0)) (sound-twin small))
 
@@ -164,11 +164,11 @@ module _ (p : ℕ) (im : Page) (seen : rig.Image) (leaves : Outcomes) (pend : Pe
 
   -- ---- once it is put, or the put failed
 
-  module _ (small : p < 1024) (fits : Fits im) (marks : List Bool) (seen' : rig.Image) (leaves' : Outcomes)
+  module _ (small : p < 1024) (fits : PageFits im) (marks : List Bool) (seen' : rig.DeviceImages) (leaves' : Outcomes)
       (size : length marks ≡ 9) (kept : (d : ℕ) → d ≢ 0 → get_or marks d true ≡ is_loose c d)
       (others : (d : ℕ) → d ≢ 0 → seen' d ≡ seen d) (others_leave : (d : ℕ) → d ≢ 0 → LeavesSame (leaves d) (leaves' d))
       (reads : leaves' 0 (seen' 0)) (only : get_or marks 0 true ≡ false → LeavesOnly (seen' 0) (leaves' 0))
-      (puts : (bytes : List ℕ) → leaves' 0 bytes → IsPut 0 (twin_at p) 1024 (spelling im) seen leaves bytes) where
+      (puts : (bytes : List ℕ) → leaves' 0 bytes → IsPut 0 (twin_at p) 1024 (page_spelling im) seen leaves bytes) where
     abbrev put_parts : Parts
     put_parts = with_marks marks c.directory c
 
@@ -179,7 +179,7 @@ module _ (p : ℕ) (im : Page) (seen : rig.Image) (leaves : Outcomes) (pend : Pe
       less : (j : ℕ) → 1 ≤ j → (bytes : List ℕ) → narrow j bytes → wide moved j bytes
       less j low bytes l = ((others_leave j (λ e. omega (arith, low, e)) bytes).0 l.0, l.1)
 
-      or-put : (q : ℕ) (x : Page) → may_of narrow q x → or_written (may_of (wide moved)) p (now (base moved) p) q x
+      or-put : (q : ℕ) (x : Page) → may_of narrow q x → or_written (may_of (wide moved)) p (newest_version (base moved) p) q x
       or-put q x may =
           let w = puts may.0 may.1.0 in
           let is : disk_page (w.0 0) q ≡ x = ap (λ (b : List ℕ). disk_page b q) w.1 ∙ may.2 in
@@ -256,7 +256,7 @@ module _ (p : ℕ) (im : Page) (seen : rig.Image) (leaves : Outcomes) (pend : Pe
       half-there = record {
         coherent = coherent-there;
         soundly = soundly-there;
-        gives = narrowed-gives (or_written (may_of (wide moved)) p (now (base moved) p)) (may_of narrow) or-put
+        gives = narrowed-gives (or_written (may_of (wide moved)) p (newest_version (base moved) p)) (may_of narrow) or-put
             (base moved).tails _
             (put-gives (may_of (wide moved)) p (base moved) (dir_of c) _ (half moved).coherent (none moved) (half moved).gives);
         claimed = (half moved).claimed;
@@ -281,9 +281,9 @@ module _ (p : ℕ) (im : Page) (seen : rig.Image) (leaves : Outcomes) (pend : Pe
 
   -- ---- while it is put
 
-  module _ (small : p < 1024) (fits : Fits im) (img : rig.Image) (f : Puts 0 (twin_at p) 1024 (spelling im) seen leaves img) where
+  module _ (small : p < 1024) (fits : PageFits im) (img : rig.DeviceImages) (f : Puts 0 (twin_at p) 1024 (page_spelling im) seen leaves img) where
     -- as if device 0 were left so
-    abbrev seen_then : rig.Image
+    abbrev seen_then : rig.DeviceImages
     seen_then zero = img 0
     seen_then (suc d) = seen (suc d)
 

@@ -11,7 +11,7 @@ use Rattle.sd_state.specs.Parts.{Parts}
 use Rattle.sd_state.specs.Values.{Pending}
 use Rattle.sd_state.proofs.LockReads.{less-good}
 
-module _ (dev : ℕ) (seen seen' : rig.Image) (leaves leaves' : Outcomes) (pend : Pending) (c : Parts) (m : State)
+module _ (dev : ℕ) (seen seen' : rig.DeviceImages) (leaves leaves' : Outcomes) (pend : Pending) (c : Parts) (m : State)
     (high : dev ≤ 8) (g : Good seen leaves pend c m) (reads : (d : ℕ) → d ≤ 8 → leaves d (seen d))
     (reads' : (d : ℕ) → d ≤ 8 → leaves' d (seen' d)) (same : (d : ℕ) → seen' d ≡ seen d)
     (others_leave : (d : ℕ) → d ≢ dev → LeavesSame (leaves d) (leaves' d)) where
@@ -25,7 +25,7 @@ module _ (dev : ℕ) (seen seen' : rig.Image) (leaves leaves' : Outcomes) (pend 
       (cases_eq d dev)
 
   by : ((bytes : List ℕ) → leaves' dev bytes → leaves dev bytes) → Good seen' leaves' pend c m
-  by here = subst (λ (s : rig.Image). Good s leaves' pend c m) (sym (fun_ext same))
+  by here = subst (λ (s : rig.DeviceImages). Good s leaves' pend c m) (sym (fun_ext same))
       (less-good seen leaves leaves' pend c m g (less here) as-read)
 
   -- after one that failed,

@@ -52,7 +52,7 @@ most-none n (x ∷ xs) a e = ⊎_elim
     (λ off. most-none n xs a.1 (rw off at e))
     (cases_Bool (ltb n x.lsn))
 
-module _ (i : ℕ) (seen : rig.Image) (leaves : Outcomes) (c found : Parts) (m : State) (low : 1 ≤ i) (high : i ≤ 8)
+module _ (i : ℕ) (seen : rig.DeviceImages) (leaves : Outcomes) (c found : Parts) (m : State) (low : 1 ≤ i) (high : i ≤ 8)
     (g : Good seen leaves Pending.Idle c m) (was_loose : is_loose c i ≡ true) (idle : c.due ≡ None)
     (only : LeavesOnly (seen i) (leaves i)) (reads : (d : ℕ) → d ≤ 8 → leaves d (seen d)) (read : IsReread i (seen i) c found) where
   abbrev new : Parts

@@ -22,7 +22,7 @@ use Rattle.sd_chain.specs.Fates.{Fate, fate}
 use Rattle.sd_chain.specs.Images.{Keeps, Settled, kept_at}
 use Rattle.sd_chain.specs.Records.{Each, IsOpen, home}
 use Rattle.sd_sound.specs.Laws.{IsRead}
-use Rattle.sd_sound.specs.Logs.{Less, LessElsewhere, Logs, Outcomes, Replaces, after_records, all_at, base_at, past_at, tail_at, tails_of}
+use Rattle.sd_sound.specs.Logs.{Less, LessElsewhere, Logs, Outcomes, ReplacesLog, after_records, all_at, base_at, past_at, tail_at, tails_of}
 use Rattle.sd_sound.specs.Soundly.{IsSoundly, LogIsSound}
 use Rattle.sd_sound.proofs.Forces.{settled-keeps}
 use Rattle.sd_sound.proofs.Kept.{forced-idle, kept-is}
@@ -58,7 +58,7 @@ abbrev pub was_at : ℕ → List ℕ → Parts → Keeps → Keeps
 was_at i bytes c moved = kept_at i (begins_at bytes (other_at c i)) moved
 
 -- What a crash leaves stands for the state, wherever the other logs begin. That of i begins where its master says.
-module _ (i : ℕ) (seen : rig.Image) (leaves : Outcomes) (c found : Parts) (m : State) (low : 1 ≤ i) (high : i ≤ 8)
+module _ (i : ℕ) (seen : rig.DeviceImages) (leaves : Outcomes) (c found : Parts) (m : State) (low : 1 ≤ i) (high : i ≤ 8)
     (g : Good seen leaves Pending.Idle c m) (was_loose : is_loose c i ≡ true) (idle : c.due ≡ None)
     (only : LeavesOnly (seen i) (leaves i)) (reads : (d : ℕ) → d ≤ 8 → leaves d (seen d)) (read : IsReread i (seen i) c found) where
   abbrev new : Parts
@@ -151,7 +151,7 @@ module _ (i : ℕ) (seen : rig.Image) (leaves : Outcomes) (c found : Parts) (m :
       ),
     )
 
-    replaced : Replaces i (log_by new moved i) (log_by c (was moved)) (log_by new moved)
+    replaced : ReplacesLog i (log_by new moved i) (log_by c (was moved)) (log_by new moved)
     replaced = record { low = low; high = high; here = refl; others = by-else moved }
 
     -- the tail is on the device, or it isn't

@@ -16,7 +16,7 @@ use Rattle.sd_model.specs.declared.act.Claim.{Claim}
 use Rattle.sd_rig.specs.Devices as rig
 use Rattle.sd_chain.specs.Bytes.{disk_page}
 use Rattle.sd_chain.specs.Cuts.{cut}
-use Rattle.sd_chain.specs.Image.{Recovered}
+use Rattle.sd_chain.specs.Storage.{Recovered}
 use Rattle.sd_chain.specs.Images.{Gives, Keeps, Settled, kept_at, with_disk}
 use Rattle.sd_chain.specs.Order.{of_txn}
 use Rattle.sd_chain.specs.Records.{Each, IsOpen, home, stack}
@@ -64,7 +64,7 @@ module _ (i : ℕ) (kept : Bool) (logs logs' : Logs) (s : Settled i kept (tails_
   kept-all keeps = sym (fun_ext (kept-same keeps))
 
 -- Wherever logs begin: what a crash may leave stands for the state, once log i is settled so.
-module _ (i : ℕ) (kept : Bool) (seen : rig.Image) (leaves leaves' : Outcomes) (logs logs' : Logs) (c found : Parts) (m : State)
+module _ (i : ℕ) (kept : Bool) (seen : rig.DeviceImages) (leaves leaves' : Outcomes) (logs logs' : Logs) (c found : Parts) (m : State)
     (low : 1 ≤ i) (high : i ≤ 8) (h : Half seen leaves logs Pending.Idle c m) (was_loose : is_loose c i ≡ true)
     (idle : c.due ≡ None) (marks : length c.loose ≡ 9) (less : Less leaves leaves') (reads : leaves' 0 (seen 0))
     (soundly : IsSoundly leaves' logs') (s : Settled i kept (tails_of logs) (tails_of logs')) (no_tail : (logs' i).tail ≡ [])

@@ -16,8 +16,8 @@ use Rattle.sd_chain.specs.Faults.{SlotsAreSound}
 use Rattle.sd_chain.specs.Order.{Tidy}
 use Rattle.sd_chain.proofs.Devices.{chosen_same}
 use Rattle.sd_analysis.specs.Losers.{AreTidy}
-use Rattle.sd_scan.specs.Masters.{as_kept}
-use Rattle.sd_scan.specs.declared.master.Master as memory
+use Rattle.sd_scan.specs.Masters.{kept_master}
+use Rattle.sd_scan.specs.declared.master.MasterRecord as memory
 use Rattle.sd_sound.specs.Laws.{IsRead}
 use Rattle.sd_sound.specs.Logs.{after_records, all_at, base_at, records_at}
 use Rattle.sd_sound.specs.Soundly as soundly
@@ -72,7 +72,7 @@ epoch-more log k p past there = let more : k + 1 ≡ suc k = omega arith in
     ∙ ap (after_records past) (map-append (λ (p : Placed). p.rec) (take k log) (p ∷ []))
     ∙ after-append past (map (λ p. p.rec) (take k log)) (p.rec ∷ [])
 
-module _ (i : ℕ) (seen : rig.Image) (log : LogState) (low : 1 ≤ i) (high : i ≤ 8) (sound : DevicesAreSound seen)
+module _ (i : ℕ) (seen : rig.DeviceImages) (log : LogState) (low : 1 ≤ i) (high : i ≤ 8) (sound : DevicesAreSound seen)
     (read : IsRead (seen i) log) where
   idle : forced log ≡ log
   idle = forced-idle log read.tail

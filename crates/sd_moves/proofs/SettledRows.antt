@@ -9,7 +9,7 @@ use Rattle.sd_base.specs.Ids.{same_txn}
 use Rattle.sd_base.specs.declared.place.Status.{Status}
 use Rattle.sd_base.specs.declared.place.Status.TheVariants as S
 use Rattle.sd_logrec.specs.View.{Rec}
-use Rattle.sd_model.specs.Placed.{Stands}
+use Rattle.sd_model.specs.Lives.{SuitsStatus}
 use Rattle.sd_model.specs.State.{Part}
 use Rattle.sd_model.specs.declared.act.Life.{Life}
 use Rattle.sd_txn.specs.Transactions.{Transaction}
@@ -22,7 +22,7 @@ use Rattle.sd_chain.specs.Records.{IsOpen, stack}
 use Rattle.sd_chain.proofs.Fates.{fate-open}
 use Rattle.sd_chain.proofs.Members.{is-open_in, open_in-is}
 use Rattle.sd_chain.proofs.Whose.{neither, none_open, stack-none}
-use Rattle.sd_relist.specs.Kept.{as_kept, is_left_open, left_open, open_rec}
+use Rattle.sd_relist.specs.Kept.{as_transaction, is_left_open, left_open, open_rec}
 use Rattle.sd_relist.proofs.Walking.{any-member, member-any}
 use Rattle.sd_txn.specs.Transactions.{started}
 use Rattle.sd_state.specs.Tables.{GoesOn, IsLogged, IsShut, NamesLife, RowIsLogged, StandsAs}
@@ -30,7 +30,7 @@ use Rattle.sd_state.specs.Values.{Pending, open_of}
 use Rattle.sd_moves.specs.Settling.{row_again}
 
 -- it stands as it stood
-pub stands-again : (log : List Rec) (t : TxnId) (state : TxnState) → (as_kept log t state).state ≡ state
+pub stands-again : (log : List Rec) (t : TxnId) (state : TxnState) → (as_transaction log t state).state ≡ state
 stands-again log t state = by (is_left_open log t)
   where
     by : (b : Bool) → (cond {A = Transaction} b (left_open log t state) (started state)).state ≡ state
@@ -110,10 +110,10 @@ row-told (Some x) log t none = ⊎_elim
     (cases_Bool (is_left_open log t))
 
 -- who is of an instance that isn't up has no further records
-pub rests : (t : TxnId) (p : Part) (status : Status) → status ≢ S.Up → Stands p.life status → GoesOn Pending.Idle t p → ⊥
+pub rests : (t : TxnId) (p : Part) (status : Status) → status ≢ S.Up → SuitsStatus p.life status → GoesOn Pending.Idle t p → ⊥
 rests t p status down stands goes = by p.life stands goes
   where
-    never : (s : Status) → s ≢ S.Up → Stands Life.Running s → ⊥
+    never : (s : Status) → s ≢ S.Up → SuitsStatus Life.Running s → ⊥
     never S.Up ne h = ne refl
     never S.Down ne h = h
     never (S.Recovering by) ne h = h
@@ -121,7 +121,7 @@ rests t p status down stands goes = by p.life stands goes
     never S.Restarting ne h = h
     never S.Closed ne h = h
 
-    by : (life : Life) → Stands life status → GoesOn Pending.Idle t (record p { life = life }) → ⊥
+    by : (life : Life) → SuitsStatus life status → GoesOn Pending.Idle t (record p { life = life }) → ⊥
     by Life.Gone stands goes = goes
     by Life.Running stands goes = never status down stands
     by Life.Retained stands goes = goes

@@ -24,7 +24,7 @@ use Rattle.sd_chain.specs.Undoing.{Member}
 use Rattle.sd_txn.specs.Owing.{owed_of, reserve_of}
 use Rattle.sd_txn.specs.declared.state.TxnState.{TxnState}
 use Rattle.sd_txn.specs.Transactions.{Transaction, Transactions, ids, state_at, txn_at}
-use Rattle.sd_relist.specs.Kept.{AreAmong, as_kept}
+use Rattle.sd_relist.specs.Kept.{AreAmong, as_transaction}
 use Rattle.sd_relist.specs.Walks.{AreRising}
 use Rattle.sd_moves.specs.Settling.{HasOpen, IsRelisted, row_again}
 
@@ -167,7 +167,7 @@ at-member (v ∷ vs) (suc k) w lt e = inr (at-member vs k w (omega (arith, lt)) 
 
 module _ (i : ℕ) (log : List Rec) (who : List Who) (old new : Transactions) (order : ids new ≡ map (λ w. w.0) who)
     (each : (t : TxnId) (state : TxnState) → Contains who (t, state) ↔ (state_at old t ≡ Some state))
-    (rows : (t : TxnId) (state : TxnState) → Contains who (t, state) → txn_at new t ≡ Some (as_kept log t state)) where
+    (rows : (t : TxnId) (state : TxnState) → Contains who (t, state) → txn_at new t ≡ Some (as_transaction log t state)) where
   again : (t : TxnId) (o : Option Transaction) → txn_at old t ≡ o → txn_at new t ≡ row_again log t o
   again t None e = none-more who old new t order (each t) e
   again t (Some x) e = rows t x.state ((each t x.state).1 (ap (option_map (λ (y : Transaction). y.state)) e))

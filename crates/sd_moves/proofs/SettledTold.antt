@@ -78,7 +78,7 @@ counted-by : (o : Option (List ℕ)) → IfSome o (λ body. number_of body ≡ (
 counted-by None = tt
 counted-by (Some body) = sym (number_of-take 8 body (omega arith))
 
-module _ (i : ℕ) (seen : rig.Image) (leaves : Outcomes) (c found : Parts) (m : State) (low : 1 ≤ i) (high : i ≤ 8)
+module _ (i : ℕ) (seen : rig.DeviceImages) (leaves : Outcomes) (c found : Parts) (m : State) (low : 1 ≤ i) (high : i ≤ 8)
     (g : Good seen leaves Pending.Idle c m) (was_loose : is_loose c i ≡ true) (idle : c.due ≡ None)
     (only : LeavesOnly (seen i) (leaves i)) (reads : (d : ℕ) → d ≤ 8 → leaves d (seen d)) (read : IsReread i (seen i) c found) where
   -- an instance that is up has a settled log

@@ -9,7 +9,7 @@ use Rattle.sd_base.specs.declared.ids.TxnId.{TxnId}
 use Rattle.sd_base.specs.declared.place.Status.TheVariants as S
 use Rattle.sd_logrec.specs.Kept.{master}
 use Rattle.sd_log.specs.Logs.{LogState, StandsOn, forced, last_lsn, scanned}
-use Rattle.sd_model.specs.Placed.{Stands}
+use Rattle.sd_model.specs.Lives.{SuitsStatus}
 use Rattle.sd_model.specs.State.{State}
 use Rattle.sd_rig.specs.Devices as rig
 use Rattle.sd_rig.specs.Devices.{LeavesOnly}
@@ -35,7 +35,7 @@ use Rattle.sd_moves.proofs.SettledGood.{by-else, by-here, half-there, log-else, 
 use Rattle.sd_moves.proofs.SettledRows.{rests}
 use Rattle.sd_moves.proofs.SettledTold.{counted-again, named-again, not-up, own-again, reached-again, told-again}
 
-module _ (i : ℕ) (seen : rig.Image) (leaves : Outcomes) (c found : Parts) (m : State) (low : 1 ≤ i) (high : i ≤ 8)
+module _ (i : ℕ) (seen : rig.DeviceImages) (leaves : Outcomes) (c found : Parts) (m : State) (low : 1 ≤ i) (high : i ≤ 8)
     (g : Good seen leaves Pending.Idle c m) (was_loose : is_loose c i ≡ true) (idle : c.due ≡ None)
     (only : LeavesOnly (seen i) (leaves i)) (reads : (d : ℕ) → d ≤ 8 → leaves d (seen d)) (read : IsReread i (seen i) c found) where
   abbrev new' : Parts
@@ -157,7 +157,7 @@ module _ (i : ℕ) (seen : rig.Image) (leaves : Outcomes) (c found : Parts) (m :
 
   going-there : (t : TxnId) → 1 ≤ home t → home t ≤ 8 → GoesOn Pending.Idle t (m.part t) → IsOpen t (all_at (log_at new' (home t)))
   going-there t lo hi goes = ⊎_elim
-      (λ e. absurd (rests t (m.part t) (status_at c i) not_up (subst (Stands (m.part t).life)
+      (λ e. absurd (rests t (m.part t) (status_at c i) not_up (subst (SuitsStatus (m.part t).life)
       (sym (g.instances (home t) lo hi).status ∙ ap (status_at c) e) (g.placed.stands t)) goes))
       (λ ne. subst (λ (l : LogState). IsOpen t (all_at l)) (sym (log-others (home t) ne)) (g.going t lo hi goes))
       (cases_eq (home t) i)

@@ -94,14 +94,14 @@ pub record AreCut (t : TxnId) (old new : Transactions) : Type 0 where
 -- ---- the whole
 
 -- a pool without pages
-abbrev pub emptied : Buffers → Buffers
-emptied pool = record { held = []; frames = pool.frames }
+abbrev pub emptied_pool : Buffers → Buffers
+emptied_pool pool = record { held = []; frames = pool.frames }
 
 -- The pool of i is empty, it has begun no checkpoint, and no fall is due; of statuses, of what isn't settled and what logs owe
 -- then, of the directory and of locks there is what `new` has.
 abbrev pub with_left : ℕ → Parts → Parts → Parts
 with_left i new c = record c {
-  pools = slice_set c.pools (i - 1) (emptied (pool_at c i));
+  pools = slice_set c.pools (i - 1) (emptied_pool (pool_at c i));
   statuses = new.statuses;
   checks = slice_set {A = Option Begun} c.checks (i - 1) None;
   owed = new.owed;
@@ -134,8 +134,8 @@ pub record IsLeft (i : ℕ) (c new : Parts) : Type 0 where
   pub rec_lsns : (p : ℕ) → rec_lsn_at new.directory p ≡ rec_lsn_at c.directory p
   pub asks : (p : ℕ) → asks_at new.directory p
       ≡ open_asks (fallen i (entry_at c.directory p)) (asks_without i (asks_at c.directory p))
-  pub moving : (p : ℕ) → directory.image_at new.directory p
-      ≡ cond {A = Option Page} (receives (entry_at c.directory p) i) None (directory.image_at c.directory p)
+  pub moving : (p : ℕ) → directory.moving_image_at new.directory p
+      ≡ cond {A = Option Page} (receives (entry_at c.directory p) i) None (directory.moving_image_at c.directory p)
   -- records
   pub locks : (t : TxnId) (r : Rid) → held new.locks t r ≡ held c.locks t r
   pub waits : (t : TxnId) → waits new.locks t ≡ cond (eqb t.inst i) None (waits c.locks t)
@@ -174,7 +174,7 @@ unsettles_at i c j = cond (eqb i j) (is_none (owed_dropped i c)) (falls_at i c j
 abbrev pub with_fallen : ℕ → Parts → Parts → Parts
 with_fallen i new c = record c {
   logs = logs_by i (owed_dropped i c) c;
-  pools = slice_set c.pools (i - 1) (emptied (pool_at c i));
+  pools = slice_set c.pools (i - 1) (emptied_pool (pool_at c i));
   txns = slice_set c.txns (i - 1) (txns_at new i);
   statuses = new.statuses;
   checks = slice_set {A = Option Begun} c.checks (i - 1) None;
@@ -196,14 +196,14 @@ pub record IsFallen (i : ℕ) (c new : Parts) : Type 0 where
   pub rec_lsns : (p : ℕ) → rec_lsn_at new.directory p ≡ rec_lsn_at c.directory p
   pub asks : (p : ℕ) → asks_at new.directory p
       ≡ open_asks (fallen i (entry_at c.directory p)) (asks_without i (asks_at c.directory p))
-  pub moving : (p : ℕ) → directory.image_at new.directory p
-      ≡ cond {A = Option Page} (receives (entry_at c.directory p) i) None (directory.image_at c.directory p)
+  pub moving : (p : ℕ) → directory.moving_image_at new.directory p
+      ≡ cond {A = Option Page} (receives (entry_at c.directory p) i) None (directory.moving_image_at c.directory p)
   -- records
   pub locks : (t : TxnId) (r : Rid) → held new.locks t r ≡ held c.locks t r
   pub waits : (t : TxnId) → waits new.locks t ≡ cond (eqb t.inst i) None (waits c.locks t)
 
 -- All that the fall of i leaves of parts is there, but for the rows of its transactions.
-pub record Leaves (i : ℕ) (c new : Parts) : Type 0 where
+pub record FallLeaves (i : ℕ) (c new : Parts) : Type 0 where
   pub mid : Parts
   pub left : IsLeft i c mid
   pub parts : mid ≡ with_left i mid c

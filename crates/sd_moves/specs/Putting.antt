@@ -11,7 +11,7 @@ use Rattle.sd_chain.specs.Bytes.{disk_page}
 use Rattle.sd_chain.specs.Images.{Keeps}
 use Rattle.sd_coherent.specs.Named.{version_of}
 use Rattle.sd_coherent.specs.Puts.{NoneUnforced}
-use Rattle.sd_coherent.specs.World.{now}
+use Rattle.sd_coherent.specs.World.{newest_version}
 use Rattle.sd_sound.specs.Logs.{Outcomes, tails_of}
 use Rattle.sd_moves.specs.declared.putting.Unput.{Unput}
 use Rattle.sd_moves.specs.declared.putting.Unput.TheVariants as U
@@ -34,7 +34,7 @@ left_after U.Unread c = with_loose_disk false c
 left_after U.Unwritten c = with_loose_disk true c
 
 -- after a read that failed the devices read as before
-abbrev pub ReadsAfter : Unput → rig.Image → rig.Image → Type 0
+abbrev pub ReadsAfter : Unput → rig.DeviceImages → rig.DeviceImages → Type 0
 ReadsAfter U.Unread seen seen' = (d : ℕ) → seen' d ≡ seen d
 ReadsAfter U.Unwritten seen seen' = Unit {0}
 
@@ -46,20 +46,20 @@ pub record MayPut (p i : ℕ) (c : Parts) : Type 0 where
   pub forced : is_loose c i ≡ false → (log_at c i).tail ≡ []
 
 -- Wherever logs begin, and whichever tails are kept, each page's newest version is the same over what device 0 reads then.
-abbrev pub SameVersions : rig.Image → rig.Image → Parts → Type 0
+abbrev pub SameVersions : rig.DeviceImages → rig.DeviceImages → Parts → Type 0
 SameVersions seen seen' c = (moved keeps : Keeps) (q : ℕ)
     → version_of (tails_of (log_by c moved)) (disk_page (seen' 0)) keeps q
     ≡ version_of (tails_of (log_by c moved)) (disk_page (seen 0)) keeps q
 
 -- What of a page may be put onto device 0: its newest version, wherever logs begin. The page is changed, and no tail has a record
 -- of it.
-pub record MayBePut (p : ℕ) (im : Page) (seen : rig.Image) (leaves : Outcomes) (c : Parts) : Type 0 where
-  pub newest : (moved : Keeps) → im ≡ now (base_of seen (leaves_by c moved leaves) (log_by c moved) c) p
+pub record MayBePut (p : ℕ) (im : Page) (seen : rig.DeviceImages) (leaves : Outcomes) (c : Parts) : Type 0 where
+  pub newest : (moved : Keeps) → im ≡ newest_version (base_of seen (leaves_by c moved leaves) (log_by c moved) c) p
   pub none : (moved : Keeps) → NoneUnforced (base_of seen (leaves_by c moved leaves) (log_by c moved) c) p
   pub changed : changed (entry_at c.directory p) ≡ true
 
 -- The complex is good for this state, device 0 is settled, and this image of the page may be put.
-pub record MayPutImage (p : ℕ) (im : Page) (seen : rig.Image) (leaves : Outcomes) (pend : Pending) (c : Parts) (m : State)
+pub record MayPutImage (p : ℕ) (im : Page) (seen : rig.DeviceImages) (leaves : Outcomes) (pend : Pending) (c : Parts) (m : State)
     : Type 0 where
   pub good : Good seen leaves pend c m
   pub settled : is_loose c 0 ≡ false

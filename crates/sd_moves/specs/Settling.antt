@@ -8,7 +8,7 @@ use Rattle.sd_txn.specs.Owing.{owed_of, reserve_of}
 use Rattle.sd_txn.specs.Transactions.{IsUnresolved, Transaction, Transactions, txn_at}
 use Rattle.sd_chain.specs.Checks.{open_in, owed, reserve}
 use Rattle.sd_chain.specs.Undoing.{Member}
-use Rattle.sd_relist.specs.Kept.{as_kept}
+use Rattle.sd_relist.specs.Kept.{as_transaction}
 use Rattle.sd_sound.specs.Laws.{IsRead}
 use Rattle.sd_sound.specs.Logs.{base_at}
 use Rattle.sd_state.specs.Images.{kept_epoch}
@@ -17,7 +17,7 @@ use Rattle.sd_state.specs.Parts.{Parts, count_at, epoch_at, log_at, owed_at, txn
 
 -- a row of a table as its log has it; how its transaction stands stays
 abbrev pub row_again : List Rec → TxnId → Option Transaction → Option Transaction
-row_again log t row = option_map (λ x. as_kept log t x.state) row
+row_again log t row = option_map (λ x. as_transaction log t x.state) row
 
 -- the table has whom the log leaves open
 abbrev pub HasOpen : List Rec → Transactions → Type 0

@@ -8,7 +8,7 @@ ghost use Rattle.sd_model.specs.State.{State, cut_commit, fall};
 ghost use Rattle.sd_model.specs.declared.event.Event.TheVariants.{Join};
 ghost use Rattle.sd_moves.specs.Falling.{downed, dropped_by, falls_with, fell_at, lost_row, lost_state, owed_dropped};
 ghost use Rattle.sd_moves.specs.Falling.{owed_unsettled, with_fallen, with_left};
-ghost use Rattle.sd_moves.specs.Falling.{AreCut, AreLost, HaveFallen, IsFallen, IsLeft, Leaves};
+ghost use Rattle.sd_moves.specs.Falling.{AreCut, AreLost, FallLeaves, HaveFallen, IsFallen, IsLeft};
 ghost use Rattle.sd_state.specs.Complexes.{parts};
 ghost use Rattle.sd_state.specs.Forcing.{owed_by};
 ghost use Rattle.sd_state.specs.Good.{Good};
@@ -67,7 +67,7 @@ pub fn cut<G: Rig>(c: &mut Complex<G>, t: &TxnId)
 // All that a fall leaves, but for the rows of the instance's transactions.
 fn fall<G>(c: &mut Complex<G>, i: InstNo)
     requires shape { IsShape (parts c.old) }
-    ensures parts { Leaves i (parts c.old) (parts c.new) }
+    ensures parts { FallLeaves i (parts c.old) (parts c.new) }
     ensures rig { c.new.rig ≡ c.old.rig }
 {
     let owed = owed_dropped(c, i);

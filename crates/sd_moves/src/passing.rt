@@ -5,11 +5,11 @@ ghost use Rattle.sd_model.specs.State.{State};
 ghost use Rattle.sd_moves.specs.Passing.{IsOnWay, may_set_out, set_out, with_sent};
 ghost use Rattle.sd_moves.specs.Places.{IsAsked, with_directory};
 ghost use Rattle.sd_pagelock.specs.Asks.{oldest};
-ghost use Rattle.sd_pagelock.specs.Directory.{asks_at, entry_at, image_at, rec_lsn_at};
+ghost use Rattle.sd_pagelock.specs.Directory.{asks_at, entry_at, moving_image_at, rec_lsn_at};
 ghost use Rattle.sd_pagelock.specs.Places.{holds, owns, receives};
 ghost use Rattle.sd_pagelock.specs.Rows.{given_excl, given_shared, may_share, may_yield, taken};
 ghost use Rattle.sd_pool.specs.Buffers as buffers;
-ghost use Rattle.sd_pool.specs.Buffers.{LacksFrame, with_page, without};
+ghost use Rattle.sd_pool.specs.Buffers.{LacksFrame, with_page, without_page};
 ghost use Rattle.sd_state.specs.Complexes.{parts};
 ghost use Rattle.sd_state.specs.Good.{Good};
 ghost use Rattle.sd_state.specs.Laws.{newest_of};
@@ -93,7 +93,7 @@ fn yield_alone<G: Rig>(c: &mut Complex<G>, p: PageNo, from: InstNo, to: InstNo)
         → (log_at (parts c.old) from).tail ≡ [] }
     ensures good { (pend : Pending) (m : State) → Good (G.seen c.old.rig) (G.leaves c.old.rig) pend (parts c.old) m
         → Good (G.seen c.new.rig) (G.leaves c.new.rig) pend (parts c.new) m }
-    ensures parts { parts c.new ≡ with_place from (without (pool_at (parts c.old) from) p) (parts c.new).directory (parts c.old) }
+    ensures parts { parts c.new ≡ with_place from (without_page (pool_at (parts c.old) from) p) (parts c.new).directory (parts c.old) }
     ensures place { IsSet p (given_excl to (entry_at (parts c.old).directory p)) None
         (parts c.old).directory (parts c.new).directory }
     ensures moving { IsOnWay p (buffers.image_at (pool_at (parts c.old) from) p) (parts c.old).directory (parts c.new).directory }
@@ -147,11 +147,11 @@ fn arrived(
     alloc: Global,
     p: PageNo,
 ) -> Result<Box<Image>, Memory>
-    requires there { image_at directory.old p ≢ None }
-    ensures value { IfOk result (λ image. image_at directory.old p ≡ Some image) }
-    ensures here { OnOk result (image_at directory.new p ≡ None) }
-    ensures stays { OnErr result (image_at directory.new p ≡ image_at directory.old p) }
-    ensures others { (q : ℕ) → q ≢ p → image_at directory.new q ≡ image_at directory.old q }
+    requires there { moving_image_at directory.old p ≢ None }
+    ensures value { IfOk result (λ image. moving_image_at directory.old p ≡ Some image) }
+    ensures here { OnOk result (moving_image_at directory.new p ≡ None) }
+    ensures stays { OnErr result (moving_image_at directory.new p ≡ moving_image_at directory.old p) }
+    ensures others { (q : ℕ) → q ≢ p → moving_image_at directory.new q ≡ moving_image_at directory.old q }
     ensures places { (q : ℕ) → entry_at directory.new q ≡ entry_at directory.old q }
     ensures rec_lsns { (q : ℕ) → rec_lsn_at directory.new q ≡ rec_lsn_at directory.old q }
     ensures asks { (q : ℕ) → asks_at directory.new q ≡ asks_at directory.old q }

@@ -3,10 +3,10 @@
 ghost use Rattle.std.specs.Prelude.{◌≡◌, ◌≢◌, ℕ, true, None, OnErr, OnOk};
 ghost use Rattle.sd_model.specs.State.{State};
 ghost use Rattle.sd_moves.specs.Places.{IsAsked, with_directory};
-ghost use Rattle.sd_pagelock.specs.Asks.{is_open, queued};
-ghost use Rattle.sd_pagelock.specs.Directory.{asks_at, entry_at, image_at, rec_lsn_at};
+ghost use Rattle.sd_pagelock.specs.Asks.{is_open_ask, queued};
+ghost use Rattle.sd_pagelock.specs.Directory.{asks_at, entry_at, moving_image_at, rec_lsn_at};
 ghost use Rattle.sd_pagelock.specs.Rows.{fallen, may_evict, may_raise, raised};
-ghost use Rattle.sd_pool.specs.Buffers.{used, without};
+ghost use Rattle.sd_pool.specs.Buffers.{used, without_page};
 ghost use Rattle.sd_state.specs.Complexes.{parts};
 ghost use Rattle.sd_state.specs.Good.{Good};
 ghost use Rattle.sd_state.specs.Locking.{IsSet, with_place};
@@ -29,7 +29,7 @@ pub fn raise<G: Rig>(c: &mut Complex<G>, p: PageNo, i: InstNo)
         → Good (G.seen c.new.rig) (G.leaves c.new.rig) pend (parts c.new) m }
     ensures parts { parts c.new ≡ with_directory (parts c.new).directory (parts c.old) }
     ensures place { IsSet p (raised i (entry_at (parts c.old).directory p)) None (parts c.old).directory (parts c.new).directory }
-    ensures moving { (q : ℕ) → image_at (parts c.new).directory q ≡ image_at (parts c.old).directory q }
+    ensures moving { (q : ℕ) → moving_image_at (parts c.new).directory q ≡ moving_image_at (parts c.old).directory q }
     ensures rig { c.new.rig ≡ c.old.rig }
 {
     let place = c.directory.entry(p);
@@ -44,9 +44,9 @@ pub fn drop_copy<G: Rig>(c: &mut Complex<G>, p: PageNo, i: InstNo)
     requires spare { may_evict i (entry_at (parts c.old).directory p) ≡ true }
     ensures good { (pend : Pending) (m : State) → Good (G.seen c.old.rig) (G.leaves c.old.rig) pend (parts c.old) m
         → Good (G.seen c.new.rig) (G.leaves c.new.rig) pend (parts c.new) m }
-    ensures parts { parts c.new ≡ with_place i (without (pool_at (parts c.old) i) p) (parts c.new).directory (parts c.old) }
+    ensures parts { parts c.new ≡ with_place i (without_page (pool_at (parts c.old) i) p) (parts c.new).directory (parts c.old) }
     ensures place { IsSet p (fallen i (entry_at (parts c.old).directory p)) None (parts c.old).directory (parts c.new).directory }
-    ensures moving { (q : ℕ) → image_at (parts c.new).directory q ≡ image_at (parts c.old).directory q }
+    ensures moving { (q : ℕ) → moving_image_at (parts c.new).directory q ≡ moving_image_at (parts c.old).directory q }
     ensures rig { c.new.rig ≡ c.old.rig }
 {
     c.directory.keeps();
@@ -73,7 +73,7 @@ pub fn touch<G: Rig>(c: &mut Complex<G>, p: PageNo, i: InstNo)
 pub fn queue_ask<G: Rig>(c: &mut Complex<G>, i: InstNo, p: PageNo, mode: Mode) -> Result<(), Memory>
     requires good { (pend : Pending) × (m : State) × Good (G.seen c.old.rig) (G.leaves c.old.rig) pend (parts c.old) m }
     requires active { is_active (parts c.old) i ≡ true }
-    requires wanted { is_open (entry_at (parts c.old).directory p) (record { by = i; mode = mode }) ≡ true }
+    requires wanted { is_open_ask (entry_at (parts c.old).directory p) (record { by = i; mode = mode }) ≡ true }
     ensures good { (pend : Pending) (m : State) → Good (G.seen c.old.rig) (G.leaves c.old.rig) pend (parts c.old) m
         → Good (G.seen c.new.rig) (G.leaves c.new.rig) pend (parts c.new) m }
     ensures parts { parts c.new ≡ with_directory (parts c.new).directory (parts c.old) }
@@ -100,7 +100,7 @@ fn asked(
     ensures err { OnErr result (asks_at directory.new p ≡ asks_at directory.old p) }
     ensures places { (q : ℕ) → entry_at directory.new q ≡ entry_at directory.old q }
     ensures rec_lsns { (q : ℕ) → rec_lsn_at directory.new q ≡ rec_lsn_at directory.old q }
-    ensures images { (q : ℕ) → image_at directory.new q ≡ image_at directory.old q }
+    ensures images { (q : ℕ) → moving_image_at directory.new q ≡ moving_image_at directory.old q }
 {
     if directory.ask_again(i, p, mode)? {
         return Ok(());

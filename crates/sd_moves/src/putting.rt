@@ -8,7 +8,7 @@ ghost use Rattle.sd_base.specs.Twin as twin_bytes;
 ghost use Rattle.sd_chain.specs.Bytes.{disk_page, twin_at};
 ghost use Rattle.sd_gate.specs.Slots.{named_body, slot};
 ghost use Rattle.sd_model.specs.State.{State};
-ghost use Rattle.sd_pagelock.specs.Directory.{entry_at, image_at};
+ghost use Rattle.sd_pagelock.specs.Directory.{entry_at, moving_image_at};
 ghost use Rattle.sd_pagelock.specs.Rows as rows;
 ghost use Rattle.sd_pool.specs.Buffers as buffers;
 ghost use Rattle.sd_rig.specs.Devices.{AgreesOutside, Elapses, LeavesSame, Span};
@@ -67,7 +67,7 @@ pub fn put_page<G: Rig>(c: &mut Complex<G>, p: PageNo, i: InstNo) -> Result<(), 
     ensures written { OnOk result (parts c.new ≡ with_written (parts c.new).directory (parts c.old)) }
     ensures place { OnOk result (IsSet p (rows.written (entry_at (parts c.old).directory p)) None
         (parts c.old).directory (parts c.new).directory) }
-    ensures moving { (q : ℕ) → image_at (parts c.new).directory q ≡ image_at (parts c.old).directory q }
+    ensures moving { (q : ℕ) → moving_image_at (parts c.new).directory q ≡ moving_image_at (parts c.old).directory q }
     ensures clean { OnOk result (disk_page (G.seen c.new.rig 0) p
         ≡ newest_of (G.seen c.old.rig) (G.leaves c.old.rig) (parts c.old) p) }
     ensures errors { IfErr result (λ e. parts c.new ≡ left_after e (parts c.old)) }

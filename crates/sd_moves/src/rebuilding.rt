@@ -8,8 +8,8 @@ ghost use Rattle.sd_chain.specs.Pages.{FitAll};
 ghost use Rattle.sd_chain.specs.Pages as pages;
 ghost use Rattle.sd_log.specs.Logs.{AreSpelled, scanned};
 ghost use Rattle.sd_model.specs.State.{State};
-ghost use Rattle.sd_pagelock.specs.Directory.{image_at};
-ghost use Rattle.sd_pagelock.specs.Places.{Entry};
+ghost use Rattle.sd_pagelock.specs.Directory.{moving_image_at};
+ghost use Rattle.sd_pagelock.specs.Places.{PageEntry};
 ghost use Rattle.sd_rig.specs.Devices.{AgreesOutside, Elapses, IsUnchanged, LeavesSame, Span};
 ghost use Rattle.sd_state.specs.Complexes.{parts};
 ghost use Rattle.sd_state.specs.Good.{Good};
@@ -49,8 +49,8 @@ pub fn rebuilt<G: Rig>(c: &mut Complex<G>, p: PageNo, im: &Image) -> Result<(), 
     ensures time { Elapses (G.moment c.old.rig) (G.moment c.new.rig) (G.since c.old.rig) (G.since c.new.rig) }
 
     ensures parts { OnOk result (parts c.new ≡ with_directory (parts c.new).directory (parts c.old)) }
-    ensures place { OnOk result (IsSet p Entry.Free None (parts c.old).directory (parts c.new).directory) }
-    ensures moving { (q : ℕ) → image_at (parts c.new).directory q ≡ image_at (parts c.old).directory q }
+    ensures place { OnOk result (IsSet p PageEntry.Free None (parts c.old).directory (parts c.new).directory) }
+    ensures moving { (q : ℕ) → moving_image_at (parts c.new).directory q ≡ moving_image_at (parts c.old).directory q }
     ensures clean { OnOk result (disk_page (G.seen c.new.rig 0) p ≡ im.now) }
     ensures errors { IfErr result (λ e. parts c.new ≡ left_after e (parts c.old)) }
 

@@ -21,7 +21,7 @@ ghost use Rattle.sd_txn.specs.Transactions.{state_at};
 ghost use Rattle.sd_txn.specs.declared.state.TxnState.{TxnState};
 ghost use Rattle.sd_analysis.specs.Losers.{AreLosers, AreTidy};
 ghost use Rattle.sd_relist.specs.Walks.{AreRising};
-ghost use Rattle.sd_scan.specs.Masters.{as_kept as as_master};
+ghost use Rattle.sd_scan.specs.Masters.{kept_master};
 ghost use Rattle.sd_moves.specs.Falling.{with_fallen, AreLost, IsFallen};
 ghost use Rattle.sd_moves.specs.Putting.{with_loose_disk};
 ghost use Rattle.sd_moves.specs.Settling.{with_found, with_reread, IsFoundAgain, IsReread};
@@ -29,13 +29,13 @@ ghost use Rattle.sd_moves.specs.declared.settling.Unsettled.TheVariants as U;
 
 use crate::falling::down;
 use crate::laws;
-use sd_analysis::{Fault, Losers, analyse, owed};
+use sd_analysis::{AnalysisError, Losers, analyse, owed};
 use sd_base::{Failed, InstNo, Memory, Refusal, TxnId};
 use sd_log::{Log, Placed};
 use sd_logrec::{AREA, Record};
 use sd_relist::relist;
 use sd_rig::Rig;
-use sd_scan::{Master, read_master};
+use sd_scan::{MasterRecord, read_master};
 use sd_state::Complex;
 use sd_txn::{TxnState, TxnTable};
 use std::alloc::{AllocFailed, Global};
@@ -231,9 +231,9 @@ fn read_again<G: Rig>(
 }
 
 // The master that counts on the device of a log, or what none says.
-fn choose_master<G: Rig>(rig: &mut G, i: InstNo) -> Result<Master, Unsettled>
+fn choose_master<G: Rig>(rig: &mut G, i: InstNo) -> Result<MasterRecord, Unsettled>
     requires sound { MasterIsSound (G.seen rig.old i) }
-    ensures master { IfOk result (λ m. as_master m ≡ master (G.seen rig.old i)) }
+    ensures master { IfOk result (λ m. kept_master m ≡ master (G.seen rig.old i)) }
     ensures place { IfOk result (λ m. m.start < 1048576) }
     ensures errors { IfErr result (λ why. why ≡ U.Unread) }
 
@@ -251,15 +251,15 @@ fn choose_master<G: Rig>(rig: &mut G, i: InstNo) -> Result<Master, Unsettled>
 }
 
 // The master of these slots, which are sound.
-fn master_of(slots: &[u8]) -> Master
+fn master_of(slots: &[u8]) -> MasterRecord
     requires size { length slots.now ≡ 130 }
     requires sound { SlotsAreSound slots.now }
-    ensures master { as_master result ≡ master slots.now }
+    ensures master { kept_master result ≡ master slots.now }
     ensures place { result.start < 1048576 }
 {
     match read_master(slots) {
         Ok(Some(master)) => master,
-        Ok(None) => Master::BLANK,
+        Ok(None) => MasterRecord::BLANK,
         Err(_) => unreachable!(),
     }
 }
@@ -295,8 +295,8 @@ fn losers_of(alloc: Global, log: &Log) -> Result<Losers, Memory>
 {
     match analyse(alloc, log.scan()) {
         Ok(losers) => Ok(losers),
-        Err(Fault::Memory) => Err(Memory),
-        Err(Fault::Disorder { .. }) => unreachable!(),
+        Err(AnalysisError::Memory) => Err(Memory),
+        Err(AnalysisError::Disorder { .. }) => unreachable!(),
     }
 }
 

@@ -8,7 +8,7 @@ use Rattle.std.proofs.lemmas.Option.{get_or_from_slice_get, slice_get_within}
 use Rattle.sd_page.specs.Page.{Page}
 use Rattle.sd_log.specs.Logs.{LogState, log_in}
 use Rattle.sd_chain.specs.Bytes.{disk_page}
-use Rattle.sd_chain.specs.Image.{all_of, chain, sorted}
+use Rattle.sd_chain.specs.Storage.{all_of, chain, sorted}
 use Rattle.sd_chain.specs.Pages.{FitAll, FitsPage, replay}
 use Rattle.sd_chain.specs.Records.{of_page}
 use Rattle.std.specs.Prelude.{filter, Some}

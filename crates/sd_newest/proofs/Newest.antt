@@ -7,7 +7,7 @@ use Rattle.sd_logrec.specs.View.{Rec}
 use Rattle.sd_page.specs.Page.{Page}
 use Rattle.sd_log.specs.Logs.{LogState, log_in}
 use Rattle.sd_chain.specs.Bytes.{disk_page}
-use Rattle.sd_chain.specs.Image.{all_of, chain, newest, sorted}
+use Rattle.sd_chain.specs.Storage.{all_of, chain, newest, sorted}
 use Rattle.sd_chain.specs.Laws.{MergedFit, MergedReplay}
 use Rattle.sd_chain.specs.Pages.{FitAll, replay}
 use Rattle.sd_chain.specs.Records.{of_page}

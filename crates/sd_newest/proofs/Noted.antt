@@ -10,7 +10,7 @@ use Rattle.std.proofs.lemmas.Option.{get_or_from_slice_get, slice_get-get_or, sl
 use Rattle.sd_base.proofs.Lists.{stands_at}
 use Rattle.sd_logrec.specs.View.{Rec}
 use Rattle.sd_page.specs.Page.{Page, empty_page}
-use Rattle.sd_chain.specs.Image.{inserted, sorted}
+use Rattle.sd_chain.specs.Storage.{inserted, sorted}
 use Rattle.sd_chain.specs.Records.{Each}
 use Rattle.sd_chain.proofs.Lists.{Each-sorted, Each-weaker}
 use Rattle.sd_chain.proofs.Sorts.{Each-from_all, Slow}

@@ -5,13 +5,13 @@ use Rattle.sd_log.specs.declared.placed.Placed.{Placed}
 use Rattle.sd_log.specs.Logs.{LogState, lsn_of}
 use Rattle.sd_chain.specs.Checks.{TwinIsSound}
 use Rattle.sd_chain.specs.Faults.{FailsInTwin}
-use Rattle.sd_chain.specs.Image.{Image, chain}
+use Rattle.sd_chain.specs.Storage.{Storage, chain}
 use Rattle.sd_chain.specs.Pages.{FitAll, FitsPage, replay}
 use Rattle.sd_merge.specs.Changes.{LsnsRise, StandsIn}
 use Rattle.sd_newest.specs.Reading.{ChainFits, image_of}
 
 -- The first record of the page's chain that doesn't fit the page that it finds stands in this device's log at this place.
-pub record ChainMisfit (img : Image) (logs : List LogState) (p dev at : ℕ) : Type 0 where
+pub record ChainMisfit (img : Storage) (logs : List LogState) (p dev at : ℕ) : Type 0 where
   pub found : Placed
   pub stands : StandsIn logs dev found
   pub at_is : at ≡ 130 + found.place
@@ -23,7 +23,7 @@ pub record ChainMisfit (img : Image) (logs : List LogState) (p dev at : ℕ) : T
   pub misfit : FitsPage (replay (img.disk p).lsn (img.disk p) before) (flat found.rec) → ⊥
 
 -- Of the pages the first whose chain doesn't fit.
-pub record FirstMisfit (img : Image) (logs : List LogState) (dev at : ℕ) : Type 0 where
+pub record FirstMisfit (img : Storage) (logs : List LogState) (dev at : ℕ) : Type 0 where
   pub page : ℕ
   pub few : page < 1024
   pub before : (p : ℕ) → p < page → ChainFits img p

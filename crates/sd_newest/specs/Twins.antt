@@ -1,14 +1,14 @@
 -- What the slots of a page's twin hold, and which image counts.
 use Rattle.std.specs.Prelude.{◌≡◌, ℕ, true, false, List, Option, None, Some}
 use Rattle.sd_base.specs.Twin.{Slot, Neither, First, Second, Same, body_at, is_open}
-use Rattle.sd_page.specs.Page.{Page, Fits}
-use Rattle.sd_page.specs.Spelling.{spelling}
+use Rattle.sd_page.specs.Page.{Page, PageFits}
+use Rattle.sd_page.specs.Spelling.{page_spelling}
 
 -- an open slot holds the image of the page
 pub record IsOpenSlot (p gate : ℕ) (bytes : List ℕ) (image : Page) : Type 0 where
   pub shown : is_open gate bytes ≡ true
-  pub body : spelling image ≡ body_at 1024 gate bytes
-  pub fits : Fits image
+  pub body : page_spelling image ≡ body_at 1024 gate bytes
+  pub fits : PageFits image
   pub number : image.number ≡ p
 
 -- the slot is closed, or holds this image

@@ -12,7 +12,7 @@
 //!
 //! To change:
 //! - free: bodies, private helpers
-//! - dear: `image_of`, `Pages`, `IsFirstAbove`, the clauses of `newest_pages`
+//! - dear: `image_of`, `NewestPages`, `IsFirstAbove`, the clauses of `newest_pages`
 //! - frozen: nothing
 #![tactic(auto)]
 
@@ -20,4 +20,4 @@ mod merging;
 mod redoing;
 mod twin;
 
-pub use merging::{Pages, newest_pages};
+pub use merging::{NewestPages, newest_pages};

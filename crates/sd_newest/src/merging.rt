@@ -5,7 +5,7 @@ ghost use Rattle.sd_base.specs.declared.refusal.Refusal.TheVariants as R;
 ghost use Rattle.sd_log.specs.Logs.{AreSpelled, scanned};
 ghost use Rattle.sd_chain.specs.Bytes.{disk_page};
 ghost use Rattle.sd_chain.specs.Checks.{TwinIsSound};
-ghost use Rattle.sd_chain.specs.Image.{chain, newest};
+ghost use Rattle.sd_chain.specs.Storage.{chain, newest};
 ghost use Rattle.sd_newest.specs.FirstAbove.{IsFirstAbove};
 ghost use Rattle.sd_newest.specs.Misfits.{FailsAt};
 ghost use Rattle.sd_newest.specs.Reading.{ChainFits, IsUnsound, image_of};
@@ -23,7 +23,7 @@ use std::alloc::Global;
 /// The pages of a complex, each by its number: its newest version, the LSN of its disk image, and the LSN of its first
 /// record above that image (RecLSN; ARIES, section 3), `None` where it has none.
 #[derive(Drop)]
-pub struct Pages {
+pub struct NewestPages {
     pub images: Vec<Image>,
     pub disk_lsns: Vec<Lsn>,
     pub rec_lsns: Vec<Option<Lsn>>,
@@ -35,7 +35,7 @@ pub struct Pages {
 /// least slot that fails of the first twin that isn't sound, on the data device. Where each twin is sound it names the log
 /// and the place of a record of the first page whose records don't fit: of these the first that doesn't, by LSN and then
 /// by device. That is said of logs in which LSNs rise. Places are in bytes from the device's start.
-pub fn newest_pages(alloc: Global, bytes: &[u8], logs: &[Log]) -> Result<Pages, Refusal>
+pub fn newest_pages(alloc: Global, bytes: &[u8], logs: &[Log]) -> Result<NewestPages, Refusal>
     requires size { length bytes.now ≡ DATA_LEN }
     requires eight { length logs.now ≡ 8 }
     requires spelled { All (λ log. AreSpelled (scanned log)) logs.now }
@@ -59,7 +59,7 @@ pub fn newest_pages(alloc: Global, bytes: &[u8], logs: &[Log]) -> Result<Pages, 
     let disk_lsns = page_lsns(alloc, &images)?;
     let changes = merged_changes(alloc, logs)?;
     let rec_lsns = redo_changes(alloc, &mut images, &disk_lsns, &changes)?;
-    Ok(Pages {
+    Ok(NewestPages {
         images,
         disk_lsns,
         rec_lsns,

@@ -3,8 +3,8 @@
 ghost use Rattle.std.specs.Prelude.{◌≡◌, ◌⊎◌, ℕ, ◌+◌, ◌≤◌, ◌<◌, Some, length, slice_get, IfErr, IfOk, MatchOption, OnOk};
 ghost use Rattle.sd_base.specs.declared.refusal.Refusal.TheVariants as R;
 ghost use Rattle.sd_gate.specs.Slots.{slot};
-ghost use Rattle.sd_page.specs.Page.{Fits};
-ghost use Rattle.sd_page.specs.Spelling.{spelling, WellFormed};
+ghost use Rattle.sd_page.specs.Page.{PageFits};
+ghost use Rattle.sd_page.specs.Spelling.{page_spelling, WellFormed};
 ghost use Rattle.sd_chain.specs.Bytes.{disk_page};
 ghost use Rattle.sd_chain.specs.Checks.{IsPageSlot, TwinIsSound};
 ghost use Rattle.sd_chain.specs.Faults.{FailsInTwin, TwinFailsAt};
@@ -73,7 +73,7 @@ fn slot_image(bytes: &[u8], gate: usize, p: PageNo) -> Result<Option<Image>, Ref
 
 // The image of these bytes, which has an LSN, a number and slots as an image may have.
 fn image_in(body: &[u8], p: PageNo) -> Option<Image>
-    ensures { MatchOption result (WellFormed body.now p → ⊥) (λ image. (spelling image ≡ body.now) × Fits image × (image.number ≡ p)) }
+    ensures { MatchOption result (WellFormed body.now p → ⊥) (λ image. (page_spelling image ≡ body.now) × PageFits image × (image.number ≡ p)) }
 {
     let image = Image::check(body, p)?;
     let _whole = image.bytes();

@@ -34,7 +34,7 @@ use Rattle.sd_state.proofs.WorkingGood.{working-settled}
 use Rattle.sd_one.specs.Ready.{FitsAt, IsReady, MayTakeBack}
 
 -- what makes a complex ready
-pub ready : {seen : rig.Image} {leaves : Outcomes} {c : Parts} {m : State} → c.due ≡ None → Good seen leaves Pending.Idle c m
+pub ready : {seen : rig.DeviceImages} {leaves : Outcomes} {c : Parts} {m : State} → c.due ≡ None → Good seen leaves Pending.Idle c m
     → IsReady seen leaves c
 ready {m = m} idle good = record { idle = idle; m = m; good = good }
 
@@ -107,7 +107,7 @@ live-above x t p log some row it = ⊎_elim
     (λ s. let a = ap length s.emptied in absurd (omega (arith, some, a)))
     row
 
-pub rolls-to : (t : TxnId) (seen : rig.Image) (leaves : Outcomes) (c : Parts) (m : State) → Good seen leaves Pending.Idle c m
+pub rolls-to : (t : TxnId) (seen : rig.DeviceImages) (leaves : Outcomes) (c : Parts) (m : State) → Good seen leaves Pending.Idle c m
     → c.due ≡ None → MayTakeBack t c → RollsTo t None m
 rolls-to t seen leaves c m g idle w =
     let i : ℕ = home t in

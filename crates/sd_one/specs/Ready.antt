@@ -20,7 +20,7 @@ use Rattle.sd_state.specs.Parts.{Parts, status_at, txns_at}
 use Rattle.sd_state.specs.Values.{Pending}
 
 -- The complex is good for a state of the serial table, with nothing under way, and no fall is due.
-pub record IsReady (seen : rig.Image) (leaves : Outcomes) (c : Parts) : Type 0 where
+pub record IsReady (seen : rig.DeviceImages) (leaves : Outcomes) (c : Parts) : Type 0 where
   pub idle : c.due ≡ None
   pub m : State
   pub good : Good seen leaves Pending.Idle c m

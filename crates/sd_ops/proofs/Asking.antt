@@ -27,7 +27,7 @@ use Rattle.sd_model.proofs.WaitAnswers.{blocked-locked, deadlock-locked}
 use Rattle.sd_reclock.specs.Answers.{IsRefused}
 use Rattle.sd_reclock.specs.Locks as locks
 use Rattle.sd_reclock.specs.Locks.{Held, held_in, waits}
-use Rattle.sd_rig.specs.Devices.{Image}
+use Rattle.sd_rig.specs.Devices.{DeviceImages}
 use Rattle.sd_sound.specs.Logs.{Outcomes}
 use Rattle.sd_world.specs.Bounds.{bounds_after}
 use Rattle.sd_world.specs.PageCauses.{NoneSays, PagesAgree}
@@ -53,7 +53,7 @@ pub record MayBlock (wanted : Option Rid) (w : Core) (e : Event) : Type 0 where
   pub unused : (r : Reply) → IsOfFreeSlot w.scene.state e wanted r
   pub near : AsksNear w.bounds e wanted
 
-module _ (seen : Image) (leaves : Outcomes) (c new : Parts) (e : Event) (wanted : Option Rid) (t : TxnId) (r : Rid) (mode : Mode)
+module _ (seen : DeviceImages) (leaves : Outcomes) (c new : Parts) (e : Event) (wanted : Option Rid) (t : TxnId) (r : Rid) (mode : Mode)
     (asks : asked_of e wanted ≡ Some (locks.wait_for r mode)) (own : txn_of e ≡ t)
     (runs : (w : Core) → Fits seen leaves c w → (w.scene.state.part t).life ≡ Life.Running)
     (may : (w : Core) → Fits seen leaves c w → Locked w.scene.state t r (claim_of mode) → MayBlock wanted w e) where

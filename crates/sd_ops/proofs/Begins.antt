@@ -11,13 +11,13 @@ use Rattle.sd_base.specs.declared.place.Status.TheVariants as S
 use Rattle.sd_base.specs.declared.refusal.Refusal.{Refusal}
 use Rattle.sd_base.specs.declared.refusal.Refusal.TheVariants as R
 use Rattle.sd_base.proofs.SameIds.{each_txn, ne-same}
-use Rattle.sd_rig.specs.Devices.{Image, Leaves}
+use Rattle.sd_rig.specs.Devices.{DeviceImages, Leaves}
 use Rattle.sd_model.specs.Applies.{HasPut, PassesAll, count_of}
 use Rattle.sd_model.specs.Causes.{before, order}
 use Rattle.sd_model.specs.Fields.{nobody}
 use Rattle.sd_model.specs.Listed.{IsAmong, IsAtWork}
 use Rattle.sd_model.specs.Scenes.{is_running, waits_after}
-use Rattle.sd_model.specs.State.{Part, State, began, started}
+use Rattle.sd_model.specs.State.{Part, State, began, begun_part}
 use Rattle.sd_model.specs.Step.{Step}
 use Rattle.sd_model.specs.StepLaws.{IsUp, next_txn}
 use Rattle.sd_model.specs.declared.act.Life.{Life}
@@ -57,7 +57,7 @@ use Rattle.sd_fits.proofs.Worked.{worked-bounds, worked-pages}
 
 -- ---- refused
 
-module _ (i : ℕ) (seen : Image) (leaves : Outcomes) (c : Parts) (w : Core) (f : Fits seen leaves c w) (low : 1 ≤ i) (high : i ≤ 8) where
+module _ (i : ℕ) (seen : DeviceImages) (leaves : Outcomes) (c : Parts) (w : Core) (f : Fits seen leaves c w) (low : 1 ≤ i) (high : i ≤ 8) where
   abbrev m : State
   m = w.scene.state
 
@@ -154,7 +154,7 @@ begun_core i t w = record {
   bounds = bounds_after w.bounds (Begin i) (reply.Began t);
 }
 
-module _ (i : ℕ) (t : TxnId) (seen : Image) (leaves : Outcomes) (c new : Parts) (w : Core) (f : Fits seen leaves c w)
+module _ (i : ℕ) (t : TxnId) (seen : DeviceImages) (leaves : Outcomes) (c new : Parts) (w : Core) (f : Fits seen leaves c w)
     (low : 1 ≤ i) (high : i ≤ 8) (up : status_at c i ≡ S.Up) (b : HasBegun i t c new)
     (next : t ≡ next_txn w.scene.state i) (good : Good seen leaves Pending.Idle new (began i t w.scene.state)) where
   abbrev state : State
@@ -181,7 +181,7 @@ module _ (i : ℕ) (t : TxnId) (seen : Image) (leaves : Outcomes) (c new : Parts
   begun-waits : (u : TxnId) → waits new.locks u ≡ waits_after later (Begin i) None (reply.Began t) w.scene.waits u
   begun-waits u = b.waits u ∙ ap (λ (o : Option Wait). cond {A = Option Wait} (same_txn t u) None o) (f.waits u)
       ∙ each_txn t (λ v (p : Part). cond {A = Option Wait} (same_txn t v) None (w.scene.waits v)
-      ≡ cond {A = Option Wait} (is_running p.life) (with_wait nobody None w.scene.waits v) None) started state.part
+      ≡ cond {A = Option Wait} (is_running p.life) (with_wait nobody None w.scene.waits v) None) begun_part state.part
       (none-waits (same_txn t t) (w.scene.waits t) (f.waiting t unknown)
       ∙ sym (none-waits (same_txn nobody t) (w.scene.waits t) (f.waiting t unknown)))
       (λ v ne. ap (λ (x : Bool). cond {A = Option Wait} x None (w.scene.waits v)) (ne-same t v ne)
@@ -194,7 +194,7 @@ module _ (i : ℕ) (t : TxnId) (seen : Image) (leaves : Outcomes) (c new : Parts
       (cases_eq (home u) i))
 
   has-put : (u : TxnId) → IsAtWork (later.part u).life → IsSome (span_at (txns_at new (home u)) u) → HasPut (later.part u).acts
-  has-put = each_txn t (λ u (p : Part). IsAtWork p.life → IsSome (span_at (txns_at new (home u)) u) → HasPut p.acts) started state.part
+  has-put = each_txn t (λ u (p : Part). IsAtWork p.life → IsSome (span_at (txns_at new (home u)) u) → HasPut p.acts) begun_part state.part
       (λ _ some. absurd (none-span (span_at (txns_at new (home t)) t)
       (ap (λ (j : ℕ). span_at (txns_at new j) t) own ∙ ap (option_and_then (λ (x : Transaction). x.span)) b.row) some))
       (λ u ne work some. f.put u work (subst IsSome (span-kept u ne) some))
@@ -234,11 +234,11 @@ module _ (i : ℕ) (t : TxnId) (seen : Image) (leaves : Outcomes) (c new : Parts
         (worked-bounds (with_working i (txns_at new i) new.locks c).txns new.locks seen leaves c w.bounds owes f.bounds));
     doubts = subst (λ (p : Parts). FitsDoubts seen p later) (sym b.is)
         (doubts-kept seen seen c (with_working i (txns_at new i) new.locks c) state later f.doubts
-        (part-stays t started state later refl (λ u. refl)) (λ keeps. keeps) (λ moved keeps j. refl) (λ moved keeps p. refl));
+        (part-stays t begun_part state later refl (λ u. refl)) (λ keeps. keeps) (λ moved keeps j. refl) (λ moved keeps p. refl));
   }
     where
       old-rolling : (u : TxnId) → (later.part u).life ≡ Life.Rolling None → IsOpen u (all_at (log_at c (home u)))
-      old-rolling = each_txn t (λ u (p : Part). p.life ≡ Life.Rolling None → IsOpen u (all_at (log_at c (home u)))) started state.part
+      old-rolling = each_txn t (λ u (p : Part). p.life ≡ Life.Rolling None → IsOpen u (all_at (log_at c (home u)))) begun_part state.part
           (λ rolls. absurd (cc)) (λ u ne rolls. f.rolling u rolls)
 
 -- ---- served
@@ -248,7 +248,7 @@ pub record Begins {G : Type 0} (tell : Telling G) (i : ℕ) (old new : Complex G
   pub low : 1 ≤ i
   pub high : i ≤ 8
   pub same : new.rig ≡ old.rig
-  pub now : (img : Image) → tell.since old.rig (tell.moment old.rig) img → Leaves (tell.leaves old.rig) img
+  pub now : (img : DeviceImages) → tell.since old.rig (tell.moment old.rig) img → Leaves (tell.leaves old.rig) img
   pub up : status_at (parts old) i ≡ S.Up
   pub once : IsDistinct same_txn (ids (txns_at (parts old) i))
 
@@ -324,7 +324,7 @@ module _ {G : Type 0} (tell : Telling G) (i : ℕ) (old new : Complex G) (b : Be
       fewer n e l = omega (arith, e, l)
 
 module _ {G : Type 0} (tell : Telling G) (i : ℕ) (old : Complex G) (low : 1 ≤ i) (high : i ≤ 8)
-    (now : (img : Image) → tell.since old.rig (tell.moment old.rig) img → Leaves (tell.leaves old.rig) img) where
+    (now : (img : DeviceImages) → tell.since old.rig (tell.moment old.rig) img → Leaves (tell.leaves old.rig) img) where
   pub down-served : (status_at (parts old) i ≡ S.Up → ⊥) → Serving tell (Begin i) (refused R.Down) old old
   down-served down = (
     λ w f. (

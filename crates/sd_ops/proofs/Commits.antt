@@ -13,7 +13,7 @@ use Rattle.sd_logrec.specs.Spelling.{spelling}
 use Rattle.sd_logrec.specs.View.{Rec, flat}
 use Rattle.sd_logrec.specs.declared.record.Record.{Record}
 use Rattle.sd_reclock.specs.Locks.{waits}
-use Rattle.sd_rig.specs.Devices.{Image}
+use Rattle.sd_rig.specs.Devices.{DeviceImages}
 use Rattle.sd_model.specs.State.{State, committed}
 use Rattle.sd_model.specs.declared.act.Life.{Life}
 use Rattle.sd_model.specs.declared.event.Event.TheVariants.{Commit}
@@ -61,7 +61,7 @@ commit_bounds t w = bounds_after w.bounds (Commit t) reply.Did
 abbrev pub commit_core : TxnId → Core → Core
 commit_core t w = left_core t (committed t w.scene.state) (commit_bounds t w) w
 
-module _ (t : TxnId) (seen : Image) (leaves : Outcomes) (c : Parts) (w : Core) (f : Fits seen leaves c w)
+module _ (t : TxnId) (seen : DeviceImages) (leaves : Outcomes) (c : Parts) (w : Core) (f : Fits seen leaves c w)
     (low : 1 ≤ home t) (high : home t ≤ 8) (up : status_at c (home t) ≡ S.Up)
     (runs : state_at (txns_at c (home t)) t ≡ Some TxnState.Running) where
   abbrev m : State
@@ -214,7 +214,7 @@ module _ (t : TxnId) (seen : Image) (leaves : Outcomes) (c : Parts) (w : Core) (
 
     -- ---- and is forced
 
-    module _ (owes_now : ℕ) (seen' : Image) (leaves' : Outcomes) (done : Parts)
+    module _ (owes_now : ℕ) (seen' : DeviceImages) (leaves' : Outcomes) (done : Parts)
         (is_forced : done ≡ with_forced i (forced (log_at mid i)) owes_now mid)
         (forced_good : Good seen' leaves' (Pending.Commits t) done m) (disk : seen' 0 ≡ seen 0) (kept : KeepMasters leaves leaves') where
       done-here : log_at done i ≡ forced (log_at mid i)

@@ -12,7 +12,7 @@ use Rattle.sd_base.specs.declared.refusal.Refusal.TheVariants as R
 use Rattle.sd_base.proofs.SameIds.{ne-same}
 use Rattle.sd_log.specs.Logs.{forced}
 use Rattle.sd_reclock.specs.Locks.{waits}
-use Rattle.sd_rig.specs.Devices.{Elapses, Image, Leaves, Span}
+use Rattle.sd_rig.specs.Devices.{DeviceImages, Elapses, Leaves, Span}
 use Rattle.sd_model.specs.Applies.{HasPut}
 use Rattle.sd_model.specs.Listed.{IsAtWork}
 use Rattle.sd_model.specs.Scenes.{of_running}
@@ -74,7 +74,7 @@ pub off-there : (t : TxnId) (c : Parts) (n : Refusal) → IsOff t c n → n ≢ 
 off-there t c n off e = subst (IsOff t c) e off
 
 module _ {G : Type 0} (tell : Telling G) (t : TxnId) (old new : Complex G) (same : new.rig ≡ old.rig)
-    (now : (img : Image) → tell.since old.rig (tell.moment old.rig) img → Leaves (tell.leaves old.rig) img)
+    (now : (img : DeviceImages) → tell.since old.rig (tell.moment old.rig) img → Leaves (tell.leaves old.rig) img)
     (low : 1 ≤ home t) (high : home t ≤ 8) where
   pub off-served : (n : Refusal) → IsOff t (parts old) n → EndsWait t (Some n) (parts old) (parts new)
       → Serving tell (Commit t) (did {X = Unit {0}} (Err n)) old new
@@ -200,7 +200,7 @@ module _ {G : Type 0} (tell : Telling G) (t : TxnId) (old sealed then : Complex 
         ending-good
 
     passes-to : (new : Complex G) (m' : State) → new.rig ≡ then.rig
-        → ((img : Image) → Stands m (Pending.Commits t) img → stands_for img m ⊎ stands_for img m')
+        → ((img : DeviceImages) → Stands m (Pending.Commits t) img → stands_for img m ⊎ stands_for img m')
         → Passes tell stands_for old.rig new.rig m m'
     passes-to new m' same each = subst (λ (d : G). Passes tell stands_for old.rig d m m') (sym same)
         (subst (λ (d : G). Passes tell stands_for d then.rig m m') k.rig (record {
@@ -342,7 +342,7 @@ module _ {G : Type 0} (tell : Telling G) (t : TxnId) (old sealed then : Complex 
                 (λ u ne. ended-wait (tell.seen old.rig) (tell.leaves old.rig) (parts old) w f t u
                 ∙ ap (λ (b : Bool). cond {A = Option Wait} b None (w.scene.waits u)) (ne-same t u (λ e. ne (sym (ap home e)))))
 
-        stands-cut : (img : Image) → Stands w.scene.state (Pending.Commits t) img → stands_for img m'
+        stands-cut : (img : DeviceImages) → Stands w.scene.state (Pending.Commits t) img → stands_for img m'
         stands-cut img s = let g = f.good in
             cut-stands t w.scene.state img s
             (cut-falls t w.scene.state (life w f) g.not_closed g.kept g.placed g.listed g.marked g.recoverers)

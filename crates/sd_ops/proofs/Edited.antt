@@ -22,7 +22,7 @@ use Rattle.sd_pagelock.specs.Directory.{entry_at}
 use Rattle.sd_pagelock.specs.Places.{holds_as, is_lost, owns}
 use Rattle.sd_reclock.specs.Answers.{IsFree}
 use Rattle.sd_reclock.specs.Locks.{stands, wait_for}
-use Rattle.sd_rig.specs.Devices.{Image}
+use Rattle.sd_rig.specs.Devices.{DeviceImages}
 use Rattle.sd_sound.specs.Logs.{Outcomes}
 use Rattle.sd_chain.specs.Pages.{value}
 use Rattle.sd_chain.specs.Records.{home}
@@ -50,7 +50,7 @@ use Rattle.sd_ops.proofs.Putted.{is-change, lowered-fits, put-fits, slots-stay}
 use Rattle.sd_ops.proofs.Spoiling.{here-not-none, is-number, is-short, sum-number}
 use Rattle.sd_ops.proofs.Work.{IsFor, refused-turns, refused_to}
 
-module _ (t : TxnId) (r : Rid) (edit : Edit) (short : IsLongEdit edit → ⊥) (seen_by : Image) (leaves : Outcomes) (c : Parts)
+module _ (t : TxnId) (r : Rid) (edit : Edit) (short : IsLongEdit edit → ⊥) (seen_by : DeviceImages) (leaves : Outcomes) (c : Parts)
     (low : 1 ≤ home t) (high : home t ≤ 8) (up : status_at c (home t) ≡ S.Up)
     (state : state_at (txns_at c (home t)) t ≡ Some TxnState.Running) (free : IsFree (stands c.locks) t (wait_for r modes.Excl))
     (mine : holds_as modes.Excl (entry_at c.directory r.page) (home t) ≡ true) (capacity : ℕ) (after : Option (List ℕ))

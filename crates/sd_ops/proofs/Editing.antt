@@ -11,15 +11,15 @@ use Rattle.sd_base.specs.declared.refusal.Refusal.TheVariants as R
 use Rattle.sd_model.specs.Applies.{Locked, PassesAll}
 use Rattle.sd_model.specs.Scenes.{asked_of}
 use Rattle.sd_model.specs.State.{State}
-use Rattle.sd_model.specs.StepLaws.{IsReady}
+use Rattle.sd_model.specs.StepLaws.{MayAct}
 use Rattle.sd_model.specs.declared.act.Claim.{Claim}
 use Rattle.sd_model.specs.declared.cause.Cause.{Cause}
 use Rattle.sd_model.specs.declared.event.Event.{Event}
 use Rattle.sd_pagelock.specs.Directory.{entry_at}
-use Rattle.sd_pagelock.specs.Places.{Entry, is_lost, owns}
+use Rattle.sd_pagelock.specs.Places.{PageEntry, is_lost, owns}
 use Rattle.sd_reclock.specs.Answers.{IsFree, IsRefused}
 use Rattle.sd_reclock.specs.Locks.{stands, wait_for, waits}
-use Rattle.sd_rig.specs.Devices.{Image}
+use Rattle.sd_rig.specs.Devices.{DeviceImages}
 use Rattle.sd_sound.specs.Logs.{Outcomes}
 use Rattle.sd_chain.specs.Records.{home}
 use Rattle.sd_txn.specs.Transactions.{state_at}
@@ -81,9 +81,9 @@ passes-both m e (x ∷ xs) ys a b = (a.0, passes-both m e xs ys a.1 b)
 abbrev pub head_causes : List Cause
 head_causes = Cause.Shut ∷ Cause.NoTxn ∷ Cause.Down ∷ Cause.Busy ∷ []
 
-module _ (t : TxnId) (r : Rid) (seen_by : Image) (leaves : Outcomes) (c : Parts) (low : 1 ≤ home t) (high : home t ≤ 8)
+module _ (t : TxnId) (r : Rid) (seen_by : DeviceImages) (leaves : Outcomes) (c : Parts) (low : 1 ≤ home t) (high : home t ≤ 8)
     (up : status_at c (home t) ≡ S.Up) (state : state_at (txns_at c (home t)) t ≡ Some TxnState.Running) where
-  pub ready-here : (w : Core) → Fits seen_by leaves c w → IsReady w.scene.state t
+  pub ready-here : (w : Core) → Fits seen_by leaves c w → MayAct w.scene.state t
   ready-here w f = is-ready seen_by leaves Pending.Idle c w.scene.state f.good t low high up state
 
   -- behind its head an edit is refused for none of these
@@ -227,7 +227,7 @@ module _ (t : TxnId) (r : Rid) (seen_by : Image) (leaves : Outcomes) (c : Parts)
         first = (refl, from-head (To v) w f (Cause.Long ∷ Cause.Lock ∷ Cause.Lost ∷ []) (short_value, (unlocked w f, (tt, tt))), tt);
         refuses = refl;
         passes = (tt, (tt, (tt, (tt, (tt, (tt, (not-lost lacks.0 w f, tt)))))));
-        says = λ b. ap (λ (e : Entry). owns e (home t)) (f.pages.entry r.page) ∙ lacks.1;
+        says = λ b. ap (λ (e : PageEntry). owns e (home t)) (f.pages.entry r.page) ∙ lacks.1;
         place = lacks.2 ∙ sym (f.pages.entry r.page);
         leaves = refl;
         allows = tt;
@@ -241,7 +241,7 @@ module _ (t : TxnId) (r : Rid) (seen_by : Image) (leaves : Outcomes) (c : Parts)
         first = (refl, from-head (By by) w f (Cause.Lock ∷ Cause.Lost ∷ []) (unlocked w f, (tt, tt)), tt);
         refuses = refl;
         passes = (tt, (tt, (tt, (tt, (tt, (not-lost lacks.0 w f, tt))))));
-        says = λ b. ap (λ (e : Entry). owns e (home t)) (f.pages.entry r.page) ∙ lacks.1;
+        says = λ b. ap (λ (e : PageEntry). owns e (home t)) (f.pages.entry r.page) ∙ lacks.1;
         place = lacks.2 ∙ sym (f.pages.entry r.page);
         leaves = refl;
         allows = tt;
@@ -255,7 +255,7 @@ module _ (t : TxnId) (r : Rid) (seen_by : Image) (leaves : Outcomes) (c : Parts)
         first = (refl, from-head Gone w f (Cause.Lock ∷ Cause.Lost ∷ []) (unlocked w f, (tt, tt)), tt);
         refuses = refl;
         passes = (tt, (tt, (tt, (tt, (tt, (not-lost lacks.0 w f, tt))))));
-        says = λ b. ap (λ (e : Entry). owns e (home t)) (f.pages.entry r.page) ∙ lacks.1;
+        says = λ b. ap (λ (e : PageEntry). owns e (home t)) (f.pages.entry r.page) ∙ lacks.1;
         place = lacks.2 ∙ sym (f.pages.entry r.page);
         leaves = refl;
         allows = tt;

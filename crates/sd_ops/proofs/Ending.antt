@@ -14,7 +14,7 @@ use Rattle.sd_model.specs.declared.event.Event.TheVariants.{FailAll}
 use Rattle.sd_model.specs.declared.event.Reply.{Reply}
 use Rattle.sd_model.specs.declared.event.Reply.TheVariants as reply
 use Rattle.sd_reclock.specs.Locks.{Held, held_in}
-use Rattle.sd_rig.specs.Devices.{Image, Leaves}
+use Rattle.sd_rig.specs.Devices.{DeviceImages, Leaves}
 use Rattle.sd_sound.specs.Logs.{Outcomes}
 use Rattle.sd_world.specs.Serving.{Core, FaultsAre, FewFaults, IsFault, Passes, Serves, Spares, Telling, Turns, answered}
 use Rattle.sd_state.specs.Complexes.{parts}
@@ -48,7 +48,7 @@ pub record IsCalm (r : Reply) : Type 0 where
   pub waits : (e : Event) (wanted : Option Rid) (asks : Waits) → noted e wanted r asks ≡ asks
 
 -- The world that is reached, and the parts that fit it.
-pub record Reaches (seen : Image) (leaves : Outcomes) (w : Core) (e : Event) (r : Reply) (new : Parts) : Type 0 where
+pub record Reaches (seen : DeviceImages) (leaves : Outcomes) (w : Core) (e : Event) (r : Reply) (new : Parts) : Type 0 where
   pub core : Core
   pub turns : Turns w e r core
   pub fits : Fits seen leaves new core
@@ -60,7 +60,7 @@ without_wait t w = record {
   bounds = w.bounds;
 }
 
-module _ (wanted : Option Rid) (e : Event) (r : Reply) (seen : Image) (leaves : Outcomes) (mid new : Parts) (w w' : Core)
+module _ (wanted : Option Rid) (e : Event) (r : Reply) (seen : DeviceImages) (leaves : Outcomes) (mid new : Parts) (w w' : Core)
     (h : HalfTurns wanted w e r w') (f : Fits seen leaves mid w') where
   module _ (calm : IsCalm r) (ends : IsRewaited (txn_of e) None mid new) where
     abbrev t : TxnId
@@ -128,7 +128,7 @@ module _ (wanted : Option Rid) (e : Event) (r : Reply) (seen : Image) (leaves : 
 -- ---- the call
 
 module _ {G : Type 0} (tell : Telling G) (wanted : Option Rid) (e : Event) (old mid new : Complex G)
-    (now : (img : Image) → tell.since old.rig (tell.moment old.rig) img → Leaves (tell.leaves old.rig) img)
+    (now : (img : DeviceImages) → tell.since old.rig (tell.moment old.rig) img → Leaves (tell.leaves old.rig) img)
     (rig_is : new.rig ≡ old.rig) where
   serves-by : (r : Reply) (w : Core) → fits_by tell.seen tell.leaves old w
       → Reaches (tell.seen old.rig) (tell.leaves old.rig) w e r (parts new)

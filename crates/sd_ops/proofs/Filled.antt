@@ -24,7 +24,7 @@ use Rattle.sd_pagelock.specs.Directory.{entry_at}
 use Rattle.sd_pagelock.specs.Places.{holds_as, is_lost, owns}
 use Rattle.sd_reclock.specs.Answers.{IsFree}
 use Rattle.sd_reclock.specs.Locks.{stands, wait_for}
-use Rattle.sd_rig.specs.Devices.{Image}
+use Rattle.sd_rig.specs.Devices.{DeviceImages}
 use Rattle.sd_sound.specs.Logs.{Outcomes}
 use Rattle.sd_chain.specs.Pages.{redo, value}
 use Rattle.sd_chain.specs.Records.{home}
@@ -56,7 +56,7 @@ not-held-free Claim.Free none = refl
 not-held-free Claim.Shared none = absurd (none tt)
 not-held-free Claim.Excl none = absurd (none tt)
 
-module _ (t : TxnId) (p : ℕ) (v : List ℕ) (asked : ℕ) (seen_by : Image) (leaves : Outcomes) (c : Parts) (low : 1 ≤ home t)
+module _ (t : TxnId) (p : ℕ) (v : List ℕ) (asked : ℕ) (seen_by : DeviceImages) (leaves : Outcomes) (c : Parts) (low : 1 ≤ home t)
     (high : home t ≤ 8)
     (up : status_at c (home t) ≡ S.Up) (state : state_at (txns_at c (home t)) t ≡ Some TxnState.Running)
     (short : IsLongFor v asked → ⊥)

@@ -16,17 +16,17 @@ use Rattle.sd_model.specs.Applies.{Locked, PassesAll}
 use Rattle.sd_model.specs.Claims.{Holds}
 use Rattle.sd_model.specs.Scenes.{asked_of}
 use Rattle.sd_model.specs.State.{view}
-use Rattle.sd_model.specs.StepLaws.{IsReady}
+use Rattle.sd_model.specs.StepLaws.{MayAct}
 use Rattle.sd_model.specs.declared.act.Claim.{Claim}
 use Rattle.sd_model.specs.declared.cause.Cause.{Cause}
 use Rattle.sd_model.specs.declared.event.Event.{Event}
 use Rattle.sd_model.specs.declared.event.Event.TheVariants as event
 use Rattle.sd_page.specs.Page.{HasRoom, Page, Slot, heap_end}
 use Rattle.sd_pagelock.specs.Directory.{entry_at}
-use Rattle.sd_pagelock.specs.Places.{Entry, holds_as, is_lost, owns}
+use Rattle.sd_pagelock.specs.Places.{PageEntry, holds_as, is_lost, owns}
 use Rattle.sd_reclock.specs.Answers.{IsRefused}
 use Rattle.sd_reclock.specs.Locks.{stands, wait_for, waits}
-use Rattle.sd_rig.specs.Devices.{Image}
+use Rattle.sd_rig.specs.Devices.{DeviceImages}
 use Rattle.sd_sound.specs.Logs.{Outcomes}
 use Rattle.sd_chain.specs.Images.{all_kept}
 use Rattle.sd_chain.specs.Records.{home}
@@ -100,13 +100,13 @@ full-bound slots bound asked within none =
     ⊎_elim (λ lt. omega (arith, len, total, caps, count, lt)) (λ le. absurd (none le))
     (cases_lt 1024 (heap_end slots + asked + 6 * (length slots + 1)))
 
-module _ (t : TxnId) (p : ℕ) (v : List ℕ) (asked : ℕ) (seen_by : Image) (leaves : Outcomes) (c : Parts) (low : 1 ≤ home t)
+module _ (t : TxnId) (p : ℕ) (v : List ℕ) (asked : ℕ) (seen_by : DeviceImages) (leaves : Outcomes) (c : Parts) (low : 1 ≤ home t)
     (high : home t ≤ 8)
     (up : status_at c (home t) ≡ S.Up) (state : state_at (txns_at c (home t)) t ≡ Some TxnState.Running) where
   abbrev e : Event
   e = event.Insert t p v asked
 
-  pub ready-insert : (w : Core) → Fits seen_by leaves c w → IsReady w.scene.state t
+  pub ready-insert : (w : Core) → Fits seen_by leaves c w → MayAct w.scene.state t
   ready-insert w f = is-ready seen_by leaves Pending.Idle c w.scene.state f.good t low high up state
 
   pub insert-head : (w : Core) (f : Fits seen_by leaves c w) (ys : List Cause) → PassesAll w.scene.state e ys
@@ -165,7 +165,7 @@ module _ (t : TxnId) (p : ℕ) (v : List ℕ) (asked : ℕ) (seen_by : Image) (l
       first = (refl, insert-head w f (Cause.Long ∷ Cause.Lost ∷ []) (short, (tt, tt)), tt);
       refuses = refl;
       passes = (tt, (tt, (tt, (tt, (tt, (not-lost-by lacks.0 w f, tt))))));
-      says = λ b. ap (λ (x : Entry). owns x (home t)) (f.pages.entry p) ∙ lacks.1;
+      says = λ b. ap (λ (x : PageEntry). owns x (home t)) (f.pages.entry p) ∙ lacks.1;
       place = lacks.2 ∙ sym (f.pages.entry p);
       leaves = refl;
       allows = tt;
@@ -176,17 +176,17 @@ module _ (t : TxnId) (p : ℕ) (v : List ℕ) (asked : ℕ) (seen_by : Image) (l
 
     module _ (mine : holds_as modes.Excl (entry_at c.directory p) (home t) ≡ true) (w : Core) (f : Fits seen_by leaves c w) where
       pub owned-page : owns (w.pages.entry p) (home t) ≡ false → ⊥
-      owned-page away = let clash = sym away ∙ ap (λ (x : Entry). owns x (home t)) (f.pages.entry p) ∙ mine in absurd (cc)
+      owned-page away = let clash = sym away ∙ ap (λ (x : PageEntry). owns x (home t)) (f.pages.entry p) ∙ mine in absurd (cc)
 
       pub there-page : is_lost (w.pages.entry p) ≡ true → ⊥
-      there-page lost = by (w.pages.entry p) (ap (λ (x : Entry). owns x (home t)) (f.pages.entry p) ∙ mine) lost
+      there-page lost = by (w.pages.entry p) (ap (λ (x : PageEntry). owns x (home t)) (f.pages.entry p) ∙ mine) lost
         where
-          by : (x : Entry) → owns x (home t) ≡ true → is_lost x ≡ true → ⊥
-          by Entry.Free h l = cc
-          by (Entry.Shared set writer) h l = cc
-          by (Entry.Excl holder dirty) h l = cc
-          by (Entry.Moving to mode left dirty) h l = cc
-          by Entry.Lost h l = cc
+          by : (x : PageEntry) → owns x (home t) ≡ true → is_lost x ≡ true → ⊥
+          by PageEntry.Free h l = cc
+          by (PageEntry.Shared set writer) h l = cc
+          by (PageEntry.Excl holder dirty) h l = cc
+          by (PageEntry.Moving to mode left dirty) h l = cc
+          by PageEntry.Lost h l = cc
 
       -- the capacities of the page are within the sums
       pub page-within : AreWithin (capacities (image_for t p c)) (w.bounds.slots p)

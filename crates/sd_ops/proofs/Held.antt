@@ -11,7 +11,7 @@ use Rattle.sd_pool.specs.Buffers.{Buffers, image_at}
 use Rattle.sd_chain.specs.Pages.{value}
 use Rattle.sd_chain.specs.Records.{home}
 use Rattle.sd_chain.proofs.Slots.{value-at}
-use Rattle.sd_rig.specs.Devices.{Image}
+use Rattle.sd_rig.specs.Devices.{DeviceImages}
 use Rattle.sd_sound.specs.Logs.{Outcomes}
 use Rattle.sd_state.specs.Changing.{image_for}
 use Rattle.sd_state.specs.Good.{Good}
@@ -20,16 +20,16 @@ use Rattle.sd_state.specs.Parts.{Parts, pool_at}
 use Rattle.sd_state.specs.Values.{Pending}
 use Rattle.sd_state.proofs.Locks.{pool-lent}
 use Rattle.sd_state.proofs.Standing.{each-copy-is-newest}
-use Rattle.sd_pagelock.specs.Places.{Entry, holds, holds_as}
+use Rattle.sd_pagelock.specs.Places.{PageEntry, holds, holds_as}
 
 -- who holds a page in a mode holds it
-pub as-held : (mode : Mode) (e : Entry) (i : ℕ) → holds_as mode e i ≡ true → holds e i ≡ true
+pub as-held : (mode : Mode) (e : PageEntry) (i : ℕ) → holds_as mode e i ≡ true → holds e i ≡ true
 as-held modes.Shared e i h = h
-as-held modes.Excl Entry.Free i h = absurd (cc)
-as-held modes.Excl (Entry.Shared set writer) i h = absurd (cc)
-as-held modes.Excl (Entry.Excl holder dirty) i h = h
-as-held modes.Excl (Entry.Moving to mode rest dirty) i h = absurd (cc)
-as-held modes.Excl Entry.Lost i h = absurd (cc)
+as-held modes.Excl PageEntry.Free i h = absurd (cc)
+as-held modes.Excl (PageEntry.Shared set writer) i h = absurd (cc)
+as-held modes.Excl (PageEntry.Excl holder dirty) i h = h
+as-held modes.Excl (PageEntry.Moving to mode rest dirty) i h = absurd (cc)
+as-held modes.Excl PageEntry.Lost i h = absurd (cc)
 
 -- ---- what `copy` lends
 
@@ -37,7 +37,7 @@ some-copied : (o : Option (Bor Page)) (held : Option Page) (x : Page) → option
 some-copied None held x is there = absurd (cc)
 some-copied (Some b) held x is there = refl
 
-module _ (seen : Image) (leaves : Outcomes) (pend : Pending) (c : Parts) (m : State) (g : Good seen leaves pend c m) (mode : Mode) (i at p : ℕ)
+module _ (seen : DeviceImages) (leaves : Outcomes) (pend : Pending) (c : Parts) (m : State) (g : Good seen leaves pend c m) (mode : Mode) (i at p : ℕ)
     (low : 1 ≤ i) (high : i ≤ 8) (place : at ≡ i - 1) (pool : Buffers) (lent : pool ≡ get_or c.pools at pool)
     (held_so : holds_as mode (entry_at c.directory p) i ≡ true) (o : Option (Bor Page)) (looked : option_copied o ≡ image_at pool p) where
   there : image_at pool p ≡ Some (newest_of seen leaves c p)

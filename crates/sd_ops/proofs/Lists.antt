@@ -9,7 +9,7 @@ use Rattle.sd_base.specs.declared.place.Place.{Place}
 use Rattle.sd_base.specs.declared.place.Status.TheVariants as S
 use Rattle.sd_base.specs.declared.refusal.Refusal.{Refusal}
 use Rattle.sd_base.specs.declared.refusal.Refusal.TheVariants as R
-use Rattle.sd_rig.specs.Devices.{Image, Leaves}
+use Rattle.sd_rig.specs.Devices.{DeviceImages, Leaves}
 use Rattle.sd_model.specs.Applies.{Changes, PassesAll}
 use Rattle.sd_model.specs.Causes.{before, order}
 use Rattle.sd_model.specs.Claims.{Owns}
@@ -25,7 +25,7 @@ use Rattle.sd_model.specs.declared.event.Reply.TheVariants as reply
 use Rattle.sd_model.proofs.Steps.{list-step}
 use Rattle.sd_page.specs.Page.{Page}
 use Rattle.sd_pagelock.specs.Directory.{entry_at}
-use Rattle.sd_pagelock.specs.Places.{Entry, holds, is_lost, seen}
+use Rattle.sd_pagelock.specs.Places.{PageEntry, holds, is_lost, seen}
 use Rattle.sd_pool.specs.Buffers.{Buffers, image_at, used, with_page}
 use Rattle.sd_reclock.specs.Locks.{IsLowestOwner, OwnsIn, held}
 use Rattle.sd_sound.specs.Logs.{Outcomes}
@@ -64,17 +64,17 @@ claimed-excl Claim.Shared owns = absurd owns
 claimed-excl Claim.Excl owns = refl
 
 -- a page that somebody holds isn't lost
-held-there : (e : Entry) (i : ℕ) → holds e i ≡ true → is_lost e ≡ true → ⊥
-held-there Entry.Free i held gone = cc
-held-there (Entry.Shared set writer) i held gone = cc
-held-there (Entry.Excl holder dirty) i held gone = cc
-held-there (Entry.Moving to mode rest dirty) i held gone = cc
-held-there Entry.Lost i held gone = cc
+held-there : (e : PageEntry) (i : ℕ) → holds e i ≡ true → is_lost e ≡ true → ⊥
+held-there PageEntry.Free i held gone = cc
+held-there (PageEntry.Shared set writer) i held gone = cc
+held-there (PageEntry.Excl holder dirty) i held gone = cc
+held-there (PageEntry.Moving to mode rest dirty) i held gone = cc
+held-there PageEntry.Lost i held gone = cc
 
 off-on : {A : Type 0} (b : Bool) → b ≡ false → b ≡ true → A
 off-on b off on = let clash : false ≡ true = sym off ∙ on in absurd (cc)
 
-module _ (i p : ℕ) (seen_by : Image) (leaves : Outcomes) (c : Parts) (w : Core) (f : Fits seen_by leaves c w) (low : 1 ≤ i) (high : i ≤ 8) where
+module _ (i p : ℕ) (seen_by : DeviceImages) (leaves : Outcomes) (c : Parts) (w : Core) (f : Fits seen_by leaves c w) (low : 1 ≤ i) (high : i ≤ 8) where
   abbrev m : State
   m = w.scene.state
 
@@ -154,7 +154,7 @@ module _ (i p : ℕ) (seen_by : Image) (leaves : Outcomes) (c : Parts) (w : Core
           names = refl;
           first = (refl, first-three, tt);
           passes = (tt, (tt, ((λ lost. off-on (is_lost (w.pages.entry p)) (ap is_lost place ∙ there) lost), tt)));
-          says = λ e. ap (λ (x : Entry). holds x i) place ∙ away;
+          says = λ e. ap (λ (x : PageEntry). holds x i) place ∙ away;
           place = is ∙ sym place;
           leaves = refl;
         })
@@ -162,7 +162,7 @@ module _ (i p : ℕ) (seen_by : Image) (leaves : Outcomes) (c : Parts) (w : Core
 
     module _ (held_here : holds (entry_at c.directory p) i ≡ true) where
       holds_on : holds (w.pages.entry p) i ≡ true
-      holds_on = ap (λ (x : Entry). holds x i) place ∙ held_here
+      holds_on = ap (λ (x : PageEntry). holds x i) place ∙ held_here
 
       not-lost : is_lost (w.pages.entry p) ≡ true → ⊥
       not-lost lost = held-there (w.pages.entry p) i holds_on lost
@@ -215,7 +215,7 @@ module _ (i p : ℕ) (seen_by : Image) (leaves : Outcomes) (c : Parts) (w : Core
 pub record Lists {G : Type 0} (tell : Telling G) (i : ℕ) (c : Complex G) : Type 0 where
   pub low : 1 ≤ i
   pub high : i ≤ 8
-  pub now : (img : Image) → tell.since c.rig (tell.moment c.rig) img → Leaves (tell.leaves c.rig) img
+  pub now : (img : DeviceImages) → tell.since c.rig (tell.moment c.rig) img → Leaves (tell.leaves c.rig) img
 
 -- a pool that is used has its frames
 pub used-frames : (pool : Buffers) (p : ℕ) (copy : Option Page) → (option_map_or (with_page pool p) copy pool).frames ≡ pool.frames

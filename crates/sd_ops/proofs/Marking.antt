@@ -12,7 +12,7 @@ use Rattle.sd_model.specs.Scenes.{is_running}
 use Rattle.sd_model.specs.State.{Part, State}
 use Rattle.sd_model.specs.declared.event.Event.TheVariants.{Save}
 use Rattle.sd_model.specs.declared.event.Reply.TheVariants as reply
-use Rattle.sd_rig.specs.Devices.{Image}
+use Rattle.sd_rig.specs.Devices.{DeviceImages}
 use Rattle.sd_txn.specs.Transactions.{OthersStay, Transaction, saved, state_at, txn_at}
 use Rattle.sd_txn.specs.declared.state.TxnState.{TxnState}
 use Rattle.sd_chain.specs.Records.{home}
@@ -52,7 +52,7 @@ saved-span name (Some x) = refl
 abbrev marked_part : List ℕ → Part → Part
 marked_part name p = record p { marks = with_mark name (length (live p.acts)) p.marks }
 
-module _ (t : TxnId) (name : List ℕ) (seen : Image) (leaves : Outcomes) (c new : Parts) (low : 1 ≤ home t) (high : home t ≤ 8)
+module _ (t : TxnId) (name : List ℕ) (seen : DeviceImages) (leaves : Outcomes) (c new : Parts) (low : 1 ≤ home t) (high : home t ≤ 8)
     (up : status_at c (home t) ≡ S.Up) (state : state_at (txns_at c (home t)) t ≡ Some TxnState.Running) where
   -- the mark is set, and all wait as before
   pub marked-half : new ≡ with_txns (home t) (txns_at new (home t)) c

@@ -10,11 +10,11 @@ use Rattle.sd_model.specs.declared.act.Act.{Act}
 use Rattle.sd_model.specs.declared.act.Claim.{Claim}
 use Rattle.sd_model.specs.declared.act.Life.{Life}
 use Rattle.sd_pagelock.specs.Directory.{entry_at}
-use Rattle.sd_pagelock.specs.Places.{Entry, holds_as, is_lost, owns}
+use Rattle.sd_pagelock.specs.Places.{PageEntry, holds_as, is_lost, owns}
 use Rattle.sd_reclock.specs.Answers.{IsFree}
 use Rattle.sd_reclock.specs.Locks.{stands, wait_for, waits_in}
 use Rattle.sd_reclock.specs.declared.wait.Asked.{Asked}
-use Rattle.sd_rig.specs.Devices.{Image}
+use Rattle.sd_rig.specs.Devices.{DeviceImages}
 use Rattle.sd_sound.specs.Logs.{Outcomes}
 use Rattle.sd_chain.specs.Pages.{value}
 use Rattle.sd_chain.specs.Records.{home}
@@ -28,7 +28,7 @@ use Rattle.sd_fits.proofs.Values.{copy-seen}
 use Rattle.sd_ops.specs.Puts.{IsGranted}
 use Rattle.sd_ops.proofs.Held.{as-held}
 
-module _ (t : TxnId) (r : Rid) (seen_by : Image) (leaves : Outcomes) (c : Parts) (up : status_at c (home t) ≡ S.Up)
+module _ (t : TxnId) (r : Rid) (seen_by : DeviceImages) (leaves : Outcomes) (c : Parts) (up : status_at c (home t) ≡ S.Up)
     (free : IsFree (stands c.locks) t (wait_for r modes.Excl)) (mine : holds_as modes.Excl (entry_at c.directory r.page) (home t) ≡ true)
     (w : Core) (f : Fits seen_by leaves c w) (runs : (w.scene.state.part t).life ≡ Life.Running) where
   abbrev m : State
@@ -39,17 +39,17 @@ module _ (t : TxnId) (r : Rid) (seen_by : Image) (leaves : Outcomes) (c : Parts)
   sees = copy-seen seen_by leaves c m t r modes.Excl f.good up runs free (as-held modes.Excl (entry_at c.directory r.page) (home t) mine)
 
   pub owned-there : owns (w.pages.entry r.page) (home t) ≡ false → ⊥
-  owned-there away = let clash = sym away ∙ ap (λ (e : Entry). owns e (home t)) (f.pages.entry r.page) ∙ mine in absurd (cc)
+  owned-there away = let clash = sym away ∙ ap (λ (e : PageEntry). owns e (home t)) (f.pages.entry r.page) ∙ mine in absurd (cc)
 
   pub not-lost : is_lost (w.pages.entry r.page) ≡ true → ⊥
-  not-lost lost = by (w.pages.entry r.page) (ap (λ (e : Entry). owns e (home t)) (f.pages.entry r.page) ∙ mine) lost
+  not-lost lost = by (w.pages.entry r.page) (ap (λ (e : PageEntry). owns e (home t)) (f.pages.entry r.page) ∙ mine) lost
     where
-      by : (e : Entry) → owns e (home t) ≡ true → is_lost e ≡ true → ⊥
-      by Entry.Free h l = cc
-      by (Entry.Shared set writer) h l = cc
-      by (Entry.Excl holder dirty) h l = cc
-      by (Entry.Moving to mode left dirty) h l = cc
-      by Entry.Lost h l = cc
+      by : (e : PageEntry) → owns e (home t) ≡ true → is_lost e ≡ true → ⊥
+      by PageEntry.Free h l = cc
+      by (PageEntry.Shared set writer) h l = cc
+      by (PageEntry.Excl holder dirty) h l = cc
+      by (PageEntry.Moving to mode left dirty) h l = cc
+      by PageEntry.Lost h l = cc
 
   -- and once it has the lock, that is read.
   pub looked-fits : (b : Bounds) → FitsBounds seen_by leaves c b → (mid : Parts) → IsGranted t r modes.Excl c mid

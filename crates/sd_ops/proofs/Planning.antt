@@ -6,7 +6,7 @@ use Rattle.sd_base.specs.Values.{size}
 use Rattle.sd_base.specs.declared.refusal.Refusal.{Refusal}
 use Rattle.sd_base.specs.declared.refusal.Refusal.TheVariants as R
 use Rattle.sd_model.specs.Numbers.{Sums}
-use Rattle.sd_page.specs.Page.{Fits, Page, Slot, SlotFits, capacity_at, value_at}
+use Rattle.sd_page.specs.Page.{Page, PageFits, Slot, SlotFits, capacity_at, value_at}
 use Rattle.sd_chain.specs.Pages.{capacity, value}
 use Rattle.sd_chain.proofs.Slots.{has-slot, value-at}
 use Rattle.sd_ops.specs.declared.edits.Edit.{Edit}
@@ -39,7 +39,7 @@ pub sum-fitted : {X : Type 0} (own : ℕ) (u v : List ℕ) (by : ℤ) (result : 
 sum-fitted own u v by (Ok plan) sums f = fitted-sum own u v by sums plan f
 sum-fitted own u v by (Err e) sums f = tt
 
-module _ (page : Page) (s own : ℕ) (u : List ℕ) (fits : Fits page) (found : value_at page.slots s ≡ Some u)
+module _ (page : Page) (s own : ℕ) (u : List ℕ) (fits : PageFits page) (found : value_at page.slots s ≡ Some u)
     (has : capacity_at page.slots s ≡ Some own) where
   place : s < length page.slots
   place = (has-slot page.slots s own has).0

@@ -23,13 +23,13 @@ use Rattle.sd_pagelock.specs.Rows.{dirtied}
 use Rattle.sd_reclock.specs.Answers.{IsFree}
 use Rattle.sd_reclock.specs.Locks.{stands, wait_for, waits_in}
 use Rattle.sd_reclock.specs.declared.wait.Asked.{Asked}
-use Rattle.sd_rig.specs.Devices.{Image}
+use Rattle.sd_rig.specs.Devices.{DeviceImages}
 use Rattle.sd_sound.specs.Logs.{Outcomes}
 use Rattle.sd_chain.specs.Pages.{redo}
 use Rattle.sd_chain.specs.Records.{home}
 use Rattle.sd_world.specs.Answers.{changes}
 use Rattle.sd_world.specs.Bounds.{Bounds, bounds_after, cost, counts, with_slot}
-use Rattle.sd_world.specs.Pages.{Pages, numbered, placed}
+use Rattle.sd_world.specs.Pages.{Pages, numbered, page_placed}
 use Rattle.sd_world.specs.Serving.{Core}
 use Rattle.sd_state.specs.Changing.{Change, change_of, changed_log, flat_of, image_for, putting, with_changed}
 use Rattle.sd_state.specs.Good.{Good}
@@ -51,7 +51,7 @@ put-last (Act.Read q u ∷ xs) r v w = put-last xs r v w
 put-last (Act.Put q u ∷ xs) r v w = tt
 put-last (Act.Undo ∷ xs) r v w = put-last xs r v w
 
-module _ (t : TxnId) (r : Rid) (capacity : ℕ) (after : Content) (seen_by : Image) (leaves : Outcomes) (c new : Parts)
+module _ (t : TxnId) (r : Rid) (capacity : ℕ) (after : Content) (seen_by : DeviceImages) (leaves : Outcomes) (c new : Parts)
     (up : status_at c (home t) ≡ S.Up) (free : IsFree (stands c.locks) t (wait_for r modes.Excl))
     (mine : holds_as modes.Excl (entry_at c.directory r.page) (home t) ≡ true)
     (there : IsPutThere seen_by leaves t r capacity after c new)
@@ -97,7 +97,7 @@ module _ (t : TxnId) (r : Rid) (capacity : ℕ) (after : Content) (seen_by : Ima
 
   -- the pages, with the record's LSN
   abbrev pages_then : Pages
-  pages_then = numbered r.page k.lsn (placed r.page (dirtied (home t)) w.pages)
+  pages_then = numbered r.page k.lsn (page_placed r.page (dirtied (home t)) w.pages)
 
   number-below : w.pages.number r.page < k.lsn
   number-below =
@@ -134,7 +134,7 @@ module _ (t : TxnId) (r : Rid) (capacity : ℕ) (after : Content) (seen_by : Ima
 
 -- ---- what is left by a refusal of the change
 
-module _ (seen_by : Image) (leaves : Outcomes) (c new : Parts) (low : IsLowered c new) (w : Core) (f : Fits seen_by leaves c w) where
+module _ (seen_by : DeviceImages) (leaves : Outcomes) (c new : Parts) (low : IsLowered c new) (w : Core) (f : Fits seen_by leaves c w) where
   pub lowered-fits : (b : Bounds) → FitsBounds seen_by leaves c b
       → Fits seen_by leaves new (record { scene = w.scene; pages = w.pages; bounds = b })
   lowered-fits b bounds = subst (λ (x : Parts). Fits seen_by leaves x (record { scene = w.scene; pages = w.pages; bounds = b })) (sym low.rest)

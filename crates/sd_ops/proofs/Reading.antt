@@ -11,7 +11,7 @@ use Rattle.sd_base.specs.declared.refusal.Refusal.{Refusal}
 use Rattle.sd_base.specs.declared.refusal.Refusal.TheVariants as R
 use Rattle.sd_model.specs.Applies.{Locked, PassesAll}
 use Rattle.sd_model.specs.State.{State, read_at, view}
-use Rattle.sd_model.specs.StepLaws.{IsReady}
+use Rattle.sd_model.specs.StepLaws.{MayAct}
 use Rattle.sd_model.specs.Tables.{Content}
 use Rattle.sd_model.specs.declared.act.Act.{Act}
 use Rattle.sd_model.specs.declared.act.Claim.{Claim}
@@ -19,11 +19,11 @@ use Rattle.sd_model.specs.declared.cause.Cause.{Cause}
 use Rattle.sd_model.specs.declared.event.Event.TheVariants as event
 use Rattle.sd_model.specs.declared.event.Reply.TheVariants as reply
 use Rattle.sd_pagelock.specs.Directory.{entry_at}
-use Rattle.sd_pagelock.specs.Places.{Entry, holds, is_lost, seen}
+use Rattle.sd_pagelock.specs.Places.{PageEntry, holds, is_lost, seen}
 use Rattle.sd_reclock.specs.Answers.{IsFree, IsRefused}
 use Rattle.sd_reclock.specs.Locks.{held, raised, stands, wait_for, waits, waits_in}
 use Rattle.sd_reclock.specs.declared.wait.Asked.{Asked}
-use Rattle.sd_rig.specs.Devices.{Image}
+use Rattle.sd_rig.specs.Devices.{DeviceImages}
 use Rattle.sd_sound.specs.Logs.{Outcomes}
 use Rattle.sd_chain.specs.Pages.{value}
 use Rattle.sd_chain.specs.Records.{home}
@@ -59,9 +59,9 @@ read-work t r = record {
   unused = λ m r. tt;
 }
 
-module _ (t : TxnId) (r : Rid) (seen_by : Image) (leaves : Outcomes) (c : Parts) (low : 1 ≤ home t) (high : home t ≤ 8)
+module _ (t : TxnId) (r : Rid) (seen_by : DeviceImages) (leaves : Outcomes) (c : Parts) (low : 1 ≤ home t) (high : home t ≤ 8)
     (up : status_at c (home t) ≡ S.Up) (state : state_at (txns_at c (home t)) t ≡ Some TxnState.Running) where
-  ready-here : (w : Core) → Fits seen_by leaves c w → IsReady w.scene.state t
+  ready-here : (w : Core) → Fits seen_by leaves c w → MayAct w.scene.state t
   ready-here w f = is-ready seen_by leaves Pending.Idle c w.scene.state f.good t low high up state
 
   head : (w : Core) → Fits seen_by leaves c w
@@ -119,7 +119,7 @@ module _ (t : TxnId) (r : Rid) (seen_by : Image) (leaves : Outcomes) (c : Parts)
       first = (refl, (h.0, (h.1.0, (h.1.1.0, (h.1.1.1.0, (unlocked w f, (tt, tt)))))), tt);
       refuses = refl;
       passes = (tt, (tt, (tt, (tt, (tt, (not-lost w f there, tt))))));
-      says = λ b. ap (λ (e : Entry). holds e (home t)) (f.pages.entry r.page) ∙ away;
+      says = λ b. ap (λ (e : PageEntry). holds e (home t)) (f.pages.entry r.page) ∙ away;
       place = is ∙ sym (f.pages.entry r.page);
       leaves = refl;
       allows = tt;
@@ -158,17 +158,17 @@ module _ (t : TxnId) (r : Rid) (seen_by : Image) (leaves : Outcomes) (c : Parts)
         then = turned_to w (read_at t r v m) w.scene.waits w.pages (event.Read t r) (reply.Value v)
 
         there : is_lost (w.pages.entry r.page) ≡ true → ⊥
-        there lost = holds-there (w.pages.entry r.page) (ap (λ (e : Entry). holds e (home t)) (f.pages.entry r.page) ∙ held_there) lost
+        there lost = holds-there (w.pages.entry r.page) (ap (λ (e : PageEntry). holds e (home t)) (f.pages.entry r.page) ∙ held_there) lost
           where
-            holds-there : (e : Entry) → holds e (home t) ≡ true → is_lost e ≡ true → ⊥
-            holds-there Entry.Lost h l = cc
-            holds-there Entry.Free h l = cc
-            holds-there (Entry.Shared set writer) h l = cc
-            holds-there (Entry.Excl holder dirty) h l = cc
-            holds-there (Entry.Moving to mode left dirty) h l = cc
+            holds-there : (e : PageEntry) → holds e (home t) ≡ true → is_lost e ≡ true → ⊥
+            holds-there PageEntry.Lost h l = cc
+            holds-there PageEntry.Free h l = cc
+            holds-there (PageEntry.Shared set writer) h l = cc
+            holds-there (PageEntry.Excl holder dirty) h l = cc
+            holds-there (PageEntry.Moving to mode left dirty) h l = cc
 
         near : holds (w.pages.entry r.page) (home t) ≡ false → ⊥
-        near away = let clash = sym away ∙ ap (λ (e : Entry). holds e (home t)) (f.pages.entry r.page) ∙ held_there in absurd (cc)
+        near away = let clash = sym away ∙ ap (λ (e : PageEntry). holds e (home t)) (f.pages.entry r.page) ∙ held_there in absurd (cc)
 
         turns : HalfTurns None w (event.Read t r) (reply.Value v) then
         turns = let h = head w f in record {

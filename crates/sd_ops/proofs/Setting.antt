@@ -12,7 +12,7 @@ use Rattle.sd_logrec.specs.Spelling.{IsTxn}
 use Rattle.sd_model.specs.State.{State}
 use Rattle.sd_model.specs.declared.act.Life.{Life}
 use Rattle.sd_reclock.specs.Locks.{IsNoStronger, raised}
-use Rattle.sd_rig.specs.Devices.{Image}
+use Rattle.sd_rig.specs.Devices.{DeviceImages}
 use Rattle.sd_sound.specs.Logs.{Outcomes}
 use Rattle.sd_chain.specs.Records.{home}
 use Rattle.sd_pool.specs.Buffers.{Buffers}
@@ -82,7 +82,7 @@ lowered-same old mid new t r was mode had given lowered u q = ⊎_elim
 -- ---- names
 
 -- a transaction that runs has a name of the grammar
-pub running-named : (seen : Image) (leaves : Outcomes) (pend : Pending) (c : Parts) (m : State) (t : TxnId) → Good seen leaves pend c m
+pub running-named : (seen : DeviceImages) (leaves : Outcomes) (pend : Pending) (c : Parts) (m : State) (t : TxnId) → Good seen leaves pend c m
     → (m.part t).life ≡ Life.Running → 1 ≤ home t → home t ≤ 8 → t.epoch < 2 ^ 32 → t.seq < 2 ^ 32 → IsTxn t
 running-named seen leaves pend c m t g runs low high epoch seq =
     let number = g.numbered t (λ gone. let clash = sym runs ∙ gone in absurd (cc)) in

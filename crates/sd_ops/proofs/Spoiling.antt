@@ -21,7 +21,7 @@ use Rattle.sd_pagelock.specs.Directory.{entry_at}
 use Rattle.sd_pagelock.specs.Places.{holds_as, is_lost, owns}
 use Rattle.sd_reclock.specs.Answers.{IsFree}
 use Rattle.sd_reclock.specs.Locks.{stands, wait_for}
-use Rattle.sd_rig.specs.Devices.{Image}
+use Rattle.sd_rig.specs.Devices.{DeviceImages}
 use Rattle.sd_sound.specs.Logs.{Outcomes}
 use Rattle.sd_chain.specs.Pages.{value}
 use Rattle.sd_chain.specs.Records.{home}
@@ -53,7 +53,7 @@ long-number u by s = (s.2.0, s.2.1)
 pub sum-number : (u : List ℕ) (by : ℤ) (w : List ℕ) → IsSum u by w → IsNumber u
 sum-number u by w s = (s.1.0, s.1.1)
 
-module _ (t : TxnId) (r : Rid) (seen_by : Image) (leaves : Outcomes) (c : Parts) (low : 1 ≤ home t) (high : home t ≤ 8)
+module _ (t : TxnId) (r : Rid) (seen_by : DeviceImages) (leaves : Outcomes) (c : Parts) (low : 1 ≤ home t) (high : home t ≤ 8)
     (up : status_at c (home t) ≡ S.Up) (state : state_at (txns_at c (home t)) t ≡ Some TxnState.Running)
     (free : IsFree (stands c.locks) t (wait_for r modes.Excl)) (mine : holds_as modes.Excl (entry_at c.directory r.page) (home t) ≡ true) where
   module _ (w : Core) (f : Fits seen_by leaves c w) where

@@ -11,10 +11,10 @@ use Rattle.sd_model.specs.State.{Part, State, committed, cut_commit, gone}
 use Rattle.sd_model.specs.declared.act.Claim.{Claim}
 use Rattle.sd_model.specs.declared.act.Life.{Life}
 use Rattle.sd_model.proofs.Views.{part-elsewhere}
-use Rattle.sd_rig.specs.Devices.{Image}
+use Rattle.sd_rig.specs.Devices.{DeviceImages}
 use Rattle.sd_chain.specs.Bytes.{log_of, stable}
 use Rattle.sd_chain.specs.Fates.{Fate}
-use Rattle.sd_chain.specs.Image.{Recovered}
+use Rattle.sd_chain.specs.Storage.{Recovered}
 use Rattle.sd_chain.specs.Records.{Each, home, stack}
 use Rattle.sd_chain.proofs.Fates.{committed-fate}
 use Rattle.sd_state.specs.Images.{IsClaimed, IsOpenIn, Stands}
@@ -29,7 +29,7 @@ claimed-as m m' u log same c = record {
   claims = subst (λ (p : Part). Each (λ (x : Rec). p.claims (rid_of x) ≡ Claim.Excl) (stack u log)) (sym same) c.claims;
 }
 
-module _ (t : TxnId) (m : State) (img : Image) (s : Stands m (Pending.Commits t) img) where
+module _ (t : TxnId) (m : State) (img : DeviceImages) (s : Stands m (Pending.Commits t) img) where
   abbrev logs : ℕ → List Rec
   logs = (stable img).logs
 

@@ -10,9 +10,9 @@ use Rattle.sd_base.specs.declared.refusal.Refusal.TheVariants as R
 use Rattle.sd_chain.specs.Pages.{value}
 use Rattle.sd_chain.specs.Records.{home}
 use Rattle.sd_chain.proofs.Slots.{value-at}
-use Rattle.sd_page.specs.Page.{Fits, HasRoom, Page, Slot, empty_page}
+use Rattle.sd_page.specs.Page.{HasRoom, Page, PageFits, Slot, empty_page}
 use Rattle.sd_page.specs.Reading.{entry_place, two_at}
-use Rattle.sd_page.specs.Spelling.{length_word, spelling}
+use Rattle.sd_page.specs.Spelling.{length_word, page_spelling}
 use Rattle.sd_page.proofs.Opened.{slot_at}
 use Rattle.sd_pool.specs.Buffers.{image_at}
 use Rattle.sd_state.specs.Changing.{image_for}
@@ -36,7 +36,7 @@ word-none None n le small is = refl
 word-none (Some v) n le small is = absurd (omega (arith, le, small, is))
 
 -- an entry says of its slot whether it is dead
-pub dead-word : (bytes : List ℕ) (page : Page) (s : ℕ) → Fits page → bytes ≡ spelling page → s < length page.slots
+pub dead-word : (bytes : List ℕ) (page : Page) (s : ℕ) → PageFits page → bytes ≡ page_spelling page → s < length page.slots
     → (two_at bytes (entry_place s + 4) ≡ 65535 → value page.slots s ≡ None)
     × (value page.slots s ≡ None → two_at bytes (entry_place s + 4) ≡ 65535)
 dead-word bytes page s fits spelled lt =
@@ -51,7 +51,7 @@ dead-word bytes page s fits spelled lt =
 pub copy-is : (t : TxnId) (p : ℕ) (c : Parts) (page : Page) → image_at (pool_at c (home t)) p ≡ Some page → page ≡ image_for t p c
 copy-is t p c page is = sym (ap (λ (o : Option Page). unwrap_or o (empty_page p)) is)
 
-module _ (page : Page) (t : TxnId) (p asked : ℕ) (c : Parts) (fits : Fits page) where
+module _ (page : Page) (t : TxnId) (p asked : ℕ) (c : Parts) (fits : PageFits page) where
   -- a dead slot takes a record
   pub dead-vacant : (slot own : ℕ) → IsDead page t p asked c slot own → IsVacant page t p asked c slot own
   dead-vacant slot own dead = record {

@@ -7,25 +7,25 @@ use Rattle.sd_base.specs.declared.ids.TxnId.{TxnId}
 use Rattle.sd_base.specs.declared.place.Status.TheVariants as S
 use Rattle.sd_base.specs.declared.refusal.Refusal.{Refusal}
 use Rattle.sd_base.specs.declared.refusal.Refusal.TheVariants as R
-use Rattle.sd_model.specs.Applies.{First, IsBusy, IsRolling, PassesAll, Says, Serves as serving}
-use Rattle.sd_model.specs.Causes.{before, has, order}
+use Rattle.sd_model.specs.Applies.{First, IsBusy, IsRolling, MayServe, PassesAll, Says}
+use Rattle.sd_model.specs.Causes.{before, has_cause, order}
 use Rattle.sd_model.specs.Exact.{IsOfFreeSlot, NamesWhom}
 use Rattle.sd_model.specs.Fields.{txn_of}
 use Rattle.sd_model.specs.Refusing.{Names, NamesBusy, Refuses, Tells}
 use Rattle.sd_model.specs.Scenes.{asked_of}
 use Rattle.sd_model.specs.State.{State}
-use Rattle.sd_model.specs.StepLaws.{IsReady}
+use Rattle.sd_model.specs.StepLaws.{MayAct}
 use Rattle.sd_model.specs.declared.act.Life.{Life}
 use Rattle.sd_model.specs.declared.cause.Cause.{Cause}
 use Rattle.sd_model.specs.declared.event.Event.{Event}
 use Rattle.sd_model.specs.declared.event.Reply.{Reply}
 use Rattle.sd_model.specs.declared.event.Reply.TheVariants as reply
 use Rattle.sd_chain.specs.Records.{home}
-use Rattle.sd_rig.specs.Devices.{Image}
+use Rattle.sd_rig.specs.Devices.{DeviceImages}
 use Rattle.sd_sound.specs.Logs.{Outcomes}
 use Rattle.sd_txn.specs.Transactions.{IsUnresolved, Transaction, state_at, txn_at}
 use Rattle.sd_txn.specs.declared.state.TxnState.{TxnState}
-use Rattle.sd_world.specs.Answers.{Leaves, NamesPlace}
+use Rattle.sd_world.specs.Answers.{NamesPlace, RefusalLeaves}
 use Rattle.sd_world.specs.Bounds.{Allows}
 use Rattle.sd_world.specs.PageCauses.{NoneSays, PagesAgree}
 use Rattle.sd_world.specs.Serving.{AsksNear, Core, IsFault, answered, refused}
@@ -48,7 +48,7 @@ pub record IsFor (wanted : Option Rid) (w : Core) (e : Event) (n : Refusal) (cau
   pub passes : NoneSays w.scene.state w.pages e (before cause (order e))
   pub says : PagesAgree w.scene.state w.pages e cause
   pub place : NamesPlace w.scene.state w.pages e n
-  pub leaves : Leaves w.scene.state w.pages e n m' w.pages
+  pub leaves : RefusalLeaves w.scene.state w.pages e n m' w.pages
   pub allows : Allows w.scene.state w.bounds e n
   pub whom : NamesWhom w.scene (txn_of e) (asked_of e wanted) n
   pub unused : IsOfFreeSlot w.scene.state e wanted (reply.Refused n)
@@ -79,7 +79,7 @@ refused-turns wanted w e n cause m' h = record {
 }
 
 -- a refusal that leaves all as it was, of a call that noted no wait
-pub refused-half : (seen : Image) (leaves : Outcomes) (c : Parts) (wanted : Option Rid) (e : Event) (n : Refusal) (cause : Cause)
+pub refused-half : (seen : DeviceImages) (leaves : Outcomes) (c : Parts) (wanted : Option Rid) (e : Event) (n : Refusal) (cause : Cause)
     → ((asks : Waits) → noted e wanted (reply.Refused n) asks ≡ asks)
     → ((w : Core) → Fits seen leaves c w → IsFor wanted w e n cause w.scene.state)
     → (IsFault (reply.Refused n) → ⊥)
@@ -100,7 +100,7 @@ abbrev an_err : (X : Type 0) → Refusal → Result X Refusal
 an_err X n = Err n
 
 -- what a call of this answer promises, where it answers so
-pub err-half : {X : Type 0} (answer : X → Reply) (result : Result X Refusal) (e n : Refusal) (seen : Image) (leaves : Outcomes)
+pub err-half : {X : Type 0} (answer : X → Reply) (result : Result X Refusal) (e n : Refusal) (seen : DeviceImages) (leaves : Outcomes)
     (wanted : Option Rid) (ev : Event) (old new : Parts) → result ≡ Err e → e ≡ n
     → HalfServed seen leaves wanted ev (refused n) old new → HalfServed seen leaves wanted ev (answered answer result) old new
 err-half {X} answer result e n seen leaves wanted ev old new is same h =
@@ -114,8 +114,8 @@ pub record IsWork (e : Event) (t : TxnId) : Type 0 where
   pub rest : List Cause
   pub order : order e ≡ Cause.Shut ∷ Cause.NoTxn ∷ Cause.Down ∷ Cause.Busy ∷ rest
   pub txn : txn_of e ≡ t
-  pub serve : (m : State) → (m.inst t.inst).status ≡ S.Up → serving m e
-  pub serves : (m : State) → serving m e → (m.inst t.inst).status ≡ S.Up
+  pub serve : (m : State) → (m.inst t.inst).status ≡ S.Up → MayServe m e
+  pub serves : (m : State) → MayServe m e → (m.inst t.inst).status ≡ S.Up
   pub busy : (m : State) → IsRolling (m.part t).life → IsBusy m e
   pub works : (m : State) → IsBusy m e → IsRolling (m.part t).life
   pub names : (m : State) → NamesBusy m e t
@@ -123,9 +123,9 @@ pub record IsWork (e : Event) (t : TxnId) : Type 0 where
 
 -- what its order begins with
 first-of : (m : State) (e : Event) (t : TxnId) (cause : Cause) (k : IsWork e t)
-    → (has cause (Cause.Shut ∷ Cause.NoTxn ∷ Cause.Down ∷ Cause.Busy ∷ k.rest) ≡ true)
+    → (has_cause cause (Cause.Shut ∷ Cause.NoTxn ∷ Cause.Down ∷ Cause.Busy ∷ k.rest) ≡ true)
     × PassesAll m e (before cause (Cause.Shut ∷ Cause.NoTxn ∷ Cause.Down ∷ Cause.Busy ∷ k.rest)) × Says m e cause → First m e cause
-first-of m e t cause k h = subst (λ (os : List Cause). (has cause os ≡ true) × PassesAll m e (before cause os) × Says m e cause)
+first-of m e t cause k h = subst (λ (os : List Cause). (has_cause cause os ≡ true) × PassesAll m e (before cause os) × Says m e cause)
     (sym k.order) h
 
 passes-of : (w : Core) (e : Event) (t : TxnId) (cause : Cause) (k : IsWork e t)
@@ -133,7 +133,7 @@ passes-of : (w : Core) (e : Event) (t : TxnId) (cause : Cause) (k : IsWork e t)
     → NoneSays w.scene.state w.pages e (before cause (order e))
 passes-of w e t cause k h = subst (λ (os : List Cause). NoneSays w.scene.state w.pages e (before cause os)) (sym k.order) h
 
-module _ (e : Event) (t : TxnId) (k : IsWork e t) (seen : Image) (leaves : Outcomes) (c : Parts) (low : 1 ≤ home t) (high : home t ≤ 8)
+module _ (e : Event) (t : TxnId) (k : IsWork e t) (seen : DeviceImages) (leaves : Outcomes) (c : Parts) (low : 1 ≤ home t) (high : home t ≤ 8)
     (w : Core) (f : Fits seen leaves c w) where
   abbrev m : State
   m = w.scene.state
@@ -214,7 +214,7 @@ module _ (e : Event) (t : TxnId) (k : IsWork e t) (seen : Image) (leaves : Outco
   }
 
   -- A transaction that runs on an instance that is up is refused for none of these.
-  pub ready-passes : IsReady m t → PassesAll m e (Cause.Shut ∷ Cause.NoTxn ∷ Cause.Down ∷ Cause.Busy ∷ [])
+  pub ready-passes : MayAct m t → PassesAll m e (Cause.Shut ∷ Cause.NoTxn ∷ Cause.Down ∷ Cause.Busy ∷ [])
   ready-passes r = (
     f.good.not_closed,
     (
@@ -227,7 +227,7 @@ module _ (e : Event) (t : TxnId) (k : IsWork e t) (seen : Image) (leaves : Outco
   )
 
 -- a call that is refused at its head
-pub off-half : (e : Event) (t : TxnId) → IsWork e t → (seen : Image) (leaves : Outcomes) (c : Parts) → 1 ≤ home t → home t ≤ 8
+pub off-half : (e : Event) (t : TxnId) → IsWork e t → (seen : DeviceImages) (leaves : Outcomes) (c : Parts) → 1 ≤ home t → home t ≤ 8
     → (n : Refusal) → IsOff t c n → HalfServed seen leaves None e (refused n) c c
 off-half e t k seen leaves c low high R.NoTxn off = refused-half seen leaves c None e R.NoTxn Cause.NoTxn (λ asks. refl)
     (λ w f. unknown-for e t k seen leaves c low high w f off) (λ fault. fault)

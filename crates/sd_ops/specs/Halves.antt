@@ -17,7 +17,7 @@ use Rattle.sd_model.specs.declared.event.Reply.TheVariants as reply
 use Rattle.sd_pagelock.specs.Directory.{entry_at}
 use Rattle.sd_pagelock.specs.Places.{holds_as, is_lost, seen}
 use Rattle.sd_reclock.specs.Locks.{waits}
-use Rattle.sd_rig.specs.Devices.{Image}
+use Rattle.sd_rig.specs.Devices.{DeviceImages}
 use Rattle.sd_sound.specs.Logs.{Outcomes}
 use Rattle.sd_txn.specs.Transactions.{IsUnresolved, state_at}
 use Rattle.sd_txn.specs.declared.state.TxnState.TheVariants as states
@@ -45,7 +45,7 @@ pub record HalfTurns (wanted : Option Rid) (old : Core) (e : Event) (r : Reply) 
   pub sums : new.bounds ≡ bounds_after old.bounds e r
 
 -- From each world that these parts fit, the reply, which tells no fault, turns to one that the new ones fit; want of memory spares all.
-abbrev pub HalfServed : Image → (leaves : Outcomes) → Option Rid → Event → Option Reply → Parts → Parts → Type 0
+abbrev pub HalfServed : DeviceImages → (leaves : Outcomes) → Option Rid → Event → Option Reply → Parts → Parts → Type 0
 HalfServed seen leaves wanted e None old new = (w : Core) → Fits seen leaves old w → Fits seen leaves new w
 HalfServed seen leaves wanted e (Some r) old new =
     ((w : Core) → Fits seen leaves old w → (w' : Core) × HalfTurns wanted w e r w' × Fits seen leaves new w') × (IsFault r → ⊥)

@@ -8,7 +8,7 @@ use Rattle.sd_base.specs.declared.place.Mode.TheVariants as modes
 use Rattle.sd_model.specs.State.{State}
 use Rattle.sd_model.specs.Tables.{Content}
 use Rattle.sd_reclock.specs.Locks.{held, raised}
-use Rattle.sd_rig.specs.Devices.{Image}
+use Rattle.sd_rig.specs.Devices.{DeviceImages}
 use Rattle.sd_sound.specs.Logs.{Outcomes}
 use Rattle.sd_state.specs.Changing.{IsMade, change_of, putting}
 use Rattle.sd_state.specs.Good.{Good}
@@ -30,7 +30,7 @@ pub record IsLowered (old new : Parts) : Type 0 where
   pub waiting : new.locks.waiting ≡ old.locks.waiting
 
 -- The transaction has the record's exclusive lock, and set its value.
-pub record IsPutThere (seen : Image) (leaves : Outcomes) (t : TxnId) (r : Rid) (capacity : ℕ) (after : Content) (old new : Parts) : Type 0 where
+pub record IsPutThere (seen : DeviceImages) (leaves : Outcomes) (t : TxnId) (r : Rid) (capacity : ℕ) (after : Content) (old new : Parts) : Type 0 where
   pub mid : Parts
   pub granted : IsGranted t r modes.Excl old mid
   pub made : IsMade (change_of t r capacity after mid) mid new

@@ -3,7 +3,7 @@
 ghost use Rattle.std.specs.Prelude.{◌≡◌, None};
 ghost use Rattle.sd_model.specs.declared.event.Event.TheVariants as event;
 ghost use Rattle.sd_state.specs.Complexes.{parts};
-ghost use Rattle.sd_world.specs.Serving.{Core, did, found, telling};
+ghost use Rattle.sd_world.specs.Serving.{Core, did, found_reply, telling};
 ghost use Rattle.sd_fits.specs.Fits.{Fits};
 ghost use Rattle.sd_fits.specs.Serving.{Serving};
 ghost use Rattle.sd_ops.specs.Edits.{event_of};
@@ -25,7 +25,7 @@ use sd_state::Complex;
 /// and `Deadlock` by another's lock; `Lost` and `NeedPage` where the instance hasn't the page. `Memory` comes wherever there is none.
 pub fn read<G: Rig>(c: &mut Complex<G>, t: &TxnId, r: &Rid) -> Result<Option<Bytes>, Refusal>
     requires fits { (w : Core) × Fits (G.seen c.old.rig) (G.leaves c.old.rig) (parts c.old) w }
-    ensures served { Serving (telling G.seen G.leaves G.moment G.since G.faults) (event.Read t.now r.now) (found result) c.old c.new }
+    ensures served { Serving (telling G.seen G.leaves G.moment G.since G.faults) (event.Read t.now r.now) (found_reply result) c.old c.new }
     ensures rig { c.new.rig ≡ c.old.rig }
 {
     let _number = t.inst.get();
@@ -37,7 +37,7 @@ pub fn read<G: Rig>(c: &mut Complex<G>, t: &TxnId, r: &Rid) -> Result<Option<Byt
 // Reads a record, and ends the reader's wait. No page is used by it.
 fn value_for<G: Rig>(c: &mut Complex<G>, t: &TxnId, r: &Rid) -> Result<Option<Bytes>, Refusal>
     requires fits { (w : Core) × Fits (G.seen c.old.rig) (G.leaves c.old.rig) (parts c.old) w }
-    ensures served { Serving (telling G.seen G.leaves G.moment G.since G.faults) (event.Read t.now r.now) (found result) c.old c.new }
+    ensures served { Serving (telling G.seen G.leaves G.moment G.since G.faults) (event.Read t.now r.now) (found_reply result) c.old c.new }
     ensures rig { c.new.rig ≡ c.old.rig }
 {
     let done = look(c, t, r);
@@ -92,7 +92,7 @@ fn edit<G: Rig>(c: &mut Complex<G>, t: &TxnId, r: &Rid, edit: &Edit) -> Result<(
 // A read before the transaction's wait is ended.
 fn look<G: Rig>(c: &mut Complex<G>, t: &TxnId, r: &Rid) -> Result<Option<Bytes>, Refusal>
     requires fits { (w : Core) × Fits (G.seen c.old.rig) (G.leaves c.old.rig) (parts c.old) w }
-    ensures half { HalfServed (G.seen c.old.rig) (G.leaves c.old.rig) None (event.Read t.now r.now) (found result) (parts c.old) (parts c.new) }
+    ensures half { HalfServed (G.seen c.old.rig) (G.leaves c.old.rig) None (event.Read t.now r.now) (found_reply result) (parts c.old) (parts c.new) }
     ensures rig { c.new.rig ≡ c.old.rig }
 {
     at_work(c, t)?;

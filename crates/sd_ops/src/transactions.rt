@@ -9,7 +9,7 @@ ghost use Rattle.sd_state.specs.Complexes.{parts};
 ghost use Rattle.sd_state.specs.Parts.{status_at, txns_at};
 ghost use Rattle.sd_txn.specs.Transactions.{span_at, state_at};
 ghost use Rattle.sd_txn.specs.declared.state.TxnState.TheVariants.{Running};
-ghost use Rattle.sd_world.specs.Serving.{Core, began, did, telling};
+ghost use Rattle.sd_world.specs.Serving.{Core, began_reply, did, telling};
 ghost use Rattle.sd_fits.specs.Fits.{Fits};
 ghost use Rattle.sd_fits.specs.Serving.{Serving};
 ghost use Rattle.sd_ops.specs.Halves.{HalfServed};
@@ -29,7 +29,7 @@ use std::alloc::Global;
 /// refusal changes nothing, and no device is called.
 pub fn begin<G: Rig>(c: &mut Complex<G>, i: InstNo) -> Result<TxnId, Refusal>
     requires fits { (w : Core) × Fits (G.seen c.old.rig) (G.leaves c.old.rig) (parts c.old) w }
-    ensures served { Serving (telling G.seen G.leaves G.moment G.since G.faults) (event.Begin i) (began result) c.old c.new }
+    ensures served { Serving (telling G.seen G.leaves G.moment G.since G.faults) (event.Begin i) (began_reply result) c.old c.new }
     ensures rig { c.new.rig ≡ c.old.rig }
 {
     is_up(c, i)?;

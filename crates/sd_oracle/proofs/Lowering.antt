@@ -11,7 +11,7 @@ use Rattle.sd_model.specs.declared.act.Cut.{Cut}
 use Rattle.sd_model.specs.declared.act.Inst.{Inst}
 use Rattle.sd_model.specs.declared.act.Life.{Life}
 use Rattle.sd_model.specs.declared.act.Life.TheVariants.{Retained, Doubt}
-use Rattle.sd_model.specs.Claims.{raised}
+use Rattle.sd_model.specs.Claims.{raised_claim}
 use Rattle.sd_model.specs.State.{Part, gone, with_status}
 use Rattle.sd_model.specs.Changes.{IsLoser}
 use Rattle.sd_lists.specs.declared.standing.Standing.{Standing}
@@ -86,13 +86,13 @@ claims-kept F xs all new k x lt is excl kept e before r =
     let left = ap (λ l. claims_in l r) e ∙ claim_from-snoc Free all x r in
     let right = ap (λ l. claims_in l r) (take-more xs k x lt is) ∙ claim_from-snoc Free (take k xs) x r in
     left ∙ (⊎_elim
-    (λ (same : x.0 ≡ r). ap (λ b. cond b (raised x.1 (claims_in all r)) (claims_in all r)) (eq-same_rid x.0 r same) ∙ (ap (λ c. raised c (claims_in all r)) excl
-    ∙ sym (ap (λ b. left_claim (F r) (cond b (raised x.1 (claims_in (take k xs) r)) (claims_in (take k xs) r))) (eq-same_rid x.0 r same) ∙ (ap (λ c. left_claim (F r) (raised c (claims_in (take k xs) r))) excl ∙ ap (λ b. left_claim b Excl) (ap F (sym same) ∙ kept)))))
-    (λ (ne : x.0 ≢ r). ap (λ b. cond b (raised x.1 (claims_in all r)) (claims_in all r)) (ne-same_rid x.0 r ne) ∙ (before r
-    ∙ sym (ap (λ b. left_claim (F r) (cond b (raised x.1 (claims_in (take k xs) r)) (claims_in (take k xs) r))) (ne-same_rid x.0 r ne))))
+    (λ (same : x.0 ≡ r). ap (λ b. cond b (raised_claim x.1 (claims_in all r)) (claims_in all r)) (eq-same_rid x.0 r same) ∙ (ap (λ c. raised_claim c (claims_in all r)) excl
+    ∙ sym (ap (λ b. left_claim (F r) (cond b (raised_claim x.1 (claims_in (take k xs) r)) (claims_in (take k xs) r))) (eq-same_rid x.0 r same) ∙ (ap (λ c. left_claim (F r) (raised_claim c (claims_in (take k xs) r))) excl ∙ ap (λ b. left_claim b Excl) (ap F (sym same) ∙ kept)))))
+    (λ (ne : x.0 ≢ r). ap (λ b. cond b (raised_claim x.1 (claims_in all r)) (claims_in all r)) (ne-same_rid x.0 r ne) ∙ (before r
+    ∙ sym (ap (λ b. left_claim (F r) (cond b (raised_claim x.1 (claims_in (take k xs) r)) (claims_in (take k xs) r))) (ne-same_rid x.0 r ne))))
     (cases_rid x.0 r) ∙ ap (left_claim (F r)) (sym right))
 
-left-raised : (b : Bool) (mode c : Claim) → ((mode ≡ Excl → ⊥) ⊎ (b ≡ true)) → left_claim b c ≡ left_claim b (raised mode c)
+left-raised : (b : Bool) (mode c : Claim) → ((mode ≡ Excl → ⊥) ⊎ (b ≡ true)) → left_claim b c ≡ left_claim b (raised_claim mode c)
 left-raised true mode c h = refl
 left-raised false Free c h = refl
 left-raised false Shared Free h = refl
@@ -110,8 +110,8 @@ claims-dropped F xs all new k x lt is why e before r =
     let right = ap (λ l. claims_in l r) (take-more xs k x lt is) ∙ claim_from-snoc Free (take k xs) x r in
     ap (λ l. claims_in l r) e ∙ (before r ∙ (⊎_elim
     (λ (same : x.0 ≡ r). left-raised (F r) x.1 (claims_in (take k xs) r) (⊎_elim inl (λ (f : F x.0 ≡ true). inr (ap F (sym same) ∙ f)) (unkept x.1 (F x.0) why))
-    ∙ ap (λ b. left_claim (F r) (cond b (raised x.1 (claims_in (take k xs) r)) (claims_in (take k xs) r))) (sym (eq-same_rid x.0 r same)))
-    (λ (ne : x.0 ≢ r). ap (λ b. left_claim (F r) (cond b (raised x.1 (claims_in (take k xs) r)) (claims_in (take k xs) r))) (sym (ne-same_rid x.0 r ne)))
+    ∙ ap (λ b. left_claim (F r) (cond b (raised_claim x.1 (claims_in (take k xs) r)) (claims_in (take k xs) r))) (sym (eq-same_rid x.0 r same)))
+    (λ (ne : x.0 ≢ r). ap (λ b. left_claim (F r) (cond b (raised_claim x.1 (claims_in (take k xs) r)) (claims_in (take k xs) r))) (sym (ne-same_rid x.0 r ne)))
     (cases_rid x.0 r) ∙ ap (left_claim (F r)) (sym right)))
 
 -- what a reopening leaves of a transaction is nothing, or a loser

@@ -5,7 +5,7 @@ use Rattle.sd_model.specs.declared.act.Act.{Act}
 use Rattle.sd_model.specs.declared.act.Act.TheVariants.{Read, Put, Undo}
 use Rattle.sd_model.specs.declared.act.Done.{Done}
 use Rattle.sd_model.specs.Tables.{Content, Contents, contents}
-use Rattle.sd_model.specs.Acts.{Puts, undone, live_from, live, seen, after}
+use Rattle.sd_model.specs.Acts.{Puts, undone, live_from, live, seen_over, after}
 use Rattle.sd_model.specs.Listing.{AreIn, AreRising, AreRows}
 use Rattle.sd_oracle.specs.Rows.{AgreeAtRows, AgreeAtActs, AgreeAtDone}
 use Rattle.sd_base.proofs.SameIds.{cases_rid, ne-same_rid}
@@ -28,10 +28,10 @@ unfolding NonePut
 none-undone [] r n = n
 none-undone (p ∷ puts) r n = n.1
 
-none-seen : (base : Contents) (puts : Puts) (r : Rid) → NonePut puts r → seen base puts r ≡ base r
+none-seen : (base : Contents) (puts : Puts) (r : Rid) → NonePut puts r → seen_over base puts r ≡ base r
 unfolding NonePut
 none-seen base [] r n = refl
-none-seen base (p ∷ puts) r n = ap (λ (b : Bool). cond {A = Content} b p.1 (seen base puts r)) (ne-same_rid p.0 r n.0) ∙ none-seen base puts r n.1
+none-seen base (p ∷ puts) r n = ap (λ (b : Bool). cond {A = Content} b p.1 (seen_over base puts r)) (ne-same_rid p.0 r n.0) ∙ none-seen base puts r n.1
 
 act-known : (rows : List (Rid × List ℕ)) (p : ℕ) (table : Contents) (puts : Puts) (acts : List Act) (r : Rid) → r.page ≡ p → AgreeAtActs p table rows acts → NonePut puts r → (contents rows r ≡ table r) ⊎ NonePut (live_from puts acts) r
 unfolding NonePut
@@ -49,7 +49,7 @@ unfolding NonePut
 done-known rows p table base [] r e a = inr refl
 done-known rows p table base (d ∷ done) r e a = ⊎_elim
     inl
-    (λ (n : NonePut (live d.acts) r). ⊎_elim inl (λ (same : after (seen base (live d.acts)) done r ≡ seen base (live d.acts) r). inr (same ∙ none-seen base (live d.acts) r n)) (done-known rows p table (seen base (live d.acts)) done r e a.1))
+    (λ (n : NonePut (live d.acts) r). ⊎_elim inl (λ (same : after (seen_over base (live d.acts)) done r ≡ seen_over base (live d.acts) r). inr (same ∙ none-seen base (live d.acts) r n)) (done-known rows p table (seen_over base (live d.acts)) done r e a.1))
     (act-known rows p table [] d.acts r e a.0 tt)
 
 pub rows-whole : (rows : List (Rid × List ℕ)) (p : ℕ) (start : List (Rid × List ℕ)) (done : List Done) → AreIn p rows → AreRising rows

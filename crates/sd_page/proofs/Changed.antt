@@ -8,8 +8,8 @@ use Rattle.std.proofs.lemmas.Option.{slice_get_past}
 use Rattle.std.proofs.lemmas.Bool.{cases_lt}
 use Rattle.sd_page.specs.declared.op.Op.{Op}
 use Rattle.sd_base.specs.Values.{size}
-use Rattle.sd_page.specs.Page.{Slot, Page, applied, CanTake, empty_page, heap_end, capacity_for, HasRoom, SlotFits, Fits, written}
-use Rattle.sd_page.specs.Spelling.{two, four, eight, zeros, value_bytes, length_word, cell, entry, entries, spelling}
+use Rattle.sd_page.specs.Page.{Slot, Page, applied, CanTake, empty_page, heap_end, capacity_for, HasRoom, SlotFits, PageFits, written}
+use Rattle.sd_page.specs.Spelling.{two, four, eight, zeros, value_bytes, length_word, cell, entry, entries, page_spelling}
 use Rattle.sd_page.specs.Reading.{entry_place, two_at}
 use Rattle.sd_page.specs.Writing.{pasted}
 use Rattle.sd_page.proofs.Pieces.{pasted_at, pasted_skip, length-pasted, length-two, length-four, pasted-pasted}
@@ -25,7 +25,7 @@ pub stamp_images : (bytes piece new : List ℕ) (page : Page) (lsn : ℕ) → Im
 unfolding eight
 stamp_images bytes piece new page lsn i lt e w = record {
   fits = record { lsn = lt; number = i.fits.number; slots = i.fits.slots; room = i.fits.room };
-  spelled = w ∙ ap (λ (b : List ℕ). pasted b 0 piece) i.spelled ∙ ap (pasted (spelling page) 0) e ∙ stamped page lsn;
+  spelled = w ∙ ap (λ (b : List ℕ). pasted b 0 piece) i.spelled ∙ ap (pasted (page_spelling page) 0) e ∙ stamped page lsn;
 }
 
 -- the six writes of a push
@@ -50,16 +50,16 @@ push_images bytes a b c d e new page t n h place end word value i slot room p =
     let counts = two (length page.slots + 1) ++ two (heap_end page.slots + t.0) in
     let size = length-image bytes page i in
     let len : length v ≤ t.0 = length-value_bytes t.1 t.0 slot.value in
-    let b-is : b ≡ pasted (spelling page) 12 counts =
+    let b-is : b ≡ pasted (page_spelling page) 12 counts =
     p.second ∙ ap (λ (x : List ℕ). pasted x 14 (two end)) p.first
     ∙ pasted-counts bytes (n + 1) end size
     ∙ ap (λ k. pasted bytes 12 (two (k + 1) ++ two end)) p.count
     ∙ ap (λ k. pasted bytes 12 (two (length page.slots + 1) ++ two k)) (p.ends ∙ ap (λ k. k + t.0) p.offset)
     ∙ ap (λ (x : List ℕ). pasted x 12 counts) i.spelled in
     let b-long : length b ≡ 1024 =
-    ap length b-is ∙ length-pasted (spelling page) counts 12 (omega (arith, length-spelling page i.fits, length-append (two (length page.slots + 1)) (two (heap_end page.slots + t.0)), length-two (length page.slots + 1), length-two (heap_end page.slots + t.0))) ∙ length-spelling page i.fits in
-    let c-is : c ≡ pasted (pasted (spelling page) 12 counts) (heap_end page.slots) v =
-    p.third ∙ ap (λ (x : List ℕ). pasted x h value) b-is ∙ ap (λ k. pasted (pasted (spelling page) 12 counts) k value) p.offset ∙ ap (pasted (pasted (spelling page) 12 counts) (heap_end page.slots)) p.holds in
+    ap length b-is ∙ length-pasted (page_spelling page) counts 12 (omega (arith, length-spelling page i.fits, length-append (two (length page.slots + 1)) (two (heap_end page.slots + t.0)), length-two (length page.slots + 1), length-two (heap_end page.slots + t.0))) ∙ length-spelling page i.fits in
+    let c-is : c ≡ pasted (pasted (page_spelling page) 12 counts) (heap_end page.slots) v =
+    p.third ∙ ap (λ (x : List ℕ). pasted x h value) b-is ∙ ap (λ k. pasted (pasted (page_spelling page) 12 counts) k value) p.offset ∙ ap (pasted (pasted (page_spelling page) 12 counts) (heap_end page.slots)) p.holds in
     let c-long : length c ≡ 1024 = ap length p.third ∙ length-pasted b value h (omega (arith, b-long, p.offset, ap length p.holds, len, room)) ∙ b-long in
     let new-is : new ≡ pasted c place (entry h t) =
     p.last ∙ ap (λ (x : List ℕ). pasted x (place + 4) (two word)) (p.fifth ∙ ap (λ (x : List ℕ). pasted x (place + 2) (two t.0)) p.fourth)
@@ -69,8 +69,8 @@ push_images bytes a b c d e new page t n h place end word value i slot room p =
       fits = (fits-pushed page t i.fits slot room).fits;
       spelled =
           new-is ∙ ap (λ (x : List ℕ). pasted x place (entry h t)) c-is
-          ∙ ap (λ k. pasted (pasted (pasted (spelling page) 12 counts) (heap_end page.slots) v) k (entry h t)) (p.at ∙ ap entry_place p.count)
-          ∙ ap (λ k. pasted (pasted (pasted (spelling page) 12 counts) (heap_end page.slots) v) (entry_place (length page.slots)) (entry k t)) p.offset
+          ∙ ap (λ k. pasted (pasted (pasted (page_spelling page) 12 counts) (heap_end page.slots) v) k (entry h t)) (p.at ∙ ap entry_place p.count)
+          ∙ ap (λ k. pasted (pasted (pasted (page_spelling page) 12 counts) (heap_end page.slots) v) (entry_place (length page.slots)) (entry k t)) p.offset
           ∙ pushed page t i.fits slot room;
     }
 
@@ -122,7 +122,7 @@ rewrite_images bytes a b new page k value place offset capacity word piece i at 
     let len : length v ≤ at.slot.0 = length-value_bytes value at.slot.0 fits.value in
     let long = length-image bytes page i in
     let room = at.room in
-    let b-is : b ≡ pasted (spelling page) (heap_end xs) (cell t) =
+    let b-is : b ≡ pasted (page_spelling page) (heap_end xs) (cell t) =
     w.second
     ∙ ap (λ (x : List ℕ). pasted x (offset + length piece) (zeros (capacity - length piece))) w.first
     ∙ ap (λ k. pasted (pasted bytes k piece) (k + length piece) (zeros (capacity - length piece))) w.starts
@@ -135,8 +135,8 @@ rewrite_images bytes a b new page k value place offset capacity word piece i at 
       fits = (fits-rewritten page xs at.slot t at.back at.has refl fits).fits;
       spelled =
           w.last ∙ ap (λ (x : List ℕ). pasted x (place + 4) (two word)) b-is
-          ∙ ap (λ k. pasted (pasted (spelling page) (heap_end xs) (cell t)) (k + 4) (two word)) w.at
-          ∙ ap (λ k. pasted (pasted (spelling page) (heap_end xs) (cell t)) (entry_place (length xs) + 4) (two k)) w.says
+          ∙ ap (λ k. pasted (pasted (page_spelling page) (heap_end xs) (cell t)) (k + 4) (two word)) w.at
+          ∙ ap (λ k. pasted (pasted (page_spelling page) (heap_end xs) (cell t)) (entry_place (length xs) + 4) (two k)) w.says
           ∙ rewritten page xs at.slot t at.back at.has refl fits;
     })
 
@@ -210,7 +210,7 @@ cleared total e =
     ∙ ap (λ (l : List ℕ). zeros 8 ++ (zeros 4 ++ l)) (zeros-append 2 (total - 14) (total - 12) (omega arith))
     ∙ ap (λ (l : List ℕ). zeros 8 ++ (zeros 4 ++ (zeros 2 ++ l))) (zeros-append 2 (total - 16) (total - 14) (omega arith))
 
-spelling-empty : (page : Page) (total : ℕ) → page.lsn ≡ 0 → page.slots ≡ [] → total ≡ 1024 → spelling page ≡ zeros 8 ++ (four page.number ++ (zeros 2 ++ (two 16 ++ zeros (total - 16))))
+spelling-empty : (page : Page) (total : ℕ) → page.lsn ≡ 0 → page.slots ≡ [] → total ≡ 1024 → page_spelling page ≡ zeros 8 ++ (four page.number ++ (zeros 2 ++ (two 16 ++ zeros (total - 16))))
 spelling-empty page total l e t =
     spelling-header page
     ∙ ap (λ k. eight k ++ (four page.number ++ (two (length page.slots) ++ (two (heap_end page.slots) ++ body page)))) l
@@ -248,24 +248,24 @@ written-kept (s ∷ slots) (suc k) a b value lt = ap (λ (l : List Slot). s ∷ 
 
 -- ---- a change that the page can take keeps it one that has an image
 
-fits_with_lsn : (page : Page) (lsn : ℕ) → Fits page → lsn < 2 ^ 64 → Fits (with_lsn page lsn)
+fits_with_lsn : (page : Page) (lsn : ℕ) → PageFits page → lsn < 2 ^ 64 → PageFits (with_lsn page lsn)
 fits_with_lsn page lsn fits lt = record { lsn = lt; number = fits.number; slots = fits.slots; room = fits.room }
 
-kept_place : (page : Page) (k capacity : ℕ) (value : Option (List ℕ)) → Fits page → k < length page.slots → size value ≤ capacity_for page.slots k capacity → IfSome value (All (λ b. b < 256)) → Fits (with_slots page (written page.slots k capacity value))
+kept_place : (page : Page) (k capacity : ℕ) (value : Option (List ℕ)) → PageFits page → k < length page.slots → size value ≤ capacity_for page.slots k capacity → IfSome value (All (λ b. b < 256)) → PageFits (with_slots page (written page.slots k capacity value))
 kept_place page k capacity value fits lt within are_bytes =
-    let i : Images (spelling page) page = record { fits = fits; spelled = refl } in
-    let at = slot_at (spelling page) page k i lt in
-    let own : size value ≤ at.slot.0 = subst (IsWithin value) (capacity_for-at (spelling page) page k capacity at) within in
-    subst (λ (l : List Slot). Fits (with_slots page l)) (sym (written-at (spelling page) page k capacity value at))
+    let i : Images (page_spelling page) page = record { fits = fits; spelled = refl } in
+    let at = slot_at (page_spelling page) page k i lt in
+    let own : size value ≤ at.slot.0 = subst (IsWithin value) (capacity_for-at (page_spelling page) page k capacity at) within in
+    subst (λ (l : List Slot). PageFits (with_slots page l)) (sym (written-at (page_spelling page) page k capacity value at))
     (fits-rewritten page at.front at.slot (at.slot.0, value) at.back at.has refl (record { capacity = at.fits.capacity; value = own; bytes = are_bytes })).fits
 
-kept_end : (page : Page) (k capacity : ℕ) (value : Option (List ℕ)) → Fits page → k ≡ length page.slots → CanTake page.slots k capacity (size value) → IfSome value (All (λ b. b < 256)) → Fits (with_slots page (written page.slots k capacity value))
+kept_end : (page : Page) (k capacity : ℕ) (value : Option (List ℕ)) → PageFits page → k ≡ length page.slots → CanTake page.slots k capacity (size value) → IfSome value (All (λ b. b < 256)) → PageFits (with_slots page (written page.slots k capacity value))
 kept_end page k capacity value fits e can are_bytes =
     let own : size value ≤ capacity = omega (arith, can.within, capacity_for-past page.slots k capacity (omega (arith, e))) in
-    subst (λ (l : List Slot). Fits (with_slots page l)) (sym (ap (λ n. written page.slots n capacity value) e ∙ written-end page.slots capacity value))
+    subst (λ (l : List Slot). PageFits (with_slots page l)) (sym (ap (λ n. written page.slots n capacity value) e ∙ written-end page.slots capacity value))
     (fits-pushed page (capacity, value) fits (record { capacity = can.small e; value = own; bytes = are_bytes }) (can.room e)).fits
 
-pub change_fits : (op : Op) (lsn : ℕ) (page : Page) → Fits page → lsn < 2 ^ 64 → IfSome op.after (All (λ b. b < 256)) → CanTake page.slots op.slot op.capacity (size op.after) → Fits (applied op lsn page)
+pub change_fits : (op : Op) (lsn : ℕ) (page : Page) → PageFits page → lsn < 2 ^ 64 → IfSome op.after (All (λ b. b < 256)) → CanTake page.slots op.slot op.capacity (size op.after) → PageFits (applied op lsn page)
 change_fits op lsn page fits lt are_bytes can =
     ⊎_elim (λ below. fits_with_lsn _ lsn (kept_place page op.slot op.capacity op.after fits below can.within are_bytes) lt)
     (λ le. fits_with_lsn _ lsn (kept_end page op.slot op.capacity op.after fits (omega (arith, le, can.place)) can are_bytes) lt)

@@ -2,12 +2,12 @@
 use Rattle.std.proofs.Common.{◌≡◌, ℕ, ◌+◌, ◌<◌, ◌≤◌, [], ◌∷◌, ◌++◌, length, get_or, take, drop, sym, ap, subst, ◌∙◌, arith}
 use Rattle.std.proofs.lemmas.List.{take_more, length-take-le}
 use Rattle.sd_base.specs.Values.{size}
-use Rattle.sd_page.specs.Page.{Slot, Page, CanTake, written, Fits, SlotFits}
+use Rattle.sd_page.specs.Page.{Slot, Page, CanTake, written, PageFits, SlotFits}
 use Rattle.sd_page.proofs.Told.{Has, Has-at, Has-fits, Has-end, Has-count}
 use Rattle.sd_page.proofs.Opened.{no_slot}
 use Rattle.sd_page.proofs.Changed.{written-end, capacity_for-past}
 
-pub can_take : (page : Page) (k : ℕ) (s : Slot) → Fits page → k < length page.slots → s ≡ get_or page.slots k no_slot → CanTake (take k page.slots) k s.0 (size s.1)
+pub can_take : (page : Page) (k : ℕ) (s : Slot) → PageFits page → k < length page.slots → s ≡ get_or page.slots k no_slot → CanTake (take k page.slots) k s.0 (size s.1)
 can_take page k s fits lt e =
     let xs = take k page.slots in
     let ys = drop (k + 1) page.slots in

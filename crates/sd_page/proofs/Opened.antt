@@ -4,19 +4,19 @@ use Rattle.std.specs.Prelude.{slice_get, option_and_then, option_map}
 use Rattle.std.proofs.lemmas.List.{length-take-le}
 use Rattle.std.proofs.lemmas.Bool.{cases_eq}
 use Rattle.std.proofs.lemmas.Option.{slice_get-get_or, slice_get_past}
-use Rattle.sd_page.specs.Page.{Slot, Page, heap_end, value_at, capacity_at, SlotFits, Fits}
-use Rattle.sd_page.specs.Spelling.{value_bytes, length_word, spelling}
+use Rattle.sd_page.specs.Page.{Slot, Page, heap_end, value_at, capacity_at, SlotFits, PageFits}
+use Rattle.sd_page.specs.Spelling.{value_bytes, length_word, page_spelling}
 use Rattle.sd_page.specs.Reading.{field, two_at, four_at, eight_at, entry_place, slot_in, LiesInside, page_of, IsImage}
 use Rattle.sd_page.proofs.Parts.{IsWithin}
 use Rattle.sd_page.proofs.Told.{Has, Has-at, Has-fits, Has-end, told, told-lsn, told-number, told-count, told-end, told-offset, told-capacity, told-length, told-value, told-slot, IsImage-spelling}
 
 -- the bytes are the image of this page
 pub record Images (bytes : List ℕ) (page : Page) : Type 0 where
-  pub fits : Fits page
-  pub spelled : bytes ≡ spelling page
+  pub fits : PageFits page
+  pub spelled : bytes ≡ page_spelling page
 
 pub opened : (bytes : List ℕ) (page : Page) → IsImage bytes → page_of bytes ≡ page → Images bytes page
-opened bytes page image view = record { fits = subst Fits view image.fits; spelled = sym image.spelled ∙ ap spelling view }
+opened bytes page image view = record { fits = subst PageFits view image.fits; spelled = sym image.spelled ∙ ap page_spelling view }
 
 pub closed : (bytes : List ℕ) (page : Page) → Images bytes page → IsImage bytes × (page_of bytes ≡ page)
 closed bytes page images = (subst IsImage (sym images.spelled) (IsImage-spelling page images.fits), ap page_of images.spelled ∙ told page images.fits)
@@ -65,9 +65,9 @@ slot_at bytes page k i lt =
       got = slice_get-get_or page.slots k none lt;
       fits = (Has-fits page xs s ys has).1;
       room = omega (arith, i.fits.room, Has-end page xs s ys has);
-      offset = ap (λ (b : List ℕ). two_at b (entry_place k)) i.spelled ∙ ap (λ n. two_at (spelling page) (entry_place n)) (sym place) ∙ told-offset page xs s ys has;
-      capacity = ap (λ (b : List ℕ). two_at b (entry_place k + 2)) i.spelled ∙ ap (λ n. two_at (spelling page) (entry_place n + 2)) (sym place) ∙ told-capacity page xs s ys has;
-      word = ap (λ (b : List ℕ). two_at b (entry_place k + 4)) i.spelled ∙ ap (λ n. two_at (spelling page) (entry_place n + 4)) (sym place) ∙ told-length page xs s ys has;
+      offset = ap (λ (b : List ℕ). two_at b (entry_place k)) i.spelled ∙ ap (λ n. two_at (page_spelling page) (entry_place n)) (sym place) ∙ told-offset page xs s ys has;
+      capacity = ap (λ (b : List ℕ). two_at b (entry_place k + 2)) i.spelled ∙ ap (λ n. two_at (page_spelling page) (entry_place n + 2)) (sym place) ∙ told-capacity page xs s ys has;
+      word = ap (λ (b : List ℕ). two_at b (entry_place k + 4)) i.spelled ∙ ap (λ n. two_at (page_spelling page) (entry_place n + 4)) (sym place) ∙ told-length page xs s ys has;
       value = ap (λ (b : List ℕ). field b (heap_end xs) (length (value_bytes s.1))) i.spelled ∙ told-value page xs s ys has;
     }
 
@@ -95,7 +95,7 @@ value-bound bytes page k i lt d =
 abbrev pub no_slot : Slot
 no_slot = (0, None)
 
-pub few_slots : (page : Page) (k : ℕ) → Fits page → k < length page.slots → k < 168
+pub few_slots : (page : Page) (k : ℕ) → PageFits page → k < length page.slots → k < 168
 few_slots page k fits lt = omega (arith, fits.room)
 
 pub lies_inside : (bytes : List ℕ) (page : Page) (k : ℕ) → Images bytes page → k < length page.slots → LiesInside bytes k
@@ -105,7 +105,7 @@ pub slot_in-image : (bytes : List ℕ) (page : Page) (k : ℕ) → Images bytes 
 slot_in-image bytes page k i lt =
     let front : length (take k page.slots) ≡ k = length-take-le k page.slots (omega arith) in
     ap (λ (b : List ℕ). slot_in b k) i.spelled
-    ∙ ap (slot_in (spelling page)) (sym front)
+    ∙ ap (slot_in (page_spelling page)) (sym front)
     ∙ told-slot page (take k page.slots) (get_or page.slots k no_slot) (drop (k + 1) page.slots) (Has-at page i.fits k no_slot lt)
 
 pub value_of-slot : (page : Page) (k : ℕ) → k < length page.slots → value_at page.slots k ≡ (get_or page.slots k no_slot).1

@@ -6,8 +6,8 @@ use Rattle.std.proofs.lemmas.List.{append-nil, length-append, length-replicate, 
 use Rattle.std.proofs.lemmas.List.Sums.{sum_by-cons}
 use Rattle.std.proofs.lemmas.List.Concat.{flat_map-append}
 use Rattle.sd_base.specs.Values.{size}
-use Rattle.sd_page.specs.Page.{Slot, Page, heap_end, SlotFits, Fits}
-use Rattle.sd_page.specs.Spelling.{two, four, eight, zeros, value_bytes, length_word, cell, entry, entries, header, spelling}
+use Rattle.sd_page.specs.Page.{Slot, Page, heap_end, SlotFits, PageFits}
+use Rattle.sd_page.specs.Spelling.{two, four, eight, zeros, value_bytes, length_word, cell, entry, entries, header, page_spelling}
 use Rattle.sd_page.proofs.Pieces.{length-two, length-four, length-eight}
 
 -- the sum of the capacities
@@ -67,8 +67,8 @@ length-header page =
 abbrev pub gap : List Slot → List ℕ
 gap slots = zeros (1024 - heap_end slots - 6 * length slots)
 
-pub length-spelling : (page : Page) → Fits page → length (spelling page) ≡ 1024
-unfolding spelling
+pub length-spelling : (page : Page) → PageFits page → length (page_spelling page) ≡ 1024
+unfolding page_spelling
 length-spelling page fits =
     let heap = flat_map cell page.slots in
     let free = gap page.slots in
@@ -89,8 +89,8 @@ regroup : (a x c y g e m f : List ℕ) → a ++ ((x ++ (c ++ y)) ++ (g ++ ((e ++
 regroup a x c y g e m f = simp append_assoc
 
 pub spelling-split : (page : Page) (xs : List Slot) (s : Slot) (ys : List Slot) → page.slots ≡ xs ++ (s ∷ ys)
-    → spelling page ≡ header page ++ (flat_map cell xs ++ (cell s ++ (flat_map cell ys ++ (gap page.slots ++ (entries (heap_end xs + s.0) ys ++ (entry (heap_end xs) s ++ entries 16 xs))))))
-unfolding spelling
+    → page_spelling page ≡ header page ++ (flat_map cell xs ++ (cell s ++ (flat_map cell ys ++ (gap page.slots ++ (entries (heap_end xs + s.0) ys ++ (entry (heap_end xs) s ++ entries 16 xs))))))
+unfolding page_spelling
 spelling-split page xs s ys e =
     let heap : flat_map cell page.slots ≡ flat_map cell xs ++ (cell s ++ flat_map cell ys) = ap (flat_map cell) e ∙ flat_map-append cell xs (s ∷ ys) in
     let tail : entries 16 page.slots ≡ (entries (heap_end xs + s.0) ys ++ entry (heap_end xs) s) ++ entries 16 xs = ap (entries 16) e ∙ entries-append 16 xs (s ∷ ys) in

@@ -4,8 +4,8 @@ use Rattle.std.specs.List.{flat_map, AllByRecursion}
 use Rattle.std.proofs.lemmas.List.{length-append, length-take-le, same_lists}
 use Rattle.std.proofs.lemmas.List.FromFn.{length-map-range_with_len, get_or-map-range_with_len}
 use Rattle.std.proofs.lemmas.List.Sums.{sum_by-append, sum_by-cons}
-use Rattle.sd_page.specs.Page.{Slot, Page, heap_end, SlotFits, Fits}
-use Rattle.sd_page.specs.Spelling.{two, four, eight, zeros, value_bytes, length_word, cell, entry, entries, header, spelling}
+use Rattle.sd_page.specs.Page.{Slot, Page, heap_end, SlotFits, PageFits}
+use Rattle.sd_page.specs.Spelling.{two, four, eight, zeros, value_bytes, length_word, cell, entry, entries, header, page_spelling}
 use Rattle.sd_page.specs.Reading.{field, two_at, four_at, eight_at, entry_place, slot_in, page_of, IsImage}
 use Rattle.sd_page.proofs.Pieces.{field_skip, field_here, field_at, length-two, length-four, length-eight, two_at-is, four_at-is, eight_at-is}
 use Rattle.sd_page.proofs.Parts.{IsWithin, capacities, AllByRecursion-parts, slots_split, length-heap, length-entry, length-entries, length-header, gap, length-spelling, spelling-split}
@@ -33,8 +33,8 @@ page_of-slot bytes k d lt = get_or-map-range_with_len (slot_in bytes) 0 (two_at 
 unfoldable pub body : Page → List ℕ
 body page = flat_map cell page.slots ++ (gap page.slots ++ entries 16 page.slots)
 
-pub spelling-header : (page : Page) → spelling page ≡ eight page.lsn ++ (four page.number ++ (two (length page.slots) ++ (two (heap_end page.slots) ++ body page)))
-unfolding spelling body
+pub spelling-header : (page : Page) → page_spelling page ≡ eight page.lsn ++ (four page.number ++ (two (length page.slots) ++ (two (heap_end page.slots) ++ body page)))
+unfolding page_spelling body
 spelling-header page =
     let n = length page.slots in
     let h = heap_end page.slots in
@@ -42,28 +42,28 @@ spelling-header page =
     ∙ ap (λ (l : List ℕ). eight page.lsn ++ l) (append_assoc (four page.number) (two n ++ two h) (body page))
     ∙ ap (λ (l : List ℕ). eight page.lsn ++ (four page.number ++ l)) (append_assoc (two n) (two h) (body page))
 
-pub told-lsn : (page : Page) → Fits page → eight_at (spelling page) 0 ≡ page.lsn
+pub told-lsn : (page : Page) → PageFits page → eight_at (page_spelling page) 0 ≡ page.lsn
 told-lsn page fits =
-    eight_at-is (spelling page) 0 page.lsn fits.lsn (ap (λ (l : List ℕ). field l 0 8) (spelling-header page) ∙ field_here (eight page.lsn) _ 8 0 refl (length-eight page.lsn))
+    eight_at-is (page_spelling page) 0 page.lsn fits.lsn (ap (λ (l : List ℕ). field l 0 8) (spelling-header page) ∙ field_here (eight page.lsn) _ 8 0 refl (length-eight page.lsn))
 
-pub told-number : (page : Page) → Fits page → four_at (spelling page) 8 ≡ page.number
+pub told-number : (page : Page) → PageFits page → four_at (page_spelling page) 8 ≡ page.number
 told-number page fits =
-    four_at-is (spelling page) 8 page.number (omega (arith, fits.number))
+    four_at-is (page_spelling page) 8 page.number (omega (arith, fits.number))
     (ap (λ (l : List ℕ). field l 8 4) (spelling-header page)
     ∙ field_skip (eight page.lsn) _ 0 4 8 (omega (arith, length-eight page.lsn))
     ∙ field_here (four page.number) _ 4 0 refl (length-four page.number))
 
-pub told-count : (page : Page) → Fits page → two_at (spelling page) 12 ≡ length page.slots
+pub told-count : (page : Page) → PageFits page → two_at (page_spelling page) 12 ≡ length page.slots
 told-count page fits =
-    two_at-is (spelling page) 12 (length page.slots) (omega (arith, fits.room))
+    two_at-is (page_spelling page) 12 (length page.slots) (omega (arith, fits.room))
     (ap (λ (l : List ℕ). field l 12 2) (spelling-header page)
     ∙ field_skip (eight page.lsn) _ 4 2 12 (omega (arith, length-eight page.lsn))
     ∙ field_skip (four page.number) _ 0 2 4 (omega (arith, length-four page.number))
     ∙ field_here (two (length page.slots)) _ 2 0 refl (length-two (length page.slots)))
 
-pub told-end : (page : Page) → Fits page → two_at (spelling page) 14 ≡ heap_end page.slots
+pub told-end : (page : Page) → PageFits page → two_at (page_spelling page) 14 ≡ heap_end page.slots
 told-end page fits =
-    two_at-is (spelling page) 14 (heap_end page.slots) (omega (arith, fits.room))
+    two_at-is (page_spelling page) 14 (heap_end page.slots) (omega (arith, fits.room))
     (ap (λ (l : List ℕ). field l 14 2) (spelling-header page)
     ∙ field_skip (eight page.lsn) _ 6 2 14 (omega (arith, length-eight page.lsn))
     ∙ field_skip (four page.number) _ 2 2 6 (omega (arith, length-four page.number))
@@ -74,10 +74,10 @@ told-end page fits =
 
 -- the page has this slot behind these and before those
 pub record Has (page : Page) (xs : List Slot) (s : Slot) (ys : List Slot) : Type 0 where
-  pub fits : Fits page
+  pub fits : PageFits page
   pub parts : page.slots ≡ xs ++ (s ∷ ys)
 
-pub Has-at : (page : Page) → Fits page → (k : ℕ) (d : Slot) → k < length page.slots → Has page (take k page.slots) (get_or page.slots k d) (drop (k + 1) page.slots)
+pub Has-at : (page : Page) → PageFits page → (k : ℕ) (d : Slot) → k < length page.slots → Has page (take k page.slots) (get_or page.slots k d) (drop (k + 1) page.slots)
 Has-at page fits k d lt = record { fits = fits; parts = slots_split page.slots k d lt }
 
 pub Has-fits : (page : Page) (xs : List Slot) (s : Slot) (ys : List Slot) → Has page xs s ys → AllByRecursion SlotFits xs × SlotFits s × AllByRecursion SlotFits ys
@@ -99,7 +99,7 @@ before page xs s ys = header page ++ (flat_map cell xs ++ (cell s ++ (flat_map c
 regroup_before : (a x c y g e m : List ℕ) → a ++ (x ++ (c ++ (y ++ (g ++ (e ++ m))))) ≡ (a ++ (x ++ (c ++ (y ++ (g ++ e))))) ++ m
 regroup_before a x c y g e m = sym (simp append_assoc)
 
-pub spelling-entry : (page : Page) (xs : List Slot) (s : Slot) (ys : List Slot) → Has page xs s ys → spelling page ≡ before page xs s ys ++ (entry (heap_end xs) s ++ entries 16 xs)
+pub spelling-entry : (page : Page) (xs : List Slot) (s : Slot) (ys : List Slot) → Has page xs s ys → page_spelling page ≡ before page xs s ys ++ (entry (heap_end xs) s ++ entries 16 xs)
 unfolding before
 spelling-entry page xs s ys has =
     spelling-split page xs s ys has.parts
@@ -114,39 +114,39 @@ regroup_entry a o c l q = simp append_assoc
 
 -- the entry's three numbers, one after the other
 pub spelling-words : (page : Page) (xs : List Slot) (s : Slot) (ys : List Slot) → Has page xs s ys
-    → spelling page ≡ before page xs s ys ++ (two (heap_end xs) ++ (two s.0 ++ (two (length_word s.1) ++ entries 16 xs)))
+    → page_spelling page ≡ before page xs s ys ++ (two (heap_end xs) ++ (two s.0 ++ (two (length_word s.1) ++ entries 16 xs)))
 spelling-words page xs s ys has = spelling-entry page xs s ys has ∙ regroup_entry (before page xs s ys) (two (heap_end xs)) (two s.0) (two (length_word s.1)) (entries 16 xs)
 
 length_word-lt : (value : Option (List ℕ)) (n : ℕ) → IsWithin value n → n ≤ 256 → length_word value < 2 ^ 16
 length_word-lt None n h le = omega arith
 length_word-lt (Some bytes) n h le = omega (arith, h)
 
-pub told-offset : (page : Page) (xs : List Slot) (s : Slot) (ys : List Slot) → Has page xs s ys → two_at (spelling page) (entry_place (length xs)) ≡ heap_end xs
+pub told-offset : (page : Page) (xs : List Slot) (s : Slot) (ys : List Slot) → Has page xs s ys → two_at (page_spelling page) (entry_place (length xs)) ≡ heap_end xs
 told-offset page xs s ys has =
-    two_at-is (spelling page) (entry_place (length xs)) (heap_end xs) (omega (arith, has.fits.room, Has-end page xs s ys has))
+    two_at-is (page_spelling page) (entry_place (length xs)) (heap_end xs) (omega (arith, has.fits.room, Has-end page xs s ys has))
     (ap (λ (l : List ℕ). field l (entry_place (length xs)) 2) (spelling-words page xs s ys has)
     ∙ field_at (before page xs s ys) (two (heap_end xs)) _ (entry_place (length xs)) 2 (length-before page xs s ys has) (length-two (heap_end xs)))
 
-pub told-capacity : (page : Page) (xs : List Slot) (s : Slot) (ys : List Slot) → Has page xs s ys → two_at (spelling page) (entry_place (length xs) + 2) ≡ s.0
+pub told-capacity : (page : Page) (xs : List Slot) (s : Slot) (ys : List Slot) → Has page xs s ys → two_at (page_spelling page) (entry_place (length xs) + 2) ≡ s.0
 told-capacity page xs s ys has =
     let small : s.0 ≤ 256 = (Has-fits page xs s ys has).1.capacity in
-    two_at-is (spelling page) (entry_place (length xs) + 2) s.0 (omega (arith, small))
+    two_at-is (page_spelling page) (entry_place (length xs) + 2) s.0 (omega (arith, small))
     (ap (λ (l : List ℕ). field l (entry_place (length xs) + 2) 2) (spelling-words page xs s ys has)
     ∙ field_skip (before page xs s ys) _ 2 2 (entry_place (length xs) + 2) (omega (arith, length-before page xs s ys has))
     ∙ field_skip (two (heap_end xs)) _ 0 2 2 (omega (arith, length-two (heap_end xs)))
     ∙ field_here (two s.0) _ 2 0 refl (length-two s.0))
 
-pub told-length : (page : Page) (xs : List Slot) (s : Slot) (ys : List Slot) → Has page xs s ys → two_at (spelling page) (entry_place (length xs) + 4) ≡ length_word s.1
+pub told-length : (page : Page) (xs : List Slot) (s : Slot) (ys : List Slot) → Has page xs s ys → two_at (page_spelling page) (entry_place (length xs) + 4) ≡ length_word s.1
 told-length page xs s ys has =
     let fits = (Has-fits page xs s ys has).1 in
-    two_at-is (spelling page) (entry_place (length xs) + 4) (length_word s.1) (length_word-lt s.1 s.0 fits.value fits.capacity)
+    two_at-is (page_spelling page) (entry_place (length xs) + 4) (length_word s.1) (length_word-lt s.1 s.0 fits.value fits.capacity)
     (ap (λ (l : List ℕ). field l (entry_place (length xs) + 4) 2) (spelling-words page xs s ys has)
     ∙ field_skip (before page xs s ys) _ 4 2 (entry_place (length xs) + 4) (omega (arith, length-before page xs s ys has))
     ∙ field_skip (two (heap_end xs)) _ 2 2 4 (omega (arith, length-two (heap_end xs)))
     ∙ field_skip (two s.0) _ 0 2 2 (omega (arith, length-two s.0))
     ∙ field_here (two (length_word s.1)) _ 2 0 refl (length-two (length_word s.1)))
 
-pub told-value : (page : Page) (xs : List Slot) (s : Slot) (ys : List Slot) → Has page xs s ys → field (spelling page) (heap_end xs) (length (value_bytes s.1)) ≡ value_bytes s.1
+pub told-value : (page : Page) (xs : List Slot) (s : Slot) (ys : List Slot) → Has page xs s ys → field (page_spelling page) (heap_end xs) (length (value_bytes s.1)) ≡ value_bytes s.1
 told-value page xs s ys has =
     let value = value_bytes s.1 in
     ap (λ (l : List ℕ). field l (heap_end xs) (length value)) (spelling-split page xs s ys has.parts)
@@ -168,16 +168,16 @@ pub IsWithin-more : (value : Option (List ℕ)) (n m : ℕ) → IsWithin value n
 IsWithin-more None n m h le = omega arith
 IsWithin-more (Some bytes) n m h le = omega (arith, h)
 
-pub told-slot : (page : Page) (xs : List Slot) (s : Slot) (ys : List Slot) → Has page xs s ys → slot_in (spelling page) (length xs) ≡ s
+pub told-slot : (page : Page) (xs : List Slot) (s : Slot) (ys : List Slot) → Has page xs s ys → slot_in (page_spelling page) (length xs) ≡ s
 told-slot page xs s ys has =
     let fits = (Has-fits page xs s ys has).1 in
-    let value : field (spelling page) (two_at (spelling page) (entry_place (length xs))) (length (value_bytes s.1)) ≡ value_bytes s.1 =
-    ap (λ k. field (spelling page) k (length (value_bytes s.1))) (told-offset page xs s ys has) ∙ told-value page xs s ys has in
-    slot_in-is (spelling page) (length xs) s.0 s.1 (told-capacity page xs s ys has) (told-length page xs s ys has) (IsWithin-more s.1 s.0 256 fits.value fits.capacity) value
+    let value : field (page_spelling page) (two_at (page_spelling page) (entry_place (length xs))) (length (value_bytes s.1)) ≡ value_bytes s.1 =
+    ap (λ k. field (page_spelling page) k (length (value_bytes s.1))) (told-offset page xs s ys has) ∙ told-value page xs s ys has in
+    slot_in-is (page_spelling page) (length xs) s.0 s.1 (told-capacity page xs s ys has) (told-length page xs s ys has) (IsWithin-more s.1 s.0 256 fits.value fits.capacity) value
 
-told-slots : (page : Page) → Fits page → (page_of (spelling page)).slots ≡ page.slots
+told-slots : (page : Page) → PageFits page → (page_of (page_spelling page)).slots ≡ page.slots
 told-slots page fits =
-    let bytes = spelling page in
+    let bytes = page_spelling page in
     let count : length (page_of bytes).slots ≡ length page.slots = sym (page_of-count bytes) ∙ told-count page fits in
     same_lists (page_of bytes).slots page.slots count
     (λ k d lt. let below : k < length page.slots = omega (arith, lt, count) in
@@ -192,12 +192,12 @@ made lsn number slots = record { lsn = lsn; number = number; slots = slots }
 pub same_page : (p q : Page) → p.lsn ≡ q.lsn → p.number ≡ q.number → p.slots ≡ q.slots → p ≡ q
 same_page p q a b c = ap (λ x. made x p.number p.slots) a ∙ ap (λ x. made q.lsn x p.slots) b ∙ ap (λ x. made q.lsn q.number x) c
 
-pub told : (page : Page) → Fits page → page_of (spelling page) ≡ page
+pub told : (page : Page) → PageFits page → page_of (page_spelling page) ≡ page
 told page fits =
-    same_page (page_of (spelling page)) page (sym (page_of-lsn (spelling page)) ∙ told-lsn page fits) (sym (page_of-number (spelling page)) ∙ told-number page fits) (told-slots page fits)
+    same_page (page_of (page_spelling page)) page (sym (page_of-lsn (page_spelling page)) ∙ told-lsn page fits) (sym (page_of-number (page_spelling page)) ∙ told-number page fits) (told-slots page fits)
 
-pub IsImage-spelling : (page : Page) → Fits page → IsImage (spelling page)
-IsImage-spelling page fits = record { fits = subst Fits (sym (told page fits)) fits; spelled = ap spelling (told page fits) }
+pub IsImage-spelling : (page : Page) → PageFits page → IsImage (page_spelling page)
+IsImage-spelling page fits = record { fits = subst PageFits (sym (told page fits)) fits; spelled = ap page_spelling (told page fits) }
 
-pub one_spelling : (a b : Page) → Fits a → Fits b → spelling a ≡ spelling b → a ≡ b
+pub one_spelling : (a b : Page) → PageFits a → PageFits b → page_spelling a ≡ page_spelling b → a ≡ b
 one_spelling a b fits_a fits_b e = sym (told a fits_a) ∙ ap page_of e ∙ told b fits_b

@@ -3,8 +3,8 @@ use Rattle.std.proofs.Common.{◌≡◌, ℕ, ◌+◌, ◌-◌, ◌*◌, ◌≤�
 use Rattle.std.specs.List.{flat_map}
 use Rattle.std.proofs.lemmas.List.{length-append, length-replicate, replicate-append-replicate}
 use Rattle.std.proofs.lemmas.List.Sums.{sum_by-append, sum_by-cons}
-use Rattle.sd_page.specs.Page.{Slot, Page, heap_end, HasRoom, SlotFits, Fits}
-use Rattle.sd_page.specs.Spelling.{two, four, eight, zeros, value_bytes, length_word, cell, entry, entries, header, spelling}
+use Rattle.sd_page.specs.Page.{Slot, Page, heap_end, HasRoom, SlotFits, PageFits}
+use Rattle.sd_page.specs.Spelling.{two, four, eight, zeros, value_bytes, length_word, cell, entry, entries, header, page_spelling}
 use Rattle.sd_page.specs.Reading.{entry_place}
 use Rattle.sd_page.specs.Writing.{pasted}
 use Rattle.sd_page.proofs.Pieces.{pasted_skip, pasted_here, pasted_at, pasted-pasted, length-two, length-four, length-eight}
@@ -21,7 +21,7 @@ with_lsn page lsn = record { lsn = lsn; number = page.number; slots = page.slots
 
 -- ---- the LSN
 
-pub stamped : (page : Page) (lsn : ℕ) → pasted (spelling page) 0 (eight lsn) ≡ spelling (with_lsn page lsn)
+pub stamped : (page : Page) (lsn : ℕ) → pasted (page_spelling page) 0 (eight lsn) ≡ page_spelling (with_lsn page lsn)
 unfolding body
 stamped page lsn =
     ap (λ (l : List ℕ). pasted l 0 (eight lsn)) (spelling-header page)
@@ -77,7 +77,7 @@ regroup_words a x c y g e o k l q = simp append_assoc
 
 -- the cell of one slot, and then the length in its entry
 pub rewritten : (page : Page) (xs : List Slot) (s t : Slot) (ys : List Slot) → Has page xs s ys → t.0 ≡ s.0 → SlotFits t
-    → pasted (pasted (spelling page) (heap_end xs) (cell t)) (entry_place (length xs) + 4) (two (length_word t.1)) ≡ spelling (with_slots page (xs ++ (t ∷ ys)))
+    → pasted (pasted (page_spelling page) (heap_end xs) (cell t)) (entry_place (length xs) + 4) (two (length_word t.1)) ≡ page_spelling (with_slots page (xs ++ (t ∷ ys)))
 rewritten page xs s t ys has e fits =
     let heap = flat_map cell xs in
     let o = two (heap_end xs) in
@@ -93,7 +93,7 @@ rewritten page xs s t ys has e fits =
     let has_new = fits-rewritten page xs s t ys has e fits in
     let same : front ≡ before (with_slots page (xs ++ (t ∷ ys))) xs t ys = before-same page xs s t ys has e in
     let place : length front ≡ entry_place (length xs) = ap length same ∙ length-before _ xs t ys has_new in
-    let first : pasted (spelling page) (heap_end xs) (cell t) ≡ front ++ (o ++ (k ++ (l ++ q))) =
+    let first : pasted (page_spelling page) (heap_end xs) (cell t) ≡ front ++ (o ++ (k ++ (l ++ q))) =
     ap (λ (b : List ℕ). pasted b (heap_end xs) (cell t)) (spelling-split page xs s ys has.parts)
     ∙ pasted_skip (header page) _ (cell t) (capacities xs) (heap_end xs) (omega (arith, length-header page))
     ∙ ap (λ (b : List ℕ). header page ++ b) (pasted_at heap (cell s) _ (cell t) (capacities xs) (length-heap xs parts.0) (length-cell s parts.1 ∙ sym e ∙ sym (length-cell t fits)))
@@ -111,7 +111,7 @@ rewritten page xs s t ys has e fits =
 
 -- ---- a slot at the end
 
-pub fits-pushed : (page : Page) (t : Slot) → Fits page → SlotFits t → HasRoom page.slots t.0 → Has (with_slots page (page.slots ++ (t ∷ []))) page.slots t []
+pub fits-pushed : (page : Page) (t : Slot) → PageFits page → SlotFits t → HasRoom page.slots t.0 → Has (with_slots page (page.slots ++ (t ∷ []))) page.slots t []
 fits-pushed page t fits slot room =
     record {
       fits = record {
@@ -124,7 +124,7 @@ fits-pushed page t fits slot room =
     }
 
 -- the header's last two numbers
-pub counted : (page : Page) (n h : ℕ) → pasted (spelling page) 12 (two n ++ two h) ≡ (eight page.lsn ++ (four page.number ++ (two n ++ two h))) ++ body page
+pub counted : (page : Page) (n h : ℕ) → pasted (page_spelling page) 12 (two n ++ two h) ≡ (eight page.lsn ++ (four page.number ++ (two n ++ two h))) ++ body page
 counted page n h =
     let new = two n ++ two h in
     let old = two (length page.slots) ++ two (heap_end page.slots) in
@@ -168,7 +168,7 @@ sizes : (page : Page) (t : Slot) → SlotFits t → HasRoom page.slots t.0 → S
 sizes page t slot room = record { len = length-value_bytes t.1 t.0 slot.value; room = room }
 
 -- the value in the gap
-filled : (page : Page) (head : List ℕ) (t : Slot) → Fits page → length head ≡ 16 → Sizes page t
+filled : (page : Page) (head : List ℕ) (t : Slot) → PageFits page → length head ≡ 16 → Sizes page t
     → pasted (head ++ body page) (heap_end page.slots) (value_bytes t.1)
     ≡ head ++ (flat_map cell page.slots ++ (value_bytes t.1 ++ (zeros (t.0 - length (value_bytes t.1)) ++ (zeros (1024 - (heap_end page.slots + t.0) - 6 * (length page.slots + 1)) ++ (zeros 6 ++ entries 16 page.slots)))))
 unfolding body
@@ -187,9 +187,9 @@ filled page head t fits sixteen size =
     ∙ ap (λ (b : List ℕ). head ++ (heap ++ b)) (pasted_here (zeros len) _ value 0 refl (length-replicate {A = ℕ} len 0))
 
 -- the counts, the value and the entry of a new slot
-pub pushed : (page : Page) (t : Slot) → Fits page → SlotFits t → HasRoom page.slots t.0
-    → pasted (pasted (pasted (spelling page) 12 (two (length page.slots + 1) ++ two (heap_end page.slots + t.0))) (heap_end page.slots) (value_bytes t.1)) (entry_place (length page.slots)) (entry (heap_end page.slots) t)
-    ≡ spelling (with_slots page (page.slots ++ (t ∷ [])))
+pub pushed : (page : Page) (t : Slot) → PageFits page → SlotFits t → HasRoom page.slots t.0
+    → pasted (pasted (pasted (page_spelling page) 12 (two (length page.slots + 1) ++ two (heap_end page.slots + t.0))) (heap_end page.slots) (value_bytes t.1)) (entry_place (length page.slots)) (entry (heap_end page.slots) t)
+    ≡ page_spelling (with_slots page (page.slots ++ (t ∷ [])))
 pushed page t fits slot room =
     let slots = page.slots ++ (t ∷ []) in
     let n = length page.slots in

@@ -77,7 +77,7 @@ pub record SlotFits (slot : Slot) : Type 0 where
   pub bytes : IfSome slot.1 (All (λ b. b < 256))
 
 -- a page that has an image
-pub record Fits (page : Page) : Type 0 where
+pub record PageFits (page : Page) : Type 0 where
   pub lsn : page.lsn < 2 ^ 64
   pub number : page.number < 1024
   pub slots : AllByRecursion SlotFits page.slots

@@ -2,8 +2,8 @@
 use Rattle.std.specs.Prelude.{◌≡◌, ◌⊎◌, ◌≤◌, ℕ, ◌==◌, if◌then◌else◌, ◌+◌, ◌-◌, ◌*◌, List, map, take, drop, None, Some}
 use Rattle.std.specs.List.{range_with_len}
 use Rattle.std.specs.Int.{w16, w32, w64, from_be_bytes}
-use Rattle.sd_page.specs.Page.{Slot, Page, Fits}
-use Rattle.sd_page.specs.Spelling.{spelling}
+use Rattle.sd_page.specs.Page.{Slot, Page, PageFits}
+use Rattle.sd_page.specs.Spelling.{page_spelling}
 
 -- so many bytes from a place on
 abbrev pub field : List ℕ → ℕ → ℕ → List ℕ
@@ -40,5 +40,5 @@ page_of bytes = record { lsn = eight_at bytes 0; number = four_at bytes 8; slots
 
 -- the bytes are the image of the page that they tell of
 pub record IsImage (bytes : List ℕ) : Type 0 where
-  pub fits : Fits (page_of bytes)
-  pub spelled : spelling (page_of bytes) ≡ bytes
+  pub fits : PageFits (page_of bytes)
+  pub spelled : page_spelling (page_of bytes) ≡ bytes

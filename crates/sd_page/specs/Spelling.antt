@@ -11,7 +11,7 @@
 use Rattle.std.specs.Prelude.{◌≡◌, ℕ, ◌+◌, ◌-◌, ◌*◌, List, [], ◌∷◌, ◌++◌, length, replicate, Option, None, Some}
 use Rattle.std.specs.List.{flat_map}
 use Rattle.std.specs.Int.{w16, w32, w64, to_be_bytes}
-use Rattle.sd_page.specs.Page.{Slot, Page, heap_end, Fits}
+use Rattle.sd_page.specs.Page.{Slot, Page, heap_end, PageFits}
 
 -- a number in two bytes
 unfoldable pub two : ℕ → List ℕ
@@ -57,12 +57,12 @@ abbrev pub header : Page → List ℕ
 header page = eight page.lsn ++ (four page.number ++ (two (length page.slots) ++ two (heap_end page.slots)))
 
 -- the image of a page
-unfoldable pub spelling : Page → List ℕ
-spelling page = header page ++ (flat_map cell page.slots ++ (zeros (1024 - heap_end page.slots - 6 * length page.slots) ++ entries 16 page.slots))
+unfoldable pub page_spelling : Page → List ℕ
+page_spelling page = header page ++ (flat_map cell page.slots ++ (zeros (1024 - heap_end page.slots - 6 * length page.slots) ++ entries 16 page.slots))
 
 -- the bytes are the image of a page of this number
 pub record WellFormed (bytes : List ℕ) (number : ℕ) : Type 0 where
   pub page : Page
-  pub fits : Fits page
+  pub fits : PageFits page
   pub is_number : page.number ≡ number
-  pub spelled : spelling page ≡ bytes
+  pub spelled : page_spelling page ≡ bytes

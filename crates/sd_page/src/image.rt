@@ -3,8 +3,8 @@
 ghost use Rattle.std.specs.Prelude.{◌≡◌, ◌+◌, ◌<◌, ◌≤◌, ◌↔◌, ◌⊎◌, ◌++◌, ◌∷◌, [], length, take, option_map, IsTrue, IsOk, IsSome, IsSomeAnd, IfSome, OnOk, IfErr, OnErr, Err, Some};
 ghost use Rattle.sd_base.specs.declared.refusal.Refusal.TheVariants as R;
 ghost use Rattle.sd_base.specs.Values.{size};
-ghost use Rattle.sd_page.specs.Page.{Page, Fits, CanTake, HasRoom, IsTooLong, LacksRoom, LacksSlot, applied, capacity_at, capacity_for, empty_page, heap_end, value_at, written};
-ghost use Rattle.sd_page.specs.Spelling.{spelling, WellFormed};
+ghost use Rattle.sd_page.specs.Page.{Page, PageFits, CanTake, HasRoom, IsTooLong, LacksRoom, LacksSlot, applied, capacity_at, capacity_for, empty_page, heap_end, value_at, written};
+ghost use Rattle.sd_page.specs.Spelling.{page_spelling, WellFormed};
 
 use crate::Op;
 use crate::bytes::{clear, put, put_u16, u16_at, u32_at, u64_at};
@@ -28,13 +28,13 @@ impl Model for Image {
     ghost Value = { Page };
 
     ghost use Rattle.sd_page.specs.Reading.{page_of, IsImage};
-    ghost use Rattle.sd_page.specs.Spelling.{spelling};
+    ghost use Rattle.sd_page.specs.Spelling.{page_spelling};
 
     ghost view = { λ i. page_of i.bytes };
 
     ghost invariant = { λ i. IsImage i.bytes };
 
-    ghost inverse = { λ page. record { bytes = spelling page } };
+    ghost inverse = { λ page. record { bytes = page_spelling page } };
 
     ghost inverse_ok = { λ i h. ap (λ b. record { bytes = b }) h.spelled };
 }
@@ -54,7 +54,7 @@ impl Image {
     /// It makes the page anew as the bytes tell of it, and compares: each page has one image.
     pub fn check(bytes: &[u8], p: PageNo) -> Option<Image>
         ensures well_formed { IsSome result ↔ WellFormed bytes.now p }
-        ensures spelled { IfSome result (λ image. spelling image ≡ bytes.now) }
+        ensures spelled { IfSome result (λ image. page_spelling image ≡ bytes.now) }
         ensures number { IfSome result (λ image. image.number ≡ p) }
     {
         let image = rebuilt(bytes, p)?;
@@ -67,9 +67,9 @@ impl Image {
 
     /// Its 1,024 bytes.
     pub fn bytes(&self) -> &[u8]
-        ensures spelled { result.now ≡ spelling self.now }
+        ensures spelled { result.now ≡ page_spelling self.now }
         ensures size { length result.now ≡ 1024 }
-        ensures fits { Fits self.now }
+        ensures fits { PageFits self.now }
     {
         &self.bytes
     }
@@ -199,7 +199,7 @@ impl Image {
         ensures number { self.new.number ≡ self.old.number }
 
         // Of a page whose image the bytes are, it makes the next slot.
-        ensures copied { (page : Page) → Fits page → spelling page ≡ bytes.now → slot < length page.slots
+        ensures copied { (page : Page) → PageFits page → page_spelling page ≡ bytes.now → slot < length page.slots
             → self.old ≡ record page { slots = take slot page.slots }
             → IsSomeAnd result (λ _. self.new ≡ record page { slots = take (slot + 1) page.slots }) }
     {
@@ -256,7 +256,7 @@ impl Image {
 // The page that the bytes tell of, made anew, slot by slot; `None` where a slot doesn't fit.
 fn rebuilt(bytes: &[u8], p: PageNo) -> Option<Image>
     ensures number { IfSome result (λ image. image.number ≡ p) }
-    ensures found { (page : Page) → Fits page → page.number ≡ p → spelling page ≡ bytes.now → result ≡ Some page }
+    ensures found { (page : Page) → PageFits page → page.number ≡ p → page_spelling page ≡ bytes.now → result ≡ Some page }
 {
     if bytes.len() != PAGE_BYTES {
         return None;

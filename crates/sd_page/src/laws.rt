@@ -4,26 +4,26 @@ ghost use Rattle.std.specs.Prelude.{◌≡◌, ◌≢◌, ◌<◌, ◌≤◌, �
 ghost use Rattle.std.specs.Int.{w64, from_be_bytes};
 ghost use Rattle.sd_page.specs.declared.op.Op.{Op};
 ghost use Rattle.sd_base.specs.Values.{size};
-ghost use Rattle.sd_page.specs.Page.{Slot, Page, Fits, CanTake, applied, capacity_at, value_at, written};
-ghost use Rattle.sd_page.specs.Spelling.{spelling};
+ghost use Rattle.sd_page.specs.Page.{Slot, Page, PageFits, CanTake, applied, capacity_at, value_at, written};
+ghost use Rattle.sd_page.specs.Spelling.{page_spelling};
 
 /// An image is determined by its LSN, its page number and its slots.
 pub fn one_spelling()
-    ensures { (a b : Page) → Fits a → Fits b → spelling a ≡ spelling b → a ≡ b }
+    ensures { (a b : Page) → PageFits a → PageFits b → page_spelling a ≡ page_spelling b → a ≡ b }
 {}
 
 /// An image has 1,024 bytes, of which the first eight are the LSN.
 pub fn image_shape()
-    ensures bytes { (page : Page) → Fits page → length (spelling page) ≡ 1024 }
-    ensures lsn { (page : Page) → Fits page → from_be_bytes w64 (take 8 (spelling page)) ≡ page.lsn }
+    ensures bytes { (page : Page) → PageFits page → length (page_spelling page) ≡ 1024 }
+    ensures lsn { (page : Page) → PageFits page → from_be_bytes w64 (take 8 (page_spelling page)) ≡ page.lsn }
 {}
 
 /// What an operation that the page can take makes of it has an image too.
 pub fn change_fits()
-    ensures { (op : Op) (lsn : ℕ) (page : Page) → Fits page → lsn < 2 ^ 64
+    ensures { (op : Op) (lsn : ℕ) (page : Page) → PageFits page → lsn < 2 ^ 64
         → IfSome op.after (All (λ b. b < 256))
         → CanTake page.slots op.slot op.capacity (size op.after)
-        → Fits (applied op lsn page) }
+        → PageFits (applied op lsn page) }
 {}
 
 /// What is written to a slot is read there again, and no other slot changes; a slot's capacity stays.

@@ -4,7 +4,7 @@ use Rattle.std.specs.Prelude.{is_some, not}
 use Rattle.sd_base.specs.declared.place.Mode.{Mode}
 use Rattle.sd_base.specs.declared.place.Mode.TheVariants as modes
 use Rattle.sd_base.specs.Sets.{has, without, with_member}
-use Rattle.sd_pagelock.specs.Places.{Entry, Formed}
+use Rattle.sd_pagelock.specs.Places.{Formed, PageEntry}
 use Rattle.sd_pagelock.specs.Moves.{IsMove}
 use Rattle.sd_pagelock.specs.Rows.{fallen, nowhere, left_with, shared_left, locked, raised, may_share, given_shared, taken, written, lowest}
 use Rattle.sd_pagelock.proofs.Members.{not_both, has-without, has-with_member}
@@ -30,15 +30,15 @@ left_formed dirty [] = nowhere_formed dirty
 left_formed true (x ∷ xs) = (cons_nil x xs, λ k e. subst (λ (z : ℕ). has z (x ∷ xs) ≡ true) (inside e) (first_in x xs))
 left_formed false (x ∷ xs) = (cons_nil x xs, λ k e. absurd (none_some e))
 
-pub formed-fallen : (i : ℕ) (e : Entry) → Formed e → Formed (fallen i e)
-formed-fallen i Entry.Free f = tt
-formed-fallen i Entry.Lost f = tt
-formed-fallen i (Entry.Excl holder dirty) f = go (eqb holder i)
+pub formed-fallen : (i : ℕ) (e : PageEntry) → Formed e → Formed (fallen i e)
+formed-fallen i PageEntry.Free f = tt
+formed-fallen i PageEntry.Lost f = tt
+formed-fallen i (PageEntry.Excl holder dirty) f = go (eqb holder i)
   where
-    go : (b : Bool) → Formed (cond b (nowhere dirty) (Entry.Excl holder dirty))
+    go : (b : Bool) → Formed (cond b (nowhere dirty) (PageEntry.Excl holder dirty))
     go true = nowhere_formed dirty
     go false = tt
-formed-fallen i (Entry.Shared set writer) f = go (without i set) writer (λ k e ne. has-without k i set ∙ ap (λ (b : Bool). cond b false (has k set)) (ne_eqb i k (λ is. ne (sym is))) ∙ f.1 k e)
+formed-fallen i (PageEntry.Shared set writer) f = go (without i set) writer (λ k e ne. has-without k i set ∙ ap (λ (b : Bool). cond b false (has k set)) (ne_eqb i k (λ is. ne (sym is))) ∙ f.1 k e)
   where
     one : (b : Bool) (w x : ℕ) (xs : List ℕ) → (b ≡ false → has w (x ∷ xs) ≡ true) → (k : ℕ) → cond b (Some x) (Some w) ≡ Some k → has k (x ∷ xs) ≡ true
     one true w x xs h k e = subst (λ (z : ℕ). has z (x ∷ xs) ≡ true) (inside e) (first_in x xs)
@@ -48,23 +48,23 @@ formed-fallen i (Entry.Shared set writer) f = go (without i set) writer (λ k e 
     go [] w h = nowhere_formed (is_some w)
     go (x ∷ xs) None h = (cons_nil x xs, λ k e. absurd (none_some e))
     go (x ∷ xs) (Some w) h = (cons_nil x xs, one (eqb w i) w x xs (λ no_i. h w refl (λ e. not_both (eq-eqb w i e) no_i)))
-formed-fallen i (Entry.Moving to mode rest dirty) f = go (eqb to i)
+formed-fallen i (PageEntry.Moving to mode rest dirty) f = go (eqb to i)
   where
     still : (b : Bool) → b ≡ false → (c : Bool) → cond c false b ≡ false
     still b e true = refl
     still b e false = e
 
-    go : (b : Bool) → Formed (cond b (left_with dirty (without i rest)) (Entry.Moving to mode (without i rest) dirty))
+    go : (b : Bool) → Formed (cond b (left_with dirty (without i rest)) (PageEntry.Moving to mode (without i rest) dirty))
     go true = left_formed dirty (without i rest)
     go false = (λ e. ap (without i) (f.0 e), has-without to i rest ∙ still (has to rest) f.1 (eqb i to))
 
-formed-taken : (e : Entry) → Formed e → Formed (taken e)
-formed-taken Entry.Free f = tt
-formed-taken Entry.Lost f = tt
-formed-taken (Entry.Excl holder dirty) f = tt
-formed-taken (Entry.Shared set writer) f = f
-formed-taken (Entry.Moving to modes.Excl rest dirty) f = tt
-formed-taken (Entry.Moving to modes.Shared rest dirty) f = (λ e. not_both (has-with_member to to rest ∙ ap (λ (b : Bool). cond b true (has to rest)) (eq-eqb to to refl)) (ap (has to) e), writer_in dirty)
+formed-taken : (e : PageEntry) → Formed e → Formed (taken e)
+formed-taken PageEntry.Free f = tt
+formed-taken PageEntry.Lost f = tt
+formed-taken (PageEntry.Excl holder dirty) f = tt
+formed-taken (PageEntry.Shared set writer) f = f
+formed-taken (PageEntry.Moving to modes.Excl rest dirty) f = tt
+formed-taken (PageEntry.Moving to modes.Shared rest dirty) f = (λ e. not_both (has-with_member to to rest ∙ ap (λ (b : Bool). cond b true (has to rest)) (eq-eqb to to refl)) (ap (has to) e), writer_in dirty)
   where
     or_true : (b : Bool) → cond b true true ≡ true
     or_true true = refl
@@ -82,36 +82,36 @@ formed-locked : (i : ℕ) (mode : Mode) → Formed (locked i mode)
 formed-locked i modes.Shared = (cons_nil i [], λ k e. absurd (none_some e))
 formed-locked i modes.Excl = tt
 
-formed-raised : (i : ℕ) (e : Entry) → Formed e → Formed (raised i e)
-formed-raised i Entry.Free f = tt
-formed-raised i Entry.Lost f = tt
-formed-raised i (Entry.Excl holder dirty) f = tt
-formed-raised i (Entry.Shared set writer) f = tt
-formed-raised i (Entry.Moving to mode rest dirty) f = f
+formed-raised : (i : ℕ) (e : PageEntry) → Formed e → Formed (raised i e)
+formed-raised i PageEntry.Free f = tt
+formed-raised i PageEntry.Lost f = tt
+formed-raised i (PageEntry.Excl holder dirty) f = tt
+formed-raised i (PageEntry.Shared set writer) f = tt
+formed-raised i (PageEntry.Moving to mode rest dirty) f = f
 
-formed-given_shared : (i : ℕ) (e : Entry) → may_share i e ≡ true → Formed (given_shared i e)
-formed-given_shared i Entry.Free m = tt
-formed-given_shared i Entry.Lost m = tt
-formed-given_shared i (Entry.Excl holder dirty) m = (λ e. absurd (cc), other (eqb holder i) m)
+formed-given_shared : (i : ℕ) (e : PageEntry) → may_share i e ≡ true → Formed (given_shared i e)
+formed-given_shared i PageEntry.Free m = tt
+formed-given_shared i PageEntry.Lost m = tt
+formed-given_shared i (PageEntry.Excl holder dirty) m = (λ e. absurd (cc), other (eqb holder i) m)
   where
     other : (b : Bool) → not b ≡ true → cond b true false ≡ false
     other true m = absurd (cc)
     other false m = refl
-formed-given_shared i (Entry.Shared set writer) m = (λ e. absurd (cc), other (has i set) m)
+formed-given_shared i (PageEntry.Shared set writer) m = (λ e. absurd (cc), other (has i set) m)
   where
     other : (b : Bool) → not b ≡ true → b ≡ false
     other true m = absurd (cc)
     other false m = refl
-formed-given_shared i (Entry.Moving to mode rest dirty) m = absurd (cc)
+formed-given_shared i (PageEntry.Moving to mode rest dirty) m = absurd (cc)
 
-formed-written : (e : Entry) → Formed e → Formed (written e)
-formed-written Entry.Free f = tt
-formed-written Entry.Lost f = tt
-formed-written (Entry.Excl holder dirty) f = tt
-formed-written (Entry.Shared set writer) f = (f.0, λ k e. absurd (none_some e))
-formed-written (Entry.Moving to mode rest dirty) f = f
+formed-written : (e : PageEntry) → Formed e → Formed (written e)
+formed-written PageEntry.Free f = tt
+formed-written PageEntry.Lost f = tt
+formed-written (PageEntry.Excl holder dirty) f = tt
+formed-written (PageEntry.Shared set writer) f = (f.0, λ k e. absurd (none_some e))
+formed-written (PageEntry.Moving to mode rest dirty) f = f
 
-pub formed-move : (from to : Entry) → IsMove from to → Formed from → Formed to
+pub formed-move : (from to : PageEntry) → IsMove from to → Formed from → Formed to
 formed-move from to (IsMove.lock i mode m e) f = subst Formed (sym e) (formed-locked i mode)
 formed-move from to (IsMove.raise i m e) f = subst Formed (sym e) (formed-raised i from f)
 formed-move from to (IsMove.share i m e) f = subst Formed (sym e) (formed-given_shared i from m)

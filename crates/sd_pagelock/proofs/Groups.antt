@@ -14,7 +14,7 @@ use Rattle.sd_base.specs.declared.place.Place as coded
 use Rattle.sd_base.specs.declared.place.Place.TheVariants as variants
 use Rattle.sd_base.specs.Sets.{chosen, has, in_byte, members, with_member, without}
 use Rattle.sd_pagelock.specs.Noted.{AreNoted, is_noted, is_noted_in}
-use Rattle.sd_pagelock.specs.Places.{Entry, Formed, place_at, receives, seen, uses}
+use Rattle.sd_pagelock.specs.Places.{Formed, PageEntry, place_at, receives, seen, uses}
 use Rattle.sd_pagelock.specs.Rows.{fallen, left_with, nowhere, shared_left}
 use Rattle.sd_pagelock.proofs.Members.{has-with_member, not_both}
 
@@ -105,33 +105,33 @@ without-absent i (x ∷ xs) out = go (without-absent i xs) (eqb x i) out
     go rest true e = not_both refl e
     go rest false e = ap (λ (ys : List ℕ). x ∷ ys) (rest e)
 
-shared-same : (i : ℕ) (set : List ℕ) (writer : Option ℕ) → Formed (Entry.Shared set writer) → has i set ≡ false
-    → shared_left i set writer ≡ Entry.Shared set writer
+shared-same : (i : ℕ) (set : List ℕ) (writer : Option ℕ) → Formed (PageEntry.Shared set writer) → has i set ≡ false
+    → shared_left i set writer ≡ PageEntry.Shared set writer
 shared-same i [] writer formed out = absurd (formed.0 refl)
 shared-same i (x ∷ xs) None formed out = refl
-shared-same i (x ∷ xs) (Some w) formed out = ap (λ (b : Bool). Entry.Shared (x ∷ xs) (cond {A = Option ℕ} b (Some x) (Some w)))
+shared-same i (x ∷ xs) (Some w) formed out = ap (λ (b : Bool). PageEntry.Shared (x ∷ xs) (cond {A = Option ℕ} b (Some x) (Some w)))
     (ne_eqb w i (λ e. not_both (formed.1 w refl) (ap (λ (z : ℕ). has z (x ∷ xs)) e ∙ out)))
 
 -- a place in which i has no part is as it was, and the page doesn't move to i
-pub fallen-unused : (i : ℕ) (e : Entry) → Formed e → uses e i ≡ false → fallen i e ≡ e
-fallen-unused i Entry.Free formed un = refl
-fallen-unused i Entry.Lost formed un = refl
-fallen-unused i (Entry.Excl holder dirty) formed un = ap (λ (b : Bool). cond {A = Entry} b (nowhere dirty) (Entry.Excl holder dirty)) un
-fallen-unused i (Entry.Shared set writer) formed un =
+pub fallen-unused : (i : ℕ) (e : PageEntry) → Formed e → uses e i ≡ false → fallen i e ≡ e
+fallen-unused i PageEntry.Free formed un = refl
+fallen-unused i PageEntry.Lost formed un = refl
+fallen-unused i (PageEntry.Excl holder dirty) formed un = ap (λ (b : Bool). cond {A = PageEntry} b (nowhere dirty) (PageEntry.Excl holder dirty)) un
+fallen-unused i (PageEntry.Shared set writer) formed un =
     ap (λ (xs : List ℕ). shared_left i xs writer) (without-absent i set un) ∙ shared-same i set writer formed un
-fallen-unused i (Entry.Moving to mode rest dirty) formed un = go (eqb to i) un
+fallen-unused i (PageEntry.Moving to mode rest dirty) formed un = go (eqb to i) un
   where
     go : (b : Bool) → cond b true (has i rest) ≡ false
-        → cond {A = Entry} b (left_with dirty (without i rest)) (Entry.Moving to mode (without i rest) dirty) ≡ Entry.Moving to mode rest dirty
+        → cond {A = PageEntry} b (left_with dirty (without i rest)) (PageEntry.Moving to mode (without i rest) dirty) ≡ PageEntry.Moving to mode rest dirty
     go true e = not_both refl e
-    go false e = ap (λ (xs : List ℕ). Entry.Moving to mode xs dirty) (without-absent i rest e)
+    go false e = ap (λ (xs : List ℕ). PageEntry.Moving to mode xs dirty) (without-absent i rest e)
 
-pub receives-unused : (i : ℕ) (e : Entry) → uses e i ≡ false → receives e i ≡ false
-receives-unused i Entry.Free un = refl
-receives-unused i Entry.Lost un = refl
-receives-unused i (Entry.Excl holder dirty) un = refl
-receives-unused i (Entry.Shared set writer) un = refl
-receives-unused i (Entry.Moving to mode rest dirty) un = go (eqb to i) un
+pub receives-unused : (i : ℕ) (e : PageEntry) → uses e i ≡ false → receives e i ≡ false
+receives-unused i PageEntry.Free un = refl
+receives-unused i PageEntry.Lost un = refl
+receives-unused i (PageEntry.Excl holder dirty) un = refl
+receives-unused i (PageEntry.Shared set writer) un = refl
+receives-unused i (PageEntry.Moving to mode rest dirty) un = go (eqb to i) un
   where
     go : (b : Bool) → cond b true (has i rest) ≡ false → b ≡ false
     go true e = not_both refl e
@@ -158,7 +158,7 @@ in_group g q low high = ap (λ (z : ℕ). z / 32) (whole g q low) ∙ div-mul-ad
     whole g q low = omega (arith, low)
 
 -- who isn't noted for a group uses none of its pages
-pub unused : (entry : ℕ → Entry) (groups : List InstSet) (g i q : ℕ) → ((p k : ℕ) → uses (entry p) k ≡ true → is_noted groups p k ≡ true)
+pub unused : (entry : ℕ → PageEntry) (groups : List InstSet) (g i q : ℕ) → ((p k : ℕ) → uses (entry p) k ≡ true → is_noted groups p k ≡ true)
     → is_noted_in groups g i ≡ false → 32 * g ≤ q → q < 32 * g + 32 → uses (entry q) i ≡ false
 unused entry groups g i q all out low high = go (uses (entry q) i) (λ e. ap (λ (z : ℕ). is_noted_in groups z i) (sym (in_group g q low high)) ∙ all q i e)
   where

@@ -17,8 +17,8 @@ use Rattle.std.proofs.lemmas.Bool.{cases_eq}
 use Rattle.std.proofs.lemmas.Map.Lookups.{exact_unsigned}
 use Rattle.sd_base.specs.declared.place.Mode.{Mode}
 use Rattle.sd_pagelock.specs.declared.queue.Ask.{Ask}
-use Rattle.sd_pagelock.specs.Places.{Entry}
-use Rattle.sd_pagelock.specs.Asks.{Queues, AreAsked, IsAsked, IsOneEach, asks_for, queued, stronger, is_open, open_asks, nobody}
+use Rattle.sd_pagelock.specs.Places.{PageEntry}
+use Rattle.sd_pagelock.specs.Asks.{Queues, AreAsked, IsAsked, IsOneEach, asks_for, queued, stronger, is_open_ask, open_asks, nobody}
 use Rattle.sd_pagelock.proofs.Members.{not_both}
 use Rattle.sd_pagelock.proofs.Queues.{one_each-queued, one_each-filter}
 
@@ -87,7 +87,7 @@ asked-add r old new p by mode asked ok err others = one_changed old new p asked 
     (either r ok err))
 
 -- some asks were taken off, and not all
-pub asked-close : (old new : Queues) (p : ℕ) (place : Entry) (emptied : Bool) → emptied ≡ false → AreAsked old
+pub asked-close : (old new : Queues) (p : ℕ) (place : PageEntry) (emptied : Bool) → emptied ≡ false → AreAsked old
     → lookup (is_at (nat_cmp p)) new ≡ option_map (open_asks place) (lookup (is_at (nat_cmp p)) old)
     → (emptied ≡ true ↔ (lookup (is_at (nat_cmp p)) new ≡ Some []))
     → ((q : ℕ) → q ≢ p → lookup (is_at (nat_cmp q)) new ≡ lookup (is_at (nat_cmp q)) old) → AreAsked new
@@ -96,7 +96,7 @@ asked-close old new p place emptied left asked here none others = one_changed ol
   where
     kept : (asks : List Ask) (o : Option (List Ask)) → option_map (open_asks place) o ≡ Some asks → ((xs : List Ask) → o ≡ Some xs → IsAsked xs) → IsOneEach asks
     kept asks None e was = absurd (cc)
-    kept asks (Some xs) e was = subst IsOneEach (inside e) (one_each-filter (is_open place) xs (was xs refl).1)
+    kept asks (Some xs) e was = subst IsOneEach (inside e) (one_each-filter (is_open_ask place) xs (was xs refl).1)
 
 -- the page is listed no more
 pub asked-remove : (old mid new : Queues) (p : ℕ) → AreAsked old

@@ -6,7 +6,7 @@ use Rattle.sd_base.specs.declared.place.Mode.TheVariants as modes
 use Rattle.sd_base.specs.declared.place.Place as coded
 use Rattle.sd_base.specs.declared.place.Place.TheVariants as variants
 use Rattle.sd_base.specs.Sets.{has, without, members, chosen, in_byte}
-use Rattle.sd_pagelock.specs.Places.{Entry, seen, changed, is_free, is_lost, passes, Formed}
+use Rattle.sd_pagelock.specs.Places.{PageEntry, seen, changed, is_free, is_lost, passes, Formed}
 use Rattle.sd_pagelock.specs.Rows.{is_only, locked, may_raise, raised, may_share, given_shared, taken, may_evict, fallen, nowhere, left_with, shared_left, may_write, written}
 use Rattle.sd_pagelock.specs.Moves.{IsMove}
 use Rattle.sd_pagelock.proofs.Members.{not_both}
@@ -58,7 +58,7 @@ only-left i (x ∷ y ∷ xs) all there gone =
     not_both (ap (λ (b : Bool). cond b true (has x xs)) (eq-eqb y x (eqb-true y i second.0 ∙ sym (eqb-true x i first.0)))) all.0
 
 -- a copy that may be evicted leaves the page with others, or as on disk
-evicted-shared : (i : ℕ) (set : List ℕ) (writer : Option ℕ) → Apart set → may_evict i (Entry.Shared set writer) ≡ true → is_lost (fallen i (Entry.Shared set writer)) ≡ false
+evicted-shared : (i : ℕ) (set : List ℕ) (writer : Option ℕ) → Apart set → may_evict i (PageEntry.Shared set writer) ≡ true → is_lost (fallen i (PageEntry.Shared set writer)) ≡ false
 evicted-shared i set writer all m = go (without i set) refl
   where
     both : (a b c : Bool) → (a && not (b && c)) ≡ true → b ≡ true → c ≡ false
@@ -81,13 +81,13 @@ evicted i variants.Lost f m = absurd (cc)
 evicted i (variants.Shared set writer) f m = evicted-shared i (members set.bits) writer (apart-members set.bits) m
 evicted i (variants.Excl holder dirty) f m = go (eqb holder i) dirty m
   where
-    go : (b d : Bool) → (b && not d) ≡ true → is_lost (cond b (nowhere d) (Entry.Excl holder d)) ≡ false
+    go : (b d : Bool) → (b && not d) ≡ true → is_lost (cond b (nowhere d) (PageEntry.Excl holder d)) ≡ false
     go true true m = absurd (cc)
     go true false m = refl
     go false d m = refl
 evicted i (variants.Moving to mode rest dirty) f m = go (eqb to i) refl
   where
-    go : (b : Bool) → eqb to i ≡ b → is_lost (cond b (left_with dirty (without i (members rest.bits))) (Entry.Moving to mode (without i (members rest.bits)) dirty)) ≡ false
+    go : (b : Bool) → eqb to i ≡ b → is_lost (cond b (left_with dirty (without i (members rest.bits))) (PageEntry.Moving to mode (without i (members rest.bits)) dirty)) ≡ false
     go true e = not_both (ap (λ (z : ℕ). has z (members rest.bits)) (eqb-true to i e) ∙ m) f.1
     go false e = refl
 
@@ -95,36 +95,36 @@ there-locked : (i : ℕ) (mode : Mode) → is_lost (locked i mode) ≡ false
 there-locked i modes.Shared = refl
 there-locked i modes.Excl = refl
 
-there-raised : (i : ℕ) (e : Entry) → may_raise i e ≡ true → is_lost (raised i e) ≡ false
-there-raised i Entry.Free m = refl
-there-raised i Entry.Lost m = absurd (cc)
-there-raised i (Entry.Shared set writer) m = refl
-there-raised i (Entry.Excl holder dirty) m = refl
-there-raised i (Entry.Moving to mode rest dirty) m = refl
+there-raised : (i : ℕ) (e : PageEntry) → may_raise i e ≡ true → is_lost (raised i e) ≡ false
+there-raised i PageEntry.Free m = refl
+there-raised i PageEntry.Lost m = absurd (cc)
+there-raised i (PageEntry.Shared set writer) m = refl
+there-raised i (PageEntry.Excl holder dirty) m = refl
+there-raised i (PageEntry.Moving to mode rest dirty) m = refl
 
-there-shared : (i : ℕ) (e : Entry) → may_share i e ≡ true → is_lost (given_shared i e) ≡ false
-there-shared i Entry.Free m = refl
-there-shared i Entry.Lost m = absurd (cc)
-there-shared i (Entry.Shared set writer) m = refl
-there-shared i (Entry.Excl holder dirty) m = refl
-there-shared i (Entry.Moving to mode rest dirty) m = refl
+there-shared : (i : ℕ) (e : PageEntry) → may_share i e ≡ true → is_lost (given_shared i e) ≡ false
+there-shared i PageEntry.Free m = refl
+there-shared i PageEntry.Lost m = absurd (cc)
+there-shared i (PageEntry.Shared set writer) m = refl
+there-shared i (PageEntry.Excl holder dirty) m = refl
+there-shared i (PageEntry.Moving to mode rest dirty) m = refl
 
-there-taken : (e : Entry) → passes e ≡ true → is_lost (taken e) ≡ false
-there-taken Entry.Free m = refl
-there-taken Entry.Lost m = absurd (cc)
-there-taken (Entry.Shared set writer) m = refl
-there-taken (Entry.Excl holder dirty) m = refl
-there-taken (Entry.Moving to modes.Excl rest dirty) m = refl
-there-taken (Entry.Moving to modes.Shared rest dirty) m = refl
+there-taken : (e : PageEntry) → passes e ≡ true → is_lost (taken e) ≡ false
+there-taken PageEntry.Free m = refl
+there-taken PageEntry.Lost m = absurd (cc)
+there-taken (PageEntry.Shared set writer) m = refl
+there-taken (PageEntry.Excl holder dirty) m = refl
+there-taken (PageEntry.Moving to modes.Excl rest dirty) m = refl
+there-taken (PageEntry.Moving to modes.Shared rest dirty) m = refl
 
-there-written : (e : Entry) → is_lost (written e) ≡ false
-there-written Entry.Free = refl
-there-written Entry.Lost = refl
-there-written (Entry.Shared set writer) = refl
-there-written (Entry.Excl holder dirty) = refl
-there-written (Entry.Moving to mode rest dirty) = refl
+there-written : (e : PageEntry) → is_lost (written e) ≡ false
+there-written PageEntry.Free = refl
+there-written PageEntry.Lost = refl
+there-written (PageEntry.Shared set writer) = refl
+there-written (PageEntry.Excl holder dirty) = refl
+there-written (PageEntry.Moving to mode rest dirty) = refl
 
-pub never_lost : (from : coded.Place) (to : Entry) → Formed (seen from) → IsMove (seen from) to → is_lost to ≡ false
+pub never_lost : (from : coded.Place) (to : PageEntry) → Formed (seen from) → IsMove (seen from) to → is_lost to ≡ false
 never_lost from to f (IsMove.lock i mode m e) = ap is_lost e ∙ there-locked i mode
 never_lost from to f (IsMove.raise i m e) = ap is_lost e ∙ there-raised i (seen from) m
 never_lost from to f (IsMove.share i m e) = ap is_lost e ∙ there-shared i (seen from) m
@@ -137,44 +137,44 @@ never_lost from to f (IsMove.change i m e) = ap is_lost e
 never_lost from to f (IsMove.rebuild m e) = ap is_lost e ∙ there-written (seen from)
 
 -- what the other rows leave of a change
-pub free_clean : (e : Entry) → is_free e ≡ true → changed e ≡ false
-free_clean Entry.Free m = refl
-free_clean Entry.Lost m = absurd (cc)
-free_clean (Entry.Shared set writer) m = absurd (cc)
-free_clean (Entry.Excl holder dirty) m = absurd (cc)
-free_clean (Entry.Moving to mode rest dirty) m = absurd (cc)
+pub free_clean : (e : PageEntry) → is_free e ≡ true → changed e ≡ false
+free_clean PageEntry.Free m = refl
+free_clean PageEntry.Lost m = absurd (cc)
+free_clean (PageEntry.Shared set writer) m = absurd (cc)
+free_clean (PageEntry.Excl holder dirty) m = absurd (cc)
+free_clean (PageEntry.Moving to mode rest dirty) m = absurd (cc)
 
-pub changed-raised : (i : ℕ) (e : Entry) → changed (raised i e) ≡ changed e
-changed-raised i Entry.Free = refl
-changed-raised i Entry.Lost = refl
-changed-raised i (Entry.Shared set writer) = refl
-changed-raised i (Entry.Excl holder dirty) = refl
-changed-raised i (Entry.Moving to mode rest dirty) = refl
+pub changed-raised : (i : ℕ) (e : PageEntry) → changed (raised i e) ≡ changed e
+changed-raised i PageEntry.Free = refl
+changed-raised i PageEntry.Lost = refl
+changed-raised i (PageEntry.Shared set writer) = refl
+changed-raised i (PageEntry.Excl holder dirty) = refl
+changed-raised i (PageEntry.Moving to mode rest dirty) = refl
 
-pub changed-given : (i : ℕ) (e : Entry) → changed (given_shared i e) ≡ changed e
-changed-given i Entry.Free = refl
-changed-given i Entry.Lost = refl
-changed-given i (Entry.Shared set writer) = refl
-changed-given i (Entry.Excl holder dirty) = refl
-changed-given i (Entry.Moving to mode rest dirty) = refl
+pub changed-given : (i : ℕ) (e : PageEntry) → changed (given_shared i e) ≡ changed e
+changed-given i PageEntry.Free = refl
+changed-given i PageEntry.Lost = refl
+changed-given i (PageEntry.Shared set writer) = refl
+changed-given i (PageEntry.Excl holder dirty) = refl
+changed-given i (PageEntry.Moving to mode rest dirty) = refl
 
-pub changed-taken : (e : Entry) → changed (taken e) ≡ changed e
-changed-taken Entry.Free = refl
-changed-taken Entry.Lost = refl
-changed-taken (Entry.Shared set writer) = refl
-changed-taken (Entry.Excl holder dirty) = refl
-changed-taken (Entry.Moving to modes.Excl rest dirty) = refl
-changed-taken (Entry.Moving to modes.Shared rest true) = refl
-changed-taken (Entry.Moving to modes.Shared rest false) = refl
+pub changed-taken : (e : PageEntry) → changed (taken e) ≡ changed e
+changed-taken PageEntry.Free = refl
+changed-taken PageEntry.Lost = refl
+changed-taken (PageEntry.Shared set writer) = refl
+changed-taken (PageEntry.Excl holder dirty) = refl
+changed-taken (PageEntry.Moving to modes.Excl rest dirty) = refl
+changed-taken (PageEntry.Moving to modes.Shared rest true) = refl
+changed-taken (PageEntry.Moving to modes.Shared rest false) = refl
 
-abbrev Written : Entry → Entry → Type 0
+abbrev Written : PageEntry → PageEntry → Type 0
 Written from to = ((may_write from || is_lost from) ≡ true) × (to ≡ written from)
 
 -- a row that keeps the change
-keeps : (from to to' : Entry) → to ≡ to' → changed to' ≡ changed from → changed from ≡ true → changed to ≡ false → Written from to
+keeps : (from to to' : PageEntry) → to ≡ to' → changed to' ≡ changed from → changed from ≡ true → changed to ≡ false → Written from to
 keeps from to to' e same was now = not_both (ap changed e ∙ same ∙ was) now
 
-pub by_write : (from to : Entry) → IsMove from to → changed from ≡ true → changed to ≡ false → Written from to
+pub by_write : (from to : PageEntry) → IsMove from to → changed from ≡ true → changed to ≡ false → Written from to
 by_write from to (IsMove.lock i mode m e) was now = not_both was (free_clean from m)
 by_write from to (IsMove.raise i m e) was now = keeps from to _ e (changed-raised i from) was now
 by_write from to (IsMove.share i m e) was now = keeps from to _ e (changed-given i from) was now

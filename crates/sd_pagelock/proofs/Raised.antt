@@ -4,28 +4,28 @@ use Rattle.std.specs.Prelude.{filter, is_some, not}
 use Rattle.sd_base.specs.declared.place.Mode.{Mode}
 use Rattle.sd_base.specs.declared.place.Mode.TheVariants as modes
 use Rattle.sd_pagelock.specs.declared.queue.Ask.{Ask}
-use Rattle.sd_pagelock.specs.Asks.{is_open, open_asks}
+use Rattle.sd_pagelock.specs.Asks.{is_open_ask, open_asks}
 use Rattle.sd_pagelock.specs.Directory.{kept_rec}
-use Rattle.sd_pagelock.specs.Places.{Entry, holds_as}
+use Rattle.sd_pagelock.specs.Places.{PageEntry, holds_as}
 use Rattle.sd_pagelock.specs.Rows.{may_raise, raised}
 
 -- an ask that the raised page leaves open was open
-pub open-raised : (i : ℕ) (e : Entry) → may_raise i e ≡ true → (ask : Ask) → is_open (raised i e) ask ≡ true → is_open e ask ≡ true
-open-raised i Entry.Free may ask left = absurd (cc)
-open-raised i Entry.Lost may ask left = absurd (cc)
-open-raised i (Entry.Excl holder dirty) may ask left = absurd (cc)
-open-raised i (Entry.Moving to mode rest dirty) may ask left = absurd (cc)
-open-raised i (Entry.Shared [] writer) may ask left = absurd (cc)
-open-raised i (Entry.Shared (x ∷ y ∷ xs) writer) may ask left = absurd (cc)
-open-raised i (Entry.Shared (x ∷ []) writer) may ask left = subst
-    (λ (k : ℕ). is_open (Entry.Shared (k ∷ []) writer) ask ≡ true) (sym (eqb-true x i may)) (by ask.mode left)
+pub open-raised : (i : ℕ) (e : PageEntry) → may_raise i e ≡ true → (ask : Ask) → is_open_ask (raised i e) ask ≡ true → is_open_ask e ask ≡ true
+open-raised i PageEntry.Free may ask left = absurd (cc)
+open-raised i PageEntry.Lost may ask left = absurd (cc)
+open-raised i (PageEntry.Excl holder dirty) may ask left = absurd (cc)
+open-raised i (PageEntry.Moving to mode rest dirty) may ask left = absurd (cc)
+open-raised i (PageEntry.Shared [] writer) may ask left = absurd (cc)
+open-raised i (PageEntry.Shared (x ∷ y ∷ xs) writer) may ask left = absurd (cc)
+open-raised i (PageEntry.Shared (x ∷ []) writer) may ask left = subst
+    (λ (k : ℕ). is_open_ask (PageEntry.Shared (k ∷ []) writer) ask ≡ true) (sym (eqb-true x i may)) (by ask.mode left)
   where
     one : (b : Bool) → not b ≡ true → not (cond b true false) ≡ true
     one true h = absurd (cc)
     one false h = refl
 
-    by : (mode : Mode) → not (holds_as mode (Entry.Excl i (is_some writer)) ask.by) ≡ true
-        → not (holds_as mode (Entry.Shared (i ∷ []) writer) ask.by) ≡ true
+    by : (mode : Mode) → not (holds_as mode (PageEntry.Excl i (is_some writer)) ask.by) ≡ true
+        → not (holds_as mode (PageEntry.Shared (i ∷ []) writer) ask.by) ≡ true
     by modes.Shared h = one (eqb i ask.by) h
     by modes.Excl h = refl
 
@@ -44,9 +44,9 @@ filter-again f g less (a ∷ asks) = go (g a) refl (f a) refl (filter-again f g 
     go false stopped false passes same = same
 
 -- so the asks that are left are those that it would have left alone
-pub open_asks-raised : (i : ℕ) (e : Entry) → may_raise i e ≡ true → (asks : List Ask)
+pub open_asks-raised : (i : ℕ) (e : PageEntry) → may_raise i e ≡ true → (asks : List Ask)
     → open_asks (raised i e) (open_asks e asks) ≡ open_asks (raised i e) asks
-open_asks-raised i e may asks = filter-again (is_open (raised i e)) (is_open e) (open-raised i e may) asks
+open_asks-raised i e may asks = filter-again (is_open_ask (raised i e)) (is_open_ask e) (open-raised i e may) asks
 
 -- a page that stays changed, or unchanged, keeps its RecLSN in two moves as in one
 pub kept_rec-twice : (a b c : Bool) → b ≡ a → c ≡ b → (rec : Option ℕ)

@@ -5,7 +5,7 @@ use Rattle.sd_base.specs.declared.place.Mode.TheVariants as modes
 use Rattle.sd_base.specs.declared.place.Place as coded
 use Rattle.sd_base.specs.declared.place.Place.TheVariants as variants
 use Rattle.sd_base.specs.Sets.{has}
-use Rattle.sd_pagelock.specs.Places.{Entry, seen, InBytes, uses}
+use Rattle.sd_pagelock.specs.Places.{PageEntry, seen, InBytes, uses}
 use Rattle.sd_pagelock.specs.Rows.{locked, may_raise, raised, may_share, given_shared, may_drop, may_evict, is_only}
 use Rattle.sd_pagelock.specs.Moves.{IsMove, Gains, Turns, Loses, newcomer}
 use Rattle.sd_pagelock.proofs.Alone.{byte_of, byte_of-members}
@@ -17,22 +17,22 @@ lock_newcomer : (i : ℕ) (mode : Mode) → newcomer (locked i mode) ≡ Some i
 lock_newcomer i modes.Shared = refl
 lock_newcomer i modes.Excl = refl
 
-raise_newcomer : (i : ℕ) (e : Entry) → may_raise i e ≡ true → newcomer (raised i e) ≡ Some i
-raise_newcomer i Entry.Free m = absurd (cc)
-raise_newcomer i Entry.Lost m = absurd (cc)
-raise_newcomer i (Entry.Shared set writer) m = refl
-raise_newcomer i (Entry.Excl holder dirty) m = absurd (cc)
-raise_newcomer i (Entry.Moving to mode rest dirty) m = absurd (cc)
+raise_newcomer : (i : ℕ) (e : PageEntry) → may_raise i e ≡ true → newcomer (raised i e) ≡ Some i
+raise_newcomer i PageEntry.Free m = absurd (cc)
+raise_newcomer i PageEntry.Lost m = absurd (cc)
+raise_newcomer i (PageEntry.Shared set writer) m = refl
+raise_newcomer i (PageEntry.Excl holder dirty) m = absurd (cc)
+raise_newcomer i (PageEntry.Moving to mode rest dirty) m = absurd (cc)
 
-share_newcomer : (i : ℕ) (e : Entry) → may_share i e ≡ true → newcomer (given_shared i e) ≡ Some i
-share_newcomer i Entry.Free m = absurd (cc)
-share_newcomer i Entry.Lost m = absurd (cc)
-share_newcomer i (Entry.Shared set writer) m = refl
-share_newcomer i (Entry.Excl holder dirty) m = refl
-share_newcomer i (Entry.Moving to mode rest dirty) m = absurd (cc)
+share_newcomer : (i : ℕ) (e : PageEntry) → may_share i e ≡ true → newcomer (given_shared i e) ≡ Some i
+share_newcomer i PageEntry.Free m = absurd (cc)
+share_newcomer i PageEntry.Lost m = absurd (cc)
+share_newcomer i (PageEntry.Shared set writer) m = refl
+share_newcomer i (PageEntry.Excl holder dirty) m = refl
+share_newcomer i (PageEntry.Moving to mode rest dirty) m = absurd (cc)
 
 -- the new place names the one who gains the page
-pub newcomer-gains : (i : ℕ) (from to : Entry) → Gains i from to → newcomer to ≡ Some i
+pub newcomer-gains : (i : ℕ) (from to : PageEntry) → Gains i from to → newcomer to ≡ Some i
 newcomer-gains i from to (Gains.lock mode m e) = ap newcomer e ∙ lock_newcomer i mode
 newcomer-gains i from to (Gains.raise m e) = ap newcomer e ∙ raise_newcomer i from m
 newcomer-gains i from to (Gains.share m e) = ap newcomer e ∙ share_newcomer i from m
@@ -47,40 +47,40 @@ or_true : (b : Bool) → cond b true true ≡ true
 or_true true = refl
 or_true false = refl
 
-pub evict_uses : (i : ℕ) (e : Entry) → may_evict i e ≡ true → uses e i ≡ true
-evict_uses i Entry.Free m = absurd (cc)
-evict_uses i Entry.Lost m = absurd (cc)
-evict_uses i (Entry.Shared set writer) m = and_left (has i set) _ m
-evict_uses i (Entry.Excl holder dirty) m = and_left (eqb holder i) (not dirty) m
-evict_uses i (Entry.Moving to mode rest dirty) m = ap (λ (b : Bool). cond (eqb to i) true b) m ∙ or_true (eqb to i)
+pub evict_uses : (i : ℕ) (e : PageEntry) → may_evict i e ≡ true → uses e i ≡ true
+evict_uses i PageEntry.Free m = absurd (cc)
+evict_uses i PageEntry.Lost m = absurd (cc)
+evict_uses i (PageEntry.Shared set writer) m = and_left (has i set) _ m
+evict_uses i (PageEntry.Excl holder dirty) m = and_left (eqb holder i) (not dirty) m
+evict_uses i (PageEntry.Moving to mode rest dirty) m = ap (λ (b : Bool). cond (eqb to i) true b) m ∙ or_true (eqb to i)
 
 -- a copy that may be dropped isn't the only one
-pub drop_evicts : (i : ℕ) (e : Entry) → may_drop i e ≡ true → may_evict i e ≡ true
-drop_evicts i Entry.Free m = absurd (cc)
-drop_evicts i Entry.Lost m = absurd (cc)
-drop_evicts i (Entry.Shared set writer) m = go (has i set) (is_only i set) m
+pub drop_evicts : (i : ℕ) (e : PageEntry) → may_drop i e ≡ true → may_evict i e ≡ true
+drop_evicts i PageEntry.Free m = absurd (cc)
+drop_evicts i PageEntry.Lost m = absurd (cc)
+drop_evicts i (PageEntry.Shared set writer) m = go (has i set) (is_only i set) m
   where
     go : (a b : Bool) → (a && not b) ≡ true → (a && not (b && is_some writer)) ≡ true
     go true true m = absurd (cc)
     go true false m = refl
     go false b m = absurd (cc)
-drop_evicts i (Entry.Excl holder dirty) m = absurd (cc)
-drop_evicts i (Entry.Moving to mode rest dirty) m = absurd (cc)
+drop_evicts i (PageEntry.Excl holder dirty) m = absurd (cc)
+drop_evicts i (PageEntry.Moving to mode rest dirty) m = absurd (cc)
 
-pub gains-move : (i : ℕ) (from to : Entry) → Gains i from to → IsMove from to
+pub gains-move : (i : ℕ) (from to : PageEntry) → Gains i from to → IsMove from to
 gains-move i from to (Gains.lock mode m e) = IsMove.lock i mode m e
 gains-move i from to (Gains.raise m e) = IsMove.raise i m e
 gains-move i from to (Gains.share m e) = IsMove.share i m e
 gains-move i from to (Gains.yield m e) = IsMove.yield i m e
 gains-move i from to (Gains.change m e) = IsMove.change i m e
 
-pub turns-move : (from to : Entry) → Turns from to → IsMove from to
+pub turns-move : (from to : PageEntry) → Turns from to → IsMove from to
 turns-move from to (Turns.take m e) = IsMove.take m e
 turns-move from to (Turns.write m e) = IsMove.write m e
 turns-move from to (Turns.rebuild m e) = IsMove.rebuild m e
 
 -- each row is of one of the groups
-pub move-groups : {A : Type 0} (from to : Entry) → IsMove from to → ((i : ℕ) → Gains i from to → A) → (Turns from to → A) → ((i : ℕ) → Loses i from to → A) → A
+pub move-groups : {A : Type 0} (from to : PageEntry) → IsMove from to → ((i : ℕ) → Gains i from to → A) → (Turns from to → A) → ((i : ℕ) → Loses i from to → A) → A
 move-groups from to (IsMove.lock i mode m e) f g h = f i (Gains.lock mode m e)
 move-groups from to (IsMove.raise i m e) f g h = f i (Gains.raise m e)
 move-groups from to (IsMove.share i m e) f g h = f i (Gains.share m e)
@@ -92,12 +92,12 @@ move-groups from to (IsMove.write m e) f g h = g (Turns.write m e)
 move-groups from to (IsMove.change i m e) f g h = f i (Gains.change m e)
 move-groups from to (IsMove.rebuild m e) f g h = g (Turns.rebuild m e)
 
-coded_of : Entry → coded.Place
-coded_of Entry.Free = variants.Free
-coded_of (Entry.Shared set writer) = variants.Shared (record { bits = byte_of set }) writer
-coded_of (Entry.Excl holder dirty) = variants.Excl holder dirty
-coded_of (Entry.Moving to mode rest dirty) = variants.Moving to mode (record { bits = byte_of rest }) dirty
-coded_of Entry.Lost = variants.Lost
+coded_of : PageEntry → coded.Place
+coded_of PageEntry.Free = variants.Free
+coded_of (PageEntry.Shared set writer) = variants.Shared (record { bits = byte_of set }) writer
+coded_of (PageEntry.Excl holder dirty) = variants.Excl holder dirty
+coded_of (PageEntry.Moving to mode rest dirty) = variants.Moving to mode (record { bits = byte_of rest }) dirty
+coded_of PageEntry.Lost = variants.Lost
 
 back : (place : coded.Place) → InBytes place → coded_of (seen place) ≡ place
 unfolding coded_of

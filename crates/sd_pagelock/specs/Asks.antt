@@ -7,7 +7,7 @@ use Rattle.std.specs.Option.{option_map}
 use Rattle.sd_base.specs.declared.place.Mode.{Mode}
 use Rattle.sd_base.specs.declared.place.Mode.TheVariants as modes
 use Rattle.sd_pagelock.specs.declared.queue.Ask.{Ask}
-use Rattle.sd_pagelock.specs.Places.{Entry, holds_as, is_lost}
+use Rattle.sd_pagelock.specs.Places.{PageEntry, holds_as, is_lost}
 
 -- the stronger of two modes
 abbrev pub stronger : Mode → Mode → Mode
@@ -26,11 +26,11 @@ abbrev pub oldest : ℕ → List Ask → Option (ℕ × Mode)
 oldest i asks = option_map (λ ask. (ask.by, ask.mode)) (find (λ ask. not (eqb ask.by i)) asks)
 
 -- the asks that this place leaves open: no ask for a lost page, and none of one who has the page so
-abbrev pub is_open : Entry → Ask → Bool
-is_open place ask = not (is_lost place || holds_as ask.mode place ask.by)
+abbrev pub is_open_ask : PageEntry → Ask → Bool
+is_open_ask place ask = not (is_lost place || holds_as ask.mode place ask.by)
 
-abbrev pub open_asks : Entry → List Ask → List Ask
-open_asks place asks = filter (is_open place) asks
+abbrev pub open_asks : PageEntry → List Ask → List Ask
+open_asks place asks = filter (is_open_ask place) asks
 
 -- the asks of the others
 abbrev pub asks_without : ℕ → List Ask → List Ask

@@ -3,7 +3,7 @@ use Rattle.std.specs.Prelude.{◌≡◌, ℕ, ◌<◌, Bool, List, [], Option, N
 use Rattle.std.specs.List.{count_by}
 use Rattle.sd_base.specs.declared.place.Place as coded
 use Rattle.sd_pagelock.specs.declared.queue.Ask.{Ask}
-use Rattle.sd_pagelock.specs.Places.{Entry, seen, place_at, holds, rests, changed, is_lost, Formed, InRange}
+use Rattle.sd_pagelock.specs.Places.{PageEntry, seen, place_at, holds, rests, changed, is_lost, Formed, InRange}
 use Rattle.sd_pagelock.specs.Asks.{Queues, asks_for, oldest}
 
 -- by page: where it is, its RecLSN, and what of it is on its way; and the asked pages, rising, each with its asks
@@ -14,7 +14,7 @@ pub record DirectoryState (I : Type 0) : Type 0 where
   pub queues : Queues
 
 -- where the page is
-abbrev pub entry_at : {I : Type 0} → DirectoryState I → ℕ → Entry
+abbrev pub entry_at : {I : Type 0} → DirectoryState I → ℕ → PageEntry
 entry_at state p = place_at state.places p
 
 -- the LSN of the first change that the disk doesn't have
@@ -22,8 +22,8 @@ abbrev pub rec_lsn_at : {I : Type 0} → DirectoryState I → ℕ → Option ℕ
 rec_lsn_at state p = get_or state.rec_lsns p None
 
 -- what of the page is on its way
-abbrev pub image_at : {I : Type 0} → DirectoryState I → ℕ → Option I
-image_at state p = get_or state.images p None
+abbrev pub moving_image_at : {I : Type 0} → DirectoryState I → ℕ → Option I
+moving_image_at state p = get_or state.images p None
 
 -- the asks for the page, the oldest first
 abbrev pub asks_at : {I : Type 0} → DirectoryState I → ℕ → List Ask

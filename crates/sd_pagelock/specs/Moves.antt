@@ -3,11 +3,11 @@
 use Rattle.std.specs.Prelude.{◌≡◌, ℕ, true, Option, None, Some}
 use Rattle.sd_base.specs.declared.place.Mode.{Mode}
 use Rattle.sd_base.specs.Sets.{first}
-use Rattle.sd_pagelock.specs.Places.{Entry, is_free, is_lost, owns, passes}
+use Rattle.sd_pagelock.specs.Places.{PageEntry, is_free, is_lost, owns, passes}
 use Rattle.sd_pagelock.specs.Rows.{locked, may_raise, raised, may_share, given_shared, may_yield, given_excl, taken, may_drop, may_evict, fallen, may_write, written, dirtied}
 
 -- one row leads from the one to the other
-pub data IsMove (from to : Entry) : Type 0 where
+pub data IsMove (from to : PageEntry) : Type 0 where
   -- i asks for a page that is in no pool, and it is read from disk
   lock : (i : ℕ) (mode : Mode) → is_free from ≡ true → to ≡ locked i mode → IsMove from to
   -- i, the only one of a shared page, asks for it alone
@@ -32,7 +32,7 @@ pub data IsMove (from to : Entry) : Type 0 where
 -- The same rows in three groups, as the test of a move goes over them.
 
 -- i comes to have the page, or to have it so
-pub data Gains (i : ℕ) (from to : Entry) : Type 0 where
+pub data Gains (i : ℕ) (from to : PageEntry) : Type 0 where
   lock : (mode : Mode) → is_free from ≡ true → to ≡ locked i mode → Gains i from to
   raise : may_raise i from ≡ true → to ≡ raised i from → Gains i from to
   share : may_share i from ≡ true → to ≡ given_shared i from → Gains i from to
@@ -40,19 +40,19 @@ pub data Gains (i : ℕ) (from to : Entry) : Type 0 where
   change : owns from i ≡ true → to ≡ dirtied i → Gains i from to
 
 -- the page is taken, written or rebuilt
-pub data Turns (from to : Entry) : Type 0 where
+pub data Turns (from to : PageEntry) : Type 0 where
   take : passes from ≡ true → to ≡ taken from → Turns from to
   write : may_write from ≡ true → to ≡ written from → Turns from to
   rebuild : is_lost from ≡ true → to ≡ written from → Turns from to
 
 -- i's copy goes; one that may be dropped may be evicted too
-abbrev pub Loses : ℕ → Entry → Entry → Type 0
+abbrev pub Loses : ℕ → PageEntry → PageEntry → Type 0
 Loses i from to = (may_evict i from ≡ true) × (to ≡ fallen i from)
 
 -- the one who gains a page, by the place that this leaves
-abbrev pub newcomer : Entry → Option ℕ
-newcomer Entry.Free = None
-newcomer (Entry.Shared set writer) = first set
-newcomer (Entry.Excl holder dirty) = Some holder
-newcomer (Entry.Moving to mode rest dirty) = Some to
-newcomer Entry.Lost = None
+abbrev pub newcomer : PageEntry → Option ℕ
+newcomer PageEntry.Free = None
+newcomer (PageEntry.Shared set writer) = first set
+newcomer (PageEntry.Excl holder dirty) = Some holder
+newcomer (PageEntry.Moving to mode rest dirty) = Some to
+newcomer PageEntry.Lost = None

@@ -3,12 +3,12 @@ use Rattle.std.specs.Prelude.{ℕ, Bool, true, false, List, [], ◌∷◌, Optio
 use Rattle.sd_base.specs.declared.place.Mode.{Mode}
 use Rattle.sd_base.specs.declared.place.Mode.TheVariants as modes
 use Rattle.sd_base.specs.Sets.{has, without, with_member}
-use Rattle.sd_pagelock.specs.Places.{Entry, changed, holds}
+use Rattle.sd_pagelock.specs.Places.{PageEntry, changed, holds}
 
 -- a page that one alone reads from disk
-abbrev pub locked : ℕ → Mode → Entry
-locked i modes.Shared = Entry.Shared (i ∷ []) None
-locked i modes.Excl = Entry.Excl i false
+abbrev pub locked : ℕ → Mode → PageEntry
+locked i modes.Shared = PageEntry.Shared (i ∷ []) None
+locked i modes.Excl = PageEntry.Excl i false
 
 -- i is the only one listed
 abbrev pub is_only : ℕ → List ℕ → Bool
@@ -23,48 +23,48 @@ is_only_other i (x ∷ []) = not (eqb x i)
 is_only_other i (x ∷ y ∷ xs) = false
 
 -- i is the only one of a shared page
-abbrev pub may_raise : ℕ → Entry → Bool
-may_raise i Entry.Free = false
-may_raise i (Entry.Shared set writer) = is_only i set
-may_raise i (Entry.Excl holder dirty) = false
-may_raise i (Entry.Moving to mode rest dirty) = false
-may_raise i Entry.Lost = false
+abbrev pub may_raise : ℕ → PageEntry → Bool
+may_raise i PageEntry.Free = false
+may_raise i (PageEntry.Shared set writer) = is_only i set
+may_raise i (PageEntry.Excl holder dirty) = false
+may_raise i (PageEntry.Moving to mode rest dirty) = false
+may_raise i PageEntry.Lost = false
 
 -- the only one of a shared page has it alone now, and may change it
-abbrev pub raised : ℕ → Entry → Entry
-raised i Entry.Free = Entry.Free
-raised i (Entry.Shared set writer) = Entry.Excl i (is_some writer)
-raised i (Entry.Excl holder dirty) = Entry.Excl holder dirty
-raised i (Entry.Moving to mode rest dirty) = Entry.Moving to mode rest dirty
-raised i Entry.Lost = Entry.Lost
+abbrev pub raised : ℕ → PageEntry → PageEntry
+raised i PageEntry.Free = PageEntry.Free
+raised i (PageEntry.Shared set writer) = PageEntry.Excl i (is_some writer)
+raised i (PageEntry.Excl holder dirty) = PageEntry.Excl holder dirty
+raised i (PageEntry.Moving to mode rest dirty) = PageEntry.Moving to mode rest dirty
+raised i PageEntry.Lost = PageEntry.Lost
 
 -- a page that rests, at others than i
-abbrev pub may_share : ℕ → Entry → Bool
-may_share i Entry.Free = false
-may_share i (Entry.Shared set writer) = not (has i set)
-may_share i (Entry.Excl holder dirty) = not (eqb holder i)
-may_share i (Entry.Moving to mode rest dirty) = false
-may_share i Entry.Lost = false
+abbrev pub may_share : ℕ → PageEntry → Bool
+may_share i PageEntry.Free = false
+may_share i (PageEntry.Shared set writer) = not (has i set)
+may_share i (PageEntry.Excl holder dirty) = not (eqb holder i)
+may_share i (PageEntry.Moving to mode rest dirty) = false
+may_share i PageEntry.Lost = false
 
 -- given to i, shared: the holders keep their copies
-abbrev pub given_shared : ℕ → Entry → Entry
-given_shared i Entry.Free = Entry.Free
-given_shared i (Entry.Shared set writer) = Entry.Moving i modes.Shared set (is_some writer)
-given_shared i (Entry.Excl holder dirty) = Entry.Moving i modes.Shared (holder ∷ []) dirty
-given_shared i (Entry.Moving to mode rest dirty) = Entry.Moving to mode rest dirty
-given_shared i Entry.Lost = Entry.Lost
+abbrev pub given_shared : ℕ → PageEntry → PageEntry
+given_shared i PageEntry.Free = PageEntry.Free
+given_shared i (PageEntry.Shared set writer) = PageEntry.Moving i modes.Shared set (is_some writer)
+given_shared i (PageEntry.Excl holder dirty) = PageEntry.Moving i modes.Shared (holder ∷ []) dirty
+given_shared i (PageEntry.Moving to mode rest dirty) = PageEntry.Moving to mode rest dirty
+given_shared i PageEntry.Lost = PageEntry.Lost
 
 -- a page that rests at one alone, another than i
-abbrev pub may_yield : ℕ → Entry → Bool
-may_yield i Entry.Free = false
-may_yield i (Entry.Shared set writer) = is_only_other i set
-may_yield i (Entry.Excl holder dirty) = not (eqb holder i)
-may_yield i (Entry.Moving to mode rest dirty) = false
-may_yield i Entry.Lost = false
+abbrev pub may_yield : ℕ → PageEntry → Bool
+may_yield i PageEntry.Free = false
+may_yield i (PageEntry.Shared set writer) = is_only_other i set
+may_yield i (PageEntry.Excl holder dirty) = not (eqb holder i)
+may_yield i (PageEntry.Moving to mode rest dirty) = false
+may_yield i PageEntry.Lost = false
 
 -- given to i by the only holder, who keeps no copy
-abbrev pub given_excl : ℕ → Entry → Entry
-given_excl i place = Entry.Moving i modes.Excl [] (changed place)
+abbrev pub given_excl : ℕ → PageEntry → PageEntry
+given_excl i place = PageEntry.Moving i modes.Excl [] (changed place)
 
 -- the lowest of those who hold it already, else the receiver
 abbrev pub lowest : ℕ → List ℕ → ℕ
@@ -72,23 +72,23 @@ lowest to [] = to
 lowest to (x ∷ xs) = x
 
 -- the receiver took what moved to it; the lowest of the others has the duty of the page write
-abbrev pub taken : Entry → Entry
-taken Entry.Free = Entry.Free
-taken (Entry.Shared set writer) = Entry.Shared set writer
-taken (Entry.Excl holder dirty) = Entry.Excl holder dirty
-taken (Entry.Moving to modes.Excl rest dirty) = Entry.Excl to dirty
-taken (Entry.Moving to modes.Shared rest dirty) = Entry.Shared (with_member to rest) (cond {A = Option ℕ} dirty (Some (lowest to rest)) None)
-taken Entry.Lost = Entry.Lost
+abbrev pub taken : PageEntry → PageEntry
+taken PageEntry.Free = PageEntry.Free
+taken (PageEntry.Shared set writer) = PageEntry.Shared set writer
+taken (PageEntry.Excl holder dirty) = PageEntry.Excl holder dirty
+taken (PageEntry.Moving to modes.Excl rest dirty) = PageEntry.Excl to dirty
+taken (PageEntry.Moving to modes.Shared rest dirty) = PageEntry.Shared (with_member to rest) (cond {A = Option ℕ} dirty (Some (lowest to rest)) None)
+taken PageEntry.Lost = PageEntry.Lost
 
 -- in no pool: what only logs have is lost
-abbrev pub nowhere : Bool → Entry
-nowhere true = Entry.Lost
-nowhere false = Entry.Free
+abbrev pub nowhere : Bool → PageEntry
+nowhere true = PageEntry.Lost
+nowhere false = PageEntry.Free
 
 -- with these holders alone, and the lowest as writer of a changed page
-abbrev pub left_with : Bool → List ℕ → Entry
+abbrev pub left_with : Bool → List ℕ → PageEntry
 left_with dirty [] = nowhere dirty
-left_with dirty (x ∷ xs) = Entry.Shared (x ∷ xs) (cond {A = Option ℕ} dirty (Some x) None)
+left_with dirty (x ∷ xs) = PageEntry.Shared (x ∷ xs) (cond {A = Option ℕ} dirty (Some x) None)
 
 -- the writer stays, or is the lowest one left where it was i
 abbrev pub kept_writer : ℕ → Option ℕ → ℕ → Option ℕ
@@ -96,64 +96,64 @@ kept_writer i None low = None
 kept_writer i (Some w) low = cond {A = Option ℕ} (eqb w i) (Some low) (Some w)
 
 -- shared by those whom i left
-abbrev pub shared_left : ℕ → List ℕ → Option ℕ → Entry
+abbrev pub shared_left : ℕ → List ℕ → Option ℕ → PageEntry
 shared_left i [] writer = nowhere (is_some writer)
-shared_left i (x ∷ xs) writer = Entry.Shared (x ∷ xs) (kept_writer i writer x)
+shared_left i (x ∷ xs) writer = PageEntry.Shared (x ∷ xs) (kept_writer i writer x)
 
 -- i's copy goes, and what moves to i with it: i fell, or evicted the page, or dropped its copy for another
-abbrev pub fallen : ℕ → Entry → Entry
-fallen i Entry.Free = Entry.Free
-fallen i (Entry.Shared set writer) = shared_left i (without i set) writer
-fallen i (Entry.Excl holder dirty) = cond {A = Entry} (eqb holder i) (nowhere dirty) (Entry.Excl holder dirty)
-fallen i (Entry.Moving to mode rest dirty) = cond {A = Entry} (eqb to i) (left_with dirty (without i rest)) (Entry.Moving to mode (without i rest) dirty)
-fallen i Entry.Lost = Entry.Lost
+abbrev pub fallen : ℕ → PageEntry → PageEntry
+fallen i PageEntry.Free = PageEntry.Free
+fallen i (PageEntry.Shared set writer) = shared_left i (without i set) writer
+fallen i (PageEntry.Excl holder dirty) = cond {A = PageEntry} (eqb holder i) (nowhere dirty) (PageEntry.Excl holder dirty)
+fallen i (PageEntry.Moving to mode rest dirty) = cond {A = PageEntry} (eqb to i) (left_with dirty (without i rest)) (PageEntry.Moving to mode (without i rest) dirty)
+fallen i PageEntry.Lost = PageEntry.Lost
 
 -- i shares the page with others, who keep it when i drops its copy for one of them
-abbrev pub may_drop : ℕ → Entry → Bool
-may_drop i Entry.Free = false
-may_drop i (Entry.Shared set writer) = has i set && not (is_only i set)
-may_drop i (Entry.Excl holder dirty) = false
-may_drop i (Entry.Moving to mode rest dirty) = false
-may_drop i Entry.Lost = false
+abbrev pub may_drop : ℕ → PageEntry → Bool
+may_drop i PageEntry.Free = false
+may_drop i (PageEntry.Shared set writer) = has i set && not (is_only i set)
+may_drop i (PageEntry.Excl holder dirty) = false
+may_drop i (PageEntry.Moving to mode rest dirty) = false
+may_drop i PageEntry.Lost = false
 
 -- i holds the page, and isn't the only one to know its changes
-abbrev pub may_evict : ℕ → Entry → Bool
-may_evict i Entry.Free = false
-may_evict i (Entry.Shared set writer) = has i set && not (is_only i set && is_some writer)
-may_evict i (Entry.Excl holder dirty) = eqb holder i && not dirty
-may_evict i (Entry.Moving to mode rest dirty) = has i rest
-may_evict i Entry.Lost = false
+abbrev pub may_evict : ℕ → PageEntry → Bool
+may_evict i PageEntry.Free = false
+may_evict i (PageEntry.Shared set writer) = has i set && not (is_only i set && is_some writer)
+may_evict i (PageEntry.Excl holder dirty) = eqb holder i && not dirty
+may_evict i (PageEntry.Moving to mode rest dirty) = has i rest
+may_evict i PageEntry.Lost = false
 
 -- a page that one alone shares is that one's alone; every other place stays
-abbrev pub left_alone : Entry → Entry
-left_alone Entry.Free = Entry.Free
-left_alone (Entry.Shared [] writer) = Entry.Shared [] writer
-left_alone (Entry.Shared (x ∷ []) writer) = Entry.Excl x (is_some writer)
-left_alone (Entry.Shared (x ∷ y ∷ xs) writer) = Entry.Shared (x ∷ y ∷ xs) writer
-left_alone (Entry.Excl holder dirty) = Entry.Excl holder dirty
-left_alone (Entry.Moving to mode rest dirty) = Entry.Moving to mode rest dirty
-left_alone Entry.Lost = Entry.Lost
+abbrev pub left_alone : PageEntry → PageEntry
+left_alone PageEntry.Free = PageEntry.Free
+left_alone (PageEntry.Shared [] writer) = PageEntry.Shared [] writer
+left_alone (PageEntry.Shared (x ∷ []) writer) = PageEntry.Excl x (is_some writer)
+left_alone (PageEntry.Shared (x ∷ y ∷ xs) writer) = PageEntry.Shared (x ∷ y ∷ xs) writer
+left_alone (PageEntry.Excl holder dirty) = PageEntry.Excl holder dirty
+left_alone (PageEntry.Moving to mode rest dirty) = PageEntry.Moving to mode rest dirty
+left_alone PageEntry.Lost = PageEntry.Lost
 
 -- j drops its copy for i, who has the page alone where nobody else is left
-abbrev pub dropped : ℕ → ℕ → Entry → Entry
-dropped j i place = cond {A = Entry} (holds (left_alone (fallen j place)) i) (left_alone (fallen j place)) (fallen j place)
+abbrev pub dropped : ℕ → ℕ → PageEntry → PageEntry
+dropped j i place = cond {A = PageEntry} (holds (left_alone (fallen j place)) i) (left_alone (fallen j place)) (fallen j place)
 
 -- a page that rests, changed
-abbrev pub may_write : Entry → Bool
-may_write Entry.Free = false
-may_write (Entry.Shared set writer) = is_some writer
-may_write (Entry.Excl holder dirty) = dirty
-may_write (Entry.Moving to mode rest dirty) = false
-may_write Entry.Lost = false
+abbrev pub may_write : PageEntry → Bool
+may_write PageEntry.Free = false
+may_write (PageEntry.Shared set writer) = is_some writer
+may_write (PageEntry.Excl holder dirty) = dirty
+may_write (PageEntry.Moving to mode rest dirty) = false
+may_write PageEntry.Lost = false
 
 -- the newest version is on disk now: the page write, and the rebuild of a lost page
-abbrev pub written : Entry → Entry
-written Entry.Free = Entry.Free
-written (Entry.Shared set writer) = Entry.Shared set None
-written (Entry.Excl holder dirty) = Entry.Excl holder false
-written (Entry.Moving to mode rest dirty) = Entry.Moving to mode rest dirty
-written Entry.Lost = Entry.Free
+abbrev pub written : PageEntry → PageEntry
+written PageEntry.Free = PageEntry.Free
+written (PageEntry.Shared set writer) = PageEntry.Shared set None
+written (PageEntry.Excl holder dirty) = PageEntry.Excl holder false
+written (PageEntry.Moving to mode rest dirty) = PageEntry.Moving to mode rest dirty
+written PageEntry.Lost = PageEntry.Free
 
 -- i, who has the page alone, changed it
-abbrev pub dirtied : ℕ → Entry
-dirtied i = Entry.Excl i true
+abbrev pub dirtied : ℕ → PageEntry
+dirtied i = PageEntry.Excl i true

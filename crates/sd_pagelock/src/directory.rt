@@ -48,18 +48,18 @@ impl<I> Model for Directory<I> {
 
 impl<I: Drop> Directory<I> {
     ghost use Rattle.std.specs.Prelude.{◌≡◌, ◌≢◌, ◌<◌, ◌≤◌, ℕ, [], None, Some, IsTrue, IfNone, IfOk, IfSome, is_some, option_copied, cond, true, false, Option};
-    ghost use Rattle.sd_pagelock.specs.Places.{Entry, seen, is_free, changed, receives, Formed, InRange};
+    ghost use Rattle.sd_pagelock.specs.Places.{PageEntry, seen, is_free, changed, receives, Formed, InRange};
     ghost use Rattle.sd_pagelock.specs.Rows.{fallen};
     ghost use Rattle.sd_pagelock.specs.Moves.{IsMove};
     ghost use Rattle.sd_pagelock.specs.Asks.{queued, oldest, open_asks, asks_without, IsOneEach};
-    ghost use Rattle.sd_pagelock.specs.Directory.{entry_at, rec_lsn_at, image_at, asks_at, can_give, is_wanted, kept_rec};
+    ghost use Rattle.sd_pagelock.specs.Directory.{entry_at, rec_lsn_at, moving_image_at, asks_at, can_give, is_wanted, kept_rec};
 
     /// The directory of 1,024 free pages, with no asks and nothing on its way. It takes all memory that places need;
     /// room for an image comes with an ask.
     pub fn new(alloc: Global) -> Result<Directory<I>, Memory>
-        ensures free { IfOk result (λ d. (p : ℕ) → entry_at d p ≡ Entry.Free) }
+        ensures free { IfOk result (λ d. (p : ℕ) → entry_at d p ≡ PageEntry.Free) }
         ensures clean { IfOk result (λ d. (p : ℕ) → rec_lsn_at d p ≡ None) }
-        ensures still { IfOk result (λ d. (p : ℕ) → image_at d p ≡ None) }
+        ensures still { IfOk result (λ d. (p : ℕ) → moving_image_at d p ≡ None) }
         ensures unasked { IfOk result (λ d. (p : ℕ) → asks_at d p ≡ []) }
     {
         Ok(Directory {
@@ -76,7 +76,7 @@ impl<I: Drop> Directory<I> {
     /// What holds of every directory: its places are well formed, over instances of the complex, and those past the last
     /// page are free; a page has a RecLSN exactly where it is changed; an instance asks once for a page.
     pub fn keeps(&self)
-        ensures past { (p : ℕ) → 1024 ≤ p → entry_at self.now p ≡ Entry.Free }
+        ensures past { (p : ℕ) → 1024 ≤ p → entry_at self.now p ≡ PageEntry.Free }
         ensures formed { (p : ℕ) → Formed (entry_at self.now p) }
         ensures in_range { (p : ℕ) → InRange (entry_at self.now p) }
         ensures marked { (p : ℕ) → is_some (rec_lsn_at self.now p) ≡ changed (entry_at self.now p) }
@@ -111,7 +111,7 @@ impl<I: Drop> Directory<I> {
         ensures rec_lsn { rec_lsn_at self.new p
             ≡ kept_rec (changed (entry_at self.old p)) (changed (seen to)) (rec_lsn_at self.old p) rec }
         ensures asks { asks_at self.new p ≡ open_asks (seen to) (asks_at self.old p) }
-        ensures images { (q : ℕ) → image_at self.new q ≡ image_at self.old q }
+        ensures images { (q : ℕ) → moving_image_at self.new q ≡ moving_image_at self.old q }
         ensures others { (q : ℕ) → q ≢ p → entry_at self.new q ≡ entry_at self.old q }
         ensures other_rec_lsns { (q : ℕ) → q ≢ p → rec_lsn_at self.new q ≡ rec_lsn_at self.old q }
         ensures other_asks { (q : ℕ) → q ≢ p → asks_at self.new q ≡ asks_at self.old q }
@@ -131,8 +131,8 @@ impl<I: Drop> Directory<I> {
         ensures rec_lsns { (p : ℕ) → rec_lsn_at self.new p ≡ rec_lsn_at self.old p }
         ensures asks { (p : ℕ) → asks_at self.new p
             ≡ open_asks (fallen i (entry_at self.old p)) (asks_without i (asks_at self.old p)) }
-        ensures images { (p : ℕ) → image_at self.new p
-            ≡ cond {A = Option I} (receives (entry_at self.old p) i) None (image_at self.old p) }
+        ensures images { (p : ℕ) → moving_image_at self.new p
+            ≡ cond {A = Option I} (receives (entry_at self.old p) i) None (moving_image_at self.old p) }
     {
         self.keeps();
         for group in 0..GROUPS {
@@ -148,9 +148,9 @@ impl<I: Drop> Directory<I> {
         requires free { IsTrue (is_free (entry_at self.old p)) }
         requires unasked { asks_at self.old p ≡ [] }
 
-        ensures here { entry_at self.new p ≡ Entry.Lost }
+        ensures here { entry_at self.new p ≡ PageEntry.Lost }
         ensures rec_lsn { rec_lsn_at self.new p ≡ Some rec }
-        ensures images { (q : ℕ) → image_at self.new q ≡ image_at self.old q }
+        ensures images { (q : ℕ) → moving_image_at self.new q ≡ moving_image_at self.old q }
         ensures asks { (q : ℕ) → asks_at self.new q ≡ asks_at self.old q }
         ensures others { (q : ℕ) → q ≢ p → entry_at self.new q ≡ entry_at self.old q }
         ensures other_rec_lsns { (q : ℕ) → q ≢ p → rec_lsn_at self.new q ≡ rec_lsn_at self.old q }
@@ -160,8 +160,8 @@ impl<I: Drop> Directory<I> {
 
     /// The page's image sets out, in place of one that was on its way. It takes no memory.
     pub fn send(&mut self, p: PageNo, image: I)
-        ensures here { image_at self.new p ≡ Some image }
-        ensures others { (q : ℕ) → q ≢ p → image_at self.new q ≡ image_at self.old q }
+        ensures here { moving_image_at self.new p ≡ Some image }
+        ensures others { (q : ℕ) → q ≢ p → moving_image_at self.new q ≡ moving_image_at self.old q }
         ensures places { (q : ℕ) → entry_at self.new q ≡ entry_at self.old q }
         ensures rec_lsns { (q : ℕ) → rec_lsn_at self.new q ≡ rec_lsn_at self.old q }
         ensures asks { (q : ℕ) → asks_at self.new q ≡ asks_at self.old q }
@@ -171,7 +171,7 @@ impl<I: Drop> Directory<I> {
 
     /// The page's image that is on its way; `None` exactly where there is none.
     pub fn under_way(&self, p: PageNo) -> Option<&I>
-        ensures { option_copied result ≡ image_at self.now p }
+        ensures { option_copied result ≡ moving_image_at self.now p }
     {
         self.images[p.get() as usize].as_ref()
     }
@@ -179,9 +179,9 @@ impl<I: Drop> Directory<I> {
     /// The page's image arrives; `None` exactly where none was on its way. What takes it leaves room for the next that sets
     /// out. It takes no memory.
     pub fn arrive(&mut self, p: PageNo, room: I) -> Option<I>
-        ensures value { result ≡ image_at self.old p }
-        ensures here { image_at self.new p ≡ None }
-        ensures others { (q : ℕ) → q ≢ p → image_at self.new q ≡ image_at self.old q }
+        ensures value { result ≡ moving_image_at self.old p }
+        ensures here { moving_image_at self.new p ≡ None }
+        ensures others { (q : ℕ) → q ≢ p → moving_image_at self.new q ≡ moving_image_at self.old q }
         ensures places { (q : ℕ) → entry_at self.new q ≡ entry_at self.old q }
         ensures rec_lsns { (q : ℕ) → rec_lsn_at self.new q ≡ rec_lsn_at self.old q }
         ensures asks { (q : ℕ) → asks_at self.new q ≡ asks_at self.old q }
@@ -194,10 +194,10 @@ impl<I: Drop> Directory<I> {
     /// The page's image arrives, where there is room besides in which the next can set out. `None` where there isn't, and where
     /// none was on its way: nothing changes then. It takes no memory.
     pub fn arrive_again(&mut self, p: PageNo) -> Option<I>
-        ensures value { IfSome result (λ image. image_at self.old p ≡ Some image) }
-        ensures here { IfSome result (λ image. image_at self.new p ≡ None) }
-        ensures stays { IfNone result (image_at self.new p ≡ image_at self.old p) }
-        ensures others { (q : ℕ) → q ≢ p → image_at self.new q ≡ image_at self.old q }
+        ensures value { IfSome result (λ image. moving_image_at self.old p ≡ Some image) }
+        ensures here { IfSome result (λ image. moving_image_at self.new p ≡ None) }
+        ensures stays { IfNone result (moving_image_at self.new p ≡ moving_image_at self.old p) }
+        ensures others { (q : ℕ) → q ≢ p → moving_image_at self.new q ≡ moving_image_at self.old q }
         ensures places { (q : ℕ) → entry_at self.new q ≡ entry_at self.old q }
         ensures rec_lsns { (q : ℕ) → rec_lsn_at self.new q ≡ rec_lsn_at self.old q }
         ensures asks { (q : ℕ) → asks_at self.new q ≡ asks_at self.old q }
@@ -219,7 +219,7 @@ impl<I: Drop> Directory<I> {
     ghost use Rattle.sd_pagelock.specs.Places.{seen, changed, is_lost, holds, receives, uses, rests, Formed};
     ghost use Rattle.sd_pagelock.specs.Rows.{fallen};
     ghost use Rattle.sd_pagelock.specs.Asks.{queued, oldest, open_asks, asks_without};
-    ghost use Rattle.sd_pagelock.specs.Directory.{entry_at, rec_lsn_at, image_at, asks_at, can_give, is_wanted, kept_rec};
+    ghost use Rattle.sd_pagelock.specs.Directory.{entry_at, rec_lsn_at, moving_image_at, asks_at, can_give, is_wanted, kept_rec};
 
     /// `i` asks for the page: at the end of its asks, or in the place of its older ask, which becomes the stronger of
     /// both. It brings room, in which a copy of the page's image can set out. After `Memory` all is as before.
@@ -229,7 +229,7 @@ impl<I: Drop> Directory<I> {
         ensures err { OnErr result (asks_at self.new p ≡ asks_at self.old p) }
         ensures places { (q : ℕ) → entry_at self.new q ≡ entry_at self.old q }
         ensures rec_lsns { (q : ℕ) → rec_lsn_at self.new q ≡ rec_lsn_at self.old q }
-        ensures images { (q : ℕ) → image_at self.new q ≡ image_at self.old q }
+        ensures images { (q : ℕ) → moving_image_at self.new q ≡ moving_image_at self.old q }
     {
         self.asks.add(*self.places.allocator(), p, i, mode)?;
         self.rooms[p.get() as usize] = Some(room);
@@ -244,7 +244,7 @@ impl<I: Drop> Directory<I> {
         ensures err { OnErr result (asks_at self.new p ≡ asks_at self.old p) }
         ensures places { (q : ℕ) → entry_at self.new q ≡ entry_at self.old q }
         ensures rec_lsns { (q : ℕ) → rec_lsn_at self.new q ≡ rec_lsn_at self.old q }
-        ensures images { (q : ℕ) → image_at self.new q ≡ image_at self.old q }
+        ensures images { (q : ℕ) → moving_image_at self.new q ≡ moving_image_at self.old q }
     {
         if self.rooms[p.get() as usize].is_none() {
             return Ok(false);
@@ -287,7 +287,7 @@ impl<I: Drop> Directory<I> {
         ensures asks { (q : ℕ) → asks_at self.new q ≡ asks_without i (asks_at self.old q) }
         ensures places { (q : ℕ) → entry_at self.new q ≡ entry_at self.old q }
         ensures rec_lsns { (q : ℕ) → rec_lsn_at self.new q ≡ rec_lsn_at self.old q }
-        ensures images { (q : ℕ) → image_at self.new q ≡ image_at self.old q }
+        ensures images { (q : ℕ) → moving_image_at self.new q ≡ moving_image_at self.old q }
     {
         self.asks.forget(i);
     }
@@ -358,12 +358,12 @@ impl<I: Drop> Directory<I> {
     fn fall_in(&mut self, group: u16, i: InstNo)
         requires { group < 32 }
         ensures here { (p : ℕ) → 32 * group ≤ p → p < 32 * group + 32 → entry_at self.new p ≡ fallen i (entry_at self.old p) }
-        ensures images { (p : ℕ) → 32 * group ≤ p → p < 32 * group + 32 → image_at self.new p
-            ≡ cond {A = Option I} (receives (entry_at self.old p) i) None (image_at self.old p) }
+        ensures images { (p : ℕ) → 32 * group ≤ p → p < 32 * group + 32 → moving_image_at self.new p
+            ≡ cond {A = Option I} (receives (entry_at self.old p) i) None (moving_image_at self.old p) }
         ensures below { (q : ℕ) → q < 32 * group → entry_at self.new q ≡ entry_at self.old q }
         ensures above { (q : ℕ) → 32 * group + 32 ≤ q → entry_at self.new q ≡ entry_at self.old q }
-        ensures images_below { (q : ℕ) → q < 32 * group → image_at self.new q ≡ image_at self.old q }
-        ensures images_above { (q : ℕ) → 32 * group + 32 ≤ q → image_at self.new q ≡ image_at self.old q }
+        ensures images_below { (q : ℕ) → q < 32 * group → moving_image_at self.new q ≡ moving_image_at self.old q }
+        ensures images_above { (q : ℕ) → 32 * group + 32 ≤ q → moving_image_at self.new q ≡ moving_image_at self.old q }
         ensures rec_lsns { (q : ℕ) → rec_lsn_at self.new q ≡ rec_lsn_at self.old q }
         ensures asks { (q : ℕ) → asks_at self.new q ≡ asks_at self.old q }
     {
@@ -380,10 +380,10 @@ impl<I: Drop> Directory<I> {
     // What the fall of `i` leaves of the page, without its asks.
     fn fall_at(&mut self, p: PageNo, i: InstNo)
         ensures here { entry_at self.new p ≡ fallen i (entry_at self.old p) }
-        ensures image { image_at self.new p
-            ≡ cond {A = Option I} (receives (entry_at self.old p) i) None (image_at self.old p) }
+        ensures image { moving_image_at self.new p
+            ≡ cond {A = Option I} (receives (entry_at self.old p) i) None (moving_image_at self.old p) }
         ensures others { (q : ℕ) → q ≢ p → entry_at self.new q ≡ entry_at self.old q }
-        ensures other_images { (q : ℕ) → q ≢ p → image_at self.new q ≡ image_at self.old q }
+        ensures other_images { (q : ℕ) → q ≢ p → moving_image_at self.new q ≡ moving_image_at self.old q }
         ensures rec_lsn { rec_lsn_at self.new p ≡ rec_lsn_at self.old p }
         ensures other_rec_lsns { (q : ℕ) → q ≢ p → rec_lsn_at self.new q ≡ rec_lsn_at self.old q }
         ensures asks { (q : ℕ) → asks_at self.new q ≡ asks_at self.old q }
@@ -399,8 +399,8 @@ impl<I: Drop> Directory<I> {
 
     // What is on its way of the page goes no further, and is room for the next that sets out.
     fn keep_room(&mut self, p: PageNo)
-        ensures here { image_at self.new p ≡ None }
-        ensures others { (q : ℕ) → q ≢ p → image_at self.new q ≡ image_at self.old q }
+        ensures here { moving_image_at self.new p ≡ None }
+        ensures others { (q : ℕ) → q ≢ p → moving_image_at self.new q ≡ moving_image_at self.old q }
         ensures places { self.new.places ≡ self.old.places }
         ensures rec_lsns { self.new.rec_lsns ≡ self.old.rec_lsns }
         ensures asks { self.new.queues ≡ self.old.queues }
@@ -434,13 +434,13 @@ impl<I: Drop> Directory<I> {
 impl<T: Copy + Drop> Directory<Box<T>> {
     ghost use Rattle.std.specs.Prelude.{◌≡◌, ◌≢◌, ℕ, [], Some, option_map};
     ghost use Rattle.std.specs.Box.{box_value};
-    ghost use Rattle.sd_pagelock.specs.Directory.{entry_at, rec_lsn_at, image_at, asks_at};
+    ghost use Rattle.sd_pagelock.specs.Directory.{entry_at, rec_lsn_at, moving_image_at, asks_at};
 
     /// A copy of the image of a page that is asked for sets out, in the room that an ask brought. It takes no memory.
     pub fn send_copy(&mut self, p: PageNo, image: &T)
         requires { asks_at self.old p ≢ [] }
-        ensures here { option_map box_value (image_at self.new p) ≡ Some image.now }
-        ensures others { (q : ℕ) → q ≢ p → image_at self.new q ≡ image_at self.old q }
+        ensures here { option_map box_value (moving_image_at self.new p) ≡ Some image.now }
+        ensures others { (q : ℕ) → q ≢ p → moving_image_at self.new q ≡ moving_image_at self.old q }
         ensures places { (q : ℕ) → entry_at self.new q ≡ entry_at self.old q }
         ensures rec_lsns { (q : ℕ) → rec_lsn_at self.new q ≡ rec_lsn_at self.old q }
         ensures asks { (q : ℕ) → asks_at self.new q ≡ asks_at self.old q }

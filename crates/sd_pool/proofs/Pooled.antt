@@ -13,7 +13,7 @@ use Rattle.std.proofs.lemmas.Map.Made.{keys_of-map_values, lookup-map_values}
 use Rattle.std.proofs.lemmas.Option.{slice_get-get_or}
 use Rattle.lru.specs.LruCache.{LruCache, last_entry, promoted, put_entries, lru_cache}
 use Rattle.sd_page.specs.Page.{Page}
-use Rattle.sd_pool.specs.Buffers.{Buffers, image_at, least_recent, pages, rewritten, unboxed, used, with_page, without, IsPool, LacksFrame}
+use Rattle.sd_pool.specs.Buffers.{Buffers, image_at, least_recent, pages, rewritten, unboxed, used, with_page, without_page, IsPool, LacksFrame}
 use Rattle.sd_pool.proofs.Boxed.{opened, unboxed-promoted, unboxed-put_entries, unboxed-remove_entry, unboxed-set_value}
 use Rattle.sd_pool.proofs.Held.{lookup_entry-lookup, remove_entry-absent, set_value-absent, lookup-remove_entry_other, IsDistinct-remove_entry, differs-remove_entry, lookup-remove_entry_same, length-remove_entry_le, length-remove_entry_held, IsSome-lookup_at, length-keys, slice_get-keys}
 
@@ -22,7 +22,7 @@ unfolding IsDistinct
 IsPool-cleared pool ok = record { distinct = tt; few = omega arith; least = ok.least; most = ok.most }
 
 module _ (pool : Buffers) (p : ℕ) where
-  pub IsPool-without : IsPool pool → IsPool (without pool p)
+  pub IsPool-without : IsPool pool → IsPool (without_page pool p)
   IsPool-without ok = record {
     distinct = IsDistinct-remove_entry p pool.held ok.distinct;
     few = let shorter = length-remove_entry_le p pool.held in omega (arith, ok.few);
@@ -67,10 +67,10 @@ module _ (pool : Buffers) (p : ℕ) where
             ap (λ l. (p, image) ∷ l) (take_all (pool.frames - 1) pool.held within ∙ sym (remove_entry-absent p pool.held h))
         by (Some v) h = refl
 
-  pub image_at-without : IsPool pool → image_at (without pool p) p ≡ None
+  pub image_at-without : IsPool pool → image_at (without_page pool p) p ≡ None
   image_at-without ok = lookup-remove_entry_same p pool.held ok.distinct
 
-  pub image_at-without_other : (q : ℕ) → q ≢ p → image_at (without pool p) q ≡ image_at pool q
+  pub image_at-without_other : (q : ℕ) → q ≢ p → image_at (without_page pool p) q ≡ image_at pool q
   image_at-without_other q apart = lookup-remove_entry_other p q apart pool.held
 
   promoted_held : promoted (eqb p) pool.held ≡ (used pool p).held
@@ -126,7 +126,7 @@ module _ (cache new : LruCache ℕ (Box Page)) (p : ℕ) where
   seen-promoted e = ap seen e ∙ (λ i. record { held = (unboxed-promoted (eqb p) cache.entries ∙ promoted_held (seen cache) p) i; frames = sym (frames-used (seen cache) p) i })
 
   -- after `pop`
-  pub seen-popped : new ≡ lru_cache (remove_entry (eqb p) cache.entries) cache.cap → seen new ≡ without (seen cache) p
+  pub seen-popped : new ≡ lru_cache (remove_entry (eqb p) cache.entries) cache.cap → seen new ≡ without_page (seen cache) p
   seen-popped e = ap seen e ∙ (λ i. record { held = unboxed-remove_entry (eqb p) cache.entries i; frames = cache.cap })
 
   -- after `put`, where there is a frame

@@ -24,8 +24,8 @@ abbrev pub pages : Buffers → List ℕ
 pages pool = keys_of pool.held
 
 -- the pool without a page; the others keep their order
-abbrev pub without : Buffers → ℕ → Buffers
-without pool p = record { held = remove_entry (nat_eq p) pool.held; frames = pool.frames }
+abbrev pub without_page : Buffers → ℕ → Buffers
+without_page pool p = record { held = remove_entry (nat_eq p) pool.held; frames = pool.frames }
 
 -- the pool with this image of a page, which is then the last used
 abbrev pub with_page : Buffers → ℕ → Page → Buffers

@@ -4,7 +4,7 @@ ghost use Rattle.std.specs.Prelude.{◌≡◌, ◌≢◌, ℕ, ◌≤◌, ◌⊎
 ghost use Rattle.std.specs.Box.{box_value};
 ghost use Rattle.std.specs.Option.{option_map};
 ghost use Rattle.sd_base.specs.declared.refusal.Refusal.TheVariants as R;
-ghost use Rattle.sd_pool.specs.Buffers.{image_at, least_recent, pages, used, with_page, without, IsPool, LacksFrame};
+ghost use Rattle.sd_pool.specs.Buffers.{image_at, least_recent, pages, used, with_page, without_page, IsPool, LacksFrame};
 
 use lru::LruCache;
 use sd_base::{Memory, PageNo, Refusal};
@@ -134,7 +134,7 @@ impl Pool {
     /// It takes no memory.
     pub fn take(&mut self, p: PageNo) -> Option<Box<Image>>
         ensures value { option_map box_value result ≡ image_at self.old p }
-        ensures rest { self.new ≡ without self.old p }
+        ensures rest { self.new ≡ without_page self.old p }
         ensures gone { image_at self.new p ≡ None }
         ensures others { (q : ℕ) → q ≢ p → image_at self.new q ≡ image_at self.old q }
     {

@@ -10,7 +10,7 @@ use Rattle.sd_log.specs.Logs.{LogState, flats, log_in, scanned}
 use Rattle.sd_analysis.specs.declared.losers.Loser.{Loser}
 use Rattle.sd_chain.specs.Records.{of_page}
 use Rattle.sd_chain.specs.Bytes.{log_of, records_of, stable}
-use Rattle.sd_chain.specs.Image.{chain, newest, sorted}
+use Rattle.sd_chain.specs.Storage.{chain, newest, sorted}
 use Rattle.sd_chain.specs.Pages.{replay}
 use Rattle.sd_chain.proofs.Lists.{all_of-same}
 use Rattle.sd_newest.specs.Reading.{image_of}

@@ -12,7 +12,7 @@ use Rattle.sd_log.specs.declared.placed.Placed.{Placed}
 use Rattle.sd_log.specs.Logs.{AreSpelled, LogState, flats, log_in, scanned}
 use Rattle.sd_chain.specs.Records.{Each, of_page}
 use Rattle.sd_chain.specs.Pages.{FitAll, redo, replay}
-use Rattle.sd_chain.specs.Image.{Image, all_of, chain, newest, sorted}
+use Rattle.sd_chain.specs.Storage.{Storage, all_of, chain, newest, sorted}
 use Rattle.sd_chain.proofs.Lists.{Each-filter, Each-sorted, filter-skip}
 use Rattle.sd_chain.proofs.Chains.{Each-all_of, replay_rises}
 use Rattle.sd_recovered.proofs.Members.{All-at, in_log}
@@ -39,7 +39,7 @@ filter_none : (test : Rec → Bool) (xs : List Rec) → Each (λ r. test r ≡ f
 filter_none test [] off = refl
 filter_none test (x ∷ xs) off = filter-skip test x xs off.0 ∙ filter_none test xs off.1
 
-pub no_chain : (img : Image) (logs : List LogState) (p : ℕ) → 1024 ≤ p → All (λ log. AreSpelled (scanned log)) logs
+pub no_chain : (img : Storage) (logs : List LogState) (p : ℕ) → 1024 ≤ p → All (λ log. AreSpelled (scanned log)) logs
     → ((j : ℕ) → img.logs j ≡ log_in logs j) → chain img p ≡ []
 unfolding chain
 no_chain img logs p le are same =
@@ -50,7 +50,7 @@ no_chain img logs p le are same =
     (λ k log at. all_off p (scanned log) le (All-at (λ l. AreSpelled (scanned l)) logs k log are at)) j))))
 
 -- the disk image is no newer than the newest version
-pub disk_below : (img : Image) (p : ℕ) → FitAll (img.disk p).lsn (img.disk p) (chain img p) → (img.disk p).lsn ≤ (newest img p).lsn
+pub disk_below : (img : Storage) (p : ℕ) → FitAll (img.disk p).lsn (img.disk p) (chain img p) → (img.disk p).lsn ≤ (newest img p).lsn
 unfolding newest
 disk_below img p fit = (replay_rises (img.disk p).lsn (img.disk p) (chain img p) (omega arith) fit).0
 
@@ -64,7 +64,7 @@ replay_lsn P floor page (x ∷ xs) p each =
     either true = each.0
     either false = p
 
-pub newest_lsn : (P : ℕ → Type 0) (img : Image) (p : ℕ) → P (img.disk p).lsn → ((j : ℕ) → Each (λ r. P r.lsn) (img.logs j)) → P (newest img p).lsn
+pub newest_lsn : (P : ℕ → Type 0) (img : Storage) (p : ℕ) → P (img.disk p).lsn → ((j : ℕ) → Each (λ r. P r.lsn) (img.logs j)) → P (newest img p).lsn
 unfolding newest chain
 newest_lsn P img p disk logs =
     replay_lsn P (img.disk p).lsn (img.disk p) (sorted (filter (of_page p) (all_of img.logs 9))) disk

@@ -4,14 +4,14 @@ use Rattle.std.specs.Prelude.{All, Some, slice_get}
 use Rattle.std.proofs.lemmas.List.Elements.{All-nil, All-cons}
 use Rattle.sd_log.specs.Logs.{AreSpelled, LogState, scanned}
 use Rattle.sd_analysis.specs.declared.losers.Loser.{Loser}
-use Rattle.sd_recovered.specs.Reading.{AreRead, IsRead, IsUnread, SomeUnread}
+use Rattle.sd_recovered.specs.Reading.{AreRead, IsUnread, LogIsRead, SomeUnread}
 
 -- the log of this index, and its losers
 pub record Covered (j k : ℕ) (device : List ℕ) (logs : List LogState) (losers : List (List Loser)) : Type 0 where
   pub log : LogState
   pub found : List Loser
   pub log_at : slice_get logs k ≡ Some log
-  pub read : IsRead (j + k) device log found
+  pub read : LogIsRead (j + k) device log found
 
 pub covered : (j k : ℕ) (ds : List (List ℕ)) (logs : List LogState) (losers : List (List Loser)) (d : List ℕ) → AreRead j ds logs losers
     → slice_get ds k ≡ Some d → Covered j k d logs losers
@@ -21,11 +21,11 @@ covered j k (x ∷ ds) (y ∷ logs) [] d are at = absurd are
 covered j zero (x ∷ ds) (y ∷ logs) (z ∷ losers) d are at =
     let same : x ≡ d = cc in
     let e : j ≡ j + 0 = omega arith in
-    record { log = y; found = z; log_at = refl; read = subst (λ (n : ℕ). IsRead n d y z) e (subst (λ (b : List ℕ). IsRead j b y z) same are.0) }
+    record { log = y; found = z; log_at = refl; read = subst (λ (n : ℕ). LogIsRead n d y z) e (subst (λ (b : List ℕ). LogIsRead j b y z) same are.0) }
 covered j (suc k) (x ∷ ds) (y ∷ logs) (z ∷ losers) d are at =
     let c = covered (suc j) k ds logs losers d are.1 at in
     let e : suc j + k ≡ j + suc k = omega arith in
-    record { log = c.log; found = c.found; log_at = c.log_at; read = subst (λ (n : ℕ). IsRead n d c.log c.found) e c.read }
+    record { log = c.log; found = c.found; log_at = c.log_at; read = subst (λ (n : ℕ). LogIsRead n d c.log c.found) e c.read }
 
 -- as many logs as devices
 pub as_many : (j : ℕ) (ds : List (List ℕ)) (logs : List LogState) (losers : List (List Loser)) → AreRead j ds logs losers

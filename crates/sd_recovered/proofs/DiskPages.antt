@@ -7,7 +7,7 @@ use Rattle.std.proofs.lemmas.List.{get_or_past}
 use Rattle.sd_base.specs.Twin.{First, Second, Same, body_at, body_of, is_open, number_of, slot_of}
 use Rattle.sd_page.specs.Page as page
 use Rattle.sd_base.specs.Values.{size}
-use Rattle.sd_page.specs.Page.{Fits, Page, SlotFits}
+use Rattle.sd_page.specs.Page.{Page, PageFits, SlotFits}
 use Rattle.sd_page.specs.Reading.{page_of}
 use Rattle.sd_page.specs.Spelling.{WellFormed}
 use Rattle.sd_page.proofs.Told.{told}

@@ -12,7 +12,7 @@ use Rattle.sd_chain.specs.Bytes.{stable}
 use Rattle.sd_chain.specs.Checks.{RoomIsLeft, gate_of, past_of, placed_of, records_in}
 use Rattle.sd_chain.specs.Faults as faults
 use Rattle.sd_chain.specs.Faults.{ChainsAreSound, FailsInChain, FailsInRoom, FailsInStack, FailsInTwin, LogsAreSound}
-use Rattle.sd_chain.specs.Image.{Image, chain, newest}
+use Rattle.sd_chain.specs.Storage.{Storage, chain, newest}
 use Rattle.sd_chain.specs.Pages.{FitAll}
 use Rattle.sd_merge.specs.Changes.{LsnsRise, Rises}
 use Rattle.sd_newest.specs.Misfits as newest
@@ -33,7 +33,7 @@ one_log e f = cc
 
 module _ (x : List ℕ) (ds : List (List ℕ)) (logs : List LogState) (losers : List (List Loser)) (eight : length logs ≡ 8)
     (are : AreRead 1 ds logs losers) where
-  abbrev img : Image
+  abbrev img : Storage
   img = stable (devices_of (x ∷ ds))
 
   pub logs_sound : LogsAreSound (devices_of (x ∷ ds))

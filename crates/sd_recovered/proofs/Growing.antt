@@ -5,10 +5,10 @@ use Rattle.std.proofs.lemmas.List.{length-take-le, map-append}
 use Rattle.std.proofs.Math.Seq.{take-length, take-suc}
 use Rattle.sd_log.specs.Logs.{LogState}
 use Rattle.sd_analysis.specs.declared.losers.Loser.{Loser}
-use Rattle.sd_scan.specs.declared.master.Master.{Master}
+use Rattle.sd_scan.specs.declared.master.MasterRecord.{MasterRecord}
 use Rattle.sd_scan.specs.Masters.{said}
 use Rattle.sd_chain.specs.Faults.{LogFailsAt}
-use Rattle.sd_recovered.specs.Reading.{AreRead, FailsAmong, HasRead, IsRead, IsUnread, SomeUnread, counting}
+use Rattle.sd_recovered.specs.Reading.{AreRead, FailsAmong, HasRead, IsUnread, LogIsRead, SomeUnread, counting}
 use Rattle.sd_recovered.specs.declared.logs.ReadLogs.{ReadLogs}
 use Rattle.sd_recovered.proofs.Covers.{as_many}
 use Rattle.sd_recovered.proofs.LogFaults.{fails_among}
@@ -19,7 +19,7 @@ pub count-read : (ds : List (List ℕ)) (r : ReadLogs) → HasRead ds r → leng
 count-read ds r has = as_many 1 ds r.logs.items r.losers.items has.read
 
 -- the masters, with one more
-pub masters-more : (masters : List (Option Master)) (m : Option Master) (ds : List (List ℕ)) (d : List ℕ)
+pub masters-more : (masters : List (Option MasterRecord)) (m : Option MasterRecord) (ds : List (List ℕ)) (d : List ℕ)
     → map said masters ≡ map counting ds → said m ≡ counting d → map said (masters ++ m ∷ []) ≡ map counting (ds ++ d ∷ [])
 masters-more masters m ds d so_far is =
     map-append said masters (m ∷ []) ∙ ap (λ l. l ++ said m ∷ []) so_far ∙ ap (λ x. map counting ds ++ x ∷ []) is
@@ -27,10 +27,10 @@ masters-more masters m ds d so_far is =
 
 -- the logs, with one more, which is that of the next instance
 pub logs-more : (ds : List (List ℕ)) (r : ReadLogs) (d : List ℕ) (log : LogState) (ls : List Loser) → HasRead ds r
-    → IsRead (1 + length r.logs.items) d log ls → AreRead 1 (ds ++ d ∷ []) (r.logs.items ++ log ∷ []) (r.losers.items ++ ls ∷ [])
+    → LogIsRead (1 + length r.logs.items) d log ls → AreRead 1 (ds ++ d ∷ []) (r.logs.items ++ log ∷ []) (r.losers.items ++ ls ∷ [])
 logs-more ds r d log ls has here =
     AreRead-more 1 ds r.logs.items r.losers.items d log ls has.read
-    (subst (λ (n : ℕ). IsRead (1 + n) d log ls) (count-read ds r has) here)
+    (subst (λ (n : ℕ). LogIsRead (1 + n) d log ls) (count-read ds r has) here)
 
 -- the first devices of a list, as many as there are logs
 module _ (ds : List (List ℕ)) (i : ℕ) (r : ReadLogs) (has : HasRead (take i ds) r) where

@@ -9,7 +9,7 @@ use Rattle.sd_analysis.specs.declared.losers.Loser.{Loser}
 use Rattle.sd_chain.specs.Faults.{FailsInLog, IsFirstMisplaced, LogFailsAt, LogIsSound, TxnsFailAt}
 use Rattle.sd_chain.specs.Order.{Tidy}
 use Rattle.sd_recovered.specs.Devices.{devices_of}
-use Rattle.sd_recovered.specs.Reading.{AreRead, FailsAmong, IsRead, Misplaced}
+use Rattle.sd_recovered.specs.Reading.{AreRead, FailsAmong, LogIsRead, Misplaced}
 use Rattle.sd_recovered.proofs.Covers.{covered}
 use Rattle.sd_recovered.proofs.Kept.{kept_records}
 use Rattle.sd_recovered.proofs.Placed.{stands_there}
@@ -25,7 +25,7 @@ txns_fail bytes log at whole none m = record {
 }
 
 -- a log that was read is sound
-read_sound : (j : ℕ) (bytes : List ℕ) (log : LogState) (found : List Loser) → IsRead j bytes log found → LogIsSound j bytes
+read_sound : (j : ℕ) (bytes : List ℕ) (log : LogState) (found : List Loser) → LogIsRead j bytes log found → LogIsSound j bytes
 read_sound j bytes log found read = record {
   master = read.master;
   groups = read.groups;

@@ -2,19 +2,19 @@
 use Rattle.std.proofs.Common.{◌≡◌, inl, inr, ℕ, zero, suc, ◌+◌, ◌<◌, List, [], ◌∷◌, ◌++◌, length, get_or, subst, arith}
 use Rattle.sd_log.specs.Logs.{LogState}
 use Rattle.sd_analysis.specs.declared.losers.Loser.{Loser}
-use Rattle.sd_recovered.specs.Reading.{AreRead, IsRead, IsUnread, SomeUnread}
+use Rattle.sd_recovered.specs.Reading.{AreRead, IsUnread, LogIsRead, SomeUnread}
 
 -- one device more
 pub AreRead-more : (j : ℕ) (ds : List (List ℕ)) (logs : List LogState) (losers : List (List Loser)) (d : List ℕ) (log : LogState) (ls : List Loser)
-    → AreRead j ds logs losers → IsRead (j + length ds) d log ls → AreRead j (ds ++ d ∷ []) (logs ++ log ∷ []) (losers ++ ls ∷ [])
-AreRead-more j [] [] [] d log ls a b = let e : j + 0 ≡ j = omega arith in (subst (λ (k : ℕ). IsRead k d log ls) e b, tt)
+    → AreRead j ds logs losers → LogIsRead (j + length ds) d log ls → AreRead j (ds ++ d ∷ []) (logs ++ log ∷ []) (losers ++ ls ∷ [])
+AreRead-more j [] [] [] d log ls a b = let e : j + 0 ≡ j = omega arith in (subst (λ (k : ℕ). LogIsRead k d log ls) e b, tt)
 AreRead-more j [] (x ∷ logs) losers d log ls a b = absurd a
 AreRead-more j [] [] (x ∷ losers) d log ls a b = absurd a
 AreRead-more j (x ∷ ds) [] losers d log ls a b = absurd a
 AreRead-more j (x ∷ ds) (y ∷ logs) [] d log ls a b = absurd a
 AreRead-more j (x ∷ ds) (y ∷ logs) (z ∷ losers) d log ls a b =
     let e : j + suc (length ds) ≡ suc j + length ds = omega arith in
-    (a.0, AreRead-more (suc j) ds logs losers d log ls a.1 (subst (λ (k : ℕ). IsRead k d log ls) e b))
+    (a.0, AreRead-more (suc j) ds logs losers d log ls a.1 (subst (λ (k : ℕ). LogIsRead k d log ls) e b))
 
 -- one that isn't sound
 pub some_unread : (j k : ℕ) (ds : List (List ℕ)) (d : List ℕ) → k < length ds → IsUnread (j + k) (get_or ds k d) → SomeUnread j ds

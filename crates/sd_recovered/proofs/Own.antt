@@ -17,7 +17,7 @@ use Rattle.sd_chain.specs.Records.{Each, home}
 use Rattle.sd_analysis.specs.declared.losers.Loser.{Loser}
 use Rattle.sd_analysis.specs.Losers.{IsLoser}
 use Rattle.sd_undone.specs.Reading.{AreLosersFrom}
-use Rattle.sd_recovered.specs.Reading.{AreRead, IsRead}
+use Rattle.sd_recovered.specs.Reading.{AreRead, LogIsRead}
 use Rattle.sd_recovered.proofs.Kept.{kept_records}
 use Rattle.sd_base.proofs.SameIds.{cases_txn, ne-same}
 
@@ -57,7 +57,7 @@ named_here inst t (r ∷ rs) are some = ⊎_elim
     (λ no. named_here inst t rs are.1 (other (of_txn t (flat r)) (list_any (of_txn t) (map flat rs)) no some))
     (cases_Bool (of_txn t (flat r)))
 
-own_losers : (inst : ℕ) (bytes : List ℕ) (log : LogState) (found : List Loser) → IsRead inst bytes log found → (ls : List Loser)
+own_losers : (inst : ℕ) (bytes : List ℕ) (log : LogState) (found : List Loser) → LogIsRead inst bytes log found → (ls : List Loser)
     → Each (IsLoser (scanned log)) ls → Each (λ l. home l.txn ≡ inst) ls
 own_losers inst bytes log found read [] each = tt
 own_losers inst bytes log found read (l ∷ ls) each =

@@ -10,14 +10,14 @@ use Rattle.sd_log.specs.Logs.{LogState, flats, log_in, scanned}
 use Rattle.sd_analysis.specs.declared.losers.Loser.{Loser}
 use Rattle.sd_chain.specs.Bytes.{log_of, stable}
 use Rattle.sd_chain.specs.Checks.{GroupsAreSound, MasterIsSound, RoomIsLeft, TxnsAreSound, gate_of, owed, owed_by_all, reserve}
-use Rattle.sd_chain.specs.Image.{Image, newest}
+use Rattle.sd_chain.specs.Storage.{Storage, newest}
 use Rattle.sd_chain.specs.Order.{Tidy}
 use Rattle.sd_chain.specs.Records.{Each}
 use Rattle.sd_newest.specs.Reading.{image_of}
 use Rattle.sd_undone.specs.Reading as undone
 use Rattle.sd_recovered.specs.Devices.{devices_of}
 use Rattle.sd_recovered.specs.Ends.{EndsFit, HasRoom, IsLogLow, owed_in}
-use Rattle.sd_recovered.specs.Reading.{AreRead, IsRead}
+use Rattle.sd_recovered.specs.Reading.{AreRead, LogIsRead}
 use Rattle.sd_recovered.proofs.Alike.{logs_alike, newest_alike}
 use Rattle.sd_recovered.proofs.Covers.{as_many, covered}
 use Rattle.sd_recovered.proofs.Kept.{kept_records}
@@ -28,14 +28,14 @@ pub record Here (k : ℕ) (device : List ℕ) (logs : List LogState) : Type 0 wh
   pub log : LogState
   pub found : List Loser
   pub log_at : slice_get logs k ≡ Some log
-  pub read : IsRead (suc k) device log found
+  pub read : LogIsRead (suc k) device log found
 
 module _ (x : List ℕ) (ds : List (List ℕ)) (logs : List LogState) (losers : List (List Loser)) (eight : length logs ≡ 8)
     (are : AreRead 1 ds logs losers) where
   pub devices : length ds ≡ 8
   devices = sym (as_many 1 ds logs losers are) ∙ eight
 
-  abbrev pub img : Image
+  abbrev pub img : Storage
   img = stable (devices_of (x ∷ ds))
 
   pub here : (k : ℕ) → k < 8 → Here k (devices_of (x ∷ ds) (suc k)) logs
@@ -49,7 +49,7 @@ module _ (x : List ℕ) (ds : List (List ℕ)) (logs : List LogState) (losers : 
               log = c.log;
               found = c.found;
               log_at = c.log_at;
-              read = subst (λ (d : List ℕ). IsRead (suc k) d c.log c.found) device (subst (λ (n : ℕ). IsRead n found.0 c.log c.found) e c.read);
+              read = subst (λ (d : List ℕ). LogIsRead (suc k) d c.log c.found) device (subst (λ (n : ℕ). LogIsRead n found.0 c.log c.found) e c.read);
             }
         | inr past ↦ absurd (omega (arith, lt, past.0, devices))
       ]
@@ -88,7 +88,7 @@ module _ (x : List ℕ) (ds : List (List ℕ)) (logs : List LogState) (losers : 
       ap (λ (n : ℕ). sum_by (λ j. owed (log_of devs j)) (numbers 1 n)) (sym eight) ∙ same
 
   pub is_read : (pages : List Page) → ((p : ℕ) → p < 1024 → slice_get pages p ≡ Some (newest (image_of x logs) p))
-      → undone.IsRead img pages logs
+      → undone.NewestAreRead img pages logs
   is_read pages newest_is = record {
     pages_are = λ p lt. newest_is p lt ∙ ap (λ (q : Page). Some q) (newest_alike x ds logs losers devices are p);
     logs_are = alike;

@@ -10,7 +10,7 @@ use Rattle.sd_log.specs.Logs.{AreSpelled, LogState, log_in, scanned}
 use Rattle.sd_analysis.specs.declared.losers.Loser.{Loser}
 use Rattle.sd_chain.specs.Bytes.{log_of}
 use Rattle.sd_chain.specs.Checks.{DevicesAreSound, GroupsAreSound, LsnsAreLeft, MasterIsSound, RoomIsLeft, TxnsAreSound, TwinIsSound, gate_of, owed_by_all, reserve}
-use Rattle.sd_chain.specs.Image.{Image, Open, StackFits, chain, newest}
+use Rattle.sd_chain.specs.Storage.{Open, StackFits, Storage, chain, newest}
 use Rattle.sd_chain.specs.Pages.{FitAll}
 use Rattle.sd_chain.specs.Records.{Each}
 use Rattle.sd_newest.specs.Reading.{ChainFits, IsUnsound, image_of}
@@ -49,10 +49,10 @@ no_unsound x ds logs losers eight are p lt (inr bad) sound =
 module _ (x : List ℕ) (ds : List (List ℕ)) (logs : List LogState) (losers : List (List Loser)) (eight : length logs ≡ 8)
     (are : AreRead 1 ds logs losers) (pages : List Page)
     (newest_is : (p : ℕ) → p < 1024 → slice_get pages p ≡ Some (newest (image_of x logs) p)) where
-  abbrev pub img : Image
+  abbrev pub img : Storage
   img = parts.img x ds logs losers eight are
 
-  pub is_read : undone.IsRead img pages logs
+  pub is_read : undone.NewestAreRead img pages logs
   is_read = parts.is_read x ds logs losers eight are pages newest_is
 
   alike : (j : ℕ) → log_of (devices_of (x ∷ ds)) j ≡ log_in logs j

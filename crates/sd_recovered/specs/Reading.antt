@@ -12,7 +12,7 @@ use Rattle.sd_analysis.specs.Losers.{AreLosers, AreTidy}
 use Rattle.sd_recovered.specs.declared.logs.ReadLogs.{ReadLogs}
 
 -- The log that the device of instance j keeps, and its losers.
-pub record IsRead (j : ℕ) (device : List ℕ) (log : LogState) (losers : List Loser) : Type 0 where
+pub record LogIsRead (j : ℕ) (device : List ℕ) (log : LogState) (losers : List Loser) : Type 0 where
   pub master : MasterIsSound device
   pub groups : GroupsAreSound j device
   pub inst_is : log.inst ≡ j
@@ -34,7 +34,7 @@ AreRead j [] (log ∷ logs) losers = ⊥
 AreRead j [] [] (ls ∷ losers) = ⊥
 AreRead j (d ∷ devices) [] losers = ⊥
 AreRead j (d ∷ devices) (log ∷ logs) [] = ⊥
-AreRead j (d ∷ devices) (log ∷ logs) (ls ∷ losers) = IsRead j d log ls × AreRead (suc j) devices logs losers
+AreRead j (d ∷ devices) (log ∷ logs) (ls ∷ losers) = LogIsRead j d log ls × AreRead (suc j) devices logs losers
 
 -- This was read of these log devices, that of instance 1 first: their logs with their losers, and the masters that count.
 pub record HasRead (devices : List (List ℕ)) (reading : ReadLogs) : Type 0 where

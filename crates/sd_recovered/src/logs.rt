@@ -6,14 +6,14 @@ ghost use Rattle.sd_log.specs.Logs.{AreSpelled, scanned};
 ghost use Rattle.sd_scan.specs.Masters.{said};
 ghost use Rattle.sd_chain.specs.Faults.{LogFailsAt};
 ghost use Rattle.sd_analysis.specs.Losers.{AreLosers, AreTidy};
-ghost use Rattle.sd_recovered.specs.Reading.{counting, FailsAmong, HasRead, IsRead, IsUnread, Misplaced, SomeUnread};
+ghost use Rattle.sd_recovered.specs.Reading.{counting, FailsAmong, HasRead, IsUnread, LogIsRead, Misplaced, SomeUnread};
 
-use sd_analysis::{Fault, Losers, analyse};
+use sd_analysis::{AnalysisError, Losers, analyse};
 use sd_base::{Bytes, InstNo, Refusal};
 use sd_log::Log;
 use sd_merge::damaged;
 use sd_rig::LOG_LEN;
-use sd_scan::{Master, Scanned, scan};
+use sd_scan::{MasterRecord, Scanned, scan};
 use std::alloc::Global;
 
 /// What was read of the first log devices, that of instance 1 first: of each its log, what it leaves unfinished, and its
@@ -22,7 +22,7 @@ use std::alloc::Global;
 pub struct ReadLogs {
     pub logs: Vec<Log>,
     pub losers: Vec<Losers>,
-    pub masters: Vec<Option<Master>>,
+    pub masters: Vec<Option<MasterRecord>>,
 }
 
 impl ReadLogs {
@@ -78,9 +78,9 @@ fn read_log(
     alloc: Global,
     device: &[u8],
     inst: InstNo,
-) -> Result<(Log, Losers, Option<Master>), Refusal>
+) -> Result<(Log, Losers, Option<MasterRecord>), Refusal>
     requires { length device.now ≡ LOG_LEN }
-    ensures read { IfOk result (λ r. IsRead inst device.now r.0 r.1) }
+    ensures read { IfOk result (λ r. LogIsRead inst device.now r.0 r.1) }
     ensures counts { IfOk result (λ r. said r.2 ≡ counting device.now) }
     ensures unsound { IfErr result (λ e. (e ≡ R.Memory) ⊎ ((dev : ℕ) × (at : ℕ) × (e ≡ R.Damaged dev at) × IsUnread inst device.now)) }
     ensures place { (dev at : ℕ) → result ≡ Err (R.Damaged dev at) → (dev ≡ inst) × LogFailsAt inst device.now at }
@@ -101,7 +101,7 @@ fn losers_of(alloc: Global, log: &Log, inst: InstNo) -> Result<Losers, Refusal>
     let placed = log.scan();
     match analyse(alloc, placed) {
         Ok(losers) => Ok(losers),
-        Err(Fault::Disorder { at }) => Err(damaged(inst.get(), placed[at].place)),
-        Err(Fault::Memory) => Err(Refusal::Memory),
+        Err(AnalysisError::Disorder { at }) => Err(damaged(inst.get(), placed[at].place)),
+        Err(AnalysisError::Memory) => Err(Refusal::Memory),
     }
 }

@@ -21,7 +21,7 @@ use sd_log::Log;
 use sd_model::Table;
 use sd_newest::newest_pages;
 use sd_rig::DATA_LEN;
-use sd_scan::Master;
+use sd_scan::MasterRecord;
 use std::alloc::Global;
 
 /// What nine device images hold, from which a complex is opened: the logs of the instances 1 to 8, what each leaves
@@ -31,7 +31,7 @@ use std::alloc::Global;
 pub struct Opened {
     pub logs: Vec<Log>,
     pub losers: Vec<Losers>,
-    pub masters: Vec<Option<Master>>,
+    pub masters: Vec<Option<MasterRecord>>,
     pub disk_lsns: Vec<Lsn>,
     pub rec_lsns: Vec<Option<Lsn>>,
     pub table: Table,

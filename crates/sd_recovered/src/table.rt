@@ -5,9 +5,9 @@ ghost use Rattle.sd_base.specs.declared.ids.TxnId.{TxnId};
 ghost use Rattle.sd_base.specs.declared.refusal.Refusal.TheVariants as R;
 ghost use Rattle.sd_model.specs.Tables.{contents};
 ghost use Rattle.sd_log.specs.Logs.{AreSpelled, scanned};
-ghost use Rattle.sd_chain.specs.Image.{Image as Disks, Open, Sound, StackFits, now};
+ghost use Rattle.sd_chain.specs.Storage.{Open, Sound, StackFits, Storage, now};
 ghost use Rattle.sd_chain.specs.Undoing.{stacks_of, undo_all};
-ghost use Rattle.sd_undone.specs.Reading.{AreLosersOf, IsRead, txns_of};
+ghost use Rattle.sd_undone.specs.Reading.{AreLosersOf, NewestAreRead, txns_of};
 ghost use Rattle.sd_undone.specs.Stops.{FirstMisfit};
 
 use sd_analysis::Losers;
@@ -17,7 +17,7 @@ use sd_logrec::AREA;
 use sd_merge::damaged;
 use sd_model::Table;
 use sd_page::Image;
-use sd_undone::{Fault, undone};
+use sd_undone::{UndoError, undone};
 use std::alloc::Global;
 
 /// The table of the newest pages with what the losers changed taken back; `Damaged` where some stack isn't as it was left,
@@ -32,17 +32,17 @@ pub fn take_back(
     requires eight { length logs.now ≡ 8 }
     requires spelled { All (λ log. AreSpelled (scanned log)) logs.now }
     requires losers { AreLosersOf logs.now losers.now }
-    ensures stacks { OnOk result ((img : Disks) → IsRead img pages.items logs.now → (t : TxnId) → Open img t → StackFits img t) }
-    ensures values { IfOk result (λ table. (img : Disks) → IsRead img pages.items logs.now → (p s : ℕ) → p < 1024
+    ensures stacks { OnOk result ((img : Storage) → NewestAreRead img pages.items logs.now → (t : TxnId) → Open img t → StackFits img t) }
+    ensures values { IfOk result (λ table. (img : Storage) → NewestAreRead img pages.items logs.now → (p s : ℕ) → p < 1024
         → contents table (record { page = p; slot = s }) ≡ undo_all (now img) (stacks_of img (txns_of losers.now)) p s) }
     ensures misfit { IfErr result (λ e. (e ≡ R.Memory) ⊎ ((dev : ℕ) × (at : ℕ) × (e ≡ R.Damaged dev at)
-        × ((img : Disks) → IsRead img pages.items logs.now → Sound img → ⊥))) }
-    ensures first { (dev at : ℕ) → result ≡ Err (R.Damaged dev at) → (img : Disks) → IsRead img pages.items logs.now
+        × ((img : Storage) → NewestAreRead img pages.items logs.now → Sound img → ⊥))) }
+    ensures first { (dev at : ℕ) → result ≡ Err (R.Damaged dev at) → (img : Storage) → NewestAreRead img pages.items logs.now
         → (place : ℕ) × (at ≡ AREA + place) × FirstMisfit img logs.now dev place }
 {
     match undone(alloc, pages, logs, losers) {
         Ok(table) => Ok(table),
-        Err(Fault::Misfit { inst, place }) => Err(damaged(inst, place)),
-        Err(Fault::Memory) => Err(Refusal::Memory),
+        Err(UndoError::Misfit { inst, place }) => Err(damaged(inst, place)),
+        Err(UndoError::Memory) => Err(Refusal::Memory),
     }
 }

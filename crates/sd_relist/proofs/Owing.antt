@@ -24,7 +24,7 @@ use Rattle.sd_txn.specs.declared.state.OpenRec.{OpenRec}
 use Rattle.sd_txn.specs.declared.state.TxnState.{TxnState}
 use Rattle.sd_txn.specs.Owing.{bytes_owed, owed_of, records_owed, reserve_of, undo_len}
 use Rattle.sd_txn.specs.Transactions.{ids, started, txn_at, Transaction, Transactions}
-use Rattle.sd_relist.specs.Kept.{as_kept, is_left_open, left_open, open_rec, AreAmong}
+use Rattle.sd_relist.specs.Kept.{as_transaction, is_left_open, left_open, open_rec, AreAmong}
 use Rattle.sd_relist.specs.Walks.{AreRising}
 use Rattle.sd_relist.proofs.Relisted.{apart, txns, Who}
 use Rattle.sd_relist.proofs.Walking.{any-member, each_at, member-any, place_of}
@@ -106,14 +106,14 @@ spans log losers t are left =
 
 -- by whether the log leaves it open
 row-owes : (log : List Placed) (losers : List Loser) (t : TxnId) (state : TxnState) → AreLosers log losers
-    → records_owed (as_kept (flats log) t state) ≡ cond (is_left_open (flats log) t) (1 + length (stack t (flats log))) 0
+    → records_owed (as_transaction (flats log) t state) ≡ cond (is_left_open (flats log) t) (1 + length (stack t (flats log))) 0
 row-owes log losers t state are = ⊎_elim
     (λ is. rw is (ap (λ (b : Bool). cond b 1 0 + length (map open_rec (reverse (stack t (flats log))))) (spans log losers t are is)
     ∙ ap (λ (n : ℕ). 1 + n) (count-is (stack t (flats log)))))
     (λ off. rw off refl) (cases_Bool (is_left_open (flats log) t))
 
 row-reserves : (log : List Placed) (losers : List Loser) (t : TxnId) (state : TxnState) → AreLosers log losers
-    → bytes_owed (as_kept (flats log) t state) ≡ cond (is_left_open (flats log) t) (reserve_for (flats log) t) 0
+    → bytes_owed (as_transaction (flats log) t state) ≡ cond (is_left_open (flats log) t) (reserve_for (flats log) t) 0
 row-reserves log losers t state are = ⊎_elim
     (λ is. rw is (ap (λ (b : Bool). cond b 31 0 + sum_by undo_len (map open_rec (reverse (stack t (flats log))))) (spans log losers t are is)
     ∙ ap (λ (n : ℕ). 31 + n) (undo-is (stack t (flats log)))))
@@ -137,8 +137,8 @@ found t (w ∷ ws) m = ⊎_elim
 -- the sum over such a table, by what a row owes of whom the log leaves open
 table-sum : (log : List Placed) (losers : List Loser) (who : List Who) (table : Transactions) (f : Transaction → ℕ) (g : TxnId → ℕ)
     → AreRising (txns who) → ids table ≡ txns who
-    → ((k : ℕ) (w : Who) → slice_get who k ≡ Some w → txn_at table w.0 ≡ Some (as_kept (flats log) w.0 w.1))
-    → ((t : TxnId) (state : TxnState) → f (as_kept (flats log) t state) ≡ cond (is_left_open (flats log) t) (g t) 0)
+    → ((k : ℕ) (w : Who) → slice_get who k ≡ Some w → txn_at table w.0 ≡ Some (as_transaction (flats log) w.0 w.1))
+    → ((t : TxnId) (state : TxnState) → f (as_transaction (flats log) t state) ≡ cond (is_left_open (flats log) t) (g t) 0)
     → AreAmong (flats log) (txns who) → sum_by (λ e. f e.1) table.unresolved ≡ sum_by g (open_in (flats log))
 table-sum log losers who table f g rising order rows each among =
     sum-rows f (λ t. cond (is_left t) (g t) 0) table.unresolved (subst Apart (sym order) (rising-apart (txns who) rising)) row-is
@@ -154,13 +154,13 @@ table-sum log losers who table f g rising order rows each among =
     row-is : (t : TxnId) (x : Transaction) → Member t (ids table) → txn_at table t ≡ Some x → f x ≡ cond (is_left t) (g t) 0
     row-is t x m e =
         let w = found t who (subst (Member t) order m) in
-        let there = subst (λ (u : TxnId). txn_at table u ≡ Some (as_kept (flats log) u w.one.1)) w.named (rows w.index w.one w.there) in
-        let same : x ≡ as_kept (flats log) t w.one.1 = (let c = sym e ∙ there in cc) in
+        let there = subst (λ (u : TxnId). txn_at table u ≡ Some (as_transaction (flats log) u w.one.1)) w.named (rows w.index w.one w.there) in
+        let same : x ≡ as_transaction (flats log) t w.one.1 = (let c = sym e ∙ there in cc) in
         ap f same ∙ each t w.one.1
 
 pub table-owes : (log : List Placed) (losers : List Loser) (who : List Who) (table : Transactions) → AreLosers log losers
     → AreRising (txns who) → ids table ≡ txns who
-    → ((k : ℕ) (w : Who) → slice_get who k ≡ Some w → txn_at table w.0 ≡ Some (as_kept (flats log) w.0 w.1))
+    → ((k : ℕ) (w : Who) → slice_get who k ≡ Some w → txn_at table w.0 ≡ Some (as_transaction (flats log) w.0 w.1))
     → AreAmong (flats log) (txns who) → owed_of table ≡ owed (flats log)
 table-owes log losers who table are rising order rows among =
     table-sum log losers who table records_owed (λ t. 1 + length (stack t (flats log))) rising order rows
@@ -168,7 +168,7 @@ table-owes log losers who table are rising order rows among =
 
 pub table-reserves : (log : List Placed) (losers : List Loser) (who : List Who) (table : Transactions) → AreLosers log losers
     → AreRising (txns who) → ids table ≡ txns who
-    → ((k : ℕ) (w : Who) → slice_get who k ≡ Some w → txn_at table w.0 ≡ Some (as_kept (flats log) w.0 w.1))
+    → ((k : ℕ) (w : Who) → slice_get who k ≡ Some w → txn_at table w.0 ≡ Some (as_transaction (flats log) w.0 w.1))
     → AreAmong (flats log) (txns who) → reserve_of table ≡ reserve (flats log)
 table-reserves log losers who table are rising order rows among =
     table-sum log losers who table bytes_owed (reserve_for (flats log)) rising order rows

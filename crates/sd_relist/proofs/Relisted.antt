@@ -15,7 +15,7 @@ use Rattle.sd_chain.specs.Records.{Each}
 use Rattle.sd_analysis.specs.declared.losers.Loser.{Loser}
 use Rattle.sd_txn.specs.declared.state.TxnState.{TxnState}
 use Rattle.sd_txn.specs.Transactions.{ids, started, txn_at, OthersStay, SameOrder, Transaction, Transactions}
-use Rattle.sd_relist.specs.Kept.{as_kept}
+use Rattle.sd_relist.specs.Kept.{as_transaction}
 use Rattle.sd_relist.specs.Walks.{AreBelow, AreRising, IsNext}
 use Rattle.sd_relist.proofs.Walking.{at_end, rises_at}
 
@@ -28,7 +28,7 @@ txns who = map (λ w. w.0) who
 
 pub record Relisted (inst : ℕ) (who : List Who) (log : List Rec) (losers : List Loser) (table : Transactions) (next i : ℕ) : Type 0 where
   pub order : ids table ≡ txns (take i who)
-  pub rows : (k : ℕ) (w : Who) → k < i → slice_get who k ≡ Some w → txn_at table w.0 ≡ Some (as_kept log w.0 w.1)
+  pub rows : (k : ℕ) (w : Who) → k < i → slice_get who k ≡ Some w → txn_at table w.0 ≡ Some (as_transaction log w.0 w.1)
   pub counts : (table.inst ≡ inst) × (table.epoch ≡ 0) × (table.begins ≡ 0)
   pub below : (k : ℕ) (w : Who) → i ≤ k → slice_get who k ≡ Some w → AreBelow losers next w.0
 
@@ -75,7 +75,7 @@ pub relisted_more : (inst : ℕ) (who : List Who) (log : List Rec) (losers : Lis
     → AreRising (txns who) → Relisted inst who log losers old next i → slice_get who i ≡ Some w
     → txn_at added w.0 ≡ Some (started w.1) → ids added ≡ ids old ++ w.0 ∷ [] → OthersStay old added w.0
     → added ≡ record old { unresolved = added.unresolved } → IsNext losers later w.0
-    → ((state : TxnState) → txn_at added w.0 ≡ Some (started state) → txn_at new w.0 ≡ Some (as_kept log w.0 state))
+    → ((state : TxnState) → txn_at added w.0 ≡ Some (started state) → txn_at new w.0 ≡ Some (as_transaction log w.0 state))
     → OthersStay added new w.0 → SameOrder added new → Relisted inst who log losers new later (i + 1)
 relisted_more inst who log losers old added new next later i w rising was there row last others counts is_next kept others' same = record {
   order = same.same_ids ∙ last ∙ ap (λ (l : List TxnId). l ++ w.0 ∷ []) was.order ∙ sym (map-append (λ (w : Who). w.0) (take i who) (w ∷ []))
@@ -86,7 +86,7 @@ relisted_more inst who log losers old added new next later i w rising was there 
       others' v.0 ne ∙ others v.0 ne ∙ was.rows k v low at_k)
       (λ e.
       let is : w ≡ v = (let f = sym there ∙ ap (slice_get who) (sym e) ∙ at_k in cc) in
-      subst (λ (x : Who). txn_at new x.0 ≡ Some (as_kept log x.0 x.1)) is (kept w.1 row))
+      subst (λ (x : Who). txn_at new x.0 ≡ Some (as_transaction log x.0 x.1)) is (kept w.1 row))
       (at_end k i lt);
   counts = (
     same.same_inst ∙ ap (λ (t : Transactions). t.inst) counts ∙ was.counts.0,
@@ -112,7 +112,7 @@ relisted_order inst who log losers table next i all low high =
 
 pub relisted_rows : (inst : ℕ) (who : List Who) (log : List Rec) (losers : List Loser) (table : Transactions) (next i : ℕ)
     → Relisted inst who log losers table next i → length who ≤ i → (t : TxnId) (state : TxnState) → Contains who (t, state)
-    → txn_at table t ≡ Some (as_kept log t state)
+    → txn_at table t ≡ Some (as_transaction log t state)
 relisted_rows inst who log losers table next i all high t state stands =
     all.rows stands.0 (t, state) (omega (arith, stands.1))
     (slice_get-get_or who stands.0 (t, state) stands.1 ∙ ap (λ (w : Who). Some w) stands.2)

@@ -21,7 +21,7 @@ use Rattle.sd_chain.proofs.Members.{is-open_in, open_in-is}
 use Rattle.sd_analysis.specs.declared.losers.Loser.{Loser}
 use Rattle.sd_analysis.specs.Losers.{AreLosers, IsLoser, Rise}
 use Rattle.sd_txn.specs.declared.state.TxnState.{TxnState}
-use Rattle.sd_relist.specs.Kept.{as_kept, is_left_open, left_open}
+use Rattle.sd_relist.specs.Kept.{as_transaction, is_left_open, left_open}
 use Rattle.sd_txn.specs.Transactions.{started, txn_at, Transactions}
 use Rattle.sd_relist.specs.Walks.{AreBelow, AreRising, IsNext}
 
@@ -160,13 +160,13 @@ none-by log losers next t are is_next other = ⊎_elim (λ is. absurd (go is)) (
 pub kept-by : (log : List Placed) (losers : List Loser) (next : ℕ) (t : TxnId) (l : Loser) (old new : Transactions) → AreLosers log losers
     → slice_get losers next ≡ Some l → l.txn ≡ t
     → ((state : TxnState) → txn_at old l.txn ≡ Some (started state) → txn_at new l.txn ≡ Some (left_open (flats log) l.txn state))
-    → (state : TxnState) → txn_at old t ≡ Some (started state) → txn_at new t ≡ Some (as_kept (flats log) t state)
+    → (state : TxnState) → txn_at old t ≡ Some (started state) → txn_at new t ≡ Some (as_transaction (flats log) t state)
 kept-by log losers next t l old new are there named kept state e =
     subst (λ (u : TxnId). txn_at old u ≡ Some (started state) → txn_at new u ≡ Some (left_open (flats log) u state)) named (kept state) e
     ∙ ap (λ (b : Bool). Some (cond b (left_open (flats log) t state) (started state))) (sym (left-by log losers next t l are there named))
 
 pub kept-none : (log : List Placed) (losers : List Loser) (next : ℕ) (t : TxnId) (table : Transactions) → AreLosers log losers
     → IsNext losers next t → ((l : Loser) → slice_get losers next ≡ Some l → l.txn ≢ t)
-    → (state : TxnState) → txn_at table t ≡ Some (started state) → txn_at table t ≡ Some (as_kept (flats log) t state)
+    → (state : TxnState) → txn_at table t ≡ Some (started state) → txn_at table t ≡ Some (as_transaction (flats log) t state)
 kept-none log losers next t table are is_next other state e = e
     ∙ ap (λ (b : Bool). Some (cond b (left_open (flats log) t state) (started state))) (sym (none-by log losers next t are is_next other))

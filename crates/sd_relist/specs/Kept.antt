@@ -25,8 +25,8 @@ abbrev pub left_open : List Rec → TxnId → TxnState → Transaction
 left_open log t state = record { state = state; marks = []; stack = map open_rec (reverse (stack t log)); span = span_of t log }
 
 -- a transaction as a log has it: one that the log doesn't leave open has nothing open, and no record of it is known
-abbrev pub as_kept : List Rec → TxnId → TxnState → Transaction
-as_kept log t state = if is_left_open log t then left_open log t state else started state
+abbrev pub as_transaction : List Rec → TxnId → TxnState → Transaction
+as_transaction log t state = if is_left_open log t then left_open log t state else started state
 
 -- whom the log leaves open is among these
 abbrev pub AreAmong : List Rec → List TxnId → Type 0

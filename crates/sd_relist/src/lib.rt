@@ -1,6 +1,6 @@
 //! A transaction table made from a log, as a restart makes it.
 //!
-//! Meaning: `as_kept` (`specs/Kept.antt`), what a table keeps of a transaction of a log; `Transactions` of sd_txn, what a
+//! Meaning: `as_transaction` (`specs/Kept.antt`), what a table keeps of a transaction of a log; `Transactions` of sd_txn, what a
 //! table is.
 //! Keeps: nothing.
 //! Promises: `relist` answers a table of the given transactions in their order (`order`), each in its state and as the log
@@ -12,7 +12,7 @@
 //!
 //! To change:
 //! - free: bodies, private helpers, `Walks`
-//! - dear: `as_kept`, the clauses of `relist`
+//! - dear: `as_transaction`, the clauses of `relist`
 //! - frozen: nothing
 #![tactic(auto)]
 

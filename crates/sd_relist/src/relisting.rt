@@ -10,7 +10,7 @@ ghost use Rattle.sd_analysis.specs.Losers.{AreLosers, IsLoser};
 ghost use Rattle.sd_txn.specs.Owing.{owed_of, reserve_of};
 ghost use Rattle.sd_txn.specs.Transactions.{ids, started, txn_at, IsUnresolved, OthersStay, SameOrder};
 ghost use Rattle.sd_txn.specs.declared.state.TxnState.{TxnState};
-ghost use Rattle.sd_relist.specs.Kept.{as_kept, left_open, open_rec as opened, AreAmong};
+ghost use Rattle.sd_relist.specs.Kept.{as_transaction, left_open, open_rec as opened, AreAmong};
 ghost use Rattle.sd_relist.specs.Walks.{AreBelow, AreRising, IsNext};
 
 use sd_analysis::{Loser, Losers};
@@ -37,7 +37,7 @@ pub fn relist(
     requires rising { AreRising (map (λ w. w.0) who.now) }
     ensures order { IfOk result (λ table. ids table ≡ map (λ w. w.0) who.now) }
     ensures rows { IfOk result (λ table. (t : TxnId) (state : TxnState) → Contains who.now (t, state)
-        → txn_at table t ≡ Some (as_kept (flats log.now) t state)) }
+        → txn_at table t ≡ Some (as_transaction (flats log.now) t state)) }
     ensures owes { IfOk result (λ table. AreAmong (flats log.now) (map (λ w. w.0) who.now)
         → owed_of table ≡ owed (flats log.now)) }
     ensures reserves { IfOk result (λ table. AreAmong (flats log.now) (map (λ w. w.0) who.now)
@@ -92,7 +92,7 @@ fn reopen_at(
     requires losers { AreLosers log.now losers.now }
     requires next { IsNext losers.now next txn.now }
     ensures kept { OnOk result ((state : TxnState) → txn_at table.old txn.now ≡ Some (started state)
-        → txn_at table.new txn.now ≡ Some (as_kept (flats log.now) txn.now state)) }
+        → txn_at table.new txn.now ≡ Some (as_transaction (flats log.now) txn.now state)) }
     ensures others { OthersStay table.old table.new txn.now }
     ensures order { SameOrder table.old table.new }
 {

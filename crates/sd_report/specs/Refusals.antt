@@ -2,23 +2,23 @@
 use Rattle.std.specs.Prelude.{ℕ, ◌-◌, Bool, true, false, List, [], ◌∷◌, ◌++◌, Option, None, Some, length, take, codes}
 use Rattle.std.specs.List.{flat_map}
 use Rattle.std.specs.Fmt.{decimal}
-use Rattle.sd_base.specs.declared.refusal.Cause.{Cause}
+use Rattle.sd_base.specs.declared.refusal.LineError.{LineError}
 use Rattle.sd_base.specs.declared.refusal.Refusal.{Refusal}
 use Rattle.sd_base.specs.declared.refusal.Refusal.TheVariants as refusal
 use Rattle.sd_model.specs.declared.event.Event.{Event}
 use Rattle.sd_model.specs.declared.event.Event.TheVariants as event
 use Rattle.sd_report.specs.Words.{NamesOf, spelled}
 
-abbrev pub cause_word : Cause → List ℕ
-cause_word Cause.Size = codes "size"
-cause_word Cause.Byte = codes "byte"
-cause_word Cause.Order = codes "order"
-cause_word Cause.Word = codes "word"
-cause_word Cause.Number = codes "number"
-cause_word Cause.Name = codes "name"
-cause_word Cause.Place = codes "place"
-cause_word Cause.Used = codes "used"
-cause_word Cause.Unknown = codes "unknown"
+abbrev pub cause_word : LineError → List ℕ
+cause_word LineError.Size = codes "size"
+cause_word LineError.Byte = codes "byte"
+cause_word LineError.Order = codes "order"
+cause_word LineError.Word = codes "word"
+cause_word LineError.Number = codes "number"
+cause_word LineError.Name = codes "name"
+cause_word LineError.Place = codes "place"
+cause_word LineError.Used = codes "used"
+cause_word LineError.Unknown = codes "unknown"
 
 -- the words of a refusal
 abbrev pub refusal_words : Refusal → List ℕ

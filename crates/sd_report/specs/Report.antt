@@ -7,7 +7,7 @@ use Rattle.std.specs.Map.{update_all}
 use Rattle.sd_base.specs.Ids.{same_txn}
 use Rattle.sd_base.specs.declared.ids.TxnId.{TxnId}
 use Rattle.sd_base.specs.declared.ids.Rid.{Rid}
-use Rattle.sd_base.specs.declared.refusal.Cause.{Cause}
+use Rattle.sd_base.specs.declared.refusal.LineError.{LineError}
 use Rattle.sd_model.specs.declared.event.Event.{Event}
 use Rattle.sd_model.specs.declared.event.Reply.{Reply}
 use Rattle.sd_model.specs.declared.event.Reply.TheVariants as reply
@@ -127,7 +127,7 @@ abbrev pub report : List Line → List Entry → List ℕ
 report lines entries = gathered (reported (names_of lines entries)) lines entries
 
 -- what is reported of a text that is no script: its first bad line, and what is wrong with it
-abbrev pub bad_text : ℕ → Cause → List ℕ
+abbrev pub bad_text : ℕ → LineError → List ℕ
 bad_text line cause = line_of (codes "bad line" ∷ decimal line ∷ cause_word cause ∷ [])
 
 -- what is reported of devices that aren't sound: where they fail first

@@ -8,23 +8,23 @@ ghost use Rattle.sd_report.specs.Refusals.{cause_word, refusal_words, page_of, p
 
 use crate::txn_names::TxnNames;
 use crate::words::{push_next, push_number, push_txn_numbers, push_word};
-use sd_base::{Cause, Cycle, Memory, PageNo, Refusal, TxnId};
+use sd_base::{Cycle, LineError, Memory, PageNo, Refusal, TxnId};
 use sd_model::Event;
 
 /// The word of what is wrong with a line.
-pub fn cause_name(cause: Cause) -> &'static [u8]
+pub fn cause_name(cause: LineError) -> &'static [u8]
     ensures { result.now ≡ cause_word cause }
 {
     match cause {
-        Cause::Size => b"size",
-        Cause::Byte => b"byte",
-        Cause::Order => b"order",
-        Cause::Word => b"word",
-        Cause::Number => b"number",
-        Cause::Name => b"name",
-        Cause::Place => b"place",
-        Cause::Used => b"used",
-        Cause::Unknown => b"unknown",
+        LineError::Size => b"size",
+        LineError::Byte => b"byte",
+        LineError::Order => b"order",
+        LineError::Word => b"word",
+        LineError::Number => b"number",
+        LineError::Name => b"name",
+        LineError::Place => b"place",
+        LineError::Used => b"used",
+        LineError::Unknown => b"unknown",
     }
 }
 

@@ -21,7 +21,7 @@ use crate::replies::{
 };
 use crate::txn_names::TxnNames;
 use crate::words::{push_digits, push_end, push_next, push_number, push_rid, push_word};
-use sd_base::{Bytes, Cause, InstNo, Memory, Pick, Refusal, Rid, Word};
+use sd_base::{Bytes, InstNo, LineError, Memory, Pick, Refusal, Rid, Word};
 use sd_model::{Book, Entry, Reply};
 use sd_script::{Form, Line};
 use std::alloc::Global;
@@ -307,7 +307,7 @@ pub fn render_book(alloc: Global, lines: &[Line], book: &Book) -> Result<Vec<u8>
 }
 
 /// The text that tells a bad line and what is wrong with it. `Memory` comes where there is none.
-pub fn bad_line(alloc: Global, line: u32, cause: Cause) -> Result<Vec<u8>, Memory>
+pub fn bad_line(alloc: Global, line: u32, cause: LineError) -> Result<Vec<u8>, Memory>
     ensures { IfOk result (λ text. text.items ≡ bad_text line cause) }
 {
     let mut out = Vec::new(alloc);

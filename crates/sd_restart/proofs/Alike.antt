@@ -5,11 +5,11 @@ use mathlib.Core.Path.{fun_ext}
 use Rattle.sd_logrec.specs.Kept.{kept}
 use Rattle.sd_logrec.specs.View.{Rec}
 use Rattle.sd_page.specs.Page.{Page}
-use Rattle.sd_rig.specs.Devices.{Image}
+use Rattle.sd_rig.specs.Devices.{DeviceImages}
 use Rattle.sd_chain.specs.Bytes.{disk_page, log_of, records_of, stable}
 use Rattle.sd_chain.specs.Checks.{DevicesAreSound, GroupsAreSound, MasterIsSound, TwinIsSound, TxnsAreSound, gate_of, owed, reserve}
-use Rattle.sd_chain.specs.Image as disks
-use Rattle.sd_chain.specs.Image.{Recovered, Sound}
+use Rattle.sd_chain.specs.Storage as disks
+use Rattle.sd_chain.specs.Storage.{Recovered, Sound}
 use Rattle.sd_chain.specs.Records.{Each}
 use Rattle.sd_restart.specs.Devices.{AgreeOnNine}
 
@@ -17,10 +17,10 @@ and-false : (x : _) → (x && false) ≡ false
 and-false true = refl
 and-false false = refl
 
-abbrev with_parts : (ℕ → List Rec) → (ℕ → Page) → disks.Image
+abbrev with_parts : (ℕ → List Rec) → (ℕ → Page) → disks.Storage
 with_parts logs disk = record { logs = logs; disk = disk }
 
-module _ (a b : Image) (same : AgreeOnNine a b) where
+module _ (a b : DeviceImages) (same : AgreeOnNine a b) where
   pub log-same : (j : ℕ) → log_of a j ≡ log_of b j
   log-same j = ⊎_elim
       (λ (lt : j < 9). ap (λ (bytes : List ℕ). cond {A = List Rec} (ltb 0 j && ltb j 9) (records_of (kept bytes)) []) (same j (omega (arith, lt))))
@@ -39,7 +39,7 @@ module _ (a b : Image) (same : AgreeOnNine a b) where
 
   -- so is what recovery gives,
   pub recovered-same : (p s : ℕ) (value : _) → Recovered (stable a) p s value → Recovered (stable b) p s value
-  recovered-same p s value = subst (λ (img : disks.Image). Recovered img p s value) stable-same
+  recovered-same p s value = subst (λ (img : disks.Storage). Recovered img p s value) stable-same
 
   -- and the one are sound where the others are
   pub sound-same : DevicesAreSound a → DevicesAreSound b
@@ -53,9 +53,9 @@ module _ (a b : Image) (same : AgreeOnNine a b) where
         subst (λ (bytes : List ℕ). gate_of (kept bytes) + reserve (log_of b j) + 1 ≤ 1048576) (same j le)
         (subst (λ (log : List Rec). gate_of (kept (a j)) + reserve log + 1 ≤ 1048576) (log-same j) (s.room j one le));
     lsns = record {
-      logs = subst (λ (img : disks.Image). (j : ℕ)
+      logs = subst (λ (img : disks.Storage). (j : ℕ)
           → Each (λ x. x.lsn + sum_by (λ k. owed (img.logs k)) (1 ∷ 2 ∷ 3 ∷ 4 ∷ 5 ∷ 6 ∷ 7 ∷ 8 ∷ []) < 2 ^ 62) (img.logs j)) stable-same s.lsns.logs;
-      pages = subst (λ (img : disks.Image). (p : ℕ) → p < 1024
+      pages = subst (λ (img : disks.Storage). (p : ℕ) → p < 1024
           → (img.disk p).lsn + sum_by (λ k. owed (img.logs k)) (1 ∷ 2 ∷ 3 ∷ 4 ∷ 5 ∷ 6 ∷ 7 ∷ 8 ∷ []) < 2 ^ 62) stable-same s.lsns.pages;
     };
   }

@@ -8,7 +8,7 @@ use Rattle.sd_base.proofs.SameIds.{cases_txn}
 use Rattle.sd_logrec.specs.View.{Rec}
 use Rattle.sd_log.specs.Logs.{LogState, log_in}
 use Rattle.sd_chain.specs.Fates.{Fate, fate}
-use Rattle.sd_chain.specs.Image.{Image, Open, Sound, opens}
+use Rattle.sd_chain.specs.Storage.{Open, Sound, Storage, opens}
 use Rattle.sd_chain.specs.Records.{Each, IsOpen, at, home, stack}
 use Rattle.sd_chain.proofs.Apart.{apart, none_at}
 use Rattle.sd_chain.proofs.Fates.{fate-open}
@@ -32,7 +32,7 @@ none-any test (x ∷ xs) off = ap (λ b. b || list_any test xs) off.0 ∙ none-a
 some-kept : (p s : ℕ) (xs : List Rec) → list_any (at p s) xs ≡ true → filter (at p s) xs ≢ []
 some-kept p s xs is none = let e = sym is ∙ none-any (at p s) xs (none_at p s xs none) in absurd (cc)
 
-one-open : (img : Image) → Sound img → (r : Rid) (t u : TxnId) → Open img t → Open img u → list_any (at r.page r.slot) (opens img t) ≡ true
+one-open : (img : Storage) → Sound img → (r : Rid) (t u : TxnId) → Open img t → Open img u → list_any (at r.page r.slot) (opens img t) ≡ true
     → list_any (at r.page r.slot) (opens img u) ≡ true → t ≡ u
 one-open img sound r t u alive alive' is is' = ⊎_elim
     (λ e. e)
@@ -40,7 +40,7 @@ one-open img sound r t u alive alive' is is' = ⊎_elim
     (apart img sound r.page r.slot t u ne alive alive' (some-kept r.page r.slot (opens img t) is))))
     (cases_txn t u)
 
-pub sound-apart : (img : Image) (logs : List LogState) → Sound img → ((j : ℕ) → img.logs j ≡ log_in logs j) → AreApart logs
+pub sound-apart : (img : Storage) (logs : List LogState) → Sound img → ((j : ℕ) → img.logs j ≡ log_in logs j) → AreApart logs
 sound-apart img logs sound same t u r has_t has_u =
     let a = both (is_left (fate t (log_in logs (home t)))) (list_any (at r.page r.slot) (stack t (log_in logs (home t)))) has_t in
     let b = both (is_left (fate u (log_in logs (home u)))) (list_any (at r.page r.slot) (stack u (log_in logs (home u)))) has_u in

@@ -1,7 +1,7 @@
 -- Syncs and reads, one after another: no crash leaves what none might leave before. For the goals of devices.rt.
 use Rattle.std.proofs.Common.{◌≡◌, ◌≢◌, inl, ⊎_elim, ℕ, ◌+◌, ◌<◌, ◌≤◌, List, refl, sym, ◌∙◌, subst, arith}
 use Rattle.std.proofs.lemmas.Bool.{cases_eq}
-use Rattle.sd_rig.specs.Devices.{Elapses, Image, IsOneStep, IsUnchanged, Leaves, LeavesOnly, LeavesSame}
+use Rattle.sd_rig.specs.Devices.{DeviceImages, Elapses, IsOneStep, IsUnchanged, Leaves, LeavesOnly, LeavesSame}
 use Rattle.sd_rig.specs.Spans.{elapses-then, span-step, span-then, span-weaker}
 use Rattle.sd_restart.specs.Devices.{Calms}
 
@@ -9,11 +9,11 @@ abbrev Outcomes : Type 1
 Outcomes = ℕ → List ℕ → Type 0
 
 abbrev Since : Type 1
-Since = ℕ → Image → Type 0
+Since = ℕ → DeviceImages → Type 0
 
 -- one step after another; `earlier` is the rig's law
-pub calm-then : (s s' s'' : Image) (l l' l'' : Outcomes) (a b c : ℕ) (since since' since'' : Since)
-    → ((t u : ℕ) (img : Image) → t ≤ u → since'' u img → since'' t img)
+pub calm-then : (s s' s'' : DeviceImages) (l l' l'' : Outcomes) (a b c : ℕ) (since since' since'' : Since)
+    → ((t u : ℕ) (img : DeviceImages) → t ≤ u → since'' u img → since'' t img)
     → Calms s s' l l' a b since since' → Calms s' s'' l' l'' b c since' since'' → Calms s s'' l l'' a c since since''
 calm-then s s' s'' l l' l'' a b c since since' since'' earlier f g = record {
   reads = λ d. g.reads d ∙ f.reads d;
@@ -24,7 +24,7 @@ calm-then s s' s'' l l' l'' a b c since since' since'' earlier f g = record {
 }
 
 -- what changes nothing
-pub calm-same : (s s' : Image) (l l' : Outcomes) (a b : ℕ) (since since' : Since) → ((img : Image) → since a img → Leaves l img)
+pub calm-same : (s s' : DeviceImages) (l l' : Outcomes) (a b : ℕ) (since since' : Since) → ((img : DeviceImages) → since a img → Leaves l img)
     → IsUnchanged s s' l l' a b since since' → Calms s s' l l' a b since since'
 calm-same s s' l l' a b since since' only u =
     let clock : b ≡ a = u.clock in
@@ -40,7 +40,7 @@ calm-same s s' l l' a b since since' only u =
     }
 
 -- nothing
-pub calm-none : (s : Image) (l : Outcomes) (a : ℕ) (since : Since) → ((img : Image) → since a img → Leaves l img) → Calms s s l l a a since since
+pub calm-none : (s : DeviceImages) (l : Outcomes) (a : ℕ) (since : Since) → ((img : DeviceImages) → since a img → Leaves l img) → Calms s s l l a a since since
 calm-none s l a since only = record {
   reads = λ d. refl;
   less = λ d bytes left. left;
@@ -49,7 +49,7 @@ calm-none s l a since only = record {
 }
 
 -- a sync
-pub calm-sync : (dev : ℕ) (s s' : Image) (l l' : Outcomes) (a b : ℕ) (since since' : Since) → ((d : ℕ) → s' d ≡ s d)
+pub calm-sync : (dev : ℕ) (s s' : DeviceImages) (l l' : Outcomes) (a b : ℕ) (since since' : Since) → ((d : ℕ) → s' d ≡ s d)
     → ((d : ℕ) → d ≢ dev → LeavesSame (l d) (l' d)) → ((bytes : List ℕ) → l' dev bytes → l dev bytes)
     → Elapses a b since since' → IsOneStep a since' l l' → Calms s s' l l' a b since since'
 calm-sync dev s s' l l' a b since since' seen others here time step =
@@ -74,7 +74,7 @@ pub settled-stays : (bytes : List ℕ) (l l' : List ℕ → Type 0) → LeavesOn
 settled-stays bytes l l' only less there c = (λ left. (only c).0 (less c left), λ is. subst l' (sym is) there)
 
 -- the next device is settled, and those before it stay so
-pub settled-next : (s s' s'' : Image) (l' l'' : Outcomes) (dev : ℕ) → ((d : ℕ) → s' d ≡ s d) → ((d : ℕ) → s'' d ≡ s' d)
+pub settled-next : (s s' s'' : DeviceImages) (l' l'' : Outcomes) (dev : ℕ) → ((d : ℕ) → s' d ≡ s d) → ((d : ℕ) → s'' d ≡ s' d)
     → ((d : ℕ) (bytes : List ℕ) → l'' d bytes → l' d bytes) → ((d : ℕ) → d ≤ 8 → l'' d (s'' d)) → dev ≤ 8
     → LeavesOnly (s' dev) (l'' dev) → ((d : ℕ) → d < dev → LeavesOnly (s d) (l' d)) → (d : ℕ) → d < dev + 1 → LeavesOnly (s d) (l'' d)
 settled-next s s' s'' l' l'' dev reads reads' less there few here before d lt = ⊎_elim
@@ -85,7 +85,7 @@ settled-next s s' s'' l' l'' dev reads reads' less there few here before d lt = 
     (cases_eq d dev)
 
 -- nothing changes where nothing is done
-pub unchanged-none : (s : Image) (l : Outcomes) (a : ℕ) (since : Since) → IsUnchanged s s l l a a since since
+pub unchanged-none : (s : DeviceImages) (l : Outcomes) (a : ℕ) (since : Since) → IsUnchanged s s l l a a since since
 unchanged-none s l a since = record {
   reads = λ d. refl;
   outcomes = λ d bytes. (λ left. left, λ left. left);
@@ -94,7 +94,7 @@ unchanged-none s l a since = record {
 }
 
 -- nor by one step after another of which neither changes anything
-pub unchanged-then : (s s' s'' : Image) (l l' l'' : Outcomes) (a b c : ℕ) (since since' since'' : Since)
+pub unchanged-then : (s s' s'' : DeviceImages) (l l' l'' : Outcomes) (a b c : ℕ) (since since' since'' : Since)
     → IsUnchanged s s' l l' a b since since' → IsUnchanged s' s'' l' l'' b c since' since'' → IsUnchanged s s'' l l'' a c since since''
 unchanged-then s s' s'' l l' l'' a b c since since' since'' f g = record {
   reads = λ d. g.reads d ∙ f.reads d;

@@ -9,7 +9,7 @@ use Rattle.sd_recovered.specs.Devices.{HasRecLsn, devices_of, log_devices}
 use Rattle.sd_recovered.specs.Reading.{AreRead, HasRead, counting}
 use Rattle.sd_recovered.specs.declared.logs.ReadLogs.{ReadLogs}
 use Rattle.sd_recovered.specs.declared.reading.Opened.{Opened}
-use Rattle.sd_rig.specs.Devices.{Image, device_len}
+use Rattle.sd_rig.specs.Devices.{DeviceImages, device_len}
 use Rattle.sd_scan.specs.Masters.{said}
 use Rattle.sd_restart.specs.Devices.{images_of}
 use Rattle.sd_restart.specs.Reading.{IsReading}
@@ -22,7 +22,7 @@ none-failed e dev at failed is = cc
 pub none-memory : {T : Type 0} (e : Refusal) (dev at : ℕ) → e ≡ R.Memory → ◌≡◌ {A = Result T Refusal} (Err e) (Err (R.Damaged dev at)) → ⊥
 none-memory e dev at memory is = cc
 
-module _ (seen : Image) (bytes : List ℕ) (logs : ReadLogs) (is : bytes ≡ seen 0) (has : HasRead (log_devices (images_of seen)) logs) where
+module _ (seen : DeviceImages) (bytes : List ℕ) (logs : ReadLogs) (is : bytes ≡ seen 0) (has : HasRead (log_devices (images_of seen)) logs) where
   nine : bytes ∷ log_devices (images_of seen) ≡ images_of seen
   nine = ap (λ (b : List ℕ). b ∷ log_devices (images_of seen)) is
 

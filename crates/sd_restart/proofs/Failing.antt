@@ -7,12 +7,12 @@ use Rattle.sd_base.specs.declared.ids.TxnId.{TxnId}
 use Rattle.sd_base.specs.Ids.{IsBelow}
 use Rattle.sd_logrec.specs.Kept.{kept}
 use Rattle.sd_logrec.specs.View.{Rec, flat}
-use Rattle.sd_rig.specs.Devices.{Image}
+use Rattle.sd_rig.specs.Devices.{DeviceImages}
 use Rattle.sd_chain.specs.Bytes.{disk_page, log_of, stable}
 use Rattle.sd_chain.specs.Checks.{LsnsAreLeft, TwinIsSound, gate_of, owed, placed_of, reserve}
 use Rattle.sd_chain.specs.Faults.{ChainsAreSound, EndsFit, FailsFirstAt, FailsInChain, FailsInLog, FailsInRoom, FailsInStack, FailsInTwin, LogFailsAt, LogIsSound, LogsAreSound, StacksAreSound, TwinFailsAt, TwinsAreSound}
-use Rattle.sd_chain.specs.Image as disks
-use Rattle.sd_chain.specs.Image.{Open, StackFits, chain, opens}
+use Rattle.sd_chain.specs.Storage as disks
+use Rattle.sd_chain.specs.Storage.{Open, StackFits, chain, opens}
 use Rattle.sd_chain.specs.Pages.{FitAll, FitsPage, replay}
 use Rattle.sd_chain.specs.Records.{Each, stack}
 use Rattle.sd_sound.specs.Laws.{IsRead}
@@ -25,7 +25,7 @@ use Rattle.sd_txn.specs.Transactions.{txn_at}
 use Rattle.sd_restart.specs.Devices.{AgreeOnNine}
 use Rattle.sd_restart.proofs.Alike.{log-same, sound-same, stable-same}
 
-module _ (a b : Image) (same : AgreeOnNine a b) where
+module _ (a b : DeviceImages) (same : AgreeOnNine a b) where
   is : stable a ≡ stable b
   is = stable-same a b same
 
@@ -36,16 +36,16 @@ module _ (a b : Image) (same : AgreeOnNine a b) where
   twins-same s p lt = subst (TwinIsSound p) (same 0 (omega arith)) (s p lt)
 
   chains-same : ChainsAreSound a → ChainsAreSound b
-  chains-same = subst (λ (img : disks.Image). (p : ℕ) → p < 1024 → FitAll (img.disk p).lsn (img.disk p) (chain img p)) is
+  chains-same = subst (λ (img : disks.Storage). (p : ℕ) → p < 1024 → FitAll (img.disk p).lsn (img.disk p) (chain img p)) is
 
   stacks-same : StacksAreSound a → StacksAreSound b
-  stacks-same = subst (λ (img : disks.Image). (t : TxnId) → Open img t → StackFits img t) is
+  stacks-same = subst (λ (img : disks.Storage). (t : TxnId) → Open img t → StackFits img t) is
 
   lsns-same : LsnsAreLeft a → LsnsAreLeft b
   lsns-same s = record {
-    logs = subst (λ (img : disks.Image). (j : ℕ)
+    logs = subst (λ (img : disks.Storage). (j : ℕ)
         → Each (λ x. x.lsn + sum_by (λ k. owed (img.logs k)) (1 ∷ 2 ∷ 3 ∷ 4 ∷ 5 ∷ 6 ∷ 7 ∷ 8 ∷ []) < 2 ^ 62) (img.logs j)) is s.logs;
-    pages = subst (λ (img : disks.Image). (p : ℕ) → p < 1024
+    pages = subst (λ (img : disks.Storage). (p : ℕ) → p < 1024
         → (img.disk p).lsn + sum_by (λ k. owed (img.logs k)) (1 ∷ 2 ∷ 3 ∷ 4 ∷ 5 ∷ 6 ∷ 7 ∷ 8 ∷ []) < 2 ^ 62) is s.pages;
   }
 
@@ -56,7 +56,7 @@ module _ (a b : Image) (same : AgreeOnNine a b) where
     lsns = lsns-same s.lsns;
   }
 
-module _ (a b : Image) (same : AgreeOnNine a b) where
+module _ (a b : DeviceImages) (same : AgreeOnNine a b) where
   back : AgreeOnNine b a
   back d le = sym (same d le)
 
@@ -86,7 +86,7 @@ module _ (a b : Image) (same : AgreeOnNine a b) where
       record {
         page = f.page;
         few = f.few;
-        before = subst (λ (img : disks.Image). (p : ℕ) → p < f.page → FitAll (img.disk p).lsn (img.disk p) (chain img p)) eq f.before;
+        before = subst (λ (img : disks.Storage). (p : ℕ) → p < f.page → FitAll (img.disk p).lsn (img.disk p) (chain img p)) eq f.before;
         here = record {
           index = h.index;
           place = h.place;
@@ -97,10 +97,10 @@ module _ (a b : Image) (same : AgreeOnNine a b) where
           at_is = h.at_is;
           before = h.before;
           behind = h.behind;
-          parts = sym (ap (λ (img : disks.Image). chain img f.page) eq) ∙ h.parts;
-          fits = subst (λ (img : disks.Image). FitAll (img.disk f.page).lsn (img.disk f.page) h.before) eq h.fits;
-          above = subst (λ (img : disks.Image). (img.disk f.page).lsn < (flat h.rec).lsn) eq h.above;
-          misfit = subst (λ (img : disks.Image). FitsPage (replay (img.disk f.page).lsn (img.disk f.page) h.before) (flat h.rec) → ⊥) eq h.misfit;
+          parts = sym (ap (λ (img : disks.Storage). chain img f.page) eq) ∙ h.parts;
+          fits = subst (λ (img : disks.Storage). FitAll (img.disk f.page).lsn (img.disk f.page) h.before) eq h.fits;
+          above = subst (λ (img : disks.Storage). (img.disk f.page).lsn < (flat h.rec).lsn) eq h.above;
+          misfit = subst (λ (img : disks.Storage). FitsPage (replay (img.disk f.page).lsn (img.disk f.page) h.before) (flat h.rec) → ⊥) eq h.misfit;
         };
       }
 
@@ -122,9 +122,9 @@ module _ (a b : Image) (same : AgreeOnNine a b) where
       record {
         txn = f.txn;
         home = f.home;
-        open_ = subst (λ (img : disks.Image). Open img f.txn) eq f.open_;
-        before = subst (λ (img : disks.Image). (t : TxnId) → IsBelow t f.txn → Open img t → StackFits img t) eq f.before;
-        wrong = subst (λ (img : disks.Image). StackFits img f.txn → ⊥) eq f.wrong;
+        open_ = subst (λ (img : disks.Storage). Open img f.txn) eq f.open_;
+        before = subst (λ (img : disks.Storage). (t : TxnId) → IsBelow t f.txn → Open img t → StackFits img t) eq f.before;
+        wrong = subst (λ (img : disks.Storage). StackFits img f.txn → ⊥) eq f.wrong;
         lowest = record {
           index = l.index;
           place = l.place;
@@ -132,7 +132,7 @@ module _ (a b : Image) (same : AgreeOnNine a b) where
           there = ap (λ (bytes : List ℕ). slice_get (placed_of (kept bytes)) l.index) (sym (same f.txn.inst high)) ∙ l.there;
           at_is = l.at_is;
           above = l.above;
-          parts = sym (ap (λ (img : disks.Image). opens img f.txn) eq) ∙ l.parts;
+          parts = sym (ap (λ (img : disks.Storage). opens img f.txn) eq) ∙ l.parts;
         };
       }
 
@@ -161,7 +161,7 @@ module _ (a b : Image) (same : AgreeOnNine a b) where
     spelled = f.spelled;
     rows = λ t. subst (IsLeftIn (txn_at (txns_at c j) t) t) (log-same a b same j) (f.rows t);
     table = f.table;
-    status = f.status ∙ ap (λ (img : disks.Image). status_in img j) eq;
+    status = f.status ∙ ap (λ (img : disks.Storage). status_in img j) eq;
     epoch = f.epoch ∙ ap kept_epoch (same j high);
     master = subst (λ (bytes : List ℕ). IfSome (chosen_body 0 64 bytes) (λ body. number_of body ≡ count_at c j)) (same j high) f.master;
     uncounted = λ none. f.uncounted (ap (chosen_body 0 64) (same j high) ∙ none);
@@ -174,9 +174,9 @@ module _ (a b : Image) (same : AgreeOnNine a b) where
     sound = sound-same a b same o.sound;
     shape = o.shape;
     insts = λ j low high. inst-same c j high (o.insts j low high);
-    locks = λ t r. o.locks t r ∙ ap (λ (img : disks.Image). lock_of (claim_in img t r)) eq;
+    locks = λ t r. o.locks t r ∙ ap (λ (img : disks.Storage). lock_of (claim_in img t r)) eq;
     unwaited = o.unwaited;
-    pages = subst (λ (img : disks.Image). (p : ℕ) → IsFoundPage img c p) eq o.pages;
+    pages = subst (λ (img : disks.Storage). (p : ℕ) → IsFoundPage img c p) eq o.pages;
     disk_lsns = subst (λ (bytes : List ℕ). (p : ℕ) → p < 1024 → (disk_page bytes p).lsn ≤ c.disk_lsn) (same 0 (omega arith)) o.disk_lsns;
     disk_lsn = subst (λ (bytes : List ℕ). (c.disk_lsn ≡ 0) ⊎ ((p : ℕ) × (p < 1024) × ((disk_page bytes p).lsn ≡ c.disk_lsn)))
         (same 0 (omega arith)) o.disk_lsn;

@@ -25,7 +25,7 @@ use Rattle.sd_rig.specs.Devices as rig
 use Rattle.sd_chain.specs.Bytes.{disk_page, log_of, stable}
 use Rattle.sd_chain.specs.Checks.{DevicesAreSound, open_in, owed, past_of, placed_of, records_in}
 use Rattle.sd_chain.specs.Fates.{fate}
-use Rattle.sd_chain.specs.Image.{Image, chain}
+use Rattle.sd_chain.specs.Storage.{Storage, chain}
 use Rattle.sd_chain.specs.Records.{at, home, stack}
 use Rattle.sd_chain.specs.Undoing.{Member}
 use Rattle.sd_chain.proofs.Members.{is-open_in, open_in-is}
@@ -33,15 +33,15 @@ use Rattle.sd_analysis.specs.declared.losers.Loser.{Loser}
 use Rattle.sd_analysis.specs.Losers.{AreLosers}
 use Rattle.sd_coherent.specs.Coherent.{NoneBefore}
 use Rattle.sd_newest.specs.FirstAbove.{IsFirstAbove}
-use Rattle.sd_scan.specs.Masters.{as_kept, as_master, master_in, said}
-use Rattle.sd_scan.specs.declared.master.Master as memory
+use Rattle.sd_scan.specs.Masters.{as_master, kept_master, master_in, said}
+use Rattle.sd_scan.specs.declared.master.MasterRecord as memory
 use Rattle.sd_sound.specs.Laws as sound
 use Rattle.sd_sound.specs.Logs.{after_records, records_at}
 use Rattle.sd_sound.proofs.Kept.{forced-idle, log-past}
 use Rattle.sd_sound.proofs.Lsns.{scanned-records}
 use Rattle.sd_undone.proofs.Opened.{losers-length}
 use Rattle.sd_recovered.specs.Devices.{devices_of, log_devices}
-use Rattle.sd_recovered.specs.Reading.{AreRead, IsRead, counting}
+use Rattle.sd_recovered.specs.Reading.{AreRead, LogIsRead, counting}
 use Rattle.sd_recovered.specs.declared.reading.Opened.{Opened}
 use Rattle.sd_recovered.proofs.Alike.{logs_alike}
 use Rattle.sd_recovered.proofs.Covers.{as_many}
@@ -112,13 +112,13 @@ none-open log losers are = go losers are (open_in (flats log)) refl
         let o = open_in-is t (flats log) (subst (λ (us : List TxnId). Member t us) (sym e) (inl refl)) in absurd (a.all t o.0 o.1)
     go (l ∷ ls) a [] e = absurd (subst (λ (us : List TxnId). Member l.txn us) e (is-open_in l.txn (flats log) a.each.0.runs a.each.0.there))
 
-read-records : (bytes : List ℕ) (log : LogState) (losers : List Loser) (j : ℕ) → IsRead j bytes log losers
+read-records : (bytes : List ℕ) (log : LogState) (losers : List Loser) (j : ℕ) → LogIsRead j bytes log losers
     → map (λ p. p.rec) (scanned log) ≡ records_in bytes
 read-records bytes log losers j is =
     scanned-records log ∙ ap records_at (forced-idle log is.no_tail)
     ∙ ap (λ (k : Reading). map (λ (p : ℕ × Record). p.1) (placed_of k)) (sym is.kept_is)
 
-read-stands : (bytes : List ℕ) (log : LogState) (losers : List Loser) (j : ℕ) → IsRead j bytes log losers → sound.IsRead bytes log
+read-stands : (bytes : List ℕ) (log : LogState) (losers : List Loser) (j : ℕ) → LogIsRead j bytes log losers → sound.IsRead bytes log
 read-stands bytes log losers j is = record {
   start = is.start_is;
   stands = subst (λ s. reading s (area bytes) ≡ Whole log.groups log.gate) (sym is.start_is) is.kept_is;
@@ -126,7 +126,7 @@ read-stands bytes log losers j is = record {
 }
 
 -- the master that was read is the device's
-master-is : (m : Option memory.Master) (body : Option (List ℕ)) → said m ≡ option_map master_in body → as_master m ≡ master_of body
+master-is : (m : Option memory.MasterRecord) (body : Option (List ℕ)) → said m ≡ option_map master_in body → as_master m ≡ master_of body
 master-is None None e = refl
 master-is None (Some body) e = absurd (cc)
 master-is (Some m) None e = absurd (cc)
@@ -144,20 +144,20 @@ number-front (a ∷ b ∷ c ∷ d ∷ e ∷ f ∷ []) = refl
 number-front (a ∷ b ∷ c ∷ d ∷ e ∷ f ∷ g ∷ []) = refl
 number-front (a ∷ b ∷ c ∷ d ∷ e ∷ f ∷ g ∷ h ∷ rest) = refl
 
-master-count : (m : Option memory.Master) (body : Option (List ℕ)) → said m ≡ option_map master_in body
+master-count : (m : Option memory.MasterRecord) (body : Option (List ℕ)) → said m ≡ option_map master_in body
     → IfSome body (λ b. number_of b ≡ count_of m)
 master-count None None e = tt
 master-count None (Some body) e = absurd (cc)
 master-count (Some m) None e = tt
-master-count (Some m) (Some body) e = let is : as_kept m ≡ master_in body = cc in
+master-count (Some m) (Some body) e = let is : kept_master m ≡ master_in body = cc in
     sym (number-front body) ∙ ap (λ (k : Master). k.count) (sym is)
 
-master-none : (m : Option memory.Master) (body : Option (List ℕ)) → said m ≡ option_map master_in body → body ≡ None → count_of m ≡ 0
+master-none : (m : Option memory.MasterRecord) (body : Option (List ℕ)) → said m ≡ option_map master_in body → body ≡ None → count_of m ≡ 0
 master-none None body e none = refl
 master-none (Some m) None e none = absurd (cc)
 master-none (Some m) (Some body) e none = absurd (cc)
 
-epoch-is : (bytes : List ℕ) (m : Option memory.Master) (log : LogState) (losers : List Loser) (j : ℕ) → IsRead j bytes log losers
+epoch-is : (bytes : List ℕ) (m : Option memory.MasterRecord) (log : LogState) (losers : List Loser) (j : ℕ) → LogIsRead j bytes log losers
     → said m ≡ counting bytes → epoch_for m log ≡ kept_epoch bytes
 unfolding master
 epoch-is bytes m log losers j is e =
@@ -183,7 +183,7 @@ number-at (suc (suc (suc (suc (suc (suc (suc zero))))))) lt = refl
 number-at (suc (suc (suc (suc (suc (suc (suc (suc k)))))))) lt = absurd (omega (arith, lt))
 
 -- a u64 tells what a log of sound devices owes
-owed-small : (devices : rig.Image) → DevicesAreSound devices → (k : ℕ) → k < 8 → owed (log_of devices (suc k)) < 2 ^ 62
+owed-small : (devices : rig.DeviceImages) → DevicesAreSound devices → (k : ℕ) → k < 8 → owed (log_of devices (suc k)) < 2 ^ 62
 owed-small devices s k lt =
     let all = s.lsns.pages 0 (omega arith) in
     let one = sum-member (λ j. owed (log_of devices j)) (1 ∷ 2 ∷ 3 ∷ 4 ∷ 5 ∷ 6 ∷ 7 ∷ 8 ∷ []) k (suc k) (number-at k lt) in
@@ -196,10 +196,10 @@ lock-is true = refl
 lock-is false = refl
 
 module _ (images : List (List ℕ)) (o : Opened) (found : Found) (frames : ℕ) (r : IsReading images o) (m : IsMade o found) where
-  abbrev devices : rig.Image
+  abbrev devices : rig.DeviceImages
   devices = devices_of images
 
-  abbrev img : Image
+  abbrev img : Storage
   img = stable devices
 
   abbrev c : Parts
@@ -261,7 +261,7 @@ module _ (images : List (List ℕ)) (o : Opened) (found : Found) (frames : ℕ) 
       behind (x ∷ ds) k lt = slice_get-get_or ds k [] (omega (arith, lt)) ∙ ap (λ (d : List ℕ). Some d) (sym (unwrap_or-slice_get ds k []))
 
   -- the master of an instance
-  master-at : (k : ℕ) → k < 8 → (x : Option memory.Master) → slice_get o.masters.items k ≡ Some x → said x ≡ counting (devices (suc k))
+  master-at : (k : ℕ) → k < 8 → (x : Option memory.MasterRecord) → slice_get o.masters.items k ≡ Some x → said x ≡ counting (devices (suc k))
   master-at k lt x at_k =
       let e : Some (said x) ≡ Some (counting (devices (suc k))) =
       sym (ap (option_map said) at_k) ∙ sym (slice_get-map said o.masters.items k) ∙ ap (λ l. slice_get l k) r.masters

@@ -1,6 +1,6 @@
 -- What the nine devices read, as a list: for the goals of devices.rt and restarting.rt.
 use Rattle.std.proofs.Common.{◌≡◌, ℕ, zero, suc, ◌+◌, ◌<◌, ◌≤◌, List, length, get_or, refl, ap, ◌∙◌, arith}
-use Rattle.sd_rig.specs.Devices.{Image, device_len}
+use Rattle.sd_rig.specs.Devices.{DeviceImages, device_len}
 use Rattle.sd_recovered.specs.Devices.{AreDevices, devices_of, log_devices}
 use Rattle.sd_restart.specs.Devices.{AgreeOnNine, images_of}
 
@@ -16,7 +16,7 @@ log-len (suc (suc (suc (suc (suc (suc zero)))))) lt = refl
 log-len (suc (suc (suc (suc (suc (suc (suc zero))))))) lt = refl
 log-len (suc (suc (suc (suc (suc (suc (suc (suc k)))))))) lt = absurd (omega (arith, lt))
 
-module _ (seen : Image) where
+module _ (seen : DeviceImages) where
   pub each : AgreeOnNine (devices_of (images_of seen)) seen
   each zero le = refl
   each (suc zero) le = refl

@@ -8,7 +8,7 @@ use Rattle.std.proofs.lemmas.List.Folds.{list_any_more}
 use Rattle.std.proofs.lemmas.Option.{slice_get_past, unwrap_or-slice_get}
 use Rattle.sd_logrec.specs.View.{Rec}
 use Rattle.sd_page.specs.Page.{Page}
-use Rattle.sd_chain.specs.Image.{Image, Sound, all_of, chain, newest}
+use Rattle.sd_chain.specs.Storage.{Sound, Storage, all_of, chain, newest}
 use Rattle.sd_chain.specs.Pages.{redo, replay}
 use Rattle.sd_chain.specs.Records.{Each, of_page}
 use Rattle.sd_chain.proofs.Above.{Each-filter_back, Each-sorted_back}
@@ -36,7 +36,7 @@ reached top l (x ∷ xs) low is = ⊎_elim
     other true b off e = absurd (cc)
     other false b off e = e
 
-module _ (img : Image) (p : ℕ) where
+module _ (img : Storage) (p : ℕ) where
   old : Each (λ x. x.lsn ≤ (img.disk p).lsn) (chain img p) → ltb (img.disk p).lsn (newest img p).lsn ≡ false
   unfolding newest
   old low =
@@ -75,7 +75,7 @@ of-each P logs (suc n) all j lt = ⊎_elim
     (cases_eq j n)
 
 -- no record that the disk lacks is below the page's RecLSN
-pub none-before : (img : Image) (p l : ℕ) → ((j : ℕ) → 9 ≤ j → img.logs j ≡ []) → IsLeastAbove (chain img p) (img.disk p).lsn l
+pub none-before : (img : Storage) (p l : ℕ) → ((j : ℕ) → 9 ≤ j → img.logs j ≡ []) → IsLeastAbove (chain img p) (img.disk p).lsn l
     → (j : ℕ) → NoneBefore p l (img.disk p) (img.logs j)
 unfolding chain
 none-before img p l past is j = ⊎_elim
@@ -96,7 +96,7 @@ swap true false = refl
 swap false true = refl
 swap false false = refl
 
-some-front : (img : Image) (recs : List (Option ℕ)) (n : ℕ) → n ≤ length recs → ((p : ℕ) → p < length recs → is_lost_in img p ≡ lost_by recs p)
+some-front : (img : Storage) (recs : List (Option ℕ)) (n : ℕ) → n ≤ length recs → ((p : ℕ) → p < length recs → is_lost_in img p ≡ lost_by recs p)
     → list_any is_some (take n recs) ≡ some_lost img n
 some-front img recs zero le each = refl
 some-front img recs (suc n) le each =
@@ -107,7 +107,7 @@ some-front img recs (suc n) le each =
     ∙ swap (some_lost img n) (is_lost_in img n)
 
 -- some page is lost exactly where one has a RecLSN
-pub some-lost : (img : Image) (recs : List (Option ℕ)) → length recs ≡ 1024 → ((p : ℕ) → p < 1024 → is_lost_in img p ≡ lost_by recs p)
+pub some-lost : (img : Storage) (recs : List (Option ℕ)) → length recs ≡ 1024 → ((p : ℕ) → p < 1024 → is_lost_in img p ≡ lost_by recs p)
     → some_rec recs ≡ some_lost img 1024
 some-lost img recs len each =
     ap (list_any is_some) (sym (take-length recs) ∙ ap (λ n. take n recs) len)

@@ -8,7 +8,7 @@ use Rattle.std.proofs.lemmas.List.{length-take-le}
 use Rattle.std.proofs.lemmas.Option.{slice_get_past}
 use Rattle.sd_base.proofs.Lists.{slice_get-take}
 use Rattle.sd_page.specs.Page.{Page}
-use Rattle.sd_pagelock.specs.Directory.{DirectoryState, asks_at, entry_at, image_at, rec_lsn_at}
+use Rattle.sd_pagelock.specs.Directory.{DirectoryState, asks_at, entry_at, moving_image_at, rec_lsn_at}
 use Rattle.sd_pagelock.specs.Rows.{nowhere}
 use Rattle.sd_restart.specs.Reading.{lost_by, rec_at}
 
@@ -16,7 +16,7 @@ use Rattle.sd_restart.specs.Reading.{lost_by, rec_at}
 pub record IsPlaced (d : DirectoryState (Box Page)) (recs : List (Option ℕ)) : Type 0 where
   pub entries : (p : ℕ) → entry_at d p ≡ nowhere (lost_by recs p)
   pub marks : (p : ℕ) → rec_lsn_at d p ≡ rec_at recs p
-  pub still : (p : ℕ) → image_at d p ≡ None
+  pub still : (p : ℕ) → moving_image_at d p ≡ None
   pub unasked : (p : ℕ) → asks_at d p ≡ []
 
 rec-within : (recs : List (Option ℕ)) (n p : ℕ) → p < n → rec_at (take n recs) p ≡ rec_at recs p
@@ -41,7 +41,7 @@ pub placed_more : (recs : List (Option ℕ)) (k p : ℕ) (rec : Option ℕ) (d d
     → p ≡ k → slice_get recs k ≡ Some rec
     → k < length recs
     → entry_at d' p ≡ nowhere (is_some rec) → rec_lsn_at d' p ≡ rec
-    → ((q : ℕ) → image_at d' q ≡ image_at d q) → ((q : ℕ) → asks_at d' q ≡ asks_at d q)
+    → ((q : ℕ) → moving_image_at d' q ≡ moving_image_at d q) → ((q : ℕ) → asks_at d' q ≡ asks_at d q)
     → ((q : ℕ) → q ≢ p → entry_at d' q ≡ entry_at d q) → ((q : ℕ) → q ≢ p → rec_lsn_at d' q ≡ rec_lsn_at d q)
     → IsPlaced d' (take (k + 1) recs)
 placed_more recs k p rec d d' was at there lt here rec_here images asks others other_recs = record {

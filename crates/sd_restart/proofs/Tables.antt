@@ -15,7 +15,7 @@ use Rattle.sd_chain.specs.Records.{Each, stack}
 use Rattle.sd_chain.proofs.Fates.{open-fate}
 use Rattle.sd_analysis.specs.declared.losers.Loser.{Loser}
 use Rattle.sd_analysis.specs.Losers.{AreLosers, IsLoser}
-use Rattle.sd_relist.specs.Kept.{as_kept, left_open, open_rec}
+use Rattle.sd_relist.specs.Kept.{as_transaction, left_open, open_rec}
 use Rattle.sd_relist.specs.Walks.{AreRising}
 use Rattle.sd_relist.proofs.Relisted.{Who, unknown}
 use Rattle.sd_relist.proofs.Stacked.{map-reverse}
@@ -83,20 +83,20 @@ unlisted (l ∷ ls) t off =
 
 module _ (log : List Placed) (losers : List Loser) (who : List Who) (table : Transactions) (are : AreLosers log losers)
     (is : who ≡ retained losers) (order : ids table ≡ map (λ (w : Who). w.0) who)
-    (rows : (t : TxnId) (state : TxnState) → Contains who (t, state) → txn_at table t ≡ Some (as_kept (flats log) t state)) where
+    (rows : (t : TxnId) (state : TxnState) → Contains who (t, state) → txn_at table t ≡ Some (as_transaction (flats log) t state)) where
   row-there : (t : TxnId) → Named losers t → IsLeftIn (txn_at table t) t (flats log)
   row-there t n =
       let l = n.loser in
       let at : slice_get who n.index ≡ Some (l.txn, TxnState.Retained) =
       ap (λ (w : List Who). slice_get w n.index) is ∙ slice_get-map (λ (x : Loser). (x.txn, TxnState.Retained)) losers n.index
       ∙ ap (option_map (λ (x : Loser). (x.txn, TxnState.Retained))) n.there in
-      let row : txn_at table l.txn ≡ Some (as_kept (flats log) l.txn TxnState.Retained) =
+      let row : txn_at table l.txn ≡ Some (as_transaction (flats log) l.txn TxnState.Retained) =
       rows l.txn TxnState.Retained (
         n.index,
         slice_get_within who n.index (l.txn, TxnState.Retained) at,
         get_or_from_slice_get who n.index (l.txn, TxnState.Retained) (l.txn, TxnState.Retained) at,
       ) in
-      let kept : as_kept (flats log) l.txn TxnState.Retained ≡ left_open (flats log) l.txn TxnState.Retained =
+      let kept : as_transaction (flats log) l.txn TxnState.Retained ≡ left_open (flats log) l.txn TxnState.Retained =
       rw (left-by log losers n.index l.txn l are n.there refl) refl in
       subst (λ (u : TxnId). IsLeftIn (txn_at table u) u (flats log)) n.same
       (subst (λ o. IsLeftIn o l.txn (flats log)) (sym (row ∙ ap (λ (x : Transaction). Some x) kept))
@@ -116,13 +116,13 @@ module _ (log : List Placed) (losers : List Loser) (who : List Who) (table : Tra
 pub table-is : {E : Type 0} (answer : Result Transactions E) (inst : ℕ) (log : LogState) (placed : List Placed) (losers : List Loser) (who : List Who)
     → AreLosers (scanned log) losers → placed ≡ scanned log → who ≡ retained losers
     → IfOk answer (λ table. ids table ≡ map (λ (w : Who). w.0) who)
-    → IfOk answer (λ table. (t : TxnId) (state : TxnState) → Contains who (t, state) → txn_at table t ≡ Some (as_kept (flats placed) t state))
+    → IfOk answer (λ table. (t : TxnId) (state : TxnState) → Contains who (t, state) → txn_at table t ≡ Some (as_transaction (flats placed) t state))
     → IfOk answer (λ table. (table.inst ≡ inst) × (table.epoch ≡ 0) × (table.begins ≡ 0)) → IfOk answer (IsTableOf inst log)
 table-is (Ok table) inst log placed losers who are same is order rows fresh = record {
   inst = fresh.0;
   epoch = fresh.1;
   rows = rows-left (scanned log) losers who table are is order
-      (λ t state c. rows t state c ∙ ap (λ (ps : List Placed). Some (as_kept (flats ps) t state)) same);
+      (λ t state c. rows t state c ∙ ap (λ (ps : List Placed). Some (as_transaction (flats ps) t state)) same);
 }
 table-is (Err e) inst log placed losers who are same is order rows fresh = tt
 

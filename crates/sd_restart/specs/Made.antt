@@ -2,7 +2,7 @@
 use Rattle.std.specs.Prelude.{◌≡◌, ◌⊎◌, ℕ, ◌≤◌, All, Contains, [], None, map}
 use Rattle.sd_base.specs.declared.ids.Rid.{Rid}
 use Rattle.sd_base.specs.declared.ids.TxnId.{TxnId}
-use Rattle.sd_pagelock.specs.Directory.{asks_at, entry_at, image_at, rec_lsn_at}
+use Rattle.sd_pagelock.specs.Directory.{asks_at, entry_at, moving_image_at, rec_lsn_at}
 use Rattle.sd_pagelock.specs.Rows.{nowhere}
 use Rattle.sd_reclock.specs.Locks.{held}
 use Rattle.sd_recovered.specs.declared.reading.Opened.{Opened}
@@ -21,7 +21,7 @@ pub record IsMade (o : Opened) (found : Found) : Type 0 where
   -- each page lost that has records which the disk lacks, from the first of them on, and nothing on its way
   pub entries : (p : ℕ) → entry_at (unboxed found.directory) p ≡ nowhere (lost_by o.rec_lsns.items p)
   pub recs : (p : ℕ) → rec_lsn_at (unboxed found.directory) p ≡ rec_at o.rec_lsns.items p
-  pub still : (p : ℕ) → image_at (unboxed found.directory) p ≡ None
+  pub still : (p : ℕ) → moving_image_at (unboxed found.directory) p ≡ None
   pub unasked : (p : ℕ) → asks_at (unboxed found.directory) p ≡ []
   pub statuses : found.statuses.items ≡ map (status_for (some_rec o.rec_lsns.items)) o.losers.items
   pub epochs : AreEpochs o.masters.items o.logs.items found.epochs.items

@@ -12,7 +12,7 @@ use Rattle.sd_recovered.specs.Devices.{AreDevices, HasRecLsn, devices_of, log_de
 use Rattle.sd_recovered.specs.Reading.{AreRead, counting}
 use Rattle.sd_recovered.specs.declared.reading.Opened.{Opened}
 use Rattle.sd_scan.specs.Masters.{as_master, said}
-use Rattle.sd_scan.specs.declared.master.Master as memory
+use Rattle.sd_scan.specs.declared.master.MasterRecord as memory
 use Rattle.sd_sound.specs.Logs.{after_records}
 use Rattle.sd_state.specs.Opening.{IsLeftIn}
 use Rattle.sd_txn.specs.Transactions.{Transactions, txn_at}
@@ -62,18 +62,18 @@ is_some_loser (l ∷ ls) = true
 abbrev pub status_for : Bool → List Loser → Status
 status_for lost losers = cond {A = Status} (is_some_loser losers || lost) S.Down S.Clean
 
-abbrev pub count_of : Option memory.Master → ℕ
+abbrev pub count_of : Option memory.MasterRecord → ℕ
 count_of None = 0
 count_of (Some m) = m.count
 
 -- the epoch of the log's last Start, or of its master
-abbrev pub epoch_for : Option memory.Master → LogState → ℕ
+abbrev pub epoch_for : Option memory.MasterRecord → LogState → ℕ
 epoch_for m log = (after_records (past_of (as_master m)) (map (λ p. p.rec) (scanned log))).epoch
 
 -- each log's, with its master
-abbrev pub AreEpochs : List (Option memory.Master) → List LogState → List ℕ → Type 0
+abbrev pub AreEpochs : List (Option memory.MasterRecord) → List LogState → List ℕ → Type 0
 AreEpochs masters logs epochs =
-    Matches (λ k log epoch. (m : Option memory.Master) → slice_get masters k ≡ Some m → epoch ≡ epoch_for m log) logs epochs
+    Matches (λ k log epoch. (m : Option memory.MasterRecord) → slice_get masters k ≡ Some m → epoch ≡ epoch_for m log) logs epochs
 
 -- how many records each log owes, as far as a u64 tells
 abbrev pub AreOwed : List LogState → List ℕ → Type 0

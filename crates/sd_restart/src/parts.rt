@@ -5,8 +5,8 @@ ghost use Rattle.sd_analysis.specs.Losers.{AreLosers};
 ghost use Rattle.sd_log.specs.Logs.{LogState, scanned};
 ghost use Rattle.sd_scan.specs.Masters.{as_master};
 ghost use Rattle.sd_chain.specs.Checks.{Past, after_record};
-ghost use Rattle.sd_pagelock.specs.Directory.{asks_at, entry_at, image_at, rec_lsn_at};
-ghost use Rattle.sd_pagelock.specs.Places.{Entry};
+ghost use Rattle.sd_pagelock.specs.Directory.{asks_at, entry_at, moving_image_at, rec_lsn_at};
+ghost use Rattle.sd_pagelock.specs.Places.{PageEntry};
 ghost use Rattle.sd_pagelock.specs.Rows.{nowhere};
 ghost use Rattle.sd_state.specs.Complexes.{unboxed};
 ghost use Rattle.sd_undone.specs.Reading.{AreLosersOf};
@@ -19,7 +19,7 @@ use sd_logrec::Record;
 use sd_page::Image;
 use sd_pagelock::Directory;
 use sd_relist::relist;
-use sd_scan::Master;
+use sd_scan::MasterRecord;
 use sd_txn::{TxnState, TxnTable};
 use std::alloc::Global;
 
@@ -54,7 +54,7 @@ pub fn places_of(alloc: Global, recs: &[Option<Lsn>]) -> Result<Directory<Box<Im
     requires { length recs.now ≡ 1024 }
     ensures entries { IfOk result (λ d. (p : ℕ) → entry_at (unboxed d) p ≡ nowhere (lost_by recs.now p)) }
     ensures recs { IfOk result (λ d. (p : ℕ) → rec_lsn_at (unboxed d) p ≡ rec_at recs.now p) }
-    ensures still { IfOk result (λ d. (p : ℕ) → image_at (unboxed d) p ≡ None) }
+    ensures still { IfOk result (λ d. (p : ℕ) → moving_image_at (unboxed d) p ≡ None) }
     ensures unasked { IfOk result (λ d. (p : ℕ) → asks_at (unboxed d) p ≡ []) }
 {
     let mut directory = Directory::new(alloc)?;
@@ -66,12 +66,12 @@ pub fn places_of(alloc: Global, recs: &[Option<Lsn>]) -> Result<Directory<Box<Im
 
 // Where it has a RecLSN, a free page is lost.
 fn lose(directory: &mut Directory<Box<Image>>, p: PageNo, rec: &Option<Lsn>)
-    requires free { entry_at directory.old p ≡ Entry.Free }
+    requires free { entry_at directory.old p ≡ PageEntry.Free }
     requires clean { rec_lsn_at directory.old p ≡ None }
     requires unasked { asks_at directory.old p ≡ [] }
     ensures here { entry_at directory.new p ≡ nowhere (is_some rec.now) }
     ensures rec_lsn { rec_lsn_at directory.new p ≡ rec.now }
-    ensures images { (q : ℕ) → image_at directory.new q ≡ image_at directory.old q }
+    ensures images { (q : ℕ) → moving_image_at directory.new q ≡ moving_image_at directory.old q }
     ensures asks { (q : ℕ) → asks_at directory.new q ≡ asks_at directory.old q }
     ensures others { (q : ℕ) → q ≢ p → entry_at directory.new q ≡ entry_at directory.old q }
     ensures other_rec_lsns { (q : ℕ) → q ≢ p → rec_lsn_at directory.new q ≡ rec_lsn_at directory.old q }
@@ -118,7 +118,7 @@ fn status_of(losers: &Losers, lost: bool) -> Status
 /// The epoch of each log: that of its last Start, or of its master.
 pub fn epochs_of(
     alloc: Global,
-    masters: &[Option<Master>],
+    masters: &[Option<MasterRecord>],
     logs: &[Log],
 ) -> Result<Vec<u32>, Memory>
     requires { length masters.now ≡ length logs.now }
@@ -132,7 +132,7 @@ pub fn epochs_of(
 }
 
 // The epoch of a log.
-fn epoch_of(master: &Option<Master>, log: &Log) -> u32
+fn epoch_of(master: &Option<MasterRecord>, log: &Log) -> u32
     ensures { result ≡ epoch_for master.now log.now }
 {
     let mut epoch = epoch_in(master);
@@ -143,7 +143,7 @@ fn epoch_of(master: &Option<Master>, log: &Log) -> u32
 }
 
 // The epoch of a master, 0 where none counts.
-fn epoch_in(master: &Option<Master>) -> u32
+fn epoch_in(master: &Option<MasterRecord>) -> u32
     ensures { result ≡ (as_master master.now).epoch }
 {
     match master {
@@ -163,7 +163,7 @@ fn epoch_after(epoch: u32, rec: &Record) -> u32
 }
 
 /// The count of each master, 0 where none counts.
-pub fn counts_of(alloc: Global, masters: &[Option<Master>]) -> Result<Vec<u64>, Memory>
+pub fn counts_of(alloc: Global, masters: &[Option<MasterRecord>]) -> Result<Vec<u64>, Memory>
     ensures { IfOk result (λ counts. counts.items ≡ map count_of masters.now) }
 {
     let mut counts = Vec::with_capacity(alloc, masters.len())?;
@@ -174,7 +174,7 @@ pub fn counts_of(alloc: Global, masters: &[Option<Master>]) -> Result<Vec<u64>, 
 }
 
 // The count of a master.
-fn count(master: &Option<Master>) -> u64
+fn count(master: &Option<MasterRecord>) -> u64
     ensures { result ≡ count_of master.now }
 {
     match master {

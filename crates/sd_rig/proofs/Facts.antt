@@ -6,7 +6,7 @@ use Rattle.std.proofs.lemmas.List.FromFn.{get_or-map-range_with_len, length-map-
 use Rattle.std.proofs.lemmas.Bool.{cases_lt, cases_Bool, cases_eq}
 use Rattle.sd_base.specs.declared.trouble.Pick.{Pick}
 use Rattle.sd_base.specs.declared.trouble.Pick.TheVariants.{Keep}
-use Rattle.sd_rig.specs.Devices.{AgreesOutside, AreBytes, Elapses, Image, IsOneStep, Leaves, LeavesOnly, LeavesTorn, MayTear, device_len, overwritten}
+use Rattle.sd_rig.specs.Devices.{AgreesOutside, AreBytes, DeviceImages, Elapses, IsOneStep, Leaves, LeavesOnly, LeavesTorn, MayTear, device_len, overwritten}
 use Rattle.sd_rig.specs.Disk.{DiskState, IsSettled, IsSound, MayLeave, left_at, settled, written}
 use Rattle.sd_rig.specs.History.{Event, Synced}
 use Rattle.sd_rig.specs.Replay.{AreDevices, AreSettled, LeftSince, blanks, changed, disk_at, left_of, replayed}
@@ -15,10 +15,10 @@ use Rattle.sd_rig.proofs.Replays.{disk_at-map, disk_at-set_other, disk_at-set_sa
 use Rattle.sd_rig.proofs.Places.{get_or-before, get_or-behind, get_or-inside, left_at-settled, length-middle, marked-before, marked-behind, outside_marks}
 
 -- the images of the events so far are among those with one more
-earlier_events : (events : List Event) (e : Event) (k : ℕ) (img : Image) → k ≤ length events → Leaves (left_of (replayed (take k (events ++ e ∷ [])) blanks)) img → Leaves (left_of (replayed (take k events) blanks)) img
+earlier_events : (events : List Event) (e : Event) (k : ℕ) (img : DeviceImages) → k ≤ length events → Leaves (left_of (replayed (take k (events ++ e ∷ [])) blanks)) img → Leaves (left_of (replayed (take k events) blanks)) img
 earlier_events events e k img le l = subst (λ (es : List Event). Leaves (left_of (replayed es blanks)) img) (take-append-le k events (e ∷ []) le) l
 
-later_events : (events : List Event) (e : Event) (k : ℕ) (img : Image) → k ≤ length events → Leaves (left_of (replayed (take k events) blanks)) img → Leaves (left_of (replayed (take k (events ++ e ∷ [])) blanks)) img
+later_events : (events : List Event) (e : Event) (k : ℕ) (img : DeviceImages) → k ≤ length events → Leaves (left_of (replayed (take k events) blanks)) img → Leaves (left_of (replayed (take k (events ++ e ∷ [])) blanks)) img
 later_events events e k img le l = subst (λ (es : List Event). Leaves (left_of (replayed es blanks)) img) (sym (take-append-le k events (e ∷ []) le)) l
 
 elapses_one : (events : List Event) (e : Event) → Elapses (length events) (length (events ++ e ∷ [])) (LeftSince events) (LeftSince (events ++ e ∷ []))

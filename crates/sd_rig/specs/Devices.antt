@@ -2,8 +2,8 @@
 use Rattle.std.specs.Prelude.{◌≡◌, ◌⊎◌, ◌↔◌, ℕ, ◌+◌, ◌<◌, ◌≤◌, ◌==◌, List, ◌++◌, length, take, drop, if◌then◌else◌, All}
 
 -- The bytes of each device, by its number: 0 is the data device, n the log of instance n.
-abbrev pub Image : Type 0
-Image = ℕ → List ℕ
+abbrev pub DeviceImages : Type 0
+DeviceImages = ℕ → List ℕ
 
 -- in bytes
 abbrev pub device_len : ℕ → ℕ
@@ -40,27 +40,27 @@ abbrev pub LeavesOnly : List ℕ → (List ℕ → Type 0) → Type 0
 LeavesOnly bytes new = (c : List ℕ) → new c ↔ (c ≡ bytes)
 
 -- A crash may leave this image: the devices are independent.
-abbrev pub Leaves : (ℕ → List ℕ → Type 0) → Image → Type 0
+abbrev pub Leaves : (ℕ → List ℕ → Type 0) → DeviceImages → Type 0
 Leaves leaves img = (dev : ℕ) → dev ≤ 8 → leaves dev (img dev)
 
 -- Nothing that is told of the devices changes.
-pub record IsUnchanged (seen seen' : Image) (leaves leaves' : ℕ → List ℕ → Type 0) (moment moment' : ℕ) (since since' : ℕ → Image → Type 0) : Type 0 where
+pub record IsUnchanged (seen seen' : DeviceImages) (leaves leaves' : ℕ → List ℕ → Type 0) (moment moment' : ℕ) (since since' : ℕ → DeviceImages → Type 0) : Type 0 where
   pub reads : (dev : ℕ) → seen' dev ≡ seen dev
   pub outcomes : (dev : ℕ) → LeavesSame (leaves dev) (leaves' dev)
   pub clock : moment' ≡ moment
-  pub past : (t : ℕ) (img : Image) → since' t img ↔ since t img
+  pub past : (t : ℕ) (img : DeviceImages) → since' t img ↔ since t img
 
 -- Time goes on, by a call or several: what crashes since an earlier moment may have left is what it was, and what
 -- crashes during these calls and after them may have left.
-pub record Elapses (moment moment' : ℕ) (since since' : ℕ → Image → Type 0) : Type 0 where
+pub record Elapses (moment moment' : ℕ) (since since' : ℕ → DeviceImages → Type 0) : Type 0 where
   pub later : moment ≤ moment'
-  pub splits : (t : ℕ) (img : Image) → t ≤ moment → since' t img → since t img ⊎ since' moment img
-  pub keeps : (t : ℕ) (img : Image) → t ≤ moment → since t img → since' t img
+  pub splits : (t : ℕ) (img : DeviceImages) → t ≤ moment → since' t img → since t img ⊎ since' moment img
+  pub keeps : (t : ℕ) (img : DeviceImages) → t ≤ moment → since t img → since' t img
 
 -- A crash during one call leaves an image that one before it or one after it may leave.
-abbrev pub IsOneStep : ℕ → (ℕ → Image → Type 0) → (ℕ → List ℕ → Type 0) → (ℕ → List ℕ → Type 0) → Type 0
-IsOneStep moment since' leaves leaves' = (img : Image) → since' moment img → Leaves leaves img ⊎ Leaves leaves' img
+abbrev pub IsOneStep : ℕ → (ℕ → DeviceImages → Type 0) → (ℕ → List ℕ → Type 0) → (ℕ → List ℕ → Type 0) → Type 0
+IsOneStep moment since' leaves leaves' = (img : DeviceImages) → since' moment img → Leaves leaves img ⊎ Leaves leaves' img
 
 -- Each image that crashes since that moment may have left has P.
-pub record Span (moment : ℕ) (since : ℕ → Image → Type 0) (P : Image → Type 0) : Type 0 where
-  pub each : (img : Image) → since moment img → P img
+pub record Span (moment : ℕ) (since : ℕ → DeviceImages → Type 0) (P : DeviceImages → Type 0) : Type 0 where
+  pub each : (img : DeviceImages) → since moment img → P img

@@ -2,7 +2,7 @@
 use Rattle.std.specs.Prelude.{◌≡◌, ℕ, ◌≤◌, true, false, List, [], ◌∷◌, ◌++◌, length, take, set, get_or, map}
 use Rattle.std.specs.List.{range_with_len}
 use Rattle.sd_base.specs.declared.trouble.Pick.TheVariants.{Keep}
-use Rattle.sd_rig.specs.Devices.{Image, Leaves, device_len}
+use Rattle.sd_rig.specs.Devices.{DeviceImages, Leaves, device_len}
 use Rattle.sd_rig.specs.Disk.{DiskState, IsSettled, IsSound, MayLeave, blank, poked, settled, written}
 use Rattle.sd_rig.specs.History.{Event, Crashed, Poked, Synced, Wrote}
 
@@ -32,7 +32,7 @@ abbrev pub left_of : List DiskState → ℕ → List ℕ → Type 0
 left_of disks dev = MayLeave (disk_at disks dev)
 
 -- A crash after some t events or more may have left this image.
-pub record LeftSince (events : List Event) (t : ℕ) (img : Image) : Type 0 where
+pub record LeftSince (events : List Event) (t : ℕ) (img : DeviceImages) : Type 0 where
   pub moment : ℕ
   pub from : t ≤ moment
   pub until : moment ≤ length events

@@ -9,7 +9,7 @@ use std::marker::Model;
 
 /// What was done. The bytes of a write stand apart. No device has 2 ^ 32 bytes, so places and counts have 32 bits.
 #[derive(Clone, Copy)]
-pub enum Entry {
+pub enum DeviceCall {
     Wrote {
         dev: u8,
         ok: bool,
@@ -33,7 +33,7 @@ pub enum Entry {
 /// The events so far, in order. A place is kept for a crash from a write on, so that a crash takes no memory.
 #[derive(Drop)]
 pub struct History {
-    entries: Vec<Entry>,
+    entries: Vec<DeviceCall>,
     bytes: Vec<u8>,
     kept: bool,
 }
@@ -81,7 +81,7 @@ impl History {
         self.bytes.extend_from_slice(bytes)?;
         let count = bytes.len() as u32;
         self.entries
-            .push(Entry::Wrote { dev, ok, at, count })
+            .push(DeviceCall::Wrote { dev, ok, at, count })
             .unwrap();
         self.kept = true;
         Ok(())
@@ -97,7 +97,7 @@ impl History {
         ensures stays { OnErr result (self.old.spare ≤ self.new.spare) }
     {
         self.entries.reserve(2)?;
-        self.entries.push(Entry::Synced { dev, ok }).unwrap();
+        self.entries.push(DeviceCall::Synced { dev, ok }).unwrap();
         Ok(())
     }
 
@@ -108,7 +108,7 @@ impl History {
         ensures spare { self.old.spare ≤ self.new.spare }
         ensures kept { self.new.kept ≡ false }
     {
-        self.entries.push(Entry::Crashed { pick }).unwrap();
+        self.entries.push(DeviceCall::Crashed { pick }).unwrap();
         self.kept = false;
     }
 
@@ -119,7 +119,9 @@ impl History {
         ensures events { OnErr result (self.new.events ≡ self.old.events) }
     {
         self.entries.reserve(2)?;
-        self.entries.push(Entry::Poked { dev, byte, at }).unwrap();
+        self.entries
+            .push(DeviceCall::Poked { dev, byte, at })
+            .unwrap();
         Ok(())
     }
 

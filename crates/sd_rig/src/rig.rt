@@ -2,7 +2,7 @@
 
 ghost use Rattle.std.specs.Prelude.{◌≡◌, ◌≢◌, ◌⊎◌, ℕ, ◌+◌, ◌≤◌, List, length, slice_range, OnOk, OnErr};
 ghost use Rattle.sd_base.specs.Streams.{Rises};
-ghost use Rattle.sd_rig.specs.Devices.{AgreesOutside, AreBytes, Elapses, Image, IsOneStep, IsUnchanged, Leaves, LeavesOnly, LeavesSame, LeavesTorn, MayTear, device_len, overwritten};
+ghost use Rattle.sd_rig.specs.Devices.{AgreesOutside, AreBytes, DeviceImages, Elapses, IsOneStep, IsUnchanged, Leaves, LeavesOnly, LeavesSame, LeavesTorn, MayTear, device_len, overwritten};
 
 use sd_base::{Failed, Pick, Trouble};
 
@@ -33,7 +33,7 @@ pub trait Rig {
     ghost moment: { Self → ℕ };
 
     /// What a crash at some moment since that one may have left, within a call or between two.
-    ghost since: { Self → ℕ → Image → Type 0 };
+    ghost since: { Self → ℕ → DeviceImages → Type 0 };
 
     /// How many calls failed. It never falls, and stays at the greatest u64.
     ghost faults: { Self → ℕ };
@@ -98,13 +98,13 @@ pub trait Rig {
         ensures quiet { faults self.new ≡ faults self.old };
 
     /// What may be left now is among what may have been left since each moment so far.
-    ghost counts_now: { (rig : Self) (t : ℕ) (img : Image) → t ≤ moment rig → Leaves (leaves rig) img → since rig t img };
+    ghost counts_now: { (rig : Self) (t : ℕ) (img : DeviceImages) → t ≤ moment rig → Leaves (leaves rig) img → since rig t img };
 
     /// Since this moment there is nothing else.
-    ghost only_now: { (rig : Self) (img : Image) → since rig (moment rig) img → Leaves (leaves rig) img };
+    ghost only_now: { (rig : Self) (img : DeviceImages) → since rig (moment rig) img → Leaves (leaves rig) img };
 
     /// What may have been left since a later moment may have been left since an earlier one.
-    ghost earlier: { (rig : Self) (t u : ℕ) (img : Image) → t ≤ u → since rig u img → since rig t img };
+    ghost earlier: { (rig : Self) (t u : ℕ) (img : DeviceImages) → t ≤ u → since rig u img → since rig t img };
 
     /// What a read gives may be left.
     ghost leaves_seen: { (rig : Self) (dev : ℕ) → dev ≤ 8 → leaves rig dev (seen rig dev) };

@@ -16,7 +16,7 @@ use Rattle.sd_model.specs.declared.event.Event.{Event}
 use Rattle.sd_model.specs.declared.event.Reply.{Reply}
 use Rattle.sd_model.specs.declared.event.Reply.TheVariants as reply
 use Rattle.sd_reclock.specs.Locks.{Held, held_in, waits}
-use Rattle.sd_rig.specs.Devices.{Image, Leaves}
+use Rattle.sd_rig.specs.Devices.{DeviceImages, Leaves}
 use Rattle.sd_sound.specs.Logs.{Outcomes}
 use Rattle.sd_world.specs.Answers.{Moves}
 use Rattle.sd_world.specs.Bounds.{Within, bounds_after}
@@ -51,7 +51,7 @@ pub record IsAnswer (w : Core) (e : Event) (r : Reply) : Type 0 where
   pub moves : Moves w.scene.state w.pages e r w.scene.state w.pages
   pub within : Within w.scene.state w.bounds e r
 
-module _ (t : TxnId) (seen : Image) (leaves : Outcomes) (c : Parts) (w : Core) (f : Fits seen leaves c w) where
+module _ (t : TxnId) (seen : DeviceImages) (leaves : Outcomes) (c : Parts) (w : Core) (f : Fits seen leaves c w) where
   abbrev m : State
   m = w.scene.state
 
@@ -100,7 +100,7 @@ module _ (t : TxnId) (seen : Image) (leaves : Outcomes) (c : Parts) (w : Core) (
 
 -- the call that leaves all but the wait serves the event
 pub calm-serves : {G : Type 0} (tell : Telling G) (t : TxnId) (e : Event) (r : Reply) (old new : Complex G) → new.rig ≡ old.rig
-    → ((img : Image) → tell.since old.rig (tell.moment old.rig) img → Leaves (tell.leaves old.rig) img) → txn_of e ≡ t
+    → ((img : DeviceImages) → tell.since old.rig (tell.moment old.rig) img → Leaves (tell.leaves old.rig) img) → txn_of e ≡ t
     → wait_after (asked_of e None) r ≡ None → (w : Core) → fits_by tell.seen tell.leaves old w
     → IsCalmed t (parts old) (parts new) → IsAnswer w e r
     → (w' : Core) × Serves {C = Complex G} tell stands_for (λ c. c.rig) (fits_by tell.seen tell.leaves) e r old new w w'
@@ -114,7 +114,7 @@ calm-serves tell t e r old new same now whose none w f k a = (
 
 -- and the call that turns the transaction does
 pub turn-serves : {G : Type 0} (tell : Telling G) (t : TxnId) (p : Part) (e : Event) (r : Reply) (old new : Complex G) → new.rig ≡ old.rig
-    → ((img : Image) → tell.since old.rig (tell.moment old.rig) img → Leaves (tell.leaves old.rig) img) → txn_of e ≡ t
+    → ((img : DeviceImages) → tell.since old.rig (tell.moment old.rig) img → Leaves (tell.leaves old.rig) img) → txn_of e ≡ t
     → wait_after (asked_of e None) r ≡ None → (w : Core) → fits_by tell.seen tell.leaves old w
     → Fits (tell.seen old.rig) (tell.leaves old.rig) (parts new) (turned_core t p (with_wait t None w.scene.waits) (bounds_after w.bounds e r) w)
     → Step w.scene.state e r (put_part t p w.scene.state) → IsExact w.scene (txn_of e) (asked_of e None) r

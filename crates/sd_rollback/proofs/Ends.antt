@@ -22,7 +22,7 @@ use Rattle.sd_model.specs.declared.act.Life.{Life}
 use Rattle.sd_model.specs.declared.event.Event.TheVariants.{Undo}
 use Rattle.sd_model.specs.declared.event.Reply.TheVariants as reply
 use Rattle.sd_reclock.specs.Locks.{waits}
-use Rattle.sd_rig.specs.Devices.{Image}
+use Rattle.sd_rig.specs.Devices.{DeviceImages}
 use Rattle.sd_txn.specs.Owing.{owed_of}
 use Rattle.sd_txn.specs.Transactions.{Transaction, Transactions, depth_at, span_at, state_at, txn_at, without}
 use Rattle.sd_txn.specs.declared.state.TxnState.{TxnState}
@@ -63,7 +63,7 @@ end_bounds t w = bounds_after w.bounds (Undo t) reply.Finished
 abbrev pub end_core : TxnId → Core → Core
 end_core t w = left_core t (put_part t gone w.scene.state) (end_bounds t w) w
 
-module _ (t : TxnId) (seen : Image) (leaves : Outcomes) (c : Parts) (w : Core) (f : Fits seen leaves c w)
+module _ (t : TxnId) (seen : DeviceImages) (leaves : Outcomes) (c : Parts) (w : Core) (f : Fits seen leaves c w)
     (low : 1 ≤ home t) (high : home t ≤ 8) (up : status_at c (home t) ≡ S.Up)
     (rolls : state_at (txns_at c (home t)) t ≡ Some (TxnState.Rolling None)) (empty : depth_at (txns_at c (home t)) t ≡ 0) where
   abbrev m : State
@@ -227,7 +227,7 @@ module _ (t : TxnId) (seen : Image) (leaves : Outcomes) (c : Parts) (w : Core) (
 
     -- ---- and is forced
 
-    module _ (owes_now : ℕ) (seen' : Image) (leaves' : Outcomes) (done : Parts)
+    module _ (owes_now : ℕ) (seen' : DeviceImages) (leaves' : Outcomes) (done : Parts)
         (is_forced : done ≡ with_forced i (forced (log_at mid i)) owes_now mid)
         (forced_good : Good seen' leaves' (Pending.Idle) done m) (disk : seen' 0 ≡ seen 0) (kept : KeepMasters leaves leaves') where
       done-here : log_at done i ≡ forced (log_at mid i)

@@ -12,7 +12,7 @@ use Rattle.sd_base.specs.declared.refusal.Refusal.TheVariants as R
 use Rattle.sd_base.proofs.SameIds.{ne-same}
 use Rattle.sd_log.specs.Logs.{forced}
 use Rattle.sd_reclock.specs.Locks.{waits}
-use Rattle.sd_rig.specs.Devices.{Elapses, Image, Leaves, Span}
+use Rattle.sd_rig.specs.Devices.{DeviceImages, Elapses, Leaves, Span}
 use Rattle.sd_model.specs.Applies.{First, HasPut}
 use Rattle.sd_model.specs.Listed.{IsAtWork}
 use Rattle.sd_model.specs.Scenes.{of_running}
@@ -75,7 +75,7 @@ may-end t c up rolls empty spoken =
 -- ---- bare
 
 module _ {G : Type 0} (tell : Telling G) (t : TxnId) (old new : Complex G) (same : new.rig ≡ old.rig)
-    (now : (img : Image) → tell.since old.rig (tell.moment old.rig) img → Leaves (tell.leaves old.rig) img)
+    (now : (img : DeviceImages) → tell.since old.rig (tell.moment old.rig) img → Leaves (tell.leaves old.rig) img)
     (low : 1 ≤ home t) (high : home t ≤ 8) where
   pub bare-served : status_at (parts old) (home t) ≡ S.Up → state_at (txns_at (parts old) (home t)) t ≡ Some (TxnState.Rolling None)
       → depth_at (txns_at (parts old) (home t)) t ≡ 0

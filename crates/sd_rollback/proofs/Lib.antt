@@ -1,6 +1,6 @@
 mod Calms
 mod Outs
 mod Turned
-mod Undone
+pub mod Undone
 mod Ends
 mod Finishing

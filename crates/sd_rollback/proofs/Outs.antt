@@ -6,8 +6,8 @@ use Rattle.sd_base.specs.declared.ids.TxnId.{TxnId}
 use Rattle.sd_base.specs.declared.place.Status.TheVariants as S
 use Rattle.sd_base.specs.declared.refusal.Refusal.{Refusal}
 use Rattle.sd_base.specs.declared.refusal.Refusal.TheVariants as R
-use Rattle.sd_model.specs.Applies.{First, PassesAll, Says, Serves as serving}
-use Rattle.sd_model.specs.Causes.{before, has, order}
+use Rattle.sd_model.specs.Applies.{First, MayServe, PassesAll, Says}
+use Rattle.sd_model.specs.Causes.{before, has_cause, order}
 use Rattle.sd_model.specs.Exact.{IsOfFreeSlot, NamesWhom}
 use Rattle.sd_model.specs.Fields.{txn_of}
 use Rattle.sd_model.specs.Refusing.{Names, Refuses, Tells}
@@ -19,11 +19,11 @@ use Rattle.sd_model.specs.declared.event.Event.{Event}
 use Rattle.sd_model.specs.declared.event.Event.TheVariants.{Back, Undo}
 use Rattle.sd_model.specs.declared.event.Reply.{Reply}
 use Rattle.sd_model.specs.declared.event.Reply.TheVariants as reply
-use Rattle.sd_rig.specs.Devices.{Image}
+use Rattle.sd_rig.specs.Devices.{DeviceImages}
 use Rattle.sd_txn.specs.Transactions.{IsUnresolved, state_at}
 use Rattle.sd_chain.specs.Records.{home}
 use Rattle.sd_sound.specs.Logs.{Outcomes}
-use Rattle.sd_world.specs.Answers.{Leaves, NamesPlace}
+use Rattle.sd_world.specs.Answers.{NamesPlace, RefusalLeaves}
 use Rattle.sd_world.specs.Bounds.{Allows}
 use Rattle.sd_world.specs.PageCauses.{NoneSays, PagesAgree}
 use Rattle.sd_world.specs.Serving.{Core}
@@ -45,7 +45,7 @@ pub record IsCause (w : Core) (e : Event) (n : Refusal) (cause : Cause) : Type 0
   pub passes : NoneSays w.scene.state w.pages e (before cause (order e))
   pub says : PagesAgree w.scene.state w.pages e cause
   pub place : NamesPlace w.scene.state w.pages e n
-  pub left : Leaves w.scene.state w.pages e n w.scene.state w.pages
+  pub left : RefusalLeaves w.scene.state w.pages e n w.scene.state w.pages
   pub allows : Allows w.scene.state w.bounds e n
 
 pub refused-answer : (w : Core) (e : Event) (n : Refusal) (cause : Cause) → IsCause w e n cause → IsAnswer w e (reply.Refused n)
@@ -72,7 +72,7 @@ pub record IsOfTxn (e : Event) (t : TxnId) : Type 0 where
   pub rest : List Cause
   pub order : order e ≡ Cause.Shut ∷ Cause.NoTxn ∷ Cause.Down ∷ rest
   pub txn : txn_of e ≡ t
-  pub serves : (m : State) → serving m e → (m.inst t.inst).status ≡ S.Up
+  pub serves : (m : State) → MayServe m e → (m.inst t.inst).status ≡ S.Up
   pub unused : (m : State) (r : Reply) → IsOfFreeSlot m e None r
 
 pub of-undo : (t : TxnId) → IsOfTxn (Undo t) t
@@ -82,15 +82,15 @@ pub of-back : (t : TxnId) (mark : Option (List ℕ)) → IsOfTxn (Back t mark) t
 of-back t None = record { rest = []; order = refl; txn = refl; serves = λ m up. up; unused = λ m r. tt }
 of-back t (Some name) = record { rest = Cause.Busy ∷ Cause.NoMark ∷ []; order = refl; txn = refl; serves = λ m up. up; unused = λ m r. tt }
 
-module _ (e : Event) (t : TxnId) (k : IsOfTxn e t) (seen : Image) (leaves : Outcomes) (c : Parts) (low : 1 ≤ home t) (high : home t ≤ 8)
+module _ (e : Event) (t : TxnId) (k : IsOfTxn e t) (seen : DeviceImages) (leaves : Outcomes) (c : Parts) (low : 1 ≤ home t) (high : home t ≤ 8)
     (w : Core) (f : Fits seen leaves c w) where
   abbrev m : State
   m = w.scene.state
 
   -- what its order begins with
-  first-of : (cause : Cause) → (has cause (Cause.Shut ∷ Cause.NoTxn ∷ Cause.Down ∷ k.rest) ≡ true)
+  first-of : (cause : Cause) → (has_cause cause (Cause.Shut ∷ Cause.NoTxn ∷ Cause.Down ∷ k.rest) ≡ true)
       × PassesAll m e (before cause (Cause.Shut ∷ Cause.NoTxn ∷ Cause.Down ∷ k.rest)) × Says m e cause → First m e cause
-  first-of cause h = subst (λ (os : List Cause). (has cause os ≡ true) × PassesAll m e (before cause os) × Says m e cause) (sym k.order) h
+  first-of cause h = subst (λ (os : List Cause). (has_cause cause os ≡ true) × PassesAll m e (before cause os) × Says m e cause) (sym k.order) h
 
   passes-of : (cause : Cause) → NoneSays m w.pages e (before cause (Cause.Shut ∷ Cause.NoTxn ∷ Cause.Down ∷ k.rest))
       → NoneSays m w.pages e (before cause (order e))

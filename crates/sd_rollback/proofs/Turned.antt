@@ -18,7 +18,7 @@ use Rattle.sd_model.specs.declared.cause.Cause.{Cause}
 use Rattle.sd_model.specs.declared.event.Event.TheVariants.{Back}
 use Rattle.sd_model.specs.declared.event.Reply.TheVariants as reply
 use Rattle.sd_reclock.specs.Locks.{Held, LockTable, held_in, waits}
-use Rattle.sd_rig.specs.Devices.{Image, Leaves}
+use Rattle.sd_rig.specs.Devices.{DeviceImages, Leaves}
 use Rattle.sd_txn.specs.Transactions as txns
 use Rattle.sd_txn.specs.Transactions.{IsUnresolved, OthersStay, Transaction, Transactions, span_at, state_at, txn_at, with_state}
 use Rattle.sd_txn.specs.declared.state.TxnState.{TxnState}
@@ -45,7 +45,7 @@ use Rattle.sd_rollback.specs.Rolling.{IsGoal, MayRoll, StaysPut}
 use Rattle.sd_rollback.proofs.Calms.{IsCalmed, calm-serves, no-wait, turn-serves}
 use Rattle.sd_rollback.proofs.Outs.{IsCause, down-cause, of-back, refused-answer, unknown-cause}
 
-module _ (t : TxnId) (seen : Image) (leaves : Outcomes) (c : Parts) (low : 1 ≤ home t) (high : home t ≤ 8) (w : Core) (f : Fits seen leaves c w)
+module _ (t : TxnId) (seen : DeviceImages) (leaves : Outcomes) (c : Parts) (low : 1 ≤ home t) (high : home t ≤ 8) (w : Core) (f : Fits seen leaves c w)
   where
     abbrev m : State
     m = w.scene.state
@@ -202,7 +202,7 @@ pub record HasRolled (t : TxnId) (to : Option ℕ) (table : Transactions) (locks
   pub waits : (u : TxnId) → waits locks u ≡ with_wait t None (waits old.locks) u
 
 module _ {G : Type 0} (tell : Telling G) (t : TxnId) (mark : Option (List ℕ)) (old new : Complex G) (same : new.rig ≡ old.rig)
-    (now : (img : Image) → tell.since old.rig (tell.moment old.rig) img → Leaves (tell.leaves old.rig) img)
+    (now : (img : DeviceImages) → tell.since old.rig (tell.moment old.rig) img → Leaves (tell.leaves old.rig) img)
     (low : 1 ≤ home t) (high : home t ≤ 8) where
   each : (n : Refusal) → StaysPut t mark (parts old) n → IsCalmed t (parts old) (parts new) → (w : Core) → fits_by tell.seen tell.leaves old w
       → (w' : Core) × Serves {C = Complex G} tell stands_for (λ c. c.rig) (fits_by tell.seen tell.leaves) (Back t mark) (reply.Refused n) old new w w'

@@ -26,8 +26,8 @@ use Rattle.sd_model.specs.declared.cause.Cause.{Cause}
 use Rattle.sd_model.specs.declared.event.Event.TheVariants.{Undo}
 use Rattle.sd_model.specs.declared.event.Reply.TheVariants as reply
 use Rattle.sd_pagelock.specs.Directory.{entry_at}
-use Rattle.sd_pagelock.specs.Places.{Entry, is_lost, owns, seen}
-use Rattle.sd_rig.specs.Devices.{Image, Leaves}
+use Rattle.sd_pagelock.specs.Places.{PageEntry, is_lost, owns, seen}
+use Rattle.sd_rig.specs.Devices.{DeviceImages, Leaves}
 use Rattle.sd_txn.specs.Transactions.{OthersStay, Transaction, Transactions, depth_at, ids, state_at, top, top_at, txn_at, with_state}
 use Rattle.sd_txn.specs.declared.state.OpenRec.{OpenRec}
 use Rattle.sd_txn.specs.declared.state.TxnState.{TxnState}
@@ -66,15 +66,16 @@ the-state (Some x) s e = (x, refl)
 off-on : {A : Type 0} {b : Bool} → b ≡ false → b ≡ true → A
 off-on isnt is = let clash = sym isnt ∙ is in absurd (cc)
 
-owned-lost : (e : Entry) (i : ℕ) → owns e i ≡ true → is_lost e ≡ true → ⊥
-owned-lost Entry.Free i h lost = cc
-owned-lost (Entry.Shared set writer) i h lost = cc
-owned-lost (Entry.Excl holder dirty) i h lost = cc
-owned-lost (Entry.Moving to mode rest dirty) i h lost = cc
-owned-lost Entry.Lost i h lost = cc
+-- who owns a page finds it not lost
+pub owned-lost : (e : PageEntry) (i : ℕ) → owns e i ≡ true → is_lost e ≡ true → ⊥
+owned-lost PageEntry.Free i h lost = cc
+owned-lost (PageEntry.Shared set writer) i h lost = cc
+owned-lost (PageEntry.Excl holder dirty) i h lost = cc
+owned-lost (PageEntry.Moving to mode rest dirty) i h lost = cc
+owned-lost PageEntry.Lost i h lost = cc
 
 -- the waits of those that run are as they were
-undone-waits : (t : TxnId) (to : Option ℕ) (seen_by : Image) (leaves : Outcomes) (c : Parts) (w : Core) → Fits seen_by leaves c w
+undone-waits : (t : TxnId) (to : Option ℕ) (seen_by : DeviceImages) (leaves : Outcomes) (c : Parts) (w : Core) → Fits seen_by leaves c w
     → (w.scene.state.part t).life ≡ Life.Rolling to → (u : TxnId)
     → w.scene.waits u ≡ of_running (undid t w.scene.state) (with_wait t None w.scene.waits) u
 undone-waits t to seen_by leaves c w f rolls u = sym (still u (cases_txn t u)) ∙ sym (ended-wait seen_by leaves c w f t u)
@@ -85,7 +86,7 @@ undone-waits t to seen_by leaves c w f rolls u = sym (still u (cases_txn t u)) �
         ∙ sym (f.waiting t (ap is_running rolls)) ∙ ap w.scene.waits e
     still u (inr ne) = ap (λ (b : Bool). cond {A = Option Wait} b None (w.scene.waits u)) (ne-same t u ne)
 
-module _ (t : TxnId) (seen_by : Image) (leaves : Outcomes) (c : Parts) (low : 1 ≤ home t) (high : home t ≤ 8) (w : Core)
+module _ (t : TxnId) (seen_by : DeviceImages) (leaves : Outcomes) (c : Parts) (low : 1 ≤ home t) (high : home t ≤ 8) (w : Core)
     (f : Fits seen_by leaves c w) where
   abbrev m : State
   m = w.scene.state
@@ -187,7 +188,7 @@ module _ (t : TxnId) (seen_by : Image) (leaves : Outcomes) (c : Parts) (low : 1 
           whom = tt;
           unused = tt;
           passes = (tt, (tt, (tt, ((λ lost. off-on (ap is_lost its-entry ∙ found) lost.1), tt))));
-          says = λ b. (has-page, ap (λ (e : Entry). owns e (home t)) its-entry ∙ away);
+          says = λ b. (has-page, ap (λ (e : PageEntry). owns e (home t)) its-entry ∙ away);
           place = is ∙ sym its-entry;
           left = refl;
           allows = tt;
@@ -202,7 +203,7 @@ module _ (t : TxnId) (seen_by : Image) (leaves : Outcomes) (c : Parts) (low : 1 
 
         module _ (held : owns (entry_at c.directory o.rid.page) (home t) ≡ true) where
           held-there : owns (w.pages.entry (undo_page m t)) (home t) ≡ true
-          held-there = ap (λ (e : Entry). owns e (home t)) its-entry ∙ held
+          held-there = ap (λ (e : PageEntry). owns e (home t)) its-entry ∙ held
 
           pub step-moves : NoneSays m w.pages (Undo t) (order (Undo t))
           step-moves = (
@@ -258,7 +259,7 @@ module _ (t : TxnId) (seen_by : Image) (leaves : Outcomes) (c : Parts) (low : 1 
 -- ---- served
 
 module _ {G : Type 0} (tell : Telling G) (t : TxnId) (old new : Complex G) (same : new.rig ≡ old.rig)
-    (now : (img : Image) → tell.since old.rig (tell.moment old.rig) img → Leaves (tell.leaves old.rig) img)
+    (now : (img : DeviceImages) → tell.since old.rig (tell.moment old.rig) img → Leaves (tell.leaves old.rig) img)
     (low : 1 ≤ home t) (high : home t ≤ 8) where
   -- a refusal that changes nothing
   quiet-served : (n : Refusal) → IsCalmed t (parts old) (parts new)
@@ -381,7 +382,7 @@ module _ {G : Type 0} (tell : Telling G) (t : TxnId) (old new : Complex G) (same
 
 -- of one whose instance hasn't the page alone
 module _ {G : Type 0} (tell : Telling G) (t : TxnId) (c : Complex G)
-    (now : (img : Image) → tell.since c.rig (tell.moment c.rig) img → Leaves (tell.leaves c.rig) img)
+    (now : (img : DeviceImages) → tell.since c.rig (tell.moment c.rig) img → Leaves (tell.leaves c.rig) img)
     (low : 1 ≤ home t) (high : home t ≤ 8) (to : Option ℕ) (o : OpenRec) (up : status_at (parts c) (home t) ≡ S.Up) (above : IsAbove t to (parts c))
     (last : top_at (txns_at (parts c) (home t)) t ≡ Some o) where
   lacks-each : (n : Refusal) → LacksAlone (home t) o.rid.page (parts c) n → (w : Core) → fits_by tell.seen tell.leaves c w

@@ -10,8 +10,8 @@ use Rattle.sd_pagelock.specs.Places.{is_lost, owns, seen}
 use Rattle.sd_txn.specs.Transactions.{IsUnresolved, depth_at, mark_at, state_at}
 use Rattle.sd_txn.specs.declared.state.TxnState.{TxnState}
 use Rattle.sd_state.specs.Parts.{Parts, status_at, txns_at}
-use Rattle.sd_rollback.specs.declared.undoing.Due.{Due}
-use Rattle.sd_rollback.specs.declared.undoing.Due.TheVariants as due
+use Rattle.sd_rollback.specs.declared.undoing.UndoOutcome.{UndoOutcome}
+use Rattle.sd_rollback.specs.declared.undoing.UndoOutcome.TheVariants as due
 
 -- the transaction isn't known, or its instance isn't up: the first that is so
 abbrev pub IsOut : TxnId → Parts → Refusal → Type 0
@@ -49,7 +49,7 @@ pub record IsAbove (t : TxnId) (to : Option ℕ) (c : Parts) : Type 0 where
   pub rolls : state_at (txns_at c t.inst) t ≡ Some (TxnState.Rolling to)
   pub above : goal to < depth_at (txns_at c t.inst) t
 
-abbrev pub IsDue : TxnId → Parts → Due → Type 0
+abbrev pub IsDue : TxnId → Parts → UndoOutcome → Type 0
 IsDue t c due.Nothing = (state : TxnState) × (state_at (txns_at c t.inst) t ≡ Some state) × ((to : Option ℕ) → state ≢ TxnState.Rolling to)
 IsDue t c due.Step = (to : Option ℕ) × IsAbove t to c
 IsDue t c due.Mark = (n : ℕ) × (state_at (txns_at c t.inst) t ≡ Some (TxnState.Rolling (Some n))) × (depth_at (txns_at c t.inst) t ≤ n)

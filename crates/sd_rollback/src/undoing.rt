@@ -27,7 +27,7 @@ use sd_txn::TxnState;
 
 /// What an undo of a transaction comes to.
 #[derive(Clone, Copy)]
-pub enum Due {
+pub enum UndoOutcome {
     /// It doesn't roll back.
     Nothing,
     /// Its last open record is undone.
@@ -60,21 +60,21 @@ pub fn undo<G: Rig>(c: &mut Complex<G>, t: &TxnId) -> Result<bool, Refusal>
             calm(c, t);
             Err(refusal)
         }
-        Ok(Due::Nothing) => {
+        Ok(UndoOutcome::Nothing) => {
             calm(c, t);
             Ok(true)
         }
-        Ok(Due::Step) => rollback_step(c, t),
-        Ok(Due::Mark) => {
+        Ok(UndoOutcome::Step) => rollback_step(c, t),
+        Ok(UndoOutcome::Mark) => {
             c.resume(t);
             Ok(true)
         }
-        Ok(Due::End) => finish(c, t),
+        Ok(UndoOutcome::End) => finish(c, t),
     }
 }
 
 // What an undo comes to.
-fn next_of<G>(c: &Complex<G>, t: &TxnId) -> Result<Due, Refusal>
+fn next_of<G>(c: &Complex<G>, t: &TxnId) -> Result<UndoOutcome, Refusal>
     requires { IsShape (parts c.now) }
     ensures due { IfOk result (IsDue t.now (parts c.now)) }
     ensures up { OnOk result (status_at (parts c.now) t.now.inst ≡ S.Up) }
@@ -82,23 +82,23 @@ fn next_of<G>(c: &Complex<G>, t: &TxnId) -> Result<Due, Refusal>
 {
     match standing(c, t)? {
         TxnState::Rolling { target } => Ok(next_to(c, t, target)),
-        _ => Ok(Due::Nothing),
+        _ => Ok(UndoOutcome::Nothing),
     }
 }
 
 // The same of one that rolls back to this goal.
-fn next_to<G>(c: &Complex<G>, t: &TxnId, goal: Option<usize>) -> Due
+fn next_to<G>(c: &Complex<G>, t: &TxnId, goal: Option<usize>) -> UndoOutcome
     requires shape { IsShape (parts c.now) }
     requires rolls { state_at (txns_at (parts c.now) t.now.inst) t.now ≡ Some (Rolling goal) }
     ensures { IsDue t.now (parts c.now) result }
 {
     let table = c.txns(t.inst);
     if table.depth(t) > goal.unwrap_or(0) {
-        return Due::Step;
+        return UndoOutcome::Step;
     }
     match goal {
-        Some(_) => Due::Mark,
-        None => Due::End,
+        Some(_) => UndoOutcome::Mark,
+        None => UndoOutcome::End,
     }
 }
 

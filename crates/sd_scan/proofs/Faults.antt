@@ -13,9 +13,9 @@ use Rattle.sd_log.specs.Marks.{entry}
 use Rattle.sd_logrec.proofs.WholeFronts.{whole_front}
 use Rattle.sd_chain.specs.Checks.{Follow, GroupsAreSound, IsWhole, MasterIsSound, Past, after_record, past_of, placed_of, records_in}
 use Rattle.sd_chain.specs.Faults.{BreaksAt, GroupsFailAt, MasterPasses, StraysAt, front_of}
-use Rattle.sd_scan.specs.declared.master.Master as memory
+use Rattle.sd_scan.specs.declared.master.MasterRecord as memory
 use Rattle.sd_scan.specs.Following.{BreaksFirst, IsChecked, bare}
-use Rattle.sd_scan.specs.Masters.{as_kept}
+use Rattle.sd_scan.specs.Masters.{kept_master}
 use Rattle.sd_scan.proofs.Follows.{bare_entries}
 use Rattle.sd_scan.proofs.Scans.{Says, checked_by, ended_by, follow_along}
 
@@ -53,7 +53,7 @@ fails_not inst bytes at (inr x) one two = groups_fail_not inst bytes x.1.0 x.1.1
 
 -- ---- what was read
 
-pub front_is : (bytes part : List ℕ) (chosen : Bool) (m : memory.Master) (ps : List Placed) → Says bytes chosen m → part ≡ take 1048576 (drop 130 bytes) → map entry ps ≡ front m.start part → map entry ps ≡ front_of bytes
+pub front_is : (bytes part : List ℕ) (chosen : Bool) (m : memory.MasterRecord) (ps : List Placed) → Says bytes chosen m → part ≡ take 1048576 (drop 130 bytes) → map entry ps ≡ front m.start part → map entry ps ≡ front_of bytes
 unfolding area
 front_is bytes part chosen m ps h is e = e ∙ ap (front m.start) is ∙ ap (λ n. front n (area bytes)) (ap (λ (k : Master). k.start) h.says)
 
@@ -62,18 +62,18 @@ strays_along inst c d m n rs qs place e f g h =
     subst (λ (l : Records). StraysAt inst d n (past_of n) l place) g (subst (λ (k : Master). StraysAt inst d k (past_of k) rs place) f (subst (λ b. StraysAt inst b m (past_of m) rs place) e h))
 
 -- a record strays
-strays_of : (inst : ℕ) (bytes : List ℕ) (chosen : Bool) (m : memory.Master) (ps : List Placed) (place : ℕ) → Says bytes chosen m → map entry ps ≡ front_of bytes → StraysAt inst chosen (as_kept m) (past_of (as_kept m)) (map entry ps) place → GroupsFailAt inst bytes place
-strays_of inst bytes chosen m ps place h e s = inl (strays_along inst chosen _ (as_kept m) (master bytes) (map entry ps) (front_of bytes) place h.counts h.says e s)
+strays_of : (inst : ℕ) (bytes : List ℕ) (chosen : Bool) (m : memory.MasterRecord) (ps : List Placed) (place : ℕ) → Says bytes chosen m → map entry ps ≡ front_of bytes → StraysAt inst chosen (kept_master m) (past_of (kept_master m)) (map entry ps) place → GroupsFailAt inst bytes place
+strays_of inst bytes chosen m ps place h e s = inl (strays_along inst chosen _ (kept_master m) (master bytes) (map entry ps) (front_of bytes) place h.counts h.says e s)
 
 -- ---- a log that keeps the format
 
 -- what is told of its records
-abbrev pub Told : ℕ → Bool → memory.Master → List Placed → Refusal → Type 0
+abbrev pub Told : ℕ → Bool → memory.MasterRecord → List Placed → Refusal → Type 0
 Told inst chosen m ps e =
-    ((IsChecked chosen (as_kept m) (bare ps) → ⊥) × (e ≡ R.Damaged inst 0))
-    ⊎ (IsChecked chosen (as_kept m) (bare ps) × ((place : ℕ) × StraysAt inst chosen (as_kept m) (past_of (as_kept m)) (map entry ps) place × (e ≡ R.Damaged inst (130 + place))))
+    ((IsChecked chosen (kept_master m) (bare ps) → ⊥) × (e ≡ R.Damaged inst 0))
+    ⊎ (IsChecked chosen (kept_master m) (bare ps) × ((place : ℕ) × StraysAt inst chosen (kept_master m) (past_of (kept_master m)) (map entry ps) place × (e ≡ R.Damaged inst (130 + place))))
 
-pub whole_fails : (inst : ℕ) (bytes : List ℕ) (chosen : Bool) (m : memory.Master) (ps : List Placed) (e : Refusal) (dev at : ℕ) → Says bytes chosen m → IsWhole (kept bytes) → records_in bytes ≡ bare ps → map entry ps ≡ front_of bytes
+pub whole_fails : (inst : ℕ) (bytes : List ℕ) (chosen : Bool) (m : memory.MasterRecord) (ps : List Placed) (e : Refusal) (dev at : ℕ) → Says bytes chosen m → IsWhole (kept bytes) → records_in bytes ≡ bare ps → map entry ps ≡ front_of bytes
     → Told inst chosen m ps e → e ≡ R.Damaged dev at → FailsAt inst bytes at
 whole_fails inst bytes chosen m ps e dev at h w are first (inl x) is =
     let zero : at ≡ 0 = cc (x.1, is) in
@@ -92,15 +92,15 @@ breaks_at : (bytes : List ℕ) (fault : Refusal) (place : ℕ) → Broke bytes f
 breaks_at bytes fault place b (inl is) = let e = b.0 place is in subst (λ (r : Reading). BreaksAt r place × (IsWhole r → ⊥)) (sym e) (refl, λ w. w)
 breaks_at bytes fault place b (inr is) = let e = b.1 place is in subst (λ (r : Reading). BreaksAt r place × (IsWhole r → ⊥)) (sym e) (refl, λ w. w)
 
-fails_first : (inst : ℕ) (bytes : List ℕ) (chosen : Bool) (m : memory.Master) (ps : List Placed) (fault : Refusal) (place : ℕ) → Says bytes chosen m → map entry ps ≡ front_of bytes → Broke bytes fault
-    → BreaksFirst inst chosen (as_kept m) ps fault place → GroupsFailAt inst bytes place
+fails_first : (inst : ℕ) (bytes : List ℕ) (chosen : Bool) (m : memory.MasterRecord) (ps : List Placed) (fault : Refusal) (place : ℕ) → Says bytes chosen m → map entry ps ≡ front_of bytes → Broke bytes fault
+    → BreaksFirst inst chosen (kept_master m) ps fault place → GroupsFailAt inst bytes place
 fails_first inst bytes chosen m ps fault place h first b (inl s) = strays_of inst bytes chosen m ps place h first s
 fails_first inst bytes chosen m ps fault place h first b (inr x) =
     let same : bare ps ≡ map (λ y. y.1) (front_of bytes) = sym (bare_entries ps) ∙ ap (map (λ (y : ℕ × Record). y.1)) first in
-    inr (follow_along inst chosen _ (as_kept m) (master bytes) (bare ps) _ h.counts h.says same x.0, (breaks_at bytes fault place b x.1).0)
+    inr (follow_along inst chosen _ (kept_master m) (master bytes) (bare ps) _ h.counts h.says same x.0, (breaks_at bytes fault place b x.1).0)
 
-pub broken_fails : (inst : ℕ) (bytes : List ℕ) (chosen : Bool) (m : memory.Master) (ps : List Placed) (fault e : Refusal) (dev at : ℕ) → Says bytes chosen m → map entry ps ≡ front_of bytes → Broke bytes fault → (place : ℕ) × IsAt fault place × (place < 1048576)
-    → (place : ℕ) × BreaksFirst inst chosen (as_kept m) ps fault place × (e ≡ R.Damaged inst (130 + place)) → e ≡ R.Damaged dev at → FailsAt inst bytes at
+pub broken_fails : (inst : ℕ) (bytes : List ℕ) (chosen : Bool) (m : memory.MasterRecord) (ps : List Placed) (fault e : Refusal) (dev at : ℕ) → Says bytes chosen m → map entry ps ≡ front_of bytes → Broke bytes fault → (place : ℕ) × IsAt fault place × (place < 1048576)
+    → (place : ℕ) × BreaksFirst inst chosen (kept_master m) ps fault place × (e ≡ R.Damaged inst (130 + place)) → e ≡ R.Damaged dev at → FailsAt inst bytes at
 broken_fails inst bytes chosen m ps fault e dev at h first b there x is =
     let place : at ≡ 130 + x.0 = cc (x.2, is) in
     inr (record { slots = h.sound; checkpoint = λ w. absurd ((breaks_at bytes fault there.0 b there.1).1 w) }, (x.0, fails_first inst bytes chosen m ps fault x.0 h first b x.1, place))

@@ -12,25 +12,25 @@ use Rattle.sd_log.specs.declared.placed.Placed.{Placed}
 use Rattle.sd_log.specs.Logs.{placed, placed_groups, placed_tail}
 use Rattle.sd_chain.specs.Checks.{Follow, GroupsAreSound, IsMaster, IsWhole, MasterIsSound, is_end_check, past_of, placed_of, records_in}
 use Rattle.sd_chain.specs.Faults.{SlotsAreSound}
-use Rattle.sd_scan.specs.declared.master.Master as memory
+use Rattle.sd_scan.specs.declared.master.MasterRecord as memory
 use Rattle.sd_scan.specs.Following.{IsChecked, bare}
-use Rattle.sd_scan.specs.Masters.{as_kept, master_in, said}
+use Rattle.sd_scan.specs.Masters.{kept_master, master_in, said}
 use Rattle.sd_scan.proofs.Slots.{chosen_as}
 
 -- ---- the master
 
 -- what was read of a device's master
-pub record Says (bytes : List ℕ) (chosen : Bool) (m : memory.Master) : Type 0 where
+pub record Says (bytes : List ℕ) (chosen : Bool) (m : memory.MasterRecord) : Type 0 where
   pub counts : chosen ≡ is_some (chosen_body 0 64 bytes)
-  pub says : as_kept m ≡ master bytes
+  pub says : kept_master m ≡ master bytes
   pub sound : SlotsAreSound bytes
 
-pub says_of : (bytes : List ℕ) (chosen : Bool) (read : Option memory.Master) (m blank : memory.Master) → chosen ≡ is_some read → as_kept blank ≡ master_of None → m ≡ unwrap_or read blank
+pub says_of : (bytes : List ℕ) (chosen : Bool) (read : Option memory.MasterRecord) (m blank : memory.MasterRecord) → chosen ≡ is_some read → kept_master blank ≡ master_of None → m ≡ unwrap_or read blank
     → said read ≡ option_map master_in (chosen_body 0 64 bytes) → SlotsAreSound bytes → Says bytes chosen m
 unfolding master
 says_of bytes chosen read m blank same none is e sound =
     let p = chosen_as read (chosen_body 0 64 bytes) blank none e in
-    record { counts = same ∙ p.0; says = ap as_kept is ∙ p.1; sound = sound }
+    record { counts = same ∙ p.0; says = ap kept_master is ∙ p.1; sound = sound }
 
 start_of_slot : (s : Slot) (b1 b2 : List ℕ) → IsMaster b1 → IsMaster b2 → (master_of (body_of s b1 b2)).start < 1048576
 start_of_slot Neither b1 b2 f g = omega arith
@@ -44,7 +44,7 @@ start_of_twin true false n1 n2 b1 b2 f g = let ok = f refl in ok.start
 start_of_twin false true n1 n2 b1 b2 f g = let ok = g refl in ok.start
 start_of_twin false false n1 n2 b1 b2 f g = omega arith
 
-pub start_within : (bytes : List ℕ) (chosen : Bool) (m : memory.Master) → Says bytes chosen m → m.start < 1048576
+pub start_within : (bytes : List ℕ) (chosen : Bool) (m : memory.MasterRecord) → Says bytes chosen m → m.start < 1048576
 unfolding master
 start_within bytes chosen m h =
     subst (λ n. n < 1048576) (sym (ap (λ (k : Master). k.start) h.says))
@@ -73,7 +73,7 @@ bare_groups (g ∷ groups) =
 
 -- ---- a device
 
-pub kept_is : (bytes part : List ℕ) (chosen : Bool) (m : memory.Master) (r : Reading) → Says bytes chosen m → part ≡ take 1048576 (drop 130 bytes) → reading m.start part ≡ r → kept bytes ≡ r
+pub kept_is : (bytes part : List ℕ) (chosen : Bool) (m : memory.MasterRecord) (r : Reading) → Says bytes chosen m → part ≡ take 1048576 (drop 130 bytes) → reading m.start part ≡ r → kept bytes ≡ r
 unfolding area
 kept_is bytes part chosen m r h is e =
     ap (λ n. reading n (area bytes)) (sym (ap (λ (k : Master). k.start) h.says)) ∙ ap (reading m.start) (sym is) ∙ e
@@ -91,10 +91,10 @@ records_are : (bytes : List ℕ) (groups : List Group) (gate : ℕ) → kept byt
 records_are bytes groups gate e = ap (λ (r : Reading). map (λ x. x.1) (placed_of r)) e ∙ sym (bare_groups groups)
 
 -- the two checks, by what was read
-abbrev pub Checks : ℕ → Bool → memory.Master → List Record → Type 0
-Checks inst chosen m rs = IsChecked chosen (as_kept m) rs × Follow inst chosen (as_kept m) (past_of (as_kept m)) rs
+abbrev pub Checks : ℕ → Bool → memory.MasterRecord → List Record → Type 0
+Checks inst chosen m rs = IsChecked chosen (kept_master m) rs × Follow inst chosen (kept_master m) (past_of (kept_master m)) rs
 
-pub ended_by : (bytes : List ℕ) (chosen : Bool) (m : memory.Master) (rs : List Record) → Says bytes chosen m → records_in bytes ≡ rs → IsChecked chosen (as_kept m) rs
+pub ended_by : (bytes : List ℕ) (chosen : Bool) (m : memory.MasterRecord) (rs : List Record) → Says bytes chosen m → records_in bytes ≡ rs → IsChecked chosen (kept_master m) rs
     → IfSome (chosen_body 0 64 bytes) (λ _. IsTrue (list_any (λ r. is_end_check (master bytes).check r.1) (placed_of (kept bytes))))
 ended_by bytes chosen m rs h e ok =
     some_if (chosen_body 0 64 bytes) (list_any (λ (r : ℕ × Record). is_end_check (master bytes).check r.1) (placed_of (kept bytes))) (λ some.
@@ -103,8 +103,8 @@ ended_by bytes chosen m rs h e ok =
     ∙ ap (λ (k : Master). list_any (is_end_check k.check) rs) (sym h.says)
     ∙ ok (h.counts ∙ some))
 
-pub checked_by : (bytes : List ℕ) (chosen : Bool) (m : memory.Master) (rs : List Record) → Says bytes chosen m → records_in bytes ≡ rs
-    → IfSome (chosen_body 0 64 bytes) (λ _. IsTrue (list_any (λ r. is_end_check (master bytes).check r.1) (placed_of (kept bytes)))) → IsChecked chosen (as_kept m) rs
+pub checked_by : (bytes : List ℕ) (chosen : Bool) (m : memory.MasterRecord) (rs : List Record) → Says bytes chosen m → records_in bytes ≡ rs
+    → IfSome (chosen_body 0 64 bytes) (λ _. IsTrue (list_any (λ r. is_end_check (master bytes).check r.1) (placed_of (kept bytes)))) → IsChecked chosen (kept_master m) rs
 checked_by bytes chosen m rs h e ok = λ is.
     ap (λ (k : Master). list_any (is_end_check k.check) rs) h.says
     ∙ ap (list_any (is_end_check (master bytes).check)) (sym e)
@@ -123,7 +123,7 @@ bare_all groups gate tail none = ap (λ (t : List Record). bare (placed_groups g
 pub all_records : (bytes : List ℕ) (groups : List Group) (gate : ℕ) (tail : List Record) → kept bytes ≡ Whole groups gate → tail ≡ [] → records_in bytes ≡ bare (placed_groups groups ++ placed_tail gate tail)
 all_records bytes groups gate tail e none = records_are bytes groups gate e ∙ sym (bare_all groups gate tail none)
 
-pub master_sound : (inst : ℕ) (bytes : List ℕ) (chosen : Bool) (m : memory.Master) (groups : List Group) (gate : ℕ) (tail : List Record) → Says bytes chosen m → kept bytes ≡ Whole groups gate → tail ≡ []
+pub master_sound : (inst : ℕ) (bytes : List ℕ) (chosen : Bool) (m : memory.MasterRecord) (groups : List Group) (gate : ℕ) (tail : List Record) → Says bytes chosen m → kept bytes ≡ Whole groups gate → tail ≡ []
     → Checks inst chosen m (bare (placed_groups groups ++ placed_tail gate tail)) → MasterIsSound bytes
 master_sound inst bytes chosen m groups gate tail h e none ok = record {
   differ = h.sound.differ;
@@ -132,9 +132,9 @@ master_sound inst bytes chosen m groups gate tail h e none ok = record {
   ended = ended_by bytes chosen m _ h (all_records bytes groups gate tail e none) ok.0;
 }
 
-pub groups_sound : (inst : ℕ) (bytes : List ℕ) (chosen : Bool) (m : memory.Master) (groups : List Group) (gate : ℕ) (tail : List Record) → Says bytes chosen m → kept bytes ≡ Whole groups gate → tail ≡ []
+pub groups_sound : (inst : ℕ) (bytes : List ℕ) (chosen : Bool) (m : memory.MasterRecord) (groups : List Group) (gate : ℕ) (tail : List Record) → Says bytes chosen m → kept bytes ≡ Whole groups gate → tail ≡ []
     → Checks inst chosen m (bare (placed_groups groups ++ placed_tail gate tail)) → GroupsAreSound inst bytes
 groups_sound inst bytes chosen m groups gate tail h e none ok = record {
   whole = subst IsWhole (sym e) tt;
-  follow = follow_along inst chosen _ (as_kept m) (master bytes) _ (records_in bytes) h.counts h.says (sym (all_records bytes groups gate tail e none)) ok.1;
+  follow = follow_along inst chosen _ (kept_master m) (master bytes) _ (records_in bytes) h.counts h.says (sym (all_records bytes groups gate tail e none)) ok.1;
 }

@@ -10,12 +10,12 @@ use Rattle.sd_gate.specs.Slots.{named_body, slot}
 use Rattle.sd_gate.proofs.Parts.{body_read, chosen_read}
 use Rattle.sd_chain.specs.Checks.{IsMaster, IsSlot}
 use Rattle.sd_chain.specs.Faults.{SlotsAreSound}
-use Rattle.sd_scan.specs.declared.master.Master as memory
-use Rattle.sd_scan.specs.Masters.{as_kept, as_master, master_in, said}
+use Rattle.sd_scan.specs.declared.master.MasterRecord as memory
+use Rattle.sd_scan.specs.Masters.{as_master, kept_master, master_in, said}
 
 -- ---- a slot
 
-pub sound_body : (m : memory.Master) (body rest : List ℕ) (zeros : Bool) → as_kept m ≡ master_in body → m.area ≡ 0 → m.start < 1048576 → rest ≡ drop 25 body
+pub sound_body : (m : memory.MasterRecord) (body rest : List ℕ) (zeros : Bool) → kept_master m ≡ master_in body → m.area ≡ 0 → m.start < 1048576 → rest ≡ drop 25 body
     → (IsTrue zeros ↔ (rest ≡ map (λ _. 0) rest)) → IsTrue zeros ↔ IsMaster body
 sound_body m body rest zeros is area start part h = (
   λ z. record {
@@ -50,7 +50,7 @@ slots_sound c device slots part is never first second = record {
 body_is : (c : Chosen) (device slots : List ℕ) → slots ≡ slice_range device 0 130 → slot c ≡ chosen_slot 0 64 slots → named_body c 64 slots ≡ chosen_body 0 64 device
 body_is c device slots part is = body_read c 0 64 130 device slots refl part (is ∙ chosen_read 0 64 130 device slots refl part)
 
-pub said_some : (c : Chosen) (device slots body : List ℕ) (m : memory.Master) → slots ≡ slice_range device 0 130 → slot c ≡ chosen_slot 0 64 slots → Some body ≡ named_body c 64 slots → as_kept m ≡ master_in body
+pub said_some : (c : Chosen) (device slots body : List ℕ) (m : memory.MasterRecord) → slots ≡ slice_range device 0 130 → slot c ≡ chosen_slot 0 64 slots → Some body ≡ named_body c 64 slots → kept_master m ≡ master_in body
     → said (Some m) ≡ option_map master_in (chosen_body 0 64 device)
 said_some c device slots body m part is there says = ap (λ (k : Master). Some k) says ∙ ap (option_map master_in) (there ∙ body_is c device slots part is)
 
@@ -59,17 +59,17 @@ said_none c device slots part is there = ap (option_map master_in) (there ∙ bo
 
 -- ---- what counts, or all 0
 
-says_of : (m : Option memory.Master) (o : Option (List ℕ)) → said m ≡ option_map master_in o → as_master m ≡ master_of o
+says_of : (m : Option memory.MasterRecord) (o : Option (List ℕ)) → said m ≡ option_map master_in o → as_master m ≡ master_of o
 says_of None None e = refl
 says_of None (Some body) e = absurd (cc)
 says_of (Some x) None e = absurd (cc)
 says_of (Some x) (Some body) e = cc
 
-pub master_is : (m : Option memory.Master) (bytes : List ℕ) → said m ≡ option_map master_in (chosen_body 0 64 bytes) → as_master m ≡ master bytes
+pub master_is : (m : Option memory.MasterRecord) (bytes : List ℕ) → said m ≡ option_map master_in (chosen_body 0 64 bytes) → as_master m ≡ master bytes
 unfolding master
 master_is m bytes e = says_of m (chosen_body 0 64 bytes) e
 
-pub chosen_as : (m : Option memory.Master) (o : Option (List ℕ)) (blank : memory.Master) → as_kept blank ≡ master_of None → said m ≡ option_map master_in o → (is_some m ≡ is_some o) × (as_kept (unwrap_or m blank) ≡ master_of o)
+pub chosen_as : (m : Option memory.MasterRecord) (o : Option (List ℕ)) (blank : memory.MasterRecord) → kept_master blank ≡ master_of None → said m ≡ option_map master_in o → (is_some m ≡ is_some o) × (kept_master (unwrap_or m blank) ≡ master_of o)
 chosen_as None None blank b e = (refl, b)
 chosen_as None (Some body) blank b e = absurd (cc)
 chosen_as (Some x) None blank b e = absurd (cc)

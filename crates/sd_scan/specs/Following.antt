@@ -9,10 +9,10 @@ use Rattle.sd_log.specs.Areas.{IsAt}
 use Rattle.sd_log.specs.Marks.{entry}
 use Rattle.sd_chain.specs.Checks.{Follow, Past, is_end_check, past_of, starts_by}
 use Rattle.sd_chain.specs.Faults.{StraysAt}
-use Rattle.sd_scan.specs.declared.following.Past as memory
+use Rattle.sd_scan.specs.declared.following.PastRecords as memory
 
 -- what records say, in memory
-abbrev pub as_past : memory.Past → Past
+abbrev pub as_past : memory.PastRecords → Past
 as_past past = record { lsn = past.lsn; epoch = past.epoch; started = past.started }
 
 -- records without their places

@@ -8,27 +8,27 @@ ghost use Rattle.sd_chain.specs.Checks.{Follow, IsKnownStart, IsOwn, StartFits, 
 ghost use Rattle.sd_chain.specs.Faults.{Follows, StraysAt};
 ghost use Rattle.sd_log.specs.Marks.{entry};
 ghost use Rattle.sd_scan.specs.Following.{as_past, bare, known};
-ghost use Rattle.sd_scan.specs.Masters.{as_kept};
+ghost use Rattle.sd_scan.specs.Masters.{kept_master};
 
-use crate::master::Master;
+use crate::master::MasterRecord;
 use sd_base::{InstNo, Lsn, TxnId};
 use sd_log::Placed;
 use sd_logrec::Record;
 
 /// What the records so far say: the greatest LSN, and the epoch of the last Start, or the master's.
 #[derive(Clone, Copy)]
-pub struct Past {
+pub struct PastRecords {
     lsn: Lsn,
     epoch: u32,
     started: bool,
 }
 
-impl Past {
+impl PastRecords {
     // Before the first record.
-    fn of(m: Master) -> Self
-        ensures { as_past result ≡ past_of (as_kept m) }
+    fn of(m: MasterRecord) -> Self
+        ensures { as_past result ≡ past_of (kept_master m) }
     {
-        Past {
+        PastRecords {
             lsn: 0,
             epoch: m.epoch,
             started: false,
@@ -40,12 +40,12 @@ impl Past {
         ensures { as_past result ≡ after_record (as_past self) rec.now }
     {
         match rec {
-            Record::Start { lsn, epoch } => Past {
+            Record::Start { lsn, epoch } => PastRecords {
                 lsn: *lsn,
                 epoch: *epoch,
                 started: true,
             },
-            _ => Past {
+            _ => PastRecords {
                 lsn: rec.lsn(),
                 ..self
             },
@@ -55,12 +55,12 @@ impl Past {
 
 /// The place of the first record that may not follow those before it, in bytes from the area's start. `chosen` is whether
 /// a master counts, and `m` what it says, or all 0.
-pub fn first_stray(inst: InstNo, chosen: bool, m: Master, records: &[Placed]) -> Option<u32>
-    ensures { MatchOption result (Follow inst chosen (as_kept m) (past_of (as_kept m)) (bare records.now))
-        (λ place. StraysAt inst chosen (as_kept m) (past_of (as_kept m)) (map entry records.now) place) }
+pub fn first_stray(inst: InstNo, chosen: bool, m: MasterRecord, records: &[Placed]) -> Option<u32>
+    ensures { MatchOption result (Follow inst chosen (kept_master m) (past_of (kept_master m)) (bare records.now))
+        (λ place. StraysAt inst chosen (kept_master m) (past_of (kept_master m)) (map entry records.now) place) }
 {
     let mut later = count_known(m.check, records);
-    let mut past = Past::of(m);
+    let mut past = PastRecords::of(m);
     for p in records {
         if is_known(&p.rec, m.check) {
             later -= 1;
@@ -91,9 +91,16 @@ fn is_known(rec: &Record, check: Lsn) -> bool
 }
 
 // Whether a record may come next. `later` is how many Starts that the checkpoint knew are behind it.
-fn may_follow(inst: InstNo, chosen: bool, m: Master, past: Past, rec: &Record, later: usize) -> bool
+fn may_follow(
+    inst: InstNo,
+    chosen: bool,
+    m: MasterRecord,
+    past: PastRecords,
+    rec: &Record,
+    later: usize,
+) -> bool
     ensures { (rest : List Record) → later ≡ known m.check rest
-        → (IsTrue result ↔ Follows inst chosen (as_kept m) (as_past past) rec.now rest) }
+        → (IsTrue result ↔ Follows inst chosen (kept_master m) (as_past past) rec.now rest) }
 {
     if rec.lsn() <= past.lsn {
         return false;
@@ -109,16 +116,23 @@ fn may_follow(inst: InstNo, chosen: bool, m: Master, past: Past, rec: &Record, l
 }
 
 // Whether a transaction is this instance's, of an epoch that came.
-fn is_own(inst: InstNo, past: Past, txn: TxnId) -> bool
+fn is_own(inst: InstNo, past: PastRecords, txn: TxnId) -> bool
     ensures { IsTrue result ↔ IsOwn inst (as_past past) txn }
 {
     txn.inst.get() == inst.get() && txn.epoch <= past.epoch
 }
 
 // Whether a Start of this LSN and epoch may come next: one that the checkpoint knew, or that of the next epoch.
-fn start_fits(chosen: bool, m: Master, past: Past, lsn: Lsn, epoch: u32, later: usize) -> bool
+fn start_fits(
+    chosen: bool,
+    m: MasterRecord,
+    past: PastRecords,
+    lsn: Lsn,
+    epoch: u32,
+    later: usize,
+) -> bool
     ensures { (rest : List Record) → later ≡ known m.check rest
-        → (IsTrue result ↔ StartFits chosen (as_kept m) (as_past past) (records.Start lsn epoch) rest) }
+        → (IsTrue result ↔ StartFits chosen (kept_master m) (as_past past) (records.Start lsn epoch) rest) }
 {
     if chosen && lsn <= m.check {
         known_fits(m, past, epoch, later)
@@ -128,9 +142,9 @@ fn start_fits(chosen: bool, m: Master, past: Past, lsn: Lsn, epoch: u32, later: 
 }
 
 // Whether a Start that the checkpoint knew may come next: its epoch rises up to the master's, which the last one has.
-fn known_fits(m: Master, past: Past, epoch: u32, later: usize) -> bool
+fn known_fits(m: MasterRecord, past: PastRecords, epoch: u32, later: usize) -> bool
     ensures { (rest : List Record) → later ≡ known m.check rest
-        → (IsTrue result ↔ IsKnownStart (as_kept m) (as_past past) epoch rest) }
+        → (IsTrue result ↔ IsKnownStart (kept_master m) (as_past past) epoch rest) }
 {
     if past.started && epoch <= past.epoch {
         return false;

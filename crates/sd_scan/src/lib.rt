@@ -20,5 +20,5 @@ mod following;
 mod master;
 mod scanning;
 
-pub use master::{Master, Unsound, read_master};
+pub use master::{MasterRecord, Unsound, read_master};
 pub use scanning::{Scanned, scan};

@@ -5,7 +5,7 @@ ghost use Rattle.sd_base.specs.Twin.{chosen_body};
 ghost use Rattle.sd_logrec.specs.Kept.{master};
 ghost use Rattle.sd_chain.specs.Checks.{IsMaster, IsSlot};
 ghost use Rattle.sd_chain.specs.Faults.{SlotsAreSound};
-ghost use Rattle.sd_scan.specs.Masters.{as_kept, as_master, master_in, said};
+ghost use Rattle.sd_scan.specs.Masters.{as_master, kept_master, master_in, said};
 
 use byteorder::{BigEndian, ByteOrder};
 use sd_base::Lsn;
@@ -17,7 +17,7 @@ const FIELDS: usize = 25;
 
 /// The master of a log: how often one was written, where its log starts, and the checkpoint and the epoch that are known.
 #[derive(Clone, Copy, Debug, PartialEq, Eq)]
-pub struct Master {
+pub struct MasterRecord {
     /// It is greater than that of each master before.
     pub count: u64,
     /// The area of the log: 0.
@@ -30,9 +30,9 @@ pub struct Master {
     pub start: u32,
 }
 
-impl Master {
+impl MasterRecord {
     /// What no master says.
-    pub const BLANK: Master = Master {
+    pub const BLANK: MasterRecord = MasterRecord {
         count: 0,
         area: 0,
         epoch: 0,
@@ -47,7 +47,7 @@ pub struct Unsound;
 
 /// The master that counts on a log device, of which the bytes in front of its area suffice; `None` where neither slot is
 /// open. `Unsound` comes exactly where an open slot isn't well formed, or both are open with equal counts.
-pub fn read_master(device: &[u8]) -> Result<Option<Master>, Unsound>
+pub fn read_master(device: &[u8]) -> Result<Option<MasterRecord>, Unsound>
     requires { AREA ≤ length device.now }
     ensures read { IfOk result (λ m. said m ≡ option_map master_in (chosen_body 0 MASTER_BODY device.now)) }
     ensures says { IfOk result (λ m. as_master m ≡ master device.now) }
@@ -96,11 +96,11 @@ fn are_zeros(bytes: &[u8]) -> bool
 }
 
 // What a body says.
-fn master_of(body: &[u8]) -> Master
+fn master_of(body: &[u8]) -> MasterRecord
     requires { length body.now ≡ MASTER_BODY }
-    ensures { as_kept result ≡ master_in body.now }
+    ensures { kept_master result ≡ master_in body.now }
 {
-    Master {
+    MasterRecord {
         count: BigEndian::read_u64(body),
         area: body[8],
         epoch: BigEndian::read_u32(&body[9..]),

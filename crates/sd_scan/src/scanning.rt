@@ -10,10 +10,10 @@ ghost use Rattle.sd_log.specs.Marks.{entry};
 ghost use Rattle.sd_chain.specs.Checks.{Follow, GroupsAreSound, MasterIsSound, past_of};
 ghost use Rattle.sd_chain.specs.Faults.{GroupsFailAt, MasterPasses, StraysAt};
 ghost use Rattle.sd_scan.specs.Following.{BreaksFirst, IsChecked, bare};
-ghost use Rattle.sd_scan.specs.Masters.{as_kept, as_master, master_in, said};
+ghost use Rattle.sd_scan.specs.Masters.{as_master, kept_master, master_in, said};
 
 use crate::following::{first_stray, has_end_check};
-use crate::master::{Master, read_master};
+use crate::master::{MasterRecord, read_master};
 use sd_base::{InstNo, Refusal};
 use sd_log::{Area, Log, Placed};
 use sd_logrec::{AREA, AREA_LEN, MASTER_BODY};
@@ -24,7 +24,7 @@ use std::alloc::Global;
 #[derive(Drop)]
 pub struct Scanned {
     pub log: Log,
-    pub master: Option<Master>,
+    pub master: Option<MasterRecord>,
 }
 
 /// The log of this instance and its master, of the bytes of its device: its groups from the master's start place on, or
@@ -56,7 +56,7 @@ pub fn scan(alloc: Global, device: &[u8], inst: InstNo) -> Result<Scanned, Refus
     let Ok(master) = read_master(device) else {
         return Err(damaged(inst, 0));
     };
-    let m = master.unwrap_or(Master::BLANK);
+    let m = master.unwrap_or(MasterRecord::BLANK);
     let area = &device[AREA as usize..(AREA + AREA_LEN) as usize];
     match Log::of_area(alloc, inst, m.start, area)? {
         Area::Whole(log) => {
@@ -68,12 +68,12 @@ pub fn scan(alloc: Global, device: &[u8], inst: InstNo) -> Result<Scanned, Refus
 }
 
 // Whether the log has the checkpoint that its master names, and its records follow one another.
-fn check_records(log: &Log, inst: InstNo, chosen: bool, m: Master) -> Result<(), Refusal>
-    ensures sound { OnOk result (IsChecked chosen (as_kept m) (bare (scanned log.now))
-        × Follow inst chosen (as_kept m) (past_of (as_kept m)) (bare (scanned log.now))) }
-    ensures err { IfErr result (λ e. ((IsChecked chosen (as_kept m) (bare (scanned log.now)) → ⊥) × (e ≡ R.Damaged inst 0))
-        ⊎ (IsChecked chosen (as_kept m) (bare (scanned log.now)) × ((place : ℕ)
-        × StraysAt inst chosen (as_kept m) (past_of (as_kept m)) (map entry (scanned log.now)) place × (e ≡ R.Damaged inst (AREA + place))))) }
+fn check_records(log: &Log, inst: InstNo, chosen: bool, m: MasterRecord) -> Result<(), Refusal>
+    ensures sound { OnOk result (IsChecked chosen (kept_master m) (bare (scanned log.now))
+        × Follow inst chosen (kept_master m) (past_of (kept_master m)) (bare (scanned log.now))) }
+    ensures err { IfErr result (λ e. ((IsChecked chosen (kept_master m) (bare (scanned log.now)) → ⊥) × (e ≡ R.Damaged inst 0))
+        ⊎ (IsChecked chosen (kept_master m) (bare (scanned log.now)) × ((place : ℕ)
+        × StraysAt inst chosen (kept_master m) (past_of (kept_master m)) (map entry (scanned log.now)) place × (e ≡ R.Damaged inst (AREA + place))))) }
 {
     if chosen && !has_end_check(m.check, log.scan()) {
         return Err(damaged(inst, 0));
@@ -85,9 +85,9 @@ fn check_records(log: &Log, inst: InstNo, chosen: bool, m: Master) -> Result<(),
 }
 
 // Where a log fails that breaks the format: `front` are the records before that.
-fn broken(front: &[Placed], fault: &Refusal, inst: InstNo, chosen: bool, m: Master) -> Refusal
+fn broken(front: &[Placed], fault: &Refusal, inst: InstNo, chosen: bool, m: MasterRecord) -> Refusal
     requires { (at : ℕ) × IsAt fault.now at × (at < AREA_LEN) }
-    ensures { (place : ℕ) × BreaksFirst inst chosen (as_kept m) front.now fault.now place × (result ≡ R.Damaged inst (AREA + place)) }
+    ensures { (place : ℕ) × BreaksFirst inst chosen (kept_master m) front.now fault.now place × (result ≡ R.Damaged inst (AREA + place)) }
 {
     match first_stray(inst, chosen, m, front) {
         Some(place) => damaged(inst, AREA as u64 + place as u64),

@@ -9,8 +9,8 @@ use Rattle.std.specs.Str.{bytes_eq}
 use Rattle.sd_script.specs.declared.line.Form.{Form}
 use Rattle.sd_script.specs.declared.line.Form.TheVariants.{Complex, Begin, Read, Write, Add, Insert, Delete, Save, Back, Rollback, Commit, Table}
 use Rattle.sd_script.specs.declared.line.Line.{Line}
-use Rattle.sd_script.specs.Order.{begun_by, begun, has, ordinal_of, IsBegun, insts_in, insts_of, pages_in, pages_of, is_table, table_count, Follows}
-use Rattle.sd_script.specs.Remembered.{known_after, begins_after, insts_after, pages_after, tables_after, AreOrdinals, Remembers, Fits, IsFresh, IsUnknown}
+use Rattle.sd_script.specs.Order.{begun_by, begun, has_name, ordinal_of, IsBegun, insts_in, insts_of, pages_in, pages_of, is_table, table_count, Follows}
+use Rattle.sd_script.specs.Remembered.{known_after, begins_after, insts_after, pages_after, tables_after, AreOrdinals, Remembers, FormFits, IsFresh, IsUnknown}
 use Rattle.sd_script.specs.Forms.{IsForm, IsName, IsKnownBy}
 use Rattle.sd_script.proofs.Ordinals.{no_ordinal, has_none, ordinal_push}
 
@@ -18,8 +18,8 @@ begun-push : (lines : List Line) (line : Line) → begun (lines ++ line ∷ []) 
 begun-push lines line = flat_map-append (λ (l : Line). begun_by l.form) lines (line ∷ []) ∙ ap (λ l. begun lines ++ l) (append-nil (begun_by line.form))
 
 -- a name that is begun has no ordinal yet
-unnamed : (lines : List Line) (name : List ℕ) → ¬ IsBegun name lines → has (begun lines) name ≡ false
-unnamed lines name fresh = ⊎_elim (λ (had : has (begun lines) name ≡ true). absurd (fresh had)) (λ lacks. lacks) (cases_Bool (has (begun lines) name))
+unnamed : (lines : List Line) (name : List ℕ) → ¬ IsBegun name lines → has_name (begun lines) name ≡ false
+unnamed lines name fresh = ⊎_elim (λ (had : has_name (begun lines) name ≡ true). absurd (fresh had)) (λ lacks. lacks) (cases_Bool (has_name (begun lines) name))
 
 -- the ordinals
 names_form : (lines : List Line) (form : Form) (known : List ℕ → Option ℕ) (begins : ℕ) → Follows lines form → begins ≡ length (begun lines) → AreOrdinals lines known
@@ -87,7 +87,7 @@ begun_few (line ∷ lines) = omega (arith, ap length (flat_map-cons (λ (l : Lin
   one _ = omega arith
 
 -- what is remembered tells whether a form may follow
-pub follows_from : (lines : List Line) (known : List ℕ → Option ℕ) → AreOrdinals lines known → (form : Form) → IsForm form → IsKnownBy known form → Fits lines form → IsFresh lines form → Follows lines form
+pub follows_from : (lines : List Line) (known : List ℕ → Option ℕ) → AreOrdinals lines known → (form : Form) → IsForm form → IsKnownBy known form → FormFits lines form → IsFresh lines form → Follows lines form
 follows_from lines known names (Complex insts pages frames) is knows fits fresh = fits
 follows_from lines known names (Begin inst name) is knows fits fresh = (fits, fresh)
 follows_from lines known names (Read name ordinal rid) is knows fits fresh = (sym (names name is.0) ∙ knows, fits)
@@ -101,7 +101,7 @@ follows_from lines known names (Rollback name ordinal) is knows fits fresh = sym
 follows_from lines known names (Commit name ordinal) is knows fits fresh = sym (names name is) ∙ knows
 follows_from lines known names _ is knows fits fresh = fits
 
-pub fits_from : (lines : List Line) (form : Form) → Follows lines form → Fits lines form
+pub fits_from : (lines : List Line) (form : Form) → Follows lines form → FormFits lines form
 fits_from lines (Begin inst name) follows = follows.0
 fits_from lines (Read name ordinal rid) follows = follows.1
 fits_from lines (Write name ordinal rid value) follows = follows.1

@@ -6,8 +6,8 @@ use Rattle.std.proofs.lemmas.Bool.Decides.{nat_tests}
 use Rattle.std.proofs.lemmas.Option.{slice_get_within}
 use Rattle.sd_base.specs.declared.refusal.Refusal.{Refusal}
 use Rattle.sd_base.specs.declared.refusal.Refusal.TheVariants as refusal
-use Rattle.sd_base.specs.declared.refusal.Cause.{Cause}
-use Rattle.sd_base.specs.declared.refusal.Cause.TheVariants.{Word}
+use Rattle.sd_base.specs.declared.refusal.LineError.{LineError}
+use Rattle.sd_base.specs.declared.refusal.LineError.TheVariants.{Word}
 use Rattle.sd_script.specs.declared.line.Line.{Line}
 use Rattle.sd_script.specs.Text.{lines_of, end_of}
 use Rattle.sd_script.specs.Reading.{ReadsAs, Reads, IsRead, IsScript, IsBadAt, IsRefusedWith, UnlessMemory}
@@ -140,7 +140,7 @@ exact_bad_err : (text : List ℕ) (why : Refusal) → IsRefusedWith text why →
 exact_bad_err text (refusal.BadLine number cause) bad n at =
     let same : number ≡ n = one_bad_line text number n bad.1 at in
     let word : cause ≡ Word = bad.0 in
-    inl (ap (λ (k : ℕ). Err (refusal.BadLine k cause)) same ∙ ap (λ (c : Cause). Err (refusal.BadLine n c)) word)
+    inl (ap (λ (k : ℕ). Err (refusal.BadLine k cause)) same ∙ ap (λ (c : LineError). Err (refusal.BadLine n c)) word)
 exact_bad_err text refusal.Memory bad n at = inr refl
 exact_bad_err text _ bad n at = absurd bad
 

@@ -5,7 +5,7 @@ use Rattle.sd_script.specs.declared.line.Form.{Form}
 use Rattle.sd_script.specs.declared.line.Line.{Line}
 use Rattle.sd_script.specs.Forms.{form_words, IsForm, IsFormOf}
 use Rattle.sd_script.specs.Order.{Follows, begun, ordinal_of}
-use Rattle.sd_script.specs.Remembered.{AreOrdinals, Fits, IsFresh, IsTakenIf, IsTakenOf}
+use Rattle.sd_script.specs.Remembered.{AreOrdinals, FormFits, IsFresh, IsTakenIf, IsTakenOf}
 use Rattle.sd_script.proofs.OneForm.{one_form}
 use Rattle.sd_script.proofs.Readings.{ordinal_known}
 use Rattle.sd_script.proofs.Remembering.{known_from, ordinals_from, follows_from, fits_from, fresh_from}
@@ -24,16 +24,16 @@ the_form : (before : List Line) (words : List (List ℕ)) (form due : Form) → 
 the_form before words form due is follows e found = one_form (ordinal_of (begun before)) form due is found.0 (ordinal_known before form follows) found.1 (e ∙ sym found.2)
 
 -- where it doesn't fit none is taken
-pub none_fits : (before after : List Line) (words : List (List ℕ)) (due : Form) → IsFormOf (ordinal_of (begun before)) words (Some due) → (Fits before due → ⊥) → IsTakenOf before words after false
+pub none_fits : (before after : List Line) (words : List (List ℕ)) (due : Form) → IsFormOf (ordinal_of (begun before)) words (Some due) → (FormFits before due → ⊥) → IsTakenOf before words after false
 none_fits before after words due found misfit = λ form is follows e.
     misfit (fits_from before due (subst (Follows before) (the_form before words form due is follows e found) follows))
 
-may_follow : (before : List Line) (words : List (List ℕ)) (due : Form) → IsFormOf (ordinal_of (begun before)) words (Some due) → Fits before due → IsFresh before due → Follows before due
+may_follow : (before : List Line) (words : List (List ℕ)) (due : Form) → IsFormOf (ordinal_of (begun before)) words (Some due) → FormFits before due → IsFresh before due → Follows before due
 may_follow before words due found fits fresh = follows_from before (ordinal_of (begun before)) (λ name is. refl) due found.0 found.1 fits fresh
 
 -- where it fits it is taken, unless it begins a name again
 pub taken : {E : Type 0} (before after : List Line) (line : Line) (words : List (List ℕ)) (answer : Result Bool E) → IfOk answer (IsTakenIf before line after)
-    → IsFormOf (ordinal_of (begun before)) words (Some line.form) → Fits before line.form → line.number ≡ length before + 1 → line.session ≡ 0
+    → IsFormOf (ordinal_of (begun before)) words (Some line.form) → FormFits before line.form → line.number ≡ length before + 1 → line.session ≡ 0
     → IfOk answer (IsTakenOf before words after)
 taken before after line words (Err e) took found fits number session = tt
 taken before after line words (Ok true) took found fits number session = record {

@@ -20,12 +20,12 @@ abbrev pub ordinal_of : List (List ℕ) → List ℕ → Option ℕ
 ordinal_of names name = position (bytes_eq name) names
 
 -- whether the name is one of these
-abbrev pub has : List (List ℕ) → List ℕ → Bool
-has names name = list_any (bytes_eq name) names
+abbrev pub has_name : List (List ℕ) → List ℕ → Bool
+has_name names name = list_any (bytes_eq name) names
 
 -- the name was begun on one of these lines
 abbrev pub IsBegun : List ℕ → List Line → Type 0
-IsBegun name lines = IsTrue (has (begun lines) name)
+IsBegun name lines = IsTrue (has_name (begun lines) name)
 
 -- the instances and the pages that a first line of this form gives
 abbrev pub insts_in : Form → ℕ

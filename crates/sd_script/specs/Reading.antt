@@ -2,7 +2,7 @@
 use Rattle.std.specs.Prelude.{◌≡◌, ℕ, ◌+◌, ◌<◌, ◌≤◌, ◌⊎◌, List, length, take, slice_get, Result, Err, Some}
 use Rattle.sd_base.specs.declared.refusal.Refusal.{Refusal}
 use Rattle.sd_base.specs.declared.refusal.Refusal.TheVariants as refusal
-use Rattle.sd_base.specs.declared.refusal.Cause.TheVariants.{Word}
+use Rattle.sd_base.specs.declared.refusal.LineError.TheVariants.{Word}
 use Rattle.sd_script.specs.declared.line.Line.{Line}
 use Rattle.sd_script.specs.Text.{lines_of, words_of, end_of}
 use Rattle.sd_script.specs.Forms.{form_words, IsForm}

@@ -4,7 +4,7 @@ use Rattle.std.specs.Map.{update}
 use Rattle.std.specs.Str.{bytes_eq}
 use Rattle.sd_base.specs.declared.refusal.Refusal.{Refusal}
 use Rattle.sd_base.specs.declared.refusal.Refusal.TheVariants as refusal
-use Rattle.sd_base.specs.declared.refusal.Cause.TheVariants.{Word}
+use Rattle.sd_base.specs.declared.refusal.LineError.TheVariants.{Word}
 use Rattle.sd_script.specs.declared.line.Form.{Form}
 use Rattle.sd_script.specs.declared.line.Form.TheVariants.{Complex, Begin, Read, Write, Add, Insert, Delete, Save, Back, Rollback, Commit, Ask, Give, Take, Evict, Flush, Force, Fail, Fuse, Fault, FailAll, Reopen, RecoverAll, JoinAll, Where, Table}
 use Rattle.sd_script.specs.declared.line.Line.{Line}
@@ -58,33 +58,33 @@ IsUnknown known (Begin inst name) = known name ≡ None
 IsUnknown known _ = Unit {0}
 
 -- a line of this form may stand behind these lines, if it begins no name again and has its ordinal
-abbrev pub Fits : List Line → Form → Type 0
-Fits before (Complex insts pages frames) = before ≡ []
-Fits before (Begin inst name) = inst ≤ insts_of before
-Fits before (Read name ordinal rid) = rid.page < pages_of before
-Fits before (Write name ordinal rid value) = rid.page < pages_of before
-Fits before (Add name ordinal rid by) = rid.page < pages_of before
-Fits before (Insert name ordinal page value capacity) = page < pages_of before
-Fits before (Delete name ordinal rid) = rid.page < pages_of before
-Fits before (Save name ordinal mark) = Unit {0}
-Fits before (Back name ordinal mark) = Unit {0}
-Fits before (Rollback name ordinal) = Unit {0}
-Fits before (Commit name ordinal) = Unit {0}
-Fits before (Ask inst page mode) = (inst ≤ insts_of before) × (page < pages_of before)
-Fits before (Give inst page) = (inst ≤ insts_of before) × (page < pages_of before)
-Fits before (Take inst page) = (inst ≤ insts_of before) × (page < pages_of before)
-Fits before (Evict inst page) = (inst ≤ insts_of before) × (page < pages_of before)
-Fits before (Flush inst page) = (inst ≤ insts_of before) × (page < pages_of before)
-Fits before (Force inst) = inst ≤ insts_of before
-Fits before (Fail inst) = inst ≤ insts_of before
-Fits before (Fuse calls) = before ≢ []
-Fits before (Fault call) = before ≢ []
-Fits before (FailAll pick) = before ≢ []
-Fits before Reopen = before ≢ []
-Fits before RecoverAll = before ≢ []
-Fits before JoinAll = before ≢ []
-Fits before (Where page) = page < pages_of before
-Fits before Table = (before ≢ []) × (table_count before < 64)
+abbrev pub FormFits : List Line → Form → Type 0
+FormFits before (Complex insts pages frames) = before ≡ []
+FormFits before (Begin inst name) = inst ≤ insts_of before
+FormFits before (Read name ordinal rid) = rid.page < pages_of before
+FormFits before (Write name ordinal rid value) = rid.page < pages_of before
+FormFits before (Add name ordinal rid by) = rid.page < pages_of before
+FormFits before (Insert name ordinal page value capacity) = page < pages_of before
+FormFits before (Delete name ordinal rid) = rid.page < pages_of before
+FormFits before (Save name ordinal mark) = Unit {0}
+FormFits before (Back name ordinal mark) = Unit {0}
+FormFits before (Rollback name ordinal) = Unit {0}
+FormFits before (Commit name ordinal) = Unit {0}
+FormFits before (Ask inst page mode) = (inst ≤ insts_of before) × (page < pages_of before)
+FormFits before (Give inst page) = (inst ≤ insts_of before) × (page < pages_of before)
+FormFits before (Take inst page) = (inst ≤ insts_of before) × (page < pages_of before)
+FormFits before (Evict inst page) = (inst ≤ insts_of before) × (page < pages_of before)
+FormFits before (Flush inst page) = (inst ≤ insts_of before) × (page < pages_of before)
+FormFits before (Force inst) = inst ≤ insts_of before
+FormFits before (Fail inst) = inst ≤ insts_of before
+FormFits before (Fuse calls) = before ≢ []
+FormFits before (Fault call) = before ≢ []
+FormFits before (FailAll pick) = before ≢ []
+FormFits before Reopen = before ≢ []
+FormFits before RecoverAll = before ≢ []
+FormFits before JoinAll = before ≢ []
+FormFits before (Where page) = page < pages_of before
+FormFits before Table = (before ≢ []) × (table_count before < 64)
 
 -- the line as which these bytes read, if there is one
 abbrev pub IsNextLine : List Line → List ℕ → ℕ → Option Line → Type 0

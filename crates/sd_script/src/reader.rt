@@ -3,19 +3,19 @@
 ghost use Rattle.std.specs.Prelude.{◌≡◌, ℕ, ◌<◌, ◌≤◌, ◌↔◌, ◌∷◌, List, Option, [], codes, length, IsTrue, IfOk, IfErr, OnOk, OnErr};
 ghost use Rattle.std.specs.Fmt.{decimal};
 ghost use Rattle.sd_base.specs.declared.refusal.Refusal.TheVariants as refusal;
-ghost use Rattle.sd_base.specs.declared.refusal.Cause.TheVariants.{Word};
+ghost use Rattle.sd_base.specs.declared.refusal.LineError.TheVariants.{Word};
 ghost use Rattle.sd_script.specs.Forms.{IsForm, IsFormOf, IsInst, IsName};
 ghost use Rattle.sd_script.specs.Known.{known};
 ghost use Rattle.sd_script.specs.Order.{begun, ordinal_of, is_table, insts_of, pages_of, Follows};
 ghost use Rattle.sd_script.specs.Remembered.{known_after, begins_after, insts_after, pages_after, tables_after};
-ghost use Rattle.sd_script.specs.Remembered.{Fits, IsUnknown, IsFresh, IsTakenIf, IsTakenOf, GoesOn, IsLineRefusedWith};
+ghost use Rattle.sd_script.specs.Remembered.{FormFits, IsUnknown, IsFresh, IsTakenIf, IsTakenOf, GoesOn, IsLineRefusedWith};
 
 use crate::form::take_line;
 use crate::inst_forms::begin_of;
 use crate::names::Names;
 use crate::verb_forms::{add_of, commit_of, insert_of, read_of, write_of};
 use crate::{Form, Line};
-use sd_base::{Cause, InstNo, Memory, PageNo, Refusal};
+use sd_base::{InstNo, LineError, Memory, PageNo, Refusal};
 use std::alloc::Global;
 use std::marker::Model;
 
@@ -231,7 +231,7 @@ impl Reader {
     // Whether a line of this form may come next, if it begins no name again.
     #[inline(always)]
     fn admits(&self, form: &Form) -> bool
-        ensures { IsTrue result ↔ Fits self.now form.now }
+        ensures { IsTrue result ↔ FormFits self.now form.now }
     {
         match form {
             Form::Complex { .. } => self.lines.is_empty(),
@@ -298,7 +298,7 @@ fn bad_line(number: u32) -> Refusal
 {
     Refusal::BadLine {
         line: number,
-        cause: Cause::Word,
+        cause: LineError::Word,
     }
 }
 

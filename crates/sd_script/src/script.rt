@@ -2,7 +2,7 @@
 
 ghost use Rattle.std.specs.Prelude.{◌≡◌, ℕ, ◌⊎◌, List, length, Ok, Err, IfOk, IfErr};
 ghost use Rattle.sd_base.specs.declared.refusal.Refusal.TheVariants as refusal;
-ghost use Rattle.sd_base.specs.declared.refusal.Cause.TheVariants.{Word};
+ghost use Rattle.sd_base.specs.declared.refusal.LineError.TheVariants.{Word};
 ghost use Rattle.sd_script.specs.declared.line.Line.{Line};
 ghost use Rattle.sd_script.specs.Text.{lines_of};
 ghost use Rattle.sd_script.specs.Reading.{IsRead, IsScript, IsBadAt, IsRefusedWith, UnlessMemory};
@@ -10,7 +10,7 @@ ghost use Rattle.sd_script.specs.Reading.{IsRead, IsScript, IsBadAt, IsRefusedWi
 use crate::Line;
 use crate::reader::{LINES, Reader};
 use crate::text::first_line;
-use sd_base::{Cause, Refusal};
+use sd_base::{LineError, Refusal};
 use std::alloc::Global;
 use std::cmp;
 use std::marker::Model;
@@ -60,7 +60,7 @@ impl Script {
         if lines.is_empty() {
             return Err(Refusal::BadLine {
                 line: 1,
-                cause: Cause::Word,
+                cause: LineError::Word,
             });
         }
         Ok(Script { lines })

@@ -18,7 +18,7 @@ use Rattle.sd_chain.specs.Checks.{Follow, Past, StartFits, is_end_check, lsn_of,
 use Rattle.sd_chain.specs.Records.{Each}
 use Rattle.sd_chain.specs.Images.{Keeps}
 use Rattle.sd_chain.proofs.Lists.{Each-append, Each-weaker}
-use Rattle.sd_sound.specs.Logs.{IsSettled, Logs, Outcomes, Replaces, all_at, base_at, kept_logs, may_of, owed_with, past_at, records_at, tail_at, tails_of}
+use Rattle.sd_sound.specs.Logs.{IsSettled, Logs, Outcomes, ReplacesLog, all_at, base_at, kept_logs, may_of, owed_with, past_at, records_at, tail_at, tails_of}
 use Rattle.sd_sound.specs.Soundly.{IsReady, IsSoundly, LogIsSound, LsnsFit}
 use Rattle.sd_sound.specs.Appends.{IsNextEpoch, MayBeNext}
 use Rattle.sd_sound.proofs.Sums.{sum-one}
@@ -103,7 +103,7 @@ appended-log-sound j bytes l y spare s next room =
 -- ---- the LSNs of it
 
 module _ (i : ℕ) (logs logs' : Logs) (y : Record) (spare : ℕ)
-    (at : Replaces i (with_record y spare (logs i)) logs logs') (keeps : Keeps) where
+    (at : ReplacesLog i (with_record y spare (logs i)) logs logs') (keeps : Keeps) where
   -- the other logs, with the tails that are kept
   pub kept-elsewhere : (j : ℕ) → j ≢ i → kept_logs (tails_of logs') keeps j ≡ kept_logs (tails_of logs) keeps j
   kept-elsewhere j ne = ap (λ (l : LogState). base_at l ++ cond (keeps j) (tail_at l) []) (at.others j ne)
@@ -171,7 +171,7 @@ module _ (i : ℕ) (logs logs' : Logs) (y : Record) (spare : ℕ)
 -- ---- an append keeps what is sound
 
 module _ (i : ℕ) (leaves : Outcomes) (logs logs' : Logs) (y : Record) (spare : ℕ) (s : IsSoundly leaves logs)
-    (at : Replaces i (with_record y spare (logs i)) logs logs') (settled : IsSettled i leaves logs)
+    (at : ReplacesLog i (with_record y spare (logs i)) logs logs') (settled : IsSettled i leaves logs)
     (next : (bytes : List ℕ) → leaves i bytes → MayBeNext i (past_at (master bytes) (forced (logs i))) y) where
   -- with room, and LSNs for all that is owed where the tail is kept
   pub append-soundly : needed (logs i) (length (spelling y)) (reserve (all_at (logs i) ++ flat y ∷ [])) ≤ 1048576

@@ -87,11 +87,11 @@ within : (j : ℕ) → 1 ≤ j → j ≤ 8 → (ltb 0 j && ltb j 9) ≡ true
 within j low high = ap₂ (λ (a b : Bool). a && b) (lt-ltb 0 j (omega (arith, low))) (lt-ltb j 9 (omega (arith, high)))
 
 -- an image keeps of a log what its device does
-pub log-here : (img : rig.Image) (j : ℕ) → 1 ≤ j → j ≤ 8 → log_of img j ≡ records_of (kept (img j))
+pub log-here : (img : rig.DeviceImages) (j : ℕ) → 1 ≤ j → j ≤ 8 → log_of img j ≡ records_of (kept (img j))
 log-here img j low high = ap (λ (b : Bool). cond {A = List Rec} b (records_of (kept (img j))) []) (within j low high)
 
 -- the log, with its tail or without
-pub log-either : (j : ℕ) (log : LogState) (img : rig.Image) → 1 ≤ j → j ≤ 8 → (master (img j)).start ≡ log.start
+pub log-either : (j : ℕ) (log : LogState) (img : rig.DeviceImages) → 1 ≤ j → j ≤ 8 → (master (img j)).start ≡ log.start
     → StandsEither log (img j)
     → (log_of img j ≡ base_at log) ⊎ (log_of img j ≡ all_at log)
 log-either j log img low high start stands =
@@ -102,7 +102,7 @@ log-either j log img low high start stands =
     stands
 
 -- a log of none but the eight keeps nothing
-pub log-past : (img : rig.Image) (j : ℕ) → 9 ≤ j → log_of img j ≡ []
+pub log-past : (img : rig.DeviceImages) (j : ℕ) → 9 ≤ j → log_of img j ≡ []
 log-past img j le = ap (λ (b : Bool). cond {A = List Rec} b (records_of (kept (img j))) [])
     (ap (λ (b : Bool). ltb 0 j && b) (not_below j le) ∙ none (ltb 0 j))
   where

@@ -19,7 +19,7 @@ use Rattle.sd_log.specs.Logs as log_specs
 use Rattle.sd_chain.specs.Checks.{Past, after_record, owed, past_of, placed_of}
 use Rattle.sd_chain.specs.Records.{Each, of_page}
 use Rattle.sd_chain.specs.Order.{of_txn}
-use Rattle.sd_chain.specs.Image.{Image, all_of, chain, newest}
+use Rattle.sd_chain.specs.Storage.{Storage, all_of, chain, newest}
 use Rattle.sd_chain.specs.Images.{Keeps, log, Allowed, IsSafe, Tails, with_disk, all_kept}
 use Rattle.sd_chain.specs.Pages.{redo, replay}
 use Rattle.sd_chain.proofs.Chains.{Each-all_of}
@@ -129,7 +129,7 @@ replay_low P floor page (x ∷ xs) p a =
     by false = p
 
 -- what holds of the LSNs of a page and of all records holds of its newest version
-pub newest-low : (P : ℕ → Type 0) (img : Image) (p : ℕ) → P (img.disk p).lsn → ((j : ℕ) → Each (λ x. P x.lsn) (img.logs j))
+pub newest-low : (P : ℕ → Type 0) (img : Storage) (p : ℕ) → P (img.disk p).lsn → ((j : ℕ) → Each (λ x. P x.lsn) (img.logs j))
     → P (newest img p).lsn
 unfolding newest chain
 newest-low P img p disk logs = replay_low P (img.disk p).lsn (img.disk p) (chain img p) disk

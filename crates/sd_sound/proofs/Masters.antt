@@ -33,7 +33,7 @@ stands_same : (l : LogState) (old new : List ℕ) → area new ≡ area old → 
 stands_same l old new a s = ap (reading l.start) a ∙ s
 
 -- what a put of the master leaves of the device: the log from its old place, or from the later one
-pub master-outcome : (i : ℕ) (l l' : LogState) (body : List ℕ) (seen : rig.Image) (leaves : Outcomes) (img : rig.Image)
+pub master-outcome : (i : ℕ) (l l' : LogState) (body : List ℕ) (seen : rig.DeviceImages) (leaves : Outcomes) (img : rig.DeviceImages)
     → NamesLater (seen i) l l' body → IsReady i (seen i) l
     → Puts i 0 64 body seen leaves img → IsReady i (img i) l ⊎ IsLater (master (seen i)) l l' (img i)
 master-outcome i l l' body seen leaves img names r f =

@@ -34,7 +34,7 @@ past-page p bytes le = ap (page_in p)
     (body_at 1024 (twin_at p) bytes) (body_at 1024 (twin_at p + 1024 + 1) bytes))
     (shut_past (twin_at p) bytes le) (shut_past (twin_at p + 1024 + 1) bytes (omega (arith, le))))
 
-module _ (leaves : Outcomes) (logs : Logs) (seen : rig.Image) (sound : DevicesAreSound seen)
+module _ (leaves : Outcomes) (logs : Logs) (seen : rig.DeviceImages) (sound : DevicesAreSound seen)
     (only : (d : ℕ) → d ≤ 8 → LeavesOnly (seen d) (leaves d)) (read : (j : ℕ) → 1 ≤ j → j ≤ 8 → IsRead (seen j) (logs j))
     (size : length (seen 0) ≡ rig.device_len 0) where
   reads : (j : ℕ) → 1 ≤ j → j ≤ 8 → kept (seen j) ≡ Whole (logs j).groups (logs j).gate

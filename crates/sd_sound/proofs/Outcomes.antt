@@ -14,15 +14,15 @@ pub less-same : (i : ℕ) (leaves leaves' : Outcomes) → ((d : ℕ) → d ≢ i
 less-same i leaves leaves' same d ne bytes l = (same d ne bytes).0 l
 
 -- an image with one outcome of a device, and the others as they are read
-abbrev pub with_outcome : ℕ → List ℕ → rig.Image → rig.Image
+abbrev pub with_outcome : ℕ → List ℕ → rig.DeviceImages → rig.DeviceImages
 with_outcome i bytes seen d = cond (eqb d i) bytes (seen d)
 
 -- it has it there
-pub outcome-here : (i : ℕ) (bytes : List ℕ) (seen : rig.Image) → with_outcome i bytes seen i ≡ bytes
+pub outcome-here : (i : ℕ) (bytes : List ℕ) (seen : rig.DeviceImages) → with_outcome i bytes seen i ≡ bytes
 outcome-here i bytes seen = ap (λ (b : Bool). cond b bytes (seen i)) (eq-eqb i i refl)
 
 -- and may be left
-pub outcome-left : (i : ℕ) (bytes : List ℕ) (seen : rig.Image) (leaves : Outcomes) → ((d : ℕ) → d ≤ 8 → leaves d (seen d))
+pub outcome-left : (i : ℕ) (bytes : List ℕ) (seen : rig.DeviceImages) (leaves : Outcomes) → ((d : ℕ) → d ≤ 8 → leaves d (seen d))
     → leaves i bytes → rig.Leaves leaves (with_outcome i bytes seen)
 outcome-left i bytes seen leaves reads l d le = ⊎_elim
     (λ e. subst (λ (k : ℕ). leaves k (with_outcome i bytes seen k)) (sym e)

@@ -2,8 +2,8 @@
 use Rattle.std.proofs.Common.{◌≡◌, inl, inr, ⊎_elim, ℕ, ◌+◌, ◌^◌, ◌<◌, ◌≤◌, Bool, List, [], take, drop, refl, sym, ap, ◌∙◌, subst, arith}
 use Rattle.std.proofs.lemmas.Bool.{cases_eq, cases_lt}
 use Rattle.sd_base.specs.Twin.{body_at, chosen_slot, is_open, number_of, slot_of}
-use Rattle.sd_page.specs.Page.{Fits, Page}
-use Rattle.sd_page.specs.Spelling.{WellFormed, spelling}
+use Rattle.sd_page.specs.Page.{Page, PageFits}
+use Rattle.sd_page.specs.Spelling.{WellFormed, page_spelling}
 use Rattle.sd_page.proofs.Told.{told}
 use Rattle.sd_rig.specs.Devices.{AgreesOutside, LeavesOnly}
 use Rattle.sd_rig.specs.Devices as rig
@@ -59,8 +59,8 @@ twin_same p old new same s =
         (number_of (body_at 1024 (twin_at p) old)) (number_of b)) two.1
 
 -- each twin in an image that a put of page p may leave
-pub puts-twins : (p q : ℕ) (im : Page) (seen : rig.Image) (leaves : Outcomes) (img : rig.Image) → Fits im → im.number ≡ p
-    → TwinIsSound q (seen 0) → Puts 0 (twin_at p) 1024 (spelling im) seen leaves img → TwinIsSound q (img 0)
+pub puts-twins : (p q : ℕ) (im : Page) (seen : rig.DeviceImages) (leaves : Outcomes) (img : rig.DeviceImages) → PageFits im → im.number ≡ p
+    → TwinIsSound q (seen 0) → Puts 0 (twin_at p) 1024 (page_spelling im) seen leaves img → TwinIsSound q (img 0)
 puts-twins p q im seen leaves img fits number was f = ⊎_elim
     (λ e. subst (λ (k : ℕ). TwinIsSound k (img 0)) (sym e) (written (subst (λ (k : ℕ). TwinIsSound k (seen 0)) e was)))
     (λ ne. twin_same q (seen 0) (img 0) (⊎_elim
@@ -69,10 +69,10 @@ puts-twins p q im seen leaves img fits number was f = ⊎_elim
     (cases_lt q p)) was)
     (cases_eq q p)
   where
-    well : WellFormed (spelling im) p
+    well : WellFormed (page_spelling im) p
     well = record { page = im; fits = fits; is_number = number; spelled = refl }
 
-    of_slot : (gate : ℕ) → IsPageSlot p gate (seen 0) → IsFrom gate 1024 (spelling im) (seen 0) (img 0)
+    of_slot : (gate : ℕ) → IsPageSlot p gate (seen 0) → IsFrom gate 1024 (page_spelling im) (seen 0) (img 0)
         → IsPageSlot p gate (img 0)
     of_slot gate old from shown = ⊎_elim
         (λ same. subst (λ b. WellFormed b p) (sym same.1) (old same.0))
@@ -86,12 +86,12 @@ puts-twins p q im seen leaves img fits number was f = ⊎_elim
           differ = f.differ;
           first = of_slot (twin_at p) old.first f.first;
           second = of_slot (twin_at p + 1025) old.second
-              (subst (λ g. IsFrom g 1024 (spelling im) (seen 0) (img 0)) more f.second);
+              (subst (λ g. IsFrom g 1024 (page_spelling im) (seen 0) (img 0)) more f.second);
         }
 
 -- what disk image of page q an image that a put of page p may leave has
-pub puts-disk : (p q : ℕ) (im : Page) (seen : rig.Image) (leaves : Outcomes) (img : rig.Image) → Fits im → leaves 0 (seen 0)
-    → Puts 0 (twin_at p) 1024 (spelling im) seen leaves img → or_written (may_of leaves) p im q (disk_page (img 0) q)
+pub puts-disk : (p q : ℕ) (im : Page) (seen : rig.DeviceImages) (leaves : Outcomes) (img : rig.DeviceImages) → PageFits im → leaves 0 (seen 0)
+    → Puts 0 (twin_at p) 1024 (page_spelling im) seen leaves img → or_written (may_of leaves) p im q (disk_page (img 0) q)
 puts-disk p q im seen leaves img fits left f = ⊎_elim
     (λ e. subst (λ (k : ℕ). or_written (may_of leaves) p im k (disk_page (img 0) k)) (sym e)
     (⊎_elim
@@ -108,7 +108,7 @@ puts-disk p q im seen leaves img fits left f = ⊎_elim
     ))
     (cases_eq q p)
 
-module _ (leaves : Outcomes) (p : ℕ) (im : Page) (logs : Logs) (seen : rig.Image) (fits : Fits im) (number : im.number ≡ p)
+module _ (leaves : Outcomes) (p : ℕ) (im : Page) (logs : Logs) (seen : rig.DeviceImages) (fits : PageFits im) (number : im.number ≡ p)
     (below : HasLsnsAbove im logs) (left : leaves 0 (seen 0)) (s : IsSoundly leaves logs) where
   written-lsns : (may' : ℕ → Page → Type 0) → ((q : ℕ) (x : Page) → may' q x → or_written (may_of leaves) p im q x)
       → (keeps : Keeps) → LsnsFit (tails_of logs) may' keeps
@@ -123,7 +123,7 @@ module _ (leaves : Outcomes) (p : ℕ) (im : Page) (logs : Logs) (seen : rig.Ima
   -- an image that the put may leave passes all seven checks
   pub put-left : (version : Keeps → ℕ → Page) → IsSafe (tails_of logs) (or_written (may_of leaves) p im) version
       → base_at (logs 0) ≡ []
-      → (img : rig.Image) → Puts 0 (twin_at p) 1024 (spelling im) seen leaves img → DevicesAreSound img
+      → (img : rig.DeviceImages) → Puts 0 (twin_at p) 1024 (page_spelling im) seen leaves img → DevicesAreSound img
   put-left version safe none img f = ready-sound logs (or_written (may_of leaves) p im) img version safe none
       (λ j lo hi. s.ready j lo hi (img j) (f.others j hi (λ e. omega (arith, lo, e))))
       (λ q lt. puts-twins p q im seen leaves img fits number (s.twins q lt (seen 0) left) f)
@@ -132,7 +132,7 @@ module _ (leaves : Outcomes) (p : ℕ) (im : Page) (logs : Logs) (seen : rig.Ima
 
   -- After the put, Ok or failed: each outcome of the data device is one that the put may leave, and the logs' may be less.
   put-keeps_of : (leaves' : Outcomes) → LessElsewhere 0 leaves leaves'
-      → ((bytes : List ℕ) → leaves' 0 bytes → IsPut 0 (twin_at p) 1024 (spelling im) seen leaves bytes)
+      → ((bytes : List ℕ) → leaves' 0 bytes → IsPut 0 (twin_at p) 1024 (page_spelling im) seen leaves bytes)
       → IsSoundly leaves' logs
   put-keeps_of leaves' less may = record {
     ready = λ j lo hi bytes l. s.ready j lo hi bytes (less j (λ e. omega (arith, lo, e)) bytes l);

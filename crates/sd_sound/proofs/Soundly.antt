@@ -14,10 +14,10 @@ use Rattle.sd_log.specs.Logs.{LogState, forced}
 use Rattle.sd_rig.specs.Devices as rig
 use Rattle.sd_chain.specs.Bytes.{disk_page, log_of, records_of, stable}
 use Rattle.sd_chain.specs.Checks.{DevicesAreSound, Follow, GroupsAreSound, IsWhole, LsnsAreLeft, MasterIsSound, TwinIsSound, TxnsAreSound, gate_of, is_end_check, owed, owed_by_all, past_of, placed_of, reserve}
-use Rattle.sd_chain.specs.Crashes.{Leaves}
+use Rattle.sd_chain.specs.Crashes.{CrashLeaves}
 use Rattle.sd_chain.specs.Records.{Each}
 use Rattle.sd_chain.specs.Order.{Tidy}
-use Rattle.sd_chain.specs.Image.{Image, Sound}
+use Rattle.sd_chain.specs.Storage.{Sound, Storage}
 use Rattle.sd_chain.specs.Images.{Tails, Keeps, IsSafe, log}
 use Rattle.sd_chain.proofs.Left.{kept_tails, is_cut}
 use Rattle.sd_sound.specs.Logs.{Logs, Outcomes, base_at, eight, kept_logs, may_of, owed_with, tails_of}
@@ -60,12 +60,12 @@ txns-pass bytes l is tidy t =
     ∙ flat-records (flat_map (λ g. g.records) l.groups))) (tidy t)
 
 -- the LSNs of an image with these tails
-pub lsns-pass : (tails : Tails) (may : ℕ → Page → Type 0) (img : rig.Image) (l : Leaves tails may (stable img))
+pub lsns-pass : (tails : Tails) (may : ℕ → Page → Type 0) (img : rig.DeviceImages) (l : CrashLeaves tails may (stable img))
     → LsnsFit tails may (kept_tails tails may (stable img) l) → LsnsAreLeft img
 lsns-pass tails may img l fit =
     let keeps : Keeps = kept_tails tails may (stable img) l in
     let here : (j : ℕ) → log_of img j ≡ kept_logs tails keeps j =
-    λ j. ap (λ (i : Image). i.logs j) (is_cut tails may (stable img) l) in
+    λ j. ap (λ (i : Storage). i.logs j) (is_cut tails may (stable img) l) in
     let same : owed_by_all img ≡ owed_with tails keeps =
     sum-eight (λ j. owed (log_of img j)) (λ j. owed (kept_logs tails keeps j)) (λ j lo hi. ap owed (here j)) in
     record {
@@ -79,14 +79,14 @@ lsns-pass tails may img l fit =
     each keeps here zero = tt
     each keeps here (suc j) = ⊎_elim
         (λ lt. subst (Each (λ x. x.lsn + owed_with tails (kept_tails tails may (stable img) l) < 2 ^ 62))
-        (sym (ap (λ (i : Image). i.logs (suc j)) (is_cut tails may (stable img) l)))
+        (sym (ap (λ (i : Storage). i.logs (suc j)) (is_cut tails may (stable img) l)))
         (fit.logs (suc j) (omega arith) (omega (arith, lt))))
         (λ ge. subst (Each (λ x. x.lsn + owed_with tails (kept_tails tails may (stable img) l) < 2 ^ 62))
         (sym (log-past img (suc j) ge)) tt)
         (cases_lt (suc j) 9)
 
 -- all logs of an image, by the logs that are ready on it; there are none but the eight
-pub logs-ready : (logs : Logs) (img : rig.Image) → base_at (logs 0) ≡ [] → ((j : ℕ) → 9 ≤ j → log (tails_of logs) j ≡ [])
+pub logs-ready : (logs : Logs) (img : rig.DeviceImages) → base_at (logs 0) ≡ [] → ((j : ℕ) → 9 ≤ j → log (tails_of logs) j ≡ [])
     → ((j : ℕ) → 1 ≤ j → j ≤ 8 → IsReady j (img j) (logs j))
     → (j : ℕ) → (log_of img j ≡ (tails_of logs).base j) ⊎ (log_of img j ≡ (tails_of logs).base j ++ (tails_of logs).tail j)
 logs-ready logs img none eight ready zero = inl (sym none)
@@ -96,7 +96,7 @@ logs-ready logs img none eight ready (suc j) = ⊎_elim
     (λ ge. inr (log-past img (suc j) ge ∙ sym (eight (suc j) ge)))
     (cases_lt (suc j) 9)
 
-module _ (logs : Logs) (may : ℕ → Page → Type 0) (img : rig.Image) (version : Keeps → ℕ → Page)
+module _ (logs : Logs) (may : ℕ → Page → Type 0) (img : rig.DeviceImages) (version : Keeps → ℕ → Page)
     (safe : IsSafe (tails_of logs) may version) (none : base_at (logs 0) ≡ [])
     (ready : (j : ℕ) → 1 ≤ j → j ≤ 8 → IsReady j (img j) (logs j)) where
   record One (j : ℕ) : Type 0 where
@@ -125,7 +125,7 @@ module _ (logs : Logs) (may : ℕ → Page → Type 0) (img : rig.Image) (versio
   pub ready-sound : ((p : ℕ) → p < 1024 → TwinIsSound p (img 0)) → ((p : ℕ) → may p (disk_page (img 0) p))
       → ((keeps : Keeps) → LsnsFit (tails_of logs) may keeps) → DevicesAreSound img
   ready-sound twins disks lsns =
-      let l : Leaves (tails_of logs) may (stable img) =
+      let l : CrashLeaves (tails_of logs) may (stable img) =
       record { logs = logs-ready logs img none safe.eight ready; disks = disks } in
       record {
         masters = λ j lo hi. let o = one j lo hi in master-passes j (img j) o.log_is (ready j lo hi).slots o.kept_as o.sound;

@@ -24,7 +24,7 @@ use Rattle.sd_chain.specs.Undoing.{Member}
 use Rattle.sd_chain.proofs.Lists.{Each-append, Each-back, Each-weaker}
 use Rattle.sd_chain.proofs.Stacks.{stack_from-append}
 use Rattle.sd_chain.proofs.Members.{sums-agree, apart-open_in, open_in-is, is-open_in}
-use Rattle.sd_sound.specs.Logs.{Logs, Outcomes, Replaces, after_records, base_at, kept_logs, owed_with, past_at, records_at, tail_at, tails_of}
+use Rattle.sd_sound.specs.Logs.{Logs, Outcomes, ReplacesLog, after_records, base_at, kept_logs, owed_with, past_at, records_at, tail_at, tails_of}
 use Rattle.sd_sound.specs.Soundly.{HasLsns, LogIsSound, SlotsAreSound}
 use Rattle.sd_sound.specs.Starts.{IsClosed, IsLater, IsShorter}
 use Rattle.sd_sound.specs.Laws.{LaterKeeps}
@@ -47,7 +47,7 @@ slot_from gate body old new well was from shown = ⊎_elim
     (from shown)
 
 -- they are sound in each image
-pub puts-slots : (dev : ℕ) (body : List ℕ) (seen : rig.Image) (leaves : Outcomes) (img : rig.Image) → IsMaster body
+pub puts-slots : (dev : ℕ) (body : List ℕ) (seen : rig.DeviceImages) (leaves : Outcomes) (img : rig.DeviceImages) → IsMaster body
     → SlotsAreSound (seen dev)
     → Puts dev 0 64 body seen leaves img → SlotsAreSound (img dev)
 puts-slots dev body seen leaves img well s f = record {
@@ -147,7 +147,7 @@ later-epoch was bytes gone l l' short w =
     epoch-later (master was) (master bytes) (grouped gone) (records_at l') (w.epoch ∙ same)
     ∙ sym same
 
-module _ (i : ℕ) (gone : List Group) (logs logs' : Logs) (at : Replaces i (logs' i) logs logs')
+module _ (i : ℕ) (gone : List Group) (logs logs' : Logs) (at : ReplacesLog i (logs' i) logs logs')
     (one : IsShorter gone (logs i) (logs' i)) where
   shorter : (keeps : Keeps)
       → kept_logs (tails_of logs) keeps i ≡ records_of (Whole gone (logs i).gate) ++ kept_logs (tails_of logs') keeps i

@@ -1,8 +1,8 @@
 -- While a log has two start places: between calls, while another log is forced, and while a page is put. For the law
 -- `two_places`.
 use Rattle.std.proofs.Common.{◌≡◌, ◌≢◌, inl, inr, ⊎_elim, ℕ, ◌≤◌, List, [], sym, ap, ◌∙◌, subst, arith}
-use Rattle.sd_page.specs.Page.{Fits, Page}
-use Rattle.sd_page.specs.Spelling.{spelling}
+use Rattle.sd_page.specs.Page.{Page, PageFits}
+use Rattle.sd_page.specs.Spelling.{page_spelling}
 use Rattle.sd_log.specs.Logs.{LogState}
 use Rattle.sd_log.specs.Forces.{Forces}
 use Rattle.sd_rig.specs.Devices as rig
@@ -28,7 +28,7 @@ may-only i P leaves p x m = (m.0, m.1.0, m.2)
 
 -- One start place: device i of this image is left as it is with this one.
 module _ (i : ℕ) (R : Leftover) (leaves : Outcomes) (logs : Logs) (version : Keeps → ℕ → Page) (none : base_at (logs 0) ≡ [])
-    (img : rig.Image) (s : IsSoundly (only_if i R leaves) logs) (here : R (img i)) where
+    (img : rig.DeviceImages) (s : IsSoundly (only_if i R leaves) logs) (here : R (img i)) where
   others : (dev : ℕ) → LeavesOthers dev leaves img → LeavesOthers dev (only_if i R leaves) img
   others dev left d le ne = (left d le ne, λ e. subst (λ (k : ℕ). R (img k)) (sym e) here)
 
@@ -43,15 +43,15 @@ module _ (i : ℕ) (R : Leftover) (leaves : Outcomes) (logs : Logs) (version : K
   place-left safe left = between-left (only_if i R leaves) logs version img s (safely safe) none
       (λ d le. (left d le, λ e. subst (λ (k : ℕ). R (img k)) (sym e) here))
 
-  place-force : (k : ℕ) (seen : rig.Image) → 1 ≤ k → k ≤ 8 → k ≢ i → (logs k).inst ≡ k → leaves k (seen k)
+  place-force : (k : ℕ) (seen : rig.DeviceImages) → 1 ≤ k → k ≤ 8 → k ≢ i → (logs k).inst ≡ k → leaves k (seen k)
       → IsSafe (tails_of logs) (may_of leaves) version → Forces (logs k) seen leaves img → DevicesAreSound img
   place-force k seen lo hi ne inst left safe f =
       force-left (only_if i R leaves) k logs seen version img lo hi inst (left, λ e. absurd (ne e)) s (safely safe) none
       (record { others = others (logs k).inst f.others; outside = f.outside; whole = f.whole })
 
-  place-put : (p : ℕ) (page : Page) (seen : rig.Image) → 1 ≤ i → Fits page → page.number ≡ p → HasLsnsAbove page logs
+  place-put : (p : ℕ) (page : Page) (seen : rig.DeviceImages) → 1 ≤ i → PageFits page → page.number ≡ p → HasLsnsAbove page logs
       → leaves 0 (seen 0) → IsSafe (tails_of logs) (or_written (may_of leaves) p page) version
-      → Puts 0 (twin_at p) 1024 (spelling page) seen leaves img → DevicesAreSound img
+      → Puts 0 (twin_at p) 1024 (page_spelling page) seen leaves img → DevicesAreSound img
   place-put p page seen low fits number below left safe f =
       put-left (only_if i R leaves) p page logs seen fits number below (left, λ e. absurd (omega (arith, low, e))) s version
       (narrowed-safe (or_written (may_of leaves) p page) (or_written (may_of (only_if i R leaves)) p page) (or_only p page)

@@ -12,7 +12,7 @@ use Rattle.sd_chain.specs.Checks.{MayCome, Past, lsn_of, reserve}
 use Rattle.sd_chain.specs.Images.{Keeps}
 use Rattle.sd_chain.specs.Order.{MayFollow}
 use Rattle.sd_chain.specs.Records.{Each, IsOpen, ends, stack}
-use Rattle.sd_sound.specs.Logs.{HasRecord, IsSettled, Logs, Replaces, all_at, may_of, most_owed, next_lsn, past_at, tails_of, Outcomes}
+use Rattle.sd_sound.specs.Logs.{HasRecord, IsSettled, Logs, ReplacesLog, all_at, may_of, most_owed, next_lsn, past_at, tails_of, Outcomes}
 
 -- A Start has the next epoch.
 abbrev pub IsNextEpoch : Past → Record → Type 0
@@ -33,7 +33,7 @@ pub record MayBeNext (j : ℕ) (past : Past) (y : Record) : Type 0 where
 -- Log i, which is settled, has this record at its end now. Its device may be left somehow.
 pub record Appends (i : ℕ) (y : Record) (leaves : Outcomes) (old new : Logs) : Type 0 where
   pub spare : ℕ
-  pub log : Replaces i (with_record y spare (old i)) old new
+  pub log : ReplacesLog i (with_record y spare (old i)) old new
   pub settled : IsSettled i leaves old
   pub could : (bytes : List ℕ) × leaves i bytes
 

@@ -12,7 +12,7 @@ use Rattle.sd_logrec.specs.View.{Rec, flat}
 use Rattle.sd_logrec.specs.View.Kind.{Clr, Plain, Update}
 use Rattle.sd_base.specs.declared.ids.TxnId.{TxnId}
 use Rattle.sd_base.specs.Values.{size}
-use Rattle.sd_page.specs.Page.{Fits, Page}
+use Rattle.sd_page.specs.Page.{Page, PageFits}
 use Rattle.sd_page.specs.Spelling as page_spelling
 use Rattle.sd_rig.specs.Devices as rig
 use Rattle.sd_rig.specs.Devices.{AgreesOutside, LeavesOnly}
@@ -24,7 +24,7 @@ use Rattle.sd_chain.specs.Checks.{DevicesAreSound, IsOwn, MayCome, Past, lsn_of,
 use Rattle.sd_chain.specs.Images.{Allowed, IsSafe, Keeps, Settled, all_kept, log, or_written}
 use Rattle.sd_chain.specs.Order.{speaks}
 use Rattle.sd_chain.specs.Records.{IsOpen, ends, stack}
-use Rattle.sd_sound.specs.Logs.{HasNone, HasRecord, IsBlank, IsSettled, Less, LessElsewhere, Logs, Outcomes, Replaces, all_at, base_at, is_start, may_of, new_log, next_lsn, owed_with, past_at, tails_of}
+use Rattle.sd_sound.specs.Logs.{HasNone, HasRecord, IsBlank, IsSettled, Less, LessElsewhere, Logs, Outcomes, ReplacesLog, all_at, base_at, is_start, may_of, new_log, next_lsn, owed_with, past_at, tails_of}
 use Rattle.sd_sound.specs.Soundly.{IsReady, IsSoundly, LogIsSound, LsnsFit}
 use Rattle.sd_sound.specs.Appends.{Appends, IsEnd, IsNewestAt, IsNextEpoch, IsTested, IsUndo}
 use Rattle.sd_sound.specs.Starts.{IsLater, IsShorter, IsSoundlyTwice, NamesLater}
@@ -33,7 +33,7 @@ use Rattle.sd_sound.specs.Starts.{IsLater, IsShorter, IsSoundlyTwice, NamesLater
 
 -- Each image that may be left passes the seven checks.
 abbrev pub LeftIsSound : Outcomes → Type 0
-LeftIsSound leaves = (logs : Logs) (version : Keeps → ℕ → Page) (img : rig.Image) → IsSoundly leaves logs
+LeftIsSound leaves = (logs : Logs) (version : Keeps → ℕ → Page) (img : rig.DeviceImages) → IsSoundly leaves logs
     → IsSafe (tails_of logs) (may_of leaves) version → base_at (logs 0) ≡ [] → rig.Leaves leaves img → DevicesAreSound img
 
 -- ---- appends
@@ -140,14 +140,14 @@ LaterKeepsEpoch = (was bytes : List ℕ) (gone : List Group) (l l' : LogState) �
 
 -- Each image that it may leave passes the seven checks.
 abbrev pub ForceLeavesSound : Outcomes → Type 0
-ForceLeavesSound leaves = (i : ℕ) (logs : Logs) (seen : rig.Image) (version : Keeps → ℕ → Page) (img : rig.Image)
+ForceLeavesSound leaves = (i : ℕ) (logs : Logs) (seen : rig.DeviceImages) (version : Keeps → ℕ → Page) (img : rig.DeviceImages)
     → 1 ≤ i → i ≤ 8 → (logs i).inst ≡ i → leaves i (seen i) → IsSoundly leaves logs → IsSafe (tails_of logs) (may_of leaves) version
     → base_at (logs 0) ≡ [] → Forces (logs i) seen leaves img → DevicesAreSound img
 
 -- After one that is Ok, the log has its tail in its groups.
 abbrev pub ForcedKeeps : Outcomes → Outcomes → Type 0
 ForcedKeeps leaves leaves' = (i : ℕ) (old new : Logs) (was bytes : List ℕ) → leaves i was → IsSoundly leaves old
-    → LessElsewhere i leaves leaves' → Replaces i (forced (old i)) old new
+    → LessElsewhere i leaves leaves' → ReplacesLog i (forced (old i)) old new
     → AgreesOutside (forced_at (old i)) (forced_len (old i)) was bytes → StandsOn (forced (old i)) bytes
     → LeavesOnly bytes (leaves' i) → IsSoundly leaves' new
 
@@ -163,8 +163,8 @@ FailedForceKeeps leaves leaves' = (i : ℕ) (logs : Logs) (was : List ℕ) → 1
 
 -- So it is where each image that may be left now is one that the force may leave.
 abbrev pub FailedForceLeaves : Outcomes → Outcomes → Type 0
-FailedForceLeaves leaves leaves' = (i : ℕ) (l : LogState) (seen seen' : rig.Image) → l.inst ≡ i → rig.Leaves leaves' seen'
-    → ((img : rig.Image) → rig.Leaves leaves' img → Forces l seen leaves img) → (bytes : List ℕ) → leaves' i bytes
+FailedForceLeaves leaves leaves' = (i : ℕ) (l : LogState) (seen seen' : rig.DeviceImages) → l.inst ≡ i → rig.Leaves leaves' seen'
+    → ((img : rig.DeviceImages) → rig.Leaves leaves' img → Forces l seen leaves img) → (bytes : List ℕ) → leaves' i bytes
     → MayForce l (seen i) bytes
 
 -- ---- a tail that is dropped, and a log that is settled
@@ -172,13 +172,13 @@ FailedForceLeaves leaves leaves' = (i : ℕ) (l : LogState) (seen seen' : rig.Im
 -- The log is settled, so its tail is on no device.
 abbrev pub DroppedKeeps : Outcomes → Type 0
 DroppedKeeps leaves = (i : ℕ) (old new : Logs) → IsSoundly leaves old → IsSettled i leaves old
-    → Replaces i (without_tail (old i)) old new → IsSoundly leaves new
+    → ReplacesLog i (without_tail (old i)) old new → IsSoundly leaves new
 
 -- A device is synced that reads as these bytes, which it might be left as, and its log is read from it again. It has its tail
 -- or not.
 abbrev pub SettledKeeps : Outcomes → Outcomes → Type 0
 SettledKeeps leaves leaves' = (i : ℕ) (old new : Logs) (bytes : List ℕ) → IsSoundly leaves old
-    → LessElsewhere i leaves leaves' → leaves i bytes → LeavesOnly bytes (leaves' i) → Replaces i (new i) old new
+    → LessElsewhere i leaves leaves' → leaves i bytes → LeavesOnly bytes (leaves' i) → ReplacesLog i (new i) old new
     → StandsOn (new i) bytes → (new i).start ≡ (old i).start → (new i).tail ≡ []
     → IsSoundly leaves' new × ((kept : Bool) × Settled i kept (tails_of old) (tails_of new))
 
@@ -200,26 +200,26 @@ NewestHasLsns leaves = (logs : Logs) (version : Keeps → ℕ → Page) (disk : 
 
 -- Each image that a put may leave passes the seven checks.
 abbrev pub PutLeavesSound : Outcomes → Type 0
-PutLeavesSound leaves = (p : ℕ) (page : Page) (logs : Logs) (seen : rig.Image) → Fits page → page.number ≡ p
+PutLeavesSound leaves = (p : ℕ) (page : Page) (logs : Logs) (seen : rig.DeviceImages) → PageFits page → page.number ≡ p
     → HasLsnsAbove page logs → leaves 0 (seen 0) → IsSoundly leaves logs → (version : Keeps → ℕ → Page)
-    → IsSafe (tails_of logs) (or_written (may_of leaves) p page) version → base_at (logs 0) ≡ [] → (img : rig.Image)
-    → Puts 0 (twin_at p) 1024 (page_spelling.spelling page) seen leaves img → DevicesAreSound img
+    → IsSafe (tails_of logs) (or_written (may_of leaves) p page) version → base_at (logs 0) ≡ [] → (img : rig.DeviceImages)
+    → Puts 0 (twin_at p) 1024 (page_spelling.page_spelling page) seen leaves img → DevicesAreSound img
 
 -- These bytes of a device are those of an image that a put may leave.
-abbrev pub IsPut : ℕ → ℕ → ℕ → List ℕ → rig.Image → Outcomes → List ℕ → Type 0
-IsPut dev at n body seen leaves bytes = (img : rig.Image) × (img dev ≡ bytes) × Puts dev at n body seen leaves img
+abbrev pub IsPut : ℕ → ℕ → ℕ → List ℕ → rig.DeviceImages → Outcomes → List ℕ → Type 0
+IsPut dev at n body seen leaves bytes = (img : rig.DeviceImages) × (img dev ≡ bytes) × Puts dev at n body seen leaves img
 
 -- After a put, Ok or failed, the twin is the old one or the new one.
 abbrev pub PutKeeps : Outcomes → Outcomes → Type 0
-PutKeeps leaves leaves' = (p : ℕ) (page : Page) (logs : Logs) (seen : rig.Image) → Fits page → page.number ≡ p
+PutKeeps leaves leaves' = (p : ℕ) (page : Page) (logs : Logs) (seen : rig.DeviceImages) → PageFits page → page.number ≡ p
     → HasLsnsAbove page logs → leaves 0 (seen 0) → IsSoundly leaves logs → LessElsewhere 0 leaves leaves'
-    → ((bytes : List ℕ) → leaves' 0 bytes → IsPut 0 (twin_at p) 1024 (page_spelling.spelling page) seen leaves bytes)
+    → ((bytes : List ℕ) → leaves' 0 bytes → IsPut 0 (twin_at p) 1024 (page_spelling.page_spelling page) seen leaves bytes)
     → IsSoundly leaves' logs
 
 -- So it is where each image that may be left now is one that the put may leave, of a page or of a master.
 abbrev pub PutLeaves : Outcomes → Outcomes → Type 0
-PutLeaves leaves leaves' = (dev at n : ℕ) (body : List ℕ) (seen seen' : rig.Image) → rig.Leaves leaves' seen'
-    → ((img : rig.Image) → rig.Leaves leaves' img → Puts dev at n body seen leaves img)
+PutLeaves leaves leaves' = (dev at n : ℕ) (body : List ℕ) (seen seen' : rig.DeviceImages) → rig.Leaves leaves' seen'
+    → ((img : rig.DeviceImages) → rig.Leaves leaves' img → Puts dev at n body seen leaves img)
     → (bytes : List ℕ) → leaves' dev bytes → IsPut dev at n body seen leaves bytes
 
 -- ---- beginnings
@@ -241,7 +241,7 @@ pub record IsRead (bytes : List ℕ) (l : LogState) : Type 0 where
 
 -- Sound devices are, that were read and synced.
 abbrev pub OpenedIsSound : Outcomes → Type 0
-OpenedIsSound leaves = (logs : Logs) (seen : rig.Image) → DevicesAreSound seen
+OpenedIsSound leaves = (logs : Logs) (seen : rig.DeviceImages) → DevicesAreSound seen
     → ((d : ℕ) → d ≤ 8 → LeavesOnly (seen d) (leaves d))
     → ((j : ℕ) → 1 ≤ j → j ≤ 8 → IsRead (seen j) (logs j)) → length (seen 0) ≡ rig.device_len 0 → IsSoundly leaves logs
 
@@ -250,7 +250,7 @@ OpenedIsSound leaves = (logs : Logs) (seen : rig.Image) → DevicesAreSound seen
 -- A put of the master is Ok, and the groups before the new place are forgotten.
 abbrev pub LaterKeeps : Outcomes → Outcomes → Type 0
 LaterKeeps leaves leaves' = (i : ℕ) (gone : List Group) (old new : Logs) (was : List ℕ) → leaves i was
-    → IsSoundly leaves old → LessElsewhere i leaves leaves' → Replaces i (new i) old new → IsShorter gone (old i) (new i)
+    → IsSoundly leaves old → LessElsewhere i leaves leaves' → ReplacesLog i (new i) old new → IsShorter gone (old i) (new i)
     → ((bytes : List ℕ) → leaves' i bytes → IsLater (master was) (old i) (new i) bytes) → IsSoundly leaves' new
 
 -- Two states of the logs are safe, each with its newest versions.
@@ -264,15 +264,15 @@ pub record AreSafe (may : ℕ → Page → Type 0) (one other : Logs) : Type 0 w
 
 -- While the master is put, each image has the one place or the other.
 abbrev pub MasterPutLeavesSound : Outcomes → Type 0
-MasterPutLeavesSound leaves = (i : ℕ) (gone : List Group) (body : List ℕ) (old new : Logs) (seen img : rig.Image)
-    → leaves i (seen i) → IsSoundly leaves old → Replaces i (new i) old new → IsShorter gone (old i) (new i)
+MasterPutLeavesSound leaves = (i : ℕ) (gone : List Group) (body : List ℕ) (old new : Logs) (seen img : rig.DeviceImages)
+    → leaves i (seen i) → IsSoundly leaves old → ReplacesLog i (new i) old new → IsShorter gone (old i) (new i)
     → NamesLater (seen i) (old i) (new i) body → AreSafe (may_of leaves) old new → Puts i 0 64 body seen leaves img
     → DevicesAreSound img
 
 -- After the put, whatever it answered, there are two start places.
 abbrev pub MasterPutKeeps : Outcomes → Outcomes → Type 0
-MasterPutKeeps leaves leaves' = (i : ℕ) (gone : List Group) (body : List ℕ) (old new : Logs) (seen : rig.Image)
-    → leaves i (seen i) → IsSoundly leaves old → LessElsewhere i leaves leaves' → Replaces i (new i) old new
+MasterPutKeeps leaves leaves' = (i : ℕ) (gone : List Group) (body : List ℕ) (old new : Logs) (seen : rig.DeviceImages)
+    → leaves i (seen i) → IsSoundly leaves old → LessElsewhere i leaves leaves' → ReplacesLog i (new i) old new
     → IsShorter gone (old i) (new i) → NamesLater (seen i) (old i) (new i) body
     → ((bytes : List ℕ) → leaves' i bytes → IsPut i 0 64 body seen leaves bytes)
     → IsSoundlyTwice i (λ bytes. IsReady i bytes (old i))
@@ -286,19 +286,19 @@ Leftover = List ℕ → Type 0
 
 -- Between calls each image that may be left passes the seven checks.
 abbrev pub TwiceLeftIsSound : Outcomes → Leftover → Leftover → Type 0
-TwiceLeftIsSound leaves P Q = (i : ℕ) (one other : Logs) (img : rig.Image) → i ≤ 8 → IsSoundlyTwice i P Q leaves one other
+TwiceLeftIsSound leaves P Q = (i : ℕ) (one other : Logs) (img : rig.DeviceImages) → i ≤ 8 → IsSoundlyTwice i P Q leaves one other
     → AreSafe (may_of leaves) one other → rig.Leaves leaves img → DevicesAreSound img
 
 -- So does each one that the force of another log may leave.
 abbrev pub TwiceForceLeavesSound : Outcomes → Leftover → Leftover → Type 0
-TwiceForceLeavesSound leaves P Q = (i k : ℕ) (one other : Logs) (seen img : rig.Image) → 1 ≤ i → i ≤ 8
+TwiceForceLeavesSound leaves P Q = (i k : ℕ) (one other : Logs) (seen img : rig.DeviceImages) → 1 ≤ i → i ≤ 8
     → IsSoundlyTwice i P Q leaves one other → AreSafe (may_of leaves) one other → 1 ≤ k → k ≤ 8 → k ≢ i → (one k).inst ≡ k
     → other k ≡ one k → leaves k (seen k) → Forces (one k) seen leaves img → DevicesAreSound img
 
 -- And so does each one that the put of a page may leave.
 abbrev pub TwicePutLeavesSound : Outcomes → Leftover → Leftover → Type 0
-TwicePutLeavesSound leaves P Q = (i p : ℕ) (page : Page) (one other : Logs) (seen img : rig.Image) → 1 ≤ i → i ≤ 8
-    → IsSoundlyTwice i P Q leaves one other → AreSafe (or_written (may_of leaves) p page) one other → Fits page
+TwicePutLeavesSound leaves P Q = (i p : ℕ) (page : Page) (one other : Logs) (seen img : rig.DeviceImages) → 1 ≤ i → i ≤ 8
+    → IsSoundlyTwice i P Q leaves one other → AreSafe (or_written (may_of leaves) p page) one other → PageFits page
     → page.number ≡ p
     → HasLsnsAbove page one → HasLsnsAbove page other → leaves 0 (seen 0)
-    → Puts 0 (twin_at p) 1024 (page_spelling.spelling page) seen leaves img → DevicesAreSound img
+    → Puts 0 (twin_at p) 1024 (page_spelling.page_spelling page) seen leaves img → DevicesAreSound img

@@ -69,7 +69,7 @@ abbrev pub new_log : ℕ → ℕ → LogState
 new_log i spare = record { inst = i; start = 0; gate = 0; groups = []; tail = []; spare = spare }
 
 -- log i is this one now, and the others are as they were
-pub record Replaces (i : ℕ) (log : LogState) (old new : Logs) : Type 0 where
+pub record ReplacesLog (i : ℕ) (log : LogState) (old new : Logs) : Type 0 where
   pub low : 1 ≤ i
   pub high : i ≤ 8
   pub here : new i ≡ log

@@ -8,7 +8,7 @@ use Rattle.std.specs.Box.{box_value}
 use Rattle.std.specs.Global.{Box}
 use Rattle.std.specs.Prelude.{None, option_map}
 use Rattle.sd_page.specs.Page.{Page}
-use Rattle.sd_pagelock.specs.Directory.{DirectoryState, image_at}
+use Rattle.sd_pagelock.specs.Directory.{DirectoryState, moving_image_at}
 use Rattle.sd_log.specs.Logs.{LogState}
 use Rattle.sd_txn.specs.Transactions.{Transactions}
 use Rattle.sd_state.specs.Complexes.{unboxed}
@@ -96,10 +96,10 @@ pub not-ok : {A B : Type 0} (x : A) (y : B) → bad y ≡ Ok x → ⊥
 not-ok x y e = absurd (cc)
 
 -- no image on its way, none in a box
-pub none-unboxed : (d : DirectoryState (Box Page)) (p : ℕ) → image_at d p ≡ None → image_at (unboxed d) p ≡ None
+pub none-unboxed : (d : DirectoryState (Box Page)) (p : ℕ) → moving_image_at d p ≡ None → moving_image_at (unboxed d) p ≡ None
 none-unboxed d p none = get_or-map (option_map box_value) d.images p None ∙ ap (option_map box_value) none
 
-pub still-unboxed : {E : Type 0} (r : Result (DirectoryState (Box Page)) E) → IfOk r (λ d. (p : ℕ) → image_at d p ≡ None)
-    → IfOk r (λ d. (p : ℕ) → image_at (unboxed d) p ≡ None)
+pub still-unboxed : {E : Type 0} (r : Result (DirectoryState (Box Page)) E) → IfOk r (λ d. (p : ℕ) → moving_image_at d p ≡ None)
+    → IfOk r (λ d. (p : ℕ) → moving_image_at (unboxed d) p ≡ None)
 still-unboxed (Ok d) still = λ p. none-unboxed d p (still p)
 still-unboxed (Err e) still = tt

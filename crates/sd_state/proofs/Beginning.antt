@@ -16,9 +16,9 @@ use Rattle.sd_model.specs.declared.act.Claim.{Claim}
 use Rattle.sd_model.proofs.Opened.{fresh-opened, opened-placed, opened-listed, opened-marked}
 use Rattle.sd_model.proofs.Recoverers.{opened-recoverers}
 use Rattle.sd_model.proofs.Serial.{fresh-opening, opening_run-kept}
-use Rattle.sd_pagelock.specs.Asks.{is_open}
+use Rattle.sd_pagelock.specs.Asks.{is_open_ask}
 use Rattle.sd_pagelock.specs.Directory.{entry_at, rec_lsn_at}
-use Rattle.sd_pagelock.specs.Places.{Entry, changed, holds, passes, uses}
+use Rattle.sd_pagelock.specs.Places.{PageEntry, changed, holds, passes, uses}
 use Rattle.sd_pool.specs.Buffers.{Buffers}
 use Rattle.sd_pool.specs.Buffers as buffers
 use Rattle.sd_reclock.specs.Locks.{Held, held_in}
@@ -29,7 +29,7 @@ use Rattle.sd_chain.specs.Bytes.{disk_page, page_in, twin_at}
 use Rattle.sd_chain.specs.Checks.{owed, reserve}
 use Rattle.sd_chain.specs.Cuts.{cut}
 use Rattle.sd_chain.specs.Fates.{Fate, fate}
-use Rattle.sd_chain.specs.Image.{Image, Recovered, Sound, all_of, chain, newest}
+use Rattle.sd_chain.specs.Storage.{Recovered, Sound, Storage, all_of, chain, newest}
 use Rattle.sd_chain.specs.Images.{Gives, IsSafe, Keeps, Tails, all_kept, with_disk}
 use Rattle.sd_chain.specs.Order.{Tidy}
 use Rattle.sd_chain.specs.Pages.{value}
@@ -50,7 +50,7 @@ use Rattle.sd_state.proofs.Items.{at-any, at-each}
 
 -- ---- an image of nothing
 
-abbrev nothing : Image
+abbrev nothing : Storage
 nothing = record { logs = λ j. []; disk = empty_page }
 
 newest-none : (p : ℕ) → newest nothing p ≡ empty_page p
@@ -77,7 +77,7 @@ gives-none p s = inr (λ t o. refl, ap (λ (x : Page). value x.slots s) (sym (ne
 not-open : (t : TxnId) (log : List Rec) → log ≡ [] → fate t log ≡ Fate.Open → ⊥
 not-open t log none is = let e = ap (fate t) (sym none) ∙ is in absurd (cc)
 
-module _ (seen : rig.Image) (leaves : Outcomes) (frames : ℕ) (c : Parts) (devices : AreBlank seen leaves) (f : IsFresh frames c) where
+module _ (seen : rig.DeviceImages) (leaves : Outcomes) (frames : ℕ) (c : Parts) (devices : AreBlank seen leaves) (f : IsFresh frames c) where
   -- ---- parts
 
   pub log-is : (j : ℕ) → 1 ≤ j → j ≤ 8 → log_at c j ≡ new_log j 0
@@ -201,10 +201,10 @@ module _ (seen : rig.Image) (leaves : Outcomes) (frames : ℕ) (c : Parts) (devi
     now-empty keeps p = named.same keeps p ∙ newest-none p
 
     unheld : (i p : ℕ) (x : Page) → None ≡ cond (holds (entry_at c.directory p) i) (Some x) None
-    unheld i p x = sym (ap (λ (e : Entry). cond (holds e i) (Some x) None) (f.free p))
+    unheld i p x = sym (ap (λ (e : PageEntry). cond (holds e i) (Some x) None) (f.free p))
 
     unmoved : (p : ℕ) (x : Page) → None ≡ cond (passes (entry_at c.directory p)) (Some x) None
-    unmoved p x = sym (ap (λ (e : Entry). cond (passes e) (Some x) None) (f.free p))
+    unmoved p x = sym (ap (λ (e : PageEntry). cond (passes e) (Some x) None) (f.free p))
 
     no-rec : (p l : ℕ) → rec_lsn_at c.directory p ≡ Some l → ⊥
     no-rec p l is = let e = sym (f.clean p) ∙ is in absurd (cc)
@@ -217,7 +217,7 @@ module _ (seen : rig.Image) (leaves : Outcomes) (frames : ℕ) (c : Parts) (devi
       still = λ e p x m. only-empty p x m ∙ sym (page-none (seen 0) (devices.blank 0 (omega arith)) p);
       copies = λ i p. no-copy i p ∙ unheld i p (version_of (tails_of logs) (disk_page (seen 0)) all_kept p);
       moving = λ p. f.still p ∙ unmoved p (version_of (tails_of logs) (disk_page (seen 0)) all_kept p);
-      live = λ i p u. let e = sym (ap (λ (e : Entry). uses e i) (f.free p)) ∙ u in absurd (cc);
+      live = λ i p u. let e = sym (ap (λ (e : PageEntry). uses e i) (f.free p)) ∙ u in absurd (cc);
       unforced = λ j p. inl (subst (Quiet p) (sym (tails j)) tt);
       ready = λ i low up. inl (settled-up i low up);
       marks = λ p. ap is_some (f.clean p) ∙ sym (ap changed (f.free p));
@@ -350,6 +350,6 @@ module _ (seen : rig.Image) (leaves : Outcomes) (frames : ℕ) (c : Parts) (devi
     pending = tt;
     gone = λ t e r. refl;
     locks = λ t r. subst (λ (held : Held). held_in held t r ≡ None) (sym f.unlocked) refl;
-    asks = λ p. subst (Each (λ ask. (is_active c ask.by ≡ true) × (is_open (entry_at c.directory p) ask ≡ true))) (sym (f.unasked p)) tt;
+    asks = λ p. subst (Each (λ ask. (is_active c ask.by ≡ true) × (is_open_ask (entry_at c.directory p) ask ≡ true))) (sym (f.unasked p)) tt;
     checking = λ i k is. let e = sym (no-check i) ∙ is in absurd (cc);
   }

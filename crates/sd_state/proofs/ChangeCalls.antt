@@ -11,8 +11,8 @@ use Rattle.sd_base.specs.declared.refusal.Refusal.TheVariants as refusals
 use Rattle.sd_base.specs.declared.place.Mode.TheVariants as modes
 use Rattle.sd_page.specs.declared.op.Op.{Op}
 use Rattle.sd_reclock.specs.Locks.{Agree, Held, held_in}
-use Rattle.sd_pagelock.specs.Asks.{is_open, open_asks}
-use Rattle.sd_pagelock.specs.Places.{Entry}
+use Rattle.sd_pagelock.specs.Asks.{is_open_ask, open_asks}
+use Rattle.sd_pagelock.specs.Places.{PageEntry}
 use Rattle.sd_pagelock.specs.declared.queue.Ask.{Ask}
 use Rattle.sd_txn.specs.Owing.{bytes_owed, owed_of, records_owed, undo_len}
 use Rattle.sd_txn.specs.declared.state.TxnState.{TxnState}
@@ -25,7 +25,7 @@ use Rattle.sd_base.specs.Ids.{same_txn}
 use Rattle.sd_base.specs.Values.{size}
 use Rattle.sd_base.specs.declared.ids.TxnId.{TxnId}
 use Rattle.sd_base.proofs.SameIds.{cases_txn}
-use Rattle.sd_page.specs.Page.{Fits, Page, Slot, SlotFits, applied, written}
+use Rattle.sd_page.specs.Page.{Page, PageFits, Slot, SlotFits, applied, written}
 use Rattle.sd_txn.specs.Marked.{AreMarks}
 use Rattle.sd_txn.specs.Transactions.{OthersStay, SameOrder, Transaction, Transactions, depth, ids, popped, pushed, txn_at}
 use Rattle.sd_txn.specs.declared.state.OpenRec.{OpenRec}
@@ -57,7 +57,7 @@ small-in [] s a = omega arith
 small-in (x ∷ xs) zero a = let c = a.0.capacity in let v = a.0.value in omega (arith, c, v)
 small-in (x ∷ xs) (suc s) a = small-in xs s a.1
 
-pub value-small : (image : Page) (s : ℕ) → Fits image → size (value image.slots s) ≤ 256
+pub value-small : (image : Page) (s : ℕ) → PageFits image → size (value image.slots s) ≤ 256
 value-small image s fits = small-in image.slots s fits.slots
 
 -- an item of an instance stands at its place
@@ -192,11 +192,11 @@ owed-below t c =
 -- ---- the asks for a page
 
 -- those that are open where it is stay
-pub all-open : (place : Entry) (P : Ask → Type 0) (asks : List Ask) → Each (λ ask. P ask × (is_open place ask ≡ true)) asks
+pub all-open : (place : PageEntry) (P : Ask → Type 0) (asks : List Ask) → Each (λ ask. P ask × (is_open_ask place ask ≡ true)) asks
     → open_asks place asks ≡ asks
 all-open place P [] each = refl
 all-open place P (ask ∷ asks) each =
-    filter-cons (is_open place) ask asks each.0.1 ∙ ap (λ (xs : List Ask). ask ∷ xs) (all-open place P asks each.1)
+    filter-cons (is_open_ask place) ask asks each.0.1 ∙ ap (λ (xs : List Ask). ask ∷ xs) (all-open place P asks each.1)
 
 -- ---- the image with a change
 

@@ -20,7 +20,7 @@ use Rattle.sd_state.specs.Parts.{Parts, log_at, pool_at}
 use Rattle.sd_state.specs.Values.{Pending}
 use Rattle.sd_state.proofs.ChangedLists.{each-by, each-front, reached}
 
-module _ (seen : rig.Image) (leaves : Outcomes) (pend : Pending) (c : Parts) (m : State) (g : Good seen leaves pend c m)
+module _ (seen : rig.DeviceImages) (leaves : Outcomes) (pend : Pending) (c : Parts) (m : State) (g : Good seen leaves pend c m)
     (moved : Keeps) (great : ℕ) (disk : c.disk_lsn ≤ great)
     (logs : (j : ℕ) → 1 ≤ j → j ≤ 8 → Each (λ x. x.lsn ≤ great) (all_at (log_at c j))) where
   abbrev left : Outcomes

@@ -53,7 +53,7 @@ pub record Asks (t : TxnId) (r : Rid) (capacity : ℕ) (after : Content) (c : Pa
   pub owned : owns (entry_at c.directory r.page) (home t) ≡ true
   pub fits : FitsThere t r capacity after c
 
-module _ (t : TxnId) (r : Rid) (capacity : ℕ) (after : Content) (seen : rig.Image) (leaves : Outcomes) (c : Parts) (m : State)
+module _ (t : TxnId) (r : Rid) (capacity : ℕ) (after : Content) (seen : rig.DeviceImages) (leaves : Outcomes) (c : Parts) (m : State)
     (g : Good seen leaves Pending.Idle c m) (a : Asks t r capacity after c) where
   abbrev k : Change
   k = change_of t r capacity after c

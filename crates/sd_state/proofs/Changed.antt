@@ -25,7 +25,7 @@ use Rattle.sd_model.specs.declared.act.Life.{Life}
 use Rattle.sd_model.specs.Kept.{Kept}
 use Rattle.sd_model.specs.Listed.{Listed}
 use Rattle.sd_model.specs.Marks.{Marked}
-use Rattle.sd_model.specs.Placed.{IsDoubt}
+use Rattle.sd_model.specs.Lives.{IsDoubt}
 use Rattle.sd_model.specs.Claims.{Holds, Owns}
 use Rattle.sd_model.specs.Listed as listed
 use Rattle.sd_model.proofs.Acts.{live_from-append}
@@ -44,7 +44,7 @@ use Rattle.sd_chain.specs.Bytes.{disk_page}
 use Rattle.sd_chain.specs.Checks.{owed, reserve}
 use Rattle.sd_chain.specs.Cuts.{cut}
 use Rattle.sd_chain.specs.Fates.{commits, fate}
-use Rattle.sd_chain.specs.Image.{Recovered}
+use Rattle.sd_chain.specs.Storage.{Recovered}
 use Rattle.sd_chain.specs.Images.{Gives, Grows, Keeps, MayChange, with_disk}
 use Rattle.sd_chain.specs.Laws as chain_laws
 use Rattle.sd_chain.specs.Order.{MayFollow, of_txn}
@@ -56,7 +56,7 @@ use Rattle.sd_chain.proofs.Whose.{other_of, stack-none}
 use Rattle.sd_coherent.specs.Changes.{Changes}
 use Rattle.sd_coherent.specs.Checkpoints.{Closed, Covered}
 use Rattle.sd_coherent.specs.Named.{IsRedone}
-use Rattle.sd_coherent.specs.World.{Base, now}
+use Rattle.sd_coherent.specs.World.{Base, newest_version}
 use Rattle.sd_coherent.proofs.Changes as changes
 use Rattle.sd_coherent.proofs.Checkpoints.{cover-grows, cover-stays}
 use Rattle.sd_coherent.proofs.Closed.{close-grows, close-stays}
@@ -68,7 +68,7 @@ use Rattle.sd_sound.proofs.Appends.{appended-log}
 use Rattle.sd_sound.proofs.Next.{epoch-others}
 use Rattle.sd_sound.proofs.Reserved.{tested-keeps}
 use Rattle.sd_state.specs.Changing.{Change, ChangeKeepsGood, HasRoom, IsChanged, MayAppend, MayWrite, changed_log, changed_row, flat_of, putting, update, with_changed}
-use Rattle.sd_state.specs.Good.{Good, Half, IsAtWork, IsChecking, IsInstance, IsOfBegun, IsSettledAt, IsTold, OwesAtMost, base_of, dir_of}
+use Rattle.sd_state.specs.Good.{Good, Half, IsChecking, IsInstance, IsOfBegun, IsSettledAt, IsTold, OwesAtMost, RowsAreLive, base_of, dir_of}
 use Rattle.sd_state.specs.Images.{IsClaimed, IsEpochOf, IsOpenIn, begun_at, leaves_by, log_by}
 use Rattle.sd_state.specs.Parts.{Begun, Parts, check_at, is_active, is_loose, log_at, no_log, no_pool, no_txns, other_at, owed_at, pool_at, status_at, txns_at, up_as}
 use Rattle.sd_state.specs.Sums.{owed_in_all, owes_most}
@@ -86,7 +86,7 @@ use Rattle.sd_state.proofs.Standing.{no-place, one-place, bases-by, known-still,
 -- ---- what a crash may leave, with logs that begin somewhere: outcomes and logs stand for any that have the record
 
 module _ (i : ℕ) (k : Change) (x : Transaction) (image : Page) (spare great : ℕ) (table : Transactions) (pool : Buffers)
-    (places : DirectoryState Page) (seen : rig.Image) (leaves : Outcomes) (c : Parts) (m : State)
+    (places : DirectoryState Page) (seen : rig.DeviceImages) (leaves : Outcomes) (c : Parts) (m : State)
     (g : Good seen leaves Pending.Idle c m) (w : MayWrite i k x image c) (a : MayAppend i k x image c)
     (ch : IsChanged i k x image table pool places c)
     (room : HasRoom i k spare great table (with_changed i (changed_log i k spare c) table pool places c) c) where
@@ -271,7 +271,7 @@ module _ (i : ℕ) (k : Change) (x : Transaction) (image : Page) (spare great : 
     free u ne o = none-there (m.part u).claims k.rid (stack u (all_at (old_logs (home u)))) (alone u (λ e. ne (sym e)))
         (h.held u o)
 
-    can : MayChange i (tails_of old_logs) (now old_base) y
+    can : MayChange i (tails_of old_logs) (newest_version old_base) y
     can = changes.change-may_come (may_of left) i i image y old_base (dir_of c) h.coherent w.owns (inl
         (refl, settled, w.idle)) w.copy refl
         follows-there rises w.fits free
@@ -695,7 +695,7 @@ module _ (i : ℕ) (k : Change) (x : Transaction) (image : Page) (spare great : 
       (live-other (txn_at (txns_at c i) u) u (m.part u) (all_at (log_at c i)) (all_at (log_at c i) ++ y ∷ []) (stack-else u ne)
       (old u own (λ e. absurd (cc)))))) (cases_txn u k.txn)
 
-  work-there : (q : ℕ) → 1 ≤ q → q ≤ 8 → status_at c q ≡ S.Up → IsAtWork Pending.Idle new m' q
+  work-there : (q : ℕ) → 1 ≤ q → q ≤ 8 → status_at c q ≡ S.Up → RowsAreLive Pending.Idle new m' q
   work-there q lo hi up u own free = ⊎_elim
       (λ same. subst (λ (n : ℕ). RowIsLive (txn_at (txns_at new n) u) u (m'.part u) (all_at (log_at new n))) (sym same)
       (subst (λ (z : Transactions). RowIsLive (txn_at z u) u (m'.part u) (all_at (log_at new i))) (sym table-here)

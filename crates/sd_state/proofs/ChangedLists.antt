@@ -5,10 +5,10 @@ use Rattle.sd_chain.specs.Images.{Grows, Tails}
 use Rattle.sd_chain.specs.Records.{at}
 use Rattle.sd_model.specs.Claims.{Claims}
 use Rattle.sd_page.specs.Page.{Page}
-use Rattle.sd_pagelock.specs.Asks.{is_open, open_asks}
+use Rattle.sd_pagelock.specs.Asks.{is_open_ask, open_asks}
 use Rattle.sd_pagelock.specs.declared.queue.Ask.{Ask}
 use Rattle.sd_pagelock.specs.Directory.{DirectoryState, asks_at, entry_at}
-use Rattle.sd_pagelock.specs.Places.{Entry}
+use Rattle.sd_pagelock.specs.Places.{PageEntry}
 use Rattle.sd_pagelock.specs.Rows.{dirtied}
 use Rattle.sd_sound.specs.Logs.{kept_logs}
 use Rattle.sd_state.specs.Values.{rid_of}
@@ -266,16 +266,16 @@ kept-either i y old new g keeps j = ⊎_elim
 pub asks-left : (i p : ℕ) (old new : DirectoryState Page) (active : ℕ → Bool) → entry_at new p ≡ dirtied i
     → asks_at new p ≡ open_asks (dirtied i) (asks_at old p) → ((q : ℕ) → q ≢ p → entry_at new q ≡ entry_at old q)
     → ((q : ℕ) → q ≢ p → asks_at new q ≡ asks_at old q)
-    → ((q : ℕ) → Each (λ ask. (active ask.by ≡ true) × (is_open (entry_at old q) ask ≡ true)) (asks_at old q))
-    → (q : ℕ) → Each (λ ask. (active ask.by ≡ true) × (is_open (entry_at new q) ask ≡ true)) (asks_at new q)
+    → ((q : ℕ) → Each (λ ask. (active ask.by ≡ true) × (is_open_ask (entry_at old q) ask ≡ true)) (asks_at old q))
+    → (q : ℕ) → Each (λ ask. (active ask.by ≡ true) × (is_open_ask (entry_at new q) ask ≡ true)) (asks_at new q)
 asks-left i p old new active entry asks others other_asks each q = ⊎_elim
     (λ same. subst (λ (n : ℕ). Each (Fine (entry_at new n)) (asks_at new n)) (sym same)
-    (subst (λ (e : Entry). Each (Fine e) (asks_at new p)) (sym entry) (subst (Each (Fine (dirtied i))) (sym asks)
-    (each-left (λ (ask : Ask). active ask.by ≡ true) (is_open (dirtied i)) (asks_at old p)
-    (each-first (λ (ask : Ask). active ask.by ≡ true) (λ (ask : Ask). is_open (entry_at old p) ask ≡ true) (asks_at old p) (each p))))))
-    (λ ne. subst (λ (e : Entry). Each (Fine e) (asks_at new q)) (sym (others q ne))
+    (subst (λ (e : PageEntry). Each (Fine e) (asks_at new p)) (sym entry) (subst (Each (Fine (dirtied i))) (sym asks)
+    (each-left (λ (ask : Ask). active ask.by ≡ true) (is_open_ask (dirtied i)) (asks_at old p)
+    (each-first (λ (ask : Ask). active ask.by ≡ true) (λ (ask : Ask). is_open_ask (entry_at old p) ask ≡ true) (asks_at old p) (each p))))))
+    (λ ne. subst (λ (e : PageEntry). Each (Fine e) (asks_at new q)) (sym (others q ne))
     (subst (Each (Fine (entry_at old q))) (sym (other_asks q ne)) (each q)))
     (cases_eq q p)
   where
-    Fine : Entry → Ask → Type 0
-    Fine e ask = (active ask.by ≡ true) × (is_open e ask ≡ true)
+    Fine : PageEntry → Ask → Type 0
+    Fine e ask = (active ask.by ≡ true) × (is_open_ask e ask ≡ true)

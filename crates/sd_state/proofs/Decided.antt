@@ -76,7 +76,7 @@ logged-as s x t log r = ⊎_elim
     (λ l. inl (record { alive = l.alive; open_ones = l.open_ones; span = l.span }))
     (λ h. inr (record { ended = h.ended; emptied = h.emptied; span = h.span })) r
 
-module _ (t : TxnId) (x : Transaction) (committed : Bool) (table : Transactions) (seen : rig.Image) (leaves : Outcomes)
+module _ (t : TxnId) (x : Transaction) (committed : Bool) (table : Transactions) (seen : rig.DeviceImages) (leaves : Outcomes)
     (c : Parts) (m : State)
     (low : 1 ≤ home t) (high : home t ≤ 8) (g : Good seen leaves Pending.Idle c m) (by : ℕ)
     (recovering : status_at c (home t) ≡ S.Recovering by) (settled : is_loose c (home t) ≡ false)

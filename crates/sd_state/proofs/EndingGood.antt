@@ -53,7 +53,7 @@ pub record Leaves (t : TxnId) (x : Transaction) (locks : LockTable) (pend : Pend
   pub values : (moved keeps : Keeps) (p s : ℕ) → values m' Pending.Idle (kept_logs (tails_of (log_by c moved)) keeps) p s
       ≡ values m pend (kept_logs (tails_of (log_by c moved)) keeps) p s
 
-module _ (t : TxnId) (x : Transaction) (locks : LockTable) (seen : rig.Image) (leaves : Outcomes) (pend : Pending) (c : Parts) (m m' : State)
+module _ (t : TxnId) (x : Transaction) (locks : LockTable) (seen : rig.DeviceImages) (leaves : Outcomes) (pend : Pending) (c : Parts) (m m' : State)
     (g : Good seen leaves pend c m) (w : Leaves t x locks pend c m m') where
   abbrev i : ℕ
   i = home t

@@ -142,7 +142,7 @@ shut-out t x log s empty = record {
   bare = λ opens. absurd (s.ended (subst (IsOpen t) (sym (append-nil (base_at log)) ∙ kept-all log empty false) opens));
 }
 
-module _ (t : TxnId) (locks : LockTable) (seen : rig.Image) (leaves : Outcomes) (pend : Pending) (c : Parts) (m : State)
+module _ (t : TxnId) (locks : LockTable) (seen : rig.DeviceImages) (leaves : Outcomes) (pend : Pending) (c : Parts) (m : State)
     (g : Good seen leaves pend c m) (left : IsLeft t locks c) (idle : c.due ≡ None) (up : status_at c (home t) ≡ S.Up) where
   abbrev i : ℕ
   i = home t
@@ -195,7 +195,7 @@ module _ (t : TxnId) (locks : LockTable) (seen : rig.Image) (leaves : Outcomes) 
       same-txn a b e = cc
 
 -- Once its Commit is forced t is committed.
-pub committed-good : (t : TxnId) (locks : LockTable) (seen : rig.Image) (leaves : Outcomes) (c : Parts) (m : State)
+pub committed-good : (t : TxnId) (locks : LockTable) (seen : rig.DeviceImages) (leaves : Outcomes) (c : Parts) (m : State)
     → Good seen leaves (Pending.Commits t) c m → IsLeft t locks c → c.due ≡ None → (log_at c (home t)).tail ≡ []
     → Good seen leaves Pending.Idle (with_working (home t) (without (txns_at c (home t)) t) locks c) (committed t m)
 committed-good t locks seen leaves c m g left idle empty =
@@ -225,7 +225,7 @@ committed-good t locks seen leaves c m g left idle empty =
     ∙ ap (list_any (commits t)) (kept-all (log_at c (home t)) empty (keeps (home t))) ∙ g.pending.committed) p s))
 
 -- One that has no record commits without one.
-pub bare-good : (t : TxnId) (locks : LockTable) (seen : rig.Image) (leaves : Outcomes) (c : Parts) (m : State)
+pub bare-good : (t : TxnId) (locks : LockTable) (seen : rig.DeviceImages) (leaves : Outcomes) (c : Parts) (m : State)
     → Good seen leaves Pending.Idle c m → IsLeft t locks c → c.due ≡ None → status_at c (home t) ≡ S.Up
     → state_at (txns_at c (home t)) t ≡ Some TxnState.Running → span_at (txns_at c (home t)) t ≡ None
     → Good seen leaves Pending.Idle (with_working (home t) (without (txns_at c (home t)) t) locks c) (committed t m)
@@ -255,7 +255,7 @@ bare-good t locks seen leaves c m g left idle up state span =
     (live.puts ∙ ap (map put_of) (stack-none t (all_at log) (unwritten t x log l spanless))) p s))
 
 -- One that has rolled back wholly, and has no record, or whose End is forced, is gone.
-pub rolled-good : (t : TxnId) (locks : LockTable) (seen : rig.Image) (leaves : Outcomes) (c : Parts) (m : State)
+pub rolled-good : (t : TxnId) (locks : LockTable) (seen : rig.DeviceImages) (leaves : Outcomes) (c : Parts) (m : State)
     → Good seen leaves Pending.Idle c m → IsLeft t locks c → c.due ≡ None → status_at c (home t) ≡ S.Up
     → state_at (txns_at c (home t)) t ≡ Some (TxnState.Rolling None) → span_at (txns_at c (home t)) t ≡ None
     → IsOpen t (all_at (log_at c (home t))) ⊎ ((log_at c (home t)).tail ≡ [])

@@ -5,7 +5,7 @@ use Rattle.std.proofs.lemmas.List.Elements.{filter-append}
 use Rattle.sd_base.specs.declared.ids.TxnId.{TxnId}
 use Rattle.sd_base.specs.declared.ids.Rid.{Rid}
 use Rattle.sd_logrec.specs.View.{Rec}
-use Rattle.sd_model.specs.Acts.{Puts, after, live, seen}
+use Rattle.sd_model.specs.Acts.{Puts, after, live, seen_over}
 use Rattle.sd_model.specs.Apart.{AreOthers, dones}
 use Rattle.sd_model.specs.Kept.{Kept, MayCommit}
 use Rattle.sd_model.specs.State.{Part, State, committed, gone}
@@ -91,7 +91,7 @@ module _ (t : TxnId) (m : State) (logs : ℕ → List Rec) (kept : Kept m) (runs
       ap (λ (ds : List Done). after m.start ((m.done ++ as_done m t ∷ []) ++ ds) rid) now-decided
       ∙ ap (λ (f : Contents). f rid) (after-append m.start (m.done ++ as_done m t ∷ []) (decided m Pending.Idle logs))
       ∙ after-agree (after m.start (m.done ++ as_done m t ∷ [])) (after m.start m.done) (decided m Pending.Idle logs) rid
-      (ap (λ (f : Contents). f rid) (after-snoc m.start m.done (as_done m t)) ∙ ap (λ (ps : Puts). seen (after m.start m.done) ps rid) nothing)
+      (ap (λ (f : Contents). f rid) (after-snoc m.start m.done (as_done m t)) ∙ ap (λ (ps : Puts). seen_over (after m.start m.done) ps rid) nothing)
       ∙ sym (ap (λ (f : Contents). f rid) (after-append m.start m.done (decided m Pending.Idle logs)))
     where
       rid : Rid

@@ -16,7 +16,7 @@ use Rattle.sd_chain.specs.Bytes.{disk_page}
 use Rattle.sd_chain.specs.Images.{Keeps}
 use Rattle.sd_coherent.specs.Changes as changes_law
 use Rattle.sd_chain.specs.Laws.{May}
-use Rattle.sd_pagelock.specs.Places.{Entry}
+use Rattle.sd_pagelock.specs.Places.{PageEntry}
 use Rattle.sd_pagelock.specs.Rows.{dirtied}
 use Rattle.sd_pagelock.proofs.Members.{not_both}
 use Rattle.sd_pagelock.proofs.Uses
@@ -60,14 +60,14 @@ due-fails may a i b d c due settled whose not_up = forces.fail-keeps may a i tru
     at : (p : ℕ) → Quiet p (b.tails.tail i) ⊎ (d.entry p ≡ dirtied a)
     at p = ⊎_elim (λ q. inl q)
         (by_seat b (d.entry p) i (Quiet p (b.tails.tail i) ⊎ (d.entry p ≡ dirtied a))
-        (λ mark is. ⊎_elim (λ e. inr (is ∙ ap (λ (k : ℕ). Entry.Excl k true) (sym e)))
+        (λ mark is. ⊎_elim (λ e. inr (is ∙ ap (λ (k : ℕ). PageEntry.Excl k true) (sym e)))
         (λ off. not_both (c.live i p (Uses.excl-uses i true (d.entry p) is)) off) whose)
         (λ loose lost. not_both loose settled)
-        (λ z is_due is. inr (is ∙ ap (λ (k : ℕ). Entry.Excl k true) (ap (λ (x : ℕ × ℕ). x.0) (the_same is_due due)))))
+        (λ z is_due is. inr (is ∙ ap (λ (k : ℕ). PageEntry.Excl k true) (ap (λ (x : ℕ × ℕ). x.0) (the_same is_due due)))))
         (c.unforced i p)
 
 -- What a crash may leave, with logs that begin somewhere.
-module _ (i : ℕ) (seen seen' : rig.Image) (leaves leaves' : Outcomes) (logs : Logs) (pend : Pending) (c : Parts) (m : State)
+module _ (i : ℕ) (seen seen' : rig.DeviceImages) (leaves leaves' : Outcomes) (logs : Logs) (pend : Pending) (c : Parts) (m : State)
     (low : 1 ≤ i) (high : i ≤ 8) (h : Half seen leaves logs pend c m)
     (failed : Coherent (failing (actor c i) i true (base_of seen leaves logs c)) (dir_of c)) (marks : length c.loose ≡ 9)
     (reads_disk : leaves 0 (seen 0)) (reads_log : leaves i (seen i)) (f : IsHalfForced i (logs i) seen seen' leaves leaves') where
@@ -142,7 +142,7 @@ module _ (i : ℕ) (seen seen' : rig.Image) (leaves leaves' : Outcomes) (logs : 
     );
   }
 
-module _ (i : ℕ) (seen seen' : rig.Image) (leaves leaves' : Outcomes) (pend : Pending) (c : Parts) (m : State)
+module _ (i : ℕ) (seen seen' : rig.DeviceImages) (leaves leaves' : Outcomes) (pend : Pending) (c : Parts) (m : State)
     (low : 1 ≤ i) (high : i ≤ 8) (g : Good seen leaves pend c m) (now : ForcesNow i c) (settled : is_loose c i ≡ false)
     (reads : (d : ℕ) → d ≤ 8 → leaves d (seen d)) (f : IsHalfForced i (log_at c i) seen seen' leaves leaves') where
   abbrev failed_parts : Parts

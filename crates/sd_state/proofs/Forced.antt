@@ -26,7 +26,7 @@ use Rattle.sd_pagelock.specs.Directory as directory
 use Rattle.sd_pool.specs.Buffers.{Buffers}
 use Rattle.sd_pool.specs.Buffers as buffers
 use Rattle.sd_chain.specs.Cuts.{cut}
-use Rattle.sd_chain.specs.Image.{Recovered}
+use Rattle.sd_chain.specs.Storage.{Recovered}
 use Rattle.sd_chain.specs.Checks.{owed, reserve}
 use Rattle.sd_chain.specs.Fates.{commits, fate}
 use Rattle.sd_chain.specs.Images.{Gives, Keeps, Settled, kept_at, with_disk}
@@ -64,7 +64,7 @@ use Rattle.sd_state.specs.Values.{Pending, rid_of, values}
 
 -- What a crash may leave, with logs that begin somewhere, of which log i, which is settled, is forced. The parts that coherence
 -- sees are the same.
-module _ (i : ℕ) (seen seen' : rig.Image) (leaves leaves' : Outcomes) (logs logs' : Logs) (pend : Pending) (c c' : Parts) (m : State)
+module _ (i : ℕ) (seen seen' : rig.DeviceImages) (leaves leaves' : Outcomes) (logs logs' : Logs) (pend : Pending) (c c' : Parts) (m : State)
     (low : 1 ≤ i) (high : i ≤ 8) (h : Half seen leaves logs pend c m) (settled : is_loose c i ≡ false)
     (reads_disk : leaves 0 (seen 0)) (reads_log : leaves i (seen i)) (f : IsForced i (logs i) seen seen' leaves leaves')
     (here : logs' i ≡ forced (logs i)) (elsewhere : (j : ℕ) → j ≢ i → logs' j ≡ logs j)
@@ -146,7 +146,7 @@ module _ (i : ℕ) (seen seen' : rig.Image) (leaves leaves' : Outcomes) (logs lo
       made d p = record {
         entry = entry_at d;
         pool = λ k q. buffers.image_at (among no_pool p k) q;
-        moving = directory.image_at d;
+        moving = directory.moving_image_at d;
       }
 
   coherent : Coherent (base_of seen' leaves' logs' c') (dir_of c')
@@ -257,7 +257,7 @@ pub names-forced : (x : Option Transaction) (life : Life) (t : TxnId) (base tail
 names-forced None life t base tail h = h
 names-forced (Some x) life t base tail h = stands-forced x.state life t base tail h
 
-module _ (i : ℕ) (seen seen' : rig.Image) (leaves leaves' : Outcomes) (pend : Pending) (c : Parts) (m : State) (log : LogState) (owes : ℕ)
+module _ (i : ℕ) (seen seen' : rig.DeviceImages) (leaves leaves' : Outcomes) (pend : Pending) (c : Parts) (m : State) (log : LogState) (owes : ℕ)
     (low : 1 ≤ i) (high : i ≤ 8) (g : Good seen leaves pend c m) (now : ForcesNow i c) (settled : is_loose c i ≡ false)
     (reads : (d : ℕ) → d ≤ 8 → leaves d (seen d)) (is : log ≡ forced (log_at c i)) (f : IsForced i (log_at c i) seen seen' leaves leaves')
     (owed_is : owes ≡ owed (all_at (log_at c i))) where

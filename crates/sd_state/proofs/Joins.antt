@@ -9,7 +9,7 @@ use Rattle.sd_base.specs.declared.place.Status.TheVariants as S
 use Rattle.sd_logrec.specs.Kept.{master}
 use Rattle.sd_logrec.specs.View.{Rec}
 use Rattle.sd_log.specs.Logs.{LogState, forced}
-use Rattle.sd_model.specs.Placed.{MayRun, Stands}
+use Rattle.sd_model.specs.Lives.{MayRun, SuitsStatus}
 use Rattle.sd_model.specs.State.{Part, State, joined}
 use Rattle.sd_model.specs.StepLaws.{MayJoin}
 use Rattle.sd_model.specs.Step.{Step}
@@ -40,7 +40,7 @@ use Rattle.sd_sound.specs.Logs.{Outcomes, all_at, may_of, past_at}
 use Rattle.sd_sound.specs.Soundly.{LogIsSound}
 use Rattle.sd_sound.proofs.Kept.{forced-idle}
 use Rattle.sd_sound.proofs.Next.{own-begun}
-use Rattle.sd_state.specs.Good.{IsOlder, IsStarting, Good, Half, IsAtWork, IsInstance, IsOfBegun, IsTold, base_of, dir_of}
+use Rattle.sd_state.specs.Good.{IsOlder, IsStarting, Good, Half, RowsAreLive, IsInstance, IsOfBegun, IsTold, base_of, dir_of}
 use Rattle.sd_state.specs.Images.{IsEpochOf, leaves_by, log_by}
 use Rattle.sd_state.specs.Joining.{with_joined}
 use Rattle.sd_state.specs.Parts.{Parts, active_as, epoch_at, is_active, is_loose, is_up, log_at, status_at, txns_at, up_as}
@@ -52,14 +52,14 @@ use Rattle.sd_state.proofs.Standing.{no-place, one-place}
 -- ---- nobody is there
 
 -- who runs, is lost or in doubt isn't of an instance that joins
-gone-at : (life : Life) (s : Status) → Stands life s → (s ≡ S.Clean) ⊎ (s ≡ S.Restarting) → life ≡ Life.Gone
+gone-at : (life : Life) (s : Status) → SuitsStatus life s → (s ≡ S.Clean) ⊎ (s ≡ S.Restarting) → life ≡ Life.Gone
 gone-at Life.Gone s h e = refl
 gone-at Life.Running s h e = absurd (⊎_elim (λ is. subst MayRun is h) (λ is. subst MayRun is h) e)
 gone-at Life.Retained s h e =
-    absurd (⊎_elim (λ is. subst (Stands Life.Retained) is h) (λ is. subst (Stands Life.Retained) is h) e)
+    absurd (⊎_elim (λ is. subst (SuitsStatus Life.Retained) is h) (λ is. subst (SuitsStatus Life.Retained) is h) e)
 gone-at (Life.Rolling to) s h e = absurd (⊎_elim (λ is. subst MayRun is h) (λ is. subst MayRun is h) e)
 gone-at (Life.Doubt cut) s h e =
-    absurd (⊎_elim (λ is. subst (Stands (Life.Doubt cut)) is h) (λ is. subst (Stands (Life.Doubt cut)) is h) e)
+    absurd (⊎_elim (λ is. subst (SuitsStatus (Life.Doubt cut)) is h) (λ is. subst (SuitsStatus (Life.Doubt cut)) is h) e)
 
 -- nobody stands as one that is gone
 no-state : (state : TxnState) (f w : Fate) → StandsAs state Life.Gone f w → ⊥
@@ -96,7 +96,7 @@ going-still i t p h = by p.life h
 
 -- ---- the instance comes up
 
-module _ (i : ℕ) (seen : rig.Image) (leaves : Outcomes) (c : Parts) (m : State) (low : 1 ≤ i) (high : i ≤ 8)
+module _ (i : ℕ) (seen : rig.DeviceImages) (leaves : Outcomes) (c : Parts) (m : State) (low : 1 ≤ i) (high : i ≤ 8)
     (g : Good seen leaves (Pending.Starts i) c m) (settled : is_loose c i ≡ false)
     (bare : (log_at c i).tail ≡ []) where
   abbrev new : Parts
@@ -232,7 +232,7 @@ module _ (i : ℕ) (seen : rig.Image) (leaves : Outcomes) (c : Parts) (m : State
 
   gone : (t : TxnId) → home t ≡ i → (m.part t).life ≡ Life.Gone
   gone t own = gone-at (m.part t).life (m.inst i).status
-      (subst (λ (k : ℕ). Stands (m.part t).life (m.inst k).status) own (g.placed.stands t)) stood
+      (subst (λ (k : ℕ). SuitsStatus (m.part t).life (m.inst k).status) own (g.placed.stands t)) stood
 
   rowless : (t : TxnId) → home t ≡ i → txn_at (txns_at c i) t ≡ None
   rowless t own = no-row (txn_at (txns_at c i) t) (m.part t).life _ _ ((g.instances i low high).names t own) (gone t own)
@@ -305,7 +305,7 @@ module _ (i : ℕ) (seen : rig.Image) (leaves : Outcomes) (c : Parts) (m : State
       (g.begun k lo hi (sym (status-else k ne) ∙ up)))
       (cases_eq k i)
 
-  at_work-there : (k : ℕ) → 1 ≤ k → k ≤ 8 → status_at new k ≡ S.Up → IsAtWork Pending.Idle new then k
+  at_work-there : (k : ℕ) → 1 ≤ k → k ≤ 8 → status_at new k ≡ S.Up → RowsAreLive Pending.Idle new then k
   at_work-there k lo hi up t own never = ⊎_elim
       (λ same. subst (λ (o : Option Transaction). RowIsLive o t (m.part t) (all_at (log_at c k)))
       (sym (ap (λ (j : ℕ). txn_at (txns_at c j) t) same ∙ rowless t (own ∙ same))) tt)

@@ -50,7 +50,7 @@ chosen-well p bytes sound =
 
 -- ---- at most as much may be left, and what the devices read
 
-module _ (seen : rig.Image) (leaves leaves' : Outcomes) (pend : Pending) (c : Parts) (m : State) (g : Good seen leaves pend c m)
+module _ (seen : rig.DeviceImages) (leaves leaves' : Outcomes) (pend : Pending) (c : Parts) (m : State) (g : Good seen leaves pend c m)
     (less : Less leaves leaves') (reads : (d : ℕ) → d ≤ 8 → leaves' d (seen d)) where
   only-less : (d : ℕ) → d ≤ 8 → LeavesOnly (seen d) (leaves d) → LeavesOnly (seen d) (leaves' d)
   only-less d le only bytes = (
@@ -151,22 +151,22 @@ module _ (seen : rig.Image) (leaves leaves' : Outcomes) (pend : Pending) (c : Pa
   }
 
 -- the twin of a page on the data device is sound
-pub seen-sound : (seen : rig.Image) (leaves : Outcomes) (pend : Pending) (c : Parts) (m : State) → Good seen leaves pend c m
+pub seen-sound : (seen : rig.DeviceImages) (leaves : Outcomes) (pend : Pending) (c : Parts) (m : State) → Good seen leaves pend c m
     → leaves 0 (seen 0) → (p : ℕ) → p < 1024 → TwinIsSound p (seen 0)
 seen-sound seen leaves pend c m g left p lt = (g.half (λ j. false)).soundly.twins p lt (seen 0) (left, tt)
 
 -- what a rig has told of its devices stays
-module _ (seen seen' : rig.Image) (leaves leaves' : Outcomes) (t t' : ℕ) (since since' : ℕ → rig.Image → Type 0)
+module _ (seen seen' : rig.DeviceImages) (leaves leaves' : Outcomes) (t t' : ℕ) (since since' : ℕ → rig.DeviceImages → Type 0)
     (u : IsUnchanged seen seen' leaves leaves' t t' since since') (pend : Pending) (c : Parts) (m : State)
     (g : Good seen leaves pend c m) where
   -- the complex stays good,
   pub unchanged-good : ((d : ℕ) → d ≤ 8 → leaves' d (seen' d)) → Good seen' leaves' pend c m
-  unchanged-good reads = subst (λ (s : rig.Image). Good s leaves' pend c m) (sym (fun_ext u.reads))
+  unchanged-good reads = subst (λ (s : rig.DeviceImages). Good s leaves' pend c m) (sym (fun_ext u.reads))
       (less-good seen leaves leaves' pend c m g (λ d bytes left. (u.outcomes d bytes).0 left)
       (λ d le. subst (leaves' d) (u.reads d) (reads d le)))
 
   -- and each image since then stands
-  pub unchanged-stands : ((img : rig.Image) → since t img → rig.Leaves leaves img) → Span t since' (Stands m pend)
+  pub unchanged-stands : ((img : rig.DeviceImages) → since t img → rig.Leaves leaves img) → Span t since' (Stands m pend)
   unchanged-stands now = record { each = λ img later. left-stands leaves seen img pend c m g (now img ((u.past t img).0 later)) }
 
 -- what a read of both slots names is the image of its page

@@ -7,10 +7,10 @@ use Rattle.sd_base.specs.declared.place.Mode.{Mode}
 use Rattle.sd_page.specs.Page.{Page}
 use Rattle.sd_model.specs.State.{State}
 use Rattle.sd_pagelock.specs.declared.queue.Ask.{Ask}
-use Rattle.sd_pagelock.specs.Asks.{is_open}
+use Rattle.sd_pagelock.specs.Asks.{is_open_ask}
 use Rattle.sd_pagelock.specs.Directory as directory
 use Rattle.sd_pagelock.specs.Directory.{DirectoryState, asks_at, entry_at, kept_rec, rec_lsn_at}
-use Rattle.sd_pagelock.specs.Places.{Entry, changed, is_free}
+use Rattle.sd_pagelock.specs.Places.{PageEntry, changed, is_free}
 use Rattle.sd_pagelock.specs.Rows.{locked}
 use Rattle.sd_pagelock.proofs.Uses.{clean-locked}
 use Rattle.sd_pool.specs.Buffers as buffers
@@ -35,7 +35,7 @@ use Rattle.sd_state.proofs.Items.{item-is, item-kept, item-set}
 
 -- ---- a page has another place, and one pool may be another
 
-module _ (p i : ℕ) (to : Entry) (rec : Option ℕ) (pool : Buffers) (places : DirectoryState Page) (seen : rig.Image)
+module _ (p i : ℕ) (to : PageEntry) (rec : Option ℕ) (pool : Buffers) (places : DirectoryState Page) (seen : rig.DeviceImages)
     (leaves : Outcomes) (pend : Pending) (c : Parts) (m : State) (g : Good seen leaves pend c m)
     (set : IsSet p to rec c.directory places)
     (same : changed to ≡ changed (entry_at c.directory p)) where
@@ -91,20 +91,20 @@ module _ (p i : ℕ) (to : Entry) (rec : Option ℕ) (pool : Buffers) (places : 
       checks = h.checks;
     }
 
-  abbrev IsAsk : Entry → Ask → Type 0
-  IsAsk e ask = (is_active c ask.by ≡ true) × (is_open e ask ≡ true)
+  abbrev IsAsk : PageEntry → Ask → Type 0
+  IsAsk e ask = (is_active c ask.by ≡ true) × (is_open_ask e ask ≡ true)
 
   asks-here : Each (IsAsk (entry_at places p)) (asks_at places p)
-  asks-here = subst (λ (e : Entry). Each (IsAsk e) (asks_at places p)) (sym set.entry)
+  asks-here = subst (λ (e : PageEntry). Each (IsAsk e) (asks_at places p)) (sym set.entry)
       (subst (Each (IsAsk to)) (sym set.asks)
-      (each-left (λ (ask : Ask). is_active c ask.by ≡ true) (is_open to) (asks_at c.directory p)
-      (each-first (λ (ask : Ask). is_active c ask.by ≡ true) (λ (ask : Ask). is_open (entry_at c.directory p) ask ≡ true)
+      (each-left (λ (ask : Ask). is_active c ask.by ≡ true) (is_open_ask to) (asks_at c.directory p)
+      (each-first (λ (ask : Ask). is_active c ask.by ≡ true) (λ (ask : Ask). is_open_ask (entry_at c.directory p) ask ≡ true)
       (asks_at c.directory p) (g.asks p))))
 
   asks-there : (q : ℕ) → Each (IsAsk (entry_at places q)) (asks_at places q)
   asks-there q = ⊎_elim
       (λ e. subst (λ (k : ℕ). Each (IsAsk (entry_at places k)) (asks_at places k)) (sym e) asks-here)
-      (λ ne. subst (λ (e : Entry). Each (IsAsk e) (asks_at places q)) (sym (set.others q ne))
+      (λ ne. subst (λ (e : PageEntry). Each (IsAsk e) (asks_at places q)) (sym (set.others q ne))
       (subst (Each (IsAsk (entry_at c.directory q))) (sym (set.other_asks q ne)) (g.asks q)))
       (cases_eq q p)
 
@@ -174,13 +174,13 @@ module _ (p i : ℕ) (to : Entry) (rec : Option ℕ) (pool : Buffers) (places : 
 
 -- ---- a free page that is read from the data device
 
-module _ (p i : ℕ) (mode : Mode) (image : Page) (pool : Buffers) (places : DirectoryState Page) (seen : rig.Image)
+module _ (p i : ℕ) (mode : Mode) (image : Page) (pool : Buffers) (places : DirectoryState Page) (seen : rig.DeviceImages)
     (leaves : Outcomes) (pend : Pending) (c : Parts) (m : State) (low : 1 ≤ i) (high : i ≤ 8) (g : Good seen leaves pend c m)
     (here : buffers.image_at pool p ≡ Some image)
     (else : (q : ℕ) → q ≢ p → buffers.image_at pool q ≡ buffers.image_at (pool_at c i) q)
     (set : IsSet p (locked i mode) None c.directory places)
-    (moving : (q : ℕ) → directory.image_at places q ≡ directory.image_at c.directory q)
-    (idle : c.due ≡ None) (free : entry_at c.directory p ≡ Entry.Free) (active : is_active c i ≡ true)
+    (moving : (q : ℕ) → directory.moving_image_at places q ≡ directory.moving_image_at c.directory q)
+    (idle : c.due ≡ None) (free : entry_at c.directory p ≡ PageEntry.Free) (active : is_active c i ≡ true)
     (newest : image ≡ disk_page (seen 0) p) where
   abbrev locked' : Parts
   locked' = with_place i pool places c

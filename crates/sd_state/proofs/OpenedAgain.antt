@@ -12,7 +12,7 @@ use Rattle.sd_model.specs.Finishing.{picked}
 use Rattle.sd_model.specs.Kept.{Kept}
 use Rattle.sd_model.specs.Listed.{Listed}
 use Rattle.sd_model.specs.Marks.{Marked}
-use Rattle.sd_model.specs.Placed.{Placed}
+use Rattle.sd_model.specs.Lives.{LivesAreSound}
 use Rattle.sd_model.specs.Recoverers.{Recoverers}
 use Rattle.sd_model.specs.Reopening.{Finds, left_part}
 use Rattle.sd_model.specs.State.{Part, State}
@@ -25,7 +25,7 @@ use Rattle.sd_model.proofs.Reopens.{closed-may, reopened-reopens, reopened-stand
 use Rattle.sd_chain.specs.Bytes.{stable}
 use Rattle.sd_chain.specs.Checks.{open_in}
 use Rattle.sd_chain.specs.Fates.{Fate, fate, fate_in}
-use Rattle.sd_chain.specs.Image.{Image, Recovered, opens}
+use Rattle.sd_chain.specs.Storage.{Recovered, Storage, opens}
 use Rattle.sd_chain.specs.Losers.{OwnLogs}
 use Rattle.sd_chain.specs.Order.{of_txn, speaks}
 use Rattle.sd_chain.specs.Records.{Each, at, home}
@@ -80,7 +80,7 @@ left-marks false holds p = refl
 
 -- ---- whom a log leaves open
 
-module _ (img : Image) (own : OwnLogs img) where
+module _ (img : Storage) (own : OwnLogs img) where
   -- it is of the log's instance
   pub of-log : (i : ℕ) (t : TxnId) → Member t (open_in (img.logs i)) → home t ≡ i
   of-log i t member = any-gives (home t ≡ i) (of_txn t) (img.logs i)
@@ -102,9 +102,9 @@ module _ (img : Image) (own : OwnLogs img) where
   pub down-lost : (i : ℕ) → ((t : TxnId) → t.inst ≡ i → is_loser img t ≡ true → ⊥) → is_down_in img i ≡ some_lost img 1024
   down-lost i none = none-left i (open_in (img.logs i)) refl none
 
-module _ (devices : rig.Image) (m : State) (placed : Placed m) (listed : Listed m) (shut : (i : ℕ) → (m.inst i).status ≡ S.Closed)
+module _ (devices : rig.DeviceImages) (m : State) (placed : LivesAreSound m) (listed : Listed m) (shut : (i : ℕ) → (m.inst i).status ≡ S.Closed)
     (s : Stands m Pending.Idle devices) where
-  abbrev img : Image
+  abbrev img : Storage
   img = stable devices
 
   abbrev kept : TxnId → Bool
@@ -152,7 +152,7 @@ module _ (devices : rig.Image) (m : State) (placed : Placed m) (listed : Listed 
       → (x.epoch ≤ epoch) × (epoch ≤ x.epoch + x.failed + 0)
   as-before i epoch x is e = subst (λ (y : Inst). (y.epoch ≤ epoch) × (epoch ≤ y.epoch + y.failed + 0)) (sym is) (e.low, e.high)
 
-  opens-to : Kept then → Placed then → Listed then → Marked then → Recoverers then → OpensTo devices then
+  opens-to : Kept then → LivesAreSound then → Listed then → Marked then → Recoverers then → OpensTo devices then
   opens-to k p l marks r = record {
     table = λ page slot. subst (Recovered img page slot)
         (values-standing m img.logs page slot

@@ -22,7 +22,7 @@ use Rattle.sd_txn.specs.Transactions.{Transactions, txn_at}
 use Rattle.sd_chain.specs.Bytes.{log_of, page_in, records_of, stable, twin_at}
 use Rattle.sd_chain.specs.Checks.{open_in, owed}
 use Rattle.sd_chain.specs.Fates.{Fate, fate, fate_in}
-use Rattle.sd_chain.specs.Image.{Image, Recovered, newest, opens}
+use Rattle.sd_chain.specs.Storage.{Recovered, Storage, newest, opens}
 use Rattle.sd_chain.specs.Records.{at, home}
 use Rattle.sd_coherent.specs.Coherent.{Quiet}
 use Rattle.sd_sound.specs.Laws.{IsRead}
@@ -49,9 +49,9 @@ none-of-both : (b : Bool) → (b && false) ≡ false
 none-of-both true = refl
 none-of-both false = refl
 
-module _ (seen : rig.Image) (leaves : Outcomes) (frames : ℕ) (c : Parts) (devices : AreBlank seen leaves)
+module _ (seen : rig.DeviceImages) (leaves : Outcomes) (frames : ℕ) (c : Parts) (devices : AreBlank seen leaves)
     (f : IsFresh frames c) where
-  abbrev img : Image
+  abbrev img : Storage
   img = stable seen
 
   good : Good seen leaves Pending.Idle c fresh

@@ -23,7 +23,7 @@ use Rattle.sd_log.specs.Logs.{LogState, forced, last_lsn, scanned, AreSpelled}
 use Rattle.sd_page.specs.Page.{Page}
 use Rattle.sd_model.specs.State.{State}
 use Rattle.sd_model.specs.declared.act.Life.{Life}
-use Rattle.sd_pagelock.specs.Asks.{is_open}
+use Rattle.sd_pagelock.specs.Asks.{is_open_ask}
 use Rattle.sd_pagelock.specs.Directory.{entry_at}
 use Rattle.sd_rig.specs.Devices as rig
 use Rattle.sd_rig.specs.Devices.{LeavesOnly}
@@ -32,7 +32,7 @@ use Rattle.sd_txn.specs.Transactions.{txn_at, Transaction}
 use Rattle.sd_chain.specs.Bytes.{disk_page, log_of, stable}
 use Rattle.sd_chain.specs.Checks.{open_in, owed, reserve, reserve_for}
 use Rattle.sd_chain.specs.Fates.{fate, Fate}
-use Rattle.sd_chain.specs.Image.{Image, opens}
+use Rattle.sd_chain.specs.Storage.{Storage, opens}
 use Rattle.sd_chain.specs.Images.{Keeps}
 use Rattle.sd_chain.specs.Records.{Each, stack, at, home}
 use Rattle.sd_sound.specs.Logs.{Outcomes, all_at, base_at, may_of, past_at}
@@ -104,10 +104,10 @@ claim-gone : (left open_there : Bool) → cond {A = Life} left Life.Retained Lif
 claim-gone true open_there e = absurd (cc)
 claim-gone false open_there e = refl
 
-module _ (seen : rig.Image) (leaves : Outcomes) (frames : ℕ) (c : Parts) (m : State)
+module _ (seen : rig.DeviceImages) (leaves : Outcomes) (frames : ℕ) (c : Parts) (m : State)
     (only : (d : ℕ) → d ≤ 8 → LeavesOnly (seen d) (leaves d)) (size : length (seen 0) ≡ rig.device_len 0)
     (a : AreOpened frames seen c) (o : OpensTo seen m) where
-  abbrev img : Image
+  abbrev img : Storage
   img = stable seen
 
   base : (j : ℕ) → base_at (log_at c j) ≡ log_of seen j
@@ -247,7 +247,7 @@ module _ (seen : rig.Image) (leaves : Outcomes) (frames : ℕ) (c : Parts) (m : 
     gone = λ t e r. o.claims t r ∙ claim-gone (is_loser img t) (list_any (at r.page r.slot) (opens img t))
         (sym (o.lives t) ∙ e);
     locks = λ t r. a.locks t r ∙ ap lock_of (sym (o.claims t r));
-    asks = λ p. subst (Each (λ ask. (is_active c ask.by ≡ true) × (is_open (entry_at c.directory p) ask ≡ true)))
+    asks = λ p. subst (Each (λ ask. (is_active c ask.by ≡ true) × (is_open_ask (entry_at c.directory p) ask ≡ true)))
         (sym (a.pages p).unasked) tt;
     checking = λ i k is. let e = sym (no-check seen leaves frames c m only size a o i) ∙ is in absurd (cc);
   }

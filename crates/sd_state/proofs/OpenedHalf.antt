@@ -1,4 +1,4 @@
--- What a crash leaves of devices that were read and synced, with the logs and the directory that were found: for `opened`.
+-- What a crash leaves of devices that were read and synced, with the logs and the directory that were found: for `without_tails`.
 use Rattle.std.proofs.Common.{◌≡◌, inl, ℕ, zero, suc, ◌≤◌, Bool, true, false, cond, List, [], ◌++◌, map, length, get_or, refl, sym, ap, ap₂, ◌∙◌, subst, arith, ⊎_elim}
 use Rattle.std.specs.Prelude.{Option, None, Some}
 use Rattle.std.proofs.lemmas.Bool.{cases_lt}
@@ -13,7 +13,7 @@ use Rattle.sd_page.specs.Page.{Page}
 use Rattle.sd_model.specs.State.{State, now}
 use Rattle.sd_model.specs.declared.act.Claim.{Claim}
 use Rattle.sd_pagelock.specs.Directory.{rec_lsn_at}
-use Rattle.sd_pagelock.specs.Places.{Entry, changed, holds, passes, uses}
+use Rattle.sd_pagelock.specs.Places.{PageEntry, changed, holds, passes, uses}
 use Rattle.sd_pool.specs.Buffers.{Buffers}
 use Rattle.sd_pool.specs.Buffers as buffers
 use Rattle.sd_rig.specs.Devices as rig
@@ -22,9 +22,9 @@ use Rattle.sd_chain.specs.Bytes.{disk_page, log_of, records_of, stable}
 use Rattle.sd_chain.specs.Checks.{past_of, placed_of}
 use Rattle.sd_chain.specs.Cuts.{cut}
 use Rattle.sd_chain.specs.Fates.{Fate, fate}
-use Rattle.sd_chain.specs.Image.{Image, Recovered, newest}
+use Rattle.sd_chain.specs.Storage.{Recovered, Storage, newest}
 use Rattle.sd_chain.specs.Images.{Gives, IsSafe, Keeps, Tails, all_kept, log, with_disk}
-use Rattle.sd_chain.specs.Laws.{Narrows, Opens, as_read, opened}
+use Rattle.sd_chain.specs.Laws.{Narrows, Opens, as_read, without_tails}
 use Rattle.sd_chain.specs.Records.{Each, IsOpen, home, stack}
 use Rattle.sd_chain.proofs.Images.{opening-gives, opening-safe}
 use Rattle.sd_chain.proofs.Lists.{Each-weaker}
@@ -67,12 +67,12 @@ nine-settled (suc (suc (suc (suc (suc (suc (suc zero))))))) le = refl
 nine-settled (suc (suc (suc (suc (suc (suc (suc (suc zero)))))))) le = refl
 nine-settled (suc (suc (suc (suc (suc (suc (suc (suc (suc d))))))))) le = absurd (omega (arith, le))
 
-module _ (seen : rig.Image) (leaves : Outcomes) (frames : ℕ) (c : Parts) (m : State)
+module _ (seen : rig.DeviceImages) (leaves : Outcomes) (frames : ℕ) (c : Parts) (m : State)
     (only : (d : ℕ) → d ≤ 8 → LeavesOnly (seen d) (leaves d)) (size : length (seen 0) ≡ rig.device_len 0)
     (a : AreOpened frames seen c) (o : OpensTo seen m) where
   -- ---- parts
 
-  abbrev img : Image
+  abbrev img : Storage
   img = stable seen
 
   opens : Opens img
@@ -178,7 +178,7 @@ module _ (seen : rig.Image) (leaves : Outcomes) (frames : ℕ) (c : Parts) (m : 
     only' : (d : ℕ) → d ≤ 8 → LeavesOnly (seen d) (leaves' d)
     only' d le bytes = ((λ l. left-is d le bytes l.0), (λ e. ((only d le bytes).1 e, no-place (other_at c d) _ (no-other d))))
 
-    tails-are : tails_of logs ≡ opened img
+    tails-are : tails_of logs ≡ without_tails img
     tails-are = ap₂ (λ (b t : ℕ → List Rec). made b t) (fun_ext (λ j. ap base_at (same-log j) ∙ base-is j))
         (fun_ext (λ j. ap tail_at (same-log j) ∙ tail-none j))
       where
@@ -226,10 +226,10 @@ module _ (seen : rig.Image) (leaves : Outcomes) (frames : ℕ) (c : Parts) (m : 
       reads = allowed;
       still = λ e p x may. narrows p x may;
       copies = λ i p. no-copy i p ∙ lawful.copies i p
-          ∙ ap₂ (λ (e : Entry) (x : Page). cond (holds e i) (Some x) None) (sym (a.pages p).entry) (sym (now-same all_kept p));
+          ∙ ap₂ (λ (e : PageEntry) (x : Page). cond (holds e i) (Some x) None) (sym (a.pages p).entry) (sym (now-same all_kept p));
       moving = λ p. (a.pages p).still ∙ lawful.moving p
-          ∙ ap₂ (λ (e : Entry) (x : Page). cond (passes e) (Some x) None) (sym (a.pages p).entry) (sym (now-same all_kept p));
-      live = λ i p u. let e = lawful.live i p (sym (ap (λ (e : Entry). uses e i) (a.pages p).entry) ∙ u) in absurd (cc);
+          ∙ ap₂ (λ (e : PageEntry) (x : Page). cond (passes e) (Some x) None) (sym (a.pages p).entry) (sym (now-same all_kept p));
+      live = λ i p u. let e = lawful.live i p (sym (ap (λ (e : PageEntry). uses e i) (a.pages p).entry) ∙ u) in absurd (cc);
       unforced = λ j p. inl (subst (Quiet p) (sym (ap tail_at (same-log j) ∙ tail-none j)) tt);
       ready = λ i low up. inl (settled-up i low up);
       marks = λ p. lawful.marks p ∙ ap changed (sym (a.pages p).entry);
@@ -244,7 +244,7 @@ module _ (seen : rig.Image) (leaves : Outcomes) (frames : ℕ) (c : Parts) (m : 
     -- recovery gives the table of m
     table : Gives (tails_of logs) (may_of leaves') (λ keeps p s. now m (record { page = p; slot = s }))
     table = subst (λ (t : Tails). Gives t (may_of leaves') (λ keeps p s. now m (record { page = p; slot = s }))) (sym tails-are)
-        (narrowed-gives (as_read img) (may_of leaves') narrows (opened img) (λ keeps p s. now m (record { page = p; slot = s }))
+        (narrowed-gives (as_read img) (may_of leaves') narrows (without_tails img) (λ keeps p s. now m (record { page = p; slot = s }))
         (opening-gives img opens.sound opens.eight opens.numbered opens.order
         (λ p s. now m (record { page = p; slot = s })) o.table))
 

@@ -17,7 +17,7 @@ use Rattle.sd_txn.specs.Transactions.{Transaction}
 use Rattle.sd_txn.specs.declared.state.TxnState.{TxnState}
 use Rattle.sd_chain.specs.Checks.{open_in}
 use Rattle.sd_chain.specs.Fates.{Fate, fate, fate_in}
-use Rattle.sd_chain.specs.Image.{Image, opens}
+use Rattle.sd_chain.specs.Storage.{Storage, opens}
 use Rattle.sd_chain.specs.Order.{of_txn}
 use Rattle.sd_chain.specs.Records.{Each, IsOpen, at, home}
 use Rattle.sd_chain.specs.Undoing.{Member}
@@ -59,7 +59,7 @@ claim-of true e false e' = absurd (cc)
 claim-of false e c e' = absurd (cc)
 
 -- who is left open has an exclusive claim on what it has open
-pub claims-left : (img : Image) (t : TxnId) → fate_in img t ≡ Fate.Open
+pub claims-left : (img : Storage) (t : TxnId) → fate_in img t ≡ Fate.Open
     → Each (λ x. claim_in img t (rid_of x) ≡ Claim.Excl) (opens img t)
 claims-left img t alive = Each-weaker (λ x. list_any (at x.page x.slot) (opens img t) ≡ true)
     (λ x. claim_in img t (rid_of x) ≡ Claim.Excl)
@@ -67,7 +67,7 @@ claims-left img t alive = Each-weaker (λ x. list_any (at x.page x.slot) (opens 
     (each-found (opens img t))
 
 -- and so has whoever has no end, of what it has open
-pub claims-endless : (img : Image) (t : TxnId) → IsOpen t (img.logs (home t))
+pub claims-endless : (img : Storage) (t : TxnId) → IsOpen t (img.logs (home t))
     → Each (λ x. claim_in img t (rid_of x) ≡ Claim.Excl) (opens img t)
 claims-endless img t alive = ⊎_elim
     (λ some. claims-left img t (open-fate t (img.logs (home t)) alive some))
@@ -75,7 +75,7 @@ claims-endless img t alive = ⊎_elim
     (cases_Bool (list_any (of_txn t) (img.logs (home t))))
 
 -- whoever is left open is there
-pub life-left : (img : Image) (t : TxnId) → fate_in img t ≡ Fate.Open → life_in img t ≡ Life.Retained
+pub life-left : (img : Storage) (t : TxnId) → fate_in img t ≡ Fate.Open → life_in img t ≡ Life.Retained
 life-left img t alive = ap (λ (f : Fate). cond {A = Life} (is_left f) Life.Retained Life.Gone) alive
 
 -- ---- its table

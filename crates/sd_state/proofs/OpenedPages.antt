@@ -9,14 +9,14 @@ use Rattle.sd_logrec.specs.declared.record.Record.{Record}
 use Rattle.sd_logrec.specs.declared.record.Record.TheVariants as records
 use Rattle.sd_log.specs.Logs.{AreSpelled}
 use Rattle.sd_log.specs.declared.placed.Placed.{Placed}
-use Rattle.sd_chain.specs.Image.{Image, all_of, chain, newest, sorted}
+use Rattle.sd_chain.specs.Storage.{Storage, all_of, chain, newest, sorted}
 use Rattle.sd_chain.specs.Laws.{Opens, as_read}
 use Rattle.sd_chain.specs.Pages.{replay}
 use Rattle.sd_chain.specs.Records.{Each, of_page}
 use Rattle.sd_chain.proofs.Chains.{Each-all_of, replay_rises}
 use Rattle.sd_chain.proofs.Cuts.{filter_none}
 use Rattle.sd_coherent.specs.Coherent.{NoneBefore, Quiet}
-use Rattle.sd_coherent.specs.Statuses.{IsRead, opened_base, opened_dir}
+use Rattle.sd_coherent.specs.Statuses.{LostAreRead, opened_base, opened_dir}
 use Rattle.sd_coherent.proofs.Puts.{same-lsn}
 use Rattle.sd_coherent.proofs.Statuses.{opening-coherent}
 use Rattle.sd_state.specs.Opening.{is_lost_in}
@@ -44,7 +44,7 @@ none-beyond p far (q ∷ ps) all = (
 )
 
 -- such a page is as on disk
-pub unchanged-same : (img : Image) (p : ℕ) → ((j : ℕ) → Quiet p (img.logs j)) → newest img p ≡ img.disk p
+pub unchanged-same : (img : Storage) (p : ℕ) → ((j : ℕ) → Quiet p (img.logs j)) → newest img p ≡ img.disk p
 unfolding newest chain
 unchanged-same img p none = ap (λ (xs : List Rec). replay (img.disk p).lsn (img.disk p) (sorted xs))
     (filter_none p (all_of img.logs 9) (Each-all_of (λ x. of_page p x ≡ false) img.logs 9 none))
@@ -56,7 +56,7 @@ every P all [] = tt
 every P all (x ∷ xs) = (all x, every P all xs)
 
 -- were each page lost, from the first LSN on
-all-lost : (img : Image) → IsRead img (λ p. Some 0) (λ p. true)
+all-lost : (img : Storage) → LostAreRead img (λ p. Some 0) (λ p. true)
 all-lost img = record {
   marks = λ p. refl;
   free = λ p e. absurd (cc);
@@ -68,7 +68,7 @@ all-lost img = record {
     zero-is l e = cc
 
 -- the disk hasn't an older version
-on-disk : (img : Image) (p : ℕ) → Opens img → img.logs 0 ≡ [] → ltb (img.disk p).lsn (newest img p).lsn ≡ false
+on-disk : (img : Storage) (p : ℕ) → Opens img → img.logs 0 ≡ [] → ltb (img.disk p).lsn (newest img p).lsn ≡ false
     → img.disk p ≡ newest img p
 unfolding newest
 on-disk img p opens none off =
@@ -81,7 +81,7 @@ other-off : (a b : Bool) → a ≡ true → (a && b) ≡ false → b ≡ false
 other-off true b e off = off
 other-off false b e off = absurd (cc)
 
-pub unlost-same : (img : Image) (p : ℕ) → Opens img → img.logs 0 ≡ [] → (1024 ≤ p → (j : ℕ) → Quiet p (img.logs j))
+pub unlost-same : (img : Storage) (p : ℕ) → Opens img → img.logs 0 ≡ [] → (1024 ≤ p → (j : ℕ) → Quiet p (img.logs j))
     → is_lost_in img p ≡ false → img.disk p ≡ newest img p
 unlost-same img p opens none beyond off = ⊎_elim
     (λ lt. on-disk img p opens none (other-off (ltb p 1024) (ltb (img.disk p).lsn (newest img p).lsn) (lt-ltb p 1024 lt) off))

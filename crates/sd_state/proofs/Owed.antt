@@ -30,7 +30,7 @@ by-status S.Restarting told was owes t w = t refl
 by-status S.Closed told was owes t w = w refl
 
 -- few records are owed
-pub few-owed : (seen : rig.Image) (leaves : Outcomes) (pend : Pending) (c : Parts) (m : State) (i : ℕ) → 1 ≤ i → i ≤ 8
+pub few-owed : (seen : rig.DeviceImages) (leaves : Outcomes) (pend : Pending) (c : Parts) (m : State) (i : ℕ) → 1 ≤ i → i ≤ 8
     → Good seen leaves pend c m → leaves 0 (seen 0) → owed (all_at (log_at c i)) < 2 ^ 62
 few-owed seen leaves pend c m i low high g reads =
     let moved : Keeps = λ j. false in
@@ -39,7 +39,7 @@ few-owed seen leaves pend c m i low high g reads =
     let one = owed-one_within i (log_by c moved) all_kept low high in
     omega (arith, fits, one)
 
-pub owed-forced : (seen : rig.Image) (leaves : Outcomes) (pend : Pending) (c : Parts) (m : State) (i : ℕ) → 1 ≤ i → i ≤ 8
+pub owed-forced : (seen : rig.DeviceImages) (leaves : Outcomes) (pend : Pending) (c : Parts) (m : State) (i : ℕ) → 1 ≤ i → i ≤ 8
     → Good seen leaves pend c m → leaves 0 (seen 0) → is_loose c i ≡ false → owed_by c i ≡ owed (all_at (log_at c i))
 owed-forced seen leaves pend c m i low high g reads settled =
     by-status (status_at c i) (min (owed_of (txns_at c i)) (2 ^ 64 - 1)) (owed_at c i) (owed (all_at (log_at c i)))

@@ -37,7 +37,7 @@ settled-owes c j log settled forced told rests = subst (λ (n : ℕ). OwesAtMost
     (cases_Bool (tells_log (status_at c j))))
 
 -- Each log owes so many at most, wherever it begins.
-pub owes-at-most : (seen : rig.Image) (leaves : Outcomes) (pend : Pending) (c : Parts) (m : State) → Good seen leaves pend c m
+pub owes-at-most : (seen : rig.DeviceImages) (leaves : Outcomes) (pend : Pending) (c : Parts) (m : State) → Good seen leaves pend c m
     → (moved : Keeps) (j : ℕ) → 1 ≤ j → j ≤ 8 → OwesAtMost (owes_most c j) (log_by c moved j)
 owes-at-most seen leaves pend c m g moved j low high = ⊎_elim
     (λ loose. subst (λ (n : ℕ). OwesAtMost n (log_by c moved j))

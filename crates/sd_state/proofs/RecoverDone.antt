@@ -15,7 +15,7 @@ use Rattle.sd_model.specs.Apart.{dones}
 use Rattle.sd_model.specs.Changes.{AreOf, commit_all, is_swept}
 use Rattle.sd_model.specs.Finishing as finishing
 use Rattle.sd_model.specs.Listed.{IsAmong}
-use Rattle.sd_model.specs.Placed.{Stands}
+use Rattle.sd_model.specs.Lives.{SuitsStatus}
 use Rattle.sd_model.specs.State.{State, Part, committed, gone}
 use Rattle.sd_model.specs.declared.act.Cut.TheVariants as cuts
 use Rattle.sd_model.specs.declared.act.Done.{Done}
@@ -146,7 +146,7 @@ doubt-cut (Life.Rolling to) d = absurd d
 doubt-cut (Life.Doubt cuts.Committing) d = refl
 
 -- whoever stands while its instance is recovered is swept
-pub swept-life : (life : Life) (by : ℕ) → Stands life (S.Recovering by) → is_swept life ≡ true
+pub swept-life : (life : Life) (by : ℕ) → SuitsStatus life (S.Recovering by) → is_swept life ≡ true
 swept-life Life.Gone by s = refl
 swept-life Life.Running by s = absurd s
 swept-life Life.Retained by s = refl

@@ -16,7 +16,7 @@ use Rattle.sd_logrec.specs.declared.record.Record.{Record}
 use Rattle.sd_log.specs.Logs.{LogState}
 use Rattle.sd_model.specs.Changes.{AreInDoubt, AreOf, after_recovery, commit_all, swept, swept_part}
 use Rattle.sd_model.specs.Finishing as finishing
-use Rattle.sd_model.specs.Placed.{IsDoubt, Stands}
+use Rattle.sd_model.specs.Lives.{IsDoubt, SuitsStatus}
 use Rattle.sd_model.specs.State.{Part, State, gone, with_status}
 use Rattle.sd_model.specs.Step.{Step}
 use Rattle.sd_model.specs.declared.act.Claim.{Claim}
@@ -39,7 +39,7 @@ use Rattle.sd_txn.specs.Transactions.{Transaction, Transactions, begins_in, ids,
 use Rattle.sd_txn.specs.declared.state.TxnState.{TxnState}
 use Rattle.sd_chain.specs.Cuts.{cut}
 use Rattle.sd_chain.specs.Fates.{Fate, commits, fate}
-use Rattle.sd_chain.specs.Image.{Recovered}
+use Rattle.sd_chain.specs.Storage.{Recovered}
 use Rattle.sd_chain.specs.Images.{Gives, Keeps, with_disk}
 use Rattle.sd_chain.specs.Order.{of_txn}
 use Rattle.sd_chain.specs.Records.{Each, IsOpen, home, stack}
@@ -75,7 +75,7 @@ ended-open : (b : Bool) → cond {A = Status} b S.Restarting S.Clean ≡ S.Close
 ended-open true e = let clash = e in absurd (cc)
 ended-open false e = let clash = e in absurd (cc)
 
-module _ (i : ℕ) (locks : LockTable) (seen : rig.Image) (leaves : Outcomes) (c : Parts) (m : State) (low : 1 ≤ i) (high : i ≤ 8)
+module _ (i : ℕ) (locks : LockTable) (seen : rig.DeviceImages) (leaves : Outcomes) (c : Parts) (m : State) (low : 1 ≤ i) (high : i ≤ 8)
     (g : Good seen leaves Pending.Idle c m) (may : MayEnd i c) (once : IsDistinct same_txn (ids (txns_at c i)))
     (freed : (t : TxnId) (r : Rid) → held locks t r ≡ cond (is_some (txn_at (txns_at c i) t)) None (held c.locks t r)) where
   abbrev new : Parts
@@ -183,7 +183,7 @@ module _ (i : ℕ) (locks : LockTable) (seen : rig.Image) (leaves : Outcomes) (c
   pub part-here : (t : TxnId) → home t ≡ i → then.part t ≡ gone
   part-here t own = ap (λ (b : Bool). cond {A = Part} b (swept_part (mid.part t)) (mid.part t)) (eq-eqb i t.inst (sym own))
       ∙ ap (λ (b : Bool). cond {A = Part} b gone (mid.part t)) (mid-swept kept m t (swept-life (m.part t).life may.by
-      (subst (λ (s : Status). Stands (m.part t).life s) (ap (λ (k : ℕ). (m.inst k).status) own ∙ by-is) (g.placed.stands t))))
+      (subst (λ (s : Status). SuitsStatus (m.part t).life s) (ap (λ (k : ℕ). (m.inst k).status) own ∙ by-is) (g.placed.stands t))))
 
   pub part-else : (t : TxnId) → home t ≢ i → then.part t ≡ m.part t
   part-else t ne = ap (λ (b : Bool). cond {A = Part} b (swept_part (mid.part t)) (mid.part t)) (ne_eqb i t.inst (λ e. ne (sym e)))

@@ -38,7 +38,7 @@ use Rattle.sd_state.specs.Values.{Pending}
 use Rattle.sd_state.proofs.Items.{item-kept, item-set}
 use Rattle.sd_state.proofs.Standing.{one-place}
 
-module _ (i by : ℕ) (seen : rig.Image) (leaves : Outcomes) (c : Parts) (m : State) (low : 1 ≤ i) (high : i ≤ 8)
+module _ (i by : ℕ) (seen : rig.DeviceImages) (leaves : Outcomes) (c : Parts) (m : State) (low : 1 ≤ i) (high : i ≤ 8)
     (g : Good seen leaves Pending.Idle c m) (idle : c.due ≡ None) (down : status_at c i ≡ S.Down)
     (may : (by ≡ i) ⊎ ((m.inst by).status ≡ S.Up)) where
   abbrev new : Parts
@@ -291,7 +291,7 @@ up-there c eight (suc j) up = ⊎_elim
     (cases_lt j 8)
 
 -- who may recover by the complex may by the serial table
-pub may-recover : (seen : rig.Image) (leaves : Outcomes) (c : Parts) (m : State) (i by : ℕ) → Good seen leaves Pending.Idle c m
+pub may-recover : (seen : rig.DeviceImages) (leaves : Outcomes) (c : Parts) (m : State) (i by : ℕ) → Good seen leaves Pending.Idle c m
     → (by ≡ i) ⊎ (status_at c by ≡ S.Up) → (by ≡ i) ⊎ ((m.inst by).status ≡ S.Up)
 may-recover seen leaves c m i by g may = ⊎_elim (λ e. inl e)
     (λ up. let r = up-there c g.shape.statuses by up in inr (sym (g.instances by r.0 r.1).status ∙ up)) may

@@ -103,7 +103,7 @@ commits-same t xs y none = list_any-append (commits t) xs (y ∷ [])
 
 -- ---- what a crash may leave, with logs that begin somewhere
 
-module _ (i : ℕ) (y : Record) (seen : rig.Image) (leaves : Outcomes) (logs logs' : Logs) (pend pend' : Pending) (c : Parts)
+module _ (i : ℕ) (y : Record) (seen : rig.DeviceImages) (leaves : Outcomes) (logs logs' : Logs) (pend pend' : Pending) (c : Parts)
     (l : LogState)
     (table : Transactions) (epochs : List ℕ) (m : State) (h : Half seen leaves logs pend c m) (a : Appends i y leaves logs logs')
     (reads : leaves 0 (seen 0))

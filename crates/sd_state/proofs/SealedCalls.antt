@@ -40,7 +40,7 @@ use Rattle.sd_state.proofs.SealedTold.{Falls}
 use Rattle.sd_state.proofs.Standing.{one-place}
 
 -- an instance that may append has a settled log, while no fall is due
-pub settled-up : (seen : rig.Image) (leaves : Outcomes) (pend : Pending) (c : Parts) (m : State) (i : ℕ) → 1 ≤ i → i ≤ 8
+pub settled-up : (seen : rig.DeviceImages) (leaves : Outcomes) (pend : Pending) (c : Parts) (m : State) (i : ℕ) → 1 ≤ i → i ≤ 8
     → Good seen leaves pend c m → c.due ≡ None → up_as (status_at c i) ≡ true → is_loose c i ≡ false
 settled-up seen leaves pend c m i low high g idle up = ⊎_elim (λ e. e) (λ due. let clash = sym idle ∙ due in absurd (cc))
     ((g.half (λ j. false)).coherent.ready i low up)
@@ -57,7 +57,7 @@ records-fall old new t x = total-emptied records_owed old new t x (shut x) refl
 
 -- ---- a transaction with a record, of whose log its table tells
 
-module _ (t : TxnId) (x : Transaction) (seen : rig.Image) (leaves : Outcomes) (pend : Pending) (c : Parts) (m : State)
+module _ (t : TxnId) (x : Transaction) (seen : rig.DeviceImages) (leaves : Outcomes) (pend : Pending) (c : Parts) (m : State)
     (g : Good seen leaves pend c m) (reads : leaves 0 (seen 0)) (low : 1 ≤ home t) (high : home t ≤ 8)
     (settled : is_loose c (home t) ≡ false) (tells : tells_log (status_at c (home t)) ≡ true)
     (row : txn_at (txns_at c (home t)) t ≡ Some x) (there : IsSome x.span) where
@@ -167,7 +167,7 @@ as-end t r y c new own same e =
       is = e.is ∙ ap (λ (z : Record). with_last (home t) z e.spare e.table c) is;
     }
 
-pub commit-good : (t : TxnId) (seen : rig.Image) (leaves : Outcomes) (c new : Parts) (m : State) → Good seen leaves Pending.Idle c m
+pub commit-good : (t : TxnId) (seen : rig.DeviceImages) (leaves : Outcomes) (c new : Parts) (m : State) → Good seen leaves Pending.Idle c m
     → leaves 0 (seen 0) → 1 ≤ home t → home t ≤ 8 → is_loose c (home t) ≡ false → tells_log (status_at c (home t)) ≡ true
     → state_at (txns_at c (home t)) t ≡ Some TxnState.Running → HasEnd t (λ x. commit_of t x c) c new
     → Good seen leaves (Pending.Commits t) new m
@@ -183,7 +183,7 @@ commit-good t seen leaves c new m g reads low high settled tells runs e =
 pub may-tells : (t : TxnId) (c : Parts) → MayEnd t c → tells_log (status_at c (home t)) ≡ true
 may-tells t c h = ⊎_elim (λ up. ap tells_log up.0) (λ r. ap tells_log r.1) h.stands
 
-pub may-settled : (t : TxnId) (seen : rig.Image) (leaves : Outcomes) (pend : Pending) (c : Parts) (m : State) → 1 ≤ home t
+pub may-settled : (t : TxnId) (seen : rig.DeviceImages) (leaves : Outcomes) (pend : Pending) (c : Parts) (m : State) → 1 ≤ home t
     → home t ≤ 8 → Good seen leaves pend c m → c.due ≡ None → MayEnd t c → is_loose c (home t) ≡ false
 may-settled t seen leaves pend c m low high g idle h = ⊎_elim
     (λ up. settled-up seen leaves pend c m (home t) low high g idle (ap up_as up.0)) (λ r. r.2) h.stands
@@ -197,7 +197,7 @@ doubt-stops (Life.Rolling to) runs rolls d on = d
 doubt-stops (Life.Doubt cut) runs rolls d on = on
 
 -- It may have no further records.
-stops : (t : TxnId) (seen : rig.Image) (leaves : Outcomes) (c : Parts) (m : State) → Good seen leaves Pending.Idle c m
+stops : (t : TxnId) (seen : rig.DeviceImages) (leaves : Outcomes) (c : Parts) (m : State) → Good seen leaves Pending.Idle c m
     → leaves 0 (seen 0) → 1 ≤ home t → home t ≤ 8 → is_loose c (home t) ≡ false → tells_log (status_at c (home t)) ≡ true
     → MayEnd t c → GoesOn Pending.Idle t (m.part t) → ⊥
 stops t seen leaves c m g reads low high settled tells h on =
@@ -224,7 +224,7 @@ stops t seen leaves c m g reads low high settled tells h on =
     (λ d. doubt-stops (m.part t).life runs rolls d.0 on) stands)
     h.stands
 
-pub end-good : (t : TxnId) (seen : rig.Image) (leaves : Outcomes) (c new : Parts) (m : State) → Good seen leaves Pending.Idle c m
+pub end-good : (t : TxnId) (seen : rig.DeviceImages) (leaves : Outcomes) (c new : Parts) (m : State) → Good seen leaves Pending.Idle c m
     → leaves 0 (seen 0) → 1 ≤ home t → home t ≤ 8 → c.due ≡ None → MayEnd t c → HasEnd t (λ x. end_of t x c) c new
     → Good seen leaves Pending.Idle new m
 end-good t seen leaves c new m g reads low high idle h e =

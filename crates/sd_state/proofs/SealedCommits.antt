@@ -13,7 +13,7 @@ use Rattle.sd_base.proofs.SameIds.{eq-same, ne-same}
 use Rattle.sd_logrec.specs.View.{Rec, flat}
 use Rattle.sd_logrec.specs.View.Kind.{Commit}
 use Rattle.sd_logrec.specs.declared.record.Record.{Record}
-use Rattle.sd_model.specs.Acts.{Puts, after, live, seen}
+use Rattle.sd_model.specs.Acts.{Puts, after, live, seen_over}
 use Rattle.sd_model.specs.State.{State}
 use Rattle.sd_model.specs.Tables.{Contents}
 use Rattle.sd_model.specs.declared.act.Done.{Done}
@@ -22,14 +22,14 @@ use Rattle.sd_chain.specs.Images as images
 use Rattle.sd_chain.specs.Images.{Keeps, log}
 use Rattle.sd_chain.specs.Records.{Each, IsOpen, Val, at, home, stack}
 use Rattle.sd_chain.proofs.Fates.{open-endless}
-use Rattle.sd_sound.specs.Logs.{Logs, Replaces, all_at, base_at, kept_logs, tail_at, tails_of}
+use Rattle.sd_sound.specs.Logs.{Logs, ReplacesLog, all_at, base_at, kept_logs, tail_at, tails_of}
 use Rattle.sd_log.specs.Logs.{with_record}
 use Rattle.sd_sound.proofs.Appends.{kept-elsewhere, kept-old, kept-with, kept-without}
 use Rattle.sd_state.specs.Values.{Pending, as_done, decided, is_committed, is_doubt, put_of, values}
 
 -- what open records put of a record of the table, where they have one of it,
 seen-top : (base : Contents) (p s : ℕ) (stk : List Rec) (top : Rec) (below : List Rec) → filter (at p s) stk ≡ top ∷ below
-    → seen base (map put_of stk) (record { page = p; slot = s }) ≡ top.after
+    → seen_over base (map put_of stk) (record { page = p; slot = s }) ≡ top.after
 unfolding same_rid
 seen-top base p s [] top below is = absurd (cc)
 seen-top base p s (x ∷ xs) top below is = by (eqb x.page p && eqb x.slot s) (seen-top base p s xs top below) is
@@ -38,29 +38,29 @@ seen-top base p s (x ∷ xs) top below is = by (eqb x.page p && eqb x.slot s) (s
     after_of [] = x.after
     after_of (z ∷ zs) = z.after
 
-    by : (b : Bool) → (filter (at p s) xs ≡ top ∷ below → seen base (map put_of xs) (record { page = p; slot = s }) ≡ top.after)
+    by : (b : Bool) → (filter (at p s) xs ≡ top ∷ below → seen_over base (map put_of xs) (record { page = p; slot = s }) ≡ top.after)
         → cond b (x ∷ filter (at p s) xs) (filter (at p s) xs) ≡ top ∷ below
-        → cond b x.after (seen base (map put_of xs) (record { page = p; slot = s })) ≡ top.after
+        → cond b x.after (seen_over base (map put_of xs) (record { page = p; slot = s })) ≡ top.after
     by true ih e = ap after_of e
     by false ih e = ih e
 
 -- and where they have none
 seen-none : (base : Contents) (p s : ℕ) (stk : List Rec) → filter (at p s) stk ≡ []
-    → seen base (map put_of stk) (record { page = p; slot = s }) ≡ base (record { page = p; slot = s })
+    → seen_over base (map put_of stk) (record { page = p; slot = s }) ≡ base (record { page = p; slot = s })
 unfolding same_rid
 seen-none base p s [] is = refl
 seen-none base p s (x ∷ xs) is = by (eqb x.page p && eqb x.slot s) (seen-none base p s xs) is
   where
     by : (b : Bool) → (filter (at p s) xs ≡ []
-        → seen base (map put_of xs) (record { page = p; slot = s }) ≡ base (record { page = p; slot = s }))
+        → seen_over base (map put_of xs) (record { page = p; slot = s }) ≡ base (record { page = p; slot = s }))
         → cond b (x ∷ filter (at p s) xs) (filter (at p s) xs) ≡ []
-        → cond b x.after (seen base (map put_of xs) (record { page = p; slot = s })) ≡ base (record { page = p; slot = s })
+        → cond b x.after (seen_over base (map put_of xs) (record { page = p; slot = s })) ≡ base (record { page = p; slot = s })
     by true ih e = absurd (cc)
     by false ih e = ih e
 
 after-append : (start : Contents) (done more : List Done) → after start (done ++ more) ≡ after (after start done) more
 after-append start [] more = refl
-after-append start (d ∷ done) more = after-append (seen start (live d.acts)) done more
+after-append start (d ∷ done) more = after-append (seen_over start (live d.acts)) done more
 
 filter-each : (P Q : TxnId → Bool) (xs : List TxnId) → Each (λ u. P u ≡ Q u) xs → filter P xs ≡ filter Q xs
 filter-each P Q [] e = refl
@@ -75,7 +75,7 @@ each-filter D P f (x ∷ xs) = by (D x) (each-filter D P f xs) refl
     by true ih e = (f x e, ih)
     by false ih e = ih
 
-module _ (i spare : ℕ) (y : Record) (logs logs' : Logs) (at_end : Replaces i (with_record y spare (logs i)) logs logs')
+module _ (i spare : ℕ) (y : Record) (logs logs' : Logs) (at_end : ReplacesLog i (with_record y spare (logs i)) logs logs')
     (m : State)
     (kind : (flat y).kind ≡ Commit) (own : home (flat y).txn ≡ i) (runs : is_doubt (m.part (flat y).txn).life ≡ false)
     (alive : IsOpen (flat y).txn (all_at (logs i)))
@@ -164,14 +164,14 @@ module _ (i spare : ℕ) (y : Record) (logs logs' : Logs) (at_end : Replaces i (
   old_done keeps = m.done ++ decided m Pending.Idle (old_in keeps)
 
   value-kept : (keeps : Keeps) → keeps i ≡ true → (p s : ℕ) → values m (Pending.Commits t) (new_in keeps) p s
-      ≡ seen (after m.start (old_done keeps)) (map put_of (stack t (all_at (logs i)))) (record { page = p; slot = s })
+      ≡ seen_over (after m.start (old_done keeps)) (map put_of (stack t (all_at (logs i)))) (record { page = p; slot = s })
   value-kept keeps kept p s =
       ap (λ (d : List Done). after m.start (m.done ++ d) (record { page = p; slot = s }))
       (decided-is keeps true (here-kept keeps kept))
       ∙ ap (λ (d : List Done). after m.start d (record { page = p; slot = s }))
       (sym (append_assoc m.done (decided m Pending.Idle (old_in keeps)) (as_done m t ∷ [])))
       ∙ ap (λ (f : Contents). f (record { page = p; slot = s })) (after-append m.start (old_done keeps) (as_done m t ∷ []))
-      ∙ ap (λ (l : Puts). seen (after m.start (old_done keeps)) l (record { page = p; slot = s })) tie
+      ∙ ap (λ (l : Puts). seen_over (after m.start (old_done keeps)) l (record { page = p; slot = s })) tie
 
   value-dropped : (keeps : Keeps) → keeps i ≡ false → (p s : ℕ)
       → values m (Pending.Commits t) (new_in keeps) p s ≡ values m Pending.Idle (old_in keeps) p s

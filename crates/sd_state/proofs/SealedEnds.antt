@@ -21,7 +21,7 @@ use Rattle.sd_state.specs.Sealing.{MaySeal}
 use Rattle.sd_state.specs.Values.{Pending}
 use Rattle.sd_state.proofs.Standing.{no-place, one-place}
 
-module _ (i : ℕ) (y : Record) (seen : rig.Image) (leaves : Outcomes) (pend : Pending) (c : Parts) (m : State) (log : LogState)
+module _ (i : ℕ) (y : Record) (seen : rig.DeviceImages) (leaves : Outcomes) (pend : Pending) (c : Parts) (m : State) (log : LogState)
     (g : Good seen leaves pend c m) (may : MaySeal i y c) (it_ends : ends (flat y).kind ≡ true)
     (there : HasRecord (flat y).txn (all_at (log_at c i))) (is : log_at c i ≡ log) where
   is_end : IsEnd y (log_at c i)

@@ -119,7 +119,7 @@ pub record IsSealing (i : ℕ) (y : Record) (spare : ℕ) (table : Transactions)
   pub epoch_here : (bytes : List ℕ) → (past_at (master bytes) (forced (log_at c i))).epoch ≡ epoch_at c i
       → (past_at (master bytes) (forced (with_record y spare (log_at c i)))).epoch ≡ among 0 epochs i
 
-module _ (i spare : ℕ) (y : Record) (table : Transactions) (epochs : List ℕ) (seen : rig.Image) (leaves : Outcomes)
+module _ (i spare : ℕ) (y : Record) (table : Transactions) (epochs : List ℕ) (seen : rig.DeviceImages) (leaves : Outcomes)
     (pend pend' : Pending) (c : Parts) (m : State) (g : Good seen leaves pend c m) (reads : leaves 0 (seen 0))
     (by : IsSealing i y spare table epochs pend pend' c m) where
   abbrev new : Parts

@@ -17,7 +17,7 @@ use Rattle.sd_logrec.specs.declared.record.Record.{Record}
 use Rattle.sd_logrec.specs.declared.record.Record.TheVariants as records
 use Rattle.sd_log.specs.Logs.{LogState, forced, with_record}
 use Rattle.sd_model.specs.Acts.{live}
-use Rattle.sd_model.specs.Placed.{MayRun, Stands}
+use Rattle.sd_model.specs.Lives.{MayRun, SuitsStatus}
 use Rattle.sd_model.specs.State.{State}
 use Rattle.sd_model.specs.declared.act.Life.{Life}
 use Rattle.sd_rig.specs.Devices as rig
@@ -30,7 +30,7 @@ use Rattle.sd_txn.proofs.Stacks.{popped-empty}
 use Rattle.sd_chain.specs.Checks.{owed, reserve}
 use Rattle.sd_chain.specs.Fates.{Fate, commits, fate, is_commit}
 use Rattle.sd_chain.specs.Cuts.{cut}
-use Rattle.sd_chain.specs.Image.{Recovered}
+use Rattle.sd_chain.specs.Storage.{Recovered}
 use Rattle.sd_chain.specs.Images.{Gives, Grows, Keeps, log, with_disk}
 use Rattle.sd_chain.specs.Order.{of_txn, speaks}
 use Rattle.sd_chain.specs.Records.{Each, IsOpen, changes, ends, home, stack}
@@ -117,7 +117,7 @@ module _ (i spare : ℕ) (y : Record) (x : Transaction) (table : Transactions) (
         (speaks-no_start y (ends-speaks (flat y).kind it_ends)) ∙ was;
   }
 
-module _ (i spare : ℕ) (y : Record) (table : Transactions) (seen : rig.Image) (leaves : Outcomes) (pend pend' : Pending)
+module _ (i spare : ℕ) (y : Record) (table : Transactions) (seen : rig.DeviceImages) (leaves : Outcomes) (pend pend' : Pending)
     (c : Parts) (m : State) (g : Good seen leaves pend c m) (reads : leaves 0 (seen 0))
     (s : IsSealing i y spare table c.epochs pend pend' c m) (it_ends : ends (flat y).kind ≡ true)
     (there : HasRecord (flat y).txn (all_at (log_at c i)))
@@ -228,8 +228,8 @@ tie-of : (x : Option Transaction) (t : TxnId) (m : State) (own : List Rec) (f w 
 tie-of None t m own f w runs names h = let e = sym runs ∙ names in absurd (cc)
 tie-of (Some x) t m own f w runs names h = h.puts
 
-up-of : (s : Status) (life : Life) → life ≡ Life.Running → Stands life s → s ≡ S.Up
-up-of s life runs stands = by s (subst (λ (l : Life). Stands l s) runs stands)
+up-of : (s : Status) (life : Life) → life ≡ Life.Running → SuitsStatus life s → s ≡ S.Up
+up-of s life runs stands = by s (subst (λ (l : Life). SuitsStatus l s) runs stands)
   where
     by : (s : Status) → MayRun s → s ≡ S.Up
     by S.Up may = refl
@@ -262,7 +262,7 @@ commit-seals leaves bytes records i spare y x table seen c m g reads may kind by
     let there = row-there i spare y x table c g.shape may it_ends by b r m told in
     let up : status_at c i ≡ S.Up = inst.status
     ∙ up-of (m.inst i).status (m.part t).life runs
-    (subst (λ (j : ℕ). Stands (m.part t).life (m.inst j).status) own (g.placed.stands t)) in
+    (subst (λ (j : ℕ). SuitsStatus (m.part t).life (m.inst j).status) own (g.placed.stands t)) in
     let tie = tie-of (txn_at (txns_at c i) t) t m (all_at (log_at c i)) (fate t (base_at (log_at c i)))
     (fate t (all_at (log_at c i))) runs
     (inst.names t own) (g.at_work i may.low may.high up t own (λ e. absurd (cc))) in
@@ -368,7 +368,7 @@ sealing-plain i spare y epochs pend pend' c m may kind idle eight others up here
   epoch_here = here;
 }
 
-module _ (i spare : ℕ) (y : Record) (epochs : List ℕ) (seen : rig.Image) (leaves : Outcomes) (pend pend' : Pending) (c : Parts)
+module _ (i spare : ℕ) (y : Record) (epochs : List ℕ) (seen : rig.DeviceImages) (leaves : Outcomes) (pend pend' : Pending) (c : Parts)
     (m : State) (g : Good seen leaves pend c m) (reads : leaves 0 (seen 0))
     (s : IsSealing i y spare (txns_at c i) epochs pend pend' c m) (kind : (flat y).kind ≡ Plain)
     (tested : IsTestedFor i y spare leaves c) (room : reserve (all_at (log_at c i)) ≤ spare)

@@ -67,7 +67,7 @@ may-plain i past (records.End l txn prev) e = absurd (cc)
 may-plain i past (records.BeginCheck l) e = tt
 may-plain i past (records.EndCheck l begin spans recs) e = tt
 
-module _ (i : ℕ) (y : Record) (spare : ℕ) (seen : rig.Image) (leaves : Outcomes) (pend : Pending) (c : Parts) (m : State)
+module _ (i : ℕ) (y : Record) (spare : ℕ) (seen : rig.DeviceImages) (leaves : Outcomes) (pend : Pending) (c : Parts) (m : State)
     (g : Good seen leaves pend c m) (low : 1 ≤ i) (high : i ≤ 8) (settled : is_loose c i ≡ false)
     (tells : tells_log (status_at c i) ≡ true) where
   told : IsTold c m i
@@ -169,7 +169,7 @@ plain-may i y c low high settled tells kind lsn = record {
   lsn = lsn;
 }
 
-pub check-good : (i : ℕ) (y : Record) (spare : ℕ) (seen : rig.Image) (leaves : Outcomes) (pend : Pending) (c : Parts) (m : State)
+pub check-good : (i : ℕ) (y : Record) (spare : ℕ) (seen : rig.DeviceImages) (leaves : Outcomes) (pend : Pending) (c : Parts) (m : State)
     → Good seen leaves pend c m → leaves 0 (seen 0) → 1 ≤ i → i ≤ 8 → c.due ≡ None → MayCheck i y c
     → (NoRoomFor i (length (spelling y)) c → ⊥) → (NoLsnLeft i c → ⊥) → reserve_of (txns_at c i) ≤ spare
     → Good seen leaves pend (with_more i y spare c) m
@@ -181,7 +181,7 @@ check-good i y spare seen leaves pend c m g reads low high idle h room left memo
     (λ bytes l. next_epoch-other (past_at (master bytes) (forced (log_at c i))) y h.no_start) room left)
     (reserve-fits i y spare seen leaves pend c m g low high settled tells memory)
 
-pub start-good : (i lsn epoch spare : ℕ) (seen : rig.Image) (leaves : Outcomes) (c : Parts) (m : State)
+pub start-good : (i lsn epoch spare : ℕ) (seen : rig.DeviceImages) (leaves : Outcomes) (c : Parts) (m : State)
     → Good seen leaves Pending.Idle c m → leaves 0 (seen 0) → 1 ≤ i → i ≤ 8 → c.due ≡ None
     → (status_at c i ≡ S.Clean) ⊎ (status_at c i ≡ S.Restarting) → lsn ≡ next_lsn (log_at c i) 0 → epoch ≡ epoch_at c i + 1
     → (NoRoomFor i (length (spelling (records.Start lsn epoch))) c → ⊥) → (NoLsnLeft i c → ⊥) → reserve_of (txns_at c i) ≤ spare
@@ -211,7 +211,7 @@ refused-so (Err e) room left roomy none only =
 -- ---- what the calls ask for
 
 -- few records are owed by what the table tells
-pub few-told : (i : ℕ) (seen : rig.Image) (leaves : Outcomes) (pend : Pending) (c : Parts) (m : State) → Good seen leaves pend c m
+pub few-told : (i : ℕ) (seen : rig.DeviceImages) (leaves : Outcomes) (pend : Pending) (c : Parts) (m : State) → Good seen leaves pend c m
     → leaves 0 (seen 0) → 1 ≤ i → i ≤ 8 → c.due ≡ None → up_as (status_at c i) ≡ true → tells_log (status_at c i) ≡ true
     → owed_of (txns_at c i) < 2 ^ 64
 few-told i seen leaves pend c m g reads low high idle up tells =

@@ -14,9 +14,9 @@ use Rattle.sd_model.specs.State.{State}
 use Rattle.sd_rig.specs.Devices as rig
 use Rattle.sd_chain.specs.Bytes.{stable}
 use Rattle.sd_chain.specs.Checks.{DevicesAreSound, past_of, placed_of}
-use Rattle.sd_chain.specs.Crashes.{Leaves, StandsFor}
+use Rattle.sd_chain.specs.Crashes.{CrashLeaves, StandsFor}
 use Rattle.sd_chain.specs.Fates.{Fate, fate}
-use Rattle.sd_chain.specs.Image.{Recovered}
+use Rattle.sd_chain.specs.Storage.{Recovered}
 use Rattle.sd_chain.specs.Images.{Keeps}
 use Rattle.sd_chain.specs.Records.{Val, home}
 use Rattle.sd_coherent.proofs.Crashes as crashes
@@ -67,7 +67,7 @@ known-still c new logs logs' lsn great same = ⊎_elim (λ low. inl (omega (arit
     (λ r. inr (r.0, r.1, r.2, ap (list_any (reaches lsn)) (same r.0) ∙ r.3))
 
 -- who was found committed is so in a log that begins at one place still, where all tables but that of a settled log stay
-pub others-still : (seen : rig.Image) (leaves : Outcomes) (pend : Pending) (c : Parts) (m : State) → Good seen leaves pend c m
+pub others-still : (seen : rig.DeviceImages) (leaves : Outcomes) (pend : Pending) (c : Parts) (m : State) → Good seen leaves pend c m
     → (new : Parts) (i : ℕ) → is_loose c i ≡ false → ((j : ℕ) → j ≢ i → txns_at new j ≡ txns_at c j)
     → (j place : ℕ) → 1 ≤ j → j ≤ 8 → other_at c j ≡ Some place → NoneIsFound new j
 others-still seen leaves pend c m g new i settled elsewhere j place low high other t own is = ⊎_elim
@@ -84,7 +84,7 @@ abbrev pub moved_to : List ℕ → Option ℕ → Bool
 moved_to bytes place = option_map_or (λ (p : ℕ). eqb (master bytes).start p) place false
 
 -- the image tells of each log where it begins
-abbrev pub which : Parts → rig.Image → Keeps
+abbrev pub which : Parts → rig.DeviceImages → Keeps
 which c img j = moved_to (img j) (other_at c j)
 
 place-is : (bytes : List ℕ) (other : Option ℕ) (start : ℕ)
@@ -97,7 +97,7 @@ place-is bytes (Some place) start either = ⊎_elim
     (cases_eq (master bytes).start place)
 
 -- the image is left with the logs beginning so
-pub left-by : (seen : rig.Image) (leaves : Outcomes) (pend : Pending) (c : Parts) (m : State) (img : rig.Image)
+pub left-by : (seen : rig.DeviceImages) (leaves : Outcomes) (pend : Pending) (c : Parts) (m : State) (img : rig.DeviceImages)
     → Good seen leaves pend c m → rig.Leaves leaves img → rig.Leaves (leaves_by c (which c img) leaves) img
 left-by seen leaves pend c m img g left d le =
     (left d le, place-is (img d) (other_at c d) (log_at c d).start (λ place e. g.places d place e (img d) (left d le)))
@@ -119,14 +119,14 @@ epoch-either m pend j bytes log r both = ⊎_elim
     here l is = ap (λ reading. (after_records (past_of (master bytes)) (map (λ r. r.1) (placed_of reading))).epoch) is
 
 -- An image on whose devices the logs are ready, and which is sound, stands for m.
-module _ (seen : rig.Image) (leaves : Outcomes) (logs : Logs) (pend : Pending) (c : Parts) (m : State) (img : rig.Image)
+module _ (seen : rig.DeviceImages) (leaves : Outcomes) (logs : Logs) (pend : Pending) (c : Parts) (m : State) (img : rig.DeviceImages)
     (h : Half seen leaves logs pend c m) (disk : leaves 0 (img 0)) (ready : (j : ℕ) → 1 ≤ j → j ≤ 8 → IsReady j (img j) (logs j))
     (epochs : (j : ℕ) → 1 ≤ j → j ≤ 8
     → IsEpochOf m pend j (past_at (master (img j)) (logs j)).epoch × IsEpochOf m pend j (past_at (master (img j)) (forced (logs j))).epoch) where
   abbrev table : Keeps → ℕ → ℕ → Val
   table keeps = values m pend (kept_logs (tails_of logs) keeps)
 
-  there : Leaves (tails_of logs) (may_of leaves) (stable img)
+  there : CrashLeaves (tails_of logs) (may_of leaves) (stable img)
   there = record {
     logs = logs-ready logs img h.coherent.eight.0 h.coherent.safe.eight ready;
     disks = λ p. (img 0, disk, refl);
@@ -157,7 +157,7 @@ left-stands leaves seen img pend c m g left =
     (between-left leaves' logs (base_of seen leaves' logs c).version img h.soundly h.coherent.safe h.coherent.eight.0 left')
 
 -- What a crash leaves while a log that begins at one place is forced.
-module _ (leaves : Outcomes) (i : ℕ) (seen img : rig.Image) (pend : Pending) (c : Parts) (m : State) (g : Good seen leaves pend c m)
+module _ (leaves : Outcomes) (i : ℕ) (seen img : rig.DeviceImages) (pend : Pending) (c : Parts) (m : State) (g : Good seen leaves pend c m)
     (low : 1 ≤ i) (high : i ≤ 8) (one : other_at c i ≡ None) (reads : leaves i (seen i)) (f : Forces (log_at c i) seen leaves img) where
   abbrev moved : Keeps
   moved = which c img

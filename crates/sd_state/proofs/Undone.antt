@@ -19,13 +19,13 @@ use Rattle.sd_model.specs.Claims.{Claims}
 use Rattle.sd_model.specs.Kept.{Kept}
 use Rattle.sd_model.specs.Marks.{Marked}
 use Rattle.sd_model.specs.Listed.{IsAtWork, Listed}
-use Rattle.sd_model.specs.Placed.{IsDoubt, Placed, Stands}
+use Rattle.sd_model.specs.Lives.{IsDoubt, LivesAreSound, SuitsStatus}
 use Rattle.sd_model.specs.declared.act.Life.{Life}
 use Rattle.sd_page.specs.Page.{Page}
 use Rattle.sd_pagelock.specs.Directory.{DirectoryState, asks_at, entry_at}
-use Rattle.sd_pagelock.specs.Asks.{is_open}
+use Rattle.sd_pagelock.specs.Asks.{is_open_ask}
 use Rattle.sd_pagelock.specs.declared.queue.Ask.{Ask}
-use Rattle.sd_pagelock.specs.Places.{Entry}
+use Rattle.sd_pagelock.specs.Places.{PageEntry}
 use Rattle.sd_pagelock.specs.Rows.{dirtied}
 use Rattle.sd_pool.specs.Buffers.{Buffers}
 use Rattle.sd_rig.specs.Devices as rig
@@ -85,7 +85,7 @@ undone_log t x o image c = all_at (log_at c (home t)) ++ flat (clr_at t x o imag
 
 -- Instance a undoes the record, and no life or claim of the serial table changes, and of no other transaction anything.
 module _ (a : ℕ) (t : TxnId) (x : Transaction) (o : OpenRec) (image : Page) (log : LogState) (pool : Buffers) (table : Transactions)
-    (places : DirectoryState Page) (due : Option (ℕ × ℕ)) (seen : rig.Image) (leaves : Outcomes) (c : Parts) (m : State)
+    (places : DirectoryState Page) (due : Option (ℕ × ℕ)) (seen : rig.DeviceImages) (leaves : Outcomes) (c : Parts) (m : State)
     (part' : TxnId → Part) (a_low : 1 ≤ a) (a_high : a ≤ 8) (g : Good seen leaves Pending.Idle c m) (w : HasTop a t x o image c)
     (d : IsUndone a t x o image log pool table places c)
     (lives : (u : TxnId) → (part' u).life ≡ (m.part u).life) (claims_stay : (u : TxnId) → (part' u).claims ≡ (m.part u).claims)
@@ -496,26 +496,26 @@ module _ (a : ℕ) (t : TxnId) (x : Transaction) (o : OpenRec) (image : Page) (l
 
   -- ---- asks
 
-  abbrev IsAsk : Entry → Ask → Type 0
-  IsAsk entry ask = (is_active c ask.by ≡ true) × (is_open entry ask ≡ true)
+  abbrev IsAsk : PageEntry → Ask → Type 0
+  IsAsk entry ask = (is_active c ask.by ≡ true) × (is_open_ask entry ask ≡ true)
 
   asks-there : (p : ℕ) → Each (IsAsk (entry_at places p)) (asks_at places p)
   asks-there p = ⊎_elim
       (λ e. subst (λ (q : ℕ). Each (IsAsk (entry_at places q)) (asks_at places q)) (sym e)
-      (subst (λ (entry : Entry). Each (IsAsk entry) (asks_at places o.rid.page)) (sym d.entry)
+      (subst (λ (entry : PageEntry). Each (IsAsk entry) (asks_at places o.rid.page)) (sym d.entry)
       (subst (Each (IsAsk (dirtied a))) (sym d.asks)
-      (Each-filter (IsAsk (dirtied a)) (is_open (dirtied a)) (asks_at c.directory o.rid.page)
-      (Each-weaker (IsAsk (entry_at c.directory o.rid.page)) (λ ask. is_open (dirtied a) ask ≡ true → IsAsk (dirtied a) ask)
+      (Each-filter (IsAsk (dirtied a)) (is_open_ask (dirtied a)) (asks_at c.directory o.rid.page)
+      (Each-weaker (IsAsk (entry_at c.directory o.rid.page)) (λ ask. is_open_ask (dirtied a) ask ≡ true → IsAsk (dirtied a) ask)
       (λ ask it opens. (it.0, opens)) (asks_at c.directory o.rid.page) (g.asks o.rid.page))))))
-      (λ ne. subst (λ (entry : Entry). Each (IsAsk entry) (asks_at places p)) (sym (d.other_entries p ne))
+      (λ ne. subst (λ (entry : PageEntry). Each (IsAsk entry) (asks_at places p)) (sym (d.other_entries p ne))
       (subst (Each (IsAsk (entry_at c.directory p))) (sym (d.other_asks p ne)) (g.asks p)))
       (cases_eq p o.rid.page)
 
   -- ---- the whole
 
-  stands-there : Placed then_m
+  stands-there : LivesAreSound then_m
   stands-there = record {
-    stands = λ u. subst (λ (life : Life). Stands life (m.inst u.inst).status) (sym (lives u)) (g.placed.stands u);
+    stands = λ u. subst (λ (life : Life). SuitsStatus life (m.inst u.inst).status) (sym (lives u)) (g.placed.stands u);
     one = λ u v du dv. g.placed.one u v (subst IsDoubt (lives u) du) (subst IsDoubt (lives v) dv);
     shut = g.placed.shut;
   }

@@ -17,7 +17,7 @@ use Rattle.sd_log.specs.Logs.{AreSpelled, LogState, scanned}
 use Rattle.sd_model.specs.Changes.{undid}
 use Rattle.sd_model.specs.State.{State}
 use Rattle.sd_page.specs.Page.{CanTake, Page, Slot, capacity_for, written}
-use Rattle.sd_pagelock.specs.Directory.{DirectoryState, entry_at, image_at}
+use Rattle.sd_pagelock.specs.Directory.{DirectoryState, entry_at, moving_image_at}
 use Rattle.sd_pagelock.specs.Places.{owns}
 use Rattle.sd_pool.specs.Buffers as buffers
 use Rattle.sd_pool.specs.Buffers.{Buffers}
@@ -57,8 +57,8 @@ undo-taken slots s v fits = let lt = fits.place in record {
 }
 
 -- what is on its way, out of its box
-pub image-unboxed : (d e : DirectoryState (Box Page)) (q : ℕ) → image_at e q ≡ image_at d q
-    → image_at (unboxed e) q ≡ image_at (unboxed d) q
+pub image-unboxed : (d e : DirectoryState (Box Page)) (q : ℕ) → moving_image_at e q ≡ moving_image_at d q
+    → moving_image_at (unboxed e) q ≡ moving_image_at (unboxed d) q
 image-unboxed d e q same = get_or-map (option_map box_value) e.images q None ∙ ap (option_map box_value) same
     ∙ sym (get_or-map (option_map box_value) d.images q None)
 
@@ -129,7 +129,7 @@ pub record KeepsTable (t : TxnId) (table : Transactions) : Type 0 where
   pub once : IsDistinct same_txn (ids table)
   pub marks : (x : Transaction) → txn_at table t ≡ Some x → AreMarks x.marks (depth x)
 
-module _ (t : TxnId) (seen : rig.Image) (leaves : Outcomes) (c : Parts) (m : State) (to : Option ℕ)
+module _ (t : TxnId) (seen : rig.DeviceImages) (leaves : Outcomes) (c : Parts) (m : State) (to : Option ℕ)
     (g : Good seen leaves Pending.Idle c m) (rolls : RollsTo t to m) (low : 1 ≤ home t) (high : home t ≤ 8) (idle : c.due ≡ None)
     (up : status_at c (home t) ≡ S.Up)
     (holds : (o : OpenRec) → top_at (txns_at c (home t)) t ≡ Some o → owns (entry_at c.directory o.rid.page) (home t) ≡ true)

@@ -53,7 +53,7 @@ retained-there life forced whole h gone = ⊎_elim (λ r. let e = sym r ∙ gone
     (λ d. subst IsInDoubt gone d.0) h
 
 module _ (a : ℕ) (t : TxnId) (x : Transaction) (o : OpenRec) (image : Page) (log : LogState) (pool : Buffers) (table : Transactions)
-    (places : DirectoryState Page) (seen : rig.Image) (leaves : Outcomes) (c : Parts) (m : State)
+    (places : DirectoryState Page) (seen : rig.DeviceImages) (leaves : Outcomes) (c : Parts) (m : State)
     (g : Good seen leaves Pending.Idle c m) (w : MayUndoFor a t x o image c)
     (d : IsUndone a t x o image log pool table places c) where
   abbrev i : ℕ

@@ -51,7 +51,7 @@ own-forced a owes c new s low high is = ap (λ (q : Parts). (log_at q a).tail) i
     ∙ ap (λ (l : LogState). l.tail) (item-set no_log c.logs a (forced (log_at c a)) low high s.logs) ∙ forced-tail (log_at c a)
 
 -- a log that is forced owes what all of its records owe
-pub own-owes : (a : ℕ) (seen : rig.Image) (leaves : Outcomes) (c new : Parts) (m : State) → Good seen leaves Pending.Idle new m → IsShape c
+pub own-owes : (a : ℕ) (seen : rig.DeviceImages) (leaves : Outcomes) (c new : Parts) (m : State) → Good seen leaves Pending.Idle new m → IsShape c
     → 1 ≤ a → a ≤ 8 → is_loose c a ≡ false → new ≡ with_forced a (forced (log_at c a)) (owed_at new a) c
     → owed_at new a ≡ owed (all_at (log_at c a))
 own-owes a seen leaves c new m good s low high settled is =
@@ -60,7 +60,7 @@ own-owes a seen leaves c new m good s low high settled is =
     ∙ ap (λ (l : LogState). owed (base_at l)) (item-set no_log c.logs a (forced (log_at c a)) low high s.logs)
     ∙ ap owed (forced-base (log_at c a))
 
-module _ (a : ℕ) (t : TxnId) (seen : rig.Image) (leaves : Outcomes) (c : Parts) (m : State) (g : Good seen leaves Pending.Idle c m)
+module _ (a : ℕ) (t : TxnId) (seen : rig.DeviceImages) (leaves : Outcomes) (c : Parts) (m : State) (g : Good seen leaves Pending.Idle c m)
     (w : MayUndoLoser a t c) (low : 1 ≤ home t) (high : home t ≤ 8) (a_low : 1 ≤ a) (a_high : a ≤ 8)
     (once : IsDistinct same_txn (ids (txns_at c (home t)))) where
   there : (image : Page) × HasTop a t w.x w.o image c

@@ -28,7 +28,7 @@ use Rattle.sd_txn.specs.declared.state.OpenRec.{OpenRec}
 use Rattle.sd_chain.specs.Bytes.{disk_page}
 use Rattle.sd_chain.specs.Cuts.{cut}
 use Rattle.sd_chain.specs.Fates.{Fate, commits, fate}
-use Rattle.sd_chain.specs.Image.{Recovered}
+use Rattle.sd_chain.specs.Storage.{Recovered}
 use Rattle.sd_chain.specs.Images.{Gives, Grows, Keeps, all_kept, log, with_disk}
 use Rattle.sd_chain.specs.Images as images
 use Rattle.sd_chain.specs.Order.{MayFollow, UndoesTop}
@@ -43,13 +43,13 @@ use Rattle.sd_coherent.specs.Changes.{Acts, IsUndo}
 use Rattle.sd_coherent.specs.Checkpoints.{Closed, Covered}
 use Rattle.sd_coherent.specs.Coherent.{Coherent}
 use Rattle.sd_coherent.specs.Named.{IsRedone}
-use Rattle.sd_coherent.specs.World.{Base, now}
+use Rattle.sd_coherent.specs.World.{Base, newest_version}
 use Rattle.sd_coherent.proofs.Changes.{change-keeps, held-now, lone, undo-may_come}
 use Rattle.sd_coherent.proofs.Checkpoints.{cover-grows, cover-stays}
 use Rattle.sd_coherent.proofs.Closed.{close-grows, close-stays}
 use Rattle.sd_coherent.proofs.Named.{undo-named}
 use Rattle.sd_sound.specs.Appends as sound
-use Rattle.sd_sound.specs.Logs.{Logs, Outcomes, Replaces, all_at, base_at, kept_logs, may_of, next_lsn, past_at, tail_at, tails_of}
+use Rattle.sd_sound.specs.Logs.{Logs, Outcomes, ReplacesLog, all_at, base_at, kept_logs, may_of, next_lsn, past_at, tail_at, tails_of}
 use Rattle.sd_sound.specs.Soundly.{IsSoundly}
 use Rattle.sd_sound.proofs.Appends.{appended-log, kept-elsewhere, kept-old, kept-with, kept-without}
 use Rattle.sd_sound.proofs.Next.{epoch-others}
@@ -124,12 +124,12 @@ any-push test xs y off = list_any-append test xs (y ∷ []) ∙ ap (λ (b : Bool
 -- ---- the devices
 
 -- the devices as coherence sees them while the log is settled, and this fall is due
-abbrev pub acting_base : rig.Image → (leaves : Outcomes) → Logs → Parts → (ℕ → Bool) → Option (ℕ × ℕ) → Base (may_of leaves)
+abbrev pub acting_base : rig.DeviceImages → (leaves : Outcomes) → Logs → Parts → (ℕ → Bool) → Option (ℕ × ℕ) → Base (may_of leaves)
 acting_base seen leaves logs c marks due = record (base_of seen leaves logs c) { loose = marks; due = due }
 
 -- Instance a undoes the record, and no life or claim of the serial table changes.
 module _ (a : ℕ) (t : TxnId) (x : Transaction) (o : OpenRec) (image : Page) (log : LogState) (pool : Buffers) (table : Transactions)
-    (places : DirectoryState Page) (due : Option (ℕ × ℕ)) (seen : rig.Image) (leaves : Outcomes) (logs logs' : Logs) (c : Parts)
+    (places : DirectoryState Page) (due : Option (ℕ × ℕ)) (seen : rig.DeviceImages) (leaves : Outcomes) (logs logs' : Logs) (c : Parts)
     (m : State) (part' : TxnId → Part) (top : Rec) (below : List Rec) (a_low : 1 ≤ a) (a_high : a ≤ 8)
     (w : HasTop a t x o image c) (d : IsUndone a t x o image log pool table places c) (pools : length c.pools ≡ 8)
     (lives : (u : TxnId) → (part' u).life ≡ (m.part u).life) (claims_stay : (u : TxnId) → (part' u).claims ≡ (m.part u).claims)
@@ -172,7 +172,7 @@ module _ (a : ℕ) (t : TxnId) (x : Transaction) (o : OpenRec) (image : Page) (l
   appended : logs' i ≡ with_record r d.spare (logs i)
   appended = here ∙ d.grown ∙ ap (with_record r d.spare) (sym one)
 
-  at : Replaces i (with_record r d.spare (logs i)) logs logs'
+  at : ReplacesLog i (with_record r d.spare (logs i)) logs logs'
   at = record { low = w.low; high = w.high; here = appended; others = elsewhere }
 
   bases : (j : ℕ) → base_at (logs' j) ≡ base_at (logs j)
@@ -192,7 +192,7 @@ module _ (a : ℕ) (t : TxnId) (x : Transaction) (o : OpenRec) (image : Page) (l
   rises : image.lsn < y.lsn
   rises = omega arith
 
-  may_undo : images.MayUndo i (tails_of logs) (now b) y top below
+  may_undo : images.MayUndo i (tails_of logs) (newest_version b) y top below
   may_undo = undo-may_come (may_of leaves) a i image y top below b0 (dir_of c) acting w.held acts w.copy rises undo
 
   named : IsRedone (may_of leaves) i y (tails_of logs') (disk_page (seen 0)) b.version

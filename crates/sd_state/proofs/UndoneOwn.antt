@@ -46,7 +46,7 @@ stands-rolling TxnState.Committed to forced one other h = h
 
 -- The transaction rolls back on its own instance, which is up.
 module _ (t : TxnId) (x : Transaction) (o : OpenRec) (image : Page) (log : LogState) (pool : Buffers) (table : Transactions)
-    (places : DirectoryState Page) (seen : rig.Image) (leaves : Outcomes) (c : Parts) (m : State)
+    (places : DirectoryState Page) (seen : rig.DeviceImages) (leaves : Outcomes) (c : Parts) (m : State)
     (g : Good seen leaves Pending.Idle c m) (w : MayUndo t x o image c m)
     (d : IsUndone (home t) t x o image log pool table places c) where
   found : HasTop (home t) t x o image c

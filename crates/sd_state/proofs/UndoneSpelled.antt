@@ -70,7 +70,7 @@ last-low t sofar (x ∷ xs) low each = last-low t (advance t sofar x) xs (by (of
     by true is = rw is each.0.lsn
     by false is = rw is low
 
-module _ (a : ℕ) (t : TxnId) (x : Transaction) (o : OpenRec) (image : Page) (seen : rig.Image) (leaves : Outcomes) (c : Parts)
+module _ (a : ℕ) (t : TxnId) (x : Transaction) (o : OpenRec) (image : Page) (seen : rig.DeviceImages) (leaves : Outcomes) (c : Parts)
     (m : State) (g : Good seen leaves Pending.Idle c m) (w : HasTop a t x o image c)
     (spelled : AreSpelled (scanned (log_at c (home t)))) where
   each : Each IsOfGrammar (all_at (log_at c (home t)))

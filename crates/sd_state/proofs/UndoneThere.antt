@@ -9,13 +9,13 @@ use Rattle.sd_model.specs.State.{State}
 use Rattle.sd_model.specs.declared.act.Life.{Life}
 use Rattle.sd_page.specs.Page.{Page}
 use Rattle.sd_pagelock.specs.Directory.{entry_at}
-use Rattle.sd_pagelock.specs.Places.{Entry, holds, owns}
+use Rattle.sd_pagelock.specs.Places.{PageEntry, holds, owns}
 use Rattle.sd_txn.specs.Transactions.{Transaction, top, txn_at}
 use Rattle.sd_txn.specs.declared.state.OpenRec.{OpenRec}
 use Rattle.sd_txn.proofs.Stacks.{none-empty}
 use Rattle.sd_chain.specs.Fates.{Fate, fate}
 use Rattle.sd_chain.specs.Records.{IsOpen, home, stack}
-use Rattle.sd_coherent.specs.World.{now}
+use Rattle.sd_coherent.specs.World.{newest_version}
 use Rattle.sd_sound.specs.Logs.{Outcomes, all_at, base_at}
 use Rattle.sd_state.specs.Good.{base_of}
 use Rattle.sd_state.specs.Images.{leaves_by, log_by}
@@ -25,17 +25,17 @@ use Rattle.sd_state.specs.Undoing.{FindsTop, UndoFindsCopy, UndoFindsTop}
 use Rattle.sd_state.specs.Values.{open_of, put_of}
 use Rattle.sd_state.proofs.UndoneTop.{alive-there}
 
-owned-held : (e : Entry) (i : ℕ) → owns e i ≡ true → holds e i ≡ true
-owned-held Entry.Free i h = h
-owned-held (Entry.Shared set writer) i h = absurd (cc)
-owned-held (Entry.Excl holder dirty) i h = h
-owned-held (Entry.Moving to mode rest dirty) i h = absurd (cc)
-owned-held Entry.Lost i h = h
+owned-held : (e : PageEntry) (i : ℕ) → owns e i ≡ true → holds e i ≡ true
+owned-held PageEntry.Free i h = h
+owned-held (PageEntry.Shared set writer) i h = absurd (cc)
+owned-held (PageEntry.Excl holder dirty) i h = h
+owned-held (PageEntry.Moving to mode rest dirty) i h = absurd (cc)
+owned-held PageEntry.Lost i h = h
 
 pub undo-finds_copy : (leaves : Outcomes) → UndoFindsCopy leaves
 undo-finds_copy leaves seen c m i p g owned =
     let h = g.half (λ j. false) in
-    let v : Page = now (base_of seen (leaves_by c (λ j. false) leaves) (log_by c (λ j. false)) c) p in (
+    let v : Page = newest_version (base_of seen (leaves_by c (λ j. false) leaves) (log_by c (λ j. false)) c) p in (
       v,
       h.coherent.copies i p ∙ ap (λ (b : Bool). cond {A = Option Page} b (Some v) None)
           (owned-held (entry_at c.directory p) i owned),

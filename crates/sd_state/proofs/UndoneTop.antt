@@ -24,11 +24,11 @@ use Rattle.sd_chain.specs.Bytes.{disk_page}
 use Rattle.sd_chain.specs.Checks.{owed, reserve}
 use Rattle.sd_chain.specs.Images.{all_kept}
 use Rattle.sd_chain.specs.Order.{UndoesTop}
-use Rattle.sd_chain.specs.Image.{HasPlace}
+use Rattle.sd_chain.specs.Storage.{HasPlace}
 use Rattle.sd_chain.specs.Pages.{capacity}
 use Rattle.sd_chain.specs.Records.{Each, IsOpen, Val, home, stack}
 use Rattle.sd_coherent.specs.Changes.{IsUndo}
-use Rattle.sd_coherent.specs.World.{now}
+use Rattle.sd_coherent.specs.World.{newest_version}
 use Rattle.sd_coherent.proofs.Changes.{held-now}
 use Rattle.sd_sound.specs.Appends as sound
 use Rattle.sd_sound.specs.Soundly.{LogIsSound}
@@ -57,14 +57,14 @@ rolling-goes pend t p to rolls above = subst (λ (life : Life). goes_on_as life 
     by (Some n) above = tt
 
 -- so no end of it is in its log
-pub alive-there : (t : TxnId) (to : Option ℕ) (seen : rig.Image) (leaves : Outcomes) (c : Parts) (m : State)
+pub alive-there : (t : TxnId) (to : Option ℕ) (seen : rig.DeviceImages) (leaves : Outcomes) (c : Parts) (m : State)
     → Good seen leaves Pending.Idle c m → 1 ≤ home t → home t ≤ 8 → (m.part t).life ≡ Life.Rolling to
     → goal to < length (live (m.part t).acts) → IsOpen t (all_at (log_at c (home t)))
 alive-there t to seen leaves c m g low high rolls above =
     g.going t low high (rolling-goes Pending.Idle t (m.part t) to rolls above)
 
 -- who may undo finds the last open record
-pub top-found : (t : TxnId) (x : Transaction) (o : OpenRec) (image : Page) (seen : rig.Image) (leaves : Outcomes) (c : Parts)
+pub top-found : (t : TxnId) (x : Transaction) (o : OpenRec) (image : Page) (seen : rig.DeviceImages) (leaves : Outcomes) (c : Parts)
     (m : State) → Good seen leaves Pending.Idle c m → MayUndo t x o image c m → HasTop (home t) t x o image c
 top-found t x o image seen leaves c m g w = record {
   low = w.low;
@@ -79,7 +79,7 @@ top-found t x o image seen leaves c m g w = record {
   once = w.once;
 }
 
-module _ (a : ℕ) (t : TxnId) (x : Transaction) (o : OpenRec) (image : Page) (seen : rig.Image) (leaves : Outcomes) (c : Parts)
+module _ (a : ℕ) (t : TxnId) (x : Transaction) (o : OpenRec) (image : Page) (seen : rig.DeviceImages) (leaves : Outcomes) (c : Parts)
     (m : State) (g : Good seen leaves Pending.Idle c m) (w : HasTop a t x o image c) where
   abbrev i : ℕ
   i = home t
@@ -180,11 +180,11 @@ module _ (a : ℕ) (t : TxnId) (x : Transaction) (o : OpenRec) (image : Page) (s
       (subst (λ (l : LogState). HasRecord t (all_at l)) (sym one) there) owes page in
       let sound-now = h.coherent.safe.sound (disk_page (seen 0)) h.coherent.reads all_kept in
       let places = (sound-now.stacks t (subst (λ (l : LogState). IsOpen t (all_at l)) (sym one) alive)).places in
-      let has : HasPlace (now (base_of seen leaves' logs c) top.top.page).slots top.top =
-      (subst (Each (λ z. HasPlace (now (base_of seen leaves' logs c) z.page).slots z))
+      let has : HasPlace (newest_version (base_of seen leaves' logs c) top.top.page).slots top.top =
+      (subst (Each (λ z. HasPlace (newest_version (base_of seen leaves' logs c) z.page).slots z))
       (ap (λ (l : LogState). stack t (all_at l)) one ∙ top.is) places).0 in
       let here : HasPlace image.slots top.top = subst (λ (v : Page). HasPlace v.slots top.top) (sym newest)
-      (subst (λ (p : ℕ). HasPlace (now (base_of seen leaves' logs c) p).slots top.top) (sym u.page) has) in
+      (subst (λ (p : ℕ). HasPlace (newest_version (base_of seen leaves' logs c) p).slots top.top) (sym u.page) has) in
       record {
         room = undo-room i (seen i) (log_at c i) r (subst (λ (l : LogState). LogIsSound i (seen i)
             (forced l)) one ready.sound_forced) undoes;

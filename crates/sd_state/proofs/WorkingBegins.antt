@@ -12,9 +12,9 @@ use Rattle.sd_base.specs.Ids.{same_txn}
 use Rattle.sd_base.proofs.SameIds.{each_txn, eq-same, ne-same}
 use Rattle.sd_logrec.specs.View.{Rec}
 use Rattle.sd_model.specs.Listed.{IsAmong, IsAtWork}
-use Rattle.sd_model.specs.Placed.{IsDoubt, MayRun}
+use Rattle.sd_model.specs.Lives.{IsDoubt, MayRun}
 use Rattle.sd_model.specs.Recoverers.{Recoverers}
-use Rattle.sd_model.specs.State.{Part, State, began, put_inst, started}
+use Rattle.sd_model.specs.State.{Part, State, began, begun_part, put_inst}
 use Rattle.sd_model.specs.StepLaws.{next_txn}
 use Rattle.sd_model.specs.declared.act.Claim.{Claim}
 use Rattle.sd_model.specs.declared.act.Inst.{Inst}
@@ -84,16 +84,16 @@ began-lasts m i up never l =
       placed = began-placed m i x never refl (subst MayRun (sym up) tt) l.placed;
       listed = record {
         bounds = each-more later m.begun x (each-rises m.inst later m.begun (begin-rises m i) l.listed.bounds) (next-below m i);
-        there = each_txn x (λ u (p : Part). p.life ≢ Life.Gone → IsAmong u (m.begun ++ x ∷ [])) started m.part
+        there = each_txn x (λ u (p : Part). p.life ≢ Life.Gone → IsAmong u (m.begun ++ x ∷ [])) begun_part m.part
             (λ _. among-last m.begun x) (λ u _ ne. among-more m.begun x u (l.listed.there u ne));
         once = once-more m.begun x l.listed.once new;
-        doubts = each_txn x (λ u (p : Part). IsDoubt p.life → IsAmong u m.cuts) started m.part (λ d. absurd d) (λ u _. l.listed.doubts u);
+        doubts = each_txn x (λ u (p : Part). IsDoubt p.life → IsAmong u m.cuts) begun_part m.part (λ d. absurd d) (λ u _. l.listed.doubts u);
         cut_once = l.listed.cut_once;
         cut_begun = λ t a. among-more m.begun x t (l.listed.cut_begun t a);
-        cut_rests = each_txn x (λ u (p : Part). IsAmong u m.cuts → IsAtWork p.life → ⊥) started m.part
+        cut_rests = each_txn x (λ u (p : Part). IsAmong u m.cuts → IsAtWork p.life → ⊥) begun_part m.part
             (λ a _. new (l.listed.cut_begun x a)) (λ u _. l.listed.cut_rests u);
       };
-      marked = put-marked (put_inst i y (record m { begun = m.begun ++ x ∷ [] })) x started (record { marks = tt; target = tt }) (record { sized = l.marked.sized });
+      marked = put-marked (put_inst i y (record m { begun = m.begun ++ x ∷ [] })) x begun_part (record { marks = tt; target = tt }) (record { sized = l.marked.sized });
       recoverers = same-statuses m (began i x m)
           (each_inst i (λ j (z : Inst). z.status ≡ (m.inst j).status) y m.inst refl (λ j ne. refl)) l.recoverers;
     }
@@ -113,7 +113,7 @@ pub record Begins (i : ℕ) (t : TxnId) (table : Transactions) (locks : LockTabl
   pub released : (u : TxnId) (r : Rid) → held locks u r ≡ cond (same_txn t u) None (held c.locks u r)
 
 -- it is the next one of the serial table
-pub begins-next : (i : ℕ) (t : TxnId) (table : Transactions) (locks : LockTable) (seen : rig.Image) (leaves : Outcomes) (c : Parts) (m : State)
+pub begins-next : (i : ℕ) (t : TxnId) (table : Transactions) (locks : LockTable) (seen : rig.DeviceImages) (leaves : Outcomes) (c : Parts) (m : State)
     → Good seen leaves Pending.Idle c m → Begins i t table locks c → t ≡ next_txn m i
 begins-next i t table locks seen leaves c m g b =
     let here = g.instances i b.low b.high in
@@ -134,7 +134,7 @@ gone-none (Some x) f w h = absurd (by x.state h)
     by TxnState.Doubt h = h
     by TxnState.Committed h = h.0
 
-module _ (t : TxnId) (table : Transactions) (locks : LockTable) (seen : rig.Image) (leaves : Outcomes) (c : Parts) (m : State)
+module _ (t : TxnId) (table : Transactions) (locks : LockTable) (seen : rig.DeviceImages) (leaves : Outcomes) (c : Parts) (m : State)
     (g : Good seen leaves Pending.Idle c m) (b : Begins (home t) t table locks c) where
   abbrev i : ℕ
   i = home t
@@ -165,11 +165,11 @@ module _ (t : TxnId) (table : Transactions) (locks : LockTable) (seen : rig.Imag
   none-kept false = Each-append (λ x. of_txn t x ≡ false) (base_at (log_at c i)) []
       (Each-front (λ x. of_txn t x ≡ false) (base_at (log_at c i)) (tail_at (log_at c i)) none) tt
 
-  here : m'.part t ≡ started
-  here = part-here (put_inst i (record (m.inst i) { begins = (m.inst i).begins + 1 }) (record m { begun = m.begun ++ t ∷ [] })) t started
+  here : m'.part t ≡ begun_part
+  here = part-here (put_inst i (record (m.inst i) { begins = (m.inst i).begins + 1 }) (record m { begun = m.begun ++ t ∷ [] })) t begun_part
 
   part-else : (u : TxnId) → u ≢ t → m'.part u ≡ m.part u
-  part-else u ne = part-elsewhere (put_inst i (record (m.inst i) { begins = (m.inst i).begins + 1 }) (record m { begun = m.begun ++ t ∷ [] })) t u started
+  part-else u ne = part-elsewhere (put_inst i (record (m.inst i) { begins = (m.inst i).begins + 1 }) (record m { begun = m.begun ++ t ∷ [] })) t u begun_part
       (λ e. ne (sym e))
 
   was-gone : (m.part t).life ≡ Life.Gone
@@ -268,7 +268,7 @@ module _ (t : TxnId) (table : Transactions) (locks : LockTable) (seen : rig.Imag
 
 -- the complex is good once a transaction of instance i has begun
 abbrev BeginsWell : TxnId → ℕ → Type 1
-BeginsWell t i = (table : Transactions) (locks : LockTable) (seen : rig.Image) (leaves : Outcomes) (c : Parts) (m : State)
+BeginsWell t i = (table : Transactions) (locks : LockTable) (seen : rig.DeviceImages) (leaves : Outcomes) (c : Parts) (m : State)
     → Good seen leaves Pending.Idle c m → Begins i t table locks c → Good seen leaves Pending.Idle (with_working i table locks c) (began i t m)
 
 pub begins-good : (i : ℕ) (t : TxnId) → home t ≡ i → BeginsWell t i

@@ -10,7 +10,7 @@ use Rattle.sd_log.specs.Logs.{LogState}
 use Rattle.sd_model.specs.Kept.{Kept}
 use Rattle.sd_model.specs.Listed.{Listed}
 use Rattle.sd_model.specs.Marks.{Marked}
-use Rattle.sd_model.specs.Placed.{Placed}
+use Rattle.sd_model.specs.Lives.{LivesAreSound}
 use Rattle.sd_model.specs.Recoverers.{Recoverers}
 use Rattle.sd_model.specs.State.{Part, State}
 use Rattle.sd_model.specs.declared.act.Claim.{Claim}
@@ -22,7 +22,7 @@ use Rattle.sd_txn.specs.Owing.{owed_of, reserve_of}
 use Rattle.sd_txn.specs.Transactions.{OthersStay, Transaction, Transactions, begins_in, txn_at}
 use Rattle.sd_chain.specs.Cuts.{cut}
 use Rattle.sd_chain.specs.Fates.{fate}
-use Rattle.sd_chain.specs.Image.{Recovered}
+use Rattle.sd_chain.specs.Storage.{Recovered}
 use Rattle.sd_chain.specs.Images.{Keeps, with_disk}
 use Rattle.sd_chain.specs.Records.{Each, IsOpen, home, stack}
 use Rattle.sd_chain.proofs.Lists.{Each-weaker}
@@ -37,7 +37,7 @@ use Rattle.sd_state.proofs.Standing.{one-place, others-still}
 -- what holds of each state that a run leads to
 pub record Lasts (m : State) : Type 0 where
   pub kept : Kept m
-  pub placed : Placed m
+  pub placed : LivesAreSound m
   pub listed : Listed m
   pub marked : Marked m
   pub recoverers : Recoverers m
@@ -85,7 +85,7 @@ pub record ItsWork (t : TxnId) (txns : List Transactions) (locks : LockTable) (p
   pub its_locks : (r : Rid) → held locks t r ≡ lock_of ((m'.part t).claims r)
 
 -- an instance that is up, where no fall is due, has a settled log
-pub working-settled : (seen : rig.Image) (leaves : Outcomes) (pend : Pending) (c : Parts) (m : State) (i : ℕ) → Good seen leaves pend c m
+pub working-settled : (seen : rig.DeviceImages) (leaves : Outcomes) (pend : Pending) (c : Parts) (m : State) (i : ℕ) → Good seen leaves pend c m
     → c.due ≡ None → 1 ≤ i → status_at c i ≡ S.Up → is_loose c i ≡ false
 working-settled seen leaves pend c m i g idle low up = ⊎_elim (λ e. e) (λ due. let clash = sym idle ∙ due in absurd (cc))
     ((g.half (λ j. false)).coherent.ready i low (ap up_as up))
@@ -98,7 +98,7 @@ goes-weaker (Life.Rolling None) A B C f g = g
 goes-weaker (Life.Rolling (Some n)) A B C f g = g
 goes-weaker (Life.Doubt cut) A B C f g = g
 
-module _ (t : TxnId) (txns : List Transactions) (locks : LockTable) (seen : rig.Image) (leaves : Outcomes) (pend : Pending) (c : Parts)
+module _ (t : TxnId) (txns : List Transactions) (locks : LockTable) (seen : rig.DeviceImages) (leaves : Outcomes) (pend : Pending) (c : Parts)
     (m m' : State) (g : Good seen leaves pend c m) (o : OthersWork t txns locks pend c m m') (w : ItsWork t txns locks pend c m m') where
   abbrev i : ℕ
   i = home t

@@ -12,11 +12,11 @@ use Rattle.sd_reclock.specs.Answers.{IsFree}
 use Rattle.sd_base.proofs.SameIds.{cases_rid, each_txn, eq-same, eq-same_rid, ne-same, ne-same_rid}
 use Rattle.sd_logrec.specs.View.{Rec}
 use Rattle.sd_model.specs.Acts.{live}
-use Rattle.sd_model.specs.Claims.{Clash, Holds, raised, with_claim}
+use Rattle.sd_model.specs.Claims.{Clash, Holds, raised_claim, with_claim}
 use Rattle.sd_model.specs.Kept.{Kept}
 use Rattle.sd_model.specs.Listed.{IsAtWork}
 use Rattle.sd_model.specs.Marks.{Sized}
-use Rattle.sd_model.specs.Placed.{IsDoubt}
+use Rattle.sd_model.specs.Lives.{IsDoubt}
 use Rattle.sd_model.specs.State.{Part, State, put_part, took, took_part}
 use Rattle.sd_model.specs.declared.act.Act.{Act}
 use Rattle.sd_model.specs.declared.act.Claim.{Claim}
@@ -48,7 +48,7 @@ use Rattle.sd_state.proofs.WorkingGood.{ItsWork, Lasts, OthersWork, working-good
 use Rattle.sd_state.proofs.WorkingValues.{values-other}
 
 -- what a run keeps of a good complex's state
-pub lasts-there : (seen : rig.Image) (leaves : Outcomes) (pend : Pending) (c : Parts) (m : State) → Good seen leaves pend c m → Lasts m
+pub lasts-there : (seen : rig.DeviceImages) (leaves : Outcomes) (pend : Pending) (c : Parts) (m : State) → Good seen leaves pend c m → Lasts m
 lasts-there seen leaves pend c m g =
     record { kept = g.kept; placed = g.placed; listed = g.listed; marked = g.marked; recoverers = g.recoverers }
 
@@ -74,7 +74,7 @@ put-lasts m t q same kept sized l = record {
     lives = each_txn t (λ u (p : Part). p.life ≡ (m.part u).life) q m.part same (λ u ne. refl)
 
 -- an exclusive claim stays one
-excl-stays : (mode : Claim) → raised mode Claim.Excl ≡ Claim.Excl
+excl-stays : (mode : Claim) → raised_claim mode Claim.Excl ≡ Claim.Excl
 excl-stays Claim.Free = refl
 excl-stays Claim.Shared = refl
 excl-stays Claim.Excl = refl
@@ -96,7 +96,7 @@ pub record Takes (t : TxnId) (r : Rid) (mode : Claim) (acts : List Act) (locks :
   pub others : (u : TxnId) → u ≢ t → (q : Rid) → held locks u q ≡ held c.locks u q
   pub own : (q : Rid) → held locks t q ≡ lock_of (with_claim r mode (m.part t).claims q)
 
-module _ (t : TxnId) (r : Rid) (mode : Claim) (acts : List Act) (locks : LockTable) (seen : rig.Image) (leaves : Outcomes) (c : Parts)
+module _ (t : TxnId) (r : Rid) (mode : Claim) (acts : List Act) (locks : LockTable) (seen : rig.DeviceImages) (leaves : Outcomes) (c : Parts)
     (m : State) (g : Good seen leaves Pending.Idle c m) (w : Takes t r mode acts locks c m) where
   abbrev i : ℕ
   i = home t
@@ -124,7 +124,7 @@ module _ (t : TxnId) (r : Rid) (mode : Claim) (acts : List Act) (locks : LockTab
   claims-stay xs each = subst (λ (p : Part). Each (λ x. p.claims (rid_of x) ≡ Claim.Excl) xs) (sym here)
       (Each-weaker (λ x. (m.part t).claims (rid_of x) ≡ Claim.Excl) (λ x. part.claims (rid_of x) ≡ Claim.Excl)
       (λ x. each_claim (λ q (claim : Claim). (m.part t).claims q ≡ Claim.Excl → claim ≡ Claim.Excl) r mode (m.part t).claims
-      (λ e. ap (raised mode) e ∙ excl-stays mode) (λ q e. e) (rid_of x)) xs each)
+      (λ e. ap (raised_claim mode) e ∙ excl-stays mode) (λ q e. e) (rid_of x)) xs each)
 
   its-own : ItsWork t c.txns locks Pending.Idle c m m'
   its-own = record {
@@ -184,7 +184,7 @@ module _ (t : TxnId) (r : Rid) (mode : Claim) (acts : List Act) (locks : LockTab
   takes-good = working-good t c.txns locks seen leaves Pending.Idle c m m' g all-others its-own
 
 -- a lock that is raised is the claim that is raised
-raised-lock : (mode : Mode) (claim : Claim) → Some (locks.raised (lock_of claim) mode) ≡ lock_of (raised (claim_of mode) claim)
+raised-lock : (mode : Mode) (claim : Claim) → Some (locks.raised (lock_of claim) mode) ≡ lock_of (raised_claim (claim_of mode) claim)
 raised-lock modes.Shared Claim.Free = refl
 raised-lock modes.Shared Claim.Shared = refl
 raised-lock modes.Shared Claim.Excl = refl
@@ -202,7 +202,7 @@ clash-lock modes.Excl Claim.Shared clash = (modes.Shared, refl, tt)
 clash-lock modes.Excl Claim.Excl clash = (modes.Excl, refl, tt)
 
 -- where nobody stands in the way, nobody's claim conflicts
-pub free-claims : (seen : rig.Image) (leaves : Outcomes) (pend : Pending) (c : Parts) (m : State) (t : TxnId) (r : Rid) (mode : Mode)
+pub free-claims : (seen : rig.DeviceImages) (leaves : Outcomes) (pend : Pending) (c : Parts) (m : State) (t : TxnId) (r : Rid) (mode : Mode)
     → Good seen leaves pend c m → IsFree (stands c.locks) t (wait_for r mode) → (u : TxnId) → t ≢ u
     → Clash (claim_of mode) ((m.part u).claims r) → ⊥
 free-claims seen leaves pend c m t r mode g free u ne clash =
@@ -210,18 +210,18 @@ free-claims seen leaves pend c m t r mode g free u ne clash =
     free u (record { other = ne; mode = lock.0; holds = g.locks u r ∙ lock.1; clashes = lock.2 })
 
 -- t has what it had, and the lock, raised to the mode
-pub own-locks : (locks_then : LockTable) (seen : rig.Image) (leaves : Outcomes) (pend : Pending) (c : Parts) (m : State) (t : TxnId) (r : Rid)
+pub own-locks : (locks_then : LockTable) (seen : rig.DeviceImages) (leaves : Outcomes) (pend : Pending) (c : Parts) (m : State) (t : TxnId) (r : Rid)
     (mode : Mode) → Good seen leaves pend c m
     → ((q : Rid) → held locks_then t q ≡ cond (same_rid r q) (Some (locks.raised (held c.locks t r) mode)) (held c.locks t q))
     → (q : Rid) → held locks_then t q ≡ lock_of (with_claim r (claim_of mode) (m.part t).claims q)
 own-locks locks_then seen leaves pend c m t r mode g given q = ⊎_elim
     (λ e. given q ∙ ap (λ (b : Bool). cond b (Some (locks.raised (held c.locks t r) mode)) (held c.locks t q)) (eq-same_rid r q e)
     ∙ ap (λ (o : Option Mode). Some (locks.raised o mode)) (g.locks t r) ∙ raised-lock mode ((m.part t).claims r)
-    ∙ ap (λ (s : Rid). lock_of (raised (claim_of mode) ((m.part t).claims s))) e
-    ∙ sym (ap (λ (b : Bool). lock_of (cond b (raised (claim_of mode) ((m.part t).claims q)) ((m.part t).claims q))) (eq-same_rid r q e)))
+    ∙ ap (λ (s : Rid). lock_of (raised_claim (claim_of mode) ((m.part t).claims s))) e
+    ∙ sym (ap (λ (b : Bool). lock_of (cond b (raised_claim (claim_of mode) ((m.part t).claims q)) ((m.part t).claims q))) (eq-same_rid r q e)))
     (λ ne. given q ∙ ap (λ (b : Bool). cond b (Some (locks.raised (held c.locks t r) mode)) (held c.locks t q)) (ne-same_rid r q ne)
     ∙ g.locks t q
-    ∙ sym (ap (λ (b : Bool). lock_of (cond b (raised (claim_of mode) ((m.part t).claims q)) ((m.part t).claims q))) (ne-same_rid r q ne)))
+    ∙ sym (ap (λ (b : Bool). lock_of (cond b (raised_claim (claim_of mode) ((m.part t).claims q)) ((m.part t).claims q))) (ne-same_rid r q ne)))
     (cases_rid r q)
 
 -- one that stands as running in the table runs
@@ -234,7 +234,7 @@ running-there (Some x) life f w e h = subst (λ (s : TxnState). StandsAs s life 
     the-some a b e = cc
 
 -- the complex is good once t has the lock
-pub grants-good : (seen : rig.Image) (leaves : Outcomes) (c : Parts) (m : State) (t : TxnId) (r : Rid) (mode : Mode) (locks_then : LockTable)
+pub grants-good : (seen : rig.DeviceImages) (leaves : Outcomes) (c : Parts) (m : State) (t : TxnId) (r : Rid) (mode : Mode) (locks_then : LockTable)
     → Good seen leaves Pending.Idle c m → c.due ≡ None → status_at c (home t) ≡ S.Up
     → state_at (txns_at c (home t)) t ≡ Some TxnState.Running → IsFree (stands c.locks) t (wait_for r mode)
     → ((u : TxnId) (q : Rid) → held locks_then u q
@@ -256,7 +256,7 @@ grants-good seen leaves c m t r mode locks_then g idle up state free given =
           ∙ ap (λ (b : Bool). cond (b && same_rid r q) (Some (locks.raised (held c.locks t r) mode)) (held c.locks t q)) (eq-same t t refl));
     })
 
-claimed-holds : (mode : Mode) (claim : Claim) → Holds (raised (claim_of mode) claim)
+claimed-holds : (mode : Mode) (claim : Claim) → Holds (raised_claim (claim_of mode) claim)
 claimed-holds modes.Shared Claim.Free = tt
 claimed-holds modes.Shared Claim.Shared = tt
 claimed-holds modes.Shared Claim.Excl = tt

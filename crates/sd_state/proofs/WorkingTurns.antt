@@ -72,7 +72,7 @@ pub record Turns (t : TxnId) (x : Transaction) (state : TxnState) (set : Marks) 
   pub named : NamedOnce marks
   pub lasts : Lasts (put_part t (part_as life marks (m.part t)) m)
 
-module _ (t : TxnId) (x : Transaction) (state : TxnState) (set : Marks) (life : Life) (marks : Marks) (table : Transactions) (seen : rig.Image)
+module _ (t : TxnId) (x : Transaction) (state : TxnState) (set : Marks) (life : Life) (marks : Marks) (table : Transactions) (seen : rig.DeviceImages)
     (leaves : Outcomes) (c : Parts) (m : State) (g : Good seen leaves Pending.Idle c m) (w : Turns t x state set life marks table c m) where
   abbrev i : ℕ
   i = home t
@@ -183,7 +183,7 @@ pub record IsTurned (t : TxnId) (state : TxnState) (table : Transactions) (c : P
   pub others : OthersStay (txns_at c (home t)) table t
   pub order : SameOrder (txns_at c (home t)) table
 
-module _ (t : TxnId) (table : Transactions) (seen : rig.Image) (leaves : Outcomes) (c : Parts) (m : State)
+module _ (t : TxnId) (table : Transactions) (seen : rig.DeviceImages) (leaves : Outcomes) (c : Parts) (m : State)
     (g : Good seen leaves Pending.Idle c m) where
   row-is : (state : TxnState) (x : Transaction) → IsTurned t state table c → txn_at (txns_at c (home t)) t ≡ Some x
       → Replaces (txns_at c (home t)) table t x (with_state state x)
@@ -337,7 +337,7 @@ pub record IsMarked (t : TxnId) (name : List ℕ) (table : Transactions) (c : Pa
   pub others : OthersStay (txns_at c (home t)) table t
   pub order : SameOrder (txns_at c (home t)) table
 
-pub save-good : (t : TxnId) (name : List ℕ) (table : Transactions) (seen : rig.Image) (leaves : Outcomes) (c : Parts) (m : State)
+pub save-good : (t : TxnId) (name : List ℕ) (table : Transactions) (seen : rig.DeviceImages) (leaves : Outcomes) (c : Parts) (m : State)
     → Good seen leaves Pending.Idle c m → IsMarked t name table c → state_at (txns_at c (home t)) t ≡ Some TxnState.Running
     → Good seen leaves Pending.Idle (with_txns (home t) table c) (marked t name m)
 save-good t name table seen leaves c m g d state =

@@ -97,7 +97,7 @@ pub record IsChanged (i : ℕ) (k : Change) (x : Transaction) (image : Page) (ta
   pub other_entries : (q : ℕ) → q ≢ k.rid.page → entry_at places q ≡ entry_at c.directory q
   pub other_rec_lsns : (q : ℕ) → q ≢ k.rid.page → rec_lsn_at places q ≡ rec_lsn_at c.directory q
   pub other_asks : (q : ℕ) → q ≢ k.rid.page → asks_at places q ≡ asks_at c.directory q
-  pub moving : (q : ℕ) → directory.image_at places q ≡ directory.image_at c.directory q
+  pub moving : (q : ℕ) → directory.moving_image_at places q ≡ directory.moving_image_at c.directory q
 
 -- Who works: the transaction, of which x is known, runs on instance i, which is up and not to fall, and has the record's
 -- exclusive lock alone; and instance i has the page alone, with this image of it, which the change fits.
@@ -131,7 +131,7 @@ pub record HasRoom (i : ℕ) (k : Change) (spare great : ℕ) (table : Transacti
 -- A change keeps the invariant: the transaction has put the value there.
 abbrev pub ChangeKeepsGood : Outcomes → Type 0
 ChangeKeepsGood leaves = (i : ℕ) (k : Change) (x : Transaction) (image : Page) (spare great : ℕ) (table : Transactions)
-    (pool : Buffers) (places : DirectoryState Page) (seen : rig.Image) (c : Parts) (m : State) → Good seen leaves Pending.Idle c m
+    (pool : Buffers) (places : DirectoryState Page) (seen : rig.DeviceImages) (c : Parts) (m : State) → Good seen leaves Pending.Idle c m
     → MayWrite i k x image c → MayAppend i k x image c → IsChanged i k x image table pool places c
     → HasRoom i k spare great table (with_changed i (changed_log i k spare c) table pool places c) c
     → Good seen leaves Pending.Idle (with_changed i (changed_log i k spare c) table pool places c) (putting k.txn k.rid k.after m)

@@ -45,7 +45,7 @@ with_failed a i c =
     record c { loose = slice_set c.loose i true; owed = slice_set c.owed (i - 1) (owed_either c i); due = Some (a, i) }
 
 -- The log's tail stands on device i with its groups, and a crash leaves it there; all else of the devices is as before.
-pub record IsForced (i : ℕ) (log : LogState) (seen seen' : rig.Image) (leaves leaves' : Outcomes) : Type 0 where
+pub record IsForced (i : ℕ) (log : LogState) (seen seen' : rig.DeviceImages) (leaves leaves' : Outcomes) : Type 0 where
   pub outside : AgreesOutside (forced_at log) (forced_len log) (seen i) (seen' i)
   pub stands : StandsOn (forced log) (seen' i)
   pub durable : LeavesOnly (seen' i) (leaves' i)
@@ -53,7 +53,7 @@ pub record IsForced (i : ℕ) (log : LogState) (seen seen' : rig.Image) (leaves 
   pub others_leave : (d : ℕ) → d ≢ i → LeavesSame (leaves d) (leaves' d)
 
 -- The log stands on device i with its tail or without it, however it is left; all else of the devices is as before.
-pub record IsHalfForced (i : ℕ) (log : LogState) (seen seen' : rig.Image) (leaves leaves' : Outcomes) : Type 0 where
+pub record IsHalfForced (i : ℕ) (log : LogState) (seen seen' : rig.DeviceImages) (leaves leaves' : Outcomes) : Type 0 where
   pub outside : (bytes : List ℕ) → leaves' i bytes → AgreesOutside (forced_at log) (forced_len log) (seen i) bytes
   pub either : (bytes : List ℕ) → leaves' i bytes → StandsEither log bytes
   pub others : (d : ℕ) → d ≢ i → seen' d ≡ seen d

@@ -3,7 +3,7 @@ use Rattle.std.specs.Prelude.{◌≡◌, ℕ, zero, suc, ◌≤◌, false, List,
 use Rattle.sd_base.specs.declared.place.Status.TheVariants as S
 use Rattle.sd_pagelock.specs.Directory as directory
 use Rattle.sd_pagelock.specs.Directory.{asks_at, entry_at, rec_lsn_at}
-use Rattle.sd_pagelock.specs.Places.{Entry}
+use Rattle.sd_pagelock.specs.Places.{PageEntry}
 use Rattle.sd_pool.specs.Buffers.{Buffers}
 use Rattle.sd_rig.specs.Devices as rig
 use Rattle.sd_rig.specs.Devices.{LeavesOnly}
@@ -23,7 +23,7 @@ abbrev pub empty_table : ℕ → Transactions
 empty_table i = record { inst = i; epoch = 0; begins = 0; unresolved = [] }
 
 -- No gate of the nine devices is open, and a crash leaves what they read.
-pub record AreBlank (seen : rig.Image) (leaves : Outcomes) : Type 0 where
+pub record AreBlank (seen : rig.DeviceImages) (leaves : Outcomes) : Type 0 where
   pub blank : (d : ℕ) → d ≤ 8 → IsBlank (seen d)
   pub only : (d : ℕ) → d ≤ 8 → LeavesOnly (seen d) (leaves d)
 
@@ -39,9 +39,9 @@ pub record IsFresh (frames : ℕ) (c : Parts) : Type 0 where
   pub others : c.others ≡ for_each {A = Option ℕ} (λ i. None) 8
   pub owed : c.owed ≡ for_each (λ i. 0) 8
   pub loose : c.loose ≡ for_each (λ i. false) 9
-  pub free : (p : ℕ) → entry_at c.directory p ≡ Entry.Free
+  pub free : (p : ℕ) → entry_at c.directory p ≡ PageEntry.Free
   pub clean : (p : ℕ) → rec_lsn_at c.directory p ≡ None
-  pub still : (p : ℕ) → directory.image_at c.directory p ≡ None
+  pub still : (p : ℕ) → directory.moving_image_at c.directory p ≡ None
   pub unasked : (p : ℕ) → asks_at c.directory p ≡ []
   pub unlocked : c.locks.locks ≡ []
   pub unwaited : c.locks.waiting ≡ []

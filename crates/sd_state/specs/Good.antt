@@ -12,13 +12,13 @@ use Rattle.sd_log.specs.Logs.{LogState, StandsOn, forced, last_lsn, scanned}
 use Rattle.sd_model.specs.Kept.{Kept}
 use Rattle.sd_model.specs.Listed.{Listed}
 use Rattle.sd_model.specs.Marks.{Marked}
-use Rattle.sd_model.specs.Placed.{Placed}
+use Rattle.sd_model.specs.Lives.{LivesAreSound}
 use Rattle.sd_model.specs.Recoverers.{Recoverers}
 use Rattle.sd_model.specs.State.{State}
 use Rattle.sd_model.specs.declared.act.Claim.{Claim}
 use Rattle.sd_model.specs.declared.act.Inst.{Inst}
 use Rattle.sd_model.specs.declared.act.Life.{Life}
-use Rattle.sd_pagelock.specs.Asks.{is_open}
+use Rattle.sd_pagelock.specs.Asks.{is_open_ask}
 use Rattle.sd_pagelock.specs.Directory as directory
 use Rattle.sd_pagelock.specs.Directory.{asks_at, entry_at, rec_lsn_at}
 use Rattle.sd_pool.specs.Buffers as buffers
@@ -47,7 +47,7 @@ use Rattle.sd_state.specs.Values.{Pending, is_committed, rid_of, values}
 
 -- ---- the complex as coherence sees it
 
-abbrev pub base_of : rig.Image → (leaves : Outcomes) → Logs → Parts → Base (may_of leaves)
+abbrev pub base_of : rig.DeviceImages → (leaves : Outcomes) → Logs → Parts → Base (may_of leaves)
 base_of seen leaves logs c = record {
   tails = tails_of logs;
   version = version_of (tails_of logs) (disk_page (seen 0));
@@ -64,14 +64,14 @@ abbrev pub dir_of : Parts → Dir
 dir_of c = record {
   entry = entry_at c.directory;
   pool = λ i p. buffers.image_at (pool_at c i) p;
-  moving = directory.image_at c.directory;
+  moving = directory.moving_image_at c.directory;
 }
 
 -- ---- what a crash may leave
 
 -- What may be left, with the logs beginning so: it is coherent and sound, recovery gives the table, what it leaves open is
 -- claimed, each log is in an epoch of its instance, and begun checkpoints have what they need.
-pub record Half (seen : rig.Image) (leaves : Outcomes) (logs : Logs) (pend : Pending) (c : Parts) (m : State) : Type 0 where
+pub record Half (seen : rig.DeviceImages) (leaves : Outcomes) (logs : Logs) (pend : Pending) (c : Parts) (m : State) : Type 0 where
   pub coherent : Coherent (base_of seen leaves logs c) (dir_of c)
   pub soundly : IsSoundly leaves logs
   pub gives : Gives (tails_of logs) (may_of leaves) (λ keeps. values m pend (kept_logs (tails_of logs) keeps))
@@ -89,7 +89,7 @@ pub record Half (seen : rig.Image) (leaves : Outcomes) (logs : Logs) (pend : Pen
 
 -- A settled device: a crash leaves what it reads, and on it stands its log without the tail, which begins at one place; the
 -- master's count is known, and the epoch that the log is in with its tail.
-pub record IsSettledAt (seen : rig.Image) (leaves : Outcomes) (c : Parts) (j : ℕ) : Type 0 where
+pub record IsSettledAt (seen : rig.DeviceImages) (leaves : Outcomes) (c : Parts) (j : ℕ) : Type 0 where
   pub only : LeavesOnly (seen j) (leaves j)
   pub stands : StandsOn (log_at c j) (seen j)
   pub one_place : other_at c j ≡ None
@@ -131,8 +131,8 @@ abbrev pub IsOfBegun : Inst → Rec → Type 0
 IsOfBegun inst x = speaks x.kind ≡ true → x.txn.epoch ≡ inst.epoch → x.txn.seq ≤ inst.begins
 
 -- Whom an instance that is up has at work, but for the one whose Commit is under way.
-abbrev pub IsAtWork : Pending → Parts → State → ℕ → Type 0
-IsAtWork pend c m i = (t : TxnId) → home t ≡ i → (pend ≡ Pending.Commits t → ⊥)
+abbrev pub RowsAreLive : Pending → Parts → State → ℕ → Type 0
+RowsAreLive pend c m i = (t : TxnId) → home t ≡ i → (pend ≡ Pending.Commits t → ⊥)
     → RowIsLive (txn_at (txns_at c i) t) t (m.part t) (all_at (log_at c i))
 
 -- A transaction whose commit is under way: it runs, and its log has its Commit.
@@ -178,7 +178,7 @@ NoneIsFound c i = (t : TxnId) → home t ≡ i → state_at (txns_at c i) t ≢ 
 -- ---- the whole
 
 -- The complex is as m says, with what is under way, and each image that a crash may leave stands for that.
-pub record Good (seen : rig.Image) (leaves : Outcomes) (pend : Pending) (c : Parts) (m : State) : Type 0 where
+pub record Good (seen : rig.DeviceImages) (leaves : Outcomes) (pend : Pending) (c : Parts) (m : State) : Type 0 where
   -- memory
   pub shape : IsShape c
   -- devices
@@ -194,7 +194,7 @@ pub record Good (seen : rig.Image) (leaves : Outcomes) (pend : Pending) (c : Par
   pub owed_loose : (moved : Keeps) (j : ℕ) → 1 ≤ j → j ≤ 8 → is_loose c j ≡ true → OwesAtMost (owed_at c j) (log_by c moved j)
   -- instances and transactions
   pub kept : Kept m
-  pub placed : Placed m
+  pub placed : LivesAreSound m
   pub listed : Listed m
   pub marked : Marked m
   pub named : (t : TxnId) → NamedOnce (m.part t).marks
@@ -205,12 +205,12 @@ pub record Good (seen : rig.Image) (leaves : Outcomes) (pend : Pending) (c : Par
   pub told : (i : ℕ) → 1 ≤ i → i ≤ 8 → tells_log (status_at c i) ≡ true → is_loose c i ≡ false → IsTold c m i
   pub at_rest : (i : ℕ) → 1 ≤ i → i ≤ 8 → tells_log (status_at c i) ≡ false → is_loose c i ≡ false → (log_at c i).tail ≡ []
   pub begun : (i : ℕ) → 1 ≤ i → i ≤ 8 → status_at c i ≡ S.Up → Each (IsOfBegun (m.inst i)) (all_at (log_at c i))
-  pub at_work : (i : ℕ) → 1 ≤ i → i ≤ 8 → status_at c i ≡ S.Up → IsAtWork pend c m i
+  pub at_work : (i : ℕ) → 1 ≤ i → i ≤ 8 → status_at c i ≡ S.Up → RowsAreLive pend c m i
   pub going : (t : TxnId) → 1 ≤ home t → home t ≤ 8 → GoesOn pend t (m.part t) → IsOpen t (all_at (log_at c (home t)))
   pub pending : IsUnderWay c m pend
   -- locks and asks
   pub gone : (t : TxnId) → (m.part t).life ≡ Life.Gone → (r : Rid) → (m.part t).claims r ≡ Claim.Free
   pub locks : (t : TxnId) (r : Rid) → held c.locks t r ≡ lock_of ((m.part t).claims r)
-  pub asks : (p : ℕ) → Each (λ ask. (is_active c ask.by ≡ true) × (is_open (entry_at c.directory p) ask ≡ true)) (asks_at c.directory p)
+  pub asks : (p : ℕ) → Each (λ ask. (is_active c ask.by ≡ true) × (is_open_ask (entry_at c.directory p) ask ≡ true)) (asks_at c.directory p)
   -- checkpoints
   pub checking : (i : ℕ) (k : Begun) → check_at c i ≡ Some k → IsChecking c i k

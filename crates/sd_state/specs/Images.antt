@@ -12,7 +12,7 @@ use Rattle.sd_rig.specs.Devices as rig
 use Rattle.sd_chain.specs.Bytes.{log_of, stable}
 use Rattle.sd_chain.specs.Checks.{DevicesAreSound, past_of, records_in}
 use Rattle.sd_chain.specs.Fates.{Fate, fate}
-use Rattle.sd_chain.specs.Image.{Recovered}
+use Rattle.sd_chain.specs.Storage.{Recovered}
 use Rattle.sd_chain.specs.Images.{Keeps}
 use Rattle.sd_chain.specs.Records.{Each, home, stack}
 use Rattle.sd_sound.specs.Logs.{Logs, Outcomes, after_records}
@@ -39,7 +39,7 @@ kept_epoch bytes = (after_records (past_of (master bytes)) (records_in bytes)).e
 
 -- The image stands for m, with what is under way: it is sound; recovery gives the table of the committed
 -- transactions and of those, in doubt or under way, whose Commit it has; and what it leaves open is there, and claimed.
-pub record Stands (m : State) (pend : Pending) (img : rig.Image) : Type 0 where
+pub record Stands (m : State) (pend : Pending) (img : rig.DeviceImages) : Type 0 where
   pub sound : DevicesAreSound img
   pub recovered : (p s : ℕ) → Recovered (stable img) p s (values m pend (stable img).logs p s)
   pub claimed : (t : TxnId) → IsOpenIn t (log_of img (home t)) → IsClaimed m t (log_of img (home t))

@@ -3,7 +3,7 @@ use Rattle.std.specs.Prelude.{◌≡◌, ◌≢◌, ℕ, ◌-◌, Option, slice_
 use Rattle.sd_page.specs.Page.{Page}
 use Rattle.sd_pagelock.specs.Asks.{open_asks}
 use Rattle.sd_pagelock.specs.Directory.{DirectoryState, asks_at, entry_at, kept_rec, rec_lsn_at}
-use Rattle.sd_pagelock.specs.Places.{Entry, changed}
+use Rattle.sd_pagelock.specs.Places.{PageEntry, changed}
 use Rattle.sd_pool.specs.Buffers.{Buffers}
 use Rattle.sd_state.specs.Parts.{Parts}
 
@@ -13,7 +13,7 @@ with_place i pool places c = record c { pools = slice_set c.pools (i - 1) pool; 
 
 -- Page p has this place now, with this RecLSN where it is its first change, and the asks that the place leaves open; the places,
 -- RecLSNs and asks of the others stay.
-pub record IsSet (p : ℕ) (to : Entry) (rec : Option ℕ) (old new : DirectoryState Page) : Type 0 where
+pub record IsSet (p : ℕ) (to : PageEntry) (rec : Option ℕ) (old new : DirectoryState Page) : Type 0 where
   pub entry : entry_at new p ≡ to
   pub rec_lsn : rec_lsn_at new p ≡ kept_rec (changed (entry_at old p)) (changed to) (rec_lsn_at old p) rec
   pub asks : asks_at new p ≡ open_asks to (asks_at old p)

@@ -13,7 +13,7 @@ use Rattle.sd_model.specs.Finishing.{picked}
 use Rattle.sd_model.specs.Kept.{Kept}
 use Rattle.sd_model.specs.Listed.{Listed}
 use Rattle.sd_model.specs.Marks.{Marked}
-use Rattle.sd_model.specs.Placed.{Placed}
+use Rattle.sd_model.specs.Lives.{LivesAreSound}
 use Rattle.sd_model.specs.Recoverers.{Recoverers}
 use Rattle.sd_model.specs.Reopening.{reopened}
 use Rattle.sd_model.specs.State.{State, now}
@@ -29,7 +29,7 @@ use Rattle.sd_txn.specs.declared.state.TxnState.{TxnState}
 use Rattle.sd_chain.specs.Bytes.{disk_page, log_of, stable}
 use Rattle.sd_chain.specs.Checks.{DevicesAreSound, open_in, owed}
 use Rattle.sd_chain.specs.Fates.{Fate, fate, fate_in}
-use Rattle.sd_chain.specs.Image.{Image, Recovered, newest, opens}
+use Rattle.sd_chain.specs.Storage.{Recovered, Storage, newest, opens}
 use Rattle.sd_chain.specs.Records.{at}
 use Rattle.sd_coherent.specs.Coherent.{NoneBefore}
 use Rattle.sd_sound.specs.Laws.{IsRead}
@@ -51,27 +51,27 @@ is_left Fate.Committed = false
 is_left Fate.Ended = false
 
 -- the image leaves the transaction open
-abbrev pub is_loser : Image → TxnId → Bool
+abbrev pub is_loser : Storage → TxnId → Bool
 is_loser img t = is_left (fate_in img t)
 
 -- and so this record, which it changed
-abbrev pub has_open : Image → TxnId → Rid → Bool
+abbrev pub has_open : Storage → TxnId → Rid → Bool
 has_open img t r = is_loser img t && list_any (at r.page r.slot) (opens img t)
 
 -- who is left open stays to be undone, and nobody else is there
-abbrev pub life_in : Image → TxnId → Life
+abbrev pub life_in : Storage → TxnId → Life
 life_in img t = cond {A = Life} (is_loser img t) Life.Retained Life.Gone
 
 -- with an exclusive claim on each record that it has open
-abbrev pub claim_in : Image → TxnId → Rid → Claim
+abbrev pub claim_in : Storage → TxnId → Rid → Claim
 claim_in img t r = cond {A = Claim} (has_open img t r) Claim.Excl Claim.Free
 
 -- the disk hasn't the newest version of the page, which is one of the data device
-abbrev pub is_lost_in : Image → ℕ → Bool
+abbrev pub is_lost_in : Storage → ℕ → Bool
 is_lost_in img p = ltb p 1024 && ltb (img.disk p).lsn (newest img p).lsn
 
 -- of one of the first pages
-abbrev pub some_lost : Image → ℕ → Bool
+abbrev pub some_lost : Storage → ℕ → Bool
 some_lost img zero = false
 some_lost img (suc p) = is_lost_in img p || some_lost img p
 
@@ -81,17 +81,17 @@ is_any [] = false
 is_any (t ∷ ts) = true
 
 -- an instance whose log leaves a transaction open has something to recover, and each has where a page is lost
-abbrev pub is_down_in : Image → ℕ → Bool
+abbrev pub is_down_in : Storage → ℕ → Bool
 is_down_in img i = is_any (open_in (img.logs i)) || some_lost img 1024
 
-abbrev pub status_in : Image → ℕ → Status
+abbrev pub status_in : Storage → ℕ → Status
 status_in img i = cond {A = Status} (is_down_in img i) S.Down S.Clean
 
 -- ---- the state of the serial table
 
 -- The devices open to the state: its table is what recovery gives, and its transactions are those that are left open. It is one
 -- to which a run leads, as far as the invariant asks for that.
-pub record OpensTo (devices : rig.Image) (m : State) : Type 0 where
+pub record OpensTo (devices : rig.DeviceImages) (m : State) : Type 0 where
   pub table : (p s : ℕ) → Recovered (stable devices) p s (now m (record { page = p; slot = s }))
   pub lives : (t : TxnId) → (m.part t).life ≡ life_in (stable devices) t
   pub claims : (t : TxnId) (r : Rid) → (m.part t).claims r ≡ claim_in (stable devices) t r
@@ -99,22 +99,22 @@ pub record OpensTo (devices : rig.Image) (m : State) : Type 0 where
   pub statuses : (i : ℕ) → 1 ≤ i → i ≤ 8 → (m.inst i).status ≡ status_in (stable devices) i
   pub epochs : (i : ℕ) → 1 ≤ i → i ≤ 8 → IsEpochOf m Pending.Idle i (kept_epoch (devices i))
   pub kept : Kept m
-  pub placed : Placed m
+  pub placed : LivesAreSound m
   pub listed : Listed m
   pub marked : Marked m
   pub recoverers : Recoverers m
 
 -- A closed complex that opens again: those in doubt whose Commit is kept are committed, and who is left open stays.
-abbrev pub opened_again : rig.Image → State → State
+abbrev pub opened_again : rig.DeviceImages → State → State
 opened_again devices m = let img = stable devices in
     reopened (picked m (is_committed img.logs)) (is_loser img) (has_open img) (is_down_in img) m
 
 -- Devices that stand for the state of a closed complex open to that, which is a state after its reopening.
 abbrev pub ClosedOpensAgain : Type 0
-ClosedOpensAgain = (devices : rig.Image) (m : State) → Placed m → Listed m → ((i : ℕ) → (m.inst i).status ≡ S.Closed)
+ClosedOpensAgain = (devices : rig.DeviceImages) (m : State) → LivesAreSound m → Listed m → ((i : ℕ) → (m.inst i).status ≡ S.Closed)
     → Stands m Pending.Idle devices
     → Reopened m (opened_again devices m)
-    × (Kept (opened_again devices m) → Placed (opened_again devices m) → Listed (opened_again devices m)
+    × (Kept (opened_again devices m) → LivesAreSound (opened_again devices m) → Listed (opened_again devices m)
     → Marked (opened_again devices m) → Recoverers (opened_again devices m) → OpensTo devices (opened_again devices m))
 
 -- ---- what a reading finds
@@ -132,16 +132,16 @@ IsLeftIn (Some x) t log = IsLeftRow x t log
 
 -- The page directory has of each page: whether it is lost; an LSN of which no record that the disk lacks is below, where it is;
 -- and nothing on its way, and no ask.
-pub record IsFoundPage (img : Image) (c : Parts) (p : ℕ) : Type 0 where
+pub record IsFoundPage (img : Storage) (c : Parts) (p : ℕ) : Type 0 where
   pub entry : entry_at c.directory p ≡ nowhere (is_lost_in img p)
   pub mark : is_some (rec_lsn_at c.directory p) ≡ is_lost_in img p
   pub first : (l : ℕ) → rec_lsn_at c.directory p ≡ Some l → (j : ℕ) → NoneBefore p l (img.disk p) (img.logs j)
-  pub still : directory.image_at c.directory p ≡ None
+  pub still : directory.moving_image_at c.directory p ≡ None
   pub unasked : asks_at c.directory p ≡ []
 
 -- Of instance j: its log as the device has it, with records of the grammar; a row of whom that leaves open; its status, epoch
 -- and the count of its master, 0 where none counts; and what the log owes.
-pub record IsFoundInst (devices : rig.Image) (c : Parts) (j : ℕ) : Type 0 where
+pub record IsFoundInst (devices : rig.DeviceImages) (c : Parts) (j : ℕ) : Type 0 where
   pub log : IsRead (devices j) (log_at c j)
   pub spelled : AreSpelled (scanned (log_at c j))
   pub rows : (t : TxnId) → IsLeftIn (txn_at (txns_at c j) t) t (log_of devices j)
@@ -153,12 +153,12 @@ pub record IsFoundInst (devices : rig.Image) (c : Parts) (j : ℕ) : Type 0 wher
   pub owed : owed_at c j ≡ owed (log_of devices j)
 
 -- a page of the data device has this LSN
-abbrev pub IsLsnOfPage : rig.Image → ℕ → Type 0
+abbrev pub IsLsnOfPage : rig.DeviceImages → ℕ → Type 0
 IsLsnOfPage devices lsn = (p : ℕ) × (p < 1024) × ((disk_page (devices 0) p).lsn ≡ lsn)
 
 -- The parts of a complex that is opened from these devices, with so many frames in each pool: nobody waits, pools have nothing,
 -- all is settled, no checkpoint is begun and no fall is due.
-pub record AreOpened (frames : ℕ) (devices : rig.Image) (c : Parts) : Type 0 where
+pub record AreOpened (frames : ℕ) (devices : rig.DeviceImages) (c : Parts) : Type 0 where
   pub sound : DevicesAreSound devices
   pub shape : IsShape c
   pub insts : (j : ℕ) → 1 ≤ j → j ≤ 8 → IsFoundInst devices c j

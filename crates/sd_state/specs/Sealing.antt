@@ -129,28 +129,28 @@ NoLsnLeft i c = 2 ^ 62 ≤ great_of c + 1 + owed_where i (max (owed_at c i) (owe
 -- The End of a transaction that has a record comes without a refusal, and its row, which was x, is shut. It isn't one that may have
 -- further records.
 abbrev pub EndSeals : Outcomes → Type 0
-EndSeals leaves = (i spare : ℕ) (y : Record) (x : Transaction) (table : Transactions) (seen : rig.Image) (pend : Pending)
+EndSeals leaves = (i spare : ℕ) (y : Record) (x : Transaction) (table : Transactions) (seen : rig.DeviceImages) (pend : Pending)
     (c : Parts) (m : State) → Good seen leaves pend c m → leaves 0 (seen 0) → MaySeal i y c → (flat y).kind ≡ End
     → IsShutBy i y x spare table c → (GoesOn pend (flat y).txn (m.part (flat y).txn) → ⊥)
     → Good seen leaves pend (with_last i y spare table c) m
 
 -- So does the Commit of one that runs: from then on its commit is under way.
 abbrev pub CommitSeals : Outcomes → Type 0
-CommitSeals leaves = (i spare : ℕ) (y : Record) (x : Transaction) (table : Transactions) (seen : rig.Image) (c : Parts) (m : State)
+CommitSeals leaves = (i spare : ℕ) (y : Record) (x : Transaction) (table : Transactions) (seen : rig.DeviceImages) (c : Parts) (m : State)
     → Good seen leaves Pending.Idle c m → leaves 0 (seen 0) → MaySeal i y c → (flat y).kind ≡ Commit
     → IsShutBy i y x spare table c → x.state ≡ TxnState.Running
     → Good seen leaves (Pending.Commits (flat y).txn) (with_last i y spare table c) m
 
 -- A record of a checkpoint comes where it was tested for, and finds memory for what is owed.
 abbrev pub CheckSeals : Outcomes → Type 0
-CheckSeals leaves = (i spare : ℕ) (y : Record) (seen : rig.Image) (pend : Pending) (c : Parts) (m : State)
+CheckSeals leaves = (i spare : ℕ) (y : Record) (seen : rig.DeviceImages) (pend : Pending) (c : Parts) (m : State)
     → Good seen leaves pend c m
     → leaves 0 (seen 0) → MaySeal i y c → (flat y).kind ≡ Plain → is_start y ≡ false → IsTestedFor i y spare leaves c
     → reserve (all_at (log_at c i)) ≤ spare → Good seen leaves pend (with_more i y spare c) m
 
 -- So does the Start of the next epoch, of an instance that isn't up: from then on it is under way.
 abbrev pub StartSeals : Outcomes → Type 0
-StartSeals leaves = (i spare lsn epoch : ℕ) (seen : rig.Image) (c : Parts) (m : State) → Good seen leaves Pending.Idle c m
+StartSeals leaves = (i spare lsn epoch : ℕ) (seen : rig.DeviceImages) (c : Parts) (m : State) → Good seen leaves Pending.Idle c m
     → leaves 0 (seen 0) → MaySeal i (records.Start lsn epoch) c → (status_at c i ≡ S.Clean) ⊎ (status_at c i ≡ S.Restarting)
     → IsTestedFor i (records.Start lsn epoch) spare leaves c
     → reserve (all_at (log_at c i)) ≤ spare

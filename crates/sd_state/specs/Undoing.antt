@@ -106,14 +106,14 @@ pub record IsUndone (a : ℕ) (t : TxnId) (x : Transaction) (o : OpenRec) (image
   pub rec_lsn : rec_lsn_at places o.rid.page
       ≡ kept_rec (changed (entry_at c.directory o.rid.page)) true (rec_lsn_at c.directory o.rid.page) (Some (lsn_for t image c))
   pub asks : asks_at places o.rid.page ≡ open_asks (dirtied a) (asks_at c.directory o.rid.page)
-  pub images : (q : ℕ) → directory.image_at places q ≡ directory.image_at c.directory q
+  pub images : (q : ℕ) → directory.moving_image_at places q ≡ directory.moving_image_at c.directory q
   pub other_entries : (q : ℕ) → q ≢ o.rid.page → entry_at places q ≡ entry_at c.directory q
   pub other_rec_lsns : (q : ℕ) → q ≢ o.rid.page → rec_lsn_at places q ≡ rec_lsn_at c.directory q
   pub other_asks : (q : ℕ) → q ≢ o.rid.page → asks_at places q ≡ asks_at c.directory q
 
 -- An undo keeps the invariant, and the serial table has one put less that is live.
 abbrev pub UndoIsGood : Outcomes → Type 0
-UndoIsGood leaves = (seen : rig.Image) (c : Parts) (m : State) (t : TxnId) (x : Transaction) (o : OpenRec) (image : Page)
+UndoIsGood leaves = (seen : rig.DeviceImages) (c : Parts) (m : State) (t : TxnId) (x : Transaction) (o : OpenRec) (image : Page)
     (log : LogState) (pool : Buffers) (table : Transactions) (places : DirectoryState Page) → Good seen leaves Pending.Idle c m
     → MayUndo t x o image c m → IsUndone (home t) t x o image log pool table places c
     → Good seen leaves Pending.Idle (with_undone (home t) log pool table places c) (undid t m)
@@ -136,7 +136,7 @@ pub record FindsRoom (y : Record) (image : Page) (lsn : ℕ) (log : LogState) : 
 
 -- So it is neither refused nor out of memory.
 abbrev pub UndoFindsRoom : Outcomes → Type 0
-UndoFindsRoom leaves = (seen : rig.Image) (c : Parts) (m : State) (t : TxnId) (x : Transaction) (o : OpenRec) (image : Page)
+UndoFindsRoom leaves = (seen : rig.DeviceImages) (c : Parts) (m : State) (t : TxnId) (x : Transaction) (o : OpenRec) (image : Page)
     → Good seen leaves Pending.Idle c m → MayUndo t x o image c m
     → FindsRoom (clr_at t x o image c) image (lsn_for t image c) (log_at c (home t))
 
@@ -149,18 +149,18 @@ pub record FindsTop (t : TxnId) (c : Parts) : Type 0 where
 
 -- One that rolls back and is above its target has an open record, while its instance is up.
 abbrev pub UndoFindsTop : Outcomes → Type 0
-UndoFindsTop leaves = (seen : rig.Image) (c : Parts) (m : State) (t : TxnId) (to : Option ℕ) → Good seen leaves Pending.Idle c m
+UndoFindsTop leaves = (seen : rig.DeviceImages) (c : Parts) (m : State) (t : TxnId) (to : Option ℕ) → Good seen leaves Pending.Idle c m
     → 1 ≤ home t → home t ≤ 8 → c.due ≡ None → status_at c (home t) ≡ S.Up → (m.part t).life ≡ Life.Rolling to
     → goal to < length (live (m.part t).acts) → FindsTop t c
 
 -- An instance that has a page alone has it in its pool.
 abbrev pub UndoFindsCopy : Outcomes → Type 0
-UndoFindsCopy leaves = (seen : rig.Image) (c : Parts) (m : State) (i p : ℕ) → Good seen leaves Pending.Idle c m
+UndoFindsCopy leaves = (seen : rig.DeviceImages) (c : Parts) (m : State) (i p : ℕ) → Good seen leaves Pending.Idle c m
     → owns (entry_at c.directory p) i ≡ true → (image : Page) × (buffers.image_at (pool_at c i) p ≡ Some image)
 
 -- The record is one of the grammar, where each record of its log is.
 abbrev pub UndoIsSpelled : Outcomes → Type 0
-UndoIsSpelled leaves = (seen : rig.Image) (c : Parts) (m : State) (t : TxnId) (x : Transaction) (o : OpenRec) (image : Page)
+UndoIsSpelled leaves = (seen : rig.DeviceImages) (c : Parts) (m : State) (t : TxnId) (x : Transaction) (o : OpenRec) (image : Page)
     → Good seen leaves Pending.Idle c m → MayUndo t x o image c m → AreSpelled (scanned (log_at c (home t)))
     → HasSpelling (clr_at t x o image c)
 

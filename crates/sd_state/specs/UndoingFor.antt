@@ -35,7 +35,7 @@ pub record MayUndoFor (a : ℕ) (t : TxnId) (x : Transaction) (o : OpenRec) (ima
 -- The undo keeps the invariant for the same state of the serial table. From then on the instance is to fall by that log, until
 -- it is forced.
 abbrev pub UndoForIsGood : Outcomes → Type 0
-UndoForIsGood leaves = (seen : rig.Image) (c : Parts) (m : State) (a : ℕ) (t : TxnId) (x : Transaction) (o : OpenRec) (image : Page)
+UndoForIsGood leaves = (seen : rig.DeviceImages) (c : Parts) (m : State) (a : ℕ) (t : TxnId) (x : Transaction) (o : OpenRec) (image : Page)
     (log : LogState) (pool : Buffers) (table : Transactions) (places : DirectoryState Page) → Good seen leaves Pending.Idle c m
     → MayUndoFor a t x o image c → IsUndone a t x o image log pool table places c
     → Good seen leaves Pending.Idle (with_undone_by a (home t) log pool table places (Some (a, home t)) c) m

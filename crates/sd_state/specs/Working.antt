@@ -46,7 +46,7 @@ pub record IsLeft (t : TxnId) (locks : LockTable) (c : Parts) : Type 0 where
 -- A transaction that runs finds what it sees at a record, of which it has a lock in this mode or a stronger one, where nobody
 -- stands in its way: nothing of the complex changes, and the serial table notes the read.
 abbrev pub ReadIsGood : Outcomes → Type 0
-ReadIsGood leaves = (seen : rig.Image) (c : Parts) (m : State) (t : TxnId) (r : Rid) (mode : Mode) (v : Content)
+ReadIsGood leaves = (seen : rig.DeviceImages) (c : Parts) (m : State) (t : TxnId) (r : Rid) (mode : Mode) (v : Content)
     → Good seen leaves Pending.Idle c m → c.due ≡ None → status_at c (home t) ≡ S.Up → (m.part t).life ≡ Life.Running
     → IsFree (stands c.locks) t (wait_for r mode) → held c.locks t r ≡ Some (raised (held c.locks t r) mode) → v ≡ view m t r
     → Good seen leaves Pending.Idle c (took t r (claim_of mode) (Act.Read r v ∷ []) m)

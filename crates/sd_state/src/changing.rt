@@ -10,9 +10,9 @@ ghost use Rattle.sd_chain.specs.Pages.{value};
 ghost use Rattle.sd_log.specs.Logs.{needed, with_record};
 ghost use Rattle.sd_logrec.specs.Spelling.{HasSpelling, IsTxn, spelling};
 ghost use Rattle.sd_model.specs.State.{State};
-ghost use Rattle.sd_page.specs.Page.{CanTake, Fits, applied};
+ghost use Rattle.sd_page.specs.Page.{CanTake, PageFits, applied};
 ghost use Rattle.sd_pagelock.specs.Asks.{open_asks};
-ghost use Rattle.sd_pagelock.specs.Directory.{asks_at, entry_at, image_at as under_way, kept_rec, rec_lsn_at};
+ghost use Rattle.sd_pagelock.specs.Directory.{asks_at, entry_at, kept_rec, moving_image_at, rec_lsn_at};
 ghost use Rattle.sd_pagelock.specs.Places.{changed, owns};
 ghost use Rattle.sd_pagelock.specs.Rows.{dirtied};
 ghost use Rattle.sd_pool.specs.Buffers.{image_at};
@@ -431,7 +431,7 @@ fn mark(directory: &mut Directory<Box<Image>>, i: InstNo, p: PageNo, lsn: Lsn)
     ensures rec_lsn { rec_lsn_at directory.new p
         ≡ kept_rec (changed (entry_at directory.old p)) true (rec_lsn_at directory.old p) (Some lsn) }
     ensures asks { asks_at directory.new p ≡ open_asks (dirtied i) (asks_at directory.old p) }
-    ensures images { (q : ℕ) → under_way directory.new q ≡ under_way directory.old q }
+    ensures images { (q : ℕ) → moving_image_at directory.new q ≡ moving_image_at directory.old q }
     ensures others { (q : ℕ) → q ≢ p → entry_at directory.new q ≡ entry_at directory.old q }
     ensures other_rec_lsns { (q : ℕ) → q ≢ p → rec_lsn_at directory.new q ≡ rec_lsn_at directory.old q }
     ensures other_asks { (q : ℕ) → q ≢ p → asks_at directory.new q ≡ asks_at directory.old q }

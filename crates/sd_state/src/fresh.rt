@@ -4,8 +4,8 @@ ghost use Rattle.std.specs.Prelude.{◌≡◌, ◌≤◌, ℕ, false, [], None, 
 ghost use Rattle.sd_base.specs.declared.place.Status.TheVariants as S;
 ghost use Rattle.sd_model.specs.State.{fresh};
 ghost use Rattle.sd_sound.specs.Logs.{new_log};
-ghost use Rattle.sd_pagelock.specs.Directory.{asks_at, entry_at, image_at, rec_lsn_at};
-ghost use Rattle.sd_pagelock.specs.Places.{Entry};
+ghost use Rattle.sd_pagelock.specs.Directory.{asks_at, entry_at, moving_image_at, rec_lsn_at};
+ghost use Rattle.sd_pagelock.specs.Places.{PageEntry};
 ghost use Rattle.sd_state.specs.Complexes.{parts, unboxed};
 ghost use Rattle.sd_state.specs.Fresh.{AreBlank, IsFresh, empty_pool, empty_table, for_each};
 ghost use Rattle.sd_state.specs.Good.{Good};
@@ -81,9 +81,9 @@ fn nothing(alloc: Global) -> Result<Found, Memory>
     ensures txns { IfOk result (λ f. f.txns.items ≡ for_each empty_table 8) }
     ensures unlocked { IfOk result (λ f. f.locks.locks ≡ []) }
     ensures unwaited { IfOk result (λ f. f.locks.waiting ≡ []) }
-    ensures free { IfOk result (λ f. (p : ℕ) → entry_at (unboxed f.directory) p ≡ Entry.Free) }
+    ensures free { IfOk result (λ f. (p : ℕ) → entry_at (unboxed f.directory) p ≡ PageEntry.Free) }
     ensures clean { IfOk result (λ f. (p : ℕ) → rec_lsn_at (unboxed f.directory) p ≡ None) }
-    ensures still { IfOk result (λ f. (p : ℕ) → image_at (unboxed f.directory) p ≡ None) }
+    ensures still { IfOk result (λ f. (p : ℕ) → moving_image_at (unboxed f.directory) p ≡ None) }
     ensures unasked { IfOk result (λ f. (p : ℕ) → asks_at (unboxed f.directory) p ≡ []) }
     ensures statuses { IfOk result (λ f. f.statuses.items ≡ for_each (λ i. S.Clean) 8) }
     ensures epochs { IfOk result (λ f. f.epochs.items ≡ for_each (λ i. 0) 8) }
@@ -130,9 +130,9 @@ pub(crate) fn empty_pools(alloc: Global, frames: u16) -> Result<Vec<Pool>, Memor
 
 // A directory of pages that nobody has.
 fn free_pages(alloc: Global) -> Result<Directory<Box<Image>>, Memory>
-    ensures free { IfOk result (λ d. (p : ℕ) → entry_at (unboxed d) p ≡ Entry.Free) }
+    ensures free { IfOk result (λ d. (p : ℕ) → entry_at (unboxed d) p ≡ PageEntry.Free) }
     ensures clean { IfOk result (λ d. (p : ℕ) → rec_lsn_at (unboxed d) p ≡ None) }
-    ensures still { IfOk result (λ d. (p : ℕ) → image_at (unboxed d) p ≡ None) }
+    ensures still { IfOk result (λ d. (p : ℕ) → moving_image_at (unboxed d) p ≡ None) }
     ensures unasked { IfOk result (λ d. (p : ℕ) → asks_at (unboxed d) p ≡ []) }
 {
     Directory::new(alloc)

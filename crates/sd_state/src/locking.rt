@@ -8,8 +8,8 @@ ghost use Rattle.sd_gate.specs.Slots.{named_body};
 ghost use Rattle.sd_model.specs.State.{State};
 ghost use Rattle.sd_page.specs.Reading.{page_of};
 ghost use Rattle.sd_page.specs.Spelling.{WellFormed};
-ghost use Rattle.sd_pagelock.specs.Directory.{entry_at, image_at};
-ghost use Rattle.sd_pagelock.specs.Places.{Entry};
+ghost use Rattle.sd_pagelock.specs.Directory.{entry_at, moving_image_at};
+ghost use Rattle.sd_pagelock.specs.Places.{PageEntry};
 ghost use Rattle.sd_pagelock.specs.Rows.{locked};
 ghost use Rattle.sd_pool.specs.Buffers.{LacksFrame, with_page};
 ghost use Rattle.sd_rig.specs.Devices.{IsUnchanged, Span};
@@ -70,7 +70,7 @@ impl<G: Rig> Complex<G> {
     ) -> Result<(), Memory>
         requires good { (pend : Pending) × (m : State) × Good (G.seen self.old.rig) (G.leaves self.old.rig) pend (parts self.old) m }
         requires idle { (parts self.old).due ≡ None }
-        requires free { entry_at (parts self.old).directory p ≡ Entry.Free }
+        requires free { entry_at (parts self.old).directory p ≡ PageEntry.Free }
         requires active { is_active (parts self.old) i ≡ true }
         requires frame { LacksFrame (pool_at (parts self.old) i) p → ⊥ }
         requires newest { image.value ≡ disk_page (G.seen self.old.rig 0) p }
@@ -79,7 +79,7 @@ impl<G: Rig> Complex<G> {
         ensures parts { OnOk result (parts self.new
             ≡ with_place i (with_page (pool_at (parts self.old) i) p image.value) (parts self.new).directory (parts self.old)) }
         ensures place { OnOk result (IsSet p (locked i mode) None (parts self.old).directory (parts self.new).directory) }
-        ensures moving { (q : ℕ) → image_at (parts self.new).directory q ≡ image_at (parts self.old).directory q }
+        ensures moving { (q : ℕ) → moving_image_at (parts self.new).directory q ≡ moving_image_at (parts self.old).directory q }
         ensures stays { OnErr result (parts self.new ≡ parts self.old) }
         ensures rig { self.new.rig ≡ self.old.rig }
     {

@@ -2,7 +2,7 @@
 use Rattle.std.proofs.Common.{◌≡◌, ℕ, ◌≤◌, refl, sym, subst}
 use Rattle.std.specs.Prelude.{Some}
 use Rattle.sd_base.specs.declared.trouble.Trouble.{Trouble}
-use Rattle.sd_rig.specs.Devices.{Image, IsUnchanged, Leaves}
+use Rattle.sd_rig.specs.Devices.{DeviceImages, IsUnchanged, Leaves}
 use Rattle.sd_model.specs.declared.event.Event.{Event}
 use Rattle.sd_model.specs.declared.event.Event.TheVariants.{Arm}
 use Rattle.sd_model.specs.declared.event.Reply.TheVariants as reply
@@ -18,7 +18,7 @@ use Rattle.sd_fits.proofs.Places.{read-fits, read-serves}
 use Rattle.sd_fits.proofs.Served.{none-ended, nothing-fits, passed, turns-on}
 
 module _ {G : Type 0} (tell : Telling G) (c new : Complex G) (trouble : Trouble)
-    (now : (img : Image) → tell.since c.rig (tell.moment c.rig) img → Leaves (tell.leaves c.rig) img)
+    (now : (img : DeviceImages) → tell.since c.rig (tell.moment c.rig) img → Leaves (tell.leaves c.rig) img)
     (reads : (d : ℕ) → d ≤ 8 → tell.leaves new.rig d (tell.seen new.rig d))
     (u : IsUnchanged (tell.seen c.rig) (tell.seen new.rig) (tell.leaves c.rig) (tell.leaves new.rig) (tell.moment c.rig)
     (tell.moment new.rig) (tell.since c.rig) (tell.since new.rig))

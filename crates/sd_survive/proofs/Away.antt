@@ -10,7 +10,7 @@ use Rattle.sd_base.specs.declared.place.Status.TheVariants as S
 use Rattle.sd_base.specs.declared.refusal.Refusal.{Refusal}
 use Rattle.sd_base.specs.declared.refusal.Refusal.TheVariants as R
 use Rattle.sd_logrec.specs.View.{Rec}
-use Rattle.sd_rig.specs.Devices.{Image, Leaves}
+use Rattle.sd_rig.specs.Devices.{DeviceImages, Leaves}
 use Rattle.sd_txn.specs.Transactions.{Transaction, state_at, top, top_at, txn_at}
 use Rattle.sd_txn.specs.declared.state.OpenRec.{OpenRec}
 use Rattle.sd_txn.specs.declared.state.TxnState.{TxnState}
@@ -24,7 +24,7 @@ use Rattle.sd_model.specs.declared.act.Claim.{Claim}
 use Rattle.sd_model.specs.declared.act.Life.{Life}
 use Rattle.sd_model.specs.declared.cause.Cause.{Cause}
 use Rattle.sd_model.specs.declared.event.Event.TheVariants.{RecoverStep}
-use Rattle.sd_pagelock.specs.Places.{Entry, is_lost, owns}
+use Rattle.sd_pagelock.specs.Places.{PageEntry, is_lost, owns}
 use Rattle.sd_sound.specs.Logs.{Outcomes, all_at, base_at, tail_at}
 use Rattle.sd_world.specs.PageCauses.{IsNeededPage}
 use Rattle.sd_world.specs.Serving.{Core, Telling, refused}
@@ -53,7 +53,7 @@ lost-is (Life.Doubt cut) forced whole (inr d) = inr (cut, refl)
 head-claim : (P : Rec → Type 0) (y : Rec) (ys : List Rec) → Each P (y ∷ ys) → P y
 head-claim P y ys e = e.0
 
-module _ (t : TxnId) (by : ℕ) (seen : Image) (leaves : Outcomes) (c : Parts) (w : Core) (f : Fits seen leaves c w) (low : 1 ≤ home t)
+module _ (t : TxnId) (by : ℕ) (seen : DeviceImages) (leaves : Outcomes) (c : Parts) (w : Core) (f : Fits seen leaves c w) (low : 1 ≤ home t)
     (high : home t ≤ 8) (recovers : status_at c (home t) ≡ S.Recovering by) (there : AreThere c)
     (loser : state_at (txns_at c (home t)) t ≡ Some TxnState.Retained) (o : OpenRec) (last : top_at (txns_at c (home t)) t ≡ Some o) where
   abbrev m : State
@@ -131,14 +131,14 @@ module _ (t : TxnId) (by : ℕ) (seen : Image) (leaves : Outcomes) (c : Parts) (
       recovers-at i by seen leaves c w f low high recovers,
       page-needed,
       h.1 ∙ sym (f.pages.entry o.rid.page),
-      ap (λ (e : Entry). owns e by) (f.pages.entry o.rid.page) ∙ h.0,
+      ap (λ (e : PageEntry). owns e by) (f.pages.entry o.rid.page) ∙ h.0,
       λ p. ap is_lost (f.pages.entry p) ∙ there.1 p,
     );
     left = refl;
   }
 
 module _ {G : Type 0} (tell : Telling G) (t : TxnId) (by : ℕ) (c : Complex G)
-    (now : (img : Image) → tell.since c.rig (tell.moment c.rig) img → Leaves (tell.leaves c.rig) img) (low : 1 ≤ home t)
+    (now : (img : DeviceImages) → tell.since c.rig (tell.moment c.rig) img → Leaves (tell.leaves c.rig) img) (low : 1 ≤ home t)
     (high : home t ≤ 8) (recovers : status_at (parts c) (home t) ≡ S.Recovering by) (there : AreThere (parts c))
     (loser : state_at (txns_at (parts c) (home t)) t ≡ Some TxnState.Retained) (o : OpenRec)
     (last : top_at (txns_at (parts c) (home t)) t ≡ Some o) where

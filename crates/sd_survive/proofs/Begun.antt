@@ -4,8 +4,8 @@ use Rattle.std.specs.Prelude.{None, Some}
 use Rattle.sd_base.specs.declared.place.Status.TheVariants as S
 use Rattle.sd_base.specs.declared.refusal.Refusal.{Refusal}
 use Rattle.sd_base.specs.declared.refusal.Refusal.TheVariants as R
-use Rattle.sd_rig.specs.Devices.{Image, Leaves}
-use Rattle.sd_model.specs.Applies.{Serves as Standing}
+use Rattle.sd_rig.specs.Devices.{DeviceImages, Leaves}
+use Rattle.sd_model.specs.Applies.{MayServe}
 use Rattle.sd_model.specs.State.{State}
 use Rattle.sd_model.specs.declared.cause.Cause.{Cause}
 use Rattle.sd_model.specs.declared.event.Event.{Event}
@@ -26,7 +26,7 @@ use Rattle.sd_fits.proofs.Refused.{IsFor, refused-serves}
 use Rattle.sd_survive.specs.Recovering.{MayNotBegin}
 
 module _ {G : Type 0} (tell : Telling G) (c : Complex G) (i by : ℕ) (low : 1 ≤ i) (high : i ≤ 8) (by_low : 1 ≤ by) (by_high : by ≤ 8)
-    (now : (img : Image) → tell.since c.rig (tell.moment c.rig) img → Leaves (tell.leaves c.rig) img) where
+    (now : (img : DeviceImages) → tell.since c.rig (tell.moment c.rig) img → Leaves (tell.leaves c.rig) img) where
   abbrev event : Event
   event = RecoverBegin i by
 
@@ -90,7 +90,7 @@ module _ {G : Type 0} (tell : Telling G) (c : Complex G) (i by : ℕ) (low : 1 �
       → Good (tell.seen new.rig) (tell.leaves new.rig) Pending.Idle (parts new) (recovers i by m))
       (down : status_at (parts c) i ≡ S.Down) (recoverer : (by ≡ i) ⊎ (status_at (parts c) by ≡ S.Up)) where
     module _ (w : Core) (f : fits_by tell.seen tell.leaves c w) where
-      stands : (Standing w.scene.state event → ⊥) → ⊥
+      stands : (MayServe w.scene.state event → ⊥) → ⊥
       stands off = off (⊎_elim (λ own. inl own) (λ up. inr (sym (up-is w f) ∙ up)) recoverer)
 
       turns : Turns w event reply.Did (begun_core i by w)

@@ -16,7 +16,7 @@ use Rattle.sd_state.proofs.SealedCalls.{settled-up}
 use Rattle.sd_fits.specs.Fits.{Fits}
 use Rattle.sd_survive.specs.Joining.{MayStart}
 
-module _ (i lsn epoch spare : ℕ) (seen : rig.Image) (leaves : Outcomes) (c s : Parts) (w : Core) (f : Fits seen leaves c w)
+module _ (i lsn epoch spare : ℕ) (seen : rig.DeviceImages) (leaves : Outcomes) (c s : Parts) (w : Core) (f : Fits seen leaves c w)
     (low : 1 ≤ i) (high : i ≤ 8) (waits : MayStart (status_at c i)) (is : s ≡ with_start i lsn epoch spare c) where
   pub start-idle : s.due ≡ None
   start-idle = ap (λ (p : Parts). p.due) is ∙ f.idle

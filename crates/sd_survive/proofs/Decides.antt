@@ -11,7 +11,7 @@ use Rattle.sd_logrec.specs.View.{Rec, flat}
 use Rattle.sd_logrec.specs.declared.record.Record.{Record}
 use Rattle.sd_log.specs.Logs.{LogState, flats, forced, placed, placed_groups, placed_tail, scanned}
 use Rattle.sd_log.specs.declared.placed.Placed.{Placed}
-use Rattle.sd_rig.specs.Devices.{Image}
+use Rattle.sd_rig.specs.Devices.{DeviceImages}
 use Rattle.sd_txn.specs.Owing.{owed_of}
 use Rattle.sd_txn.specs.Transactions.{Transactions, span_at, state_at}
 use Rattle.sd_txn.specs.declared.state.TxnState.{TxnState}
@@ -54,7 +54,7 @@ any-flat p (x ∷ xs) = ap (λ (b : Bool). p (flat x.rec) || b) (any-flat p xs)
 
 -- ---- a table that owes what it owed
 
-module _ (i by : ℕ) (table : Transactions) (seen : Image) (leaves : Outcomes) (c : Parts) (w : Core) (f : Fits seen leaves c w) (low : 1 ≤ i)
+module _ (i by : ℕ) (table : Transactions) (seen : DeviceImages) (leaves : Outcomes) (c : Parts) (w : Core) (f : Fits seen leaves c w) (low : 1 ≤ i)
     (high : i ≤ 8) (recovers : status_at c i ≡ S.Recovering by) (settled : is_loose c i ≡ false)
     (good : Good seen leaves Pending.Idle (with_table i table c) w.scene.state) where
   abbrev then : Parts

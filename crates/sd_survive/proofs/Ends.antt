@@ -11,7 +11,7 @@ use Rattle.sd_logrec.specs.Spelling.{spelling}
 use Rattle.sd_logrec.specs.View.{flat}
 use Rattle.sd_logrec.specs.declared.record.Record.{Record}
 use Rattle.sd_model.specs.State.{State}
-use Rattle.sd_rig.specs.Devices.{Image}
+use Rattle.sd_rig.specs.Devices.{DeviceImages}
 use Rattle.sd_reclock.specs.Locks.{waits}
 use Rattle.sd_txn.specs.Owing.{owed_of}
 use Rattle.sd_txn.specs.Transactions.{Transaction, Transactions, span_at, state_at, top, top_at, txn_at}
@@ -72,7 +72,7 @@ none-some (Some x) e some = absurd (cc)
 
 -- ---- the log has its End
 
-module _ (t : TxnId) (by : ℕ) (seen : Image) (leaves : Outcomes) (c : Parts) (w : Core) (f : Fits seen leaves c w)
+module _ (t : TxnId) (by : ℕ) (seen : DeviceImages) (leaves : Outcomes) (c : Parts) (w : Core) (f : Fits seen leaves c w)
     (low : 1 ≤ home t) (high : home t ≤ 8) (recovers : status_at c (home t) ≡ S.Recovering by) (settled : is_loose c (home t) ≡ false)
     (mid : Parts) (reads : leaves 0 (seen 0)) (h : HasEnd t (λ x. end_of t x c) c mid)
     (good : Good seen leaves Pending.Idle mid w.scene.state) where

@@ -3,8 +3,8 @@ use Rattle.std.proofs.Common.{◌≡◌, ℕ, ◌≤◌, true, false, refl, sym,
 use Rattle.std.specs.Prelude.{None, Some}
 use Rattle.sd_base.specs.declared.refusal.Refusal.TheVariants as R
 use Rattle.sd_base.specs.Waits.{with_wait}
-use Rattle.sd_rig.specs.Devices.{Image, Leaves}
-use Rattle.sd_model.specs.Applies.{Serves as Standing}
+use Rattle.sd_rig.specs.Devices.{DeviceImages, Leaves}
+use Rattle.sd_model.specs.Applies.{MayServe}
 use Rattle.sd_model.specs.Fields.{nobody}
 use Rattle.sd_model.specs.State.{State, fall}
 use Rattle.sd_model.specs.declared.cause.Cause.{Cause}
@@ -26,7 +26,7 @@ use Rattle.sd_fits.proofs.Served.{bounds-stay, none-ended, still-serves}
 use Rattle.sd_fits.proofs.Refused.{IsFor, active-serves, idle-refuses, refused-serves}
 
 module _ {G : Type 0} (tell : Telling G) (c : Complex G) (i : ℕ) (low : 1 ≤ i) (high : i ≤ 8)
-    (now : (img : Image) → tell.since c.rig (tell.moment c.rig) img → Leaves (tell.leaves c.rig) img) where
+    (now : (img : DeviceImages) → tell.since c.rig (tell.moment c.rig) img → Leaves (tell.leaves c.rig) img) where
   abbrev event : Event
   event = Fail i
 
@@ -69,7 +69,7 @@ module _ {G : Type 0} (tell : Telling G) (c : Complex G) (i : ℕ) (low : 1 ≤ 
       abbrev next : Core
       next = fell_core i m number (bounds_after w.bounds event reply.Did) w
 
-      stands : (Standing m event → ⊥) → ⊥
+      stands : (MayServe m event → ⊥) → ⊥
       stands none = none (active-serves (tell.seen c.rig) (tell.leaves c.rig) (parts c) w f i low high active)
 
       fits-then : Fits (tell.seen c.rig) (tell.leaves c.rig) (parts new) next

@@ -12,7 +12,7 @@ use Rattle.sd_logrec.specs.Kept.{Master, master}
 use Rattle.sd_logrec.specs.declared.record.Record.{Record}
 use Rattle.sd_log.specs.Logs.{LogState, forced}
 use Rattle.sd_model.specs.Listed.{Below, EachBelow}
-use Rattle.sd_model.specs.Placed.{Stands}
+use Rattle.sd_model.specs.Lives.{SuitsStatus}
 use Rattle.sd_model.specs.State.{State, put_inst}
 use Rattle.sd_model.specs.declared.act.Inst.{Inst}
 use Rattle.sd_rig.specs.Devices as rig
@@ -48,7 +48,7 @@ each-below f f' epoch status begins (t ∷ ts) b = (one b.0, each-below f f' epo
 abbrev pub failed_so : ℕ → ℕ → State → State
 failed_so i n m = put_inst i (record (m.inst i) { failed = n }) m
 
-module _ (i n : ℕ) (seen : rig.Image) (leaves : Outcomes) (c : Parts) (m : State) (low : 1 ≤ i) (high : i ≤ 8)
+module _ (i n : ℕ) (seen : rig.DeviceImages) (leaves : Outcomes) (c : Parts) (m : State) (low : 1 ≤ i) (high : i ≤ 8)
     (g : Good seen leaves (Pending.Starts i) c m) (settled : is_loose c i ≡ false)
     (is : (m.inst i).epoch + 1 + n ≡ epoch_at c i) where
   abbrev few : State
@@ -199,7 +199,7 @@ module _ (i n : ℕ) (seen : rig.Image) (leaves : Outcomes) (c : Parts) (m : Sta
     owed_loose = g.owed_loose;
     kept = let k = g.kept in record { serial = k.serial; reads = k.reads; covered = k.covered; apart = k.apart };
     placed = record {
-      stands = λ t. subst (λ (s : Status). Stands (m.part t).life s) (sym (few-status t.inst)) (g.placed.stands t);
+      stands = λ t. subst (λ (s : Status). SuitsStatus (m.part t).life s) (sym (few-status t.inst)) (g.placed.stands t);
       one = g.placed.one;
       shut = λ j closed. few-status 1 ∙ g.placed.shut j (sym (few-status j) ∙ closed);
     };

@@ -10,14 +10,14 @@ use Rattle.sd_base.specs.declared.place.Status.TheVariants as S
 use Rattle.sd_logrec.specs.View.{flat}
 use Rattle.sd_logrec.specs.declared.record.Record.{Record}
 use Rattle.sd_reclock.specs.Locks.{held}
-use Rattle.sd_rig.specs.Devices.{Image}
+use Rattle.sd_rig.specs.Devices.{DeviceImages}
 use Rattle.sd_txn.specs.Transactions.{Transaction, Transactions, span_at, state_at, top, txn_at}
 use Rattle.sd_txn.specs.declared.state.OpenRec.{OpenRec}
 use Rattle.sd_txn.specs.declared.state.TxnState.{TxnState}
 use Rattle.sd_chain.specs.Fates.{fate}
 use Rattle.sd_chain.specs.Records.{home}
 use Rattle.sd_chain.proofs.Fates.{fate-closed}
-use Rattle.sd_model.specs.Placed.{Stands}
+use Rattle.sd_model.specs.Lives.{SuitsStatus}
 use Rattle.sd_model.specs.State.{State}
 use Rattle.sd_model.specs.declared.act.Life.{Life}
 use Rattle.sd_sound.specs.Logs.{Outcomes, all_at, base_at}
@@ -43,7 +43,7 @@ none-there : (o : Option OpenRec) → option_map (λ (r : OpenRec). r.lsn) o ≡
 none-there None e = refl
 none-there (Some r) e = absurd (cc)
 
-module _ (i by : ℕ) (seen : Image) (leaves : Outcomes) (c : Parts) (w : Core) (f : Fits seen leaves c w) (low : 1 ≤ i) (high : i ≤ 8)
+module _ (i by : ℕ) (seen : DeviceImages) (leaves : Outcomes) (c : Parts) (w : Core) (f : Fits seen leaves c w) (low : 1 ≤ i) (high : i ≤ 8)
     (recovers : status_at c i ≡ S.Recovering by) (there : AreThere c) (done : IsRowTask (txns_at c i) task.Done)
     (no_tail : (log_at c i).tail ≡ []) where
   abbrev m : State
@@ -58,8 +58,8 @@ module _ (i by : ℕ) (seen : Image) (leaves : Outcomes) (c : Parts) (w : Core) 
   all-forced : all_at (log_at c i) ≡ base_at (log_at c i)
   all-forced = ap (λ (tail : List Record). base_at (log_at c i) ++ map flat tail) no_tail ∙ append-nil (base_at (log_at c i))
 
-  stands : (t : TxnId) → home t ≡ i → Stands (m.part t).life (S.Recovering by)
-  stands t own = subst (λ (s : Status). Stands (m.part t).life s)
+  stands : (t : TxnId) → home t ≡ i → SuitsStatus (m.part t).life (S.Recovering by)
+  stands t own = subst (λ (s : Status). SuitsStatus (m.part t).life s)
       (ap (λ (j : ℕ). (m.inst j).status) own ∙ sym (f.good.instances i low high).status ∙ recovers) (f.good.placed.stands t)
 
   module _ (t : TxnId) (x : Transaction) (row : txn_at table t ≡ Some x) where
@@ -74,9 +74,9 @@ module _ (i by : ℕ) (seen : Image) (leaves : Outcomes) (c : Parts) (w : Core) 
     logged = subst (λ (o : Option Transaction). RowIsLogged o t (all_at (log_at c i))) row
         ((f.good.told i low high (ap tells_log recovers) settled).rows t own)
 
-    no-doubt : next.is_doubt (Some x.state) ≡ false
-    no-doubt = sym (ap (λ (o : Option Transaction). next.is_doubt (option_map (λ (z : Transaction). z.state) o)) row)
-        ∙ none-passes (λ u. next.is_doubt (state_at table u)) table.unresolved t x done.0 row
+    no-doubt : next.row_is_doubt (Some x.state) ≡ false
+    no-doubt = sym (ap (λ (o : Option Transaction). next.row_is_doubt (option_map (λ (z : Transaction). z.state) o)) row)
+        ∙ none-passes (λ u. next.row_is_doubt (state_at table u)) table.unresolved t x done.0 row
 
     undone : open_lsn table t ≡ None
     undone = none-open table table.unresolved t x done.1 row
@@ -95,14 +95,14 @@ module _ (i by : ℕ) (seen : Image) (leaves : Outcomes) (c : Parts) (w : Core) 
       where
         by-state : (s : TxnState) → x.state ≡ s → IsDone i t x
         by-state TxnState.Running e =
-            absurd (subst (λ (l : Life). Stands l (S.Recovering by))
+            absurd (subst (λ (l : Life). SuitsStatus l (S.Recovering by))
             (subst (λ (s : TxnState). StandsAs s (m.part t).life (fate t (base_at (log_at c i))) (fate t (all_at (log_at c i)))) e named)
             (stands t own))
         by-state (TxnState.Rolling to) e =
-            absurd (subst (λ (l : Life). Stands l (S.Recovering by))
+            absurd (subst (λ (l : Life). SuitsStatus l (S.Recovering by))
             (subst (λ (s : TxnState). StandsAs s (m.part t).life (fate t (base_at (log_at c i))) (fate t (all_at (log_at c i)))) e named)
             (stands t own))
-        by-state TxnState.Doubt e = let clash = sym (ap (λ (s : TxnState). next.is_doubt (Some s)) e) ∙ no-doubt in absurd (cc)
+        by-state TxnState.Doubt e = let clash = sym (ap (λ (s : TxnState). next.row_is_doubt (Some s)) e) ∙ no-doubt in absurd (cc)
         by-state TxnState.Retained e = record {
           own = own;
           state = inr e;

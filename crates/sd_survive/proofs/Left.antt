@@ -20,7 +20,7 @@ use Rattle.sd_state.specs.Recovering.{decided_as}
 use Rattle.sd_state.specs.Tables.{IsLogged, IsShut}
 use Rattle.sd_state.specs.Values.{open_of}
 use Rattle.sd_state.proofs.ChangedLists.{span-there}
-use Rattle.sd_survive.specs.Recovering.{is_doubt, tasks_in, tasks_of}
+use Rattle.sd_survive.specs.Recovering.{row_is_doubt, tasks_in, tasks_of}
 
 -- a decision is made
 pub decided-fewer : (old new : Transactions) (t : TxnId) (x : Transaction) (b : Bool) → IsDistinct same_txn (ids old) → txn_at old t ≡ Some x
@@ -30,7 +30,7 @@ decided-fewer old new t x b once was doubt now others order =
     let moves : tasks_in new + tasks_of x ≡ tasks_in old + tasks_of (with_state (decided_as b) x) =
     total-replaced tasks_of old new t x (with_state (decided_as b) x) once
     (record { was = was; now = now ∙ ap (option_map (with_state (decided_as b))) was; others = others; order = order }) in
-    let before : tasks_of x ≡ 1 + records_owed x = ap (λ (s : TxnState). cond (is_doubt (Some s)) 1 0 + records_owed x) doubt in
+    let before : tasks_of x ≡ 1 + records_owed x = ap (λ (s : TxnState). cond (row_is_doubt (Some s)) 1 0 + records_owed x) doubt in
     let after = decided b in
     omega (arith, moves, before, after)
   where

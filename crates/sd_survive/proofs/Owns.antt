@@ -3,7 +3,7 @@ use Rattle.std.proofs.Common.{◌≡◌, ⊎_elim, ℕ, ◌≤◌, Bool, true, f
 use Rattle.std.specs.Prelude.{Option, None, Some, IsSome, is_some, option_map}
 use Rattle.std.proofs.lemmas.Bool.{cases_eq}
 use Rattle.sd_base.specs.declared.ids.TxnId.{TxnId}
-use Rattle.sd_rig.specs.Devices.{Image}
+use Rattle.sd_rig.specs.Devices.{DeviceImages}
 use Rattle.sd_txn.specs.Transactions.{Transaction, Transactions, span_at, state_at, top_at, txn_at}
 use Rattle.sd_txn.specs.declared.state.OpenRec.{OpenRec}
 use Rattle.sd_txn.specs.declared.state.TxnState.{TxnState}
@@ -13,7 +13,7 @@ use Rattle.sd_world.specs.Serving.{Core}
 use Rattle.sd_state.specs.Parts.{Parts, txns_at}
 use Rattle.sd_state.proofs.Decided.{has-row}
 use Rattle.sd_fits.specs.Fits.{Fits}
-use Rattle.sd_survive.specs.Recovering.{in_doubt, is_doubt, is_loser, last_open, to_end}
+use Rattle.sd_survive.specs.Recovering.{in_doubt, is_loser, last_open, row_is_doubt, to_end}
 use Rattle.sd_survive.proofs.Rows.{doubt-is, found-passes, last-open, loser-is, none-open, open-is}
 use Rattle.std.specs.Prelude.{option_and_then}
 use Rattle.sd_txn.specs.Transactions.{ids, top}
@@ -22,7 +22,7 @@ none-some : {A : Type 0} (x : A) → None ≡ Some x → ⊥
 none-some x e = cc
 
 -- whose row an instance has is of that instance
-pub own-row : (i : ℕ) (seen : Image) (leaves : Outcomes) (c : Parts) (w : Core) → Fits seen leaves c w → 1 ≤ i → i ≤ 8 → (t : TxnId)
+pub own-row : (i : ℕ) (seen : DeviceImages) (leaves : Outcomes) (c : Parts) (w : Core) → Fits seen leaves c w → 1 ≤ i → i ≤ 8 → (t : TxnId)
     (s : TxnState) → state_at (txns_at c i) t ≡ Some s → home t ≡ i
 own-row i seen leaves c w f low high t s is = ⊎_elim (λ e. e)
     (λ ne. absurd (none-some s (sym (ap (option_map (λ (x : Transaction). x.state)) ((f.good.instances i low high).own t ne)) ∙ is)))
@@ -30,7 +30,7 @@ own-row i seen leaves c w f low high t s is = ⊎_elim (λ e. e)
 
 module _ (table : Transactions) (t : TxnId) where
   pub doubtful : in_doubt table ≡ Some t → state_at table t ≡ Some TxnState.Doubt
-  doubtful e = doubt-is (state_at table t) (found-passes (λ u. is_doubt (state_at table u)) (ids table) t e)
+  doubtful e = doubt-is (state_at table t) (found-passes (λ u. row_is_doubt (state_at table u)) (ids table) t e)
 
   pub open-loser : last_open table ≡ Some t → (state_at table t ≡ Some TxnState.Retained) × IsSome (top_at table t)
   open-loser e = open-is table t (last-open table (ids table) t e)

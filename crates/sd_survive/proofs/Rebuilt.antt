@@ -5,7 +5,7 @@ use Rattle.sd_base.specs.Streams.{Rises}
 use Rattle.sd_base.specs.declared.place.Status.TheVariants as S
 use Rattle.sd_base.specs.declared.refusal.Refusal.{Refusal}
 use Rattle.sd_base.specs.declared.refusal.Refusal.TheVariants as R
-use Rattle.sd_rig.specs.Devices.{Elapses, Image, IsUnchanged, Leaves, LeavesSame, Span}
+use Rattle.sd_rig.specs.Devices.{DeviceImages, Elapses, IsUnchanged, Leaves, LeavesSame, Span}
 use Rattle.sd_chain.specs.Bytes.{disk_page}
 use Rattle.sd_coherent.specs.Named.{version_of}
 use Rattle.sd_sound.specs.Logs.{tails_of}
@@ -19,7 +19,7 @@ use Rattle.sd_moves.specs.Putting.{SameVersions, with_loose_disk}
 use Rattle.sd_moves.specs.Rebuilding.{MayRebuild}
 use Rattle.sd_moves.proofs.PutCalls.{disk-same, read-elapses}
 use Rattle.sd_pagelock.specs.Directory.{DirectoryState, entry_at}
-use Rattle.sd_pagelock.specs.Places.{Entry, is_lost}
+use Rattle.sd_pagelock.specs.Places.{PageEntry, is_lost}
 use Rattle.sd_pagelock.proofs.Uses.{lost-is}
 use Rattle.sd_page.specs.Page.{Page}
 use Rattle.sd_world.specs.Answers.{IsLowestLost, Undoes}
@@ -114,7 +114,7 @@ module _ {G : Type 0} (tell : Telling G) (c : Complex G) (i by p : ℕ) (low : 1
       (versions : SameVersions (tell.seen c.rig) (tell.seen new.rig) (parts c))
       (others_leave : (d : ℕ) → d ≢ 0 → LeavesSame (tell.leaves c.rig d) (tell.leaves new.rig d))
       (is : parts new ≡ with_directory (parts new).directory (parts c))
-      (set : IsSet p Entry.Free None (parts c).directory (parts new).directory)
+      (set : IsSet p PageEntry.Free None (parts c).directory (parts new).directory)
       (quiet : tell.faults new.rig ≡ tell.faults c.rig) where
     abbrev places : DirectoryState Page
     places = (parts new).directory
@@ -161,7 +161,7 @@ module _ {G : Type 0} (tell : Telling G) (c : Complex G) (i by p : ℕ) (low : 1
   module _ (read : Complex G) (same : parts read ≡ parts c)
       (u : IsUnchanged (tell.seen c.rig) (tell.seen read.rig) (tell.leaves c.rig) (tell.leaves read.rig) (tell.moment c.rig)
       (tell.moment read.rig) (tell.since c.rig) (tell.since read.rig))
-      (now : (img : Image) → tell.since c.rig (tell.moment c.rig) img → Leaves (tell.leaves c.rig) img)
+      (now : (img : DeviceImages) → tell.since c.rig (tell.moment c.rig) img → Leaves (tell.leaves c.rig) img)
       (good : (pend : Pending) (m : State) → Good (tell.seen c.rig) (tell.leaves c.rig) pend (parts c) m
       → Good (tell.seen read.rig) (tell.leaves read.rig) pend (parts read) m) where
     pub fits-read : (w : Core) → fits_by tell.seen tell.leaves c w → fits_by tell.seen tell.leaves read w

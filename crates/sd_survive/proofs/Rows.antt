@@ -8,7 +8,7 @@ use Rattle.sd_base.proofs.SameIds.{cases_txn, ne-same}
 use Rattle.sd_txn.specs.Transactions.{Transaction, Transactions, state_at, top_at}
 use Rattle.sd_txn.specs.declared.state.OpenRec.{OpenRec}
 use Rattle.sd_txn.specs.declared.state.TxnState.{TxnState}
-use Rattle.sd_survive.specs.Recovering.{is_doubt, is_later, is_loser, later, open_lsn}
+use Rattle.sd_survive.specs.Recovering.{is_later, is_loser, later, open_lsn, row_is_doubt}
 
 -- by the two ways in which a test comes out
 two : {P : Type 0} (b : Bool) → (b ≡ true → P) → (b ≡ false → P) → P
@@ -94,7 +94,7 @@ module _ (table : Transactions) where
 
 -- ---- states
 
-pub doubt-is : (s : Option TxnState) → is_doubt s ≡ true → s ≡ Some TxnState.Doubt
+pub doubt-is : (s : Option TxnState) → row_is_doubt s ≡ true → s ≡ Some TxnState.Doubt
 doubt-is None e = absurd (cc)
 doubt-is (Some TxnState.Running) e = absurd (cc)
 doubt-is (Some (TxnState.Rolling to)) e = absurd (cc)

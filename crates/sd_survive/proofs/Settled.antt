@@ -7,7 +7,7 @@ use Rattle.sd_base.specs.Waits.{with_wait}
 use Rattle.sd_base.specs.declared.ids.TxnId.{TxnId}
 use Rattle.sd_base.specs.declared.place.Status.TheVariants as S
 use Rattle.sd_base.specs.declared.refusal.Refusal.TheVariants as R
-use Rattle.sd_rig.specs.Devices.{Elapses, Image, LeavesOnly, Span}
+use Rattle.sd_rig.specs.Devices.{DeviceImages, Elapses, LeavesOnly, Span}
 use Rattle.sd_model.specs.State.{State, fall}
 use Rattle.sd_model.specs.declared.cause.Cause.{Cause}
 use Rattle.sd_model.specs.declared.event.Event.{Event}
@@ -56,7 +56,7 @@ module _ {G : Type 0} (tell : Telling G) (c new : Complex G) (i by dev : ℕ) (l
   abbrev event : Event
   event = RecoverStep i
 
-  abbrev seen' : Image
+  abbrev seen' : DeviceImages
   seen' = tell.seen new.rig
 
   abbrev leaves' : Outcomes

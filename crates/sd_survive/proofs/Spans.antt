@@ -13,7 +13,7 @@ use Rattle.sd_model.specs.declared.act.Inst.{Inst}
 use Rattle.sd_model.specs.Claims.{Claims}
 use Rattle.sd_rig.specs.Devices as rig
 use Rattle.sd_chain.specs.Bytes.{log_of, stable}
-use Rattle.sd_chain.specs.Image.{Recovered}
+use Rattle.sd_chain.specs.Storage.{Recovered}
 use Rattle.sd_chain.specs.Records.{Each, Val, stack}
 use Rattle.sd_state.specs.Images.{IsEpochOf, Stands, kept_epoch}
 use Rattle.sd_state.specs.Values.{Pending, rid_of, starts_of}
@@ -66,7 +66,7 @@ module _ (i n epoch : ℕ) (m : State) (low : 1 ≤ i) (high : i ≤ 8) (may : M
       record { low = omega (arith, least, epochs); high = omega (arith, most, epochs, fails, starts) }
 
   -- an image whose log is in an earlier epoch stands for the state before,
-  before-stands : (img : rig.Image) → Stands few (Pending.Starts i) img → kept_epoch (img i) < epoch → stands_for img m
+  before-stands : (img : rig.DeviceImages) → Stands few (Pending.Starts i) img → kept_epoch (img i) < epoch → stands_for img m
   before-stands img s earlier = record {
     sound = s.sound;
     recovered = s.recovered;
@@ -85,7 +85,7 @@ module _ (i n epoch : ℕ) (m : State) (low : 1 ≤ i) (high : i ≤ 8) (may : M
           record { low = omega (arith, least, same); high = omega (arith, earlier, near, is) }
 
   -- and one whose log is in the epoch for the one behind it
-  behind-stands : (img : rig.Image) → Stands few (Pending.Starts i) img → epoch ≤ kept_epoch (img i) → stands_for img then
+  behind-stands : (img : rig.DeviceImages) → Stands few (Pending.Starts i) img → epoch ≤ kept_epoch (img i) → stands_for img then
   behind-stands img s there = record {
     sound = s.sound;
     recovered = s.recovered;
@@ -110,7 +110,7 @@ module _ (i n epoch : ℕ) (m : State) (low : 1 ≤ i) (high : i ≤ 8) (may : M
           record { low = omega (arith, there, epochs'); high = omega (arith, most, epochs, fails, starts, is, epochs', fails') }
 
   -- whatever a crash leaves stands for one of both
-  pub join-stands : (img : rig.Image) → Stands few (Pending.Starts i) img → stands_for img m ⊎ stands_for img then
+  pub join-stands : (img : rig.DeviceImages) → Stands few (Pending.Starts i) img → stands_for img m ⊎ stands_for img then
   join-stands img s = ⊎_elim
       (λ le. inr (behind-stands img s le.1))
       (λ gt. let lt = gt.1 in inl (before-stands img s (omega (arith, lt))))
@@ -119,7 +119,7 @@ module _ (i n epoch : ℕ) (m : State) (low : 1 ≤ i) (high : i ≤ 8) (may : M
 -- ---- a join whose force fails
 
 -- Whatever a crash leaves then stands for the state behind the fall.
-pub fall-stands : (i : ℕ) (m m' : State) (img : rig.Image) → IsFall i (Pending.Starts i) m m' → Stands m (Pending.Starts i) img
+pub fall-stands : (i : ℕ) (m m' : State) (img : rig.DeviceImages) → IsFall i (Pending.Starts i) m m' → Stands m (Pending.Starts i) img
     → stands_for img m'
 fall-stands i m m' img f s = record {
   sound = s.sound;

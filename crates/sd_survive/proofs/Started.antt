@@ -15,7 +15,7 @@ use Rattle.sd_logrec.specs.declared.record.Record.{Record}
 use Rattle.sd_logrec.specs.declared.record.Record.TheVariants as records
 use Rattle.sd_logrec.proofs.Lengths.{length-spelling}
 use Rattle.sd_model.specs.Listed.{IsAtWork}
-use Rattle.sd_model.specs.Placed.{MayRun, Stands}
+use Rattle.sd_model.specs.Lives.{MayRun, SuitsStatus}
 use Rattle.sd_model.specs.State.{State, joined}
 use Rattle.sd_model.specs.declared.act.Life.{Life}
 use Rattle.sd_model.specs.declared.event.Event.TheVariants.{Join}
@@ -47,7 +47,7 @@ use Rattle.sd_fits.proofs.Sealing.{AreMore, sealed-bounds, sealed-doubts, sealed
 use Rattle.sd_survive.specs.Joining.{MayStart}
 
 -- nobody of it is at work
-rests-at : (life : Life) (s : Status) → MayStart s → Stands life s → (IsAtWork life → ⊥) × ((life ≡ Life.Rolling None) → ⊥)
+rests-at : (life : Life) (s : Status) → MayStart s → SuitsStatus life s → (IsAtWork life → ⊥) × ((life ≡ Life.Rolling None) → ⊥)
 rests-at Life.Gone s may h = (λ w. w, λ e. cc)
 rests-at Life.Running s may h = let never : ⊥ = ⊎_elim (λ e. subst MayRun e h) (λ e. subst MayRun e h) may in
     (λ w. never, λ e. never)
@@ -90,7 +90,7 @@ joined_core i epoch sums w = record {
 
 -- ---- the Start is in the log
 
-module _ (i lsn epoch spare : ℕ) (seen : rig.Image) (leaves : Outcomes) (c : Parts) (w : Core) (f : Fits seen leaves c w)
+module _ (i lsn epoch spare : ℕ) (seen : rig.DeviceImages) (leaves : Outcomes) (c : Parts) (w : Core) (f : Fits seen leaves c w)
     (low : 1 ≤ i) (high : i ≤ 8) (waits : MayStart (status_at c i)) (next : lsn ≡ next_lsn (log_at c i) 0) (r : Reply) where
   abbrev m : State
   m = w.scene.state
@@ -124,7 +124,7 @@ module _ (i lsn epoch spare : ℕ) (seen : rig.Image) (leaves : Outcomes) (c : P
 
   -- ---- and is forced
 
-  module _ (seen' : rig.Image) (leaves' : Outcomes) (disk : seen' 0 ≡ seen 0)
+  module _ (seen' : rig.DeviceImages) (leaves' : Outcomes) (disk : seen' 0 ≡ seen 0)
       (kept : KeepMasters leaves leaves') (g : Good seen leaves (Pending.Starts i) mid m) where
     -- its force failed
     pub failed-pages-fit : (a : ℕ) → FitsPages seen' leaves' (with_failed a i mid) w.pages
@@ -192,7 +192,7 @@ module _ (i lsn epoch spare : ℕ) (seen : rig.Image) (leaves : Outcomes) (c : P
       rests : (t : TxnId) → home t ≡ i → (IsAtWork (m.part t).life → ⊥) × (((m.part t).life ≡ Life.Rolling None) → ⊥)
       rests t own = rests-at (m.part t).life (m.inst i).status
           (subst MayStart (f.good.instances i low high).status waits)
-          (subst (λ (k : ℕ). Stands (m.part t).life (m.inst k).status) own (f.good.placed.stands t))
+          (subst (λ (k : ℕ). SuitsStatus (m.part t).life (m.inst k).status) own (f.good.placed.stands t))
 
       log-else : (j : ℕ) → j ≢ i → log_at new j ≡ log_at c j
       log-else j ne = item-kept no_log mid.logs i (forced (log_at mid i)) low j ne

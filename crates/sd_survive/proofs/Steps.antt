@@ -9,7 +9,7 @@ use Rattle.sd_base.specs.declared.refusal.Refusal.TheVariants as R
 use Rattle.sd_log.specs.Logs.{LogState, forced}
 use Rattle.sd_logrec.specs.View.{Rec, flat}
 use Rattle.sd_logrec.specs.declared.record.Record.{Record}
-use Rattle.sd_rig.specs.Devices.{Elapses, Image, Span}
+use Rattle.sd_rig.specs.Devices.{DeviceImages, Elapses, Span}
 use Rattle.sd_chain.specs.Checks.{owed}
 use Rattle.sd_chain.specs.Records.{IsOpen, home}
 use Rattle.sd_model.specs.State.{State, fall}
@@ -65,7 +65,7 @@ module _ (i j owes : ℕ) (c : Parts) (eight : length c.logs ≡ 8) (low : 1 ≤
   }
 
 -- what a log owes that is forced is what all of its records owe
-pub forced-owes : (j : ℕ) (seen : Image) (leaves : Outcomes) (c new : Parts) (m : State) → 1 ≤ j → j ≤ 8 → Good seen leaves Pending.Idle new m
+pub forced-owes : (j : ℕ) (seen : DeviceImages) (leaves : Outcomes) (c new : Parts) (m : State) → 1 ≤ j → j ≤ 8 → Good seen leaves Pending.Idle new m
     → log_at new j ≡ forced (log_at c j) → is_loose new j ≡ false → owed_at new j ≡ owed (all_at (log_at c j))
 forced-owes j seen leaves c new m low high good is settled =
     good.owed j low high settled ∙ ap (λ (l : LogState). owed (base_at l)) is ∙ ap owed (forced-base (log_at c j))
@@ -173,7 +173,7 @@ module _ {G : Type 0} (tell : Telling G) (i by : ℕ) (old : Complex G) (low : 1
 
 -- ---- a force that failed
 
-module _ (a j : ℕ) (seen seen' : Image) (leaves leaves' : Outcomes) (s mid : Parts) (m : State) (g : Good seen leaves Pending.Idle s m)
+module _ (a j : ℕ) (seen seen' : DeviceImages) (leaves leaves' : Outcomes) (s mid : Parts) (m : State) (g : Good seen leaves Pending.Idle s m)
     (low : 1 ≤ j) (high : j ≤ 8) (settled : is_loose s j ≡ false) (disk : seen' 0 ≡ seen 0) (kept : KeepMasters leaves leaves')
     (is : mid ≡ with_failed a j s) where
   -- pages, sums and whoever is in doubt fit on

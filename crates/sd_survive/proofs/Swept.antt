@@ -10,7 +10,7 @@ use Rattle.sd_base.specs.declared.ids.TxnId.{TxnId}
 use Rattle.sd_base.specs.declared.place.Status.TheVariants as S
 use Rattle.sd_log.specs.Logs.{forced}
 use Rattle.sd_reclock.specs.Locks.{held, waits}
-use Rattle.sd_rig.specs.Devices.{Image}
+use Rattle.sd_rig.specs.Devices.{DeviceImages}
 use Rattle.sd_txn.specs.Owing.{owed_of}
 use Rattle.sd_txn.specs.Transactions.{Transaction, Transactions, ids, span_at, txn_at}
 use Rattle.sd_chain.specs.Records.{home}
@@ -57,7 +57,7 @@ owes-none false true false was told none e = omega arith
 owes-none false false true was told none e = omega (arith, e)
 owes-none false false false was told none e = omega arith
 
-module _ (i by : ℕ) (seen : Image) (leaves : Outcomes) (c : Parts) (w : Core) (f : Fits seen leaves c w) (low : 1 ≤ i) (high : i ≤ 8)
+module _ (i by : ℕ) (seen : DeviceImages) (leaves : Outcomes) (c : Parts) (w : Core) (f : Fits seen leaves c w) (low : 1 ≤ i) (high : i ≤ 8)
     (recovers : status_at c i ≡ S.Recovering by) (there : AreThere c) (may : MayEnd i c)
     (once : IsDistinct same_txn (ids (txns_at c i))) (new : Parts) (is : new ≡ with_recovered i new.locks c)
     (freed : (t : TxnId) (r : Rid) → held new.locks t r ≡ cond (is_some (txn_at (txns_at c i) t)) None (held c.locks t r))

@@ -15,7 +15,7 @@ use Rattle.sd_model.specs.declared.event.Event.TheVariants.{RecoverStep}
 use Rattle.sd_model.specs.declared.event.Reply.TheVariants as reply
 use Rattle.sd_moves.specs.Falling.{IsFallen, with_fallen}
 use Rattle.sd_pagelock.specs.Directory.{entry_at}
-use Rattle.sd_pagelock.specs.Places.{Entry, is_lost, owns}
+use Rattle.sd_pagelock.specs.Places.{PageEntry, is_lost, owns}
 use Rattle.sd_pagelock.specs.Rows.{dirtied}
 use Rattle.sd_rig.specs.Devices.{Elapses, Span}
 use Rattle.sd_txn.specs.Owing.{owed_of}
@@ -27,7 +27,7 @@ use Rattle.sd_chain.specs.Records.{home}
 use Rattle.sd_sound.specs.Logs.{all_at}
 use Rattle.sd_world.specs.Answers.{MayRollBack, Undoes}
 use Rattle.sd_world.specs.PageCauses.{IsNeededPage}
-use Rattle.sd_world.specs.Pages.{Pages, placed, renumbered}
+use Rattle.sd_world.specs.Pages.{Pages, page_placed, renumbered}
 use Rattle.sd_world.specs.Serving.{Core, Serves, Telling}
 use Rattle.sd_state.specs.Complexes.{parts}
 use Rattle.sd_state.specs.Forcing.{KeepMasters, owed_as, owed_either, with_failed}
@@ -187,7 +187,7 @@ module _ {G : Type 0} (tell : Telling G) (a : ℕ) (t : TxnId) (old mid : Comple
       due-i x j is_due = second-is (actor between i) i x j is_due
 
       abbrev between_pages : Pages
-      between_pages = placed h.o.rid.page (dirtied a) w.pages
+      between_pages = page_placed h.o.rid.page (dirtied a) w.pages
 
       abbrev pages_then : Pages
       pages_then = renumbered (numbers_of (tell.seen mid.rig) (tell.leaves mid.rig) fin) between_pages
@@ -195,7 +195,7 @@ module _ {G : Type 0} (tell : Telling G) (a : ℕ) (t : TxnId) (old mid : Comple
       may-roll : MayRollBack m i w.pages h.o.rid.page a
       may-roll = (
         recovers-at i a (tell.seen old.rig) (tell.leaves old.rig) c w f low high recovers,
-        ap (λ (x : Entry). owns x a) (f.pages.entry h.o.rid.page) ∙ held-h,
+        ap (λ (x : PageEntry). owns x a) (f.pages.entry h.o.rid.page) ∙ held-h,
         subst (λ (r : OpenRec). IsNeededPage m i r.rid.page) (sym same-rec)
             (page-needed t a (tell.seen old.rig) (tell.leaves old.rig) c w f low high recovers there loser o last),
         λ q. ap is_lost (f.pages.entry q) ∙ there.1 q,

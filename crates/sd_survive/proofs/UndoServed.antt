@@ -10,10 +10,10 @@ use Rattle.sd_log.specs.Logs.{LogState}
 use Rattle.sd_model.specs.State.{State}
 use Rattle.sd_pagelock.specs.Asks.{open_asks}
 use Rattle.sd_pagelock.specs.Directory.{asks_at, entry_at}
-use Rattle.sd_pagelock.specs.Places.{Entry, owns}
+use Rattle.sd_pagelock.specs.Places.{PageEntry, owns}
 use Rattle.sd_pagelock.specs.Rows.{dirtied}
 use Rattle.sd_pool.specs.Buffers.{Buffers}
-use Rattle.sd_rig.specs.Devices.{Image}
+use Rattle.sd_rig.specs.Devices.{DeviceImages}
 use Rattle.sd_txn.specs.Owing.{owed_of, records_owed}
 use Rattle.sd_txn.specs.Transactions.{Transaction, Transactions, Replaces, ids, noted, popped, span_at, top}
 use Rattle.sd_txn.specs.declared.state.OpenRec.{OpenRec}
@@ -21,7 +21,7 @@ use Rattle.sd_txn.proofs.Owing.{records_owed-popped, total-replaced}
 use Rattle.sd_chain.specs.Checks.{owed}
 use Rattle.sd_chain.specs.Records.{IsOpen, home}
 use Rattle.sd_sound.specs.Logs.{Outcomes, all_at}
-use Rattle.sd_world.specs.Pages.{Pages, placed, renumbered}
+use Rattle.sd_world.specs.Pages.{Pages, page_placed, renumbered}
 use Rattle.sd_world.specs.Serving.{Core}
 use Rattle.sd_state.specs.Forcing.{KeepMasters}
 use Rattle.sd_state.specs.Parts.{Parts, is_loose, log_at, no_pool, no_txns, pool_at, status_at, txns_at}
@@ -35,7 +35,7 @@ use Rattle.sd_fits.proofs.Sealing.{AreMore}
 use Rattle.sd_survive.proofs.Steps.{all-same}
 use Rattle.sd_survive.proofs.UndoneFor.{made}
 
-module _ (a : ℕ) (t : TxnId) (seen seen' : Image) (leaves leaves' : Outcomes) (c between : Parts) (w : Core) (f : Fits seen leaves c w)
+module _ (a : ℕ) (t : TxnId) (seen seen' : DeviceImages) (leaves leaves' : Outcomes) (c between : Parts) (w : Core) (f : Fits seen leaves c w)
     (low : 1 ≤ home t) (high : home t ≤ 8) (a_low : 1 ≤ a) (a_high : a ≤ 8) (recovers : status_at c (home t) ≡ S.Recovering a)
     (settled : is_loose c (home t) ≡ false) (own_settled : is_loose c a ≡ false) (owes : ℕ) (owes_is : owes ≡ owed (all_at (log_at c a)))
     (h : HasUndone a (Some (a, home t)) t (own_forced a owes c) between) (held : owns (entry_at c.directory h.o.rid.page) a ≡ true)
@@ -53,7 +53,7 @@ module _ (a : ℕ) (t : TxnId) (seen seen' : Image) (leaves leaves' : Outcomes) 
   p = h.o.rid.page
 
   abbrev pages_then : Pages
-  pages_then = placed p (dirtied a) w.pages
+  pages_then = page_placed p (dirtied a) w.pages
 
   module _ (ls : List LogState) (os : List ℕ) (lo : List Bool) (d : Option (ℕ × ℕ)) where
     abbrev fin : Parts
@@ -69,9 +69,9 @@ module _ (a : ℕ) (t : TxnId) (seen seen' : Image) (leaves leaves' : Outcomes) 
           (λ ne. ap (λ (b : Buffers). b.frames) (item-kept no_pool c.pools a (pool_at between a) a_low j ne) ∙ f.pages.frames j lo hi)
           (cases_eq j a);
       entry = λ q. ⊎_elim
-          (λ same. ap (λ (b : Bool). cond {A = Entry} b (dirtied a) (w.pages.entry q)) (eq-eqb p q (sym same))
+          (λ same. ap (λ (b : Bool). cond {A = PageEntry} b (dirtied a) (w.pages.entry q)) (eq-eqb p q (sym same))
           ∙ sym (ap (entry_at between.directory) same ∙ h.undone.entry))
-          (λ ne. ap (λ (b : Bool). cond {A = Entry} b (dirtied a) (w.pages.entry q)) (ne_eqb p q (λ x. ne (sym x)))
+          (λ ne. ap (λ (b : Bool). cond {A = PageEntry} b (dirtied a) (w.pages.entry q)) (ne_eqb p q (λ x. ne (sym x)))
           ∙ f.pages.entry q ∙ sym (h.undone.other_entries q ne))
           (cases_eq q p);
       asks = λ q. ⊎_elim

@@ -12,7 +12,7 @@ use Rattle.sd_model.specs.State.{State}
 use Rattle.sd_model.specs.declared.event.Event.TheVariants.{RecoverStep}
 use Rattle.sd_model.specs.declared.event.Reply.TheVariants as reply
 use Rattle.sd_pagelock.specs.Directory.{entry_at}
-use Rattle.sd_pagelock.specs.Places.{Entry, is_lost, owns}
+use Rattle.sd_pagelock.specs.Places.{PageEntry, is_lost, owns}
 use Rattle.sd_pagelock.specs.Rows.{dirtied}
 use Rattle.sd_rig.specs.Devices.{Elapses, Span}
 use Rattle.sd_txn.specs.Owing.{owed_of}
@@ -26,7 +26,7 @@ use Rattle.sd_sound.proofs.Kept.{forced-base}
 use Rattle.sd_world.specs.Answers.{MayRollBack, Undoes}
 use Rattle.sd_world.specs.Answers.Rebuilds.{undoes}
 use Rattle.sd_world.specs.PageCauses.{IsNeededPage}
-use Rattle.sd_world.specs.Pages.{Pages, placed, renumbered}
+use Rattle.sd_world.specs.Pages.{Pages, page_placed, renumbered}
 use Rattle.sd_world.specs.Serving.{Core, Serves, Telling}
 use Rattle.sd_state.specs.Complexes.{parts}
 use Rattle.sd_state.specs.Forcing.{KeepMasters, with_settled}
@@ -150,12 +150,12 @@ module _ {G : Type 0} (tell : Telling G) (a : ℕ) (t : TxnId) (old mid : Comple
           (cases_eq j i)
 
       abbrev pages_then : Pages
-      pages_then = renumbered (numbers_of (tell.seen mid.rig) (tell.leaves mid.rig) fin) (placed h.o.rid.page (dirtied a) w.pages)
+      pages_then = renumbered (numbers_of (tell.seen mid.rig) (tell.leaves mid.rig) fin) (page_placed h.o.rid.page (dirtied a) w.pages)
 
       may-roll : MayRollBack m i w.pages h.o.rid.page a
       may-roll = (
         recovers-at i a (tell.seen old.rig) (tell.leaves old.rig) c w f low high recovers,
-        ap (λ (x : Entry). owns x a) (f.pages.entry h.o.rid.page) ∙ held-h,
+        ap (λ (x : PageEntry). owns x a) (f.pages.entry h.o.rid.page) ∙ held-h,
         subst (λ (r : OpenRec). IsNeededPage m i r.rid.page) (sym same-rec)
             (page-needed t a (tell.seen old.rig) (tell.leaves old.rig) c w f low high recovers there loser o last),
         λ q. ap is_lost (f.pages.entry q) ∙ there.1 q,
@@ -182,7 +182,7 @@ module _ {G : Type 0} (tell : Telling G) (a : ℕ) (t : TxnId) (old mid : Comple
         step_core i pages_then w,
         record {
           turns = step-turns i a (tell.seen old.rig) (tell.leaves old.rig) c w f low high recovers pages_then (
-            placed h.o.rid.page (dirtied a) w.pages,
+            page_placed h.o.rid.page (dirtied a) w.pages,
             numbers_of (tell.seen mid.rig) (tell.leaves mid.rig) fin,
             undoes (Undoes.one h.o.rid.page a may-roll refl),
             refl,

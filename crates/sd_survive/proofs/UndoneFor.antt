@@ -16,9 +16,9 @@ use Rattle.sd_log.specs.Logs.{LogState, forced, last_lsn, scanned, with_record}
 use Rattle.sd_model.specs.State.{State}
 use Rattle.sd_page.specs.Page.{Page}
 use Rattle.sd_pagelock.specs.Directory.{entry_at}
-use Rattle.sd_pagelock.specs.Places.{Entry, owns}
+use Rattle.sd_pagelock.specs.Places.{PageEntry, owns}
 use Rattle.sd_pool.specs.Buffers.{Buffers, image_at}
-use Rattle.sd_rig.specs.Devices.{Image}
+use Rattle.sd_rig.specs.Devices.{DeviceImages}
 use Rattle.sd_txn.specs.Transactions.{ids}
 use Rattle.sd_chain.specs.Bytes.{disk_page}
 use Rattle.sd_chain.specs.Checks.{owed, reserve}
@@ -74,7 +74,7 @@ reach-forced n l r =
           (subst (λ (log : List Rec). (forced l).gate + reserve log ≤ n) (sym (forced-whole l)) r.1),
     )
 
-module _ (a : ℕ) (t : TxnId) (seen seen' : Image) (leaves leaves' : Outcomes) (c between : Parts) (w : Core) (f : Fits seen leaves c w)
+module _ (a : ℕ) (t : TxnId) (seen seen' : DeviceImages) (leaves leaves' : Outcomes) (c between : Parts) (w : Core) (f : Fits seen leaves c w)
     (low : 1 ≤ home t) (high : home t ≤ 8) (a_low : 1 ≤ a) (a_high : a ≤ 8) (recovers : status_at c (home t) ≡ S.Recovering a)
     (settled : is_loose c (home t) ≡ false) (own_settled : is_loose c a ≡ false) (owes : ℕ) (owes_is : owes ≡ owed (all_at (log_at c a)))
     (h : HasUndone a (Some (a, home t)) t (own_forced a owes c) between) (held : owns (entry_at c.directory h.o.rid.page) a ≡ true)
@@ -332,7 +332,7 @@ module _ (a : ℕ) (t : TxnId) (seen seen' : Image) (leaves leaves' : Outcomes) 
             (half.coherent.unforced j p)))
             (cases_eq j i)
           where
-            excl-same : (n : ℕ) → Entry.Excl a true ≡ Entry.Excl n true → n ≡ a
+            excl-same : (n : ℕ) → PageEntry.Excl a true ≡ PageEntry.Excl n true → n ≡ a
             excl-same n e = cc
 
         version-redone : (keeps : Keeps) → HasIt keeps → version_of is (disk_page (seen' 0)) keeps p ≡ redo h.image y

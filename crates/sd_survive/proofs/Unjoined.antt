@@ -7,7 +7,7 @@ use Rattle.sd_base.specs.declared.refusal.Refusal.{Refusal}
 use Rattle.sd_base.specs.declared.refusal.Refusal.TheVariants as R
 use Rattle.sd_logrec.specs.Kept.{master}
 use Rattle.sd_log.specs.Logs.{forced}
-use Rattle.sd_rig.specs.Devices.{Image, Leaves}
+use Rattle.sd_rig.specs.Devices.{DeviceImages, Leaves}
 use Rattle.sd_model.specs.Applies.{IsNotDown, IsNotRecovered, IsRecovering}
 use Rattle.sd_model.specs.State.{State}
 use Rattle.sd_model.specs.declared.cause.Cause.{Cause}
@@ -57,7 +57,7 @@ unrecovered-not_up s h up = subst IsUnrecovered up h
 
 -- ---- what the world says of it
 
-module _ (i : ℕ) (seen : Image) (leaves : Outcomes) (c : Parts) (w : Core) (f : Fits seen leaves c w) (low : 1 ≤ i)
+module _ (i : ℕ) (seen : DeviceImages) (leaves : Outcomes) (c : Parts) (w : Core) (f : Fits seen leaves c w) (low : 1 ≤ i)
     (high : i ≤ 8) where
   abbrev m : State
   m = w.scene.state
@@ -169,7 +169,7 @@ module _ (i : ℕ) (seen : Image) (leaves : Outcomes) (c : Parts) (w : Core) (f 
 
 module _ {G : Type 0} (tell : Telling G) (c new : Complex G) (i : ℕ) (low : 1 ≤ i) (high : i ≤ 8) (same : new.rig ≡ c.rig)
     (stays : parts new ≡ parts c)
-    (now : (img : Image) → tell.since c.rig (tell.moment c.rig) img → Leaves (tell.leaves c.rig) img) where
+    (now : (img : DeviceImages) → tell.since c.rig (tell.moment c.rig) img → Leaves (tell.leaves c.rig) img) where
   abbrev Refuses : Refusal → Type 0
   Refuses n = Serving tell (Join i) (Some (reply.Refused n)) c new
 

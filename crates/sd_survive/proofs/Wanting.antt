@@ -7,7 +7,7 @@ use Rattle.sd_base.specs.declared.place.Status.TheVariants as S
 use Rattle.sd_base.specs.declared.refusal.Refusal.{Refusal}
 use Rattle.sd_base.specs.declared.refusal.Refusal.TheVariants as R
 use Rattle.sd_chain.specs.Records.{home}
-use Rattle.sd_rig.specs.Devices.{Image}
+use Rattle.sd_rig.specs.Devices.{DeviceImages}
 use Rattle.sd_sound.specs.Logs.{Outcomes}
 use Rattle.sd_txn.specs.Transactions.{state_at, top_at}
 use Rattle.sd_txn.specs.declared.state.OpenRec.{OpenRec}
@@ -23,7 +23,7 @@ use Rattle.sd_survive.proofs.Away.{page-needed}
 use Rattle.sd_survive.proofs.Owns.{open-loser, own-row}
 
 -- the page of the undo that is next is needed
-pub undo-needed : (i p : ℕ) (t : TxnId) (seen : Image) (leaves : Outcomes) (c : Parts) (w : Core) → Fits seen leaves c w → 1 ≤ i → i ≤ 8
+pub undo-needed : (i p : ℕ) (t : TxnId) (seen : DeviceImages) (leaves : Outcomes) (c : Parts) (w : Core) → Fits seen leaves c w → 1 ≤ i → i ≤ 8
     → (by : ℕ) → status_at c i ≡ S.Recovering by → IsNext c i (task.Undo t p) → IsNeededPage w.scene.state i p
 undo-needed i p t seen leaves c w f low high by recovers next =
     let loser = (open-loser (txns_at c i) t next.1.1).0 in

@@ -7,7 +7,7 @@ use Rattle.sd_base.specs.declared.refusal.Refusal.TheVariants as R
 use Rattle.sd_pagelock.specs.Directory.{entry_at}
 use Rattle.sd_model.specs.declared.event.Reply.{Reply}
 use Rattle.sd_model.specs.declared.event.Reply.TheVariants as reply
-use Rattle.sd_pagelock.specs.Places.{Entry, is_lost, owns, seen}
+use Rattle.sd_pagelock.specs.Places.{PageEntry, is_lost, owns, seen}
 use Rattle.sd_txn.specs.Owing.{records_owed}
 use Rattle.sd_txn.specs.Transactions.{Transaction, Transactions, ids, span_at, state_at, top_at}
 use Rattle.sd_txn.specs.declared.state.OpenRec.{OpenRec}
@@ -48,13 +48,13 @@ HaveStayedOrFallen i old new = ((j : ℕ) → 1 ≤ j → j ≤ 8 → status_at 
 
 -- ---- the rows of a recovered instance
 
-abbrev pub is_doubt : Option TxnState → Bool
-is_doubt None = false
-is_doubt (Some TxnState.Running) = false
-is_doubt (Some (TxnState.Rolling to)) = false
-is_doubt (Some TxnState.Retained) = false
-is_doubt (Some TxnState.Doubt) = true
-is_doubt (Some TxnState.Committed) = false
+abbrev pub row_is_doubt : Option TxnState → Bool
+row_is_doubt None = false
+row_is_doubt (Some TxnState.Running) = false
+row_is_doubt (Some (TxnState.Rolling to)) = false
+row_is_doubt (Some TxnState.Retained) = false
+row_is_doubt (Some TxnState.Doubt) = true
+row_is_doubt (Some TxnState.Committed) = false
 
 abbrev pub is_loser : Option TxnState → Bool
 is_loser None = false
@@ -66,7 +66,7 @@ is_loser (Some TxnState.Committed) = false
 
 -- the first transaction in doubt
 abbrev pub in_doubt : Transactions → Option TxnId
-in_doubt table = find (λ t. is_doubt (state_at table t)) (ids table)
+in_doubt table = find (λ t. row_is_doubt (state_at table t)) (ids table)
 
 -- the LSN of a loser's last open record
 abbrev pub open_lsn : Transactions → TxnId → Option ℕ
@@ -93,7 +93,7 @@ to_end table = find (λ t. cond (is_loser (state_at table t)) (is_some (span_at 
 -- what is left to do of a transaction: to decide it, where it is in doubt; to undo each of its open records; and to end it, where it
 -- has a record
 abbrev pub tasks_of : Transaction → ℕ
-tasks_of x = cond (is_doubt (Some x.state)) 1 0 + records_owed x
+tasks_of x = cond (row_is_doubt (Some x.state)) 1 0 + records_owed x
 
 -- and of all of a table
 abbrev pub tasks_in : Transactions → ℕ
@@ -119,7 +119,7 @@ SettlesOne dev old new = (is_loose new dev ≡ false) × ((d : ℕ) → d ≢ de
 
 -- of the pages this one alone has another place, where it is free, and each device is settled still
 abbrev pub FreesOne : ℕ → Parts → Parts → Type 0
-FreesOne p old new = AreSettled new × (entry_at new.directory p ≡ Entry.Free)
+FreesOne p old new = AreSettled new × (entry_at new.directory p ≡ PageEntry.Free)
     × ((q : ℕ) → q ≢ p → entry_at new.directory q ≡ entry_at old.directory q)
 
 -- A step settles the lowest device that isn't settled; once each device is, it frees the lowest lost page.

@@ -8,7 +8,7 @@ ghost use Rattle.sd_model.specs.declared.event.Event.TheVariants as event;
 ghost use Rattle.sd_state.specs.Complexes.{parts};
 ghost use Rattle.sd_state.specs.Parts.{status_at, IsShape};
 ghost use Rattle.sd_survive.specs.Joining.{MayStart, StaysOut};
-ghost use Rattle.sd_world.specs.Serving.{Core, joined, telling};
+ghost use Rattle.sd_world.specs.Serving.{Core, joined_reply, telling};
 
 use sd_base::{InstNo, Refusal, Status};
 use sd_moves::{down, laws};
@@ -22,7 +22,7 @@ use sd_state::Complex;
 /// `Memory`. After `Failed` of the force the instance is down, and the epoch may have begun.
 pub fn join<G: Rig>(c: &mut Complex<G>, i: InstNo) -> Result<u32, Refusal>
     requires fits { (w : Core) × Fits (G.seen c.old.rig) (G.leaves c.old.rig) (parts c.old) w }
-    ensures served { Serving (telling G.seen G.leaves G.moment G.since G.faults) (event.Join i) (joined result) c.old c.new }
+    ensures served { Serving (telling G.seen G.leaves G.moment G.since G.faults) (event.Join i) (joined_reply result) c.old c.new }
 {
     laws::instances(i);
     may_start(c, i)?;

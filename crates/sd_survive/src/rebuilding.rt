@@ -8,7 +8,7 @@ ghost use Rattle.sd_model.specs.declared.event.Event.TheVariants as event;
 ghost use Rattle.sd_model.specs.declared.event.Reply.TheVariants as reply;
 ghost use Rattle.sd_moves.specs.Places.{with_directory};
 ghost use Rattle.sd_pagelock.specs.Directory.{entry_at};
-ghost use Rattle.sd_pagelock.specs.Places.{Entry};
+ghost use Rattle.sd_pagelock.specs.Places.{PageEntry};
 ghost use Rattle.sd_state.specs.Complexes.{parts};
 ghost use Rattle.sd_state.specs.Laws.{newest_of};
 ghost use Rattle.sd_state.specs.Locking.{IsSet};
@@ -39,7 +39,7 @@ pub(crate) fn rebuild_next<G: Rig>(
     ensures served { Serving (telling G.seen G.leaves G.moment G.since G.faults) (event.RecoverStep i)
         (answered (λ x. reply.Step) result) c.old c.new }
     ensures stays { OnOk result (parts c.new ≡ with_directory (parts c.new).directory (parts c.old)) }
-    ensures place { OnOk result (IsSet p Entry.Free None (parts c.old).directory (parts c.new).directory) }
+    ensures place { OnOk result (IsSet p PageEntry.Free None (parts c.old).directory (parts c.new).directory) }
     ensures left { IfErr result (λ n. LeavesLost n by (parts c.old) (parts c.new)) }
     ensures logs { (d : ℕ) → d ≢ 0 → G.seen c.new.rig d ≡ G.seen c.old.rig d }
 {
@@ -64,7 +64,7 @@ fn put_or_fall<G: Rig>(
     ensures served { Serving (telling G.seen G.leaves G.moment G.since G.faults) (event.RecoverStep i)
         (answered (λ x. reply.Step) result) c.old c.new }
     ensures stays { OnOk result (parts c.new ≡ with_directory (parts c.new).directory (parts c.old)) }
-    ensures place { OnOk result (IsSet p Entry.Free None (parts c.old).directory (parts c.new).directory) }
+    ensures place { OnOk result (IsSet p PageEntry.Free None (parts c.old).directory (parts c.new).directory) }
     ensures left { IfErr result (λ n. LeavesLost n by (parts c.old) (parts c.new)) }
     ensures logs { (d : ℕ) → d ≢ 0 → G.seen c.new.rig d ≡ G.seen c.old.rig d }
 {

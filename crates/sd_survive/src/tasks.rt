@@ -8,7 +8,7 @@ ghost use Rattle.sd_state.specs.Complexes.{parts};
 ghost use Rattle.sd_state.specs.Parts.{status_at, IsShape};
 ghost use Rattle.sd_world.specs.PageCauses.{IsNeededPage};
 ghost use Rattle.sd_world.specs.Serving.{Core};
-ghost use Rattle.sd_survive.specs.Recovering.{in_doubt, is_doubt, is_later, is_loser, last_open, later, open_lsn, to_end};
+ghost use Rattle.sd_survive.specs.Recovering.{in_doubt, is_later, is_loser, last_open, later, open_lsn, row_is_doubt, to_end};
 ghost use Rattle.sd_survive.specs.Recovering.{AreSettled, IsLowestLoose, IsNext, IsRowTask};
 ghost use Rattle.sd_survive.specs.declared.tasks.Task.TheVariants as task;
 ghost use Rattle.sd_txn.specs.Transactions.{top_at};
@@ -192,7 +192,7 @@ fn is_later(first: Option<Lsn>, second: Option<Lsn>) -> bool
 }
 
 fn is_doubt(state: Option<TxnState>) -> bool
-    ensures { result ≡ is_doubt state }
+    ensures { result ≡ row_is_doubt state }
 {
     matches!(state, Some(TxnState::Doubt))
 }

@@ -17,7 +17,7 @@ use std::alloc::Global;
 use std::test::Fail;
 
 // The group of a Start of epoch 1, whose LSN is four below the greatest.
-const START: [u8; 18] = [
+const START_GROUP: [u8; 18] = [
     0xa5, 0, 0, 0, 13, 1, 0x3f, 0xff, 0xff, 0xff, 0xff, 0xff, 0xff, 0xfb, 0, 0, 0, 1,
 ];
 
@@ -36,7 +36,7 @@ fn opened(alloc: Global) -> Result<Complex<MemRig>, Stop>
     ensures { IfOk result (λ c. IsReady (⟦<MemRig as Rig>⟧.seen c.rig) (⟦<MemRig as Rig>⟧.leaves c.rig) (parts c)) }
 {
     let mut rig = blank(alloc)?;
-    if rig.write(1, AREA, &START).is_err() {
+    if rig.write(1, AREA, &START_GROUP).is_err() {
         return Err(Stop::Odd);
     }
     let Ok(mut c) = open(alloc, rig) else {

@@ -26,7 +26,7 @@ pub(crate) const SECOND: [u8; 67] = [
 ];
 
 // Instance 1: transaction 1.1.1 inserts `red`, and isn't closed.
-pub(crate) const OPEN: [u8; 64] = [
+pub(crate) const UNCLOSED: [u8; 64] = [
     0xa5, 0, 0, 0, 0x0d, 1, 0, 0, 0, 0, 0, 0, 0, 1, 0, 0, 0, 1, 0xa5, 0, 0, 0, 0x29, 2, 0, 0, 0, 0,
     0, 0, 0, 2, 1, 0, 0, 0, 1, 0, 0, 0, 1, 0, 0, 0, 0, 0, 0, 0, 0, 0, 0, 0, 0, 0, 0, 0, 3, 0xff,
     0xff, 0, 3, 0x72, 0x65, 0x64,
@@ -97,7 +97,7 @@ pub(crate) const UNFOUND: [u8; 67] = [
 ];
 
 // Behind the place 1,048,476: an open change and a checkpoint's end, and no room to undo the change.
-pub(crate) const FULL: [u8; 67] = [
+pub(crate) const NO_ROOM: [u8; 67] = [
     0xa5, 0, 0, 0, 0x3e, 2, 0, 0, 0, 0, 0, 0, 0, 1, 5, 0, 0, 0, 1, 0, 0, 0, 1, 0, 0, 0, 0, 0, 0, 0,
     0, 0, 0, 0, 3, 0, 0, 0, 3, 0xff, 0xff, 0, 3, 0x72, 0x65, 0x64, 7, 0, 0, 0, 0, 0, 0, 0, 2, 0, 0,
     0, 0, 0, 0, 0, 1, 0, 0, 0, 0,
@@ -110,7 +110,7 @@ pub(crate) const MASTER: [u8; 26] = [
 
 // Three groups: the start of epoch 1; transaction 1.1.1, which puts `red` into slot 0 of page 0 and commits; a checkpoint
 // and the start of epoch 2.
-pub(crate) const LOG: [u8; 138] = [
+pub(crate) const THREE_GROUPS: [u8; 138] = [
     0xa5, 0, 0, 0, 13, 1, 0, 0, 0, 0, 0, 0, 0, 1, 0, 0, 0, 1, //
     0xa5, 0, 0, 0, 67, 2, 0, 0, 0, 0, 0, 0, 0, 2, 1, 0, 0, 0, 1, 0, 0, 0, 1, 0, 0, 0, 0, 0, 0, 0,
     0, 0, 0, 0, 0, 0, 0, 0, 3, 0xff, 0xff, 0, 3, 0x72, 0x65, 0x64, //

@@ -32,12 +32,12 @@ fn sound_devices_stand_for_what_was_committed(rt: HostRuntime) -> Result<(), Fai
     let checked = [
         bytes_at(1, 0, &OLD_SLOT),
         bytes_at(1, 65, &NEW_SLOT),
-        log(1, &LOG),
+        log(1, &THREE_GROUPS),
     ];
     let full = [
         bytes_at(5, 0, &MASTER),
         bytes_at(5, 25, &[0x6e]),
-        bytes_at(5, 130 + 1_048_430, &FULL),
+        bytes_at(5, 130 + 1_048_430, &NO_ROOM),
     ];
     // The values of slot 0 of the pages 0, 1 and 2; of page 0 the LSN of the disk image and the RecLSN; the counts of the
     // masters of logs 1 and 5.
@@ -84,15 +84,15 @@ fn damage(alloc: Global, patches: &[Patch<'_>]) -> Result<Option<(u8, u64)>, Ref
 // An open gate, and a byte that no page and no master has there.
 const GATE: [u8; 1] = [0xa5];
 
-const ONE: [u8; 1] = [1];
+const STRAY: [u8; 1] = [1];
 
 #[test]
 fn the_first_check_that_fails_is_told(rt: HostRuntime) -> Result<(), Fail> {
     let none = bytes_at(9, 0, &[]);
     let second = bytes_at(0, 1_025, &GATE);
-    let ill_formed = bytes_at(0, 2_025, &ONE);
+    let ill_formed = bytes_at(0, 2_025, &STRAY);
     let start = bytes_at(5, 25, &[0x6f]);
-    let full = bytes_at(5, 130 + 1_048_431, &FULL);
+    let full = bytes_at(5, 130 + 1_048_431, &NO_ROOM);
     let cases: [([Patch; 3], (u8, u64)); 18] = [
         (
             [bytes_at(2, 0, &GATE), bytes_at(2, 65, &GATE), none],
@@ -113,7 +113,7 @@ fn the_first_check_that_fails_is_told(rt: HostRuntime) -> Result<(), Fail> {
         ([second, ill_formed, none], (0, 1_025)),
         ([bytes_at(0, 3_075, &GATE), none, none], (0, 3_075)),
         ([log(1, &UNFOUND), none, none], (1, 153)),
-        ([log(1, &OPEN), log(2, &SECOND), none], (1, 153)),
+        ([log(1, &UNCLOSED), log(2, &SECOND), none], (1, 153)),
         ([bytes_at(5, 0, &MASTER), start, full], (5, 1_048_628)),
     ];
     for (n, (patches, place)) in cases.iter().enumerate() {
@@ -142,7 +142,7 @@ fn a_damaged_byte_is_told_with_its_place(rt: HostRuntime) -> Result<(), Fail> {
         let patches = [
             bytes_at(1, 0, &OLD_SLOT),
             bytes_at(1, 65, &NEW_SLOT),
-            log(1, &LOG),
+            log(1, &THREE_GROUPS),
             bytes_at(1, at, &damaged),
         ];
         assert_eq!(rt; damage(rt.alloc(), &patches)?, Some((1, place)), "{name}");

@@ -1,14 +1,14 @@
 //! A log device by hand, with two masters and a checkpoint.
 
-use crate::bytes_by_hand::{LOG, NEW_SLOT, OLD_SLOT};
+use crate::bytes_by_hand::{NEW_SLOT, OLD_SLOT, THREE_GROUPS};
 use crate::devices::{bytes_at, device, log};
 use sd_base::InstNo;
-use sd_scan::{Master, Scanned, scan};
+use sd_scan::{MasterRecord, Scanned, scan};
 use std::test::Fail;
 
 #[test]
 fn the_newer_master_counts(rt: HostRuntime) -> Result<(), Fail> {
-    let newer = Some(Master {
+    let newer = Some(MasterRecord {
         count: 2,
         area: 0,
         epoch: 1,
@@ -18,7 +18,7 @@ fn the_newer_master_counts(rt: HostRuntime) -> Result<(), Fail> {
     let patches = [
         bytes_at(1, 0, &OLD_SLOT),
         bytes_at(1, 65, &NEW_SLOT),
-        log(1, &LOG),
+        log(1, &THREE_GROUPS),
     ];
     let device = device(rt.alloc(), 1, &patches)?;
     let Scanned { log, master } = scan(

@@ -22,15 +22,15 @@ pub struct Patch {
 }
 
 /// Where a log's groups begin, in bytes.
-const AREA: u32 = 130;
+const GROUPS_AT: u32 = 130;
 
 /// The greatest LSN.
-const END: u64 = (1 << 62) - 1;
+const GREATEST_LSN: u64 = (1 << 62) - 1;
 
 /// The Start of epoch 1, whose LSN is four below the greatest.
 pub static HIGH: &[Patch] = &[Patch {
     dev: 1,
-    at: AREA,
+    at: GROUPS_AT,
     bytes: &[
         0xa5, 0, 0, 0, 13, 1, 0x3f, 0xff, 0xff, 0xff, 0xff, 0xff, 0xff, 0xfb, 0, 0, 0, 1,
     ],
@@ -43,14 +43,14 @@ pub static LAST_LSNS: &[Line] = &[
     (ONE, Begin, Began(BESIDE)),
     (ONE, Alone(0), Have),
     (AGAIN, Insert(0, b"red", 3), At(0)),
-    (ONE, Show(0), Shown(Changed(ONE), END - 2)),
+    (ONE, Show(0), Shown(Changed(ONE), GREATEST_LSN - 2)),
     (AGAIN, Write(0, b"tan"), No(LsnEnd)),
     (BESIDE, Insert(0, b"tan", 3), No(LsnEnd)),
     (TWO, Join, No(LsnEnd)),
     (AGAIN, Rollback, Did),
     (AGAIN, Undo, Step),
     (AGAIN, Undo, Finished),
-    (ONE, Show(0), Shown(Changed(ONE), END - 1)),
+    (ONE, Show(0), Shown(Changed(ONE), GREATEST_LSN - 1)),
     (BESIDE, Insert(0, b"tan", 3), No(LsnEnd)),
     // A transaction without a record takes no LSN.
     (BESIDE, Commit, Did),
@@ -98,7 +98,7 @@ pub static LAST_EPOCH: &[Patch] = &[
     },
     Patch {
         dev: 1,
-        at: AREA,
+        at: GROUPS_AT,
         bytes: &[
             0xa5, 0, 0, 0, 30, 6, 0, 0, 0, 0, 0, 0, 0, 1, 7, 0, 0, 0, 0, 0, 0, 0, 2, 0, 0, 0, 0, 0,
             0, 0, 1, 0, 0, 0, 0,
@@ -125,7 +125,7 @@ pub static FULL: &[Patch] = &[
     },
     Patch {
         dev: 1,
-        at: AREA + 1_048_430,
+        at: GROUPS_AT + 1_048_430,
         bytes: &[
             0xa5, 0, 0, 0, 0x3e, 2, 0, 0, 0, 0, 0, 0, 0, 1, 1, 0, 0, 0, 1, 0, 0, 0, 1, 0, 0, 0, 0,
             0, 0, 0, 0, 0, 0, 0, 0, 0, 0, 0, 3, 0xff, 0xff, 0, 3, 0x72, 0x65, 0x64, 7, 0, 0, 0, 0,

@@ -14,7 +14,7 @@ use std::test::Fail;
 
 // Two groups: the start of epoch 1, and transaction 1.1.1, which puts `red` into slot 0 of page 0 and commits. Behind
 // them a closed gate.
-const LOG: [u8; 91] = [
+const TWO_GROUPS: [u8; 91] = [
     0xa5, 0, 0, 0, 13, 1, 0, 0, 0, 0, 0, 0, 0, 1, 0, 0, 0, 1, //
     0xa5, 0, 0, 0, 67, 2, 0, 0, 0, 0, 0, 0, 0, 2, 1, 0, 0, 0, 1, 0, 0, 0, 1, 0, 0, 0, 0, 0, 0, 0,
     0, 0, 0, 0, 0, 0, 0, 0, 3, 0xff, 0xff, 0, 3, 0x72, 0x65, 0x64, //
@@ -77,7 +77,7 @@ fn groups_stand_byte_for_byte_and_their_pages_are_known(rt: HostRuntime) -> Resu
     let mut rig = MemRig::blank(alloc)?;
     let inst = InstNo::new(1).ok_or("instance 1")?;
     let mut log = write_log(alloc, &mut rig, inst)?;
-    assert_eq!(rt; &rig.image(alloc, 1)?[130..221], LOG.as_slice());
+    assert_eq!(rt; &rig.image(alloc, 1)?[130..221], TWO_GROUPS.as_slice());
     log.append(red(alloc, inst)?, 78)?;
     let page = PageNo::new(0).ok_or("page 0")?;
     assert_eq!(rt; log.of_page(alloc, page)?.as_slice(), [1, 3].as_slice());
@@ -135,7 +135,7 @@ fn a_damaged_byte_is_told_with_its_place(rt: HostRuntime) -> Result<(), Fail> {
         (73, 9, false, 64),
     ];
     for (place, byte, is_length, told) in damages {
-        let mut bytes = LOG;
+        let mut bytes = TWO_GROUPS;
         if let Some(spoilt) = bytes.get_mut(place) {
             *spoilt = byte;
         }

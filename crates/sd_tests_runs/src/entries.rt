@@ -1,7 +1,7 @@
 //! Events and replies of worked scripts, built from short words.
 
 use sd_base::{
-    Bytes, Cause, Cycle, InstNo, InstSet, Memory, Mode, PageNo, Pick, Place, Refusal, Rid,
+    Bytes, Cycle, InstNo, InstSet, LineError, Memory, Mode, PageNo, Pick, Place, Refusal, Rid,
     Sequence, Status, Trouble, TxnId,
 };
 use sd_model::{Event, Reply, Rows};
@@ -9,7 +9,7 @@ use sd_oracle::Outcome;
 use std::process::Abort;
 
 /// A line of a script: what this one asks, replies that can't follow, and replies that follow, one after another.
-pub type Line = (Who, Ask, &'static [Say], &'static [Say]);
+pub type JudgedLine = (Who, Ask, &'static [Say], &'static [Say]);
 
 /// A transaction: its instance, the epoch of that, and its number in the epoch. It stands for its instance too.
 #[derive(Clone, Copy)]
@@ -22,7 +22,7 @@ pub const MAKER: Who = Who(1, 1, 1);
 
 pub const NEAR: Who = Who(1, 1, 2);
 
-pub const NEXT: Who = Who(1, 1, 3);
+pub const THIRD: Who = Who(1, 1, 3);
 
 /// Instance 2, and its first transaction.
 pub const TWO: Who = Who(2, 0, 0);
@@ -348,7 +348,7 @@ fn refusal(rt: &(impl Abort + AllocGlobal), why: Why) -> Result<Refusal, Memory>
         Why::Damaged(dev, at) => Refusal::Damaged { dev, at },
         Why::BadLine(line) => Refusal::BadLine {
             line,
-            cause: Cause::Word,
+            cause: LineError::Word,
         },
         Why::NoTxn => Refusal::NoTxn,
         Why::NotNumber => Refusal::NotNumber,

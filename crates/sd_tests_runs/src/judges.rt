@@ -12,7 +12,7 @@ use crate::entries::Why::{
     Blocked, Clean, CutCommit, Deadlock, Down, NoRecord, NoSavepoint, NoTxn, Up,
 };
 use crate::entries::{
-    FAR, Line, MAKER, NEAR, NEXT, ONE, Say, TWO, Who, event, outcome, reply, told,
+    FAR, JudgedLine, MAKER, NEAR, ONE, Say, THIRD, TWO, Who, event, outcome, reply, told,
 };
 use sd_base::{Memory, Pick};
 use sd_judge::Judge;
@@ -28,7 +28,7 @@ const AGAIN: Who = Who(1, 2, 1);
 const THREE: Who = Who(3, 0, 0);
 
 /// Instances 1 and 2 have joined, and the first transaction has committed two records.
-static MADE: [Line; 6] = [
+static MADE: [JudgedLine; 6] = [
     (ONE, Join, &[Joined(9)], &[Joined(1)]),
     (TWO, Join, &[Joined(9)], &[Joined(1)]),
     (ONE, Begin, &[Began(NEAR)], &[Began(MAKER)]),
@@ -38,53 +38,53 @@ static MADE: [Line; 6] = [
 ];
 
 /// A cycle is refused, and a rollback lets the other one go on. A call of another record ends a wait.
-static CYCLE: [Line; 17] = [
-    (ONE, Begin, &[Began(NEXT)], &[Began(NEAR)]),
-    (ONE, Begin, &[Began(NEAR)], &[Began(NEXT)]),
+static CYCLE: [JudgedLine; 17] = [
+    (ONE, Begin, &[Began(THIRD)], &[Began(NEAR)]),
+    (ONE, Begin, &[Began(NEAR)], &[Began(THIRD)]),
     (NEAR, Write(0, b"x1"), &[No(NoRecord)], &[Did]),
-    (NEXT, Write(1, b"y1"), &[No(NoRecord)], &[Did]),
-    (NEXT, Write(0, b"x2"), &[Did], &[No(Blocked(NEAR))]),
-    (NEXT, Read(1), &[Absent], &[Value(b"y1")]),
-    (NEAR, Write(1, b"no"), &[Did], &[No(Blocked(NEXT))]),
+    (THIRD, Write(1, b"y1"), &[No(NoRecord)], &[Did]),
+    (THIRD, Write(0, b"x2"), &[Did], &[No(Blocked(NEAR))]),
+    (THIRD, Read(1), &[Absent], &[Value(b"y1")]),
+    (NEAR, Write(1, b"no"), &[Did], &[No(Blocked(THIRD))]),
     (
-        NEXT,
+        THIRD,
         Write(0, b"x2"),
         &[No(Blocked(NEAR))],
-        &[No(Deadlock(NEXT, NEAR))],
+        &[No(Deadlock(THIRD, NEAR))],
     ),
     (NEAR, Write(0, b"x3"), &[No(NoRecord)], &[Did]),
     (
-        NEXT,
+        THIRD,
         Write(0, b"x2"),
-        &[No(Deadlock(NEXT, NEAR))],
+        &[No(Deadlock(THIRD, NEAR))],
         &[No(Blocked(NEAR))],
     ),
     (
         NEAR,
         Write(1, b"no"),
-        &[No(Blocked(NEXT))],
-        &[No(Deadlock(NEAR, NEXT))],
+        &[No(Blocked(THIRD))],
+        &[No(Deadlock(NEAR, THIRD))],
     ),
     (NEAR, Back, &[Finished], &[Did]),
     (NEAR, Undo, &[Finished], &[Step, Step]),
     (NEAR, Undo, &[Step], &[Finished]),
-    (NEXT, Write(0, b"x2"), &[No(NoRecord)], &[Did]),
-    (NEXT, Commit, &[No(NoTxn)], &[Did]),
+    (THIRD, Write(0, b"x2"), &[No(NoRecord)], &[Did]),
+    (THIRD, Commit, &[No(NoTxn)], &[Did]),
     (ONE, List, &[Listed(&[])], &[Listed(&[b"x2", b"y1"])]),
 ];
 
 /// A reader makes a writer wait, and an insert waits for a slot without a record alone.
-static READER: [Line; 13] = [
+static READER: [JudgedLine; 13] = [
     (TWO, Begin, &[Began(NEAR)], &[Began(FAR)]),
-    (ONE, Begin, &[Began(NEXT)], &[Began(NEAR)]),
-    (ONE, Begin, &[Began(NEAR)], &[Began(NEXT)]),
+    (ONE, Begin, &[Began(THIRD)], &[Began(NEAR)]),
+    (ONE, Begin, &[Began(NEAR)], &[Began(THIRD)]),
     (FAR, Read(0), &[Absent], &[Value(b"x0")]),
     (NEAR, Write(0, b"tan"), &[Did], &[No(Blocked(FAR))]),
-    (NEXT, Insert(b"tan"), &[Claimed(0, FAR)], &[]),
+    (THIRD, Insert(b"tan"), &[Claimed(0, FAR)], &[]),
     (NEAR, Insert(b"z0"), &[Did], &[At(2)]),
-    (NEXT, Insert(b"tan"), &[Claimed(0, FAR)], &[]),
+    (THIRD, Insert(b"tan"), &[Claimed(0, FAR)], &[]),
     (
-        NEXT,
+        THIRD,
         Insert(b"tan"),
         &[No(Blocked(NEAR))],
         &[Claimed(2, NEAR)],
@@ -101,8 +101,8 @@ static READER: [Line; 13] = [
 ];
 
 /// A failed transaction holds its records until the recovery, which takes back what it did; another's commit stays.
-static FALL: [Line; 14] = [
-    (ONE, Begin, &[Began(NEXT)], &[Began(NEAR)]),
+static FALL: [JudgedLine; 14] = [
+    (ONE, Begin, &[Began(THIRD)], &[Began(NEAR)]),
     (NEAR, Delete(0), &[No(Down)], &[Did]),
     (TWO, Begin, &[Began(NEAR)], &[Began(FAR)]),
     (FAR, Write(1, b"y1"), &[No(NoRecord)], &[Did]),
@@ -119,9 +119,9 @@ static FALL: [Line; 14] = [
 ];
 
 /// A recovery that is cut is begun again by another instance.
-static CUT_RECOVERY: [Line; 11] = [
+static CUT_RECOVERY: [JudgedLine; 11] = [
     (THREE, Join, &[Joined(9)], &[Joined(1)]),
-    (ONE, Begin, &[Began(NEXT)], &[Began(NEAR)]),
+    (ONE, Begin, &[Began(THIRD)], &[Began(NEAR)]),
     (NEAR, Write(0, b"x1"), &[No(NoRecord)], &[Did]),
     (ONE, Fails, &[No(Down)], &[Did]),
     (TWO, Recover(ONE), &[No(Up)], &[Did]),
@@ -134,8 +134,8 @@ static CUT_RECOVERY: [Line; 11] = [
 ];
 
 /// A cut commit that is found counts, and one that isn't is undone.
-static CUT_COMMIT: [Line; 14] = [
-    (ONE, Begin, &[Began(NEXT)], &[Began(NEAR)]),
+static CUT_COMMIT: [JudgedLine; 14] = [
+    (ONE, Begin, &[Began(THIRD)], &[Began(NEAR)]),
     (NEAR, Write(0, b"x1"), &[No(NoRecord)], &[Did]),
     (NEAR, Commit, &[No(Down)], &[No(CutCommit)]),
     (ONE, FailAll(Pick::Keep), &[Step], &[Did]),
@@ -152,8 +152,8 @@ static CUT_COMMIT: [Line; 14] = [
 ];
 
 /// A rollback to a mark goes on, and a failure of the whole complex undoes all.
-static MARK: [Line; 13] = [
-    (ONE, Begin, &[Began(NEXT)], &[Began(NEAR)]),
+static MARK: [JudgedLine; 13] = [
+    (ONE, Begin, &[Began(THIRD)], &[Began(NEAR)]),
     (NEAR, BackToMark, &[Did], &[No(NoSavepoint)]),
     (NEAR, Save, &[No(NoSavepoint)], &[Did]),
     (NEAR, Write(0, b"x1"), &[No(NoRecord)], &[Did]),
@@ -169,7 +169,7 @@ static MARK: [Line; 13] = [
 ];
 
 /// A changed page passes on, a page write is cut, and a recovery whose device fails leaves the undo to a reopening.
-static PAGES: [Line; 20] = [
+static PAGES: [JudgedLine; 20] = [
     (TWO, Begin, &[Began(NEAR)], &[Began(FAR)]),
     (TWO, Page, &[Did], &[Asked(ONE)]),
     (ONE, Give, &[Did], &[Gave(TWO)]),
@@ -178,7 +178,7 @@ static PAGES: [Line; 20] = [
     (TWO, Flush, &[Step], &[Did]),
     (TWO, Evict, &[Step], &[Did]),
     (FAR, Commit, &[No(NoTxn)], &[Did]),
-    (ONE, Begin, &[Began(NEXT)], &[Began(NEAR)]),
+    (ONE, Begin, &[Began(THIRD)], &[Began(NEAR)]),
     (NEAR, Write(0, b"x2"), &[No(NoRecord)], &[Did]),
     (ONE, Arm, &[Step], &[Did]),
     (ONE, Flush, &[Fell(TWO)], &[Fell(ONE)]),
@@ -193,7 +193,11 @@ static PAGES: [Line; 20] = [
     (ONE, List, &[Listed(&[])], &[Listed(&[b"x1", b"y0"])]),
 ];
 
-fn play(rt: &(impl Abort + AllocGlobal), judge: &mut Judge, lines: &[Line]) -> Result<(), Memory> {
+fn play(
+    rt: &(impl Abort + AllocGlobal),
+    judge: &mut Judge,
+    lines: &[JudgedLine],
+) -> Result<(), Memory> {
     for (row, (who, ask, wrong, right)) in lines.iter().enumerate() {
         let event = event(rt, *who, *ask)?;
         judged(rt, judge, &event, wrong, (Verdict::Differs, row))?;

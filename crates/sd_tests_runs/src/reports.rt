@@ -11,7 +11,7 @@ use crate::entries::Why::{
     NotAsked, NotNumber, NotRecovered, PageFull, PoolFull, TooLong, TooManyTxns, Up,
 };
 use crate::entries::{FAR, MAKER, NEAR, ONE, Say, TWO, Who, reply, txn};
-use sd_base::{Cause, Duplicate, Memory, PageNo, Trouble};
+use sd_base::{Duplicate, LineError, Memory, PageNo, Trouble};
 use sd_model::{Entry, Event};
 use sd_report::{bad_line, in_order, render};
 use sd_script::{Form, Kind, Line, Script};
@@ -19,23 +19,23 @@ use std::process::Abort;
 use std::test::Fail;
 
 /// A line, the replies of its entries and of the helping ones between them, and what is reported of it.
-type Told = (&'static [u8], &'static [Step], &'static [u8]);
+type ReportedLine = (&'static [u8], &'static [LineEntry], &'static [u8]);
 
 /// An entry of the line, or one that helps it.
 #[derive(Clone, Copy)]
-enum Step {
+enum LineEntry {
     Own(Say),
     Help(Say),
 }
 
-use Step::{Help, Own};
+use LineEntry::{Help, Own};
 
 const FIVE: Who = Who(5, 0, 0);
 
 const EIGHT: Who = Who(8, 0, 0);
 
 /// What is done.
-static REPLIES: [Told; 32] = [
+static REPLIES: [ReportedLine; 32] = [
     (
         b"complex 8 2 1\n",
         &[Help(Joined(1)), Help(Joined(1))],
@@ -124,7 +124,7 @@ static REPLIES: [Told; 32] = [
 ];
 
 /// What becomes of all instances at once.
-static RESTARTS: [Told; 21] = [
+static RESTARTS: [ReportedLine; 21] = [
     (
         b"complex 2 1 2\n",
         &[Help(Joined(1)), Help(Joined(1))],
@@ -207,7 +207,7 @@ static RESTARTS: [Told; 21] = [
 ];
 
 /// What is refused, behind the lines of the other table.
-static REFUSALS: [Told; 38] = [
+static REFUSALS: [ReportedLine; 38] = [
     (b"commit a\n", &[Own(No(NoTxn))], b"a ended\n"),
     (b"1 begin b\n", &[Own(No(TooManyTxns))], b"b too many\n"),
     (b"read b 0.0\n", &[], b"b ended\n"),
@@ -285,7 +285,7 @@ static REFUSALS: [Told; 38] = [
 ];
 
 /// Two transactions side by side: each waits for the other, one rolls back, and one can't.
-static SIDE_BY_SIDE: [Told; 17] = [
+static SIDE_BY_SIDE: [ReportedLine; 17] = [
     (b"complex 1 2 2\n", &[Help(Joined(1))], b"complex 1 2 2\n"),
     (b"1 begin a\n", &[Own(Began(MAKER))], b"a begin 1.1.1\n"),
     (b"1 begin b\n", &[Own(Began(NEAR))], b"b begin 1.1.2\n"),
@@ -427,7 +427,7 @@ fn note(
     rt: &(impl Abort + AllocGlobal),
     entries: &mut Vec<Entry>,
     line: &Line,
-    steps: &[Step],
+    steps: &[LineEntry],
 ) -> Result<(), Memory> {
     for step in steps {
         let (number, say) = match *step {
@@ -445,7 +445,11 @@ fn note(
 }
 
 // Whether each line of the tables, one after another, is reported so.
-fn tells(rt: &(impl Abort + AllocGlobal), first: &[Told], rest: &[Told]) -> Result<(), Fail> {
+fn tells(
+    rt: &(impl Abort + AllocGlobal),
+    first: &[ReportedLine],
+    rest: &[ReportedLine],
+) -> Result<(), Fail> {
     let mut text = Vec::new(rt.alloc());
     let mut due = Vec::new(rt.alloc());
     for (line, _, reported) in first.iter().chain(rest) {
@@ -481,7 +485,7 @@ fn what_becomes_of_all_instances_is_reported(rt: HostRuntime) -> Result<(), Fail
 
 #[test]
 fn a_bad_line_is_told(rt: HostRuntime) -> Result<(), Fail> {
-    let text = bad_line(rt.alloc(), 100_000, Cause::Unknown)?;
+    let text = bad_line(rt.alloc(), 100_000, LineError::Unknown)?;
     assert_eq!(rt; text.as_slice(), b"bad line 100000 unknown\n".as_slice());
     Ok(())
 }

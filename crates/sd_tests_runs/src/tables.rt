@@ -10,7 +10,7 @@ use crate::entries::Why::{
     Blocked, Busy, CutCommit, Deadlock, Down, Failed, Lost, NeedPage, NoRecord, NoTxn, NotNumber,
     PageFull, TooLong,
 };
-use crate::entries::{Line, MAKER, NEAR, NEXT, ONE, Say, Who, event, outcome, reply};
+use crate::entries::{JudgedLine, MAKER, NEAR, ONE, Say, THIRD, Who, event, outcome, reply};
 use sd_base::Memory;
 use sd_model::{Event, Rows};
 use sd_oracle::{SerialTable, Verdict};
@@ -18,10 +18,10 @@ use std::process::Abort;
 use std::test::Fail;
 
 /// The fourth transaction of instance 1.
-const LAST: Who = Who(1, 1, 4);
+const FOURTH: Who = Who(1, 1, 4);
 
 /// Texts, numbers and sums.
-static VALUES: [Line; 12] = [
+static VALUES: [JudgedLine; 12] = [
     (ONE, Join, &[Joined(0), Joined(2), Did], &[Joined(1)]),
     (ONE, Begin, &[Began(NEAR), Did], &[Began(MAKER)]),
     (
@@ -59,7 +59,7 @@ static VALUES: [Line; 12] = [
 ];
 
 /// Rollbacks, and refusals that the table rules out though other things decide them too.
-static ROLLBACKS: [Line; 22] = [
+static ROLLBACKS: [JudgedLine; 22] = [
     (ONE, Join, &[], &[Joined(1)]),
     (ONE, Begin, &[], &[Began(MAKER)]),
     (MAKER, Insert(b"red"), &[], &[At(0)]),
@@ -93,7 +93,7 @@ static ROLLBACKS: [Line; 22] = [
         &[No(Failed), Finished],
     ),
     // One without puts needs neither.
-    (ONE, Begin, &[Began(NEXT)], &[Began(NEAR)]),
+    (ONE, Begin, &[Began(THIRD)], &[Began(NEAR)]),
     (NEAR, Read(0), &[Value(b"red")], &[Absent]),
     (NEAR, Back, &[], &[Did]),
     (
@@ -102,18 +102,18 @@ static ROLLBACKS: [Line; 22] = [
         &[No(NeedPage), No(Lost), No(Failed), Step],
         &[Finished],
     ),
-    (ONE, Begin, &[], &[Began(NEXT)]),
-    (NEXT, Commit, &[No(CutCommit), No(Failed)], &[Did]),
-    (ONE, Begin, &[], &[Began(LAST)]),
-    (LAST, Insert(b"blue"), &[], &[At(0)]),
-    (LAST, Back, &[], &[Did]),
-    (LAST, Undo, &[], &[Step]),
-    (LAST, Undo, &[], &[Fell(ONE)]),
-    (LAST, Undo, &[Finished], &[No(Down)]),
+    (ONE, Begin, &[], &[Began(THIRD)]),
+    (THIRD, Commit, &[No(CutCommit), No(Failed)], &[Did]),
+    (ONE, Begin, &[], &[Began(FOURTH)]),
+    (FOURTH, Insert(b"blue"), &[], &[At(0)]),
+    (FOURTH, Back, &[], &[Did]),
+    (FOURTH, Undo, &[], &[Step]),
+    (FOURTH, Undo, &[], &[Fell(ONE)]),
+    (FOURTH, Undo, &[Finished], &[No(Down)]),
 ];
 
 /// Inserts beside claims of others.
-static CLAIMS: [Line; 14] = [
+static CLAIMS: [JudgedLine; 14] = [
     (ONE, Join, &[], &[Joined(1)]),
     (ONE, Begin, &[], &[Began(MAKER)]),
     (
@@ -121,7 +121,7 @@ static CLAIMS: [Line; 14] = [
         Insert(b"red"),
         &[
             No(Blocked(NEAR)),
-            No(Deadlock(NEAR, NEXT)),
+            No(Deadlock(NEAR, THIRD)),
             No(Blocked(MAKER)),
         ],
         &[At(0)],
@@ -132,26 +132,26 @@ static CLAIMS: [Line; 14] = [
     (MAKER, Commit, &[Did], &[No(NoTxn)]),
     // A record that is there is in no insert's way, whoever claims it.
     (NEAR, Insert(b"tan"), &[No(Blocked(MAKER))], &[]),
-    (ONE, Begin, &[], &[Began(NEXT)]),
-    (NEXT, Read(0), &[Absent], &[Value(b"red")]),
+    (ONE, Begin, &[], &[Began(THIRD)]),
+    (THIRD, Read(0), &[Absent], &[Value(b"red")]),
     (
         NEAR,
         Insert(b"tan"),
-        &[No(Blocked(NEXT)), No(Deadlock(NEXT, NEAR))],
+        &[No(Blocked(THIRD)), No(Deadlock(THIRD, NEAR))],
         &[At(1)],
     ),
     (
-        NEXT,
+        THIRD,
         Read(1),
         &[Value(b"tan"), Absent],
         &[No(Blocked(NEAR))],
     ),
     // A commit that is cut takes its instance down.
     (NEAR, Commit, &[No(Down)], &[No(CutCommit)]),
-    (NEXT, Commit, &[Did], &[No(Down)]),
+    (THIRD, Commit, &[Did], &[No(Down)]),
 ];
 
-fn play(rt: &(impl Abort + AllocGlobal), lines: &[Line]) -> Result<(), Memory> {
+fn play(rt: &(impl Abort + AllocGlobal), lines: &[JudgedLine]) -> Result<(), Memory> {
     let mut table = SerialTable::new(rt.alloc(), Rows::of(Vec::new(rt.alloc())));
     for (row, (who, ask, wrong, right)) in lines.iter().enumerate() {
         let event = event(rt, *who, *ask)?;

@@ -6,7 +6,7 @@ use Rattle.sd_base.specs.declared.ids.Rid.{Rid}
 use Rattle.sd_base.specs.Streams.{Rises}
 use Rattle.sd_base.specs.declared.refusal.Refusal.{Refusal}
 use Rattle.sd_base.specs.declared.refusal.Refusal.TheVariants as R
-use Rattle.sd_rig.specs.Devices.{Image}
+use Rattle.sd_rig.specs.Devices.{DeviceImages}
 use Rattle.sd_model.specs.History.{History}
 use Rattle.sd_model.specs.declared.event.Entry.{Entry}
 use Rattle.sd_model.specs.SerialLaws.{RunIsSerial}
@@ -53,7 +53,7 @@ has_rig {G} tell start hall keeps = go hall.body keeps.core keeps.fits where
   go (Some body) w f = (rig_of body, refl)
 
 -- the start that a driver of so many instances and pages has
-pub opens_as : {G : Type 0} (insts pages : ℕ) (lines : List Line) (devices : Image) (now : G) (table : List (Rid × List ℕ))
+pub opens_as : {G : Type 0} (insts pages : ℕ) (lines : List Line) (devices : DeviceImages) (now : G) (table : List (Rid × List ℕ))
     → insts ≡ insts_of lines → pages ≡ pages_of lines
     → record { world = before insts pages lines (opening_core (frames_of lines) devices); rig = now; table = table }
     ≡ opening lines devices now table

@@ -1,7 +1,7 @@
 -- Where the run of a script starts: what its first line gives, and what the reading of the devices finds.
 use Rattle.std.specs.Prelude.{◌≡◌, ◌⊎◌, ℕ, List, [], ◌∷◌}
 use Rattle.sd_base.specs.declared.ids.Rid.{Rid}
-use Rattle.sd_rig.specs.Devices.{Image, Leaves, Span}
+use Rattle.sd_rig.specs.Devices.{DeviceImages, Leaves, Span}
 use Rattle.sd_chain.specs.Checks.{DevicesAreSound}
 use Rattle.sd_recovered.specs.Devices.{IsRecovered}
 use Rattle.sd_restart.specs.Devices.{Calms}
@@ -26,11 +26,11 @@ frames_of [] = 0
 frames_of (line ∷ lines) = frames_in line.form
 
 -- the world in which a script begins on devices that read so: that of which they tell, with the lines to come
-abbrev pub opening_world : List Line → Image → World
+abbrev pub opening_world : List Line → DeviceImages → World
 opening_world lines devices = before (insts_of lines) (pages_of lines) lines (opening_core (frames_of lines) devices)
 
 -- the start of a script's run on devices that read so, which are `now` behind their reading, and stand for this table
-abbrev pub opening : {G : Type 0} → List Line → Image → G → List (Rid × List ℕ) → Start G
+abbrev pub opening : {G : Type 0} → List Line → DeviceImages → G → List (Rid × List ℕ) → Start G
 opening lines devices now table = record { world = opening_world lines devices; rig = now; table = table }
 
 -- The devices were synced and read: they read as before, and a crash leaves nothing that it might not have left before.
@@ -46,7 +46,7 @@ pub record Opens {G : Type 0} (tell : Telling G) (rig now : G) (table : List (Ri
   pub recovered : IsRecovered (tell.seen rig) table
 
 -- a crash may have left this image before the reading, or it stands for the state of a world on the way
-abbrev pub LeftOnWay : {G : Type 0} → Telling G → G → World → List Entry → World → Image → Type 0
+abbrev pub LeftOnWay : {G : Type 0} → Telling G → G → World → List Entry → World → DeviceImages → Type 0
 LeftOnWay tell rig start entries last img = Leaves (tell.leaves rig) img ⊎ StandsOnWay start entries last img
 
 -- The devices were read, and from the world that they tell the entries lead to the last one, for which the devices stand that come

@@ -2,7 +2,7 @@
 use Rattle.std.specs.Prelude.{◌≡◌, ◌⊎◌, ℕ, ◌<◌, true, List, [], ◌∷◌, Option, None, Some, length, codes}
 use Rattle.sd_base.specs.Streams.{Appends, Rises}
 use Rattle.sd_base.specs.declared.ids.Rid.{Rid}
-use Rattle.sd_base.specs.declared.refusal.Cause.{Cause}
+use Rattle.sd_base.specs.declared.refusal.LineError.{LineError}
 use Rattle.sd_base.specs.declared.refusal.Refusal.{Refusal}
 use Rattle.sd_base.specs.declared.refusal.Refusal.TheVariants as R
 use Rattle.sd_model.specs.Acts.{Serial}
@@ -58,8 +58,8 @@ WrittenUnless sink text sink' =
     ⊎ (Rises sink.faults sink'.faults × AppendsFront sink.written text sink'.written)
 
 -- the text is bad at a line first, and the sink has got just that
-abbrev pub TellsFirst : List ℕ → SinkSide → SinkSide → Type 0
-TellsFirst text sink sink' = (line : ℕ) × IsBadAt text line × WrittenUnless sink (bad_text line Cause.Word) sink'
+abbrev pub WritesFirst : List ℕ → SinkSide → SinkSide → Type 0
+WritesFirst text sink sink' = (line : ℕ) × IsBadAt text line × WrittenUnless sink (bad_text line LineError.Word) sink'
 
 -- what is written where a device failed in the opening
 abbrev pub device_text : List ℕ
@@ -124,7 +124,7 @@ IsPartial tell text rig rig' (Some history) =
 abbrev pub Answers : {G : Type 0} → Telling G → Status → List ℕ → Ends G → Ends G → Option History → Type 0
 Answers tell status.Done text old new book = (lines : List Line) × (history : History) × (world : World)
     × Replayed tell old.rig new.rig book text lines history world × Reported old.sink new.sink lines history world
-Answers tell status.BadLine text old new book = TellsFirst text old.sink new.sink × (book ≡ None) × (new.rig ≡ old.rig)
+Answers tell status.BadLine text old new book = WritesFirst text old.sink new.sink × (book ≡ None) × (new.rig ≡ old.rig)
 Answers tell status.WriteFault text old new book = (lines : List Line) × (history : History) × (world : World)
     × Replayed tell old.rig new.rig book text lines history world × CutShort old.sink new.sink lines history world
 Answers tell status.NoMemory text old new book =
@@ -163,7 +163,7 @@ Delivers status.NoMemory sink text sink' = sink'.written ≡ sink.written
 Delivers s sink text sink' = ⊥
 
 -- a bad line is told
-abbrev pub TellsBad : Status → ℕ → Cause → SinkSide → SinkSide → Type 0
+abbrev pub TellsBad : Status → ℕ → LineError → SinkSide → SinkSide → Type 0
 TellsBad status.BadLine line cause sink sink' = WrittenUnless sink (bad_text line cause) sink'
 TellsBad status.NoMemory line cause sink sink' = sink'.written ≡ sink.written
 TellsBad s line cause sink sink' = ⊥

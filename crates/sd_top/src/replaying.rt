@@ -21,7 +21,7 @@ use crate::input::{InputError, read_all};
 use crate::output::write_all;
 use crate::status::Status;
 use crate::words::is_command;
-use sd_base::{Cause, Gate, Memory, Refusal, Sink, Source};
+use sd_base::{Gate, LineError, Memory, Refusal, Sink, Source};
 use sd_drive::Driver;
 use sd_hall::Hall;
 use sd_model::Book;
@@ -142,7 +142,7 @@ fn replay_text<K: Sink, G: Rig>(alloc: Global, text: &[u8], sink: &mut K, rig: G
 }
 
 // Writes which line is bad, and what is wrong with it. A sink that fails doesn't change the status.
-fn report_bad_line<K: Sink>(alloc: Global, line: u32, cause: Cause, sink: &mut K) -> Status
+fn report_bad_line<K: Sink>(alloc: Global, line: u32, cause: LineError, sink: &mut K) -> Status
     ensures { TellsBad result line cause (record { written = K.written sink.old; faults = K.faults sink.old })
         (record { written = K.written sink.new; faults = K.faults sink.new }) }
 {

@@ -4,8 +4,8 @@ use Rattle.std.specs.Prelude.{◌||◌}
 use Rattle.sd_base.specs.declared.place.Mode.{Mode}
 use Rattle.sd_base.specs.declared.place.Mode.TheVariants as modes
 use Rattle.sd_base.specs.declared.refusal.Refusal.TheVariants as R
-use Rattle.sd_rig.specs.Devices.{Image}
-use Rattle.sd_model.specs.Applies.{Clear, Serves as Standing}
+use Rattle.sd_rig.specs.Devices.{DeviceImages}
+use Rattle.sd_model.specs.Applies.{Clear, MayServe}
 use Rattle.sd_model.specs.Causes.{order}
 use Rattle.sd_model.specs.State.{State}
 use Rattle.sd_model.specs.declared.cause.Cause.{Cause}
@@ -13,13 +13,13 @@ use Rattle.sd_model.specs.declared.event.Event.{Event}
 use Rattle.sd_model.specs.declared.event.Event.TheVariants.{Ask}
 use Rattle.sd_model.specs.declared.event.Reply.TheVariants as reply
 use Rattle.sd_pagelock.specs.Directory.{entry_at}
-use Rattle.sd_pagelock.specs.Places.{Entry, holds_as, is_free, is_lost, passes, receives, rests}
+use Rattle.sd_pagelock.specs.Places.{PageEntry, holds_as, is_free, is_lost, passes, receives, rests}
 use Rattle.sd_pagelock.specs.Rows.{locked, may_raise, raised}
 use Rattle.sd_pagelock.proofs.Uses.{free-is}
 use Rattle.sd_sound.specs.Logs.{Outcomes}
 use Rattle.sd_world.specs.Answers.{Fails, Gets, Queues}
-use Rattle.sd_world.specs.PageCauses.{IsLostFor, IsUnderWay, LacksFrame, NoneSays}
-use Rattle.sd_world.specs.Pages.{Pages, had, held, is_had, placed}
+use Rattle.sd_world.specs.PageCauses.{IsLostFor, IsUnderWay, NoneSays, PoolIsFull}
+use Rattle.sd_world.specs.Pages.{Pages, had, held_count, is_had, page_placed}
 use Rattle.sd_world.specs.Serving.{Core, Turns}
 use Rattle.sd_state.specs.Parts.{Parts, is_active}
 use Rattle.sd_fits.specs.Fits.{Fits}
@@ -30,42 +30,42 @@ use Rattle.sd_fits.proofs.Refused.{IsFor, active-serves, idle-refuses, unlike}
 
 -- ---- places that an instance has so at once
 
-pub none-holds : (mode : Mode) (e : Entry) (i : ℕ) → e ≡ Entry.Free → holds_as mode e i ≡ false
-none-holds modes.Shared e i is = ap (λ (x : Entry). holds_as modes.Shared x i) is
-none-holds modes.Excl e i is = ap (λ (x : Entry). holds_as modes.Excl x i) is
+pub none-holds : (mode : Mode) (e : PageEntry) (i : ℕ) → e ≡ PageEntry.Free → holds_as mode e i ≡ false
+none-holds modes.Shared e i is = ap (λ (x : PageEntry). holds_as modes.Shared x i) is
+none-holds modes.Excl e i is = ap (λ (x : PageEntry). holds_as modes.Excl x i) is
 
 -- a page that it has so is in a pool
-pub has-pool : (mode : Mode) (e : Entry) (i : ℕ) → holds_as mode e i ≡ true → is_free e ≡ true → ⊥
+pub has-pool : (mode : Mode) (e : PageEntry) (i : ℕ) → holds_as mode e i ≡ true → is_free e ≡ true → ⊥
 has-pool mode e i has free = unlike (none-holds mode e i (free-is e free)) has
 
-pub raise-pool : (e : Entry) (i : ℕ) → may_raise i e ≡ true → is_free e ≡ true → ⊥
+pub raise-pool : (e : PageEntry) (i : ℕ) → may_raise i e ≡ true → is_free e ≡ true → ⊥
 raise-pool e i may free = unlike {b = may_raise i e} (ap (may_raise i) (free-is e free)) may
 
 module _ (i p : ℕ) (mode : Mode) (w : Pages) where
-  abbrev e : Entry
+  abbrev e : PageEntry
   e = w.entry p
 
-  abbrev pick : Bool → Entry → Pages
-  pick b to = cond {A = Pages} b w (placed p to w)
+  abbrev pick : Bool → PageEntry → Pages
+  pick b to = cond {A = Pages} b w (page_placed p to w)
 
   pub gets-held : holds_as mode e i ≡ true → Gets i p mode w w
   gets-held has = (ap (λ (b : Bool). b || (is_free e || may_raise i e)) has, sym (ap (λ (b : Bool). pick b (had i mode e)) has))
 
-  pub gets-free : e ≡ Entry.Free → Gets i p mode w (placed p (locked i mode) w)
+  pub gets-free : e ≡ PageEntry.Free → Gets i p mode w (page_placed p (locked i mode) w)
   gets-free free =
       let none : holds_as mode e i ≡ false = none-holds mode e i free in
       let yes : is_free e ≡ true = ap is_free free in (
         ap (λ (b : Bool). b || (is_free e || may_raise i e)) none ∙ ap (λ (b : Bool). b || may_raise i e) yes,
-        sym (ap (λ (b : Bool). pick b (cond {A = Entry} b e (cond {A = Entry} (is_free e) (locked i mode) (raised i e)))) none
-            ∙ ap (λ (b : Bool). placed p (cond {A = Entry} b (locked i mode) (raised i e)) w) yes),
+        sym (ap (λ (b : Bool). pick b (cond {A = PageEntry} b e (cond {A = PageEntry} (is_free e) (locked i mode) (raised i e)))) none
+            ∙ ap (λ (b : Bool). page_placed p (cond {A = PageEntry} b (locked i mode) (raised i e)) w) yes),
       )
 
   pub gets-raised : holds_as mode e i ≡ false → is_free e ≡ false → may_raise i e ≡ true
-      → Gets i p mode w (placed p (raised i e) w)
+      → Gets i p mode w (page_placed p (raised i e) w)
   gets-raised none pooled may = (
     ap (λ (b : Bool). b || (is_free e || may_raise i e)) none ∙ ap (λ (b : Bool). b || may_raise i e) pooled ∙ may,
-    sym (ap (λ (b : Bool). pick b (cond {A = Entry} b e (cond {A = Entry} (is_free e) (locked i mode) (raised i e)))) none
-        ∙ ap (λ (b : Bool). placed p (cond {A = Entry} b (locked i mode) (raised i e)) w) pooled),
+    sym (ap (λ (b : Bool). pick b (cond {A = PageEntry} b e (cond {A = PageEntry} (is_free e) (locked i mode) (raised i e)))) none
+        ∙ ap (λ (b : Bool). page_placed p (cond {A = PageEntry} b (locked i mode) (raised i e)) w) pooled),
   )
 
   pub not-had : holds_as mode e i ≡ false → is_free e ≡ false → may_raise i e ≡ false → is_had i mode e ≡ false
@@ -73,25 +73,25 @@ module _ (i p : ℕ) (mode : Mode) (w : Pages) where
       ap (λ (b : Bool). b || (is_free e || may_raise i e)) none ∙ ap (λ (b : Bool). b || may_raise i e) pooled ∙ alone
 
 -- a page of a pool that an instance has so, or may have alone at once, isn't read, and nobody is asked for it
-pub had-pool : (mode : Mode) (e : Entry) (i : ℕ) → (holds_as mode e i || may_raise i e) ≡ true → is_free e ≡ true → ⊥
+pub had-pool : (mode : Mode) (e : PageEntry) (i : ℕ) → (holds_as mode e i || may_raise i e) ≡ true → is_free e ≡ true → ⊥
 had-pool mode e i had free = unlike
     (ap (λ (b : Bool). b || may_raise i e) (none-holds mode e i (free-is e free)) ∙ ap (may_raise i) (free-is e free)) had
 
-pub had-lacks : (mode : Mode) (e : Entry) (i : ℕ) → holds_as mode e i ≡ false → may_raise i e ≡ false
+pub had-lacks : (mode : Mode) (e : PageEntry) (i : ℕ) → holds_as mode e i ≡ false → may_raise i e ≡ false
     → (holds_as mode e i || may_raise i e) ≡ true → ⊥
 had-lacks mode e i lacks alone had = unlike (ap (λ (b : Bool). b || may_raise i e) lacks ∙ alone) had
 
 -- a page that is somewhere, and not on its way
-pub stays-there : (x : Entry) → is_free x ≡ false → is_lost x ≡ false → passes x ≡ false → rests x ≡ true
-stays-there Entry.Free pooled there still = absurd (cc)
-stays-there (Entry.Shared set writer) pooled there still = refl
-stays-there (Entry.Excl holder dirty) pooled there still = refl
-stays-there (Entry.Moving to mode rest dirty) pooled there still = absurd (cc)
-stays-there Entry.Lost pooled there still = absurd (cc)
+pub stays-there : (x : PageEntry) → is_free x ≡ false → is_lost x ≡ false → passes x ≡ false → rests x ≡ true
+stays-there PageEntry.Free pooled there still = absurd (cc)
+stays-there (PageEntry.Shared set writer) pooled there still = refl
+stays-there (PageEntry.Excl holder dirty) pooled there still = refl
+stays-there (PageEntry.Moving to mode rest dirty) pooled there still = absurd (cc)
+stays-there PageEntry.Lost pooled there still = absurd (cc)
 
 -- ---- causes
 
-module _ (seen : Image) (leaves : Outcomes) (c : Parts) (i p : ℕ) (mode : Mode) (low : 1 ≤ i) (high : i ≤ 8)
+module _ (seen : DeviceImages) (leaves : Outcomes) (c : Parts) (i p : ℕ) (mode : Mode) (low : 1 ≤ i) (high : i ≤ 8)
     (w : Core) (f : Fits seen leaves c w) where
   abbrev m : State
   m = w.scene.state
@@ -99,10 +99,10 @@ module _ (seen : Image) (leaves : Outcomes) (c : Parts) (i p : ℕ) (mode : Mode
   abbrev event : Event
   event = Ask i p mode
 
-  abbrev here : Entry
+  abbrev here : PageEntry
   here = entry_at c.directory p
 
-  stands : is_active c i ≡ true → (Standing m event → ⊥) → ⊥
+  stands : is_active c i ≡ true → (MayServe m event → ⊥) → ⊥
   stands active none = none (active-serves seen leaves c w f i low high active)
 
   found : is_lost here ≡ false → IsLostFor m w.pages event → ⊥
@@ -156,13 +156,13 @@ module _ (seen : Image) (leaves : Outcomes) (c : Parts) (i p : ℕ) (mode : Mode
     refuses = refl;
     passes = (tt, (tt, (found not_lost, tt)));
     says = λ yes. ap passes (f.pages.entry p) ∙ moves;
-    place = ap (λ (x : Entry). receives x to) (f.pages.entry p) ∙ takes;
+    place = ap (λ (x : PageEntry). receives x to) (f.pages.entry p) ∙ takes;
     left = refl;
   }
 
   -- the page may be asked for
   module _ (may : MayAsk c i p) where
-    pub full : is_free here ≡ true → w.pages.frames ≤ held w.pages.entry i 1024 → IsFor m w event R.PoolFull Cause.Frame
+    pub full : is_free here ≡ true → w.pages.frames ≤ held_count w.pages.entry i 1024 → IsFor m w event R.PoolFull Cause.Frame
     full free all = record {
       waits = refl;
       whom = tt;
@@ -178,7 +178,7 @@ module _ (seen : Image) (leaves : Outcomes) (c : Parts) (i p : ℕ) (mode : Mode
       left = refl;
     }
 
-    module _ (room : LacksFrame w.pages event → ⊥) where
+    module _ (room : PoolIsFull w.pages event → ⊥) where
       pub failed : IsFor m w event R.Failed Cause.Rig
       failed = record {
         waits = refl;

@@ -4,8 +4,8 @@ use Rattle.std.specs.Prelude.{None, Some}
 use Rattle.sd_base.specs.declared.place.Place.{Place}
 use Rattle.sd_base.specs.declared.refusal.Refusal.{Refusal}
 use Rattle.sd_base.specs.declared.refusal.Refusal.TheVariants as R
-use Rattle.sd_rig.specs.Devices.{Image, Leaves}
-use Rattle.sd_model.specs.Applies.{Serves as Standing}
+use Rattle.sd_rig.specs.Devices.{DeviceImages, Leaves}
+use Rattle.sd_model.specs.Applies.{MayServe}
 use Rattle.sd_model.specs.Causes.{order}
 use Rattle.sd_model.specs.State.{State}
 use Rattle.sd_model.specs.declared.cause.Cause.{Cause}
@@ -13,13 +13,13 @@ use Rattle.sd_model.specs.declared.event.Event.{Event}
 use Rattle.sd_model.specs.declared.event.Event.TheVariants.{Evict}
 use Rattle.sd_model.specs.declared.event.Reply.TheVariants as reply
 use Rattle.sd_pagelock.specs.Directory.{entry_at}
-use Rattle.sd_pagelock.specs.Places.{Entry, holds, is_lost, seen}
+use Rattle.sd_pagelock.specs.Places.{PageEntry, holds, is_lost, seen}
 use Rattle.sd_pagelock.specs.Rows.{fallen, may_evict}
 use Rattle.sd_pagelock.proofs.Uses.{held-found, lost-is}
-use Rattle.sd_pool.specs.Buffers.{without}
+use Rattle.sd_pool.specs.Buffers.{without_page}
 use Rattle.sd_world.specs.Bounds.{bounds_after}
 use Rattle.sd_world.specs.PageCauses.{IsAway, IsLostFor, IsOnlyCopy, NoneSays}
-use Rattle.sd_world.specs.Pages.{Pages, placed}
+use Rattle.sd_world.specs.Pages.{Pages, page_placed}
 use Rattle.sd_world.specs.Serving.{Core, Serves, Telling, Turns, refused}
 use Rattle.sd_state.specs.Complexes.{parts}
 use Rattle.sd_state.specs.Good.{Good}
@@ -35,8 +35,8 @@ use Rattle.sd_transfer.specs.Evicting.{StaysFor}
 use Rattle.sd_fits.proofs.Refused.{IsFor, active-serves, idle-refuses, refused-serves, unlike}
 
 module _ {G : Type 0} (tell : Telling G) (c : Complex G) (i p : ℕ) (low : 1 ≤ i) (high : i ≤ 8)
-    (now : (img : Image) → tell.since c.rig (tell.moment c.rig) img → Leaves (tell.leaves c.rig) img) where
-  abbrev here : Entry
+    (now : (img : DeviceImages) → tell.since c.rig (tell.moment c.rig) img → Leaves (tell.leaves c.rig) img) where
+  abbrev here : PageEntry
   here = entry_at (parts c).directory p
 
   abbrev event : Event
@@ -48,17 +48,17 @@ module _ {G : Type 0} (tell : Telling G) (c : Complex G) (i p : ℕ) (low : 1 �
     abbrev m : State
     m = w.scene.state
 
-    stands : is_active (parts c) i ≡ true → (Standing m event → ⊥) → ⊥
+    stands : is_active (parts c) i ≡ true → (MayServe m event → ⊥) → ⊥
     stands active none = none (active-serves (tell.seen c.rig) (tell.leaves c.rig) (parts c) w f i low high active)
 
-    falls : is_active (parts c) i ≡ false → Standing m event → ⊥
+    falls : is_active (parts c) i ≡ false → MayServe m event → ⊥
     falls idle is = idle-refuses (tell.seen c.rig) (tell.leaves c.rig) (parts c) w f i low high idle is
 
     found : is_lost here ≡ false → IsLostFor m w.pages event → ⊥
     found is lost = unlike is (sym (ap is_lost (f.pages.entry p)) ∙ lost)
 
     there : holds here i ≡ true → IsAway m w.pages event → ⊥
-    there is away = unlike away (ap (λ (e : Entry). holds e i) (f.pages.entry p) ∙ is)
+    there is away = unlike away (ap (λ (e : PageEntry). holds e i) (f.pages.entry p) ∙ is)
 
     spare : may_evict i here ≡ true → IsOnlyCopy w.pages event → ⊥
     spare is only = unlike only (ap (may_evict i) (f.pages.entry p) ∙ is)
@@ -116,7 +116,7 @@ module _ {G : Type 0} (tell : Telling G) (c : Complex G) (i p : ℕ) (low : 1 �
       first = (refl, (f.good.not_closed, (stands active, (tt, tt))), tt);
       refuses = refl;
       passes = (tt, (tt, (found not_lost, tt)));
-      says = λ yes. ap (λ (e : Entry). holds e i) (f.pages.entry p) ∙ lacks;
+      says = λ yes. ap (λ (e : PageEntry). holds e i) (f.pages.entry p) ∙ lacks;
       place = is ∙ sym (f.pages.entry p);
       left = refl;
     }
@@ -149,14 +149,14 @@ module _ {G : Type 0} (tell : Telling G) (c : Complex G) (i p : ℕ) (low : 1 �
   -- ---- the copy goes
 
   module _ (new : Complex G) (same : new.rig ≡ c.rig)
-      (is : parts new ≡ with_place i (without (pool_at (parts c) i) p) (parts new).directory (parts c))
+      (is : parts new ≡ with_place i (without_page (pool_at (parts c) i) p) (parts new).directory (parts c))
       (set : IsSet p (fallen i here) None (parts c).directory (parts new).directory)
       (good : (pend : Pending) (m : State) → Good (tell.seen c.rig) (tell.leaves c.rig) pend (parts c) m
       → Good (tell.seen new.rig) (tell.leaves new.rig) pend (parts new) m)
       (active : is_active (parts c) i ≡ true) (may : may_evict i here ≡ true) where
     module _ (w : Core) (f : fits_by tell.seen tell.leaves c w) where
       abbrev pages : Pages
-      pages = placed p (fallen i (w.pages.entry p)) w.pages
+      pages = page_placed p (fallen i (w.pages.entry p)) w.pages
 
       held : holds here i ≡ true
       held = evicts-held i here may
@@ -172,14 +172,14 @@ module _ {G : Type 0} (tell : Telling G) (c : Complex G) (i p : ℕ) (low : 1 �
       none = (tt, (tt, (found w f not_lost, (there w f held, (spare w f may, tt)))))
 
       fits-then : fits_by tell.seen tell.leaves new (repaged w pages event reply.Did)
-      fits-then = moved-fits tell c new w f (slice_set (parts c).pools (i - 1) (without (pool_at (parts c) i) p))
+      fits-then = moved-fits tell c new w f (slice_set (parts c).pools (i - 1) (without_page (pool_at (parts c) i) p))
           (parts new).directory
           same is (good Pending.Idle w.scene.state f.good) pages (bounds_after w.bounds event reply.Did)
-          (placed-pages (slice_set (parts c).pools (i - 1) (without (pool_at (parts c) i) p)) (parts new).directory
+          (placed-pages (slice_set (parts c).pools (i - 1) (without_page (pool_at (parts c) i) p)) (parts new).directory
           (tell.seen c.rig) (tell.leaves c.rig) (parts c) w f
-          (frames-kept (parts c) i (without (pool_at (parts c) i) p) (parts new).directory low high f.good.shape.pools refl)
+          (frames-kept (parts c) i (without_page (pool_at (parts c) i) p) (parts new).directory low high f.good.shape.pools refl)
           p (fallen i (w.pages.entry p)) None
-          (subst (λ (e : Entry). IsSet p (fallen i e) None (parts c).directory (parts new).directory) (sym (f.pages.entry p)) set)
+          (subst (λ (e : PageEntry). IsSet p (fallen i e) None (parts c).directory (parts new).directory) (sym (f.pages.entry p)) set)
           (λ there. ap is_lost (f.pages.entry p) ∙ not_lost))
           (bounds-stay (tell.seen c.rig) (parts c) w.bounds event reply.Did f.bounds)
 

@@ -6,7 +6,7 @@ use Rattle.sd_base.specs.declared.place.Mode.{Mode}
 use Rattle.sd_base.specs.declared.refusal.Refusal.{Refusal}
 use Rattle.sd_base.specs.declared.refusal.Refusal.TheVariants as R
 use Rattle.sd_page.specs.Page.{Page}
-use Rattle.sd_rig.specs.Devices.{Image, IsUnchanged, Leaves}
+use Rattle.sd_rig.specs.Devices.{DeviceImages, IsUnchanged, Leaves}
 use Rattle.sd_model.specs.State.{State}
 use Rattle.sd_model.specs.declared.cause.Cause.{Cause}
 use Rattle.sd_model.specs.declared.event.Event.{Event}
@@ -15,13 +15,13 @@ use Rattle.sd_model.specs.declared.event.Reply.{Reply}
 use Rattle.sd_model.specs.declared.event.Reply.TheVariants as reply
 use Rattle.sd_pagelock.specs.Asks.{queued}
 use Rattle.sd_pagelock.specs.Directory.{asks_at, entry_at}
-use Rattle.sd_pagelock.specs.Places.{Entry, holds, holds_as, is_free, is_lost}
+use Rattle.sd_pagelock.specs.Places.{PageEntry, holds, holds_as, is_free, is_lost}
 use Rattle.sd_pagelock.specs.Rows.{locked, may_raise, raised}
 use Rattle.sd_pool.specs.Buffers as buffers
 use Rattle.sd_pool.specs.Buffers.{Buffers, IsPool, with_page}
 use Rattle.sd_world.specs.Bounds.{bounds_after}
-use Rattle.sd_world.specs.PageCauses.{LacksFrame}
-use Rattle.sd_world.specs.Pages.{answerer, asked, placed}
+use Rattle.sd_world.specs.PageCauses.{PoolIsFull}
+use Rattle.sd_world.specs.Pages.{answerer, asked, page_placed}
 use Rattle.sd_world.specs.Serving.{Core, Serves, Telling, refused}
 use Rattle.sd_state.specs.Complexes.{parts}
 use Rattle.sd_state.specs.Good.{Good}
@@ -66,11 +66,11 @@ pub not-copied : (x : Page) (o : Option Page) (b : Bool) → o ≡ cond b (Some 
 not-copied x o b is lacks = is ∙ ap (λ (k : Bool). cond {A = Option Page} k (Some x) None) lacks
 
 module _ {G : Type 0} (tell : Telling G) (c : Complex G) (i p : ℕ) (mode : Mode) (low : 1 ≤ i) (high : i ≤ 8)
-    (now : (img : Image) → tell.since c.rig (tell.moment c.rig) img → Leaves (tell.leaves c.rig) img) where
+    (now : (img : DeviceImages) → tell.since c.rig (tell.moment c.rig) img → Leaves (tell.leaves c.rig) img) where
   abbrev event : Event
   event = Ask i p mode
 
-  abbrev here : Entry
+  abbrev here : PageEntry
   here = entry_at (parts c).directory p
 
   abbrev Answers : Complex G → Reply → Core → Type 0
@@ -107,8 +107,8 @@ module _ {G : Type 0} (tell : Telling G) (c : Complex G) (i p : ℕ) (mode : Mod
     pub has-served : holds_as mode here i ≡ true → Serving tell event (Some reply.Have) c c
     has-served has = (
       (λ w f.
-          let there : holds_as mode (w.pages.entry p) i ≡ true = ap (λ (e : Entry). holds_as mode e i) (f.pages.entry p) ∙ has in
-          let room : LacksFrame w.pages event → ⊥ = λ lacks. Asked.has-pool mode (w.pages.entry p) i there lacks.0 in (
+          let there : holds_as mode (w.pages.entry p) i ≡ true = ap (λ (e : PageEntry). holds_as mode e i) (f.pages.entry p) ∙ has in
+          let room : PoolIsFull w.pages event → ⊥ = λ lacks. Asked.has-pool mode (w.pages.entry p) i there lacks.0 in (
             passed w w.scene.waits event reply.Have,
             still-serves tell event reply.Have c c w (passed w w.scene.waits event reply.Have) refl now f
                 (Asked.have-turns (tell.seen c.rig) (tell.leaves c.rig) (parts c) i p mode low high w f may room w.pages
@@ -120,8 +120,8 @@ module _ {G : Type 0} (tell : Telling G) (c : Complex G) (i p : ℕ) (mode : Mod
 
     -- ---- a page that no pool has
 
-    module _ (free : here ≡ Entry.Free) (pool : IsPool (pool_at (parts c) i))
-        (past : (q : ℕ) → 1024 ≤ q → entry_at (parts c).directory q ≡ Entry.Free) where
+    module _ (free : here ≡ PageEntry.Free) (pool : IsPool (pool_at (parts c) i))
+        (past : (q : ℕ) → 1024 ≤ q → entry_at (parts c).directory q ≡ PageEntry.Free) where
       absent : (w : Core) (f : fits_by tell.seen tell.leaves c w) → is_free (w.pages.entry p) ≡ true
       absent w f = ap is_free (f.pages.entry p ∙ free)
 
@@ -140,9 +140,9 @@ module _ {G : Type 0} (tell : Telling G) (c : Complex G) (i p : ℕ) (mode : Mod
         -- no pool has the page, so this one has no copy of it
         no-copy : (w : Core) (f : fits_by tell.seen tell.leaves c w) → buffers.image_at (pool_at (parts c) i) p ≡ None
         no-copy w f = not-copied _ _ (holds here i) ((f.good.half (λ j. false)).coherent.copies i p)
-            (ap (λ (e : Entry). holds e i) free)
+            (ap (λ (e : PageEntry). holds e i) free)
 
-        roomy : (w : Core) (f : fits_by tell.seen tell.leaves c w) → LacksFrame w.pages event → ⊥
+        roomy : (w : Core) (f : fits_by tell.seen tell.leaves c w) → PoolIsFull w.pages event → ⊥
         roomy w f lacks = frames-left (tell.seen c.rig) (tell.leaves c.rig) Pending.Idle
             (parts c) w.scene.state f.good w.pages f.pages
             i 1024 low high pool past (λ all. room (no-copy w f, all)) lacks.1
@@ -198,12 +198,12 @@ module _ {G : Type 0} (tell : Telling G) (c : Complex G) (i p : ℕ) (mode : Mod
               → Good (tell.seen new.rig) (tell.leaves new.rig) pend (parts new) m)
               (quiet : tell.faults read.rig ≡ tell.faults c.rig) where
             fits-fetched : (w : Core) → fits_by tell.seen tell.leaves c w
-                → fits_by tell.seen tell.leaves new (repaged w (placed p (locked i mode) w.pages) event reply.Have)
+                → fits_by tell.seen tell.leaves new (repaged w (page_placed p (locked i mode) w.pages) event reply.Have)
             fits-fetched w before =
                 let f : fits_by tell.seen tell.leaves read w = fits-read w before in
                 let pools : List Buffers = slice_set (parts read).pools (i - 1) (with_page (pool_at (parts read) i) p image) in
                 moved-fits tell read new w f pools (parts new).directory stays is (locks Pending.Idle w.scene.state f.good)
-                (placed p (locked i mode) w.pages) (bounds_after w.bounds event reply.Have)
+                (page_placed p (locked i mode) w.pages) (bounds_after w.bounds event reply.Have)
                 (placed-pages pools (parts new).directory (tell.seen read.rig) (tell.leaves read.rig) (parts read) w f
                 (frames-kept (parts read) i (with_page (pool_at (parts read) i) p image) (parts new).directory low high
                 f.good.shape.pools refl)
@@ -213,11 +213,11 @@ module _ {G : Type 0} (tell : Telling G) (c : Complex G) (i p : ℕ) (mode : Mod
             pub fetched : Serving tell event (Some reply.Have) c new
             fetched = (
               (λ w f.
-                  let next : Core = repaged w (placed p (locked i mode) w.pages) event reply.Have in (
+                  let next : Core = repaged w (page_placed p (locked i mode) w.pages) event reply.Have in (
                     next,
                     read-serves tell event reply.Have c new w next (unchanged-to tell c.rig read.rig new.rig stays u) now f
                         (Asked.have-turns (tell.seen c.rig) (tell.leaves c.rig) (parts c) i p mode low high w f may (roomy w f)
-                        (placed p (locked i mode) w.pages) (Asked.gets-free i p mode w.pages (f.pages.entry p ∙ free)))
+                        (page_placed p (locked i mode) w.pages) (Asked.gets-free i p mode w.pages (f.pages.entry p ∙ free)))
                         (fits-fetched w f),
                   )),
               ap tell.faults stays ∙ quiet,
@@ -227,12 +227,12 @@ module _ {G : Type 0} (tell : Telling G) (c : Complex G) (i p : ℕ) (mode : Mod
 
     module _ (lacks : holds_as mode here i ≡ false) (pooled : is_free here ≡ false) where
       lacking : (w : Core) (f : fits_by tell.seen tell.leaves c w) → holds_as mode (w.pages.entry p) i ≡ false
-      lacking w f = ap (λ (e : Entry). holds_as mode e i) (f.pages.entry p) ∙ lacks
+      lacking w f = ap (λ (e : PageEntry). holds_as mode e i) (f.pages.entry p) ∙ lacks
 
       in-pool : (w : Core) (f : fits_by tell.seen tell.leaves c w) → is_free (w.pages.entry p) ≡ false
       in-pool w f = ap is_free (f.pages.entry p) ∙ pooled
 
-      no-need : (w : Core) (f : fits_by tell.seen tell.leaves c w) → LacksFrame w.pages event → ⊥
+      no-need : (w : Core) (f : fits_by tell.seen tell.leaves c w) → PoolIsFull w.pages event → ⊥
       no-need w f none = unlike (in-pool w f) none.0
 
       module _ (new : Complex G) (same : new.rig ≡ c.rig) (is : parts new ≡ with_directory (parts new).directory (parts c))
@@ -243,20 +243,20 @@ module _ {G : Type 0} (tell : Telling G) (c : Complex G) (i p : ℕ) (mode : Mod
           pub raised-served : Serving tell event (Some reply.Have) c new
           raised-served = (
             (λ w f.
-                let to : Entry = raised i (w.pages.entry p) in
-                let next : Core = repaged w (placed p to w.pages) event reply.Have in (
+                let to : PageEntry = raised i (w.pages.entry p) in
+                let next : Core = repaged w (page_placed p to w.pages) event reply.Have in (
                   next,
                   still-serves tell event reply.Have c new w next (sym same) now f
                       (Asked.have-turns (tell.seen c.rig) (tell.leaves c.rig) (parts c) i p mode low high w f may (no-need w f)
-                      (placed p to w.pages) (Asked.gets-raised i p mode w.pages (lacking w f) (in-pool w f)
+                      (page_placed p to w.pages) (Asked.gets-raised i p mode w.pages (lacking w f) (in-pool w f)
                       (ap (may_raise i) (f.pages.entry p) ∙ may_raise_it)))
                       (moved-fits tell c new w f (parts c).pools (parts new).directory same is
                       (good Pending.Idle w.scene.state f.good)
-                      (placed p to w.pages) (bounds_after w.bounds event reply.Have)
+                      (page_placed p to w.pages) (bounds_after w.bounds event reply.Have)
                       (placed-pages (parts c).pools (parts new).directory (tell.seen c.rig) (tell.leaves c.rig)
                       (parts c) w f (λ j. refl)
                       p to None
-                      (subst (λ (e : Entry). IsSet p (raised i e) None (parts c).directory (parts new).directory) (sym
+                      (subst (λ (e : PageEntry). IsSet p (raised i e) None (parts c).directory (parts new).directory) (sym
                       (f.pages.entry p)) set)
                       (λ there. ap is_lost (f.pages.entry p) ∙ may.found))
                       (bounds-stay (tell.seen c.rig) (parts c) w.bounds event reply.Have f.bounds)),

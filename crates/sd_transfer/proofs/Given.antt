@@ -5,8 +5,8 @@ use Rattle.sd_base.specs.declared.place.Mode.{Mode}
 use Rattle.sd_base.specs.declared.place.Place.{Place}
 use Rattle.sd_base.specs.declared.refusal.Refusal.{Refusal}
 use Rattle.sd_base.specs.declared.refusal.Refusal.TheVariants as R
-use Rattle.sd_rig.specs.Devices.{Image, Leaves}
-use Rattle.sd_model.specs.Applies.{Serves as Standing}
+use Rattle.sd_rig.specs.Devices.{DeviceImages, Leaves}
+use Rattle.sd_model.specs.Applies.{MayServe}
 use Rattle.sd_model.specs.Causes.{order}
 use Rattle.sd_model.specs.State.{State}
 use Rattle.sd_model.specs.declared.cause.Cause.{Cause}
@@ -15,9 +15,9 @@ use Rattle.sd_model.specs.declared.event.Event.TheVariants.{Give}
 use Rattle.sd_model.specs.declared.event.Reply.TheVariants as reply
 use Rattle.sd_pagelock.specs.Asks.{oldest}
 use Rattle.sd_pagelock.specs.Directory.{asks_at, entry_at}
-use Rattle.sd_pagelock.specs.Places.{Entry, holds, is_lost, owns, passes, receives, seen}
+use Rattle.sd_pagelock.specs.Places.{PageEntry, holds, is_lost, owns, passes, receives, seen}
 use Rattle.sd_world.specs.PageCauses.{IsAway, IsLostFor, IsUnasked, IsUnderWay, NoneSays}
-use Rattle.sd_world.specs.Pages.{given, placed}
+use Rattle.sd_world.specs.Pages.{given, page_placed}
 use Rattle.sd_world.specs.Serving.{Core, Serves, Telling, refused}
 use Rattle.sd_state.specs.Complexes.{parts}
 use Rattle.sd_state.specs.Good.{Good}
@@ -35,8 +35,8 @@ use Rattle.sd_writer.specs.Breaking.{BreaksBy}
 use Rattle.sd_writer.specs.Forcing.{OnlyLogs}
 
 module _ {G : Type 0} (tell : Telling G) (c : Complex G) (j p : ℕ) (low : 1 ≤ j) (high : j ≤ 8)
-    (now : (img : Image) → tell.since c.rig (tell.moment c.rig) img → Leaves (tell.leaves c.rig) img) where
-  abbrev here : Entry
+    (now : (img : DeviceImages) → tell.since c.rig (tell.moment c.rig) img → Leaves (tell.leaves c.rig) img) where
+  abbrev here : PageEntry
   here = entry_at (parts c).directory p
 
   abbrev event : Event
@@ -48,10 +48,10 @@ module _ {G : Type 0} (tell : Telling G) (c : Complex G) (j p : ℕ) (low : 1 �
     abbrev m : State
     m = w.scene.state
 
-    stands : is_active (parts c) j ≡ true → (Standing m event → ⊥) → ⊥
+    stands : is_active (parts c) j ≡ true → (MayServe m event → ⊥) → ⊥
     stands active none = none (active-serves (tell.seen c.rig) (tell.leaves c.rig) (parts c) w f j low high active)
 
-    falls : is_active (parts c) j ≡ false → Standing m event → ⊥
+    falls : is_active (parts c) j ≡ false → MayServe m event → ⊥
     falls idle is = idle-refuses (tell.seen c.rig) (tell.leaves c.rig) (parts c) w f j low high idle is
 
     found : is_lost here ≡ false → IsLostFor m w.pages event → ⊥
@@ -61,7 +61,7 @@ module _ {G : Type 0} (tell : Telling G) (c : Complex G) (j p : ℕ) (low : 1 �
     rests is moves = unlike is (sym (ap passes (f.pages.entry p)) ∙ moves)
 
     there : holds here j ≡ true → IsAway m w.pages event → ⊥
-    there is away = unlike away (ap (λ (e : Entry). holds e j) (f.pages.entry p) ∙ is)
+    there is away = unlike away (ap (λ (e : PageEntry). holds e j) (f.pages.entry p) ∙ is)
 
     asked : (to : ℕ) (mode : Mode) → oldest j (asks_at (parts c).directory p) ≡ Some (to, mode) → IsUnasked w.pages event → ⊥
     asked to mode is none =
@@ -121,7 +121,7 @@ module _ {G : Type 0} (tell : Telling G) (c : Complex G) (j p : ℕ) (low : 1 �
       refuses = refl;
       passes = (tt, (tt, (found not_lost, tt)));
       says = λ yes. ap passes (f.pages.entry p) ∙ moves;
-      place = ap (λ (e : Entry). receives e to) (f.pages.entry p) ∙ takes;
+      place = ap (λ (e : PageEntry). receives e to) (f.pages.entry p) ∙ takes;
       left = refl;
     }
 
@@ -137,7 +137,7 @@ module _ {G : Type 0} (tell : Telling G) (c : Complex G) (j p : ℕ) (low : 1 �
       first = (refl, (f.good.not_closed, (stands active, (tt, (tt, tt)))), tt);
       refuses = refl;
       passes = (tt, (tt, (found not_lost, (rests still, tt))));
-      says = λ yes. ap (λ (e : Entry). holds e j) (f.pages.entry p) ∙ lacks;
+      says = λ yes. ap (λ (e : PageEntry). holds e j) (f.pages.entry p) ∙ lacks;
       place = is ∙ sym (f.pages.entry p);
       left = refl;
     }
@@ -199,7 +199,7 @@ module _ {G : Type 0} (tell : Telling G) (c : Complex G) (j p : ℕ) (low : 1 �
     given-served new same only frames good set =
         passed-served tell c new p (given j (to, mode)) same only frames good set may.found now event (reply.Gave to)
         (ap tell.faults same)
-        (λ w f. turns-repaged w (placed p (given j (to, mode) (w.pages.entry p)) w.pages) event (reply.Gave to)
+        (λ w f. turns-repaged w (page_placed p (given j (to, mode) (w.pages.entry p)) w.pages) event (reply.Gave to)
         ((f.good.not_closed, (stands w f may.active, (tt, (tt, (tt, (tt, (tt, tt))))))), refl)
         (λ t. sym (none-ended (tell.seen c.rig) (tell.leaves c.rig) (parts c) w f t))
         tt tt (none w f, (mode, ap (oldest j) (f.pages.asks p) ∙ may.asked, refl)) tt)

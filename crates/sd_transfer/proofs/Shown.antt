@@ -2,13 +2,13 @@
 use Rattle.std.proofs.Common.{◌≡◌, ℕ, false, refl, sym, ap, ◌∙◌}
 use Rattle.std.specs.Prelude.{Some}
 use Rattle.sd_base.specs.declared.place.Place.{Place}
-use Rattle.sd_rig.specs.Devices.{Image, Leaves}
+use Rattle.sd_rig.specs.Devices.{DeviceImages, Leaves}
 use Rattle.sd_model.specs.declared.event.Event.{Event}
 use Rattle.sd_model.specs.declared.event.Event.TheVariants.{Show}
 use Rattle.sd_model.specs.declared.event.Reply.{Reply}
 use Rattle.sd_model.specs.declared.event.Reply.TheVariants as reply
 use Rattle.sd_pagelock.specs.Directory.{entry_at}
-use Rattle.sd_pagelock.specs.Places.{Entry, is_lost, seen}
+use Rattle.sd_pagelock.specs.Places.{PageEntry, is_lost, seen}
 use Rattle.sd_world.specs.Pages.{number_shown}
 use Rattle.sd_world.specs.Serving.{Core, Telling, Turns}
 use Rattle.sd_state.specs.Complexes.{parts}
@@ -20,15 +20,15 @@ use Rattle.sd_fits.proofs.Served.{none-ended, nothing-fits, passed, still-serves
 -- ---- what the world says of it
 
 -- the number of a page that isn't lost is shown by its newest version
-shown-by : (e : Entry) (a b : ℕ) → (is_lost e ≡ false → a ≡ b) → number_shown e a ≡ number_shown e b
-shown-by Entry.Free a b same = refl
-shown-by (Entry.Shared set writer) a b same = same refl
-shown-by (Entry.Excl holder dirty) a b same = same refl
-shown-by (Entry.Moving to mode rest dirty) a b same = same refl
-shown-by Entry.Lost a b same = refl
+shown-by : (e : PageEntry) (a b : ℕ) → (is_lost e ≡ false → a ≡ b) → number_shown e a ≡ number_shown e b
+shown-by PageEntry.Free a b same = refl
+shown-by (PageEntry.Shared set writer) a b same = same refl
+shown-by (PageEntry.Excl holder dirty) a b same = same refl
+shown-by (PageEntry.Moving to mode rest dirty) a b same = same refl
+shown-by PageEntry.Lost a b same = refl
 
 module _ {G : Type 0} (tell : Telling G) (c : Complex G) (p : ℕ)
-    (now : (img : Image) → tell.since c.rig (tell.moment c.rig) img → Leaves (tell.leaves c.rig) img)
+    (now : (img : DeviceImages) → tell.since c.rig (tell.moment c.rig) img → Leaves (tell.leaves c.rig) img)
     (place : Place) (lsn : ℕ) (is : seen place ≡ entry_at (parts c).directory p)
     (newest_lsn : lsn ≡ number_shown (seen place) (newest_of (tell.seen c.rig) (tell.leaves c.rig) (parts c) p).lsn) where
   abbrev event : Event
@@ -44,7 +44,7 @@ module _ {G : Type 0} (tell : Telling G) (c : Complex G) (p : ℕ)
     number : lsn ≡ number_shown (w.pages.entry p) (w.pages.number p)
     number =
         let n : ℕ = (newest_of (tell.seen c.rig) (tell.leaves c.rig) (parts c) p).lsn in
-        newest_lsn ∙ ap (λ (e : Entry). number_shown e n) entry
+        newest_lsn ∙ ap (λ (e : PageEntry). number_shown e n) entry
         ∙ sym (shown-by (w.pages.entry p) (w.pages.number p) n (f.pages.number p))
 
     turns : Turns w event answer (passed w w.scene.waits event answer)

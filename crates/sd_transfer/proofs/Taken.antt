@@ -6,8 +6,8 @@ use Rattle.sd_base.specs.declared.place.Place.{Place}
 use Rattle.sd_base.specs.declared.refusal.Refusal.{Refusal}
 use Rattle.sd_base.specs.declared.refusal.Refusal.TheVariants as R
 use Rattle.sd_page.specs.Page.{Page}
-use Rattle.sd_rig.specs.Devices.{Image, Leaves}
-use Rattle.sd_model.specs.Applies.{Serves as Standing}
+use Rattle.sd_rig.specs.Devices.{DeviceImages, Leaves}
+use Rattle.sd_model.specs.Applies.{MayServe}
 use Rattle.sd_model.specs.Causes.{order}
 use Rattle.sd_model.specs.State.{State}
 use Rattle.sd_model.specs.declared.cause.Cause.{Cause}
@@ -15,12 +15,12 @@ use Rattle.sd_model.specs.declared.event.Event.{Event}
 use Rattle.sd_model.specs.declared.event.Event.TheVariants.{Take}
 use Rattle.sd_model.specs.declared.event.Reply.TheVariants as reply
 use Rattle.sd_pagelock.specs.Directory.{asks_at, entry_at}
-use Rattle.sd_pagelock.specs.Places.{Entry, Formed, holds, is_lost, receives, seen}
+use Rattle.sd_pagelock.specs.Places.{Formed, PageEntry, holds, is_lost, receives, seen}
 use Rattle.sd_pagelock.specs.Rows.{taken}
 use Rattle.sd_pool.specs.Buffers as buffers
 use Rattle.sd_pool.specs.Buffers.{Buffers, IsPool, with_page}
-use Rattle.sd_world.specs.PageCauses.{IsAway, IsLostFor, LacksFrame, NoneSays}
-use Rattle.sd_world.specs.Pages.{held, placed}
+use Rattle.sd_world.specs.PageCauses.{IsAway, IsLostFor, NoneSays, PoolIsFull}
+use Rattle.sd_world.specs.Pages.{held_count, page_placed}
 use Rattle.sd_world.specs.Serving.{Core, Serves, Telling, refused}
 use Rattle.sd_state.specs.Complexes.{parts}
 use Rattle.sd_state.specs.Good.{Good}
@@ -40,20 +40,20 @@ use Rattle.sd_transfer.specs.Taking.{IsUntaken, MayTake}
 use Rattle.sd_transfer.proofs.Fetched.{not-copied}
 
 -- the receiver of a page has no copy of it
-receiver-lacks : (i : ℕ) (e : Entry) → Formed e → receives e i ≡ true → holds e i ≡ false
-receiver-lacks i Entry.Free formed comes = absurd (cc)
-receiver-lacks i (Entry.Shared set writer) formed comes = absurd (cc)
-receiver-lacks i (Entry.Excl holder dirty) formed comes = absurd (cc)
-receiver-lacks i (Entry.Moving to mode rest dirty) formed comes = ap (λ (k : ℕ). has k rest) (sym (eqb-true to i comes)) ∙ formed.1
-receiver-lacks i Entry.Lost formed comes = absurd (cc)
+receiver-lacks : (i : ℕ) (e : PageEntry) → Formed e → receives e i ≡ true → holds e i ≡ false
+receiver-lacks i PageEntry.Free formed comes = absurd (cc)
+receiver-lacks i (PageEntry.Shared set writer) formed comes = absurd (cc)
+receiver-lacks i (PageEntry.Excl holder dirty) formed comes = absurd (cc)
+receiver-lacks i (PageEntry.Moving to mode rest dirty) formed comes = ap (λ (k : ℕ). has k rest) (sym (eqb-true to i comes)) ∙ formed.1
+receiver-lacks i PageEntry.Lost formed comes = absurd (cc)
 
 -- but for pools and directory a complex stays that is given both
 pub only-pages : (old new : Parts) (i : ℕ) (pool : Buffers) → new ≡ with_place i pool new.directory old → OnlyPages old new
 only-pages old new i pool is = is ∙ ap (λ (k : Parts). record old { pools = k.pools; directory = new.directory }) (sym is)
 
 module _ {G : Type 0} (tell : Telling G) (c : Complex G) (i p : ℕ) (low : 1 ≤ i) (high : i ≤ 8)
-    (now : (img : Image) → tell.since c.rig (tell.moment c.rig) img → Leaves (tell.leaves c.rig) img) where
-  abbrev here : Entry
+    (now : (img : DeviceImages) → tell.since c.rig (tell.moment c.rig) img → Leaves (tell.leaves c.rig) img) where
+  abbrev here : PageEntry
   here = entry_at (parts c).directory p
 
   abbrev event : Event
@@ -65,17 +65,17 @@ module _ {G : Type 0} (tell : Telling G) (c : Complex G) (i p : ℕ) (low : 1 �
     abbrev m : State
     m = w.scene.state
 
-    stands : is_active (parts c) i ≡ true → (Standing m event → ⊥) → ⊥
+    stands : is_active (parts c) i ≡ true → (MayServe m event → ⊥) → ⊥
     stands active none = none (active-serves (tell.seen c.rig) (tell.leaves c.rig) (parts c) w f i low high active)
 
-    falls : is_active (parts c) i ≡ false → Standing m event → ⊥
+    falls : is_active (parts c) i ≡ false → MayServe m event → ⊥
     falls idle is = idle-refuses (tell.seen c.rig) (tell.leaves c.rig) (parts c) w f i low high idle is
 
     found : is_lost here ≡ false → IsLostFor m w.pages event → ⊥
     found is lost = unlike is (sym (ap is_lost (f.pages.entry p)) ∙ lost)
 
     comes : receives here i ≡ true → IsAway m w.pages event → ⊥
-    comes is away = unlike away (ap (λ (e : Entry). receives e i) (f.pages.entry p) ∙ is)
+    comes is away = unlike away (ap (λ (e : PageEntry). receives e i) (f.pages.entry p) ∙ is)
 
     -- ---- a refusal
 
@@ -130,12 +130,12 @@ module _ {G : Type 0} (tell : Telling G) (c : Complex G) (i p : ℕ) (low : 1 �
       first = (refl, (f.good.not_closed, (stands active, (tt, tt))), tt);
       refuses = refl;
       passes = (tt, (tt, (found not_lost, tt)));
-      says = λ yes. ap (λ (e : Entry). receives e i) (f.pages.entry p) ∙ lacks;
+      says = λ yes. ap (λ (e : PageEntry). receives e i) (f.pages.entry p) ∙ lacks;
       place = is ∙ sym (f.pages.entry p);
       left = refl;
     }
 
-    full : MayTake (parts c) i p → w.pages.frames ≤ held w.pages.entry i 1024 → IsFor m w event R.PoolFull Cause.Frame
+    full : MayTake (parts c) i p → w.pages.frames ≤ held_count w.pages.entry i 1024 → IsFor m w event R.PoolFull Cause.Frame
     full may all = record {
       waits = refl;
       whom = tt;
@@ -161,7 +161,7 @@ module _ {G : Type 0} (tell : Telling G) (c : Complex G) (i p : ℕ) (low : 1 �
   -- ---- the page moves to the instance
 
   module _ (may : MayTake (parts c) i p) (pool : IsPool (pool_at (parts c) i))
-      (past : (q : ℕ) → 1024 ≤ q → entry_at (parts c).directory q ≡ Entry.Free) where
+      (past : (q : ℕ) → 1024 ≤ q → entry_at (parts c).directory q ≡ PageEntry.Free) where
     -- its pool has no frame for it
     pub full-served : buffers.LacksFrame (pool_at (parts c) i) p → Serving tell event (Some (reply.Refused R.PoolFull)) c c
     full-served lacks = (
@@ -178,7 +178,7 @@ module _ {G : Type 0} (tell : Telling G) (c : Complex G) (i p : ℕ) (low : 1 �
       no-copy w f = not-copied _ _ (holds here i) ((f.good.half (λ j. false)).coherent.copies i p)
           (receiver-lacks i here formed may.receiver)
 
-      roomy : (w : Core) (f : fits_by tell.seen tell.leaves c w) → LacksFrame w.pages event → ⊥
+      roomy : (w : Core) (f : fits_by tell.seen tell.leaves c w) → PoolIsFull w.pages event → ⊥
       roomy w f lacks = frames-left (tell.seen c.rig) (tell.leaves c.rig) Pending.Idle
           (parts c) w.scene.state f.good w.pages f.pages
           i 1024 low high pool past (λ all. room (no-copy w f, all)) lacks
@@ -199,7 +199,7 @@ module _ {G : Type 0} (tell : Telling G) (c : Complex G) (i p : ℕ) (low : 1 �
             (λ j. ap (λ (k : Parts). (pool_at k j).frames) is
             ∙ frames-kept (parts c) i (with_page (pool_at (parts c) i) p image) (parts new).directory low high f.good.shape.pools refl j)
             good set may.found now event reply.Did (ap tell.faults same)
-            (λ w f. turns-repaged w (placed p (taken (w.pages.entry p)) w.pages) event reply.Did
+            (λ w f. turns-repaged w (page_placed p (taken (w.pages.entry p)) w.pages) event reply.Did
             ((f.good.not_closed, (stands w f may.active, (tt, (tt, (tt, tt))))), refl)
             (λ t. sym (none-ended (tell.seen c.rig) (tell.leaves c.rig) (parts c) w f t))
             tt tt (none w f, refl) tt)

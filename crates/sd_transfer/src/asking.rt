@@ -9,7 +9,7 @@ ghost use Rattle.sd_model.specs.declared.event.Event.TheVariants as event;
 ghost use Rattle.sd_model.specs.declared.event.Reply.TheVariants as reply;
 ghost use Rattle.sd_pagelock.specs.Directory.{entry_at};
 ghost use Rattle.sd_pagelock.specs.Places as places;
-ghost use Rattle.sd_pagelock.specs.Places.{holds_as, seen, Entry, Formed};
+ghost use Rattle.sd_pagelock.specs.Places.{holds_as, seen, Formed, PageEntry};
 ghost use Rattle.sd_pagelock.specs.Rows.{may_raise};
 ghost use Rattle.sd_pool.specs.Buffers.{LacksFrame, IsPool};
 ghost use Rattle.sd_rig.specs.Devices.{IsUnchanged};
@@ -89,7 +89,7 @@ fn may_ask<G: Rig>(c: &Complex<G>, i: InstNo, p: PageNo) -> Result<Place, Refusa
 fn fetch<G: Rig>(c: &mut Complex<G>, i: InstNo, p: PageNo, mode: Mode) -> Result<(), Refusal>
     requires fits { (w : Core) × Fits (G.seen c.old.rig) (G.leaves c.old.rig) (parts c.old) w }
     requires may { MayAsk (parts c.old) i p }
-    requires free { entry_at (parts c.old).directory p ≡ Entry.Free }
+    requires free { entry_at (parts c.old).directory p ≡ PageEntry.Free }
     ensures served { Serving (telling G.seen G.leaves G.moment G.since G.faults) (event.Ask i p mode)
         (answered (λ x. reply.Have) result) c.old c.new }
     ensures still { IsUnchanged (G.seen c.old.rig) (G.seen c.new.rig) (G.leaves c.old.rig) (G.leaves c.new.rig)
@@ -109,7 +109,7 @@ pub(crate) fn lacks_frame<G: Rig>(c: &Complex<G>, i: InstNo, p: PageNo) -> bool
     requires { IsShape (parts c.now) }
     ensures full { IsTrue result ↔ LacksFrame (pool_at (parts c.now) i) p }
     ensures pool { IsPool (pool_at (parts c.now) i) }
-    ensures past { (q : ℕ) → 1024 ≤ q → entry_at (parts c.now).directory q ≡ Entry.Free }
+    ensures past { (q : ℕ) → 1024 ≤ q → entry_at (parts c.now).directory q ≡ PageEntry.Free }
 {
     c.directory.keeps();
     let pool = &c.pools[i.get() as usize - 1];

@@ -2,7 +2,7 @@
 use Rattle.std.proofs.Common.{◌≡◌, ◌≢◌, inl, ℕ, ◌+◌, ◌<◌, ◌≤◌, List, length, refl, subst, arith}
 use Rattle.std.specs.Prelude.{IfSome}
 use Rattle.sd_base.specs.Twin.{Slot, Same, chosen_body, chosen_slot, number_of}
-use Rattle.sd_rig.specs.Devices.{AgreesOutside, Image, LeavesSame}
+use Rattle.sd_rig.specs.Devices.{AgreesOutside, DeviceImages, LeavesSame}
 use Rattle.sd_rig.specs.Ranges.{outside_then, outside_wider}
 use Rattle.sd_gate.specs.declared.slots.Chosen.{Chosen}
 use Rattle.sd_gate.specs.declared.slots.Chosen.TheVariants as C
@@ -33,7 +33,7 @@ twin_outside s at n m old new le a =
     let all : filled_gate s at n + m ≤ at + slots_len n = omega arith in
     outside_wider at (slots_len n) (filled_gate s at n) m old new a low all
 
-pub puts_close : (s : Slot) (dev gate at n : ℕ) (body : List ℕ) (seen : Image) (leaves : ℕ → List ℕ → Type 0) (img : Image) → gate ≡ filled_gate s at n → chosen_slot at n (seen dev) ≡ s → s ≢ Same → Closes dev gate seen leaves img → Puts dev at n body seen leaves img
+pub puts_close : (s : Slot) (dev gate at n : ℕ) (body : List ℕ) (seen : DeviceImages) (leaves : ℕ → List ℕ → Type 0) (img : DeviceImages) → gate ≡ filled_gate s at n → chosen_slot at n (seen dev) ≡ s → s ≢ Same → Closes dev gate seen leaves img → Puts dev at n body seen leaves img
 puts_close s dev gate at n body seen leaves img is e ne w =
     let here : Closes dev (filled_gate s at n) seen leaves img = subst (λ g. Closes dev g seen leaves img) is w in
     record {
@@ -45,7 +45,7 @@ puts_close s dev gate at n body seen leaves img is e ne w =
       differ = closing_differs s at n body (seen dev) (img dev) e ne here.outside here.shut;
     }
 
-pub puts_fill : (s : Slot) (dev gate at n : ℕ) (body : List ℕ) (seen seen' : Image) (leaves leaves' : ℕ → List ℕ → Type 0) (img : Image) → gate ≡ filled_gate s at n → length body ≡ n → chosen_slot at n (seen dev) ≡ s → s ≢ Same → IfSome (chosen_body at n (seen dev)) (λ b. number_of b < number_of body) → AgreesOutside gate 1 (seen dev) (seen' dev) → ((d : ℕ) → d ≢ dev → LeavesSame (leaves d) (leaves' d)) → Fills dev gate (length body) body seen' leaves' img → Puts dev at n body seen leaves img
+pub puts_fill : (s : Slot) (dev gate at n : ℕ) (body : List ℕ) (seen seen' : DeviceImages) (leaves leaves' : ℕ → List ℕ → Type 0) (img : DeviceImages) → gate ≡ filled_gate s at n → length body ≡ n → chosen_slot at n (seen dev) ≡ s → s ≢ Same → IfSome (chosen_body at n (seen dev)) (λ b. number_of b < number_of body) → AgreesOutside gate 1 (seen dev) (seen' dev) → ((d : ℕ) → d ≢ dev → LeavesSame (leaves d) (leaves' d)) → Fills dev gate (length body) body seen' leaves' img → Puts dev at n body seen leaves img
 puts_fill s dev gate at n body seen seen' leaves leaves' img is len e ne greater closed same w =
     let here : Fills dev (filled_gate s at n) n body seen' leaves' img = subst (λ m. Fills dev (filled_gate s at n) m body seen' leaves' img) len (subst (λ g. Fills dev g (length body) body seen' leaves' img) is w) in
     let first : AgreesOutside (filled_gate s at n) 1 (seen dev) (seen' dev) = subst (λ g. AgreesOutside g 1 (seen dev) (seen' dev)) is closed in

@@ -1,7 +1,7 @@
 -- What a put does to a twin, and what a crash may leave of it meanwhile.
 use Rattle.std.specs.Prelude.{◌≡◌, ◌≢◌, ◌⊎◌, ℕ, ◌+◌, Bool, true, false, List, Some}
 use Rattle.sd_base.specs.Twin.{Slot, Neither, First, Second, Same, body_at, chosen_body, chosen_slot, is_open}
-use Rattle.sd_rig.specs.Devices.{AgreesOutside, Image}
+use Rattle.sd_rig.specs.Devices.{AgreesOutside, DeviceImages}
 use Rattle.sd_gate.specs.Gates.{LeavesOthers}
 use Rattle.sd_gate.specs.Slots.{slots_len}
 
@@ -38,7 +38,7 @@ IsFrom gate n body old new =
     is_open gate new ≡ true → ((is_open gate old ≡ true) × (body_at n gate new ≡ body_at n gate old)) ⊎ (body_at n gate new ≡ body)
 
 -- An image in which the twin has its old body or the new one, whole, and all else is as it might be before.
-pub record Puts (dev at n : ℕ) (body : List ℕ) (seen : Image) (leaves : ℕ → List ℕ → Type 0) (img : Image) : Type 0 where
+pub record Puts (dev at n : ℕ) (body : List ℕ) (seen : DeviceImages) (leaves : ℕ → List ℕ → Type 0) (img : DeviceImages) : Type 0 where
   pub others : LeavesOthers dev leaves img
   pub outside : AgreesOutside at (slots_len n) (seen dev) (img dev)
   pub whole : (chosen_body at n (img dev) ≡ chosen_body at n (seen dev)) ⊎ (chosen_body at n (img dev) ≡ Some body)

@@ -9,7 +9,7 @@ use Rattle.sd_logrec.specs.View.{Rec}
 use Rattle.sd_logrec.specs.View.Kind.{Update}
 use Rattle.sd_log.specs.Logs.{LogState, flats, log_in, scanned}
 use Rattle.sd_chain.specs.Records.{Each, at, changes, home, of_rid}
-use Rattle.sd_chain.specs.Image.{Alone, Image, opens}
+use Rattle.sd_chain.specs.Storage.{Alone, Storage, opens}
 use Rattle.sd_undone.specs.Others.{all_in, last_of_others, other_lsn}
 use Rattle.sd_undone.proofs.Lasts.{last-append}
 use Rattle.sd_chain.proofs.Lists.{filter-cons, filter-skip, Each-weaker}
@@ -68,7 +68,7 @@ below-logs t p s n (log ∷ logs) pos b =
     let rest = below-logs t p s n logs pos (λ i. b (suc i)) in
     omega (arith, one, rest, last-append t p s (flats (scanned log)) (all_in logs))
 
-module _ (img : Image) (logs : List LogState) (logs_are : (j : ℕ) → img.logs j ≡ log_in logs j) where
+module _ (img : Storage) (logs : List LogState) (logs_are : (j : ℕ) → img.logs j ≡ log_in logs j) where
   pub alone-from : (t : TxnId) (x : Rec) → last_of_others t x.page x.slot (all_in logs) < x.lsn → Alone img t x
   alone-from t x lt j = subst (Below t x.page x.slot x.lsn) (sym (logs_are j)) (by j)
     where
@@ -92,7 +92,7 @@ of_rid-from p s x kind is =
     ∙ ap (λ (b : Bool). b && eqb x.slot s) (eq-eqb x.page p e.0) ∙ eq-eqb x.slot s e.1
 
 -- the stack of t is below a record that is alone, at its place
-below-alone : (img : Image) (t u : TxnId) (y : Rec) → t ≢ u → Alone img u y
+below-alone : (img : Storage) (t u : TxnId) (y : Rec) → t ≢ u → Alone img u y
     → Each (λ x. at y.page y.slot x ≡ true → x.lsn < y.lsn) (opens img t)
 below-alone img t u y ne alone =
     Each-stack (λ x. at y.page y.slot x ≡ true → x.lsn < y.lsn) t (img.logs (home t))
@@ -121,16 +121,16 @@ Each-swap R [] f = tt
 Each-swap R (x ∷ xs) f = ((λ a. (f a).0), Each-swap R xs (λ a. (f a).1))
 
 -- a record that is alone, and below those of u that are alone at its place
-abbrev Stands : Image → TxnId → TxnId → Rec → Type 0
+abbrev Stands : Storage → TxnId → TxnId → Rec → Type 0
 Stands img t u x = Alone img t x × ((w : Rec) → Alone img u w → at w.page w.slot x ≡ true → x.lsn < w.lsn)
 
-standing : (img : Image) (t u : TxnId) → t ≢ u → Each (Alone img t) (opens img t) → Each (Stands img t u) (opens img t)
+standing : (img : Storage) (t u : TxnId) → t ≢ u → Each (Alone img t) (opens img t) → Each (Stands img t u) (opens img t)
 standing img t u ne a =
     Each-both (Alone img t) (λ x. (w : Rec) → Alone img u w → at w.page w.slot x ≡ true → x.lsn < w.lsn) (opens img t) a
     (Each-swap (λ (w x : Rec). Alone img u w → at w.page w.slot x ≡ true → x.lsn < w.lsn) (opens img t)
     (λ w. Each-given (Alone img u w) (λ x. at w.page w.slot x ≡ true → x.lsn < w.lsn) (opens img t) (below-alone img t u w ne)))
 
-pub not-both : (img : Image) (p s : ℕ) (t u : TxnId) → t ≢ u → Each (Alone img t) (opens img t) → Each (Alone img u) (opens img u)
+pub not-both : (img : Storage) (p s : ℕ) (t u : TxnId) → t ≢ u → Each (Alone img t) (opens img t) → Each (Alone img u) (opens img u)
     → filter (at p s) (opens img t) ≢ [] → filter (at p s) (opens img u) ≡ []
 not-both img p s t u ne a b some = ⊎_elim (λ none. none) (λ more. absurd (by more)) (nil_or (filter (at p s) (opens img u)))
   where

@@ -6,7 +6,7 @@ use Rattle.sd_logrec.specs.View.{Rec}
 use Rattle.sd_base.specs.declared.ids.TxnId.{TxnId}
 use Rattle.sd_chain.specs.Records.{Val, at, Each}
 use Rattle.sd_chain.specs.Undoing.{undo_one, undo_all, EachFound, stacks_of, Member}
-use Rattle.sd_chain.specs.Image.{Image, Linked, opens}
+use Rattle.sd_chain.specs.Storage.{Linked, Storage, opens}
 use Rattle.sd_undone.proofs.Keys.{both}
 use Rattle.sd_undone.proofs.Steps.{found-front, found-back}
 use Rattle.sd_chain.proofs.Lists.{filter-cons, filter-skip}
@@ -23,7 +23,7 @@ undo-off f (x ∷ xs) p s e = ⊎_elim
     (cases_Bool (at p s x))
 
 -- a transaction's records at a place are linked where no other one listed has a record there
-pub member-linked : (img : Image) (t : TxnId) (p s : ℕ) (f : ℕ → ℕ → Val) (ts : List TxnId) → EachFound f (stacks_of img ts)
+pub member-linked : (img : Storage) (t : TxnId) (p s : ℕ) (f : ℕ → ℕ → Val) (ts : List TxnId) → EachFound f (stacks_of img ts)
     → Member t ts → Each (λ u. t ≢ u → filter (at p s) (opens img u) ≡ []) ts → Linked (f p s) (filter (at p s) (opens img t))
 member-linked img t p s f [] a m others = absurd m
 member-linked img t p s f (u ∷ us) a m others = ⊎_elim

@@ -9,13 +9,13 @@ use Rattle.sd_logrec.specs.View.{Rec}
 use Rattle.sd_logrec.specs.View.Kind.{Update}
 use Rattle.sd_log.specs.Logs.{AreSpelled, LogState, flats, scanned}
 use Rattle.sd_chain.specs.Records.{Each, Val, at, home, stack}
-use Rattle.sd_chain.specs.Image.{Alone, HasPlace, Image, Linked, Open, StackFits, now, opens}
+use Rattle.sd_chain.specs.Storage.{Alone, HasPlace, Linked, Open, StackFits, Storage, now, opens}
 use Rattle.sd_chain.specs.Undoing.{EachFound, Member, stacks_of, undo_all}
 use Rattle.sd_chain.proofs.Recover.{linked_found}
 use Rattle.sd_analysis.specs.declared.losers.Loser.{Loser}
 use Rattle.sd_analysis.specs.Losers.{IsLoser}
 use Rattle.sd_undone.specs.Others.{by_others}
-use Rattle.sd_undone.specs.Reading.{AreLosersOf, IsRead, txns_of}
+use Rattle.sd_undone.specs.Reading.{AreLosersOf, NewestAreRead, txns_of}
 use Rattle.sd_undone.specs.Stops.{FirstMisfit, StandsLowest, StopsAt, front_of}
 use Rattle.sd_undone.specs.Taking.{MayTake, open_in, picked, stacks_in}
 use Rattle.sd_undone.specs.Values.{slots_in, values_in}
@@ -40,12 +40,12 @@ filter-append-nil p s (x ∷ xs) ys e f = ⊎_elim
     (λ is. filter-skip (at p s) x (xs ++ ys) is ∙ filter-append-nil p s xs ys (sym (filter-skip (at p s) x xs is) ∙ e) f)
     (cases_Bool (at p s x))
 
-none-at : (img : Image) (p s : ℕ) (ts : List TxnId) → Each (λ u. filter (at p s) (opens img u) ≡ []) ts
+none-at : (img : Storage) (p s : ℕ) (ts : List TxnId) → Each (λ u. filter (at p s) (opens img u) ≡ []) ts
     → filter (at p s) (stacks_of img ts) ≡ []
 none-at img p s [] a = refl
 none-at img p s (t ∷ ts) a = filter-append-nil p s (opens img t) (stacks_of img ts) a.0 (none-at img p s ts a.1)
 
-module _ (img : Image) (pages : List Page) (logs : List LogState) (read : IsRead img pages logs) (ts : List TxnId) (t : TxnId)
+module _ (img : Storage) (pages : List Page) (logs : List LogState) (read : NewestAreRead img pages logs) (ts : List TxnId) (t : TxnId)
     (right : Each (λ u. Each (Right u) (opens img u)) ts) (own : Each (Right t) (opens img t)) (apart : Each (λ u. t ≢ u) ts) where
   pub fit-takes : MayTake pages (by_others logs) (stacks_of img ts) → StackFits img t
       → MayTake pages (by_others logs) (stacks_of img ts ++ opens img t)
@@ -99,8 +99,8 @@ apart-of (x ∷ ts) t us r =
 
 -- ---- the loser at which taking back stops
 
-module _ (img : Image) (pages : List Page) (logs : List LogState) (losers : List (List Loser)) (inst place : ℕ)
-    (read : IsRead img pages logs) (found : AreLosersOf logs losers) (spelled : All (λ log. AreSpelled (scanned log)) logs)
+module _ (img : Storage) (pages : List Page) (logs : List LogState) (losers : List (List Loser)) (inst place : ℕ)
+    (read : NewestAreRead img pages logs) (found : AreLosersOf logs losers) (spelled : All (λ log. AreSpelled (scanned log)) logs)
     (s : StopsAt pages (by_others logs) logs losers inst place) where
   h : AtLog img 1 s.number logs losers s.log s.own
   h = at_log img 1 s.number logs losers s.log s.own (follows-all img logs losers read.logs_are found) found s.log_is s.own_are

@@ -5,7 +5,7 @@ use Rattle.sd_base.specs.Ids.{IsBelow}
 use Rattle.sd_logrec.specs.View.{Rec}
 use Rattle.sd_log.specs.Logs.{LogState, flats, scanned}
 use Rattle.sd_chain.specs.Records.{Each}
-use Rattle.sd_chain.specs.Image.{Image}
+use Rattle.sd_chain.specs.Storage.{Storage}
 use Rattle.sd_chain.specs.Undoing.{stacks_of}
 use Rattle.sd_analysis.specs.declared.losers.Loser.{Loser}
 use Rattle.sd_undone.specs.Reading.{AreLosersFrom, IsLosersOf, txns_of}
@@ -15,13 +15,13 @@ use Rattle.sd_undone.proofs.Stacks.{stacks-append}
 
 -- ---- a log among those from log k on, and its losers
 
-pub record AtLog (img : Image) (k j : ℕ) (logs : List LogState) (losers : List (List Loser)) (log : LogState) (ls : List Loser) : Type 0 where
+pub record AtLog (img : Storage) (k j : ℕ) (logs : List LogState) (losers : List (List Loser)) (log : LogState) (ls : List Loser) : Type 0 where
   pub front : open_in (take j logs) (take j losers) ≡ stacks_of img (txns_of (take j losers))
   pub own : IsLosersOf (k + j) log ls
   pub log_is : img.logs (k + j) ≡ flats (scanned log)
   pub txns : txns_of losers ≡ txns_of (take j losers) ++ (ids ls ++ txns_of (drop (suc j) losers))
 
-pub at_log : (img : Image) (k j : ℕ) (logs : List LogState) (losers : List (List Loser)) (log : LogState) (ls : List Loser)
+pub at_log : (img : Storage) (k j : ℕ) (logs : List LogState) (losers : List (List Loser)) (log : LogState) (ls : List Loser)
     → Follows img k logs → AreLosersFrom k logs losers → slice_get logs j ≡ Some log → slice_get losers j ≡ Some ls
     → AtLog img k j logs losers log ls
 at_log img k j [] [] log ls f a e g = absurd (cc)

@@ -17,12 +17,12 @@ use Rattle.sd_log.specs.declared.placed.Placed.{Placed}
 use Rattle.sd_log.specs.Logs.{AreSpelled, LogState, flats, log_in, scanned}
 use Rattle.sd_chain.specs.Records.{Each, IsOpen, home, stack}
 use Rattle.sd_chain.specs.Order.{of_txn}
-use Rattle.sd_chain.specs.Image.{Image, Open, opens}
+use Rattle.sd_chain.specs.Storage.{Open, Storage, opens}
 use Rattle.sd_chain.specs.Laws.{AreOpen}
 use Rattle.sd_chain.specs.Undoing.{Apart, Member, stacks_of}
 use Rattle.sd_analysis.specs.declared.losers.Loser.{Loser}
 use Rattle.sd_analysis.specs.Losers.{AreAt, AreLosers, IsLoser, Rise, record_at}
-use Rattle.sd_undone.specs.Reading.{AreLosersFrom, AreLosersOf, IsLosersOf, IsRead, txns_of}
+use Rattle.sd_undone.specs.Reading.{AreLosersFrom, AreLosersOf, IsLosersOf, NewestAreRead, txns_of}
 use Rattle.sd_undone.specs.Taking.{open_in, picked, stacks_in}
 use Rattle.sd_undone.proofs.Alones.{log_at}
 use Rattle.sd_undone.proofs.Stacks.{member-back, member-front, stacks-append}
@@ -52,11 +52,11 @@ Each-both P Q R f [] a b = tt
 Each-both P Q R f (x ∷ xs) a b = (f x a.0 b.0, Each-both P Q R f xs a.1 b.1)
 
 -- the image's logs from j on are these
-abbrev pub Follows : Image → ℕ → List LogState → Type 0
+abbrev pub Follows : Storage → ℕ → List LogState → Type 0
 Follows img j [] = Unit {0}
 Follows img j (log ∷ logs) = (img.logs j ≡ flats (scanned log)) × Follows img (suc j) logs
 
-follows : (img : Image) (logs : List LogState) (j : ℕ) → ((i : ℕ) → img.logs (j + i) ≡ log_at logs i) → Follows img j logs
+follows : (img : Storage) (logs : List LogState) (j : ℕ) → ((i : ℕ) → img.logs (j + i) ≡ log_at logs i) → Follows img j logs
 follows img [] j h = tt
 follows img (log ∷ logs) j h = (
   (let e : j ≡ j + 0 = omega arith in ap img.logs e ∙ h 0),
@@ -93,7 +93,7 @@ right-stack t ps h =
     (λ x g own kind. (own, kind, (g kind).0, (g kind).1)) (flats ps) (each-spelled ps h))
 
 -- one log
-module _ (img : Image) (j : ℕ) (log : LogState) (is : img.logs j ≡ flats (scanned log)) where
+module _ (img : Storage) (j : ℕ) (log : LogState) (is : img.logs j ≡ flats (scanned log)) where
   pub log-of : (t : TxnId) → home t ≡ j → img.logs (home t) ≡ flats (scanned log)
   log-of t e = ap img.logs e ∙ is
 
@@ -134,7 +134,7 @@ losers-length j [] (ls ∷ losers) a = absurd a
 losers-length j (log ∷ logs) [] a = absurd a
 losers-length j (log ∷ logs) (ls ∷ losers) a = ap suc (losers-length (suc j) logs losers a.1)
 
-open-stacks_from : (img : Image) (j : ℕ) (logs : List LogState) (losers : List (List Loser)) → Follows img j logs
+open-stacks_from : (img : Storage) (j : ℕ) (logs : List LogState) (losers : List (List Loser)) → Follows img j logs
     → AreLosersFrom j logs losers → open_in logs losers ≡ stacks_of img (txns_of losers)
 open-stacks_from img j [] [] f a = refl
 open-stacks_from img j [] (ls ∷ losers) f a = absurd a
@@ -144,7 +144,7 @@ open-stacks_from img j (log ∷ logs) (ls ∷ losers) f a =
     ∙ ap (λ (xs : List Rec). stacks_of img (ids ls) ++ xs) (open-stacks_from img (suc j) logs losers f.1 a.1)
     ∙ sym (stacks-append img (ids ls) (txns_of losers))
 
-each-open : (img : Image) (j : ℕ) (logs : List LogState) (losers : List (List Loser)) → Follows img j logs
+each-open : (img : Storage) (j : ℕ) (logs : List LogState) (losers : List (List Loser)) → Follows img j logs
     → AreLosersFrom j logs losers → Each (Open img) (txns_of losers)
 each-open img j [] [] f a = tt
 each-open img j [] (ls ∷ losers) f a = absurd a
@@ -153,7 +153,7 @@ each-open img j (log ∷ logs) (ls ∷ losers) f a =
     Each-append (Open img) (ids ls) (txns_of losers) (open-log img j log f.0 ls a.0.losers_are.each a.0.own)
     (each-open img (suc j) logs losers f.1 a.1)
 
-rights_from : (img : Image) (j : ℕ) (logs : List LogState) (losers : List (List Loser)) → Follows img j logs
+rights_from : (img : Storage) (j : ℕ) (logs : List LogState) (losers : List (List Loser)) → Follows img j logs
     → AreLosersFrom j logs losers → All (λ log. AreSpelled (scanned log)) logs
     → Each (λ t. Each (Right t) (opens img t)) (txns_of losers)
 rights_from img j [] [] f a h = tt
@@ -214,7 +214,7 @@ losers-rise j (log ∷ logs) (ls ∷ losers) a =
     (later-homes (suc j) logs losers a.1)) ls a.0.own))
 
 -- each open one that has a record is listed
-covers : (img : Image) (j : ℕ) (logs : List LogState) (losers : List (List Loser)) → Follows img j logs → AreLosersFrom j logs losers
+covers : (img : Storage) (j : ℕ) (logs : List LogState) (losers : List (List Loser)) → Follows img j logs → AreLosersFrom j logs losers
     → (t : TxnId) → Open img t → j ≤ home t → (j + length logs ≤ home t → opens img t ≡ [])
     → (opens img t ≡ []) ⊎ Member t (txns_of losers)
 covers img j [] [] f a t o le past = inl (past (omega (arith, le)))
@@ -230,7 +230,7 @@ covers img j (log ∷ logs) (ls ∷ losers) f a t o le past = ⊎_elim
     above : (a b : ℕ) → b ≤ a → a ≢ b → suc b ≤ a
     above a b le ne = omega (arith, le, ne)
 
-module _ (img : Image) (logs : List LogState) (losers : List (List Loser)) (logs_are : (j : ℕ) → img.logs j ≡ log_in logs j)
+module _ (img : Storage) (logs : List LogState) (losers : List (List Loser)) (logs_are : (j : ℕ) → img.logs j ≡ log_in logs j)
     (found : AreLosersOf logs losers) where
   pub follows-all : Follows img 1 logs
   follows-all = follows img logs 1 (λ i. let e : 1 + i ≡ suc i = omega arith in ap img.logs e ∙ logs_are (suc i))

@@ -8,7 +8,7 @@ use Rattle.sd_logrec.specs.View.{Rec, Kind}
 use Rattle.sd_logrec.specs.View.Kind.{Update, Clr, Commit, End, Plain}
 use Rattle.sd_chain.specs.Records.{Each, moved, rest, stack, stack_from, step}
 use Rattle.sd_chain.specs.Order.{of_txn, speaks}
-use Rattle.sd_chain.specs.Image.{Image, opens}
+use Rattle.sd_chain.specs.Storage.{Storage, opens}
 use Rattle.sd_chain.specs.Undoing.{Member, stacks_of}
 use Rattle.sd_chain.proofs.Stacks.{step-other, step-own}
 use Rattle.sd_chain.proofs.Lists.{Each-append, Each-front, Each-back}
@@ -42,7 +42,7 @@ none-of t stk (x ∷ xs) e =
     parts false b e = (refl, e)
 
 -- the stacks of several
-module _ (img : Image) where
+module _ (img : Storage) where
   pub stacks-append : (ts us : List TxnId) → stacks_of img (ts ++ us) ≡ stacks_of img ts ++ stacks_of img us
   stacks-append [] us = refl
   stacks-append (t ∷ ts) us =

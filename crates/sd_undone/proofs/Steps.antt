@@ -8,7 +8,7 @@ use Rattle.sd_logrec.specs.View.{Rec}
 use Rattle.sd_logrec.specs.View.Kind.{Update}
 use Rattle.sd_chain.specs.Records.{Val, Each, at}
 use Rattle.sd_chain.specs.Pages.{value, capacity, write}
-use Rattle.sd_chain.specs.Image.{HasPlace}
+use Rattle.sd_chain.specs.Storage.{HasPlace}
 use Rattle.sd_chain.specs.Undoing.{EachFound, undo_all, undo_one}
 use Rattle.sd_undone.specs.Values.{SameShape, SameSlots, slots_in, values_in}
 use Rattle.sd_undone.specs.Taking.{Holds, MayTake, Taken}

@@ -8,12 +8,12 @@ use Rattle.sd_logrec.specs.View.Kind.{Update}
 use Rattle.sd_log.specs.Logs.{AreSpelled, LogState, scanned}
 use Rattle.sd_chain.specs.Records.{Each, Val, at}
 use Rattle.sd_chain.specs.Pages.{value}
-use Rattle.sd_chain.specs.Image.{Alone, HasPlace, Image, Linked, Open, Sound, StackFits, newest, now, opens}
+use Rattle.sd_chain.specs.Storage.{Alone, HasPlace, Linked, Open, Sound, StackFits, Storage, newest, now, opens}
 use Rattle.sd_chain.specs.Laws.{UndoingFinds}
 use Rattle.sd_chain.specs.Undoing.{EachFound, Member, stacks_of, undo_all}
 use Rattle.sd_analysis.specs.declared.losers.Loser.{Loser}
 use Rattle.sd_undone.specs.Others.{all_in, by_others, last_of_others}
-use Rattle.sd_undone.specs.Reading.{AreLosersOf, IsRead, txns_of}
+use Rattle.sd_undone.specs.Reading.{AreLosersOf, NewestAreRead, txns_of}
 use Rattle.sd_undone.specs.Taking.{MayTake, open_in}
 use Rattle.sd_undone.specs.Values.{slots_in, values_in}
 use Rattle.sd_undone.proofs.Alones.{alone-from, alone-last, nil_or, not-both}
@@ -25,7 +25,7 @@ use Rattle.sd_chain.proofs.Members.{member-each}
 use Rattle.sd_chain.proofs.Lists.{Each-weaker}
 
 -- the stacks of some transactions that may be taken back are as they were left
-module _ (img : Image) (pages : List Page) (logs : List LogState) (read : IsRead img pages logs) where
+module _ (img : Storage) (pages : List Page) (logs : List LogState) (read : NewestAreRead img pages logs) where
   pub slots-newest : (p : ℕ) → p < 1024 → slots_in pages p ≡ (newest img p).slots
   slots-newest p lt = slots-here pages p (newest img p) (read.pages_are p lt)
 
@@ -97,7 +97,7 @@ module _ (img : Image) (pages : List Page) (logs : List LogState) (read : IsRead
       Each-both (λ x. HasPlace (newest img x.page).slots x) (Right t) (λ x. HasPlace (slots_in pages x.page) x)
       (λ x h r. subst (λ (slots : List Slot). HasPlace slots x) (sym (slots-newest x.page r.2)) h) (opens img t) places right
 
-module _ (img : Image) (pages : List Page) (logs : List LogState) (losers : List (List Loser)) (read : IsRead img pages logs)
+module _ (img : Storage) (pages : List Page) (logs : List LogState) (losers : List (List Loser)) (read : NewestAreRead img pages logs)
     (found : AreLosersOf logs losers) where
   -- the values of the pages once all was taken back
   pub values-undone : (p s : ℕ) → p < 1024

@@ -4,13 +4,13 @@ use Rattle.std.specs.List.{flat_map}
 use Rattle.sd_base.specs.declared.ids.TxnId.{TxnId}
 use Rattle.sd_page.specs.Page.{Page}
 use Rattle.sd_log.specs.Logs.{LogState, log_in, scanned}
-use Rattle.sd_chain.specs.Image.{Image, newest}
+use Rattle.sd_chain.specs.Storage.{Storage, newest}
 use Rattle.sd_chain.specs.Records.{Each, home}
 use Rattle.sd_analysis.specs.Losers.{AreLosers}
 use Rattle.sd_analysis.specs.declared.losers.Loser.{Loser}
 
 -- the pages are the newest of this image, and the logs, of which the first is log 1, are its logs
-pub record IsRead (img : Image) (pages : List Page) (logs : List LogState) : Type 0 where
+pub record NewestAreRead (img : Storage) (pages : List Page) (logs : List LogState) : Type 0 where
   pub pages_are : (p : ℕ) → p < 1024 → slice_get pages p ≡ Some (newest img p)
   pub logs_are : (j : ℕ) → img.logs j ≡ log_in logs j
 

@@ -7,7 +7,7 @@ use Rattle.sd_page.specs.Page.{Page}
 use Rattle.sd_logrec.specs.View.{Rec, flat}
 use Rattle.sd_log.specs.declared.placed.Placed.{Placed}
 use Rattle.sd_log.specs.Logs.{LogState, scanned}
-use Rattle.sd_chain.specs.Image.{Image, Open, StackFits, opens}
+use Rattle.sd_chain.specs.Storage.{Open, StackFits, Storage, opens}
 use Rattle.sd_analysis.specs.declared.losers.Loser.{Loser}
 use Rattle.sd_undone.specs.Taking.{MayTake, lowest_place, open_in, picked, stacks_in}
 
@@ -42,7 +42,7 @@ pub record StopsAt (pages : List Page) (others : TxnId → ℕ → ℕ → ℕ) 
   pub stops : MayTake pages others (front_of logs losers number log own index ++ picked (scanned log) (reverse loser.open)) → ⊥
 
 -- The lowest record of the transaction's stack stands at this place of its log, of which the first is log 1.
-pub record StandsLowest (img : Image) (logs : List LogState) (t : TxnId) (place : ℕ) : Type 0 where
+pub record StandsLowest (img : Storage) (logs : List LogState) (t : TxnId) (place : ℕ) : Type 0 where
   pub log : LogState
   pub some : 1 ≤ t.inst
   pub log_is : slice_get logs (t.inst - 1) ≡ Some log
@@ -54,7 +54,7 @@ pub record StandsLowest (img : Image) (logs : List LogState) (t : TxnId) (place 
   pub parts : opens img t ≡ above ++ flat found.rec ∷ []
 
 -- Of the open transactions the first whose stack isn't as it was left, and the place of its lowest record.
-pub record FirstMisfit (img : Image) (logs : List LogState) (inst place : ℕ) : Type 0 where
+pub record FirstMisfit (img : Storage) (logs : List LogState) (inst place : ℕ) : Type 0 where
   pub txn : TxnId
   pub home : inst ≡ txn.inst
   pub open_ : Open img txn

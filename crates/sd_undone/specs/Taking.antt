@@ -11,7 +11,7 @@ use Rattle.sd_log.specs.declared.placed.Placed.{Placed}
 use Rattle.sd_log.specs.Logs.{LogState, scanned}
 use Rattle.sd_chain.specs.Records.{Val, Each}
 use Rattle.sd_chain.specs.Pages.{value, capacity}
-use Rattle.sd_chain.specs.Image.{HasPlace}
+use Rattle.sd_chain.specs.Storage.{HasPlace}
 use Rattle.sd_chain.specs.Undoing.{EachFound, undo_all}
 use Rattle.sd_analysis.specs.declared.losers.Loser.{Loser}
 use Rattle.sd_analysis.specs.Losers.{record_at}

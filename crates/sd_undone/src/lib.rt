@@ -1,6 +1,6 @@
 //! What unfinished transactions changed is taken back in the newest pages (ARIES, section 6.3).
 //!
-//! Meaning: the newest pages and the logs are those of an image (`IsRead`, `specs/Reading.antt`); `StackFits` says when a
+//! Meaning: the newest pages and the logs are those of an image (`NewestAreRead`, `specs/Reading.antt`); `StackFits` says when a
 //! transaction's stack is as it left it, `undo_all` what taking it back gives (sd_chain). `MayTake` says the former of
 //! records in the pages at hand (`specs/Taking.antt`).
 //! Keeps: nothing.
@@ -12,7 +12,7 @@
 //!
 //! To change:
 //! - free: bodies, private helpers
-//! - dear: `IsRead`, the clauses of `undone`
+//! - dear: `NewestAreRead`, the clauses of `undone`
 //! - frozen: nothing
 #![tactic(auto)]
 
@@ -21,4 +21,4 @@ mod table;
 mod taking_back;
 mod undoing;
 
-pub use undoing::{Fault, undone};
+pub use undoing::{UndoError, undone};

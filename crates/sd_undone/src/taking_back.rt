@@ -7,10 +7,10 @@ ghost use Rattle.sd_chain.specs.Pages.{write};
 ghost use Rattle.sd_undone.specs.Others.{seen_in};
 ghost use Rattle.sd_undone.specs.Stops.{StopsAt, StopsIn};
 ghost use Rattle.sd_undone.specs.Taking.{Holds, MayTake, Taken, lowest_place, open_in, picked, stacks_in};
-ghost use Rattle.sd_undone.specs.declared.undoing.Fault.TheVariants as F;
+ghost use Rattle.sd_undone.specs.declared.undoing.UndoError.TheVariants as F;
 
 use crate::last_changes::LastChanges;
-use crate::undoing::Fault;
+use crate::undoing::UndoError;
 use sd_analysis::{Loser, Losers};
 use sd_base::{Bytes, Memory, Rid, copy_value, lent_value, same_value, value_len};
 use sd_log::{Log, Placed};
@@ -24,7 +24,7 @@ pub fn take_back_all(
     last: &LastChanges,
     logs: &[Log],
     losers: &[Losers],
-) -> Result<(), Fault>
+) -> Result<(), UndoError>
     requires pages { length pages.old ≡ 1024 }
     requires losers { length losers.now ≡ length logs.now }
     ensures fits { OnOk result (MayTake pages.old (seen_in last.now) (open_in logs.now losers.now)) }
@@ -44,7 +44,7 @@ fn take_back_log(
     last: &LastChanges,
     log: &[Placed],
     losers: &[Loser],
-) -> Result<(), Fault>
+) -> Result<(), UndoError>
     requires { length pages.old ≡ 1024 }
     ensures fits { OnOk result (MayTake pages.old (seen_in last.now) (stacks_in log.now losers.now)) }
     ensures taken { OnOk result (Taken pages.old pages.new (stacks_in log.now losers.now)) }
@@ -60,12 +60,12 @@ fn take_back_log(
 }
 
 // The misfit of a loser's stack: the place of its lowest record.
-fn misfit(log: &[Placed], loser: &Loser) -> Fault
+fn misfit(log: &[Placed], loser: &Loser) -> UndoError
     ensures { result ≡ F.Misfit loser.now.txn.inst (lowest_place log.now loser.now.open) }
 {
     let lowest = loser.open.items().first();
     let placed = lowest.and_then(|at| log.get(*at));
-    Fault::Misfit {
+    UndoError::Misfit {
         inst: loser.txn.inst.get(),
         place: placed.map_or(0, |p| p.place),
     }

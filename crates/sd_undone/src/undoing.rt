@@ -5,14 +5,14 @@ ghost use Rattle.sd_base.specs.declared.ids.Rid.{Rid};
 ghost use Rattle.sd_base.specs.declared.ids.TxnId.{TxnId};
 ghost use Rattle.sd_model.specs.Tables.{contents};
 ghost use Rattle.sd_log.specs.Logs.{AreSpelled, scanned};
-ghost use Rattle.sd_chain.specs.Image.{Image as Disks, Open, Sound, StackFits, now};
+ghost use Rattle.sd_chain.specs.Storage.{Open, Sound, StackFits, Storage, now};
 ghost use Rattle.sd_chain.specs.Undoing.{stacks_of, undo_all};
-ghost use Rattle.sd_undone.specs.Reading.{AreLosersOf, IsRead, txns_of};
+ghost use Rattle.sd_undone.specs.Reading.{AreLosersOf, NewestAreRead, txns_of};
 ghost use Rattle.sd_undone.specs.Others.{by_others};
 ghost use Rattle.sd_undone.specs.Stops.{FirstMisfit, StopsAt};
 ghost use Rattle.sd_undone.specs.Taking.{MayTake, open_in};
 ghost use Rattle.sd_undone.specs.Values.{values_in};
-ghost use Rattle.sd_undone.specs.declared.undoing.Fault.TheVariants as F;
+ghost use Rattle.sd_undone.specs.declared.undoing.UndoError.TheVariants as F;
 
 use crate::last_changes::LastChanges;
 use crate::table::table_of;
@@ -27,7 +27,7 @@ use std::alloc::Global;
 
 /// Why stacks aren't taken back.
 #[derive(Clone, Copy, Debug, PartialEq, Eq)]
-pub enum Fault {
+pub enum UndoError {
     /// A stack of this instance's log isn't as it was left; its lowest record stands at this place of the area. Of several
     /// such stacks it is the first, by instance and then by transaction.
     Misfit { inst: u8, place: u32 },
@@ -35,11 +35,11 @@ pub enum Fault {
     Memory,
 }
 
-impl From<Memory> for Fault {
+impl From<Memory> for UndoError {
     ghost from_gives = { λ _ r. r ≡ F.Memory };
 
     fn from(_: Memory) -> Self {
-        Fault::Memory
+        UndoError::Memory
     }
 }
 
@@ -53,16 +53,16 @@ pub fn undone(
     pages: Vec<Image>,
     logs: &[Log],
     losers: &[Losers],
-) -> Result<Table, Fault>
+) -> Result<Table, UndoError>
     requires pages { length pages.items ≡ 1024 }
     requires eight { length logs.now ≡ 8 }
     requires spelled { All (λ log. AreSpelled (scanned log)) logs.now }
     requires losers { AreLosersOf logs.now losers.now }
-    ensures stacks { OnOk result ((img : Disks) → IsRead img pages.items logs.now → (t : TxnId) → Open img t → StackFits img t) }
-    ensures values { IfOk result (λ table. (img : Disks) → IsRead img pages.items logs.now → (p s : ℕ) → p < 1024
+    ensures stacks { OnOk result ((img : Storage) → NewestAreRead img pages.items logs.now → (t : TxnId) → Open img t → StackFits img t) }
+    ensures values { IfOk result (λ table. (img : Storage) → NewestAreRead img pages.items logs.now → (p s : ℕ) → p < 1024
         → contents table (record { page = p; slot = s }) ≡ undo_all (now img) (stacks_of img (txns_of losers.now)) p s) }
-    ensures misfit { (inst place : ℕ) → result ≡ Err (F.Misfit inst place) → (img : Disks) → IsRead img pages.items logs.now → Sound img → ⊥ }
-    ensures first { (inst place : ℕ) → result ≡ Err (F.Misfit inst place) → (img : Disks) → IsRead img pages.items logs.now → FirstMisfit img logs.now inst place }
+    ensures misfit { (inst place : ℕ) → result ≡ Err (F.Misfit inst place) → (img : Storage) → NewestAreRead img pages.items logs.now → Sound img → ⊥ }
+    ensures first { (inst place : ℕ) → result ≡ Err (F.Misfit inst place) → (img : Storage) → NewestAreRead img pages.items logs.now → FirstMisfit img logs.now inst place }
 {
     laws::recovery();
     undo(alloc, pages, logs, losers)
@@ -75,7 +75,7 @@ pub fn undo(
     pages: Vec<Image>,
     logs: &[Log],
     losers: &[Losers],
-) -> Result<Table, Fault>
+) -> Result<Table, UndoError>
     requires pages { length pages.items ≡ 1024 }
     requires losers { length losers.now ≡ length logs.now }
     ensures fits { OnOk result (MayTake pages.items (by_others logs.now) (open_in logs.now losers.now)) }

@@ -7,13 +7,13 @@ use Rattle.sd_model.specs.declared.event.Event.{Event}
 use Rattle.sd_model.specs.declared.event.Reply.{Reply}
 use Rattle.sd_model.specs.declared.event.Reply.TheVariants.{Refused}
 use Rattle.sd_model.specs.State.{State}
-use Rattle.sd_model.specs.Causes.{number, has, order}
+use Rattle.sd_model.specs.Causes.{number, has_cause, order}
 use Rattle.sd_model.specs.Applies.{unless}
 use Rattle.sd_model.specs.Refusing.{Names, Refuses, found}
 use Rattle.sd_model.specs.Step.{Step}
 use Rattle.sd_world.specs.Pages.{Pages}
 use Rattle.sd_world.specs.PageCauses.{PagesSay, NoneSays, decided}
-use Rattle.sd_world.specs.Answers.{Leaves, Moves}
+use Rattle.sd_world.specs.Answers.{Moves, RefusalLeaves}
 use Rattle.sd_world.specs.Laws.{IsPlain, IsAnswer}
 
 -- ---- a cause is known by its number
@@ -55,27 +55,27 @@ back Cause.Rig = refl
 back Cause.Cut = refl
 
 -- a cause that stands in a list is its first one, or stands behind it
-among : (c d : Cause) (ds : List Cause) → has c (d ∷ ds) ≡ true → (c ≡ d) ⊎ (has c ds ≡ true)
+among : (c d : Cause) (ds : List Cause) → has_cause c (d ∷ ds) ≡ true → (c ≡ d) ⊎ (has_cause c ds ≡ true)
 among c d ds h = go (eqb (number c) (number d)) refl h
   where
-    go : (b : Bool) → eqb (number c) (number d) ≡ b → cond b true (has c ds) ≡ true → (c ≡ d) ⊎ (has c ds ≡ true)
+    go : (b : Bool) → eqb (number c) (number d) ≡ b → cond b true (has_cause c ds) ≡ true → (c ≡ d) ⊎ (has_cause c ds ≡ true)
     go true is h = inl (sym (back c) ∙ ap cause_at (eqb-true (number c) (number d) is) ∙ back d)
     go false is h = inr h
 
 none_left : {A : Type 0} → false ≡ true → A
 none_left e = absurd (cc)
 
-one : (c d : Cause) → has c (d ∷ []) ≡ true → c ≡ d
+one : (c d : Cause) → has_cause c (d ∷ []) ≡ true → c ≡ d
 one c d h = ⊎_elim (λ e. e) none_left (among c d [] h)
 
-both : (c d x : Cause) → has c (x ∷ []) ≡ true → has d (x ∷ []) ≡ true → c ≡ d
+both : (c d x : Cause) → has_cause c (x ∷ []) ≡ true → has_cause d (x ∷ []) ≡ true → c ≡ d
 both c d x h k = one c x h ∙ sym (one d x k)
 
 -- a cause of these that the pages don't decide is none that they decide
 never : {A : Type 0} (e : Event) (c d : Cause) → decided e d ≡ false → decided e c ≡ true → c ≡ d → A
 never e c d isnt sure is = none_left (sym isnt ∙ ap (decided e) (sym is) ∙ sure)
 
-neither : {A : Type 0} (e : Event) (c x y : Cause) → decided e x ≡ false → decided e y ≡ false → decided e c ≡ true → has c (x ∷ y ∷ []) ≡ true → A
+neither : {A : Type 0} (e : Event) (c x y : Cause) → decided e x ≡ false → decided e y ≡ false → decided e c ≡ true → has_cause c (x ∷ y ∷ []) ≡ true → A
 neither e c x y nx ny sure h = ⊎_elim (λ i. never e c x nx sure i) (λ k. never e c y ny sure (one c y k)) (among c x (y ∷ []) h)
 
 -- two causes of one refusal are one, where the pages decide it
@@ -118,7 +118,7 @@ off : (b : Bool) (P : Type 0) → unless b P → b ≡ true → P → ⊥
 off true P h sure p = h p
 off false P h sure p = none_left sure
 
-pub none-says : (m : State) (w : Pages) (e : Event) (cs : List Cause) (c : Cause) → NoneSays m w e cs → has c cs ≡ true → decided e c ≡ true → PagesSay m w e c → ⊥
+pub none-says : (m : State) (w : Pages) (e : Event) (cs : List Cause) (c : Cause) → NoneSays m w e cs → has_cause c cs ≡ true → decided e c ≡ true → PagesSay m w e c → ⊥
 none-says m w e [] c h there sure says = none_left there
 none-says m w e (d ∷ ds) c h there sure says = ⊎_elim
     (λ is. off (decided e d) (PagesSay m w e d) h.0 (subst (λ (x : Cause). decided e x ≡ true) is sure) (subst (PagesSay m w e) is says))
@@ -126,13 +126,13 @@ none-says m w e (d ∷ ds) c h there sure says = ⊎_elim
     (among c d ds there)
 
 pub answer-clear : (m : State) (w : Pages) (e : Event) (r : Reply) (m' : State) (w' : Pages) (c : Cause)
-    → Moves m w e r m' w' → IsAnswer r → has c (order e) ≡ true → decided e c ≡ true → PagesSay m w e c → ⊥
+    → Moves m w e r m' w' → IsAnswer r → has_cause c (order e) ≡ true → decided e c ≡ true → PagesSay m w e c → ⊥
 answer-clear m w e (Refused n) m' w' c h is there sure says = is
 answer-clear m w e r m' w' c h is there sure says = none-says m w e (order e) c h.0 there sure says
 
 -- ---- what a refusal leaves
 
-pages-left : (m : State) (w : Pages) (e : Event) (n : Refusal) (m' : State) (w' : Pages) → Leaves m w e n m' w' → IsPlain n → w' ≡ w
+pages-left : (m : State) (w : Pages) (e : Event) (n : Refusal) (m' : State) (w' : Pages) → RefusalLeaves m w e n m' w' → IsPlain n → w' ≡ w
 pages-left m w e R.Failed m' w' h plain = absurd plain
 pages-left m w e R.CutCommit m' w' h plain = absurd plain
 pages-left m w e n m' w' h plain = h

@@ -10,16 +10,16 @@ use Rattle.sd_base.specs.declared.refusal.Refusal.TheVariants as R
 use Rattle.sd_model.specs.declared.cause.Cause.{Cause}
 use Rattle.sd_model.specs.declared.event.Event.TheVariants.{Write, Read, Ask, Give, Take, Evict, Flush, Fail, CheckEnd, Insert}
 use Rattle.sd_model.specs.declared.event.Reply.TheVariants as reply
-use Rattle.sd_model.specs.State.{State, fall, fresh, started}
-use Rattle.sd_pagelock.specs.Places.{Entry}
-use Rattle.sd_world.specs.Pages.{Pages, asked, fell, held, numbered, placed}
+use Rattle.sd_model.specs.State.{State, begun_part, fall, fresh}
+use Rattle.sd_pagelock.specs.Places.{PageEntry}
+use Rattle.sd_world.specs.Pages.{Pages, asked, fell, held_count, numbered, page_placed}
 use Rattle.sd_world.specs.Answers.{Moves}
 use Rattle.sd_world.specs.Bounds.{Bounds, Within, bounds_after}
 use Rattle.sd_world.proofs.Causes.{answer-clear, cause-said}
 
 -- all instances are up, and transactions run
 abbrev up : State
-up = record fresh { part = λ t. started; inst = λ i. record { status = Status.Up; epoch = 1; begins = 0; failed = 0 } }
+up = record fresh { part = λ t. begun_part; inst = λ i. record { status = Status.Up; epoch = 1; begins = 0; failed = 0 } }
 
 abbrev one : TxnId
 one = record { inst = 1; epoch = 1; seq = 1 }
@@ -32,35 +32,35 @@ r = record { page = 5; slot = 0 }
 
 -- each pool has one frame
 abbrev idle : Pages
-idle = record { frames = 1; entry = λ p. Entry.Free; asks = λ p. []; number = λ p. 0; begun = λ i. false }
+idle = record { frames = 1; entry = λ p. PageEntry.Free; asks = λ p. []; number = λ p. 0; begun = λ i. false }
 
 abbrev read : Pages
-read = placed 5 (Entry.Excl 1 false) idle
+read = page_placed 5 (PageEntry.Excl 1 false) idle
 
 abbrev written_once : Pages
-written_once = numbered 5 7 (placed 5 (Entry.Excl 1 true) read)
+written_once = numbered 5 7 (page_placed 5 (PageEntry.Excl 1 true) read)
 
 abbrev wanted : Pages
 wanted = asked 5 2 modes.Shared written_once
 
 abbrev sent : Pages
-sent = placed 5 (Entry.Moving 2 modes.Shared (1 ∷ []) true) wanted
+sent = page_placed 5 (PageEntry.Moving 2 modes.Shared (1 ∷ []) true) wanted
 
 abbrev shared : Pages
-shared = placed 5 (Entry.Shared (1 ∷ 2 ∷ []) (Some 1)) sent
+shared = page_placed 5 (PageEntry.Shared (1 ∷ 2 ∷ []) (Some 1)) sent
 
 abbrev clean : Pages
-clean = placed 5 (Entry.Shared (1 ∷ 2 ∷ []) None) shared
+clean = page_placed 5 (PageEntry.Shared (1 ∷ 2 ∷ []) None) shared
 
 abbrev alone : Pages
-alone = placed 5 (Entry.Shared (1 ∷ []) None) clean
+alone = page_placed 5 (PageEntry.Shared (1 ∷ []) None) clean
 
 abbrev lost : Pages
 lost = fell 1 (λ p. 0) written_once
 
 -- ---- what is answered
 
-none_held : held idle.entry 1 1024 ≡ 0
+none_held : held_count idle.entry 1 1024 ≡ 0
 none_held = refl
 
 asks : Moves up idle (Ask 1 5 modes.Excl) reply.Have up read
@@ -75,7 +75,7 @@ is_asked = ((tt, (tt, (λ e. absurd (cc), (λ e. absurd (cc), (λ e. absurd (cc)
 gives : Moves up wanted (Give 1 5) (reply.Gave 2) up sent
 gives = ((tt, (tt, (λ e. absurd (cc), (λ e. absurd (cc), (λ e. absurd (cc), (λ e. absurd (cc), (tt, tt))))))), (modes.Shared, refl, refl))
 
-none_held_by_two : held sent.entry 2 1024 ≡ 0
+none_held_by_two : held_count sent.entry 2 1024 ≡ 0
 none_held_by_two = refl
 
 takes : Moves up sent (Take 2 5) reply.Did up shared
@@ -94,7 +94,7 @@ evicts = ((tt, (tt, (λ e. absurd (cc), (λ e. absurd (cc), (λ e. absurd (cc), 
 falls : Moves up written_once (Fail 1) reply.Did (fall 1 up) lost
 falls = ((tt, (tt, tt)), (λ p. 0, refl))
 
-is_lost_now : lost.entry 5 ≡ Entry.Lost
+is_lost_now : lost.entry 5 ≡ PageEntry.Lost
 is_lost_now = refl
 
 -- ---- what is refused
@@ -136,7 +136,7 @@ refused_moving = record {
   leaves = refl;
 }
 
-one_held : held read.entry 1 1024 ≡ 1
+one_held : held_count read.entry 1 1024 ≡ 1
 one_held = refl
 
 refused_frame : Moves up read (Ask 1 6 modes.Excl) (reply.Refused R.PoolFull) up read
@@ -212,7 +212,7 @@ one_slot = refl
 never_lost : Moves up idle (Ask 2 5 modes.Excl) (reply.Refused R.Lost) up idle → ⊥
 never_lost h = absurd (let e : false ≡ true = cause-said up idle (Ask 2 5 modes.Excl) R.Lost up idle Cause.Lost h refl refl in cc)
 
-none_held_idle : held idle.entry 2 1024 ≡ 0
+none_held_idle : held_count idle.entry 2 1024 ≡ 0
 none_held_idle = refl
 
 never_full : Moves up idle (Ask 2 5 modes.Excl) (reply.Refused R.PoolFull) up idle → ⊥
@@ -223,11 +223,11 @@ never_asked : Moves up idle (Ask 2 5 modes.Excl) (reply.Asked 1) up (asked 5 2 m
 never_asked h = absurd (let e : true ≡ false = h.1.0 in cc)
 
 never_elsewhere : Moves up written_once (Read two r) (reply.Refused (R.NeedPage coded.Free)) up written_once → ⊥
-never_elsewhere h = absurd (let e : Entry.Free ≡ Entry.Excl 1 true = h.place in cc)
+never_elsewhere h = absurd (let e : PageEntry.Free ≡ PageEntry.Excl 1 true = h.place in cc)
 
 -- one that fails keeps no copy
 never_kept : Moves up written_once (Fail 1) reply.Did (fall 1 up) written_once → ⊥
-never_kept h = absurd (let e : Entry.Excl 1 true ≡ Entry.Lost = ap (λ (w : Pages). w.entry 5) h.1.1 in cc)
+never_kept h = absurd (let e : PageEntry.Excl 1 true ≡ PageEntry.Lost = ap (λ (w : Pages). w.entry 5) h.1.1 in cc)
 
 -- a read of a page that another has alone isn't answered
 never_read : Moves up written_once (Read two r) (reply.Value None) up written_once → ⊥

@@ -20,11 +20,11 @@ use Rattle.sd_model.specs.Fields.{txn_of}
 use Rattle.sd_model.specs.Refusing.{Names, Refuses, counted, found}
 use Rattle.sd_model.specs.Step.{Row, Step}
 use Rattle.sd_model.proofs.Placed.{each_inst}
-use Rattle.sd_pagelock.specs.Places.{Entry, holds, holds_as, is_lost, passes}
+use Rattle.sd_pagelock.specs.Places.{PageEntry, holds, holds_as, is_lost, passes}
 use Rattle.sd_pagelock.specs.Rows.{dirtied, fallen, may_evict, taken, written}
-use Rattle.sd_world.specs.Pages.{Pages, AreFormed, emptied, given, had, is_had, numbered, placed, renumbered}
+use Rattle.sd_world.specs.Pages.{Pages, AreFormed, emptied, given, had, is_had, numbered, page_placed, renumbered}
 use Rattle.sd_world.specs.PageCauses.{NoneSays, undo_page}
-use Rattle.sd_world.specs.Answers.{AreFoundLost, Answers, Fails, Gives, Leaves, Moves, Rebuilds, Undoes, changes, takes_back}
+use Rattle.sd_world.specs.Answers.{AreFoundLost, Answers, Fails, Gives, RefusalLeaves, Moves, Rebuilds, Undoes, changes, takes_back}
 use Rattle.sd_world.specs.Laws.{AreCoded, HasFallen, IsOut, LossIsKnown}
 use Rattle.sd_world.proofs.Causes.{none-says, state-left}
 use Rattle.sd_world.proofs.Gains.{LosesNone, asker_other, evicted-there, found_lost, given-there, had-there, placed-loses, taken-there, written-there}
@@ -70,31 +70,31 @@ both m n m' w v w' is at out loses k = subst (λ (x : State). LossIsKnown x w') 
 keep : (w : Pages) → LosesNone w w
 keep w q h = h
 
-gets-loses : (i p : ℕ) (mode : Mode) (w : Pages) → is_had i mode (w.entry p) ≡ true → AreFormed w → AreCoded w → LosesNone w (cond {A = Pages} (holds_as mode (w.entry p) i) w (placed p (had i mode (w.entry p)) w))
+gets-loses : (i p : ℕ) (mode : Mode) (w : Pages) → is_had i mode (w.entry p) ≡ true → AreFormed w → AreCoded w → LosesNone w (cond {A = Pages} (holds_as mode (w.entry p) i) w (page_placed p (had i mode (w.entry p)) w))
 gets-loses i p mode w h f c = go (holds_as mode (w.entry p) i) refl
   where
-    go : (b : Bool) → holds_as mode (w.entry p) i ≡ b → LosesNone w (cond {A = Pages} b w (placed p (had i mode (w.entry p)) w))
+    go : (b : Bool) → holds_as mode (w.entry p) i ≡ b → LosesNone w (cond {A = Pages} b w (page_placed p (had i mode (w.entry p)) w))
     go true is = keep w
     go false is = placed-loses p (had i mode (w.entry p)) w (had-there i mode (w.entry p) h is (f p).formed (c p))
 
-gives-loses : (m : State) (i p to : ℕ) (w w' : Pages) (h : Gives i p to w w') → NoneSays m w (Give i p) (order (Give i p)) → AreFormed w → AreCoded w → LosesNone w (placed p (given i (to, h.0) (w.entry p)) w)
+gives-loses : (m : State) (i p to : ℕ) (w w' : Pages) (h : Gives i p to w w') → NoneSays m w (Give i p) (order (Give i p)) → AreFormed w → AreCoded w → LosesNone w (page_placed p (given i (to, h.0) (w.entry p)) w)
 gives-loses m i p to w w' h n f c = placed-loses p (given i (to, h.0) (w.entry p)) w (given-there i to h.0 (w.entry p) (asker_other i (w.asks p) to h.0 h.1)
     (is_so (holds (w.entry p) i) (none-says m w (Give i p) (order (Give i p)) Cause.Away n refl refl))
     (isnt (passes (w.entry p)) (none-says m w (Give i p) (order (Give i p)) Cause.Moving n refl refl))
     (isnt (is_lost (w.entry p)) (none-says m w (Give i p) (order (Give i p)) Cause.Lost n refl refl)) (f p).formed (c p))
 
-takes-loses : (m : State) (i p : ℕ) (w : Pages) → NoneSays m w (Take i p) (order (Take i p)) → LosesNone w (placed p (taken (w.entry p)) w)
+takes-loses : (m : State) (i p : ℕ) (w : Pages) → NoneSays m w (Take i p) (order (Take i p)) → LosesNone w (page_placed p (taken (w.entry p)) w)
 takes-loses m i p w n = placed-loses p (taken (w.entry p)) w (taken-there (w.entry p)
     ∙ isnt (is_lost (w.entry p)) (none-says m w (Take i p) (order (Take i p)) Cause.Lost n refl refl))
 
-evicts-loses : (m : State) (i p : ℕ) (w : Pages) → NoneSays m w (Evict i p) (order (Evict i p)) → AreFormed w → AreCoded w → LosesNone w (placed p (fallen i (w.entry p)) w)
+evicts-loses : (m : State) (i p : ℕ) (w : Pages) → NoneSays m w (Evict i p) (order (Evict i p)) → AreFormed w → AreCoded w → LosesNone w (page_placed p (fallen i (w.entry p)) w)
 evicts-loses m i p w n f c = placed-loses p (fallen i (w.entry p)) w (evicted-there i (w.entry p)
     (is_so (may_evict i (w.entry p)) (none-says m w (Evict i p) (order (Evict i p)) Cause.Dirty n refl refl)) (f p).formed (c p))
 
 rebuilds-loses : (m : State) (i : ℕ) (w w' : Pages) → Rebuilds m i w w' → LosesNone w w'
 rebuilds-loses m i w w' (Rebuilds.undoes (Undoes.none is)) = subst (LosesNone w) (sym is) (keep w)
 rebuilds-loses m i w w' (Rebuilds.undoes (Undoes.one p by may is)) = subst (LosesNone w) (sym is) (placed-loses p (dirtied by) w refl)
-rebuilds-loses m i w w' (Rebuilds.frees p lowest is) = subst (LosesNone w) (sym is) (placed-loses p Entry.Free w refl)
+rebuilds-loses m i w w' (Rebuilds.frees p lowest is) = subst (LosesNone w) (sym is) (placed-loses p PageEntry.Free w refl)
 
 -- ---- a reopening
 
@@ -128,10 +128,10 @@ recover-known : (m : State) (w : Pages) (i by : ℕ) (m' : State) (w' : Pages) �
 recover-known m w i by m' w' clear row n h f c k = both m _ m' w w w' row h (put-out m i (record (m.inst i) { status = Recovering by }) (λ out. inr (by, refl))) (keep w) k
 
 change-known : (m n m' : State) (i p : ℕ) (w w' : Pages) → m' ≡ n → n.inst ≡ m.inst → changes i p w w' → LossIsKnown m w → LossIsKnown m' w'
-change-known m n m' i p w w' is inst h k = both m n m' w (numbered p h.0 (placed p (dirtied i) w)) w' is h.2 (same-out m n inst) (placed-loses p (dirtied i) w refl) k
+change-known m n m' i p w w' is inst h k = both m n m' w (numbered p h.0 (page_placed p (dirtied i) w)) w' is h.2 (same-out m n inst) (placed-loses p (dirtied i) w refl) k
 
 undo-known : (m n m' : State) (i p : ℕ) (w w' : Pages) → m' ≡ n → n.inst ≡ m.inst → takes_back i p w w' → LossIsKnown m w → LossIsKnown m' w'
-undo-known m n m' i p w w' is inst h k = both m n m' w (numbered p h.0 (placed p (dirtied i) w)) w' is h.2 (same-out m n inst) (placed-loses p (dirtied i) w refl) k
+undo-known m n m' i p w w' is inst h k = both m n m' w (numbered p h.0 (page_placed p (dirtied i) w)) w' is h.2 (same-out m n inst) (placed-loses p (dirtied i) w refl) k
 
 -- neither instances nor pages change
 quiet : (m n m' : State) (w w' : Pages) → m' ≡ n → n.inst ≡ m.inst → w' ≡ w → LossIsKnown m w → LossIsKnown m' w'
@@ -169,9 +169,9 @@ answer-known m w (Join i) (reply.Joined epoch) m' w' clear row n h f c k = join-
 answer-known m w (Ask i p mode) reply.Have m' w' clear row n h f c k = paged m m' w _ w' row h.1 (gets-loses i p mode w h.0 f c) k
 answer-known m w (Ask i p mode) (reply.Asked of) m' w' clear row n h f c k = paged m m' w _ w' row h.2 (keep w) k
 answer-known m w (Give i p) (reply.Gave to) m' w' clear row n h f c k = paged m m' w _ w' row h.2 (gives-loses m i p to w w' h n f c) k
-answer-known m w (Take i p) reply.Did m' w' clear row n h f c k = paged m m' w (placed p (taken (w.entry p)) w) w' row h (takes-loses m i p w n) k
-answer-known m w (Evict i p) reply.Did m' w' clear row n h f c k = paged m m' w (placed p (fallen i (w.entry p)) w) w' row h (evicts-loses m i p w n f c) k
-answer-known m w (Flush i p) reply.Did m' w' clear row n h f c k = paged m m' w (placed p (written (w.entry p)) w) w' row h (placed-loses p (written (w.entry p)) w (written-there (w.entry p))) k
+answer-known m w (Take i p) reply.Did m' w' clear row n h f c k = paged m m' w (page_placed p (taken (w.entry p)) w) w' row h (takes-loses m i p w n) k
+answer-known m w (Evict i p) reply.Did m' w' clear row n h f c k = paged m m' w (page_placed p (fallen i (w.entry p)) w) w' row h (evicts-loses m i p w n f c) k
+answer-known m w (Flush i p) reply.Did m' w' clear row n h f c k = paged m m' w (page_placed p (written (w.entry p)) w) w' row h (placed-loses p (written (w.entry p)) w (written-there (w.entry p))) k
 answer-known m w (Force i) reply.Did m' w' clear row n h f c k = quiet m m m' w w' row refl h k
 answer-known m w (CheckBegin i) reply.Did m' w' clear row n h f c k = paged m m' w _ w' row h (keep w) k
 answer-known m w (CheckEnd i) reply.Did m' w' clear row n h f c k = paged m m' w _ w' row h (keep w) k
@@ -201,7 +201,7 @@ refused-same : (m : State) (e : Event) (m' : State) → (m' ≡ m) ⊎ (m' ≡ f
 refused-same m e m' (inl is) h = subst HasFallen (sym is) h
 refused-same m e m' (inr is) h = subst HasFallen (sym is) (same-out m (found e m) refl h)
 
-refused-known : (m : State) (w : Pages) (e : Event) (n : Refusal) (m' : State) (w' : Pages) → Step m e (reply.Refused n) m' → Leaves m w e n m' w' → LossIsKnown m w → LossIsKnown m' w'
+refused-known : (m : State) (w : Pages) (e : Event) (n : Refusal) (m' : State) (w' : Pages) → Step m e (reply.Refused n) m' → RefusalLeaves m w e n m' w' → LossIsKnown m w → LossIsKnown m' w'
 refused-known m w e R.Failed m' w' s h k = fails-known m w e m' w' h k
 refused-known m w e R.CutCommit m' w' s h k = λ p lost. cut-out m e m' s.0 s.1 s.4
 refused-known m w e n m' w' s h k = subst (LossIsKnown m') (sym h) (λ p lost. refused-same m e m' (state-left m e n m' s tt) (k p lost))

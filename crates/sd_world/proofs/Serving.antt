@@ -1,18 +1,18 @@
 -- Calls in a row are served as one, where all but one spare the core. It serves the goals of `calls` in laws.rt, and whoever calls again
 -- after want of memory.
 use Rattle.std.proofs.Common.{◌⊎◌, inl, inr, ⊎_elim, ℕ, Option, None, Some, ◌∙◌, subst}
-use Rattle.sd_rig.specs.Devices.{Image}
+use Rattle.sd_rig.specs.Devices.{DeviceImages}
 use Rattle.sd_rig.specs.Spans.{span-then, span-weaker, elapses-then}
 use Rattle.sd_model.specs.declared.event.Event.{Event}
 use Rattle.sd_model.specs.declared.event.Reply.{Reply}
 use Rattle.sd_model.specs.State.{State}
 use Rattle.sd_world.specs.Serving.{Core, FaultsAre, KeepsEarlier, Passes, Served, Telling}
 
-module _ {D : Type 0} (tell : Telling D) (stands : Image → State → Type 0) where
-  one_of : (m m' : State) (img : Image) → stands img m ⊎ stands img m → stands img m ⊎ stands img m'
+module _ {D : Type 0} (tell : Telling D) (stands : DeviceImages → State → Type 0) where
+  one_of : (m m' : State) (img : DeviceImages) → stands img m ⊎ stands img m → stands img m ⊎ stands img m'
   one_of m m' img h = ⊎_elim (λ s. inl s) (λ s. inl s) h
 
-  other_of : (m m' : State) (img : Image) → stands img m' ⊎ stands img m' → stands img m ⊎ stands img m'
+  other_of : (m m' : State) (img : DeviceImages) → stands img m' ⊎ stands img m' → stands img m ⊎ stands img m'
   other_of m m' img h = ⊎_elim (λ s. inr s) (λ s. inr s) h
 
   pub spared-passes : (a b c : D) (m m' : State) → KeepsEarlier tell c → Passes tell stands a b m m → Passes tell stands b c m m' → Passes tell stands a c m m'
@@ -30,7 +30,7 @@ module _ {D : Type 0} (tell : Telling D) (stands : Image → State → Type 0) w
   }
 
 -- a call that found no memory, and then a call that answers, or finds none either
-pub served-again : {C D : Type 0} (tell : Telling D) (stands : Image → State → Type 0) (rig : C → D) (fits : C → Core → Type 0) (e : Event) (answer : Option Reply) (a b c : C)
+pub served-again : {C D : Type 0} (tell : Telling D) (stands : DeviceImages → State → Type 0) (rig : C → D) (fits : C → Core → Type 0) (e : Event) (answer : Option Reply) (a b c : C)
     → KeepsEarlier tell (rig c) → Served tell stands rig fits e None a b → Served tell stands rig fits e answer b c → Served tell stands rig fits e answer a c
 served-again tell stands rig fits e None a b c earlier f g = (
   λ w h.

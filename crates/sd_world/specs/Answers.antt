@@ -15,10 +15,10 @@ use Rattle.sd_model.specs.Causes.{order, before}
 use Rattle.sd_model.specs.Fields.{txn_of}
 use Rattle.sd_model.specs.Applies.{First}
 use Rattle.sd_model.specs.Refusing.{Names, MayFall, counted}
-use Rattle.sd_pagelock.specs.Places.{Entry, seen, owns, holds_as, is_lost, receives}
+use Rattle.sd_pagelock.specs.Places.{PageEntry, seen, owns, holds_as, is_lost, receives}
 use Rattle.sd_pagelock.specs.Rows.{taken, fallen, written, dirtied}
 use Rattle.sd_pagelock.specs.Asks.{oldest}
-use Rattle.sd_world.specs.Pages.{Pages, placed, asked, numbered, renumbered, begins, given, fell, emptied, answerer, is_had, had, number_shown}
+use Rattle.sd_world.specs.Pages.{Pages, page_placed, asked, numbered, renumbered, begins, given, fell, emptied, answerer, is_had, had, number_shown}
 use Rattle.sd_world.specs.PageCauses.{page_of, undo_page, PagesAgree, NoneSays, RecoversAt, IsNeededPage}
 
 -- no page is lost
@@ -26,12 +26,12 @@ abbrev pub NoneLost : Pages → Type 0
 NoneLost w = (p : ℕ) → is_lost (w.entry p) ≡ false
 
 -- a recovery step waits for a page that it needs and that the recoverer hasn't alone, once no page is lost any more
-abbrev pub IsWaitedFor : State → Pages → ℕ → Entry → Type 0
+abbrev pub IsWaitedFor : State → Pages → ℕ → PageEntry → Type 0
 IsWaitedFor m w i place =
     (p by : ℕ) × RecoversAt m i by × IsNeededPage m i p × (place ≡ w.entry p) × (owns (w.entry p) by ≡ false) × NoneLost w
 
 -- the place that a refusal for want of the page names
-abbrev pub NamesNeeded : State → Pages → Event → Entry → Type 0
+abbrev pub NamesNeeded : State → Pages → Event → PageEntry → Type 0
 NamesNeeded m w (RecoverStep i) place = IsWaitedFor m w i place
 NamesNeeded m w e place = place ≡ w.entry (page_of m e)
 
@@ -43,14 +43,14 @@ NamesPlace m w e n = Unit {0}
 
 -- i, who has page p alone, changed it: the page has a greater number
 abbrev pub changes : ℕ → ℕ → Pages → Pages → Type 0
-changes i p w w' = (n : ℕ) × (w.number p < n) × (w' ≡ numbered p n (placed p (dirtied i) w))
+changes i p w w' = (n : ℕ) × (w.number p < n) × (w' ≡ numbered p n (page_placed p (dirtied i) w))
 
 -- the last change of the page is taken back: its number doesn't fall
 abbrev pub takes_back : ℕ → ℕ → Pages → Pages → Type 0
-takes_back i p w w' = (n : ℕ) × (w.number p ≤ n) × (w' ≡ numbered p n (placed p (dirtied i) w))
+takes_back i p w w' = (n : ℕ) × (w.number p ≤ n) × (w' ≡ numbered p n (page_placed p (dirtied i) w))
 
 -- p is the lowest lost page
-abbrev pub IsLowestLost : (ℕ → Entry) → ℕ → Type 0
+abbrev pub IsLowestLost : (ℕ → PageEntry) → ℕ → Type 0
 IsLowestLost entry p = (is_lost (entry p) ≡ true) × ((q : ℕ) → q < p → is_lost (entry q) ≡ false)
 
 -- the recovery of i may change page p, which the recoverer has alone, once no page is lost any more
@@ -60,12 +60,12 @@ MayRollBack m i w p by = RecoversAt m i by × (owns (w.entry p) by ≡ true) × 
 -- a recovery of i takes at most one change back
 pub data Undoes (m : State) (i : ℕ) (w w' : Pages) : Type 0 where
   none : w' ≡ w → Undoes m i w w'
-  one : (p by : ℕ) → MayRollBack m i w p by → w' ≡ placed p (dirtied by) w → Undoes m i w w'
+  one : (p by : ℕ) → MayRollBack m i w p by → w' ≡ page_placed p (dirtied by) w → Undoes m i w w'
 
 -- or rebuilds the lowest lost page
 pub data Rebuilds (m : State) (i : ℕ) (w w' : Pages) : Type 0 where
   undoes : Undoes m i w w' → Rebuilds m i w w'
-  frees : (p : ℕ) → IsLowestLost w.entry p → w' ≡ placed p Entry.Free w → Rebuilds m i w w'
+  frees : (p : ℕ) → IsLowestLost w.entry p → w' ≡ page_placed p PageEntry.Free w → Rebuilds m i w w'
 
 -- a step of the recovery of i; it may number pages anew
 abbrev pub Steps : State → ℕ → Pages → Pages → Type 0
@@ -81,7 +81,7 @@ pub record AreFoundLost (m : State) (among : ℕ → Bool) : Type 0 where
 -- i asked for page p, and has it
 abbrev pub Gets : ℕ → ℕ → Mode → Pages → Pages → Type 0
 Gets i p mode w w' =
-    (is_had i mode (w.entry p) ≡ true) × (w' ≡ cond {A = Pages} (holds_as mode (w.entry p) i) w (placed p (had i mode (w.entry p)) w))
+    (is_had i mode (w.entry p) ≡ true) × (w' ≡ cond {A = Pages} (holds_as mode (w.entry p) i) w (page_placed p (had i mode (w.entry p)) w))
 
 -- i asked another for page p
 abbrev pub Queues : ℕ → ℕ → Mode → ℕ → Pages → Pages → Type 0
@@ -89,7 +89,7 @@ Queues i p mode of w w' = (is_had i mode (w.entry p) ≡ false) × (of ≡ answe
 
 -- i gave page p to the oldest asker
 abbrev pub Gives : ℕ → ℕ → ℕ → Pages → Pages → Type 0
-Gives i p to w w' = (mode : Mode) × (oldest i (w.asks p) ≡ Some (to, mode)) × (w' ≡ placed p (given i (to, mode) (w.entry p)) w)
+Gives i p to w w' = (mode : Mode) × (oldest i (w.asks p) ≡ Some (to, mode)) × (w' ≡ page_placed p (given i (to, mode) (w.entry p)) w)
 
 -- the last state is that after the event
 abbrev pub Answers : State → Pages → Event → Reply → State → Pages → Type 0
@@ -101,9 +101,9 @@ Answers m w (Undo t) reply.Step m' w' = takes_back t.inst (undo_page m t) w w'
 Answers m w (Ask i p mode) reply.Have m' w' = Gets i p mode w w'
 Answers m w (Ask i p mode) (reply.Asked of) m' w' = Queues i p mode of w w'
 Answers m w (Give i p) (reply.Gave to) m' w' = Gives i p to w w'
-Answers m w (Take i p) reply.Did m' w' = w' ≡ placed p (taken (w.entry p)) w
-Answers m w (Evict i p) reply.Did m' w' = w' ≡ placed p (fallen i (w.entry p)) w
-Answers m w (Flush i p) reply.Did m' w' = w' ≡ placed p (written (w.entry p)) w
+Answers m w (Take i p) reply.Did m' w' = w' ≡ page_placed p (taken (w.entry p)) w
+Answers m w (Evict i p) reply.Did m' w' = w' ≡ page_placed p (fallen i (w.entry p)) w
+Answers m w (Flush i p) reply.Did m' w' = w' ≡ page_placed p (written (w.entry p)) w
 Answers m w (CheckBegin i) reply.Did m' w' = w' ≡ begins i true w
 Answers m w (CheckEnd i) reply.Did m' w' = w' ≡ begins i false w
 Answers m w (Fail i) reply.Did m' w' = (number : ℕ → ℕ) × (w' ≡ fell i number w)
@@ -127,10 +127,10 @@ pub data Fails (m : State) (w : Pages) (e : Event) (m' : State) (w' : Pages) : T
       → m' ≡ fall j (counted e m) → DidBefore m e w between → w' ≡ fell j number between → Fails m w e m' w'
 
 -- what a refusal leaves of the pages
-abbrev pub Leaves : State → Pages → Event → Refusal → State → Pages → Type 0
-Leaves m w e R.Failed m' w' = Fails m w e m' w'
-Leaves m w e R.CutCommit m' w' = (number : ℕ → ℕ) × (w' ≡ fell (txn_of e).inst number w)
-Leaves m w e n m' w' = w' ≡ w
+abbrev pub RefusalLeaves : State → Pages → Event → Refusal → State → Pages → Type 0
+RefusalLeaves m w e R.Failed m' w' = Fails m w e m' w'
+RefusalLeaves m w e R.CutCommit m' w' = (number : ℕ → ℕ) × (w' ≡ fell (txn_of e).inst number w)
+RefusalLeaves m w e n m' w' = w' ≡ w
 
 -- It is refused for this cause, the first that applies: `says` has the word of the pages, and `place` what the refusal tells.
 pub record IsRefused (m : State) (w : Pages) (e : Event) (n : Refusal) (m' : State) (w' : Pages) : Type 0 where
@@ -140,7 +140,7 @@ pub record IsRefused (m : State) (w : Pages) (e : Event) (n : Refusal) (m' : Sta
   pub passes : NoneSays m w e (before cause (order e))
   pub says : PagesAgree m w e cause
   pub place : NamesPlace m w e n
-  pub leaves : Leaves m w e n m' w'
+  pub leaves : RefusalLeaves m w e n m' w'
 
 -- the pages allow the reply, and this is what it makes of them
 abbrev pub Moves : State → Pages → Event → Reply → State → Pages → Type 0

@@ -13,11 +13,11 @@ use Rattle.sd_model.specs.declared.event.Reply.TheVariants.{Refused}
 use Rattle.sd_model.specs.State.{State}
 use Rattle.sd_model.specs.Applies.{IsRecovering}
 use Rattle.sd_model.specs.Fields.{inst_of}
-use Rattle.sd_model.specs.Causes.{order, has}
+use Rattle.sd_model.specs.Causes.{order, has_cause}
 use Rattle.sd_model.specs.Refusing.{Names, found}
 use Rattle.sd_model.specs.Step.{Step}
 use Rattle.sd_model.specs.Run.{Run}
-use Rattle.sd_rig.specs.Devices.{Image}
+use Rattle.sd_rig.specs.Devices.{DeviceImages}
 use Rattle.sd_pagelock.specs.Places.{holds, is_lost, seen, uses}
 use Rattle.sd_pagelock.specs.Asks.{asks_by}
 use Rattle.sd_world.specs.Pages.{Pages, AreFormed, fell}
@@ -45,7 +45,7 @@ CauseIsSaid = (m : State) (w : Pages) (e : Event) (n : Refusal) (m' : State) (w'
 -- another reply comes only where no cause applies that the pages decide
 abbrev pub AnswerIsClear : Type 0
 AnswerIsClear = (m : State) (w : Pages) (e : Event) (r : Reply) (m' : State) (w' : Pages) (c : Cause)
-    → Moves m w e r m' w' → IsAnswer r → has c (order e) ≡ true → decided e c ≡ true → PagesSay m w e c → ⊥
+    → Moves m w e r m' w' → IsAnswer r → has_cause c (order e) ≡ true → decided e c ≡ true → PagesSay m w e c → ⊥
 
 -- a refusal changes the pages only where a device failed
 abbrev pub RefusalLeavesPages : Type 0
@@ -151,10 +151,10 @@ abbrev pub LeadsExactly : Type 0
 LeadsExactly = (es : List Entry) (old new : Core) → Leads old es new → ExactRun old.scene es new.scene
 
 -- a call that spares all, and then one that leads to another state, are together like the second; so it is the other way round
-abbrev pub SparedPasses : {D : Type 0} → Telling D → (Image → State → Type 0) → Type 0
+abbrev pub SparedPasses : {D : Type 0} → Telling D → (DeviceImages → State → Type 0) → Type 0
 SparedPasses {D} tell stands =
     (a b c : D) (m m' : State) → KeepsEarlier tell c → Passes tell stands a b m m → Passes tell stands b c m m' → Passes tell stands a c m m'
 
-abbrev pub PassesSpared : {D : Type 0} → Telling D → (Image → State → Type 0) → Type 0
+abbrev pub PassesSpared : {D : Type 0} → Telling D → (DeviceImages → State → Type 0) → Type 0
 PassesSpared {D} tell stands =
     (a b c : D) (m m' : State) → KeepsEarlier tell c → Passes tell stands a b m m' → Passes tell stands b c m' m' → Passes tell stands a c m m'

@@ -11,7 +11,7 @@ use Rattle.sd_model.specs.Applies.{Changes, HasPage, IsLost, unless}
 use Rattle.sd_pagelock.specs.Places.{holds, owns, is_free, is_lost, passes, receives}
 use Rattle.sd_pagelock.specs.Rows.{may_evict}
 use Rattle.sd_pagelock.specs.Asks.{oldest}
-use Rattle.sd_world.specs.Pages.{Pages, held, is_duty}
+use Rattle.sd_world.specs.Pages.{Pages, held_count, is_duty}
 
 -- the page of a transaction's last live put
 abbrev pub last_page : Puts → ℕ
@@ -76,10 +76,10 @@ IsUnderWay w (Give i p) = passes (w.entry p) ≡ true
 IsUnderWay w e = ⊥
 
 -- the page would come into a pool that holds as many as it has frames
-abbrev pub LacksFrame : Pages → Event → Type 0
-LacksFrame w (Ask i p mode) = (is_free (w.entry p) ≡ true) × (w.frames ≤ held w.entry i 1024)
-LacksFrame w (Take i p) = w.frames ≤ held w.entry i 1024
-LacksFrame w e = ⊥
+abbrev pub PoolIsFull : Pages → Event → Type 0
+PoolIsFull w (Ask i p mode) = (is_free (w.entry p) ≡ true) × (w.frames ≤ held_count w.entry i 1024)
+PoolIsFull w (Take i p) = w.frames ≤ held_count w.entry i 1024
+PoolIsFull w e = ⊥
 
 -- nobody else asks for the page
 abbrev pub IsUnasked : Pages → Event → Type 0
@@ -101,7 +101,7 @@ abbrev pub PagesSay : State → Pages → Event → Cause → Type 0
 PagesSay m w e Cause.Lost = IsLostFor m w e
 PagesSay m w e Cause.Away = IsAway m w e
 PagesSay m w e Cause.Moving = IsUnderWay w e
-PagesSay m w e Cause.Frame = LacksFrame w e
+PagesSay m w e Cause.Frame = PoolIsFull w e
 PagesSay m w e Cause.Asks = IsUnasked w e
 PagesSay m w e Cause.Dirty = IsOnlyCopy w e
 PagesSay m w e Cause.Check = HasNoCheck w e

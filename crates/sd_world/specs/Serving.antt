@@ -5,7 +5,7 @@ use Rattle.sd_base.specs.declared.ids.TxnId.{TxnId}
 use Rattle.sd_base.specs.declared.refusal.Refusal.{Refusal}
 use Rattle.sd_base.specs.declared.refusal.Refusal.TheVariants as R
 use Rattle.sd_base.specs.Streams.{Rises}
-use Rattle.sd_rig.specs.Devices.{Image, Elapses, Span}
+use Rattle.sd_rig.specs.Devices.{DeviceImages, Elapses, Span}
 use Rattle.sd_model.specs.declared.event.Event.{Event}
 use Rattle.sd_model.specs.declared.event.Event.TheVariants.{FailAll}
 use Rattle.sd_model.specs.declared.event.Reply.{Reply}
@@ -42,19 +42,19 @@ pub record Turns (old : Core) (e : Event) (r : Reply) (new : Core) : Type 0 wher
 
 -- what devices tell of themselves: what they read, what a crash may leave of them now and since a moment, their clock and their faults
 pub record Telling (D : Type 0) : Type 1 where
-  pub seen : D → Image
+  pub seen : D → DeviceImages
   pub leaves : D → ℕ → List ℕ → Type 0
   pub moment : D → ℕ
-  pub since : D → ℕ → Image → Type 0
+  pub since : D → ℕ → DeviceImages → Type 0
   pub faults : D → ℕ
 
 -- what devices tell, by its parts
-abbrev pub telling : {D : Type 0} → (D → Image) → (D → ℕ → List ℕ → Type 0) → (D → ℕ) → (D → ℕ → Image → Type 0) → (D → ℕ) → Telling D
+abbrev pub telling : {D : Type 0} → (D → DeviceImages) → (D → ℕ → List ℕ → Type 0) → (D → ℕ) → (D → ℕ → DeviceImages → Type 0) → (D → ℕ) → Telling D
 telling seen leaves moment since faults = record { seen = seen; leaves = leaves; moment = moment; since = since; faults = faults }
 
 -- what was left since a later moment was left since an earlier one
 abbrev pub KeepsEarlier : {D : Type 0} → Telling D → D → Type 0
-KeepsEarlier tell d = (t u : ℕ) (img : Image) → t ≤ u → tell.since d u img → tell.since d t img
+KeepsEarlier tell d = (t u : ℕ) (img : DeviceImages) → t ≤ u → tell.since d u img → tell.since d t img
 
 -- the reply tells a fault of a device
 abbrev pub IsFault : Reply → Type 0
@@ -74,25 +74,25 @@ FaultsAre e (reply.Refused R.CutCommit) old new = Rises old new
 FaultsAre e r old new = FewFaults e old new
 
 -- the call took its time, and each image that crashes since it began may have left stands for the state before or after
-pub record Passes {D : Type 0} (tell : Telling D) (stands : Image → State → Type 0) (old new : D) (m m' : State) : Type 0 where
+pub record Passes {D : Type 0} (tell : Telling D) (stands : DeviceImages → State → Type 0) (old new : D) (m m' : State) : Type 0 where
   pub time : Elapses (tell.moment old) (tell.moment new) (tell.since old) (tell.since new)
   pub span : Span (tell.moment old) (tell.since new) (λ img. stands img m ⊎ stands img m')
 
 -- The reply turns the one core into the other, which the complex fits then. `rig` is the complex's devices; `fits` says which cores it fits.
-pub record Serves {C D : Type 0} (tell : Telling D) (stands : Image → State → Type 0) (rig : C → D) (fits : C → Core → Type 0)
+pub record Serves {C D : Type 0} (tell : Telling D) (stands : DeviceImages → State → Type 0) (rig : C → D) (fits : C → Core → Type 0)
     (e : Event) (r : Reply) (old new : C) (w w' : Core) : Type 0 where
   pub turns : Turns w e r w'
   pub fits_then : fits new w'
   pub passes : Passes tell stands (rig old) (rig new) w.scene.state w'.scene.state
 
 -- the complex fits the same core still
-pub record Spares {C D : Type 0} (tell : Telling D) (stands : Image → State → Type 0) (rig : C → D) (fits : C → Core → Type 0)
+pub record Spares {C D : Type 0} (tell : Telling D) (stands : DeviceImages → State → Type 0) (rig : C → D) (fits : C → Core → Type 0)
     (old new : C) (w : Core) : Type 0 where
   pub fits_still : fits new w
   pub passes : Passes tell stands (rig old) (rig new) w.scene.state w.scene.state
 
 -- from each core that the complex fits, a reply turns to one that it fits then; want of memory spares all
-abbrev pub Served : {C D : Type 0} → Telling D → (Image → State → Type 0) → (C → D) → (C → Core → Type 0)
+abbrev pub Served : {C D : Type 0} → Telling D → (DeviceImages → State → Type 0) → (C → D) → (C → Core → Type 0)
     → Event → Option Reply → C → C → Type 0
 Served tell stands rig fits e None old new =
     ((w : Core) → fits old w → Spares tell stands rig fits old new w) × (tell.faults (rig new) ≡ tell.faults (rig old))
@@ -114,12 +114,12 @@ abbrev pub did : {X : Type 0} → Result X Refusal → Option Reply
 did result = answered (λ x. reply.Did) result
 
 -- the transaction that began
-abbrev pub began : Result TxnId Refusal → Option Reply
-began result = answered (λ t. reply.Began t) result
+abbrev pub began_reply : Result TxnId Refusal → Option Reply
+began_reply result = answered (λ t. reply.Began t) result
 
 -- the value of a record, or none
-abbrev pub found : Result (Option (List ℕ)) Refusal → Option Reply
-found result = answered (λ v. reply.Value v) result
+abbrev pub found_reply : Result (Option (List ℕ)) Refusal → Option Reply
+found_reply result = answered (λ v. reply.Value v) result
 
 -- where the new record is
 abbrev pub placed_at : Result Rid Refusal → Option Reply
@@ -139,8 +139,8 @@ abbrev pub gave : Result ℕ Refusal → Option Reply
 gave result = answered (λ to. reply.Gave to) result
 
 -- the epoch in which an instance joined
-abbrev pub joined : Result ℕ Refusal → Option Reply
-joined result = answered (λ epoch. reply.Joined epoch) result
+abbrev pub joined_reply : Result ℕ Refusal → Option Reply
+joined_reply result = answered (λ epoch. reply.Joined epoch) result
 
 -- whether a rollback or a recovery is at its end after a step
 abbrev pub step_or_finished : Bool → Reply

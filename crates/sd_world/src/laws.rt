@@ -1,6 +1,6 @@
 //! What holds of each event in the world, and of runs: laws, each the contract of a call that does nothing.
 
-ghost use Rattle.sd_rig.specs.Devices.{Image};
+ghost use Rattle.sd_rig.specs.Devices.{DeviceImages};
 ghost use Rattle.sd_model.specs.State.{State};
 ghost use Rattle.sd_world.specs.Serving.{telling};
 ghost use Rattle.sd_world.specs.Laws.{CauseIsSaid, AnswerIsClear, RefusalLeavesPages, RefusalLeavesState, RefusedByPages, MovesKeepForm, RunKeepsForm, FallenHasNone, OthersHoldOn, LossStaysKnown, SumsGrow, OneLogGrows, LogsGrowLittle, RunGrows, FullOnlyByPage, FullOnlyByLog, EndsOnlyByLsns, LeadsJoin, LeadsGrow, LeadsRuns, LeadsExactly, SparedPasses, PassesSpared};
@@ -9,7 +9,7 @@ use sd_rig::Rig;
 
 /// Which states an image of the devices stands for.
 pub trait Standing {
-    ghost stands: { Image → State → Type 0 };
+    ghost stands: { DeviceImages → State → Type 0 };
 }
 
 /// A refusal is for what it names, and leaves what it leaves; another reply comes only where no cause applies.

@@ -8,7 +8,7 @@ use Rattle.sd_base.specs.Streams.{Rises}
 use Rattle.sd_base.specs.declared.place.Status.{Status}
 use Rattle.sd_base.specs.declared.place.Status.TheVariants as S
 use Rattle.sd_base.specs.declared.refusal.Refusal.TheVariants as R
-use Rattle.sd_rig.specs.Devices.{Elapses, Image, Span}
+use Rattle.sd_rig.specs.Devices.{DeviceImages, Elapses, Span}
 use Rattle.sd_log.specs.Logs.{LogState, forced}
 use Rattle.sd_logrec.specs.View.{Rec, flat}
 use Rattle.sd_logrec.specs.declared.record.Record.{Record}
@@ -54,7 +54,7 @@ forced-whole l = ap₂ (λ (b : List Rec) (t : List Record). b ++ map flat t) (f
 
 -- ---- Ok
 
-module _ (i owes : ℕ) (seen seen' : Image) (leaves leaves' : Outcomes) (c : Parts) (w : Core) (low : 1 ≤ i) (high : i ≤ 8)
+module _ (i owes : ℕ) (seen seen' : DeviceImages) (leaves leaves' : Outcomes) (c : Parts) (w : Core) (low : 1 ≤ i) (high : i ≤ 8)
     (f : Fits seen leaves c w) (settled : is_loose c i ≡ false) (disk : seen' 0 ≡ seen 0) (kept : KeepMasters leaves leaves') where
   abbrev then : Parts
   then = with_forced i (forced (log_at c i)) owes c
@@ -88,7 +88,7 @@ module _ (i owes : ℕ) (seen seen' : Image) (leaves leaves' : Outcomes) (c : Pa
   }
 
 -- what the log owes then is what all of its records owe
-forced-owes : (i : ℕ) (seen : Image) (leaves : Outcomes) (pend : Pending) (c new : Parts) (m : State) → 1 ≤ i → i ≤ 8
+forced-owes : (i : ℕ) (seen : DeviceImages) (leaves : Outcomes) (pend : Pending) (c new : Parts) (m : State) → 1 ≤ i → i ≤ 8
     → Good seen leaves pend new m → log_at new i ≡ forced (log_at c i) → is_loose new i ≡ false
     → owed_at new i ≡ owed (all_at (log_at c i))
 forced-owes i seen leaves pend c new m low high good is settled =

@@ -3,8 +3,8 @@ use Rattle.std.proofs.Common.{◌≡◌, ℕ, ◌≤◌, true, false, refl, sym,
 use Rattle.std.specs.Prelude.{None, Some, Result, Ok, Err, OnErr, OnOk, IfErr}
 use Rattle.sd_base.specs.declared.refusal.Refusal.{Refusal}
 use Rattle.sd_base.specs.declared.refusal.Refusal.TheVariants as R
-use Rattle.sd_rig.specs.Devices.{Image, Leaves}
-use Rattle.sd_model.specs.Applies.{Serves as Standing}
+use Rattle.sd_rig.specs.Devices.{DeviceImages, Leaves}
+use Rattle.sd_model.specs.Applies.{MayServe}
 use Rattle.sd_model.specs.declared.cause.Cause.{Cause}
 use Rattle.sd_model.specs.declared.event.Event.{Event}
 use Rattle.sd_model.specs.declared.event.Event.TheVariants.{Force}
@@ -39,12 +39,12 @@ module _ {G : Type 0} (tell : Telling G) (c : Complex G) (i : ℕ) (low : 1 ≤ 
     left = refl;
   }
 
-  pub force-refused : ((img : Image) → tell.since c.rig (tell.moment c.rig) img → Leaves (tell.leaves c.rig) img)
+  pub force-refused : ((img : DeviceImages) → tell.since c.rig (tell.moment c.rig) img → Leaves (tell.leaves c.rig) img)
       → is_active (parts c) i ≡ false → Serving tell event (Some (reply.Refused R.Down)) c c
   force-refused now rests = ((λ w f. refused-serves tell c now w f event R.Down Cause.Down (idle rests w f)), refl)
 
   module _ (active : is_active (parts c) i ≡ true) where
-    stands : (w : Core) → fits_by tell.seen tell.leaves c w → (Standing w.scene.state event → ⊥) → ⊥
+    stands : (w : Core) → fits_by tell.seen tell.leaves c w → (MayServe w.scene.state event → ⊥) → ⊥
     stands w f none = none (active-serves (tell.seen c.rig) (tell.leaves c.rig) (parts c) w f i low high active)
 
     breaks : (w : Core) → fits_by tell.seen tell.leaves c w → BreaksBy i event w

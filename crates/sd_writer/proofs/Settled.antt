@@ -14,7 +14,7 @@ use Rattle.sd_state.specs.Parts.{Parts, log_at}
 use Rattle.sd_state.specs.Values.{Pending}
 use Rattle.sd_writer.specs.Writing.{IsWritten}
 
-pub settled-page : (p : ℕ) (seen : rig.Image) (leaves : Outcomes) (pend : Pending) (c : Parts) (m : State) → Good seen leaves
+pub settled-page : (p : ℕ) (seen : rig.DeviceImages) (leaves : Outcomes) (pend : Pending) (c : Parts) (m : State) → Good seen leaves
     pend c m
     → c.due ≡ None → changed (entry_at c.directory p) ≡ false → IsWritten p seen leaves c
 settled-page p seen leaves pend c m g idle clean =

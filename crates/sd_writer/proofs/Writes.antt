@@ -5,24 +5,24 @@ use Rattle.std.proofs.lemmas.Bool.{cases_eq}
 use Rattle.sd_base.specs.declared.place.Place.{Place}
 use Rattle.sd_base.specs.declared.refusal.Refusal.{Refusal}
 use Rattle.sd_base.specs.declared.refusal.Refusal.TheVariants as R
-use Rattle.sd_rig.specs.Devices.{Elapses, Image, Leaves, LeavesSame, Span}
+use Rattle.sd_rig.specs.Devices.{DeviceImages, Elapses, Leaves, LeavesSame, Span}
 use Rattle.sd_chain.specs.Records.{Each}
-use Rattle.sd_model.specs.Applies.{First, Serves as Standing}
+use Rattle.sd_model.specs.Applies.{First, MayServe}
 use Rattle.sd_model.specs.State.{State}
 use Rattle.sd_model.specs.declared.cause.Cause.{Cause}
 use Rattle.sd_model.specs.declared.event.Event.{Event}
 use Rattle.sd_model.specs.declared.event.Event.TheVariants.{Flush}
 use Rattle.sd_model.specs.declared.event.Reply.TheVariants as reply
 use Rattle.sd_moves.specs.Putting.{SameVersions, with_written}
-use Rattle.sd_pagelock.specs.Asks.{is_open, open_asks}
+use Rattle.sd_pagelock.specs.Asks.{is_open_ask, open_asks}
 use Rattle.sd_pagelock.specs.Directory.{asks_at, entry_at}
-use Rattle.sd_pagelock.specs.Places.{Entry, changed, is_lost, seen}
+use Rattle.sd_pagelock.specs.Places.{PageEntry, changed, is_lost, seen}
 use Rattle.sd_pagelock.specs.Rows.{may_write, written}
 use Rattle.sd_pagelock.specs.declared.queue.Ask.{Ask}
 use Rattle.sd_pagelock.proofs.Uses.{clean-written}
 use Rattle.sd_world.specs.Bounds.{bounds_after}
 use Rattle.sd_world.specs.PageCauses.{IsAway, IsLostFor}
-use Rattle.sd_world.specs.Pages.{Pages, is_duty, placed, put}
+use Rattle.sd_world.specs.Pages.{Pages, is_duty, page_placed, put}
 use Rattle.sd_world.specs.Serving.{Core, Passes, Serves, Telling, Turns, refused}
 use Rattle.sd_state.specs.Complexes.{parts}
 use Rattle.sd_state.specs.Forcing.{KeepMasters}
@@ -53,25 +53,25 @@ put-same {X} p x f g here others q = ⊎_elim
     (cases_eq p q)
 
 -- whoever has the write of it has it alone
-clean-same : (i : ℕ) (e : Entry) → is_duty i e ≡ true → may_write e ≡ false → written e ≡ e
-clean-same i Entry.Free d w = absurd (cc)
-clean-same i (Entry.Shared set None) d w = absurd (cc)
-clean-same i (Entry.Shared set (Some x)) d w = absurd (cc)
-clean-same i (Entry.Excl holder dirty) d w = ap (Entry.Excl holder) (sym w)
-clean-same i (Entry.Moving to mode rest dirty) d w = absurd (cc)
-clean-same i Entry.Lost d w = absurd (cc)
+clean-same : (i : ℕ) (e : PageEntry) → is_duty i e ≡ true → may_write e ≡ false → written e ≡ e
+clean-same i PageEntry.Free d w = absurd (cc)
+clean-same i (PageEntry.Shared set None) d w = absurd (cc)
+clean-same i (PageEntry.Shared set (Some x)) d w = absurd (cc)
+clean-same i (PageEntry.Excl holder dirty) d w = ap (PageEntry.Excl holder) (sym w)
+clean-same i (PageEntry.Moving to mode rest dirty) d w = absurd (cc)
+clean-same i PageEntry.Lost d w = absurd (cc)
 
-pub clean-unchanged : (i : ℕ) (e : Entry) → is_duty i e ≡ true → may_write e ≡ false → changed e ≡ false
-clean-unchanged i Entry.Free d w = absurd (cc)
-clean-unchanged i (Entry.Shared set None) d w = absurd (cc)
-clean-unchanged i (Entry.Shared set (Some x)) d w = absurd (cc)
-clean-unchanged i (Entry.Excl holder dirty) d w = w
-clean-unchanged i (Entry.Moving to mode rest dirty) d w = absurd (cc)
-clean-unchanged i Entry.Lost d w = absurd (cc)
+pub clean-unchanged : (i : ℕ) (e : PageEntry) → is_duty i e ≡ true → may_write e ≡ false → changed e ≡ false
+clean-unchanged i PageEntry.Free d w = absurd (cc)
+clean-unchanged i (PageEntry.Shared set None) d w = absurd (cc)
+clean-unchanged i (PageEntry.Shared set (Some x)) d w = absurd (cc)
+clean-unchanged i (PageEntry.Excl holder dirty) d w = w
+clean-unchanged i (PageEntry.Moving to mode rest dirty) d w = absurd (cc)
+clean-unchanged i PageEntry.Lost d w = absurd (cc)
 
 -- open asks stay
-pub asks-stay : (active : ℕ → Bool) (e : Entry) (asks : List Ask)
-    → Each (λ (ask : Ask). (active ask.by ≡ true) × (is_open e ask ≡ true)) asks → open_asks e asks ≡ asks
+pub asks-stay : (active : ℕ → Bool) (e : PageEntry) (asks : List Ask)
+    → Each (λ (ask : Ask). (active ask.by ≡ true) × (is_open_ask e ask ≡ true)) asks → open_asks e asks ≡ asks
 asks-stay active e [] all = refl
 asks-stay active e (ask ∷ asks) all =
     ap (λ (b : Bool). cond {A = List Ask} b (ask ∷ open_asks e asks) (open_asks e asks)) all.0.1
@@ -80,7 +80,7 @@ asks-stay active e (ask ∷ asks) all =
 -- ---- the event
 
 module _ {G : Type 0} (tell : Telling G) (c : Complex G) (i p : ℕ) (low : 1 ≤ i) (high : i ≤ 8) where
-  abbrev here : Entry
+  abbrev here : PageEntry
   here = entry_at (parts c).directory p
 
   abbrev event : Event
@@ -92,7 +92,7 @@ module _ {G : Type 0} (tell : Telling G) (c : Complex G) (i p : ℕ) (low : 1 �
     abbrev m : State
     m = w.scene.state
 
-    stands : is_active (parts c) i ≡ true → (Standing m event → ⊥) → ⊥
+    stands : is_active (parts c) i ≡ true → (MayServe m event → ⊥) → ⊥
     stands active none = none (active-serves (tell.seen c.rig) (tell.leaves c.rig) (parts c) w f i low high active)
 
     found : is_lost here ≡ false → IsLostFor m w.pages event → ⊥
@@ -165,7 +165,7 @@ module _ {G : Type 0} (tell : Telling G) (c : Complex G) (i p : ℕ) (low : 1 �
     }
 
     abbrev pages : Pages
-    pages = placed p (written (w.pages.entry p)) w.pages
+    pages = page_placed p (written (w.pages.entry p)) w.pages
 
     -- the write is done, and the page is clean
     done-turns : IsWriters (parts c) i p → Turns w event reply.Did (repaged w pages event reply.Did)
@@ -176,7 +176,7 @@ module _ {G : Type 0} (tell : Telling G) (c : Complex G) (i p : ℕ) (low : 1 �
 
   -- ---- refused at once
 
-  module _ (now : (img : Image) → tell.since c.rig (tell.moment c.rig) img → Leaves (tell.leaves c.rig) img) where
+  module _ (now : (img : DeviceImages) → tell.since c.rig (tell.moment c.rig) img → Leaves (tell.leaves c.rig) img) where
     refused-so : (n : Refusal) (cause : Cause) (w : Core) (f : fits_by tell.seen tell.leaves c w) → IsFor w.scene.state w event
         n cause
         → (w' : Core) × Serves {C = Complex G} tell stands_for (λ k. k.rig) (fits_by tell.seen tell.leaves) event
@@ -198,7 +198,7 @@ module _ {G : Type 0} (tell : Telling G) (c : Complex G) (i p : ℕ) (low : 1 �
       same = clean-same i here may.duty clean
 
       asks : open_asks (written here) (asks_at (parts c).directory p) ≡ asks_at (parts c).directory p
-      asks = ap (λ (e : Entry). open_asks e (asks_at (parts c).directory p)) same
+      asks = ap (λ (e : PageEntry). open_asks e (asks_at (parts c).directory p)) same
           ∙ asks-stay (is_active (parts c)) here (asks_at (parts c).directory p) (any.1.good.asks p)
 
       clean-fits : (w : Core) (f : fits_by tell.seen tell.leaves c w) → fits_by tell.seen tell.leaves c
@@ -214,7 +214,7 @@ module _ {G : Type 0} (tell : Telling G) (c : Complex G) (i p : ℕ) (low : 1 �
           frames = f.pages.frames;
           entry = entries;
           asks = put-same p (open_asks (written (w.pages.entry p)) (w.pages.asks p)) w.pages.asks (asks_at (parts c).directory)
-              (ap (λ (e : Entry). open_asks (written e) (w.pages.asks p)) (f.pages.entry p)
+              (ap (λ (e : PageEntry). open_asks (written e) (w.pages.asks p)) (f.pages.entry p)
               ∙ ap (open_asks (written here)) (f.pages.asks p) ∙ asks)
               f.pages.asks;
           number = λ q there. f.pages.number q (ap is_lost (f.pages.entry q ∙ sym (entries q)) ∙ there);
@@ -269,7 +269,7 @@ module _ {G : Type 0} (tell : Telling G) (c : Complex G) (i p : ℕ) (low : 1 �
           (record (parts c) { pools = (parts c).pools; directory = (parts mid).directory }) (pages w f)
       done-pages w f = placed-pages (parts c).pools (parts mid).directory (tell.seen c.rig) (tell.leaves c.rig) (parts c) w f
           (λ j. refl) p (written (w.pages.entry p)) None
-          (subst (λ (e : Entry). IsSet p (written e) None (parts c).directory (parts mid).directory) (sym (f.pages.entry p)) set)
+          (subst (λ (e : PageEntry). IsSet p (written e) None (parts c).directory (parts mid).directory) (sym (f.pages.entry p)) set)
           (λ there. ap is_lost (f.pages.entry p) ∙ may.found)
 
       done-fits : (w : Core) (f : fits_by tell.seen tell.leaves c w) → fits_by tell.seen tell.leaves mid

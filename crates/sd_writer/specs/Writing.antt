@@ -28,6 +28,6 @@ pub record IsWriters (c : Parts) (i p : ℕ) : Type 0 where
   pub duty : is_duty i (entry_at c.directory p) ≡ true
 
 -- Whatever a crash leaves of page p is its newest version, and all records of the page are forced.
-pub record IsWritten (p : ℕ) (seen : rig.Image) (leaves : Outcomes) (c : Parts) : Type 0 where
+pub record IsWritten (p : ℕ) (seen : rig.DeviceImages) (leaves : Outcomes) (c : Parts) : Type 0 where
   pub only : (bytes : List ℕ) → leaves 0 bytes → disk_page bytes p ≡ newest_of seen leaves c p
   pub forced : (j : ℕ) → Quiet p (tail_at (log_at c j))

@@ -3,7 +3,7 @@ use Rattle.std.specs.Prelude.{All, IfOk, filter}
 use Rattle.std.proofs.lemmas.Result.{IfOk-weaker}
 use Rattle.sd_log.specs.declared.placed.Placed.{Placed}
 use Rattle.sd_log.specs.Logs.{AreSpelled, flats, forced_in, without_tail}
-use Rattle.sd_chain.specs.Image.{all_of, sorted}
+use Rattle.sd_chain.specs.Storage.{all_of, sorted}
 use Rattle.sd_chain.specs.Records.{of_page}
 use Rattle.sd_merge.specs.declared.change.Wanted.TheVariants as W
 use Rattle.sd_merge.specs.Changes.{ChangesPage, IsMerged, LsnsRise, found_of}

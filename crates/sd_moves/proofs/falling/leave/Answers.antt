@@ -6,7 +6,7 @@ use Rattle.sd_state.specs.Complexes.{begun_of, parts, unboxed}
 use Rattle.sd_state.specs.declared.complex.Checkpoint.{Checkpoint}
 use Rattle.sd_state.specs.Parts.{Begun, IsShape, Parts, no_pool, pool_at}
 use Rattle.sd_state.proofs.Items.{item-is}
-use Rattle.sd_moves.specs.Falling.{HaveFallen, emptied}
+use Rattle.sd_moves.specs.Falling.{HaveFallen, emptied_pool}
 use Rattle.sd_moves.proofs.FallLeft.{HasFallen, left-fallen, left-parts, moving-unboxed}
 use Rattle.sd_moves.proofs.FallSteps.{fallen-shape}
 use Rattle.sd_moves.proofs.falling.leave.Goals as goal
@@ -28,7 +28,7 @@ returns-clause-parts g c =
     left-parts i old mid (slice_set mid.pools (c.get.result - 1) c.clear.new.self)
     (map (option_map begun_of) (slice_set c.fall_with.new.c.checks.items (c.get.result - 1) none))
     (unboxed c.fall.new.self) c.retain.new.self h.same
-    (ap₂ (λ (n : ℕ) (pool : Buffers). slice_set mid.pools n pool) place (c.clear.ensures ∙ ap emptied (sym is)))
+    (ap₂ (λ (n : ℕ) (pool : Buffers). slice_set mid.pools n pool) place (c.clear.ensures ∙ ap emptied_pool (sym is)))
     (map-set (option_map begun_of) c.fall_with.new.c.checks.items (c.get.result - 1) none
     ∙ ap (λ (n : ℕ). slice_set {A = Option Begun} mid.checks n None) place)
 

@@ -5,7 +5,7 @@ use Rattle.sd_base.specs.declared.place.Mode.TheVariants as modes
 use Rattle.sd_page.specs.Page.{Page}
 use Rattle.sd_pagelock.specs.Directory.{DirectoryState, entry_at}
 use Rattle.sd_pagelock.specs.Moves.{IsMove}
-use Rattle.sd_pagelock.specs.Places.{Entry}
+use Rattle.sd_pagelock.specs.Places.{PageEntry}
 use Rattle.sd_pagelock.specs.Rows.{given_shared, may_share}
 use Rattle.sd_pool.specs.Buffers as buffers
 use Rattle.sd_state.specs.Complexes.{parts, unboxed}
@@ -35,7 +35,7 @@ returns-clause-good g c pend m good =
     let moves = c.set.ensures in
     let send = c.send_copy.ensures in
     let set : IsSet c.args.p (given_shared c.args.to (entry_at p.directory c.args.p)) None p.directory places =
-    subst (λ (e : Entry). IsSet c.args.p e None p.directory places)
+    subst (λ (e : PageEntry). IsSet c.args.p e None p.directory places)
     (c.given_shared-moving.ensures ∙ ap (given_shared c.args.to) c.entry-place.ensures)
     (set-from c.args.p _ None p.directory (unboxed c.send_copy.new.self) places send.places send.rec_lsns send.asks
     (record {

@@ -6,9 +6,9 @@ use Rattle.std.specs.Prelude.{Option, None, Some, IsSome, OnErr, Result, Ok, Err
 use Rattle.std.proofs.lemmas.Bool.{cases_eq}
 use Rattle.sd_base.specs.declared.refusal.Memory.{Memory}
 use Rattle.sd_page.specs.Page.{Page}
-use Rattle.sd_pagelock.specs.Directory.{DirectoryState, asks_at, entry_at, image_at}
+use Rattle.sd_pagelock.specs.Directory.{DirectoryState, asks_at, entry_at, moving_image_at}
 use Rattle.sd_pagelock.specs.Directory as directory
-use Rattle.sd_pagelock.specs.Places.{Entry}
+use Rattle.sd_pagelock.specs.Places.{PageEntry}
 use Rattle.sd_pagelock.specs.Rows.{taken}
 use Rattle.sd_pagelock.proofs.Uses.{receiver-passes}
 use Rattle.sd_pool.specs.Buffers as buffers
@@ -36,9 +36,9 @@ arrived-requires g c =
     let old = c.args.c.now in
     let good = c.requires.good in
     record {
-      there = none-there (image_at old.directory c.args.p)
+      there = none-there (moving_image_at old.directory c.args.p)
           (arrived-there (g.G.Rig.seen old.rig) (g.G.Rig.leaves old.rig) good.0 c.args.p old good.1 good.2
-          (receiver-passes c.args.i (entry_at (parts old).directory c.args.p) c.requires.receiver) (image_at old.directory c.args.p) refl);
+          (receiver-passes c.args.i (entry_at (parts old).directory c.args.p) c.requires.receiver) (moving_image_at old.directory c.args.p) refl);
     }
 
 after-error : (r : Result (Unit {0}) Memory) (P : Type 0) → P → OnErr r P
@@ -58,7 +58,7 @@ returns-in_err-image-clause-asks g c =
     let arrive = c.arrived.ensures in
     after-error c.from_residual.result _
     (asked-unboxed old c.arrived.new.directory c.args.p (asks_at old c.args.p) arrive.places arrive.rec_lsns
-    (kept (image_at old) (image_at c.arrived.new.directory) c.args.p c.in_err-image.ensures.stays arrive.others)
+    (kept (moving_image_at old) (moving_image_at c.arrived.new.directory) c.args.p c.in_err-image.ensures.stays arrive.others)
     (arrive.asks c.args.p) (λ q ne. arrive.asks q))
 
 pub returns-in_err-image-clause-good : goal.returns-in_err-image-clause-good
@@ -69,7 +69,7 @@ returns-in_err-image-clause-good g c pend m good =
     let places : DirectoryState Page = unboxed c.arrived.new.directory in
     let asked : IsAsked c.args.p (asks_at old c.args.p) p.directory places =
     asked-unboxed old c.arrived.new.directory c.args.p (asks_at old c.args.p) arrive.places arrive.rec_lsns
-    (kept (image_at old) (image_at c.arrived.new.directory) c.args.p c.in_err-image.ensures.stays arrive.others)
+    (kept (moving_image_at old) (moving_image_at c.arrived.new.directory) c.args.p c.in_err-image.ensures.stays arrive.others)
     (arrive.asks c.args.p) (λ q ne. arrive.asks q) in
     asked-good c.args.p (g.G.Rig.seen c.args.c.now.rig) (g.G.Rig.leaves c.args.c.now.rig) pend p m good places
     (asks_at old c.args.p) asked (good.asks c.args.p)
@@ -89,7 +89,7 @@ returns-in-Err-clause-asks g c =
     let send = c.send.ensures in
     asked-unboxed old c.send.new.self c.args.p (asks_at old c.args.p)
     (λ q. send.places q ∙ arrive.places q) (λ q. send.rec_lsns q ∙ arrive.rec_lsns q)
-    (back (image_at old) (image_at c.arrived.new.directory) (image_at c.send.new.self) c.args.p c.in-Err.image
+    (back (moving_image_at old) (moving_image_at c.arrived.new.directory) (moving_image_at c.send.new.self) c.args.p c.in-Err.image
     arrive.others send.others send.here
     (c.in_ok-image.ensures.value ∙ ap (λ (b : Box Page). Some b) (sym c.in-Err.ensures.back)))
     (send.asks c.args.p ∙ arrive.asks c.args.p) (λ q ne. send.asks q ∙ arrive.asks q)
@@ -104,7 +104,7 @@ returns-in-Err-clause-good g c pend m good =
     let asked : IsAsked c.args.p (asks_at old c.args.p) p.directory places =
     asked-unboxed old c.send.new.self c.args.p (asks_at old c.args.p)
     (λ q. send.places q ∙ arrive.places q) (λ q. send.rec_lsns q ∙ arrive.rec_lsns q)
-    (back (image_at old) (image_at c.arrived.new.directory) (image_at c.send.new.self) c.args.p c.in-Err.image
+    (back (moving_image_at old) (moving_image_at c.arrived.new.directory) (moving_image_at c.send.new.self) c.args.p c.in-Err.image
     arrive.others send.others send.here
     (c.in_ok-image.ensures.value ∙ ap (λ (b : Box Page). Some b) (sym c.in-Err.ensures.back)))
     (send.asks c.args.p ∙ arrive.asks c.args.p) (λ q ne. send.asks q ∙ arrive.asks q) in
@@ -133,7 +133,7 @@ returns-clause-parts g c =
     let newest : Page = newest_of (g.G.Rig.seen old.rig) (g.G.Rig.leaves old.rig) p c.args.p in
     let image : c.in_ok-image.image.value ≡ newest =
     arrived-is (g.G.Rig.seen old.rig) (g.G.Rig.leaves old.rig) good.0 c.args.p old good.1 good.2
-    (receiver-passes i (entry_at p.directory c.args.p) c.requires.receiver) (image_at old.directory c.args.p) refl
+    (receiver-passes i (entry_at p.directory c.args.p) c.requires.receiver) (moving_image_at old.directory c.args.p) refl
     c.in_ok-image.image c.in_ok-image.ensures.value in
     let is : c.put.new.self ≡ with_page (pool_at p i) c.args.p newest =
     c.in-Ok.ensures.ok ∙ ap₂ (λ (b : Buffers) (x : Page). with_page b c.args.p x) (sym lent) image in
@@ -156,7 +156,7 @@ returns-clause-good g c pend m good =
     let moves = c.set.ensures in
     let arrive = c.arrived.ensures in
     let set : IsSet c.args.p (taken (entry_at p.directory c.args.p)) None p.directory places =
-    subst (λ (e : Entry). IsSet c.args.p e None p.directory places)
+    subst (λ (e : PageEntry). IsSet c.args.p e None p.directory places)
     (c.taken-taken.ensures ∙ ap taken c.entry-place.ensures)
     (set-from c.args.p _ None p.directory (unboxed c.arrived.new.directory) places arrive.places arrive.rec_lsns arrive.asks
     (record {
@@ -169,7 +169,7 @@ returns-clause-good g c pend m good =
     })) in
     let way : IsOnWay c.args.p None p.directory places = way-unboxed c.args.p None c.args.c.now.directory c.set.new.self
     (ap (option_map box_value) (moves.images c.args.p ∙ c.in_ok-image.ensures.here)) (λ q ne. moves.images q ∙ arrive.others q ne) in
-    let comes : buffers.image_at c.put.new.self c.args.p ≡ directory.image_at p.directory c.args.p =
+    let comes : buffers.image_at c.put.new.self c.args.p ≡ directory.moving_image_at p.directory c.args.p =
     c.in-Ok.ensures.there ∙ ap (option_map box_value) (sym c.in_ok-image.ensures.value)
     ∙ sym (get_or-map (option_map box_value) c.args.c.now.directory.images c.args.p None) in
     subst (λ (n : ℕ). Good seen leaves pend (record p { pools = slice_set p.pools n c.put.new.self; directory = places }) m)

@@ -5,10 +5,10 @@ use Rattle.sd_base.specs.declared.place.Mode.TheVariants as modes
 use Rattle.sd_page.specs.Page.{Page}
 use Rattle.sd_pagelock.specs.Directory.{DirectoryState, entry_at}
 use Rattle.sd_pagelock.specs.Moves.{IsMove}
-use Rattle.sd_pagelock.specs.Places.{Entry}
+use Rattle.sd_pagelock.specs.Places.{PageEntry}
 use Rattle.sd_pagelock.specs.Rows.{given_excl, may_yield}
 use Rattle.sd_pool.specs.Buffers as buffers
-use Rattle.sd_pool.specs.Buffers.{Buffers, without}
+use Rattle.sd_pool.specs.Buffers.{Buffers, without_page}
 use Rattle.sd_state.specs.Complexes.{parts, unboxed}
 use Rattle.sd_state.specs.Good.{Good}
 use Rattle.sd_state.specs.Locking.{IsSet, with_place}
@@ -59,8 +59,8 @@ returns-clause-parts g c =
     let lent : pool_at p i ≡ c.index_mut.result.now =
     pool-lent p i (c.get.result - 1) c.index_mut.result.now low high c.requires.good.2.shape.pools place
     c.index_mut.ensures.value in
-    let is : c.take.new.self ≡ without (pool_at p i) c.args.p =
-    c.take.ensures.rest ∙ ap (λ (b : Buffers). without b c.args.p) (sym lent) in
+    let is : c.take.new.self ≡ without_page (pool_at p i) c.args.p =
+    c.take.ensures.rest ∙ ap (λ (b : Buffers). without_page b c.args.p) (sym lent) in
     let places : DirectoryState Page = unboxed c.set.new.self in
     ap (λ (n : ℕ). record p { pools = slice_set p.pools n c.take.new.self; directory = places }) place
     ∙ ap (λ (b : Buffers). with_place i b places p) is
@@ -80,7 +80,7 @@ returns-clause-good g c pend m good =
     let moves = c.set.ensures in
     let send = c.send.ensures in
     let set : IsSet c.args.p (given_excl c.args.to (entry_at p.directory c.args.p)) None p.directory places =
-    subst (λ (e : Entry). IsSet c.args.p e None p.directory places)
+    subst (λ (e : PageEntry). IsSet c.args.p e None p.directory places)
     (c.given_excl-moving.ensures ∙ ap (given_excl c.args.to) c.entry-place.ensures)
     (set-from c.args.p _ None p.directory (unboxed c.send.new.self) places send.places send.rec_lsns send.asks
     (record {

@@ -2,12 +2,12 @@ use Rattle.std.proofs.Common.{◌≡◌, ℕ, ◌-◌, ◌≤◌, true, false, s
 use Rattle.std.specs.Prelude.{None}
 use Rattle.sd_pagelock.specs.Directory.{DirectoryState, entry_at}
 use Rattle.sd_pagelock.specs.Moves.{IsMove}
-use Rattle.sd_pagelock.specs.Places.{Entry, changed}
+use Rattle.sd_pagelock.specs.Places.{PageEntry, changed}
 use Rattle.sd_pagelock.specs.Rows.{fallen}
 use Rattle.sd_pagelock.proofs.Drops.{changed-fallen}
 use Rattle.sd_page.specs.Page.{Page}
 use Rattle.sd_pool.specs.Buffers as buffers
-use Rattle.sd_pool.specs.Buffers.{Buffers, without}
+use Rattle.sd_pool.specs.Buffers.{Buffers, without_page}
 use Rattle.sd_state.specs.Complexes.{parts, unboxed}
 use Rattle.sd_state.specs.Good.{Good}
 use Rattle.sd_state.specs.Locking.{IsSet, with_place}
@@ -19,13 +19,13 @@ use Rattle.sd_moves.proofs.places.drop_copy.Goals as goal
 
 pub set-requires-clause-lawful : goal.set-requires-clause-lawful
 set-requires-clause-lawful g c = IsMove.evict c.args.i c.requires.spare
-    (c.fallen-left.ensures ∙ ap (λ (e : Entry). fallen c.args.i e) c.entry-place.ensures)
+    (c.fallen-left.ensures ∙ ap (λ (e : PageEntry). fallen c.args.i e) c.entry-place.ensures)
 
 pub set-requires-clause-first : goal.set-requires-clause-first
 set-requires-clause-first g c was is =
     let same : changed (entry_at c.args.c.now.directory c.args.p) ≡ true =
     sym (changed-fallen c.args.i (entry_at c.args.c.now.directory c.args.p))
-    ∙ sym (ap changed (c.fallen-left.ensures ∙ ap (λ (e : Entry). fallen c.args.i e) c.entry-place.ensures)) ∙ is in
+    ∙ sym (ap changed (c.fallen-left.ensures ∙ ap (λ (e : PageEntry). fallen c.args.i e) c.entry-place.ensures)) ∙ is in
     let clash : false ≡ true = sym was ∙ same in absurd (cc)
 
 pub returns-clause-moving : goal.returns-clause-moving
@@ -41,8 +41,8 @@ returns-clause-parts g c =
     let lent : pool_at p i ≡ c.index_mut.result.now =
     pool-lent p i (c.get.result - 1) c.index_mut.result.now low high c.requires.good.2.shape.pools place
     c.index_mut.ensures.value in
-    let is : c.take-copy.new.self ≡ without (pool_at p i) c.args.p =
-    c.take-copy.ensures.rest ∙ ap (λ (b : Buffers). without b c.args.p) (sym lent) in
+    let is : c.take-copy.new.self ≡ without_page (pool_at p i) c.args.p =
+    c.take-copy.ensures.rest ∙ ap (λ (b : Buffers). without_page b c.args.p) (sym lent) in
     let places : DirectoryState Page = unboxed c.set.new.self in
     ap (λ (n : ℕ). record p { pools = slice_set p.pools n c.take-copy.new.self; directory = places }) place
     ∙ ap (λ (b : Buffers). with_place i b places p) is
@@ -61,8 +61,8 @@ returns-clause-good g c pend m good =
     let places : DirectoryState Page = unboxed c.set.new.self in
     let moves = c.set.ensures in
     let set : IsSet c.args.p (fallen i (entry_at p.directory c.args.p)) None p.directory places =
-    subst (λ (e : Entry). IsSet c.args.p e None p.directory places)
-    (c.fallen-left.ensures ∙ ap (λ (e : Entry). fallen i e) c.entry-place.ensures)
+    subst (λ (e : PageEntry). IsSet c.args.p e None p.directory places)
+    (c.fallen-left.ensures ∙ ap (λ (e : PageEntry). fallen i e) c.entry-place.ensures)
     (record {
       entry = moves.here;
       rec_lsn = moves.rec_lsn;

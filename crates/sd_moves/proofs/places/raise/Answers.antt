@@ -2,7 +2,7 @@ use Rattle.std.proofs.Common.{ap, ◌∙◌, subst}
 use Rattle.std.specs.Prelude.{None}
 use Rattle.sd_pagelock.specs.Directory.{DirectoryState, entry_at}
 use Rattle.sd_pagelock.specs.Moves.{IsMove}
-use Rattle.sd_pagelock.specs.Places.{Entry}
+use Rattle.sd_pagelock.specs.Places.{PageEntry}
 use Rattle.sd_pagelock.specs.Rows.{raised}
 use Rattle.sd_page.specs.Page.{Page}
 use Rattle.sd_state.specs.Complexes.{parts, unboxed}
@@ -14,7 +14,7 @@ use Rattle.sd_moves.proofs.places.raise.Goals as goal
 
 pub set-requires-clause-lawful : goal.set-requires-clause-lawful
 set-requires-clause-lawful g c = IsMove.raise c.args.i c.requires.sole
-    (c.raised-alone.ensures ∙ ap (λ (e : Entry). raised c.args.i e) c.entry-place.ensures)
+    (c.raised-alone.ensures ∙ ap (λ (e : PageEntry). raised c.args.i e) c.entry-place.ensures)
 
 pub returns-clause-moving : goal.returns-clause-moving
 returns-clause-moving g c q = image-unboxed c.args.c.now.directory c.set.new.self q (c.set.ensures.images q)
@@ -25,8 +25,8 @@ returns-clause-good g c pend m good =
     let places : DirectoryState Page = unboxed c.set.new.self in
     let moves = c.set.ensures in
     let set : IsSet c.args.p (raised c.args.i (entry_at p.directory c.args.p)) None p.directory places =
-    subst (λ (e : Entry). IsSet c.args.p e None p.directory places)
-    (c.raised-alone.ensures ∙ ap (λ (e : Entry). raised c.args.i e) c.entry-place.ensures)
+    subst (λ (e : PageEntry). IsSet c.args.p e None p.directory places)
+    (c.raised-alone.ensures ∙ ap (λ (e : PageEntry). raised c.args.i e) c.entry-place.ensures)
     (record {
       entry = moves.here;
       rec_lsn = moves.rec_lsn;

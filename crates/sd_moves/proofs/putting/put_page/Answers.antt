@@ -5,7 +5,7 @@ use Rattle.std.proofs.lemmas.Result.{err_from_is_err_and}
 use Rattle.sd_page.specs.Page.{Page}
 use Rattle.sd_pagelock.specs.Directory as directory
 use Rattle.sd_pagelock.specs.Directory.{DirectoryState, entry_at}
-use Rattle.sd_pagelock.specs.Places.{Entry, Formed}
+use Rattle.sd_pagelock.specs.Places.{Formed, PageEntry}
 use Rattle.sd_pagelock.specs.Rows.{written}
 use Rattle.sd_pool.specs.Buffers.{image_at}
 use Rattle.sd_rig.specs.Spans.{elapses-then, span-then}
@@ -113,10 +113,10 @@ returns-clause-place g c =
     let same : c.write_newest.new.c.directory ≡ c.args.c.now.directory =
     c.write_newest.ensures.directory ∙ c.settle_disk.ensures.directory in
     let moves = c.set.ensures in
-    let to : Entry = written (entry_at c.write_newest.new.c.directory c.args.p) in
+    let to : PageEntry = written (entry_at c.write_newest.new.c.directory c.args.p) in
     subst (λ (d : DirectoryState (Box Page)). IsSet c.args.p (written (entry_at (unboxed d) c.args.p)) None (unboxed d) places)
     same
-    (subst (λ (e : Entry). IsSet c.args.p e None (unboxed c.write_newest.new.c.directory) places)
+    (subst (λ (e : PageEntry). IsSet c.args.p e None (unboxed c.write_newest.new.c.directory) places)
     (c.written.ensures ∙ ap written c.entry-place.ensures)
     (record {
       entry = moves.here;
@@ -133,7 +133,7 @@ returns-clause-moving g c q =
     let same : c.write_newest.new.c.directory ≡ c.args.c.now.directory =
     c.write_newest.ensures.directory ∙ c.settle_disk.ensures.directory in
     image-unboxed c.args.c.now.directory c.set.new.self q (c.set.ensures.images q
-    ∙ ap (λ (d : DirectoryState (Box Page)). directory.image_at d q) same)
+    ∙ ap (λ (d : DirectoryState (Box Page)). directory.moving_image_at d q) same)
 
 pub returns-clause-clean : goal.returns-clause-clean
 returns-clause-clean g c =

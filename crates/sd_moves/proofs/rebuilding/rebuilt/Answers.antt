@@ -3,7 +3,7 @@ use Rattle.std.specs.Prelude.{Result, Err, IfErr}
 use Rattle.std.proofs.lemmas.Result.{err_from_is_err_and}
 use Rattle.sd_page.specs.Page.{Page}
 use Rattle.sd_pagelock.specs.Directory.{DirectoryState}
-use Rattle.sd_pagelock.specs.Places.{Entry}
+use Rattle.sd_pagelock.specs.Places.{PageEntry}
 use Rattle.sd_pagelock.specs.Rows.{written}
 use Rattle.sd_state.specs.Complexes.{parts, unboxed}
 use Rattle.sd_state.specs.Good.{Good}
@@ -101,7 +101,7 @@ pub returns-clause-place : goal.returns-clause-place
 returns-clause-place g c =
     let places : DirectoryState Page = unboxed c.set.new.self in
     let moves = c.set.ensures in
-    subst (λ (e : Entry). IsSet c.args.p e None (unboxed c.args.c.now.directory) places)
+    subst (λ (e : PageEntry). IsSet c.args.p e None (unboxed c.args.c.now.directory) places)
     (c.written.ensures ∙ ap written (c.entry-place.ensures ∙ c.requires.may.lost))
     (record {
       entry = moves.here;

@@ -5,7 +5,7 @@ use Rattle.sd_logrec.specs.View.{Rec}
 use Rattle.sd_log.specs.declared.placed.Placed.{Placed}
 use Rattle.sd_log.specs.Logs.{LogState, flats, forced_in}
 use Rattle.sd_page.specs.Page.{Page}
-use Rattle.sd_chain.specs.Image.{all_of}
+use Rattle.sd_chain.specs.Storage.{all_of}
 use Rattle.sd_chain.specs.Pages.{FitAll, replay}
 use Rattle.sd_chain.specs.Records.{of_page}
 use Rattle.sd_merge.specs.Changes.{IsMerged}

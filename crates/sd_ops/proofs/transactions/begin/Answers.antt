@@ -10,7 +10,7 @@ use Rattle.sd_model.specs.declared.event.Event.TheVariants.{Begin}
 use Rattle.sd_txn.specs.Transactions.{Transactions, ids}
 use Rattle.sd_state.specs.Complexes.{parts}
 use Rattle.sd_state.specs.Parts.{txns_at}
-use Rattle.sd_world.specs.Serving.{Telling, began, telling}
+use Rattle.sd_world.specs.Serving.{Telling, began_reply, telling}
 use Rattle.sd_fits.specs.Serving.{Serving}
 use Rattle.sd_ops.proofs.Begins.{begun-served, down-served, refused-served}
 use Rattle.sd_ops.proofs.transactions.begin.Goals as goal
@@ -21,7 +21,7 @@ returns-in_err-is_up-clause-served g c =
     let p = err_from_is_err_and c.from_residual.result c.from_residual.ensures.1 in
     let a = c.in_err-is_up.ensures in
     let is : c.from_residual.result ≡ Err R.Down = p.1 ∙ ap (λ (n : Refusal). Err n) (p.2 ∙ a.only) in
-    subst (λ (r : Result TxnId Refusal). Serving tell (Begin c.args.i) (began r) c.args.c.now c.args.c.now) (sym is)
+    subst (λ (r : Result TxnId Refusal). Serving tell (Begin c.args.i) (began_reply r) c.args.c.now c.args.c.now) (sym is)
     (down-served tell c.args.i c.args.c.now a.low a.high (λ img s. g.met.G.Rig.only_now c.args.c.now.rig img s) a.down)
 
 pub returns-in_err-t-clause-served : goal.returns-in_err-t-clause-served
@@ -35,7 +35,7 @@ returns-in_err-t-clause-served g c =
     let once : IsDistinct same_txn (ids (txns_at (parts old) c.args.i)) =
     subst (λ (tb : Transactions). IsDistinct same_txn (ids tb)) c.txns.ensures c.keeps.ensures.once in
     let is : c.from_residual-in_err-t.result ≡ Err n = p.1 ∙ ap (λ (k : Refusal). Err k) p.2 in
-    subst (λ (r : Result TxnId Refusal). Serving tell (Begin c.args.i) (began r) old c.begin.new.self) (sym is)
+    subst (λ (r : Result TxnId Refusal). Serving tell (Begin c.args.i) (began_reply r) old c.begin.new.self) (sym is)
     (refused-served tell c.args.i old c.begin.new.self (record {
       low = up.low;
       high = up.high;

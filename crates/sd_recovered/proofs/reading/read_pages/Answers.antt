@@ -5,7 +5,7 @@ use Rattle.sd_logrec.specs.View.{Rec}
 use Rattle.sd_page.specs.Page.{Page}
 use Rattle.sd_log.specs.Logs.{LogState}
 use Rattle.sd_chain.specs.Bytes.{disk_page}
-use Rattle.sd_chain.specs.Image.{Recovered}
+use Rattle.sd_chain.specs.Storage.{Recovered}
 use Rattle.sd_newest.specs.FirstAbove.{IsFirstAbove}
 use Rattle.sd_undone.specs.Reading.{txns_of}
 use Rattle.sd_undone.proofs.Opened.{are-open}

@@ -9,7 +9,7 @@ use Rattle.sd_sound.specs.Logs.{next_lsn}
 use Rattle.sd_state.specs.Complexes.{parts}
 use Rattle.sd_state.specs.Parts.{Parts, actor, log_at}
 use Rattle.sd_state.specs.Values.{Pending}
-use Rattle.sd_world.specs.Serving.{joined, telling}
+use Rattle.sd_world.specs.Serving.{joined_reply, telling}
 use Rattle.sd_survive.proofs.Calls.{failed-due, joined-bare, joined-settled, start-settled}
 use Rattle.sd_survive.proofs.Joined.{HasStarted, fails-join, joins}
 use Rattle.sd_survive.proofs.Unjoined.{seal-refused, stays-out}
@@ -82,7 +82,7 @@ returns-in_err-may_start g c =
     let tell = telling g.G.Rig.seen g.G.Rig.leaves g.G.Rig.moment g.G.Rig.since g.G.Rig.faults in
     let p = err_from_is_err_and c.from_residual.result c.from_residual.ensures.1 in
     record {
-      served = subst (λ (r : Result ℕ Refusal). Serving tell (Join c.args.i) (joined r) old old)
+      served = subst (λ (r : Result ℕ Refusal). Serving tell (Join c.args.i) (joined_reply r) old old)
           (sym (p.1 ∙ ap (λ (n : Refusal). Err n) p.2))
           (stays-out tell old old c.args.i c.instances.ensures.low c.instances.ensures.high refl refl
           (λ img since. g.met.G.Rig.only_now old.rig img since) c.in_err-may_start.field-0.0 c.in_err-may_start.ensures.refused);
@@ -95,7 +95,7 @@ returns-in_err-epoch g c =
     let p = err_from_is_err_and c.from_residual-in_err-epoch.result c.from_residual-in_err-epoch.ensures.1 in
     let seal = c.in_err-epoch.ensures in
     record {
-      served = subst (λ (r : Result ℕ Refusal). Serving tell (Join c.args.i) (joined r) old c.seal_start.new.self)
+      served = subst (λ (r : Result ℕ Refusal). Serving tell (Join c.args.i) (joined_reply r) old c.seal_start.new.self)
           (sym (p.1 ∙ ap (λ (n : Refusal). Err n) p.2))
           (seal-refused tell old c.seal_start.new.self c.args.i c.instances.ensures.low c.instances.ensures.high seal.rig
           seal.stays

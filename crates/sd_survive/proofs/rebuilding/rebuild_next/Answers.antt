@@ -7,7 +7,7 @@ use Rattle.sd_model.specs.declared.event.Event.TheVariants.{RecoverStep}
 use Rattle.sd_model.specs.declared.event.Reply.TheVariants as reply
 use Rattle.sd_moves.specs.Places.{with_directory}
 use Rattle.sd_pagelock.specs.Directory.{entry_at}
-use Rattle.sd_pagelock.specs.Places.{Entry}
+use Rattle.sd_pagelock.specs.Places.{PageEntry}
 use Rattle.sd_state.specs.Complexes.{parts}
 use Rattle.sd_state.specs.Locking.{IsSet}
 use Rattle.sd_state.specs.Parts.{Parts, is_loose, status_at}
@@ -107,7 +107,7 @@ returns-clause-stays g c =
 pub returns-clause-place : goal.returns-clause-place
 returns-clause-place g c =
     let new : Parts = parts c.put_or_fall.new.c in
-    subst (λ (k : Parts). OnOk c.put_or_fall.result (IsSet c.args.p Entry.Free None k.directory new.directory))
+    subst (λ (k : Parts). OnOk c.put_or_fall.result (IsSet c.args.p PageEntry.Free None k.directory new.directory))
     c.newest_image.ensures.parts c.put_or_fall.ensures.place
 
 pub returns-clause-left : goal.returns-clause-left

@@ -8,7 +8,7 @@ use Rattle.sd_transfer.specs.Asking.{IsUnserved}
 use Rattle.sd_fits.specs.Serving.{Serving}
 use Rattle.sd_model.specs.declared.event.Event.TheVariants.{Ask}
 use Rattle.sd_pagelock.specs.Directory.{DirectoryState, entry_at}
-use Rattle.sd_pagelock.specs.Places.{Entry, Formed, holds_as, is_free, is_lost, passes}
+use Rattle.sd_pagelock.specs.Places.{Formed, PageEntry, holds_as, is_free, is_lost, passes}
 use Rattle.sd_pagelock.specs.Rows.{may_raise}
 use Rattle.sd_pagelock.proofs.Uses.{free-is}
 use Rattle.sd_world.specs.Pages.{answerer}
@@ -37,7 +37,7 @@ returns-then-holds_as-clause-served g c =
     let tell = telling g.G.Rig.seen g.G.Rig.leaves g.G.Rig.moment g.G.Rig.since g.G.Rig.faults in
     has-served tell old c.args.i c.args.p c.args.mode c.instances.ensures.low c.instances.ensures.high
     (λ img since. g.met.G.Rig.only_now old.rig img since) c.in_ok-place.ensures.may
-    (ap (λ (e : Entry). holds_as c.args.mode e c.args.i) (sym c.in_ok-place.ensures.place)
+    (ap (λ (e : PageEntry). holds_as c.args.mode e c.args.i) (sym c.in_ok-place.ensures.place)
     ∙ sym c.holds_as.ensures ∙ c.if-holds_as.true)
 
 pub fetch-requires-clause-free : goal.fetch-requires-clause-free
@@ -52,7 +52,7 @@ returns-then-may_raise-clause-served g c =
     let raised = c.raise.ensures in
     raised-served tell old c.args.i c.args.p c.args.mode c.instances.ensures.low c.instances.ensures.high
     (λ img since. g.met.G.Rig.only_now old.rig img since) c.in_ok-place.ensures.may
-    (ap (λ (e : Entry). holds_as c.args.mode e c.args.i) at ∙ sym c.holds_as.ensures ∙ c.if-holds_as.false)
+    (ap (λ (e : PageEntry). holds_as c.args.mode e c.args.i) at ∙ sym c.holds_as.ensures ∙ c.if-holds_as.false)
     (ap is_free at ∙ sym c.is_free.ensures ∙ c.if-is_free.false)
     c.raise.new.c raised.rig raised.parts raised.good
     (ap (may_raise c.args.i) at ∙ sym c.may_raise.ensures ∙ c.if-may_raise.true) raised.place
@@ -85,7 +85,7 @@ returns-in_err-queue_ask-clause-served g c =
     (sym (p.1 ∙ ap (λ (n : Refusal). Err n) p.2))
     (ask-spared tell old c.args.i c.args.p c.args.mode c.instances.ensures.low c.instances.ensures.high
     (λ img since. g.met.G.Rig.only_now old.rig img since) c.in_ok-place.ensures.may
-    (ap (λ (e : Entry). holds_as c.args.mode e c.args.i) at ∙ sym c.holds_as.ensures ∙ c.if-holds_as.false)
+    (ap (λ (e : PageEntry). holds_as c.args.mode e c.args.i) at ∙ sym c.holds_as.ensures ∙ c.if-holds_as.false)
     (ap is_free at ∙ sym c.is_free.ensures ∙ c.if-is_free.false)
     c.queue_ask.new.c queue.rig queue.parts queue.good c.in_err-queue_ask.ensures.stays)
 
@@ -97,7 +97,7 @@ returns-clause-served g c =
     let queue = c.queue_ask.ensures in
     queued-served tell old c.args.i c.args.p c.args.mode c.instances.ensures.low c.instances.ensures.high
     (λ img since. g.met.G.Rig.only_now old.rig img since) c.in_ok-place.ensures.may
-    (ap (λ (e : Entry). holds_as c.args.mode e c.args.i) at ∙ sym c.holds_as.ensures ∙ c.if-holds_as.false)
+    (ap (λ (e : PageEntry). holds_as c.args.mode e c.args.i) at ∙ sym c.holds_as.ensures ∙ c.if-holds_as.false)
     (ap is_free at ∙ sym c.is_free.ensures ∙ c.if-is_free.false)
     c.queue_ask.new.c queue.rig queue.parts queue.good
     (ap (may_raise c.args.i) at ∙ sym c.may_raise.ensures ∙ c.if-may_raise.false) c.answerer-of.result
@@ -123,7 +123,7 @@ pub returns-in_err-queue_ask-clause-there : goal.returns-in_err-queue_ask-clause
 returns-in_err-queue_ask-clause-there g c had is =
     let at = sym c.in_ok-place.ensures.place in
     had-lacks c.args.mode _ c.args.i
-    (ap (λ (e : Entry). holds_as c.args.mode e c.args.i) at ∙ sym c.holds_as.ensures ∙ c.if-holds_as.false)
+    (ap (λ (e : PageEntry). holds_as c.args.mode e c.args.i) at ∙ sym c.holds_as.ensures ∙ c.if-holds_as.false)
     (ap (may_raise c.args.i) at ∙ sym c.may_raise.ensures ∙ c.if-may_raise.false) had
 
 pub returns-in_err-queue_ask-clause-still : goal.returns-in_err-queue_ask-clause-still

@@ -1,6 +1,6 @@
 use Rattle.std.proofs.Common.{◌∙◌, refl, ap, sym}
 use Rattle.sd_pagelock.specs.Rows.{may_raise}
-use Rattle.sd_pool.specs.Buffers.{without}
+use Rattle.sd_pool.specs.Buffers.{without_page}
 use Rattle.sd_state.specs.Complexes.{parts}
 use Rattle.sd_state.specs.Parts.{Parts, pool_at}
 use Rattle.sd_fits.proofs.Places.{frames-kept}
@@ -22,5 +22,5 @@ returns-clause-frames g c k =
     let old : Parts = parts c.args.c.now in
     ap (λ (x : Parts). (pool_at x k).frames) (c.raise.ensures.parts)
     ∙ ap (λ (x : Parts). (pool_at x k).frames) (c.drop_copy.ensures.parts)
-    ∙ frames-kept old c.args.j (without (pool_at old c.args.j) c.args.p) (parts c.drop_copy.new.c).directory
+    ∙ frames-kept old c.args.j (without_page (pool_at old c.args.j) c.args.p) (parts c.drop_copy.new.c).directory
     c.instances.ensures.low c.instances.ensures.high c.requires.good.2.shape.pools refl k

@@ -4,8 +4,8 @@ use Rattle.sd_base.specs.declared.place.Mode.{Mode}
 use Rattle.sd_base.specs.declared.place.Mode.TheVariants as modes
 use Rattle.sd_page.specs.Page.{Page}
 use Rattle.sd_pagelock.specs.Directory.{DirectoryState, entry_at}
-use Rattle.sd_pagelock.specs.Places.{Entry}
-use Rattle.sd_pool.specs.Buffers.{without}
+use Rattle.sd_pagelock.specs.Places.{PageEntry}
+use Rattle.sd_pool.specs.Buffers.{without_page}
 use Rattle.sd_state.specs.Complexes.{parts}
 use Rattle.sd_state.specs.Locking.{IsSet}
 use Rattle.sd_state.specs.Parts.{Parts, pool_at}
@@ -24,7 +24,7 @@ sent-frames : (old : Parts) (mode : Mode) (p j : ℕ) (places : DirectoryState P
     → (pool_at (with_sent mode p j places old) k).frames ≡ (pool_at old k).frames
 sent-frames old modes.Shared p j places low high eight k = refl
 sent-frames old modes.Excl p j places low high eight k =
-    frames-kept old j (without (pool_at old j) p) places low high eight refl k
+    frames-kept old j (without_page (pool_at old j) p) places low high eight refl k
 
 pub returns-then-may_set_out-clause-frames : goal.returns-then-may_set_out-clause-frames
 returns-then-may_set_out-clause-frames g c k =
@@ -36,7 +36,7 @@ pub returns-else-may_set_out-clause-place : goal.returns-else-may_set_out-clause
 returns-else-may_set_out-clause-place g c =
     let old : Parts = parts c.args.c.now in
     let stays = ap (may_set_out c.args.mode c.args.to) (sym c.entry.ensures) ∙ sym c.may_set_out.ensures ∙ c.if-may_set_out.false in
-    subst (λ (e : Entry). IsSet c.args.p e None old.directory (parts c.drop_for.new.c).directory)
+    subst (λ (e : PageEntry). IsSet c.args.p e None old.directory (parts c.drop_for.new.c).directory)
     (given-dropped c.args.j c.args.to c.args.mode (entry_at old.directory c.args.p)
     (stays-alone old c.args.j c.args.p c.args.to c.args.mode (c.requires.good.2.asks c.args.p) c.requires.may stays) stays)
     c.drop_for.ensures.place

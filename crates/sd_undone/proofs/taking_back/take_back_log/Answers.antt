@@ -2,8 +2,8 @@ use Rattle.std.proofs.Common.{◌≡◌, ◌<◌, ◌+◌, ℕ, List, ◌++◌, 
 use Rattle.sd_logrec.specs.View.{Rec}
 use Rattle.sd_undone.specs.Others.{seen_in}
 use Rattle.sd_undone.specs.Taking.{MayTake, Taken, lowest_place, picked, stacks_in}
-use Rattle.sd_undone.specs.declared.undoing.Fault.{Fault}
-use Rattle.sd_undone.specs.declared.undoing.Fault.TheVariants as F
+use Rattle.sd_undone.specs.declared.undoing.UndoError.{UndoError}
+use Rattle.sd_undone.specs.declared.undoing.UndoError.TheVariants as F
 use Rattle.sd_undone.proofs.Stopping.{listed, stops_in}
 use Rattle.sd_undone.proofs.Walks.{stacks-more, stacks-parts, walk-more, walk-stops}
 use Rattle.sd_undone.proofs.taking_back.take_back_log.Goals as goal
@@ -31,7 +31,7 @@ returns-then-not-branch-clause-misfit c = λ inst place _ may.
     ∙ ap (λ (l : List Rec). l ++ stacks_in log (drop (i + 1) losers)) (stacks-more log losers i x lt c.loser-item.is)) may
 
 -- the loser and the place that a misfit names
-named : {T : Type 0} (e : Fault) (inst place inst' place' : ℕ) → e ≡ F.Misfit inst' place' → ◌≡◌ {A = Result T Fault} (Err e) (Err (F.Misfit inst place))
+named : {T : Type 0} (e : UndoError) (inst place inst' place' : ℕ) → e ≡ F.Misfit inst' place' → ◌≡◌ {A = Result T UndoError} (Err e) (Err (F.Misfit inst place))
     → (inst ≡ inst') × (place ≡ place')
 named e inst place inst' place' f is = (cc, cc)
 

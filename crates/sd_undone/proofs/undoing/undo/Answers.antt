@@ -5,15 +5,15 @@ use Rattle.sd_base.specs.declared.ids.TxnId.{TxnId}
 use Rattle.sd_model.specs.declared.table.Table.{Table}
 use Rattle.sd_page.specs.Page.{Page}
 use Rattle.sd_chain.specs.Records.{Val}
-use Rattle.sd_undone.specs.declared.undoing.Fault.{Fault}
-use Rattle.sd_undone.specs.declared.undoing.Fault.TheVariants as F
+use Rattle.sd_undone.specs.declared.undoing.UndoError.{UndoError}
+use Rattle.sd_undone.specs.declared.undoing.UndoError.TheVariants as F
 use Rattle.sd_undone.specs.Others.{by_others, seen_in}
 use Rattle.sd_undone.specs.Stops.{StopsAt}
 use Rattle.sd_undone.specs.Taking.{MayTake, Taken, open_in}
 use Rattle.sd_undone.specs.Values.{values_in}
 use Rattle.sd_undone.proofs.undoing.undo.Goals as goal
 
-same_err : (a b : Fault) → ◌≡◌ {A = Result Table Fault} (Err a) (Err b) → a ≡ b
+same_err : (a b : UndoError) → ◌≡◌ {A = Result Table UndoError} (Err a) (Err b) → a ≡ b
 same_err a b e = cc
 
 pub returns-in_err-take_back_all-clause-misfit : goal.returns-in_err-take_back_all-clause-misfit

@@ -1,7 +1,7 @@
 use Rattle.std.proofs.Common.{Bool, true, false, ℕ, ◌+◌, refl, sym, ◌∙◌, subst, arith}
 use Rattle.std.proofs.lemmas.Result.{err_from_is_err_and}
 use Rattle.sd_world.specs.Serving.{Telling, telling}
-use Rattle.sd_drive.specs.Recovering.{IsRecovering, RecoversNow, RecoversSome}
+use Rattle.sd_drive.specs.Recovering.{LineRecovers, RecoversNow, RecoversSome}
 use Rattle.sd_drive.proofs.Recovering.{recovers-begin, recovers-end, recovers-in, recovers-last, recovers-next, recovers-part}
 use Rattle.sd_drive.proofs.driver.Driver.recover_all.Goals as goal
 
@@ -16,7 +16,7 @@ recover_down-requires g c =
     let lt = c.loop-number-test.true in
     let is = c.inst_no.ensures in
     record {
-      at = subst (λ (i : ℕ). IsRecovering tell c.loop-number.self c.args.line.now i) (sym is)
+      at = subst (λ (i : ℕ). LineRecovers tell c.loop-number.self c.args.line.now i) (sym is)
           (recovers-in tell c.args.self.now c.args.line.now c.requires.recovers c.loop-number.self (c.loop-number.number + 1) c.loop-number.invariant.on
           c.requires.at);
       recovers = c.requires.recovers;

@@ -1,8 +1,8 @@
 use Rattle.std.proofs.Common.{⊎_elim, ℕ, ◌*◌, ◌+◌, ◌<◌, ◌≤◌, cond, None, Option, sym, ap, ◌∙◌, arith}
 use Rattle.std.proofs.lemmas.Bool.{cases_lt}
-use Rattle.sd_pagelock.specs.Places.{Entry, place_at, receives, uses}
+use Rattle.sd_pagelock.specs.Places.{PageEntry, place_at, receives, uses}
 use Rattle.sd_pagelock.specs.Rows.{fallen}
-use Rattle.sd_pagelock.specs.Directory.{DirectoryState, entry_at, rec_lsn_at, image_at, asks_at}
+use Rattle.sd_pagelock.specs.Directory.{DirectoryState, entry_at, rec_lsn_at, moving_image_at, asks_at}
 use Rattle.sd_pagelock.proofs.Groups.{fallen-unused, receives-unused, unused}
 use Rattle.sd_pagelock.proofs.directory.Directory.fall.Goals.{then-has, else-has}
 use Rattle.sd_pagelock.proofs.directory.Directory.fall.Goals as goal
@@ -15,12 +15,12 @@ loop-group-preserved g c =
     let inv = c.loop-group.invariant in
     let n = c.loop-group.group in
     let i = c.args.i in
-    let goes = λ (q : ℕ) (x : Entry). cond {A = Option g.row.I.Denot} (receives x i) None (image_at was q) in
+    let goes = λ (q : ℕ) (x : PageEntry). cond {A = Option g.row.I.Denot} (receives x i) None (moving_image_at was q) in
     elim c.if-has.branch [
       | then-has w ↦
           let e = w.fall_in.ensures in
           let entry = λ (q : ℕ). ap (λ (s : DirectoryState g.row.I.Denot). entry_at s q) w.self-is in
-          let image = λ (q : ℕ). ap (λ (s : DirectoryState g.row.I.Denot). image_at s q) w.self-is in
+          let image = λ (q : ℕ). ap (λ (s : DirectoryState g.row.I.Denot). moving_image_at s q) w.self-is in
           record {
             places = λ q lt. ⊎_elim
                 (λ low. entry q ∙ e.below q low ∙ inv.places q low)
@@ -30,7 +30,7 @@ loop-group-preserved g c =
             images = λ q lt. ⊎_elim
                 (λ low. image q ∙ e.images_below q low ∙ inv.images q low)
                 (λ high. image q ∙ e.images q high (omega (arith, lt))
-                ∙ ap (λ (x : Entry). cond {A = Option g.row.I.Denot} (receives x i) None (image_at now q)) (inv.later q high)
+                ∙ ap (λ (x : PageEntry). cond {A = Option g.row.I.Denot} (receives x i) None (moving_image_at now q)) (inv.later q high)
                 ∙ ap (λ (y : Option g.row.I.Denot). cond {A = Option g.row.I.Denot} (receives (entry_at was q) i) None y) (inv.later_images q high))
                 (cases_lt q (32 * n));
             later_images = λ q le. image q ∙ e.images_above q (omega (arith, le)) ∙ inv.later_images q (omega (arith, le));
@@ -40,10 +40,10 @@ loop-group-preserved g c =
       | else-has w ↦
           let d = c.self-in-loop-group.inside in
           let entry = λ (q : ℕ). ap (λ (s : DirectoryState g.row.I.Denot). entry_at s q) w.self-is in
-          let image = λ (q : ℕ). ap (λ (s : DirectoryState g.row.I.Denot). image_at s q) w.self-is in
+          let image = λ (q : ℕ). ap (λ (s : DirectoryState g.row.I.Denot). moving_image_at s q) w.self-is in
           let seen_in = λ (q : ℕ). ap (λ (s : DirectoryState g.row.I.Denot). entry_at s q) c.self-in-loop-group.view_is in
           let un = λ (q : ℕ) (low : 32 * n ≤ q) (high : q < 32 * n + 32).
-          sym (ap (λ (x : Entry). uses x i) (seen_in q ∙ inv.later q low))
+          sym (ap (λ (x : PageEntry). uses x i) (seen_in q ∙ inv.later q low))
           ∙ unused (place_at d.places.items) d.noted n i q c.self-in-loop-group.invariant.2 (sym c.has.ensures ∙ w.if-has.false) low high in
           record {
             places = λ q lt. ⊎_elim
@@ -54,7 +54,7 @@ loop-group-preserved g c =
             images = λ q lt. ⊎_elim
                 (λ low. image q ∙ inv.images q low)
                 (λ high. image q ∙ inv.later_images q high
-                ∙ sym (ap (λ b. cond {A = Option g.row.I.Denot} b None (image_at was q)) (receives-unused i (entry_at was q) (un q high (omega (arith, lt))))))
+                ∙ sym (ap (λ b. cond {A = Option g.row.I.Denot} b None (moving_image_at was q)) (receives-unused i (entry_at was q) (un q high (omega (arith, lt))))))
                 (cases_lt q (32 * n));
             later_images = λ q le. image q ∙ inv.later_images q (omega (arith, le));
             rec_lsns = λ q. ap (λ (s : DirectoryState g.row.I.Denot). rec_lsn_at s q) w.self-is ∙ inv.rec_lsns q;
@@ -69,8 +69,8 @@ returns-clause-places g c = λ p. ap (λ (s : DirectoryState g.row.I.Denot). ent
     (cases_lt p 1024)
 
 pub returns-clause-images : goal.returns-clause-images
-returns-clause-images g c = λ p. ap (λ (s : DirectoryState g.row.I.Denot). image_at s p) c.self-2.view_is ∙ ⊎_elim
+returns-clause-images g c = λ p. ap (λ (s : DirectoryState g.row.I.Denot). moving_image_at s p) c.self-2.view_is ∙ ⊎_elim
     (λ lt. c.loop-group.invariant.images p (omega (arith, lt, c.loop-group-test.false)))
     (λ past. c.loop-group.invariant.later_images p (omega (arith, past, c.loop-group.auto.group-end))
-    ∙ ap (λ (x : Entry). cond {A = Option g.row.I.Denot} (receives x c.args.i) None (image_at c.args.self.now p)) (sym (c.keeps.ensures.past p past)))
+    ∙ ap (λ (x : PageEntry). cond {A = Option g.row.I.Denot} (receives x c.args.i) None (moving_image_at c.args.self.now p)) (sym (c.keeps.ensures.past p past)))
     (cases_lt p 1024)

@@ -1,8 +1,8 @@
 use Rattle.std.proofs.Common.{⊎_elim, ℕ, false, cond, None, Option, sym, ap, ◌∙◌, arith, eq-eqb, refl}
 use Rattle.std.proofs.lemmas.Bool.{cases_eq}
-use Rattle.sd_pagelock.specs.Places.{Entry, receives, uses}
+use Rattle.sd_pagelock.specs.Places.{PageEntry, receives, uses}
 use Rattle.sd_pagelock.specs.Rows.{fallen}
-use Rattle.sd_pagelock.specs.Directory.{DirectoryState, entry_at, rec_lsn_at, image_at, asks_at}
+use Rattle.sd_pagelock.specs.Directory.{DirectoryState, entry_at, rec_lsn_at, moving_image_at, asks_at}
 use Rattle.sd_pagelock.proofs.Fallen.{everywhere}
 use Rattle.sd_pagelock.proofs.Falls.{uses-fallen}
 use Rattle.sd_pagelock.proofs.Groups.{group_high, group_low, noted-forget}
@@ -22,18 +22,18 @@ loop-n-preserved g c =
           let e = w.fall_at.ensures in
           let at = w.in-Some.ensures.value in
           let entry = λ (q : ℕ). ap (λ (s : DirectoryState g.row.I.Denot). entry_at s q) w.self-is in
-          let image = λ (q : ℕ). ap (λ (s : DirectoryState g.row.I.Denot). image_at s q) w.self-is in
+          let image = λ (q : ℕ). ap (λ (s : DirectoryState g.row.I.Denot). moving_image_at s q) w.self-is in
           record {
             places = λ q low lt. ⊎_elim
-                (λ same. entry q ∙ ap (entry_at w.fall_at.new.self) same ∙ e.here ∙ ap (λ (x : Entry). fallen i x) (ap (entry_at now) (sym same) ∙ inv.later q (omega (arith, same, at))))
+                (λ same. entry q ∙ ap (entry_at w.fall_at.new.self) same ∙ e.here ∙ ap (λ (x : PageEntry). fallen i x) (ap (entry_at now) (sym same) ∙ inv.later q (omega (arith, same, at))))
                 (λ ne. entry q ∙ e.others q ne ∙ inv.places q low (omega (arith, lt, at, ne)))
                 (cases_eq q p);
             below = λ q lt. entry q ∙ e.others q (λ same. absurd (omega (arith, same, at, lt, c.loop-n.auto.n))) ∙ inv.below q lt;
             later = λ q le. entry q ∙ e.others q (λ same. absurd (omega (arith, same, at, le))) ∙ inv.later q (omega (arith, le));
             images = λ q low lt. ⊎_elim
-                (λ same. image q ∙ ap (image_at w.fall_at.new.self) same ∙ e.image
-                ∙ ap (λ (x : Entry). cond {A = Option g.row.I.Denot} (receives x i) None (image_at now p)) (ap (entry_at now) (sym same) ∙ inv.later q (omega (arith, same, at)))
-                ∙ ap (λ (y : Option g.row.I.Denot). cond {A = Option g.row.I.Denot} (receives (entry_at was q) i) None y) (ap (image_at now) (sym same) ∙ inv.later_images q (omega (arith, same, at))))
+                (λ same. image q ∙ ap (moving_image_at w.fall_at.new.self) same ∙ e.image
+                ∙ ap (λ (x : PageEntry). cond {A = Option g.row.I.Denot} (receives x i) None (moving_image_at now p)) (ap (entry_at now) (sym same) ∙ inv.later q (omega (arith, same, at)))
+                ∙ ap (λ (y : Option g.row.I.Denot). cond {A = Option g.row.I.Denot} (receives (entry_at was q) i) None y) (ap (moving_image_at now) (sym same) ∙ inv.later_images q (omega (arith, same, at))))
                 (λ ne. image q ∙ e.other_images q ne ∙ inv.images q low (omega (arith, lt, at, ne)))
                 (cases_eq q p);
             below_images = λ q lt. image q ∙ e.other_images q (λ same. absurd (omega (arith, same, at, lt, c.loop-n.auto.n))) ∙ inv.below_images q lt;
@@ -52,7 +52,7 @@ invariant_of-self g c =
       c.self.invariant.1,
       noted-forget d.places.items d.noted c.forget.new.self c.args.group i c.forget.ensures
           (λ q e. let low = group_low c.args.group q e in
-          ap (λ (x : Entry). uses x i) (ap (λ (s : DirectoryState g.row.I.Denot). entry_at s q) c.self.view_is
+          ap (λ (x : PageEntry). uses x i) (ap (λ (s : DirectoryState g.row.I.Denot). entry_at s q) c.self.view_is
           ∙ c.loop-n.invariant.places q low (omega (arith, group_high c.args.group q e, c.loop-n-test.false)))
           ∙ uses-fallen i i (entry_at c.args.self.now q) ∙ ap (λ b. cond b false (uses (entry_at c.args.self.now q) i)) (eq-eqb i i refl))
           c.self.invariant.2,

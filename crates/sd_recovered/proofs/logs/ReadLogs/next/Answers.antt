@@ -5,7 +5,7 @@ use Rattle.sd_log.specs.Logs.{LogState}
 use Rattle.sd_analysis.specs.declared.losers.Loser.{Loser}
 use Rattle.sd_chain.specs.Faults.{LogFailsAt}
 use Rattle.sd_scan.specs.Masters.{said}
-use Rattle.sd_recovered.specs.Reading.{AreRead, IsRead, IsUnread}
+use Rattle.sd_recovered.specs.Reading.{AreRead, IsUnread, LogIsRead}
 use Rattle.sd_recovered.proofs.Growing.{logs-more, masters-more}
 use Rattle.sd_recovered.proofs.Refusals.{came, told_on}
 use Rattle.sd_recovered.proofs.logs.ReadLogs.next.Goals as goal
@@ -38,7 +38,7 @@ returns-clause-read c = λ devices has.
     let read : ℕ = c.len.result in
     let number : c.unwrap-inst.result ≡ read + 1 = subst (λ (r : Option ℕ). IfSome r (λ x. x ≡ read + 1)) c.unwrap-inst.ensures c.new.ensures.value in
     let next : c.unwrap-inst.result ≡ 1 + length c.args.self.logs.items = (let l = c.len.ensures in omega (arith, number, l)) in
-    let more = logs-more devices c.args.self device log found has (subst (λ (n : ℕ). IsRead n device log found) next c.in_ok-log.ensures.read) in
+    let more = logs-more devices c.args.self device log found has (subst (λ (n : ℕ). LogIsRead n device log found) next c.in_ok-log.ensures.read) in
     record {
       read = subst (λ (ls : List (List Loser)). AreRead 1 (devices ++ device ∷ []) c.push.new.self.items ls) (sym c.in_ok-push-2.ensures.items)
           (subst (λ (ls : List LogState). AreRead 1 (devices ++ device ∷ []) ls (c.args.self.losers.items ++ found ∷ [])) (sym c.in_ok-push.ensures.items) more);

@@ -1,7 +1,7 @@
 use Rattle.std.proofs.Common.{Ok, Err, refl, arith}
 use Rattle.std.proofs.lemmas.Result.{err_from_is_err_and}
 use Rattle.sd_base.specs.declared.refusal.Refusal.TheVariants as refusal
-use Rattle.sd_base.specs.declared.refusal.Cause.TheVariants.{Word}
+use Rattle.sd_base.specs.declared.refusal.LineError.TheVariants.{Word}
 use Rattle.sd_script.proofs.Steps.{exact, exact_bad, no_line}
 use Rattle.sd_script.proofs.script.Script.read.Goals as goal
 

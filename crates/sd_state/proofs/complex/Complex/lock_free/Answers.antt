@@ -1,7 +1,7 @@
 use Rattle.std.proofs.Common.{◌≡◌, ℕ, ◌-◌, ◌≤◌, ap, sym, ◌∙◌, subst, arith, slice_set}
 use Rattle.std.specs.Prelude.{None}
 use Rattle.sd_pagelock.specs.Moves.{IsMove}
-use Rattle.sd_pagelock.specs.Places.{Entry, is_free}
+use Rattle.sd_pagelock.specs.Places.{PageEntry, is_free}
 use Rattle.sd_pagelock.specs.Rows.{locked}
 use Rattle.sd_pagelock.specs.Directory.{DirectoryState}
 use Rattle.sd_page.specs.Page.{Page}
@@ -50,9 +50,9 @@ returns-clause-good g c pend m good =
     pool-lent p i (c.get.result - 1) c.index_mut.result.now low high good.shape.pools place c.index_mut.ensures.value in
     let places : DirectoryState Page = unboxed c.set.new.self in
     let moves = c.set.ensures in
-    let to : Entry = locked i c.args.mode in
+    let to : PageEntry = locked i c.args.mode in
     let set : IsSet c.args.p to None p.directory places =
-    subst (λ (e : Entry). IsSet c.args.p e None p.directory places) c.locked.ensures
+    subst (λ (e : PageEntry). IsSet c.args.p e None p.directory places) c.locked.ensures
     (record {
       entry = moves.here;
       rec_lsn = moves.rec_lsn;

@@ -5,7 +5,7 @@ use Rattle.std.proofs.lemmas.Option.{slice_get_read}
 use Rattle.sd_log.specs.ByPage.{places_of}
 use Rattle.sd_log.specs.PagesInside.{PagesState, chain_of, last_of}
 use Rattle.sd_log.proofs.Paging.{Walks, walk_begins, walk_ends, walk_on, walk_within}
-use Rattle.sd_log.proofs.pages.Pages.of_page.Goals as goal
+use Rattle.sd_log.proofs.pages.PageChains.of_page.Goals as goal
 
 pub loop-at-init : goal.loop-at-init
 loop-at-init c =

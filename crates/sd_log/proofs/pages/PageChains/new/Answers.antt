@@ -2,7 +2,7 @@ use Rattle.std.proofs.Common.{◌∙◌, [], get_or, sym, ap, subst}
 use Rattle.std.specs.Prelude.{map}
 use Rattle.std.proofs.lemmas.List.{get_or-replicate}
 use Rattle.sd_log.specs.PagesInside.{AreLinked, chain_of, last_of}
-use Rattle.sd_log.proofs.pages.Pages.new.Goals as goal
+use Rattle.sd_log.proofs.pages.PageChains.new.Goals as goal
 
 pub invariant_of-result : goal.invariant_of-result
 invariant_of-result c = record {

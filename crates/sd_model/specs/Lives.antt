@@ -24,12 +24,12 @@ IsFallen Closed = Unit {0}
 IsFallen (Recovering by) = Unit {0}
 
 -- one that runs or rolls is of an instance that is up, a loser or a doubtful one of one that isn't recovered
-abbrev pub Stands : Life → Status → Type 0
-Stands Gone s = Unit {0}
-Stands Running s = MayRun s
-Stands Retained s = IsFallen s
-Stands (Doubt cut) s = IsFallen s
-Stands (Rolling to) s = MayRun s
+abbrev pub SuitsStatus : Life → Status → Type 0
+SuitsStatus Gone s = Unit {0}
+SuitsStatus Running s = MayRun s
+SuitsStatus Retained s = IsFallen s
+SuitsStatus (Doubt cut) s = IsFallen s
+SuitsStatus (Rolling to) s = MayRun s
 
 abbrev pub IsDoubt : Life → Type 0
 IsDoubt Gone = ⊥
@@ -38,8 +38,8 @@ IsDoubt Retained = ⊥
 IsDoubt (Doubt cut) = Unit {0}
 IsDoubt (Rolling to) = ⊥
 
-pub record Placed (m : State) : Type 0 where
-  pub stands : (t : TxnId) → Stands (m.part t).life (m.inst t.inst).status
+pub record LivesAreSound (m : State) : Type 0 where
+  pub stands : (t : TxnId) → SuitsStatus (m.part t).life (m.inst t.inst).status
   -- an instance has at most one in doubt
   pub one : (t u : TxnId) → IsDoubt (m.part t).life → IsDoubt (m.part u).life → t.inst ≡ u.inst → t ≡ u
   -- a complex is closed as a whole

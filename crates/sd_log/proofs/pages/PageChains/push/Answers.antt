@@ -1,7 +1,7 @@
 use Rattle.std.proofs.Common.{◌∙◌, set, refl, ap, arith}
 use Rattle.std.proofs.lemmas.List.{get_or_default}
 use Rattle.sd_log.proofs.Paging.{pushed_pages}
-use Rattle.sd_log.proofs.pages.Pages.push.Goals as goal
+use Rattle.sd_log.proofs.pages.PageChains.push.Goals as goal
 
 pub invariant_of-self : goal.invariant_of-self
 invariant_of-self c =
