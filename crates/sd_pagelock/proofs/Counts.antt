@@ -8,7 +8,7 @@ use Rattle.std.proofs.lemmas.List.Sums.{sum_by-set, count_by-le-length, fails_be
 use Rattle.std.proofs.lemmas.List.Quantifiers.{position-Some}
 use Rattle.sd_base.specs.declared.place.Place as coded
 use Rattle.sd_base.specs.declared.place.Place.TheVariants as variants
-use Rattle.sd_pagelock.specs.Places.{seen, is_lost}
+use Rattle.sd_places.specs.Places.{seen, is_lost}
 use Rattle.sd_pagelock.specs.Directory.{lost_among}
 use Rattle.sd_pagelock.proofs.Queues.{past_end}
 

@@ -14,7 +14,7 @@ use Rattle.std.proofs.lemmas.Map.Entries.{none_past_head, none_below_head}
 use Rattle.std.proofs.lemmas.Map.Keys.{sorted_tail, IsDistinct-from_sorted}
 use Rattle.sd_pagelock.specs.declared.queue.Ask.{Ask}
 use Rattle.sd_pagelock.specs.Asks.{Queues, asks_for}
-use Rattle.sd_pagelock.proofs.Members.{not_both}
+use Rattle.sd_places.proofs.Members.{not_both}
 use Rattle.sd_pagelock.proofs.Lookups.{absent, same_page}
 
 -- what a closure made of what was found

@@ -1,22 +1,21 @@
--- Who is noted for a group of pages, and stays so. It serves noted.rt and directory.rt.
-use Rattle.std.proofs.Common.{◌≡◌, ◌≢◌, ◌⊎◌, inl, inr, ⊎_elim, ℕ, zero, suc, ◌+◌, ◌*◌, ◌-◌, ◌^◌, ◌/◌, ◌<◌, ◌≤◌, not, max, Bool, true, false, cond, eqb, List, [], ◌∷◌, Option, None, Some, length, get_or, refl, sym, ap, ◌∙◌, ne_eqb, arith}
+-- Who uses which page, and is noted for which group of pages. It serves noted.rt and directory.rt.
+use Rattle.std.proofs.Common.{◌≡◌, ◌≢◌, ⊎_elim, ℕ, zero, suc, ◌+◌, ◌*◌, ◌-◌, ◌^◌, ◌/◌, ◌<◌, ◌≤◌, not, max, Bool, true, false, cond, eqb, List, [], ◌∷◌, length, get_or, replicate, refl, sym, ap, ◌∙◌, arith}
 use Rattle.std.specs.Prelude.{bit_or, slice_set}
 use Rattle.std.specs.Int.{bit_at}
 use Rattle.std.proofs.lemmas.Bool.{cases_eq}
-use Rattle.std.proofs.lemmas.List.{get_or-set_other}
+use Rattle.std.proofs.lemmas.List.{get_or-set_other, length-set, length-replicate}
 use Rattle.std.proofs.lemmas.Grind.{get_or-set_at}
 use Rattle.std.proofs.Math.Nat.{mod-lt}
 use Rattle.std.proofs.lemmas.Nat.{div-add-mod', div-mul-add}
 use Rattle.std.proofs.lemmas.Nat.Bits.{and_pow, bit_at_or, bit_at-lt}
 use Rattle.sd_base.specs.declared.set.InstSet.{InstSet}
-use Rattle.sd_base.specs.declared.place.Mode.{Mode}
 use Rattle.sd_base.specs.declared.place.Place as coded
 use Rattle.sd_base.specs.declared.place.Place.TheVariants as variants
-use Rattle.sd_base.specs.Sets.{chosen, has, in_byte, members, with_member, without}
-use Rattle.sd_pagelock.specs.Noted.{AreNoted, is_noted, is_noted_in}
-use Rattle.sd_pagelock.specs.Places.{Formed, PageEntry, place_at, receives, seen, uses}
-use Rattle.sd_pagelock.specs.Rows.{fallen, left_with, nowhere, shared_left}
-use Rattle.sd_pagelock.proofs.Members.{has-with_member, not_both}
+use Rattle.sd_base.specs.Sets.{chosen, has, in_byte, members}
+use Rattle.sd_pagelock.specs.Noted.{AreGrouped, AreNoted, is_noted}
+use Rattle.sd_places.specs.Places.{seen, uses}
+use Rattle.sd_places.proofs.Members.{not_both}
+use Rattle.sd_pagelock.proofs.Kept.{get_or-replicate}
 
 -- who is chosen by a test is chosen by a wider one
 has-chosen : (k : ℕ) (small big : ℕ → Bool) (xs : List ℕ) → ((n : ℕ) → small n ≡ true → big n ≡ true)
@@ -70,85 +69,76 @@ pub has-right : (a b k : ℕ) → has k (members b) ≡ true → has k (members 
 has-right a b k is = has-chosen k (in_byte b) (in_byte (bit_or a b)) (1 ∷ 2 ∷ 3 ∷ 4 ∷ 5 ∷ 6 ∷ 7 ∷ 8 ∷ [])
     (λ n e. in_or a b n ∙ right_bit (bit_at a (n - 1)) (bit_at b (n - 1)) (2 ^ (n - 1)) (bit_at-lt a (n - 1)) (bit_at-lt b (n - 1)) (sym (in_one b n) ∙ e)) is
 
--- nobody in no group
+-- nobody
 abbrev pub none : InstSet
 none = record { bits = 0 }
 
--- who was noted stays so, where a group's set is written and keeps him
-pub noted-kept : (groups : List InstSet) (g q k : ℕ) (x : InstSet) → g < length groups
-    → (q / 32 ≡ g → has k (members (get_or groups g none).bits) ≡ true → has k (members x.bits) ≡ true)
-    → is_noted groups q k ≡ true → is_noted (slice_set groups g x) q k ≡ true
-noted-kept groups g q k x lt keeps is = ⊎_elim
-    (λ e. ap (λ (s : InstSet). has k (members s.bits)) (get_or-set_at groups g (q / 32) x none e lt)
-    ∙ keeps e (ap (λ (z : ℕ). is_noted_in groups z k) (sym e) ∙ is))
-    (λ ne. ap (λ (s : InstSet). has k (members s.bits)) (get_or-set_other groups g (q / 32) x none ne) ∙ is)
-    (cases_eq (q / 32) g)
+-- a set that is written is there, and the others stay
+pub set-here : (sets : List InstSet) (n k : ℕ) (x : InstSet) → n < length sets → is_noted (slice_set sets n x) n k ≡ has k (members x.bits)
+set-here sets n k x lt = ap (λ (s : InstSet). has k (members s.bits)) (get_or-set_at sets n n x none refl lt)
 
--- whom the written set has is noted
-pub noted-here : (groups : List InstSet) (g q k : ℕ) (x : InstSet) → g < length groups → q / 32 ≡ g
-    → has k (members x.bits) ≡ true → is_noted (slice_set groups g x) q k ≡ true
-noted-here groups g q k x lt e is = ap (λ (s : InstSet). has k (members s.bits)) (get_or-set_at groups g (q / 32) x none e lt) ∙ is
+pub set-others : (sets : List InstSet) (n m k : ℕ) (x : InstSet) → m ≢ n → is_noted (slice_set sets n x) m k ≡ is_noted sets m k
+set-others sets n m k x ne = ap (λ (s : InstSet). has k (members s.bits)) (get_or-set_other sets n m x none ne)
 
--- who holds a page that is on its way, or receives it
-pub users-moving : (place : coded.Place) (to b : ℕ) (mode : Mode) (rest : InstSet) (dirty : Bool) → place ≡ variants.Moving to mode rest dirty
-    → members b ≡ with_member to (members rest.bits) → (k : ℕ) → has k (members b) ≡ uses (seen place) k
-users-moving place to b mode rest dirty is set k = ap (has k) set ∙ has-with_member k to (members rest.bits) ∙ ap (λ (x : coded.Place). uses (seen x) k) (sym is)
+-- nobody is in sets that are all empty
+pub none_noted : (sets : List InstSet) (n : ℕ) → sets ≡ replicate n none → (q k : ℕ) → is_noted sets q k ≡ false
+none_noted sets n e q k = ap (λ (xs : List InstSet). is_noted xs q k) e ∙ ap (λ (s : InstSet). has k (members s.bits)) (get_or-replicate n q none)
 
--- ---- falls
+pub grouped-new : (pages groups : List InstSet) → pages ≡ replicate 1024 none → groups ≡ replicate 32 none → AreGrouped pages groups
+grouped-new pages groups ps gs = record {
+  count = ap length ps ∙ length-replicate 1024 none;
+  grouped = ap length gs ∙ length-replicate 32 none;
+  whole = λ q k is. not_both is (none_noted pages 1024 ps q k);
+}
 
-without-absent : (i : ℕ) (xs : List ℕ) → has i xs ≡ false → without i xs ≡ xs
-without-absent i [] out = refl
-without-absent i (x ∷ xs) out = go (without-absent i xs) (eqb x i) out
+-- the written set of a group has all whom it needs
+pub grouped-regroup : (pages groups : List InstSet) (g : ℕ) (x : InstSet) → AreGrouped pages groups → g < 32
+    → ((q k : ℕ) → q / 32 ≡ g → is_noted pages q k ≡ true → has k (members x.bits) ≡ true) → AreGrouped pages (slice_set groups g x)
+grouped-regroup pages groups g x was lt all = record {
+  count = was.count;
+  grouped = length-set groups g x ∙ was.grouped;
+  whole = λ q k is. ⊎_elim
+      (λ e. ap (λ (n : ℕ). is_noted (slice_set groups g x) n k) e ∙ set-here groups g k x (omega (arith, lt, was.grouped)) ∙ all q k e is)
+      (λ ne. set-others groups g (q / 32) k x ne ∙ was.whole q k is)
+      (cases_eq (q / 32) g);
+}
+
+-- the users of a page are written, and are among those of its group
+pub grouped-note : (pages groups : List InstSet) (p g : ℕ) (x y : InstSet) → AreGrouped pages groups → p < 1024 → g ≡ p / 32
+    → ((k : ℕ) → is_noted groups g k ≡ true → has k (members y.bits) ≡ true) → ((k : ℕ) → has k (members x.bits) ≡ true → has k (members y.bits) ≡ true)
+    → AreGrouped (slice_set pages p x) (slice_set groups g y)
+grouped-note pages groups p g x y was lt at left right = record {
+  count = length-set pages p x ∙ was.count;
+  grouped = length-set groups g y ∙ was.grouped;
+  whole = λ q k is. ⊎_elim
+      (λ e. ap (λ (n : ℕ). is_noted (slice_set groups g y) n k) e ∙ set-here groups g k y (in_groups p g lt at was.grouped) ∙ member q k e is)
+      (λ ne. set-others groups g (q / 32) k y ne
+      ∙ was.whole q k (sym (set-others pages p q k x (λ same. ne (ap (λ (n : ℕ). n / 32) same ∙ sym at))) ∙ is))
+      (cases_eq (q / 32) g);
+}
   where
-    go : (has i xs ≡ false → without i xs ≡ xs) → (b : Bool) → cond b true (has i xs) ≡ false
-        → cond {A = List ℕ} b (without i xs) (x ∷ without i xs) ≡ x ∷ xs
-    go rest true e = not_both refl e
-    go rest false e = ap (λ (ys : List ℕ). x ∷ ys) (rest e)
+    in_groups : (p g : ℕ) → p < 1024 → g ≡ p / 32 → length groups ≡ 32 → g < length groups
+    in_groups p g lt at len = omega (arith, div-add-mod' p 32, lt, at, len)
 
-shared-same : (i : ℕ) (set : List ℕ) (writer : Option ℕ) → Formed (PageEntry.Shared set writer) → has i set ≡ false
-    → shared_left i set writer ≡ PageEntry.Shared set writer
-shared-same i [] writer formed out = absurd (formed.0 refl)
-shared-same i (x ∷ xs) None formed out = refl
-shared-same i (x ∷ xs) (Some w) formed out = ap (λ (b : Bool). PageEntry.Shared (x ∷ xs) (cond {A = Option ℕ} b (Some x) (Some w)))
-    (ne_eqb w i (λ e. not_both (formed.1 w refl) (ap (λ (z : ℕ). has z (x ∷ xs)) e ∙ out)))
+    member : (q k : ℕ) → q / 32 ≡ g → is_noted (slice_set pages p x) q k ≡ true → has k (members y.bits) ≡ true
+    member q k e is = ⊎_elim
+        (λ same. right k (sym (set-here pages p k x (omega (arith, lt, was.count))) ∙ ap (λ (n : ℕ). is_noted (slice_set pages p x) n k) (sym same) ∙ is))
+        (λ ne. left k (ap (λ (n : ℕ). is_noted groups n k) (sym e) ∙ was.whole q k (sym (set-others pages p q k x ne) ∙ is)))
+        (cases_eq q p)
 
--- a place in which i has no part is as it was, and the page doesn't move to i
-pub fallen-unused : (i : ℕ) (e : PageEntry) → Formed e → uses e i ≡ false → fallen i e ≡ e
-fallen-unused i PageEntry.Free formed un = refl
-fallen-unused i PageEntry.Lost formed un = refl
-fallen-unused i (PageEntry.Excl holder dirty) formed un = ap (λ (b : Bool). cond {A = PageEntry} b (nowhere dirty) (PageEntry.Excl holder dirty)) un
-fallen-unused i (PageEntry.Shared set writer) formed un =
-    ap (λ (xs : List ℕ). shared_left i xs writer) (without-absent i set un) ∙ shared-same i set writer formed un
-fallen-unused i (PageEntry.Moving to mode rest dirty) formed un = go (eqb to i) un
-  where
-    go : (b : Bool) → cond b true (has i rest) ≡ false
-        → cond {A = PageEntry} b (left_with dirty (without i rest)) (PageEntry.Moving to mode (without i rest) dirty) ≡ PageEntry.Moving to mode rest dirty
-    go true e = not_both refl e
-    go false e = ap (λ (xs : List ℕ). PageEntry.Moving to mode xs dirty) (without-absent i rest e)
-
-pub receives-unused : (i : ℕ) (e : PageEntry) → uses e i ≡ false → receives e i ≡ false
-receives-unused i PageEntry.Free un = refl
-receives-unused i PageEntry.Lost un = refl
-receives-unused i (PageEntry.Excl holder dirty) un = refl
-receives-unused i (PageEntry.Shared set writer) un = refl
-receives-unused i (PageEntry.Moving to mode rest dirty) un = go (eqb to i) un
-  where
-    go : (b : Bool) → cond b true (has i rest) ≡ false → b ≡ false
-    go true e = not_both refl e
-    go false e = refl
-
--- who uses a page is noted still, where its place is written and its users are noted
+-- just its users are noted still, where a page's place is written
 pub noted-write : (places : List coded.Place) (old new : List InstSet) (p : ℕ) (to : coded.Place) → p < length places
-    → ((k : ℕ) → uses (seen to) k ≡ true → is_noted new p k ≡ true) → ((q k : ℕ) → is_noted old q k ≡ true → is_noted new q k ≡ true)
+    → ((k : ℕ) → is_noted new p k ≡ uses (seen to) k) → ((q k : ℕ) → q ≢ p → is_noted new q k ≡ is_noted old q k)
     → AreNoted places old → AreNoted (slice_set places p to) new
-noted-write places old new p to lt users stays was q k used = ⊎_elim
-    (λ e. ap (λ (z : ℕ). is_noted new z k) e ∙ users k (sym (ap (λ (x : coded.Place). uses (seen x) k) (get_or-set_at places p q to variants.Free e lt)) ∙ used))
-    (λ ne. stays q k (was q k (sym (ap (λ (x : coded.Place). uses (seen x) k) (get_or-set_other places p q to variants.Free ne)) ∙ used)))
+noted-write places old new p to lt here others was q k = ⊎_elim
+    (λ e. ap (λ (z : ℕ). is_noted new z k) e ∙ here k ∙ sym (ap (λ (x : coded.Place). uses (seen x) k) (get_or-set_at places p q to variants.Free e lt)))
+    (λ ne. others q k ne ∙ was q k ∙ sym (ap (λ (x : coded.Place). uses (seen x) k) (get_or-set_other places p q to variants.Free ne)))
     (cases_eq q p)
 
 -- nobody uses pages that are all free
-pub noted-free : (places : List coded.Place) (groups : List InstSet) → ((p : ℕ) → get_or places p variants.Free ≡ variants.Free) → AreNoted places groups
-noted-free places groups free p k used = not_both used (ap (λ (x : coded.Place). uses (seen x) k) (free p))
+pub noted-free : (places : List coded.Place) (noted : List InstSet) → ((p : ℕ) → get_or places p variants.Free ≡ variants.Free)
+    → ((p k : ℕ) → is_noted noted p k ≡ false) → AreNoted places noted
+noted-free places noted free nobody p k = nobody p k ∙ sym (ap (λ (x : coded.Place). uses (seen x) k) (free p))
 
 -- the pages of a group
 pub in_group : (g q : ℕ) → 32 * g ≤ q → q < 32 * g + 32 → q / 32 ≡ g
@@ -157,26 +147,14 @@ in_group g q low high = ap (λ (z : ℕ). z / 32) (whole g q low) ∙ div-mul-ad
     whole : (g q : ℕ) → 32 * g ≤ q → q ≡ g * 32 + (q - 32 * g)
     whole g q low = omega (arith, low)
 
--- who isn't noted for a group uses none of its pages
-pub unused : (entry : ℕ → PageEntry) (groups : List InstSet) (g i q : ℕ) → ((p k : ℕ) → uses (entry p) k ≡ true → is_noted groups p k ≡ true)
-    → is_noted_in groups g i ≡ false → 32 * g ≤ q → q < 32 * g + 32 → uses (entry q) i ≡ false
-unused entry groups g i q all out low high = go (uses (entry q) i) (λ e. ap (λ (z : ℕ). is_noted_in groups z i) (sym (in_group g q low high)) ∙ all q i e)
+-- who isn't noted for a group is noted for none of its pages
+pub ungrouped : (pages groups : List InstSet) (g i q : ℕ) → AreGrouped pages groups → is_noted groups g i ≡ false
+    → 32 * g ≤ q → q < 32 * g + 32 → is_noted pages q i ≡ false
+ungrouped pages groups g i q all out low high = go (is_noted pages q i) (λ e. ap (λ (z : ℕ). is_noted groups z i) (sym (in_group g q low high)) ∙ all.whole q i e)
   where
-    go : (b : Bool) → (b ≡ true → is_noted_in groups g i ≡ true) → b ≡ false
+    go : (b : Bool) → (b ≡ true → is_noted groups g i ≡ true) → b ≡ false
     go true f = not_both (f refl) out
     go false f = refl
-
--- behind the fall of i nobody needs i's note for a group whose pages it left
-pub noted-forget : (places : List coded.Place) (old new : List InstSet) (g i : ℕ)
-    → ((q k : ℕ) → (q / 32 ≢ g) ⊎ (k ≢ i) → is_noted old q k ≡ true → is_noted new q k ≡ true)
-    → ((q : ℕ) → q / 32 ≡ g → uses (place_at places q) i ≡ false) → AreNoted places old → AreNoted places new
-noted-forget places old new g i stays left was q k used = ⊎_elim
-    (λ e. ⊎_elim
-    (λ same. not_both used (ap (uses (place_at places q)) same ∙ left q e))
-    (λ ne. stays q k (inr ne) (was q k used))
-    (cases_eq k i))
-    (λ ne. stays q k (inl ne) (was q k used))
-    (cases_eq (q / 32) g)
 
 -- the first and the last page of a page's group
 pub group_low : (g q : ℕ) → q / 32 ≡ g → 32 * g ≤ q

@@ -1,23 +1,14 @@
 -- What the directory keeps when a page's place is written. It serves directory.rt.
-use Rattle.std.proofs.Common.{◌≡◌, ⊎_elim, ℕ, zero, suc, ◌<◌, ◌≤◌, Bool, true, cond, eqb, List, Option, None, length, get_or, replicate, refl, sym, ap, ◌∙◌, subst, ne_eqb, arith}
+use Rattle.std.proofs.Common.{◌≡◌, ⊎_elim, ℕ, zero, suc, ◌<◌, List, Option, None, length, get_or, replicate, refl, sym, ap, ◌∙◌, subst, arith}
 use Rattle.std.specs.Prelude.{is_some, slice_set}
 use Rattle.std.proofs.lemmas.Bool.{cases_eq}
 use Rattle.std.proofs.lemmas.List.{get_or-set_other, length-set, length-replicate}
 use Rattle.std.proofs.lemmas.Grind.{get_or-set_at}
 use Rattle.sd_base.specs.declared.place.Place as coded
 use Rattle.sd_base.specs.declared.place.Place.TheVariants as variants
-use Rattle.sd_base.specs.Sets.{has, members}
-use Rattle.sd_pagelock.specs.Places.{seen, changed, Formed, InRange}
+use Rattle.sd_places.specs.Places.{seen, changed, Formed, InRange}
 use Rattle.sd_pagelock.specs.Directory.{IsKept, lost_among}
-use Rattle.sd_pagelock.proofs.Alone.{member_range}
 use Rattle.sd_pagelock.proofs.Counts.{none_counted}
-
--- the receiver of a page, and those who hold it
-pub moving_range : (to b k : ℕ) → 1 ≤ to → to ≤ 8 → cond (eqb to k) true (has k (members b)) ≡ true → (1 ≤ k) × (k ≤ 8)
-moving_range to b k low high used = ⊎_elim
-    (λ e. subst (λ (z : ℕ). (1 ≤ z) × (z ≤ 8)) e (low, high))
-    (λ ne. member_range b k (sym (ap (λ (c : Bool). cond c true (has k (members b))) (ne_eqb to k ne)) ∙ used))
-    (cases_eq to k)
 
 -- what holds of one item and of all others
 each : {X : Type 0} (P : ℕ → X → Type 0) (xs : List X) (i : ℕ) (x d : X) → i < length xs → P i x → ((q : ℕ) → P q (get_or xs q d)) → (q : ℕ) → P q (get_or (slice_set xs i x) q d)

@@ -1,16 +1,8 @@
-pub mod Alone
 pub mod Counts
-pub mod Drops
-pub mod Members
 pub mod Groups
 pub mod Fallen
-pub mod Falls
 pub mod Finds
-pub mod Forms
 pub mod Kept
 pub mod Lookups
-pub mod Losses
 pub mod Queues
 pub mod Raised
-pub mod Rowwise
-pub mod Uses

@@ -1,5 +1,5 @@
 -- Look-ups by page among the asks. It serves asks.rt.
-use Rattle.std.proofs.Common.{◌≡◌, ◌≢◌, ◌↔◌, ◌⊎◌, inl, inr, ⊎_elim, ℕ, eqb, Ok, Err, Bool, true, false, cond, not, List, [], ◌∷◌, Option, None, Some, refl, sym, ap, ◌∙◌, subst}
+use Rattle.std.proofs.Common.{◌≡◌, ◌≢◌, ◌⊎◌, inl, inr, ⊎_elim, ℕ, Ok, Err, Bool, true, false, cond, not, List, [], ◌∷◌, Option, None, Some, refl, sym, ap, ◌∙◌, subst}
 use Rattle.std.specs.Prelude.{IsSome, Result, OnOk, OnErr, unwrap_or}
 use Rattle.std.specs.Option.{option_map}
 use Rattle.std.specs.Ordering.{nat_cmp, is_eq, eq_by_cmp}
@@ -17,9 +17,8 @@ use Rattle.std.proofs.lemmas.Bool.{cases_eq}
 use Rattle.std.proofs.lemmas.Map.Lookups.{exact_unsigned}
 use Rattle.sd_base.specs.declared.place.Mode.{Mode}
 use Rattle.sd_pagelock.specs.declared.queue.Ask.{Ask}
-use Rattle.sd_pagelock.specs.Places.{PageEntry}
-use Rattle.sd_pagelock.specs.Asks.{Queues, AreAsked, IsAsked, IsOneEach, asks_for, queued, stronger, is_open_ask, open_asks, nobody}
-use Rattle.sd_pagelock.proofs.Members.{not_both}
+use Rattle.sd_places.specs.Places.{PageEntry}
+use Rattle.sd_pagelock.specs.Asks.{Queues, AreAsked, IsOneEach, asks_for, queued, is_open_ask, open_asks, nobody}
 use Rattle.sd_pagelock.proofs.Queues.{one_each-queued, one_each-filter}
 
 -- the same page
@@ -50,24 +49,16 @@ absent n s = absurd (cc)
 pub once : (queues : Queues) (p : ℕ) → AreAsked queues → IsOneEach (asks_for queues p)
 once queues p asked = go (lookup (is_at (nat_cmp p)) queues) (asked p)
   where
-    go : (o : Option (List Ask)) → ((asks : List Ask) → o ≡ Some asks → IsAsked asks) → IsOneEach (unwrap_or o [])
+    go : (o : Option (List Ask)) → ((asks : List Ask) → o ≡ Some asks → IsOneEach asks) → IsOneEach (unwrap_or o [])
     go None asked = tt
-    go (Some asks) asked = (asked asks refl).1
+    go (Some asks) asked = asked asks refl
 
 -- the asks for one page changed
-pub one_changed : (old new : Queues) (p : ℕ) → AreAsked old → ((q : ℕ) → q ≢ p → lookup (is_at (nat_cmp q)) new ≡ lookup (is_at (nat_cmp q)) old) → ((asks : List Ask) → lookup (is_at (nat_cmp p)) new ≡ Some asks → IsAsked asks) → AreAsked new
+pub one_changed : (old new : Queues) (p : ℕ) → AreAsked old → ((q : ℕ) → q ≢ p → lookup (is_at (nat_cmp q)) new ≡ lookup (is_at (nat_cmp q)) old) → ((asks : List Ask) → lookup (is_at (nat_cmp p)) new ≡ Some asks → IsOneEach asks) → AreAsked new
 one_changed old new p asked others here q asks found = ⊎_elim
     (λ e. here asks (ap (λ (z : ℕ). lookup (is_at (nat_cmp z)) new) (sym e) ∙ found))
     (λ ne. asked q asks (sym (others q ne) ∙ found))
     (cases_eq q p)
-
-somebody : (by : ℕ) (mode : Mode) (asks : List Ask) → queued by mode asks ≢ []
-somebody by mode [] e = absurd (cc)
-somebody by mode (ask ∷ asks) e = go (eqb ask.by by) e
-  where
-    go : (b : Bool) → cond {A = List Ask} b ((record { by = ask.by; mode = stronger ask.mode mode }) ∷ asks) (ask ∷ queued by mode asks) ≢ []
-    go true e = absurd (cc)
-    go false e = absurd (cc)
 
 either : {A B : Type 0} {P Q : Type 0} (r : Result A B) → OnOk r P → OnErr r Q → P ⊎ Q
 either (Ok x) p q = inl p
@@ -82,28 +73,20 @@ pub asked-add : {A B : Type 0} (r : Result A B) (old new : Queues) (p by : ℕ) 
     → OnErr r (lookup (is_at (nat_cmp p)) new ≡ lookup (is_at (nat_cmp p)) old)
     → ((q : ℕ) → q ≢ p → lookup (is_at (nat_cmp q)) new ≡ lookup (is_at (nat_cmp q)) old) → AreAsked new
 asked-add r old new p by mode asked ok err others = one_changed old new p asked others (λ asks found. ⊎_elim
-    (λ e. subst IsAsked (inside (sym e ∙ found)) (somebody by mode (asks_for old p), one_each-queued by mode (asks_for old p) (once old p asked)))
+    (λ e. subst IsOneEach (inside (sym e ∙ found)) (one_each-queued by mode (asks_for old p) (once old p asked)))
     (λ e. asked p asks (sym e ∙ found))
     (either r ok err))
 
--- some asks were taken off, and not all
-pub asked-close : (old new : Queues) (p : ℕ) (place : PageEntry) (emptied : Bool) → emptied ≡ false → AreAsked old
+-- some asks were taken off
+pub asked-close : (old new : Queues) (p : ℕ) (place : PageEntry) → AreAsked old
     → lookup (is_at (nat_cmp p)) new ≡ option_map (open_asks place) (lookup (is_at (nat_cmp p)) old)
-    → (emptied ≡ true ↔ (lookup (is_at (nat_cmp p)) new ≡ Some []))
     → ((q : ℕ) → q ≢ p → lookup (is_at (nat_cmp q)) new ≡ lookup (is_at (nat_cmp q)) old) → AreAsked new
-asked-close old new p place emptied left asked here none others = one_changed old new p asked others (λ asks found.
-    (λ e. not_both (none.1 (found ∙ ap Some e)) left, kept asks (lookup (is_at (nat_cmp p)) old) (sym here ∙ found) (asked p)))
+asked-close old new p place asked here others =
+    one_changed old new p asked others (λ asks found. kept asks (lookup (is_at (nat_cmp p)) old) (sym here ∙ found) (asked p))
   where
-    kept : (asks : List Ask) (o : Option (List Ask)) → option_map (open_asks place) o ≡ Some asks → ((xs : List Ask) → o ≡ Some xs → IsAsked xs) → IsOneEach asks
+    kept : (asks : List Ask) (o : Option (List Ask)) → option_map (open_asks place) o ≡ Some asks → ((xs : List Ask) → o ≡ Some xs → IsOneEach xs) → IsOneEach asks
     kept asks None e was = absurd (cc)
-    kept asks (Some xs) e was = subst IsOneEach (inside e) (one_each-filter (is_open_ask place) xs (was xs refl).1)
-
--- the page is listed no more
-pub asked-remove : (old mid new : Queues) (p : ℕ) → AreAsked old
-    → lookup (is_at (nat_cmp p)) new ≡ None
-    → ((q : ℕ) → q ≢ p → lookup (is_at (nat_cmp q)) new ≡ lookup (is_at (nat_cmp q)) mid)
-    → ((q : ℕ) → q ≢ p → lookup (is_at (nat_cmp q)) mid ≡ lookup (is_at (nat_cmp q)) old) → AreAsked new
-asked-remove old mid new p asked gone stay others = one_changed old new p asked (λ q ne. stay q ne ∙ others q ne) (λ asks found. absurd (absent (sym gone) found))
+    kept asks (Some xs) e was = subst IsOneEach (inside e) (one_each-filter (is_open_ask place) xs (was xs refl))
 
 abbrev pub nonempty : List Ask → Option (List Ask)
 nonempty [] = None
@@ -155,10 +138,10 @@ pub asked-kept : (keep : ℕ → List Ask → List Ask) → ((p : ℕ) (xs : Lis
     → (old new : Queues) → AreAsked old → ((p : ℕ) → lookup (is_at (nat_cmp p)) new ≡ remaining (keep p) (lookup (is_at (nat_cmp p)) old)) → AreAsked new
 asked-kept keep apart old new asked e p asks found = go (lookup (is_at (nat_cmp p)) old) (asked p) (sym (e p) ∙ found)
   where
-    full : (xs : List Ask) → nonempty xs ≡ Some asks → IsOneEach xs → IsAsked asks
+    full : (xs : List Ask) → nonempty xs ≡ Some asks → IsOneEach xs → IsOneEach asks
     full [] e each = absurd (absent e refl)
-    full (x ∷ xs) e each = subst IsAsked (inside e) ((λ n. absurd (cc)), each)
+    full (x ∷ xs) e each = subst IsOneEach (inside e) each
 
-    go : (o : Option (List Ask)) → ((xs : List Ask) → o ≡ Some xs → IsAsked xs) → remaining (keep p) o ≡ Some asks → IsAsked asks
+    go : (o : Option (List Ask)) → ((xs : List Ask) → o ≡ Some xs → IsOneEach xs) → remaining (keep p) o ≡ Some asks → IsOneEach asks
     go None was e = absurd (absent e refl)
-    go (Some xs) was e = full (keep p xs) e (apart p xs (was xs refl).1)
+    go (Some xs) was e = full (keep p xs) e (apart p xs (was xs refl))

@@ -8,7 +8,7 @@ use Rattle.std.proofs.lemmas.List.Sums.{fails_before_first}
 use Rattle.sd_base.specs.declared.place.Mode.{Mode}
 use Rattle.sd_pagelock.specs.declared.queue.Ask.{Ask}
 use Rattle.sd_pagelock.specs.Asks.{queued, stronger, asks_by, IsOneEach}
-use Rattle.sd_pagelock.proofs.Members.{not_both}
+use Rattle.sd_places.proofs.Members.{not_both}
 
 -- its instance's older ask becomes the stronger of both
 at_place : (by : ℕ) (mode : Mode) (xs : List Ask) (i : ℕ) (d : Ask) → i < length xs → eqb (get_or xs i d).by by ≡ true → ((k : ℕ) → k < i → eqb (get_or xs k d).by by ≡ false) → slice_set xs i (record { by = (get_or xs i d).by; mode = stronger (get_or xs i d).mode mode }) ≡ queued by mode xs

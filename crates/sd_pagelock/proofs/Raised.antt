@@ -6,8 +6,8 @@ use Rattle.sd_base.specs.declared.place.Mode.TheVariants as modes
 use Rattle.sd_pagelock.specs.declared.queue.Ask.{Ask}
 use Rattle.sd_pagelock.specs.Asks.{is_open_ask, open_asks}
 use Rattle.sd_pagelock.specs.Directory.{kept_rec}
-use Rattle.sd_pagelock.specs.Places.{PageEntry, holds_as}
-use Rattle.sd_pagelock.specs.Rows.{may_raise, raised}
+use Rattle.sd_places.specs.Places.{PageEntry, holds_as}
+use Rattle.sd_places.specs.Rows.{may_raise, raised}
 
 -- an ask that the raised page leaves open was open
 pub open-raised : (i : ℕ) (e : PageEntry) → may_raise i e ≡ true → (ask : Ask) → is_open_ask (raised i e) ask ≡ true → is_open_ask e ask ≡ true

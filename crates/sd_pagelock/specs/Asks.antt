@@ -1,5 +1,5 @@
 -- The asks for a page: who asks, in which mode, in the order of the asks.
-use Rattle.std.specs.Prelude.{◌≡◌, ◌≢◌, ℕ, Bool, true, false, List, [], ◌∷◌, Option, Some, eqb, not, ◌||◌, cond, filter, find, unwrap_or}
+use Rattle.std.specs.Prelude.{◌≡◌, ℕ, Bool, true, false, List, [], ◌∷◌, Option, Some, eqb, not, ◌||◌, cond, filter, find, unwrap_or}
 use Rattle.std.specs.Ordering.{nat_cmp}
 use Rattle.std.specs.Map.{lookup}
 use Rattle.std.specs.BTreeMap.{is_at}
@@ -7,7 +7,7 @@ use Rattle.std.specs.Option.{option_map}
 use Rattle.sd_base.specs.declared.place.Mode.{Mode}
 use Rattle.sd_base.specs.declared.place.Mode.TheVariants as modes
 use Rattle.sd_pagelock.specs.declared.queue.Ask.{Ask}
-use Rattle.sd_pagelock.specs.Places.{PageEntry, holds_as, is_lost}
+use Rattle.sd_places.specs.Places.{PageEntry, holds_as, is_lost}
 
 -- the stronger of two modes
 abbrev pub stronger : Mode → Mode → Mode
@@ -50,11 +50,7 @@ abbrev pub IsOneEach : List Ask → Type 0
 IsOneEach [] = Unit {0}
 IsOneEach (ask ∷ asks) = (asks_by ask.by asks ≡ false) × IsOneEach asks
 
--- somebody asks, and nobody twice
-abbrev pub IsAsked : List Ask → Type 0
-IsAsked asks = (asks ≢ []) × IsOneEach asks
-
--- the asked pages, rising, each with its asks
+-- the listed pages, rising, each with its asks: those that are asked for, and some that were
 abbrev pub Queues : Type 0
 Queues = List (ℕ × List Ask)
 
@@ -62,6 +58,6 @@ Queues = List (ℕ × List Ask)
 abbrev pub asks_for : Queues → ℕ → List Ask
 asks_for queues p = unwrap_or (lookup (is_at (nat_cmp p)) queues) []
 
--- each page that is listed is asked for
+-- nobody asks twice for a page that is listed
 abbrev pub AreAsked : Queues → Type 0
-AreAsked queues = (p : ℕ) (asks : List Ask) → lookup (is_at (nat_cmp p)) queues ≡ Some asks → IsAsked asks
+AreAsked queues = (p : ℕ) (asks : List Ask) → lookup (is_at (nat_cmp p)) queues ≡ Some asks → IsOneEach asks

@@ -3,10 +3,10 @@ use Rattle.std.specs.Prelude.{◌≡◌, ℕ, ◌<◌, Bool, List, [], Option, N
 use Rattle.std.specs.List.{count_by}
 use Rattle.sd_base.specs.declared.place.Place as coded
 use Rattle.sd_pagelock.specs.declared.queue.Ask.{Ask}
-use Rattle.sd_pagelock.specs.Places.{PageEntry, seen, place_at, holds, rests, changed, is_lost, Formed, InRange}
+use Rattle.sd_places.specs.Places.{PageEntry, seen, place_at, holds, rests, changed, is_lost, Formed, InRange}
 use Rattle.sd_pagelock.specs.Asks.{Queues, asks_for, oldest}
 
--- by page: where it is, its RecLSN, and what of it is on its way; and the asked pages, rising, each with its asks
+-- by page: where it is, its RecLSN, and what of it is on its way; and the asks by page
 pub record DirectoryState (I : Type 0) : Type 0 where
   pub places : List coded.Place
   pub rec_lsns : List (Option ℕ)

@@ -1,10 +1,10 @@
-//! Who asks for which page. Only the pages that are asked for are listed.
+//! Who asks for which page. The pages that are asked for are listed, and some that were.
 
-ghost use Rattle.std.specs.Prelude.{◌≡◌, ◌≢◌, ◌↔◌, ℕ, [], OnOk, OnErr, IsTrue, length, unwrap_or};
+ghost use Rattle.std.specs.Prelude.{◌≡◌, ◌≢◌, ℕ, [], OnOk, OnErr, length, unwrap_or};
 ghost use Rattle.std.specs.Option.{option_map};
 ghost use Rattle.std.specs.Ordering.{nat_cmp};
 ghost use Rattle.std.specs.BTreeMap.{get};
-ghost use Rattle.sd_pagelock.specs.Places.{seen, place_at};
+ghost use Rattle.sd_places.specs.Places.{seen, place_at};
 ghost use Rattle.sd_pagelock.specs.Asks.{asks_for, queued, oldest, open_asks, asks_without, IsOneEach};
 
 use crate::queue::Queue;
@@ -13,10 +13,15 @@ use std::alloc::Global;
 use std::collections::BTreeMap;
 use std::marker::Model;
 
-/// The asks for all pages. Contracts see the asked pages, rising, each with its asks.
+// So many queues without asks may be listed, whatever else is.
+const EMPTY_QUEUES: usize = 32;
+
+/// The asks for all pages. Contracts see the listed pages, rising, each with its asks.
 #[derive(Drop)]
 pub(crate) struct Asks {
     pub(crate) queues: BTreeMap<PageNo, Queue>,
+    // how many queues were emptied since `unlist_emptied`
+    emptied: usize,
 }
 
 impl Model for Asks {
@@ -36,6 +41,7 @@ impl Asks {
     {
         Asks {
             queues: BTreeMap::new(alloc),
+            emptied: 0,
         }
     }
 
@@ -77,8 +83,29 @@ impl Asks {
         ensures others { (q : ℕ) → q ≢ p → asks_for self.new q ≡ asks_for self.old q }
     {
         if is_emptied(&mut self.queues, p, place) {
-            self.queues.remove(&p);
+            self.keep_emptied();
         }
+    }
+
+    // An emptied queue stays listed, so that the next ask for its page takes no memory. Those without asks are taken off once
+    // they may be many beside the others.
+    fn keep_emptied(&mut self)
+        ensures { (p : ℕ) → asks_for self.new p ≡ asks_for self.old p }
+    {
+        let few = EMPTY_QUEUES + self.queues.len() / 2;
+        if self.emptied < few {
+            self.emptied += 1;
+        } else {
+            self.unlist_emptied();
+        }
+    }
+
+    // Takes off the queues without asks.
+    fn unlist_emptied(&mut self)
+        ensures { (p : ℕ) → asks_for self.new p ≡ asks_for self.old p }
+    {
+        self.queues.retain(|_, queue| !queue.is_empty());
+        self.emptied = 0;
     }
 
     /// Takes off all asks of the instance.
@@ -135,16 +162,16 @@ fn queue_ask(
     }
 }
 
-// Takes off the asks for the page that this place of it doesn't leave open. Whether it is listed with none then.
+// Takes off the asks for the page that this place of it doesn't leave open. Whether none is left of some.
 fn is_emptied(queues: &mut BTreeMap<PageNo, Queue>, p: PageNo, place: &Place) -> bool
     ensures here { get nat_cmp queues.new p ≡ option_map (open_asks (seen place.now)) (get nat_cmp queues.old p) }
     ensures others { (q : ℕ) → q ≢ p → get nat_cmp queues.new q ≡ get nat_cmp queues.old q }
-    ensures emptied { IsTrue result ↔ (get nat_cmp queues.new p ≡ Some []) }
 {
     match queues.get_mut(&p) {
         Some(queue) => {
+            let asked = !queue.is_empty();
             queue.close(place);
-            queue.is_empty()
+            asked && queue.is_empty()
         }
         None => false,
     }

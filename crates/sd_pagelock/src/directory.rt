@@ -1,14 +1,15 @@
 //! The directory: each page's place and RecLSN, what of it is on its way, and the asks for it.
 
-ghost use Rattle.std.specs.Prelude.{◌≡◌, ◌+◌, ◌≤◌, ℕ, true, IfOk, cond, length, position, replicate};
-ghost use Rattle.sd_pagelock.specs.Places.{seen, is_lost};
+ghost use Rattle.std.specs.Prelude.{◌≡◌, ◌+◌, ◌≤◌, ℕ, true, IfOk, cond, length, position};
+ghost use Rattle.sd_places.specs.Places.{seen, is_lost};
 
 use crate::asks::Asks;
-use crate::laws;
-use crate::noted::{GROUP, GROUPS, Noted, leaver};
+use crate::filled::{nothing, repeated};
+use crate::noted::{GROUP, GROUPS, Noted};
 use crate::queue::Queue;
-use crate::rows::{changed, fallen, holds, is_lost, receives, rests, uses};
-use sd_base::{InstNo, Lsn, Memory, Mode, PAGES, PageNo, Place};
+use sd_base::{InstNo, InstSet, Lsn, Memory, Mode, PAGES, PageNo, Place};
+use sd_places::laws;
+use sd_places::rows::{changed, fallen, holds, is_lost, receives, rests};
 use std::alloc::Global;
 use std::marker::Model;
 
@@ -23,7 +24,7 @@ pub struct Directory<I> {
     asks: Asks,
     // how many of the places are lost
     lost: usize,
-    // who may use pages of a group
+    // who uses which page
     noted: Noted,
 }
 
@@ -48,9 +49,9 @@ impl<I> Model for Directory<I> {
 
 impl<I: Drop> Directory<I> {
     ghost use Rattle.std.specs.Prelude.{◌≡◌, ◌≢◌, ◌<◌, ◌≤◌, ℕ, [], None, Some, IsTrue, IfNone, IfOk, IfSome, is_some, option_copied, cond, true, false, Option};
-    ghost use Rattle.sd_pagelock.specs.Places.{PageEntry, seen, is_free, changed, receives, Formed, InRange};
-    ghost use Rattle.sd_pagelock.specs.Rows.{fallen};
-    ghost use Rattle.sd_pagelock.specs.Moves.{IsMove};
+    ghost use Rattle.sd_places.specs.Places.{PageEntry, seen, is_free, changed, receives, Formed, InRange};
+    ghost use Rattle.sd_places.specs.Rows.{fallen};
+    ghost use Rattle.sd_places.specs.Moves.{IsMove};
     ghost use Rattle.sd_pagelock.specs.Asks.{queued, oldest, open_asks, asks_without, IsOneEach};
     ghost use Rattle.sd_pagelock.specs.Directory.{entry_at, rec_lsn_at, moving_image_at, asks_at, can_give, is_wanted, kept_rec};
 
@@ -63,8 +64,8 @@ impl<I: Drop> Directory<I> {
         ensures unasked { IfOk result (λ d. (p : ℕ) → asks_at d p ≡ []) }
     {
         Ok(Directory {
-            places: repeated(alloc, Place::Free)?,
-            rec_lsns: repeated(alloc, None)?,
+            places: repeated(alloc, PAGES, Place::Free)?,
+            rec_lsns: repeated(alloc, PAGES, None)?,
             images: nothing(alloc)?,
             rooms: nothing(alloc)?,
             asks: Asks::new(alloc),
@@ -118,9 +119,9 @@ impl<I: Drop> Directory<I> {
     {
         let rec = self.kept_rec(p, &to, rec);
         self.asks.close(p, &to);
-        let was = self.entry(p);
+        let users = self.noted.users(p);
         self.write(p, to, rec);
-        self.forget_leaver(p, &was);
+        self.regroup_left(p, users);
     }
 
     /// The instance goes down: of each page its copy goes, and what moved to it. Its asks go, and those that the places
@@ -216,8 +217,8 @@ impl<I: Drop> Directory<I> {
     ghost use Rattle.std.specs.Ordering.{nat_cmp};
     ghost use Rattle.std.specs.Map.{keys_of};
     ghost use Rattle.std.specs.List.Sorted.{IsStrictlySortedBy};
-    ghost use Rattle.sd_pagelock.specs.Places.{seen, changed, is_lost, holds, receives, uses, rests, Formed};
-    ghost use Rattle.sd_pagelock.specs.Rows.{fallen};
+    ghost use Rattle.sd_places.specs.Places.{seen, changed, is_lost, holds, receives, rests, Formed};
+    ghost use Rattle.sd_places.specs.Rows.{fallen};
     ghost use Rattle.sd_pagelock.specs.Asks.{queued, oldest, open_asks, asks_without};
     ghost use Rattle.sd_pagelock.specs.Directory.{entry_at, rec_lsn_at, moving_image_at, asks_at, can_give, is_wanted, kept_rec};
 
@@ -261,7 +262,7 @@ impl<I: Drop> Directory<I> {
     }
 
     /// The lowest page that `i` can give to another who asks for it: shared or with one alone, and held by `i`. `None`
-    /// exactly where there is none. Only asked pages are looked at.
+    /// exactly where there is none. Only pages that are asked for, or were, are looked at.
     pub fn first_for(&self, i: InstNo) -> Option<PageNo>
         ensures found { IfSome result (λ p. is_wanted self.now i p ≡ true) }
         ensures lowest { IfSome result (λ p. (q : ℕ) → q < p → is_wanted self.now i q ≡ false) }
@@ -326,32 +327,12 @@ impl<I: Drop> Directory<I> {
         }
     }
 
-    // Who used the page before, and now uses none of its group, isn't noted for the group any more: so a fall looks at those groups
-    // alone in which the instance has a page. By a row of the table at most one leaves a page.
-    fn forget_leaver(&mut self, p: PageNo, was: &Place)
+    // Who used the page before, and now uses none of its group, isn't noted for the group any more: so a fall looks at those
+    // groups alone in which the instance has a page.
+    fn regroup_left(&mut self, p: PageNo, before: InstSet)
         ensures { self.new ≡ self.old }
     {
-        let Some(i) = leaver(was, &self.entry(p)) else {
-            return;
-        };
-        let group = p.get() / GROUP;
-        if !self.uses_some(group, i) {
-            self.noted.forget(group, i);
-        }
-    }
-
-    // Whether the instance uses a page of the group.
-    fn uses_some(&self, group: u16, i: InstNo) -> bool
-        requires { group < 32 }
-        ensures { result ≡ false → (q : ℕ) → 32 * group ≤ q → q < 32 * group + 32 → uses (entry_at self.now q) i ≡ false }
-    {
-        let first = GROUP * group;
-        for at in first..first + GROUP {
-            if uses(&self.places[at as usize], i) {
-                return true;
-            }
-        }
-        false
+        self.noted.regroup_left(p, before);
     }
 
     // What the fall of `i` leaves of the pages of a group, without their asks.
@@ -374,7 +355,7 @@ impl<I: Drop> Directory<I> {
                 None => {}
             }
         }
-        self.noted.forget(group, i);
+        self.noted.regroup(group);
     }
 
     // What the fall of `i` leaves of the page, without its asks.
@@ -483,26 +464,4 @@ fn recounted(lost: usize, was: &Place, to: &Place) -> usize
 {
     let others = if is_lost(was) { lost - 1 } else { lost };
     if is_lost(to) { others + 1 } else { others }
-}
-
-// One value for each page.
-fn repeated<X: Copy>(alloc: Global, value: X) -> Result<Vec<X>, Memory>
-    ensures { IfOk result (λ values. values.items ≡ replicate 1024 value) }
-{
-    let mut values = Vec::with_capacity(alloc, PAGES as usize)?;
-    while values.len() < PAGES as usize {
-        values.push(value)?;
-    }
-    Ok(values)
-}
-
-// Nothing for each page.
-fn nothing<I: Drop>(alloc: Global) -> Result<Vec<Option<I>>, Memory>
-    ensures { IfOk result (λ values. values.items ≡ replicate 1024 None) }
-{
-    let mut values = Vec::with_capacity(alloc, PAGES as usize)?;
-    while values.len() < PAGES as usize {
-        values.push(None)?;
-    }
-    Ok(values)
 }

@@ -1,31 +1,30 @@
 //! The page directory: who holds the newest image of each page, since when its disk image is old, and who asks for it.
 //!
-//! Meaning: `Place`, a page's place as laws see it (`specs/Places.antt`), and `DirectoryState`, what the directory
-//! says of each page (`specs/Directory.antt`).
+//! Meaning: `DirectoryState`, what the directory says of each page (`specs/Directory.antt`); `Place`, a page's place as laws see
+//! it, is of sd_places.
 //! Keeps: a shared page has a holder, and its writer is one; the receiver of a page holds no copy of it; a page has a
 //! RecLSN exactly where its place is changed; an instance asks once for a page; a copy of a page that is asked for has room in
 //! which it can set out.
-//! Promises: a page's place changes by a row of the table (`set`, `lawful`; `rows`, `specs/Moves.antt`), which never loses
-//! it (`laws::only_copy`), or by a fall (`fall`); a changed page keeps its RecLSN (`set`, `rec_lsn`); `oldest_ask`,
-//! `first_for` and `first_lost` answer exactly (`value`; `found`, `lowest`, `none`).
+//! Promises: a page's place changes by a row of the table (`set`, `lawful`), which never loses it (`laws::only_copy`), or by a
+//! fall (`fall`); a changed page keeps its RecLSN (`set`, `rec_lsn`); `oldest_ask`, `first_for` and `first_lost` answer exactly
+//! (`value`; `found`, `lowest`, `none`).
 //! Refuses: nothing but want of memory, in `new` and `ask`.
-//! Knows nothing of: pools, logs, devices; what an image is; which instances run.
-//! Stands on: sd_base.
+//! Knows nothing of: how one place becomes another; pools, logs, devices; what an image is; which instances run.
+//! Lends: `rows`, `laws` and `is_lawful` of sd_places, to those who move pages.
+//! Stands on: sd_base, sd_places.
 //!
 //! To change:
 //! - free: bodies and private helpers
-//! - dear: the rows (`rows`) and the laws (`laws`), the clauses of `set` and `fall`
+//! - dear: the clauses of `set` and `fall`
 //! - frozen: nothing
 #![tactic(auto)]
 
 mod asks;
 mod directory;
-mod lawful;
-pub mod laws;
+mod filled;
 mod noted;
 mod queue;
-pub mod rows;
 
 pub use directory::Directory;
-pub use lawful::is_lawful;
 pub use queue::Ask;
+pub use sd_places::{is_lawful, laws, rows};

@@ -1,11 +1,11 @@
 //! The asks for one page, in the order in which they came.
 
 ghost use Rattle.std.specs.Prelude.{◌≡◌, [], ◌∷◌, List, IfOk, OnOk, OnErr, IsTrue, ◌↔◌, position, eqb};
-ghost use Rattle.sd_pagelock.specs.Places.{seen};
+ghost use Rattle.sd_places.specs.Places.{seen};
 ghost use Rattle.sd_pagelock.specs.Asks as asks;
 
-use crate::rows::{holds_as, is_lost};
 use sd_base::{InstNo, Memory, Mode, Place};
+use sd_places::rows::{holds_as, is_lost};
 use std::alloc::Global;
 use std::marker::Model;
 

@@ -4,7 +4,7 @@ use Rattle.std.specs.Map.{keys_of}
 use Rattle.std.proofs.lemmas.Map.Keys.{IsDistinct-from_sorted}
 use Rattle.sd_base.specs.declared.place.Place as coded
 use Rattle.sd_pagelock.specs.declared.queue.Ask.{Ask}
-use Rattle.sd_pagelock.specs.Places.{place_at}
+use Rattle.sd_places.specs.Places.{place_at}
 use Rattle.sd_pagelock.specs.Asks.{asks_for, asks_without, open_asks, is_open_ask, IsOneEach}
 use Rattle.sd_pagelock.proofs.Lookups.{kept_each, asks_for-kept, asked-kept}
 use Rattle.sd_pagelock.proofs.Queues.{one_each-filter}

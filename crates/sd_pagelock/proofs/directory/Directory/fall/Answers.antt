@@ -1,9 +1,9 @@
 use Rattle.std.proofs.Common.{⊎_elim, ℕ, ◌*◌, ◌+◌, ◌<◌, ◌≤◌, cond, None, Option, sym, ap, ◌∙◌, arith}
 use Rattle.std.proofs.lemmas.Bool.{cases_lt}
-use Rattle.sd_pagelock.specs.Places.{PageEntry, place_at, receives, uses}
-use Rattle.sd_pagelock.specs.Rows.{fallen}
+use Rattle.sd_places.specs.Places.{PageEntry, receives, uses}
+use Rattle.sd_places.specs.Rows.{fallen}
 use Rattle.sd_pagelock.specs.Directory.{DirectoryState, entry_at, rec_lsn_at, moving_image_at, asks_at}
-use Rattle.sd_pagelock.proofs.Groups.{fallen-unused, receives-unused, unused}
+use Rattle.sd_places.proofs.Unused.{fallen-unused, receives-unused}
 use Rattle.sd_pagelock.proofs.directory.Directory.fall.Goals.{then-has, else-has}
 use Rattle.sd_pagelock.proofs.directory.Directory.fall.Goals as goal
 
@@ -44,7 +44,7 @@ loop-group-preserved g c =
           let seen_in = λ (q : ℕ). ap (λ (s : DirectoryState g.row.I.Denot). entry_at s q) c.self-in-loop-group.view_is in
           let un = λ (q : ℕ) (low : 32 * n ≤ q) (high : q < 32 * n + 32).
           sym (ap (λ (x : PageEntry). uses x i) (seen_in q ∙ inv.later q low))
-          ∙ unused (place_at d.places.items) d.noted n i q c.self-in-loop-group.invariant.2 (sym c.has.ensures ∙ w.if-has.false) low high in
+          ∙ sym (c.self-in-loop-group.invariant.2 q i) ∙ c.has.ensures w.if-has.false q low high in
           record {
             places = λ q lt. ⊎_elim
                 (λ low. entry q ∙ inv.places q low)

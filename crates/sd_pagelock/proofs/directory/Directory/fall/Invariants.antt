@@ -1,6 +1,6 @@
 use Rattle.std.proofs.Common.{◌≡◌, ◌*◌, ◌<◌, ◌≤◌, ℕ, cond, None, Option}
-use Rattle.sd_pagelock.specs.Places.{receives}
-use Rattle.sd_pagelock.specs.Rows.{fallen}
+use Rattle.sd_places.specs.Places.{receives}
+use Rattle.sd_places.specs.Rows.{fallen}
 use Rattle.sd_pagelock.specs.Directory.{entry_at, rec_lsn_at, moving_image_at, asks_at}
 use Rattle.sd_pagelock.proofs.directory.Directory.fall.Given as goal
 

@@ -1,9 +1,9 @@
 use Rattle.std.proofs.Common.{◌∙◌, ap, sym, subst}
-use Rattle.sd_pagelock.specs.Places.{changed, Formed}
+use Rattle.sd_places.specs.Places.{changed, Formed}
 use Rattle.sd_pagelock.specs.Directory.{entry_at}
-use Rattle.sd_pagelock.specs.Rows.{fallen}
-use Rattle.sd_pagelock.proofs.Forms.{formed-fallen}
-use Rattle.sd_pagelock.proofs.Drops.{changed-fallen}
+use Rattle.sd_places.specs.Rows.{fallen}
+use Rattle.sd_places.proofs.Forms.{formed-fallen}
+use Rattle.sd_places.proofs.Drops.{changed-fallen}
 use Rattle.sd_pagelock.proofs.directory.Directory.fall_at.Goals as goal
 
 pub write-requires-clause-formed : goal.write-requires-clause-formed

@@ -1,11 +1,11 @@
-use Rattle.std.proofs.Common.{⊎_elim, ℕ, false, cond, None, Option, sym, ap, ◌∙◌, arith, eq-eqb, refl}
+use Rattle.std.proofs.Common.{⊎_elim, ℕ, cond, List, None, Option, sym, ap, ◌∙◌, arith}
 use Rattle.std.proofs.lemmas.Bool.{cases_eq}
-use Rattle.sd_pagelock.specs.Places.{PageEntry, receives, uses}
-use Rattle.sd_pagelock.specs.Rows.{fallen}
+use Rattle.sd_base.specs.declared.set.InstSet.{InstSet}
+use Rattle.sd_places.specs.Places.{PageEntry, receives}
+use Rattle.sd_places.specs.Rows.{fallen}
+use Rattle.sd_pagelock.specs.Noted.{is_noted}
 use Rattle.sd_pagelock.specs.Directory.{DirectoryState, entry_at, rec_lsn_at, moving_image_at, asks_at}
 use Rattle.sd_pagelock.proofs.Fallen.{everywhere}
-use Rattle.sd_pagelock.proofs.Falls.{uses-fallen}
-use Rattle.sd_pagelock.proofs.Groups.{group_high, group_low, noted-forget}
 use Rattle.sd_pagelock.proofs.directory.Directory.fall_in.Goals.{in-Some, in-None}
 use Rattle.sd_pagelock.proofs.directory.Directory.fall_in.Goals as goal
 
@@ -45,18 +45,11 @@ loop-n-preserved g c =
     ]
 
 pub invariant_of-self : goal.invariant_of-self
-invariant_of-self g c =
-    let d = c.self.inside in
-    let i = c.args.i in (
-      c.self.invariant.0,
-      c.self.invariant.1,
-      noted-forget d.places.items d.noted c.forget.new.self c.args.group i c.forget.ensures
-          (λ q e. let low = group_low c.args.group q e in
-          ap (λ (x : PageEntry). uses x i) (ap (λ (s : DirectoryState g.row.I.Denot). entry_at s q) c.self.view_is
-          ∙ c.loop-n.invariant.places q low (omega (arith, group_high c.args.group q e, c.loop-n-test.false)))
-          ∙ uses-fallen i i (entry_at c.args.self.now q) ∙ ap (λ b. cond b false (uses (entry_at c.args.self.now q) i)) (eq-eqb i i refl))
-          c.self.invariant.2,
-    )
+invariant_of-self g c = (
+  c.self.invariant.0,
+  c.self.invariant.1,
+  λ p k. ap (λ (x : List InstSet). is_noted x p k) c.regroup.ensures ∙ c.self.invariant.2 p k,
+)
 
 pub returns-clause-above : goal.returns-clause-above
 returns-clause-above g c = λ q le. ap (λ (s : DirectoryState g.row.I.Denot). entry_at s q) c.self.view_is ∙ c.loop-n.invariant.later q (omega (arith, le, c.loop-n.auto.n-end))

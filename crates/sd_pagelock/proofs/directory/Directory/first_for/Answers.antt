@@ -1,5 +1,5 @@
 use Rattle.std.proofs.Common.{◌≡◌, ℕ, Bool, true, false, refl, []}
-use Rattle.sd_pagelock.specs.Places.{holds, rests}
+use Rattle.sd_places.specs.Places.{holds, rests}
 use Rattle.sd_pagelock.specs.Directory.{DirectoryState, can_give, entry_at}
 use Rattle.sd_pagelock.proofs.Finds.{found_passes, found_lowest, found_none}
 use Rattle.std.specs.Prelude.{◌&&◌}

@@ -2,7 +2,7 @@ use Rattle.std.proofs.Common.{◌∙◌, ap, length, None, Option}
 use Rattle.std.proofs.lemmas.List.{length-replicate}
 use Rattle.sd_base.specs.declared.place.Place.TheVariants as variants
 use Rattle.sd_pagelock.specs.Asks.{Queues, asks_for}
-use Rattle.sd_pagelock.specs.Places.{seen}
+use Rattle.sd_places.specs.Places.{seen}
 use Rattle.sd_pagelock.proofs.Groups.{noted-free}
 use Rattle.sd_pagelock.proofs.Kept.{kept-new, blank}
 use Rattle.sd_pagelock.proofs.directory.Directory.new.Goals as goal
@@ -15,7 +15,7 @@ invariant_of-result g c = (
     count = ap length c.in_ok-nothing-2.ensures ∙ length-replicate {A = Option g.row.I.Denot} 1024 None;
     unasked = λ p lt none still. ap (λ (q : Queues). asks_for q p) c.new.ensures;
   },
-  noted-free c.in_ok-repeated.field-0.items c.in_ok-new.field-0 (blank c.in_ok-repeated.field-0.items variants.Free c.in_ok-repeated.ensures),
+  noted-free c.in_ok-repeated.field-0.items c.in_ok-new.field-0 (blank c.in_ok-repeated.field-0.items variants.Free c.in_ok-repeated.ensures) c.in_ok-new.ensures,
 )
 
 pub returns-clause-free : goal.returns-clause-free

@@ -1,8 +1,8 @@
 use Rattle.std.proofs.Common.{◌≡◌, ℕ, Bool, true, false, cond, Option, None, refl, ap, ◌∙◌, subst}
 use Rattle.std.specs.Prelude.{is_some}
-use Rattle.sd_pagelock.specs.Places.{changed, seen, Formed}
+use Rattle.sd_places.specs.Places.{changed, seen, Formed}
 use Rattle.sd_pagelock.specs.Directory.{DirectoryState, entry_at, rec_lsn_at}
-use Rattle.sd_pagelock.proofs.Forms.{formed-move}
+use Rattle.sd_places.proofs.Forms.{formed-move}
 use Rattle.sd_pagelock.proofs.directory.Directory.set.Goals as goal
 
 -- a page that is changed after a move has a RecLSN, and no other has
@@ -24,5 +24,5 @@ write-requires-clause-marked g c =
     (subst (λ s. is_some (rec_lsn_at s p) ≡ changed (entry_at s p)) c.self.view_is (c.self.invariant.0.marked p)) c.requires.first
 
 pub returns-clause-others : goal.returns-clause-others
-returns-clause-others g c = λ q ne. ap (λ (s : DirectoryState g.row.I.Denot). entry_at s q) c.forget_leaver.ensures
+returns-clause-others g c = λ q ne. ap (λ (s : DirectoryState g.row.I.Denot). entry_at s q) c.regroup_left.ensures
     ∙ c.write.ensures.others q ne ∙ ap (λ (s : DirectoryState g.row.I.Denot). entry_at s q) c.self.view_is

@@ -1,5 +1,5 @@
-use Rattle.std.proofs.Common.{◌+◌, ◌<◌, ℕ, cond, length, refl, ap, ◌∙◌, arith}
-use Rattle.sd_pagelock.specs.Places.{seen, is_lost}
+use Rattle.std.proofs.Common.{◌+◌, ◌<◌, ℕ, cond, length, refl, sym, ap, ◌∙◌, arith}
+use Rattle.sd_places.specs.Places.{seen, is_lost}
 use Rattle.sd_pagelock.specs.Noted.{is_noted}
 use Rattle.sd_pagelock.proofs.Groups.{noted-write}
 use Rattle.sd_pagelock.proofs.Kept.{kept-write}
@@ -25,5 +25,6 @@ invariant_of-self g c =
           c.get-at.ensures.range c.requires.formed c.users_are_instances.ensures c.requires.marked,
       c.self.invariant.1,
       noted-write d.places.items d.noted c.note.new.self c.get-at.result c.args.to within
-          (λ k used. ap (λ (z : ℕ). is_noted c.note.new.self z k) c.get-at.ensures.value ∙ c.note.ensures.users k used) c.note.ensures.stays c.self.invariant.2,
+          (λ k. ap (λ (z : ℕ). is_noted c.note.new.self z k) c.get-at.ensures.value ∙ c.note.ensures.here k)
+          (λ q k ne. c.note.ensures.others q k (λ e. ne (e ∙ sym c.get-at.ensures.value))) c.self.invariant.2,
     )

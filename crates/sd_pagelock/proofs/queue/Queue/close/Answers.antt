@@ -1,6 +1,6 @@
 use Rattle.std.proofs.Common.{◌∙◌, ap, rules}
 use Rattle.std.proofs.lemmas.Fn.{filter_same}
-use Rattle.sd_pagelock.specs.Places.{seen}
+use Rattle.sd_places.specs.Places.{seen}
 use Rattle.sd_pagelock.specs.Asks.{is_open_ask, open_asks}
 use Rattle.sd_pagelock.proofs.queue.Queue.close.Goals as goal
 
