@@ -45,6 +45,10 @@ pub past : (first : First) (others : Modes) (t : TxnId) → IsOther first t → 
 past None others t other = refl
 past (Some row) others t other = cond-false (same_txn t row.0) (Some row.1) (mode_of others t) (ne-same t row.0 (λ e. other row.1 (ap (λ (x : TxnId). Some (x, row.1)) (sym e))))
 
+-- where the lock in place is the only one, and isn't t's
+pub lacks_all : (first : First) (others old : Modes) (t : TxnId) → with_first first others ≡ old → others ≡ [] → IsOther first t → mode_of old t ≡ None
+lacks_all first others old t view none other = ap (λ (h : Modes). mode_of h t) (sym view) ∙ past first others t other ∙ ap (λ (h : Modes). mode_of h t) none
+
 row_past : (u x : TxnId) (m : Mode) (others : Modes) → u ≢ x → mode_of ((u, m) ∷ others) x ≡ mode_of others x
 row_past u x m others ne = cond-false (same_txn x u) (Some m) (mode_of others x) (ne-same x u (λ e. ne (sym e)))
 

@@ -27,20 +27,20 @@ pub joined_right : (few many all : Held) (r : Rid) (o : Option Modes) → few ++
 joined_right few many all r o view none is = is ∙ sym (look_right (same_rid r) few many (sym none)) ∙ ap (λ (l : Held). lookup (same_rid r) l) view
 
 -- the first part's row of a record, or none
-rows_of : (few : Held) (q : Rid) → (lookup (same_rid q) few ≡ None) ⊎ ((w : Modes) × (lookup (same_rid q) few ≡ Some w))
+pub rows_of : (few : Held) (q : Rid) → (lookup (same_rid q) few ≡ None) ⊎ ((w : Modes) × (lookup (same_rid q) few ≡ Some w))
 rows_of few q = at (lookup (same_rid q) few) refl
   where
     at : (o : Option Modes) → lookup (same_rid q) few ≡ o → (lookup (same_rid q) few ≡ None) ⊎ ((w : Modes) × (lookup (same_rid q) few ≡ Some w))
     at None e = inl e
     at (Some w) e = inr (w, e)
 
-has : (few : Held) (q : Rid) (w : Modes) → lookup (same_rid q) few ≡ Some w → IsSome (lookup (same_rid q) few)
+pub has : (few : Held) (q : Rid) (w : Modes) → lookup (same_rid q) few ≡ Some w → IsSome (lookup (same_rid q) few)
 has few q w e = let P : Option Modes → Type 0 = λ o. IsSome o in subst P (sym e) refl
 
-has_not : (few : Held) (q : Rid) → lookup (same_rid q) few ≡ None → IsSome (lookup (same_rid q) few) → ⊥
+pub has_not : (few : Held) (q : Rid) → lookup (same_rid q) few ≡ None → IsSome (lookup (same_rid q) few) → ⊥
 has_not few q none h = let P : Option Modes → Type 0 = λ o. IsSome o in absurd (true≢false (sym (subst P none h)))
 
-held_right : (few many : Held) (u : TxnId) (q : Rid) → lookup (same_rid q) few ≡ None → held_in (few ++ many) u q ≡ held_in many u q
+pub held_right : (few many : Held) (u : TxnId) (q : Rid) → lookup (same_rid q) few ≡ None → held_in (few ++ many) u q ≡ held_in many u q
 held_right few many u q none = ap (λ (o : Option Modes). mode_among o u) (look_right (same_rid q) few many none)
 
 -- where the second part has nothing, the first part's rows count

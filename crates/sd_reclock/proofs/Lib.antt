@@ -15,3 +15,4 @@ pub mod Firsts
 pub mod Placing
 pub mod Placed
 pub mod Joining
+pub mod Moving

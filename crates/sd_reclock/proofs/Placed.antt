@@ -12,7 +12,7 @@ use Rattle.sd_base.specs.declared.place.Mode.{Mode}
 use Rattle.sd_base.specs.Ids.{same_rid, same_txn}
 use Rattle.sd_reclock.specs.Locks.{Held, Modes, held_in, mode_of, mode_among, raised, IsNoStronger}
 use Rattle.sd_reclock.specs.Placing.{AddsNone, HasNone, IsOneEach, IsPlace}
-use Rattle.sd_reclock.proofs.Writes.{Changes, PutsRid, changes, put_then_remove}
+use Rattle.sd_reclock.proofs.Writes.{Changes, PutsRid, changes, changes_lacking, put_then_remove}
 use Rattle.sd_reclock.proofs.Agreeing.{Frees}
 use Rattle.sd_reclock.proofs.Placing.{Entry, found_row_at, missing_at, one_push, one_before, one_set, one_remove, puts_row, takes_row, absent_set, absent_remove}
 use Rattle.sd_base.proofs.Orders.{same-txn-is, same-rid-is, same_rid-sym}
@@ -104,6 +104,21 @@ module _ (xs : Held) (at : ℕ) (e : Entry) (w : Modes) (lt : at < length xs) (h
 -- a row that is written back
 pub back : (xs : Held) (at : ℕ) (e : Entry) (w : Modes) → e ≡ get_or xs at e → w ≡ e.1 → set xs at (e.0, w) ≡ xs
 back xs at e w here same = ap (λ (m : Modes). set xs at (e.0, m)) same ∙ ap (λ (z : Entry). set xs at (z.0, z.1)) here ∙ set-get_or xs at e
+
+-- a row in which t has no lock
+pub lacks_row : (xs : Held) (at : ℕ) (e : Entry) (t : TxnId) → IsOneEach xs → at < length xs → e ≡ get_or xs at e → mode_of e.1 t ≡ None → (d : Entry)
+    → Changes xs xs t (get_or xs at d).0 None
+lacks_row xs at e t one lt here none d = subst (λ (z : Rid). Changes xs xs t z None) (same_key xs at e [] lt here d)
+    (changes_lacking xs t e.0 (held_at xs at e [] lt here one t ∙ none))
+
+pub lacks_behind : (xs : Held) (at : ℕ) (e : Entry) (t : TxnId) → at < length xs → e ≡ get_or xs at e → mode_of e.1 t ≡ None → HasNone t (at + 1) xs → HasNone t at xs
+lacks_behind xs at e t lt here none behind k d le inside = ⊎_elim
+    (λ h. ap (λ (n : ℕ). mode_of (get_or xs n d).1 t) h ∙ ap (λ (z : Entry). mode_of z.1 t) (sym (same_row xs at e [] lt here d)) ∙ none)
+    (λ ne. behind k d (after ne) inside)
+    (cases_eq k at)
+  where
+    after : k ≢ at → at + 1 ≤ k
+    after ne = ⊎_elim (λ h. omega (arith, h)) (λ h. absurd (ne (omega (arith, le, h)))) (cases_lt at k)
 
 -- From a place on t has no lock; the others have what they had.
 pub record IsFreedFrom (t : TxnId) (at : ℕ) (old new : Held) : Type 0 where

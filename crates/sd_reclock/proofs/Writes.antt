@@ -65,6 +65,20 @@ changes_nothing old t r none u q = ⊎_elim
         (λ ne. absurd (cc (ne-same_rid r q ne, and-false (same_txn t u))))
         (cases_rid r q)
 
+both_hold : (a b : Bool) → (a && b) ≡ true → (a ≡ true) × (b ≡ true)
+both_hold true b h = (refl, h)
+both_hold false b h = absurd (true≢false (sym h))
+
+-- where t hasn't r, taking it away changes nothing
+pub changes_lacking : (old : Held) (t : TxnId) (r : Rid) → held_in old t r ≡ None → Changes old old t r None
+changes_lacking old t r none u q = ⊎_elim
+    (λ h. gone (both_hold (same_txn t u) (same_rid r q) h) ∙ sym (cond-true (same_txn t u && same_rid r q) None (held_in old u q) h))
+    (λ h. sym (cond-false (same_txn t u && same_rid r q) None (held_in old u q) h))
+    (cases_Bool (same_txn t u && same_rid r q))
+  where
+    gone : ((same_txn t u ≡ true) × (same_rid r q ≡ true)) → held_in old u q ≡ None
+    gone h = subst (λ (z : Rid). held_in old u z ≡ None) (same-rid-is r q h.1) (subst (λ (z : TxnId). held_in old z r ≡ None) (same-txn-is t u h.0) none)
+
 -- a record that is written and then taken out
 pub put_then_remove : (old mid new : Held) (r : Rid) (w : Option Modes) → PutsRid old mid r w → PutsRid mid new r None → PutsRid old new r None
 put_then_remove old mid new r w first second q = second q ∙ twice (same_rid r q) (lookup (same_rid q) mid) w (lookup (same_rid q) old) (first q)

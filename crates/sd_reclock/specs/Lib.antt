@@ -6,3 +6,4 @@ pub mod Searching
 pub mod Owning
 pub mod Holding
 pub mod Placing
+pub mod Singles

@@ -1,7 +1,7 @@
 //! The locks on one record: one of them in place, the others in the order of their transactions. They see no other
 //! record and no wait.
 
-ghost use Rattle.std.specs.Prelude.{◌≡◌, [], ◌∷◌, None, Some, cond, IsTrue, IfOk, OnOk, OnErr, ◌↔◌};
+ghost use Rattle.std.specs.Prelude.{◌≡◌, [], ◌∷◌, None, Some, cond, IsTrue, IfOk, IfSome, OnOk, OnErr, ◌↔◌};
 ghost use Rattle.sd_base.specs.declared.ids.TxnId.{TxnId};
 ghost use Rattle.sd_base.specs.Ids.{same_txn};
 ghost use Rattle.sd_reclock.specs.Locks.{mode_of, raised, AgreeAmong, ClashesIn, IsLowestHolder, IsNoStronger, IsOwner};
@@ -52,6 +52,32 @@ impl Holders {
         ensures { IsTrue result ↔ (self.now ≡ []) }
     {
         self.first.is_none() && self.others.is_empty()
+    }
+
+    /// The only lock; `None` where there is none, or there may be several.
+    pub fn only(&self) -> Option<(TxnId, Mode)>
+        ensures { IfSome result (λ row. self.now ≡ row ∷ []) }
+    {
+        if self.others.is_empty() {
+            self.first
+        } else {
+            None
+        }
+    }
+
+    /// Whether there is a single lock at most, and a transaction hasn't it.
+    pub fn lacks(&self, t: &TxnId) -> bool
+        ensures { IsTrue result → mode_of self.now t.now ≡ None }
+    {
+        match self.first {
+            None => self.others.is_empty(),
+            Some((u, _mode)) => {
+                if u == *t {
+                    return false;
+                }
+                self.others.is_empty()
+            }
+        }
     }
 
     /// The mode of a transaction's lock; `None` where it has none.

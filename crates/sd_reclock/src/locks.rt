@@ -1,4 +1,4 @@
-//! The locks on all records: on a few of them in place, on the others with an index. They see no wait.
+//! The locks on all records: on the last of them in place, on the others with an index. They see no wait.
 
 ghost use Rattle.std.specs.Prelude.{◌≡◌, ◌&&◌, ◌↔◌, ◌++◌, [], None, Some, cond, option_copied, IsTrue, IfOk, OnOk, OnErr, MatchOption, IfSome};
 ghost use Rattle.std.specs.Map.{lookup};
@@ -7,6 +7,7 @@ ghost use Rattle.sd_base.specs.declared.ids.Rid.{Rid};
 ghost use Rattle.sd_base.specs.Ids.{same_txn, same_rid, IsBelow};
 ghost use Rattle.sd_reclock.specs.Locks.{held_in, raised, wait_of, Agree, IsLowestHolder, IsLowestOwner, IsNoStronger, StandsIn};
 ghost use Rattle.sd_reclock.specs.Answers.{IsFree};
+ghost use Rattle.sd_reclock.specs.Placing.{IsApartFrom};
 
 use crate::few::Few;
 use crate::holders::{Holders, lower_of};
@@ -133,6 +134,16 @@ impl Locks {
         self.many.put(t, wait)
     }
 
+    /// Makes place for a further record, where there is none and memory is found: all locks stay.
+    pub fn settle(&mut self)
+        ensures held { (u : TxnId) (q : Rid) → held_in self.new u q ≡ held_in self.old u q }
+        ensures agree { Agree self.new }
+    {
+        if self.few.is_crowded() {
+            move_single(&mut self.few, &mut self.many);
+        }
+    }
+
     /// Lowers a lock, or takes it away. It takes no memory.
     pub fn lower(&mut self, t: &TxnId, r: &Rid, to: Option<Mode>)
         requires weaker { IsNoStronger to (held_in self.old t.now r.now) }
@@ -181,5 +192,24 @@ impl Standing for Locks {
 fn has_place(few: &Few, many: &Many, r: &Rid) -> bool
     ensures { IsTrue result → lookup (same_rid r.now) many.now ≡ None }
 {
-    !few.is_full() && many.get(r).is_none()
+    few.has_place() && many.get(r).is_none()
+}
+
+// Moves a record with a single lock from the few to the many, where memory is found.
+fn move_single(few: &mut Few, many: &mut Many)
+    requires apart { IsApartFrom few.old many.old }
+    ensures held { (u : TxnId) (q : Rid) → held_in (few.new ++ many.new) u q ≡ held_in (few.old ++ many.old) u q }
+    ensures apart { IsApartFrom few.new many.new }
+{
+    let Some(single) = few.single() else {
+        return;
+    };
+    let lock = Asked {
+        rid: single.rid,
+        mode: single.mode,
+    };
+    match many.put(&single.txn, &lock) {
+        Ok(()) => few.take(single.at),
+        Err(_) => {}
+    }
 }

@@ -114,7 +114,9 @@ impl RecordLocks {
         ensures waits { self.new.waiting ≡ self.old.waiting }
         ensures agree { Agree self.new.locks }
     {
-        self.locks.put(t, &Asked { rid: *r, mode })
+        self.locks.put(t, &Asked { rid: *r, mode })?;
+        self.locks.settle();
+        Ok(())
     }
 
     /// The mode in which the transaction holds the record; `None` where it doesn't.

@@ -300,6 +300,3 @@ impl TxnTable {
         Some(rec)
     }
 }
-
-#[cfg(test)]
-mod tests;

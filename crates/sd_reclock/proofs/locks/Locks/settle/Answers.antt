@@ -1,0 +1,1 @@
+use Rattle.sd_reclock.proofs.locks.Locks.settle.Goals as goal
