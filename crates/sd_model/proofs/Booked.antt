@@ -1,202 +1,197 @@
 -- How a book's entries read when one more is noted. They serve the goals of `book`.
-use Rattle.std.proofs.Common.{◌≡◌, ◌+◌, ◌-◌, suc, Bool, true, false, List, [], ◌∷◌, ◌++◌, length, inl, inr, refl, ap, sym, subst, arith, ◌∙◌}
+use Rattle.std.proofs.Common.{◌≡◌, ℕ, ◌+◌, ◌-◌, suc, Bool, true, false, List, [], ◌∷◌, ◌++◌, length, refl, ap, sym, subst, arith, ◌∙◌}
 use Rattle.std.proofs.lemmas.List.{length_push}
 use Rattle.sd_base.proofs.Lists.{slice_get-push, stands_at}
 use Rattle.std.specs.Borrow.{Bor}
 use Rattle.std.specs.Prelude.{IsSome, option_copied, Option, None, Some, slice_get, ltb, cond}
 use Rattle.sd_model.specs.declared.event.Entry.{Entry}
-use Rattle.sd_model.specs.declared.help.Help.{Help}
+use Rattle.sd_model.specs.declared.help.Answer.{Answer}
+use Rattle.sd_model.specs.declared.help.Deed.{Deed}
 use Rattle.sd_model.specs.declared.help.Noted.{Noted}
 use Rattle.sd_model.specs.declared.help.Noted.TheVariants.{Short, Whole}
-use Rattle.sd_model.specs.Booked.{entry_of, of_lines, unpacked, AreBooked, NotesAllButOne}
+use Rattle.sd_model.specs.Booked.{entry_of, of_lines, unpacked, AreBooked, IsNewest, NotesAll, ReadsAs}
 
--- something stands whole
-none-noted : (noted : List Noted) → NotesAllButOne noted [] → ⊥
-none-noted [] n = n
-none-noted (Short h ∷ noted) n = none-noted noted n
-none-noted (Whole ∷ noted) n = n
+-- one entry more, which is kept so
+pub read-more : (noted : List Noted) (whole : List Entry) (s p i : ℕ) (d : Deed) (a : Answer) (n : ℕ) → NotesAll noted whole
+    → unpacked (noted ++ Short s p i d a n ∷ []) whole ≡ unpacked noted whole ++ entry_of s p i d a n ∷ []
+read-more [] [] s p i d a n all = refl
+read-more [] (x ∷ whole) s p i d a n all = absurd all
+read-more (Short t q j c b m ∷ noted) whole s p i d a n all =
+    ap (λ l. entry_of t q j c b m ∷ l) (read-more noted whole s p i d a n all)
+read-more (Whole ∷ noted) [] s p i d a n all = absurd all
+read-more (Whole ∷ noted) (x ∷ whole) s p i d a n all = ap (λ l. x ∷ l) (read-more noted whole s p i d a n all)
 
-none-behind : (before : List Entry) (x y : Entry) → NotesAllButOne [] (y ∷ (before ++ x ∷ [])) → ⊥
-none-behind [] x y n = n
-none-behind (z ∷ before) x y n = n
+note-more : (noted : List Noted) (whole : List Entry) (s p i : ℕ) (d : Deed) (a : Answer) (n : ℕ) → NotesAll noted whole
+    → NotesAll (noted ++ Short s p i d a n ∷ []) whole
+note-more [] [] s p i d a n all = tt
+note-more [] (x ∷ whole) s p i d a n all = absurd all
+note-more (Short t q j c b m ∷ noted) whole s p i d a n all = note-more noted whole s p i d a n all
+note-more (Whole ∷ noted) [] s p i d a n all = absurd all
+note-more (Whole ∷ noted) (x ∷ whole) s p i d a n all = note-more noted whole s p i d a n all
 
--- an entry behind a newest one that stays whole
-pub reads-whole : (noted : List Noted) (whole : List Entry) (e : Entry) → NotesAllButOne noted whole
+-- one entry more, which stands whole
+pub read-whole : (noted : List Noted) (whole : List Entry) (e : Entry) → NotesAll noted whole
     → unpacked (noted ++ Whole ∷ []) (whole ++ e ∷ []) ≡ unpacked noted whole ++ e ∷ []
-reads-whole [] [] e n = absurd n
-reads-whole [] (x ∷ []) e n = refl
-reads-whole [] (x ∷ y ∷ whole) e n = absurd n
-reads-whole (Short h ∷ noted) whole e n = ap (λ l. entry_of h ∷ l) (reads-whole noted whole e n)
-reads-whole (Whole ∷ noted) [] e n = absurd n
-reads-whole (Whole ∷ noted) (x ∷ whole) e n = ap (λ l. x ∷ l) (reads-whole noted whole e n)
+read-whole [] [] e all = refl
+read-whole [] (x ∷ whole) e all = absurd all
+read-whole (Short t q j c b m ∷ noted) whole e all = ap (λ l. entry_of t q j c b m ∷ l) (read-whole noted whole e all)
+read-whole (Whole ∷ noted) [] e all = absurd all
+read-whole (Whole ∷ noted) (x ∷ whole) e all = ap (λ l. x ∷ l) (read-whole noted whole e all)
 
-pub notes-whole : (noted : List Noted) (whole : List Entry) (e : Entry) → NotesAllButOne noted whole
-    → NotesAllButOne (noted ++ Whole ∷ []) (whole ++ e ∷ [])
-notes-whole [] [] e n = absurd n
-notes-whole [] (x ∷ []) e n = tt
-notes-whole [] (x ∷ y ∷ whole) e n = absurd n
-notes-whole (Short h ∷ noted) whole e n = notes-whole noted whole e n
-notes-whole (Whole ∷ noted) [] e n = absurd n
-notes-whole (Whole ∷ noted) (x ∷ whole) e n = notes-whole noted whole e n
+note-whole : (noted : List Noted) (whole : List Entry) (e : Entry) → NotesAll noted whole
+    → NotesAll (noted ++ Whole ∷ []) (whole ++ e ∷ [])
+note-whole [] [] e all = tt
+note-whole [] (x ∷ whole) e all = absurd all
+note-whole (Short t q j c b m ∷ noted) whole e all = note-whole noted whole e all
+note-whole (Whole ∷ noted) [] e all = absurd all
+note-whole (Whole ∷ noted) (x ∷ whole) e all = note-whole noted whole e all
 
--- an entry in the place of a newest one that is kept in few bytes
-pub reads-short : (noted : List Noted) (before : List Entry) (h : Help) (e : Entry)
-    → NotesAllButOne noted (before ++ entry_of h ∷ [])
-    → unpacked (noted ++ Short h ∷ []) (before ++ e ∷ []) ≡ unpacked noted (before ++ entry_of h ∷ []) ++ e ∷ []
-reads-short [] [] h e n = refl
-reads-short [] (x ∷ before) h e n = absurd (none-behind before (entry_of h) x n)
-reads-short (Short g ∷ noted) before h e n = ap (λ l. entry_of g ∷ l) (reads-short noted before h e n)
-reads-short (Whole ∷ noted) [] h e n = absurd (none-noted noted n)
-reads-short (Whole ∷ noted) (x ∷ before) h e n = ap (λ l. x ∷ l) (reads-short noted before h e n)
+-- what is noted last is the newest
+last-one : (before : List Noted) (x : Noted) (noted : List Noted) (y : Noted) → noted ++ y ∷ [] ≡ before ++ x ∷ [] → y ≡ x
+last-one before x noted y is =
+    let one = newest-last noted y in
+    let other = newest-last before x in
+    cc where
+      newest-last : (l : List Noted) (z : Noted) → slice_get (l ++ z ∷ []) (length (l ++ z ∷ []) - 1) ≡ Some z
+      newest-last l z =
+          let count : length (l ++ z ∷ []) - 1 ≡ length l = (let k = length_push l z in omega (arith, k)) in
+          ap (slice_get (l ++ z ∷ [])) count ∙ slice_get-push l z
 
-pub notes-short : (noted : List Noted) (before : List Entry) (h : Help) (e : Entry)
-    → NotesAllButOne noted (before ++ entry_of h ∷ []) → NotesAllButOne (noted ++ Short h ∷ []) (before ++ e ∷ [])
-notes-short [] [] h e n = tt
-notes-short [] (x ∷ before) h e n = absurd (none-behind before (entry_of h) x n)
-notes-short (Short g ∷ noted) before h e n = notes-short noted before h e n
-notes-short (Whole ∷ noted) [] h e n = absurd (none-noted noted n)
-notes-short (Whole ∷ noted) (x ∷ before) h e n = notes-short noted before h e n
+is-newest : (noted : List Noted) (how : Noted) (e : Entry) → ReadsAs how e → IsNewest (noted ++ how ∷ []) e
+is-newest noted how e reads before other is = subst (λ (h : Noted). ReadsAs h e) (last-one before other noted how is) reads
 
--- the newest is the last that stands whole
-abbrev pub newest : List Entry → Option Entry
-newest entries = slice_get entries (length entries - 1)
+-- a book with one entry more, which is kept in few bytes
+module _ (noted after : List Noted) (whole : List Entry) (e : Entry) (all : NotesAll noted whole) where
+  pub short-books : (how : Noted) → after ≡ noted ++ how ∷ [] → ReadsAs how e → (how ≡ Whole → ⊥) → AreBooked after whole e
+  short-books Whole is reads short = absurd (short refl)
+  short-books (Short s p i d a n) is reads short = subst (λ (l : List Noted). AreBooked l whole e) (sym is)
+      (note-more noted whole s p i d a n all, is-newest noted (Short s p i d a n) e reads)
 
-some-read : (noted : List Noted) (whole : List Entry) → NotesAllButOne noted whole
-    → (x : Entry) × (rest : List Entry) × (unpacked noted whole ≡ x ∷ rest)
-some-read [] [] n = absurd n
-some-read [] (x ∷ whole) n = (x, whole, refl)
-some-read (Short h ∷ noted) whole n = (entry_of h, unpacked noted whole, refl)
-some-read (Whole ∷ noted) [] n = absurd n
-some-read (Whole ∷ noted) (x ∷ whole) n = (x, unpacked noted whole, refl)
+  pub short-reads : (how : Noted) → after ≡ noted ++ how ∷ [] → ReadsAs how e → (how ≡ Whole → ⊥)
+      → unpacked after whole ≡ unpacked noted whole ++ e ∷ []
+  short-reads Whole is reads short = absurd (short refl)
+  short-reads (Short s p i d a n) is reads short = ap (λ (l : List Noted). unpacked l whole) is
+      ∙ read-more noted whole s p i d a n all ∙ ap (λ (x : Entry). unpacked noted whole ++ x ∷ []) reads
 
-some-whole : (noted : List Noted) (whole : List Entry) → NotesAllButOne noted whole
-    → (x : Entry) × (rest : List Entry) × (whole ≡ x ∷ rest)
-some-whole noted [] n = absurd (none-noted noted n)
-some-whole noted (x ∷ rest) n = (x, rest, refl)
+-- which stands whole
+module _ (noted after : List Noted) (whole new : List Entry) (e kept : Entry) (all : NotesAll noted whole)
+    (is : after ≡ noted ++ Whole ∷ []) (puts : new ≡ whole ++ e ∷ []) where
+  pub whole-books : AreBooked after new kept
+  whole-books = subst (λ (l : List Noted). AreBooked l new kept) (sym is)
+      (subst (λ (l : List Entry). AreBooked (noted ++ Whole ∷ []) l kept) (sym puts)
+      (note-whole noted whole e all, is-newest noted Whole kept tt))
 
-newest-more : (y x : Entry) (rest : List Entry) → newest (y ∷ x ∷ rest) ≡ newest (x ∷ rest)
-newest-more y x rest =
-    let more : length (y ∷ x ∷ rest) - 1 ≡ suc (length rest) = omega arith in
-    let one : length (x ∷ rest) - 1 ≡ length rest = omega arith in
-    ap (slice_get (y ∷ x ∷ rest)) more ∙ sym (ap (slice_get (x ∷ rest)) one)
+  pub whole-reads : unpacked after new ≡ unpacked noted whole ++ e ∷ []
+  whole-reads = ap (λ (l : List Noted). unpacked l new) is
+      ∙ ap (unpacked (noted ++ Whole ∷ [])) puts ∙ read-whole noted whole e all
 
-newest-behind : (y : Entry) (l : List Entry) (x : Entry) (rest : List Entry) → l ≡ x ∷ rest → newest (y ∷ l) ≡ newest l
-newest-behind y l x rest e = subst (λ (l : List Entry). newest (y ∷ l) ≡ newest l) (sym e) (newest-more y x rest)
-
-pub newest-read : (noted : List Noted) (whole : List Entry) → NotesAllButOne noted whole
-    → newest (unpacked noted whole) ≡ newest whole
-newest-read [] whole n = refl
-newest-read (Short h ∷ noted) whole n =
-    let s = some-read noted whole n in
-    newest-behind (entry_of h) (unpacked noted whole) s.0 s.1 s.2 ∙ newest-read noted whole n
-newest-read (Whole ∷ noted) [] n = absurd n
-newest-read (Whole ∷ noted) (x ∷ whole) n =
-    let s = some-read noted whole n in
-    let w = some-whole noted whole n in
-    newest-behind x (unpacked noted whole) s.0 s.1 s.2 ∙ newest-read noted whole n
-    ∙ sym (newest-behind x whole w.0 w.1 w.2)
-
--- an entry is noted, or it is the newest
-pub count-read : (noted : List Noted) (whole : List Entry) → NotesAllButOne noted whole
-    → length (unpacked noted whole) ≡ length noted + 1
-count-read [] [] n = absurd n
-count-read [] (x ∷ []) n = refl
-count-read [] (x ∷ y ∷ whole) n = absurd n
-count-read (Short h ∷ noted) whole n = let rest = count-read noted whole n in omega (arith, rest)
-count-read (Whole ∷ noted) [] n = absurd n
-count-read (Whole ∷ noted) (x ∷ whole) n = let rest = count-read noted whole n in omega (arith, rest)
+-- an entry is noted once
+pub count-read : (noted : List Noted) (whole : List Entry) → NotesAll noted whole
+    → length noted ≡ length (unpacked noted whole)
+count-read [] [] all = refl
+count-read [] (x ∷ whole) all = absurd all
+count-read (Short s p i d a n ∷ noted) whole all = let rest = count-read noted whole all in omega (arith, rest)
+count-read (Whole ∷ noted) [] all = absurd all
+count-read (Whole ∷ noted) (x ∷ whole) all = let rest = count-read noted whole all in omega (arith, rest)
 
 -- what is kept in few bytes is of no line
-pub lines-read : (noted : List Noted) (whole : List Entry) → NotesAllButOne noted whole
+pub lines-read : (noted : List Noted) (whole : List Entry) → NotesAll noted whole
     → of_lines whole ≡ of_lines (unpacked noted whole)
-lines-read [] whole n = refl
-lines-read (Short h ∷ noted) whole n = lines-read noted whole n
-lines-read (Whole ∷ noted) [] n = absurd n
-lines-read (Whole ∷ noted) (x ∷ whole) n = both (ltb 0 x.line) (lines-read noted whole n) where
+lines-read [] whole all = refl
+lines-read (Short s p i d a n ∷ noted) whole all = lines-read noted whole all
+lines-read (Whole ∷ noted) [] all = absurd all
+lines-read (Whole ∷ noted) (x ∷ whole) all = both (ltb 0 x.line) (lines-read noted whole all) where
   both : (b : Bool) → of_lines whole ≡ of_lines (unpacked noted whole)
       → cond {A = List Entry} b (x ∷ of_lines whole) (of_lines whole)
       ≡ cond {A = List Entry} b (x ∷ of_lines (unpacked noted whole)) (of_lines (unpacked noted whole))
   both true same = ap (λ l. x ∷ l) same
   both false same = same
 
--- what has no newest is empty
-none-whole : (whole : List Entry) → newest whole ≡ None → whole ≡ []
-none-whole [] is = refl
-none-whole (x ∷ whole) is =
-    let there = stands_at (x ∷ whole) (length (x ∷ whole) - 1) (omega arith) in
-    let some = there.1 in
-    absurd (cc)
+-- the newest of a list
+abbrev pub newest : List Entry → Option Entry
+newest entries = slice_get entries (length entries - 1)
 
-pub none-booked : (noted : List Noted) (whole : List Entry) → AreBooked noted whole → newest whole ≡ None
-    → (noted ≡ []) × (whole ≡ [])
-none-booked noted whole (inl none) is = none
-none-booked noted whole (inr n) is =
-    absurd (none-noted noted (subst (NotesAllButOne noted) (none-whole whole is) n))
+abbrev pub newest_how : List Noted → Option Noted
+newest_how noted = slice_get noted (length noted - 1)
 
-pub some-booked : (noted : List Noted) (whole : List Entry) (x : Entry) → AreBooked noted whole → newest whole ≡ Some x
-    → NotesAllButOne noted whole
-some-booked noted whole x (inl none) is = let nil = none.1 in absurd (none-newest whole nil is) where
-  none-newest : (l : List Entry) → l ≡ [] → newest l ≡ Some x → ⊥
-  none-newest [] e is = absurd (cc)
-  none-newest (y ∷ l) e is = absurd (cc)
-some-booked noted whole x (inr n) is = n
-
--- of a book
-pub newest-booked : (noted : List Noted) (whole : List Entry) → AreBooked noted whole
-    → newest (unpacked noted whole) ≡ newest whole
-newest-booked noted whole (inl none) = ap (λ l. newest (unpacked l whole)) none.0
-newest-booked noted whole (inr n) = newest-read noted whole n
-
-pub lines-booked : (noted : List Noted) (whole : List Entry) → AreBooked noted whole
-    → of_lines whole ≡ of_lines (unpacked noted whole)
-lines-booked noted whole (inl none) = ap (λ l. of_lines (unpacked l whole)) (sym none.0)
-lines-booked noted whole (inr n) = lines-read noted whole n
+more : {X : Type 0} (y x : X) (rest : List X)
+    → slice_get (y ∷ x ∷ rest) (length (y ∷ x ∷ rest) - 1) ≡ slice_get (x ∷ rest) (length (x ∷ rest) - 1)
+more y x rest =
+    let two : length (y ∷ x ∷ rest) - 1 ≡ suc (length rest) = omega arith in
+    let one : length (x ∷ rest) - 1 ≡ length rest = omega arith in
+    ap (slice_get (y ∷ x ∷ rest)) two ∙ sym (ap (slice_get (x ∷ rest)) one)
 
 -- a list with a newest one ends with it
-pub ends-with : (whole : List Entry) (x : Entry) → newest whole ≡ Some x
-    → (before : List Entry) × (whole ≡ before ++ x ∷ [])
+pub ends-with : {X : Type 0} (xs : List X) (x : X) → slice_get xs (length xs - 1) ≡ Some x
+    → (before : List X) × (xs ≡ before ++ x ∷ [])
 ends-with [] x is = absurd (cc)
 ends-with (y ∷ []) x is = let same : y ≡ x = cc in ([], ap (λ z. z ∷ []) same)
-ends-with (y ∷ z ∷ whole) x is =
-    let rest = ends-with (z ∷ whole) x (sym (newest-more y z whole) ∙ is) in
+ends-with (y ∷ z ∷ xs) x is =
+    let rest = ends-with (z ∷ xs) x (sym (more y z xs) ∙ is) in
     (y ∷ rest.0, ap (λ l. y ∷ l) rest.1)
 
--- the first entry
-pub first-books : (noted : List Noted) (whole new : List Entry) (e : Entry) → (noted ≡ []) × (whole ≡ [])
-    → new ≡ whole ++ e ∷ [] → AreBooked noted new
-first-books [] [] new e none is = subst (AreBooked []) (sym is) (inr tt)
-first-books (n ∷ noted) whole new e none is = let nil = none.0 in absurd (cc)
-first-books [] (x ∷ whole) new e none is = let nil = none.1 in absurd (cc)
+newest-last : (before : List Entry) (x : Entry) → newest (before ++ x ∷ []) ≡ Some x
+newest-last before x =
+    let count : length (before ++ x ∷ []) - 1 ≡ length before = (let l = length_push before x in omega (arith, l)) in
+    ap (slice_get (before ++ x ∷ [])) count ∙ slice_get-push before x
 
-pub first-reads : (noted : List Noted) (whole new : List Entry) (e : Entry) → (noted ≡ []) × (whole ≡ [])
-    → new ≡ whole ++ e ∷ [] → unpacked noted new ≡ unpacked noted whole ++ e ∷ []
-first-reads [] [] new e none is = is
-first-reads (n ∷ noted) whole new e none is = let nil = none.0 in absurd (cc)
-first-reads [] (x ∷ whole) new e none is = let nil = none.1 in absurd (cc)
+pub last-newest : (es before : List Entry) (x : Entry) → es ≡ before ++ x ∷ [] → newest es ≡ Some x
+last-newest es before x is = ap newest is ∙ newest-last before x
 
--- one behind a newest that stays whole
-module _ (noted after : List Noted) (whole new : List Entry) (e : Entry) (n : NotesAllButOne noted whole)
-    (kept : after ≡ noted ++ Whole ∷ []) (is : new ≡ whole ++ e ∷ []) where
-  pub whole-books : AreBooked after new
-  whole-books = subst (λ (l : List Noted). AreBooked l new) (sym kept)
-      (subst (AreBooked (noted ++ Whole ∷ [])) (sym is) (inr (notes-whole noted whole e n)))
+-- what is before the newest is noted too
+before-short : (noted : List Noted) (whole : List Entry) (s p i : ℕ) (d : Deed) (a : Answer) (n : ℕ)
+    → NotesAll (noted ++ Short s p i d a n ∷ []) whole → NotesAll noted whole
+before-short [] whole s p i d a n all = all
+before-short (Short t q j c b m ∷ noted) whole s p i d a n all = before-short noted whole s p i d a n all
+before-short (Whole ∷ noted) [] s p i d a n all = absurd all
+before-short (Whole ∷ noted) (x ∷ whole) s p i d a n all = before-short noted whole s p i d a n all
 
-  pub whole-reads : unpacked after new ≡ unpacked noted whole ++ e ∷ []
-  whole-reads = ap (λ (l : List Noted). unpacked l new) kept ∙ ap (unpacked (noted ++ Whole ∷ [])) is
-      ∙ reads-whole noted whole e n
+before-whole : (noted : List Noted) (whole : List Entry) → NotesAll (noted ++ Whole ∷ []) whole
+    → (before : List Entry) × (e : Entry) × (whole ≡ before ++ e ∷ []) × NotesAll noted before
+before-whole [] [] all = absurd all
+before-whole [] (x ∷ []) all = ([], x, refl, tt)
+before-whole [] (x ∷ y ∷ whole) all = absurd all
+before-whole (Short s p i d a n ∷ noted) whole all = before-whole noted whole all
+before-whole (Whole ∷ noted) [] all = absurd all
+before-whole (Whole ∷ noted) (x ∷ whole) all =
+    let rest = before-whole noted whole all in
+    (x ∷ rest.0, rest.1, ap (λ l. x ∷ l) rest.2, rest.3)
 
--- one in the place of a newest that is kept in few bytes
-module _ (noted after : List Noted) (whole before new : List Entry) (h : Help) (e : Entry) (n : NotesAllButOne noted whole)
-    (ends : whole ≡ before ++ entry_of h ∷ []) (kept : after ≡ noted ++ Short h ∷ []) (is : new ≡ before ++ e ∷ []) where
-  pub short-books : AreBooked after new
-  short-books = subst (λ (l : List Noted). AreBooked l new) (sym kept)
-      (subst (AreBooked (noted ++ Short h ∷ [])) (sym is)
-      (inr (notes-short noted before h e (subst (NotesAllButOne noted) ends n))))
+-- the newest entry, where it is kept in few bytes
+module _ (noted : List Noted) (whole : List Entry) (kept : Entry) (booked : AreBooked noted whole kept) where
+  pub newest-short : (s p i : ℕ) (d : Deed) (a : Answer) (n : ℕ) → newest_how noted ≡ Some (Short s p i d a n)
+      → newest (unpacked noted whole) ≡ Some kept
+  newest-short s p i d a n is =
+      let ends = ends-with noted (Short s p i d a n) is in
+      let all : NotesAll (ends.0 ++ Short s p i d a n ∷ []) whole =
+      subst (λ (l : List Noted). NotesAll l whole) ends.1 booked.0 in
+      let reads : entry_of s p i d a n ≡ kept = booked.1 ends.0 (Short s p i d a n) ends.1 in
+      last-newest (unpacked noted whole) (unpacked ends.0 whole) kept
+      (ap (λ (l : List Noted). unpacked l whole) ends.1
+      ∙ read-more ends.0 whole s p i d a n (before-short ends.0 whole s p i d a n all)
+      ∙ ap (λ (x : Entry). unpacked ends.0 whole ++ x ∷ []) reads)
 
-  pub short-reads : unpacked after new ≡ unpacked noted whole ++ e ∷ []
-  short-reads = ap (λ (l : List Noted). unpacked l new) kept ∙ ap (unpacked (noted ++ Short h ∷ [])) is
-      ∙ reads-short noted before h e (subst (NotesAllButOne noted) ends n)
-      ∙ ap (λ (l : List Entry). unpacked noted l ++ e ∷ []) (sym ends)
+  -- where it stands whole
+  pub newest-whole : newest_how noted ≡ Some Whole → newest (unpacked noted whole) ≡ newest whole
+  newest-whole is =
+      let ends = ends-with noted Whole is in
+      let all : NotesAll (ends.0 ++ Whole ∷ []) whole = subst (λ (l : List Noted). NotesAll l whole) ends.1 booked.0 in
+      let rest = before-whole ends.0 whole all in
+      last-newest (unpacked noted whole) (unpacked ends.0 rest.0) rest.1
+      (ap (λ (l : List Noted). unpacked l whole) ends.1 ∙ ap (unpacked (ends.0 ++ Whole ∷ [])) rest.2
+      ∙ read-whole ends.0 rest.0 rest.1 rest.3)
+      ∙ sym (last-newest whole rest.0 rest.1 rest.2)
+
+  -- where there is none
+  pub newest-none : newest_how noted ≡ None → newest (unpacked noted whole) ≡ None
+  newest-none is = none noted whole booked.0 is where
+    none : (l : List Noted) (w : List Entry) → NotesAll l w → newest_how l ≡ None → newest (unpacked l w) ≡ None
+    none [] [] all is = refl
+    none [] (x ∷ w) all is = absurd all
+    none (h ∷ l) w all is =
+        let there = stands_at (h ∷ l) (length (h ∷ l) - 1) (omega arith) in
+        let some = there.1 in
+        absurd (cc)
 
 -- the newest entry, where there is one
 last-some : (r : Option (Bor Entry)) (x : Entry) → option_copied r ≡ Some x → IsSome r
@@ -208,11 +203,3 @@ last-there [] r is some = absurd (some refl)
 last-there (e ∷ es) r is some =
     let there = stands_at (e ∷ es) (length (e ∷ es) - 1) (omega arith) in
     last-some r there.0 (is ∙ there.1)
-
-newest-last : (before : List Entry) (x : Entry) → newest (before ++ x ∷ []) ≡ Some x
-newest-last before x =
-    let count : length (before ++ x ∷ []) - 1 ≡ length before = (let l = length_push before x in omega (arith, l)) in
-    ap (slice_get (before ++ x ∷ [])) count ∙ slice_get-push before x
-
-pub last-newest : (es before : List Entry) (x : Entry) → es ≡ before ++ x ∷ [] → newest es ≡ Some x
-last-newest es before x is = ap newest is ∙ newest-last before x

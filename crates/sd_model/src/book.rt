@@ -2,30 +2,35 @@
 
 ghost use Rattle.std.specs.Prelude.{◌≡◌, ◌≢◌, ◌-◌, ◌+◌, ◌<◌, ◌≤◌, ◌++◌, ◌∷◌, [], List, OnOk, IsSome, Some, length, option_copied, slice_get};
 ghost use Rattle.std.specs.Vec.{vec_len, vec_capacity};
+ghost use Rattle.std.specs.Mem.{manually_drop_value};
 ghost use Rattle.sd_model.specs.declared.event.Entry.{Entry};
 ghost use Rattle.sd_model.specs.Booked.{of_lines, unpacked};
 
 use crate::event::{Entry, Event, Reply};
-use crate::help::{Noted, help_of, keep};
+use crate::help::{Noted, keep, noted_of};
 use crate::table::Table;
 use sd_base::Memory;
 use std::alloc::Global;
 use std::marker::Model;
+use std::mem::ManuallyDrop;
 
 /// The opening table, the entries since, and how many more there is room for (`specs/History.antt`). A short entry of no line is
-/// kept in few bytes once another stands behind it; each other, and the newest, stands whole (`specs/Booked.antt`).
+/// kept in few bytes, each other stands whole (`specs/Booked.antt`).
 #[derive(Drop)]
 pub struct Book {
     opening: Table,
-    // How each entry but the newest is kept.
+    // How each entry is kept.
     noted: Vec<Noted>,
-    // Those that stand whole, with the newest.
+    // Those that stand whole.
     whole: Vec<Entry>,
+    // The newest one that is kept in few bytes. It owns no memory, so it is written over, and never dropped.
+    newest: ManuallyDrop<Entry>,
 }
 
 impl Model for Book {
     ghost use Rattle.std.specs.Prelude.{◌-◌, min};
     ghost use Rattle.std.specs.Vec.{vec_len, vec_capacity};
+    ghost use Rattle.std.specs.Mem.{manually_drop_value};
     ghost use Rattle.sd_model.specs.History.{History};
     ghost use Rattle.sd_model.specs.Booked.{unpacked, AreBooked};
 
@@ -37,7 +42,7 @@ impl Model for Book {
       spare = min (vec_capacity b.noted - vec_len b.noted) (vec_capacity b.whole - vec_len b.whole);
     } };
 
-    ghost invariant = { λ b. AreBooked b.noted.items b.whole.items };
+    ghost invariant = { λ b. AreBooked b.noted.items b.whole.items (manually_drop_value b.newest) };
 }
 
 impl Book {
@@ -50,11 +55,34 @@ impl Book {
             opening,
             noted: Vec::new(alloc),
             whole: Vec::new(alloc),
+            newest: ManuallyDrop::new(Entry {
+                session: 0,
+                line: 0,
+                event: Event::Reopen,
+                reply: Reply::Did,
+            }),
         }
     }
 
     /// Makes room for `n` entries more. After `Memory` the entries are as before.
+    #[inline(always)]
     pub fn reserve(&mut self, n: usize) -> Result<(), Memory>
+        ensures room { OnOk result (n ≤ self.new.spare) }
+        ensures opening { self.new.opening ≡ self.old.opening }
+        ensures entries { self.new.entries ≡ self.old.entries }
+        ensures kept { self.old.spare ≤ self.new.spare }
+    {
+        if n <= self.noted.capacity() - self.noted.len()
+            && n <= self.whole.capacity() - self.whole.len()
+        {
+            return Ok(());
+        }
+        self.grow(n)
+    }
+
+    // Makes room where there is too little.
+    #[inline(never)]
+    fn grow(&mut self, n: usize) -> Result<(), Memory>
         ensures room { OnOk result (n ≤ self.new.spare) }
         ensures opening { self.new.opening ≡ self.old.opening }
         ensures entries { self.new.entries ≡ self.old.entries }
@@ -74,18 +102,16 @@ impl Book {
         ensures opening { self.new.opening ≡ self.old.opening }
         ensures spare { self.old.spare ≤ self.new.spare + 1 }
     {
-        match self.whole.last() {
-            None => append(&mut self.whole, session, line, event, reply),
-            Some(newest) => match help_of(newest) {
-                None => {
-                    keep(&mut self.noted, Noted::Whole);
-                    append(&mut self.whole, session, line, event, reply);
-                }
-                Some(help) => {
-                    keep(&mut self.noted, Noted::Short(help));
-                    renew(&mut self.whole, session, line, event, reply);
-                }
-            },
+        let how = noted_of(session, line, &event, &reply);
+        match &how {
+            Noted::Whole => {
+                append(&mut self.whole, session, line, event, reply);
+                keep(&mut self.noted, Noted::Whole);
+            }
+            Noted::Short { .. } => {
+                renew(&mut self.newest, session, line, event, reply);
+                keep(&mut self.noted, how);
+            }
         }
     }
 
@@ -96,20 +122,21 @@ impl Book {
         ensures newest { (before : List Entry) (last : Entry) → self.now.entries ≡ before ++ last ∷ []
             → option_copied result ≡ Some last }
     {
-        self.whole.last()
+        match self.noted.last() {
+            None => None,
+            Some(Noted::Whole) => self.whole.last(),
+            Some(Noted::Short { .. }) => Some(lent(&self.newest)),
+        }
     }
 
     /// The number of entries.
     pub fn count(&self) -> usize
         ensures { result ≡ length self.now.entries }
     {
-        match self.whole.last() {
-            None => 0,
-            Some(_newest) => self.noted.len() + 1,
-        }
+        self.noted.len()
     }
 
-    /// How each entry but the newest is noted, and the entries that stand whole.
+    /// How each entry is noted, and the entries that stand whole.
     pub fn kept(&self) -> (&[Noted], &[Entry])
         ensures { unpacked result.0.now result.1.now ≡ self.now.entries }
     {
@@ -147,18 +174,22 @@ fn append(whole: &mut Vec<Entry>, session: u8, line: u32, event: Event, reply: R
     });
 }
 
-// Puts an entry in the place of the newest.
+// Puts an entry in the place of the newest that is kept in few bytes.
 #[inline(always)]
-fn renew(whole: &mut Vec<Entry>, session: u8, line: u32, event: Event, reply: Reply)
-    requires some { whole.old.items ≢ [] }
-    ensures whole { (before : List Entry) (last : Entry) → whole.old.items ≡ before ++ last ∷ [] → whole.new.items
-        ≡ before ++ record { session = session; line = line; event = event; reply = reply } ∷ [] }
-    ensures spare { vec_capacity whole.new - vec_len whole.new ≡ vec_capacity whole.old - vec_len whole.old }
+fn renew(newest: &mut ManuallyDrop<Entry>, session: u8, line: u32, event: Event, reply: Reply)
+    ensures { manually_drop_value newest.new
+        ≡ record { session = session; line = line; event = event; reply = reply } }
 {
-    let last = whole.len() - 1;
-    let newest = &mut whole[last];
-    newest.session = session;
-    newest.line = line;
-    newest.event = event;
-    newest.reply = reply;
+    *newest = ManuallyDrop::new(Entry {
+        session,
+        line,
+        event,
+        reply,
+    });
+}
+
+fn lent(newest: &ManuallyDrop<Entry>) -> &Entry
+    ensures { result.now ≡ manually_drop_value newest.now }
+{
+    newest
 }

@@ -2,9 +2,9 @@
 
 ghost use Rattle.std.specs.Prelude.{◌≡◌, ◌-◌, ◌+◌, ◌<◌, ◌≤◌, ◌++◌, ◌∷◌, [], IfSome};
 ghost use Rattle.std.specs.Vec.{vec_len, vec_capacity};
-ghost use Rattle.sd_model.specs.Booked.{entry_of, event_of, reply_of};
+ghost use Rattle.sd_model.specs.Booked.{event_of, reply_of, ReadsAs};
 
-use crate::event::{Entry, Event, Reply};
+use crate::event::{Event, Reply};
 use sd_base::{InstNo, Mode, PageNo, Refusal};
 
 /// What an instance does with a page.
@@ -29,25 +29,21 @@ pub enum Answer {
     PoolFull,
 }
 
-/// An entry of line 0: what an instance did with a page, and how that was answered (`specs/Booked.antt`).
-#[derive(Clone, Copy)]
-pub struct Help {
-    pub session: u8,
-    pub inst: InstNo,
-    pub page: PageNo,
-    pub deed: Deed,
-    pub answer: Answer,
-    /// The instance that the answer names; where it names none, the one that asked.
-    pub named: InstNo,
-}
-
-/// How a book keeps an entry.
+/// How a book keeps an entry (`specs/Booked.antt`).
 #[derive(Clone, Copy)]
 pub enum Noted {
     /// It is the next of those that stand whole.
     Whole,
-    /// In few bytes.
-    Short(Help),
+    /// In few bytes: it is of line 0, and tells what an instance did with a page, and how that was answered.
+    Short {
+        session: u8,
+        page: PageNo,
+        inst: InstNo,
+        deed: Deed,
+        answer: Answer,
+        /// The instance that the answer names; where it names none, the one that asked.
+        named: InstNo,
+    },
 }
 
 // What is done, by whom and with which page.
@@ -65,6 +61,7 @@ struct Told {
     named: InstNo,
 }
 
+#[inline(always)]
 fn asked_of(event: &Event) -> Option<Asked>
     ensures { IfSome result (λ asked. event_of asked.deed asked.inst asked.page ≡ event.now) }
 {
@@ -93,6 +90,7 @@ fn asked_of(event: &Event) -> Option<Asked>
 }
 
 // What is told to this instance.
+#[inline(always)]
 fn told_of(reply: &Reply, own: InstNo) -> Option<Told>
     ensures { IfSome result (λ told. reply_of told.answer told.named ≡ reply.now) }
 {
@@ -108,26 +106,32 @@ fn told_of(reply: &Reply, own: InstNo) -> Option<Told>
     Some(Told { answer, named })
 }
 
-/// The entry in few bytes, where that can be: it is of no line, and its event and its reply are among those above.
-pub fn help_of(entry: &Entry) -> Option<Help>
-    ensures { IfSome result (λ help. entry_of help ≡ entry.now) }
+/// How this entry is kept: in few bytes where it is of no line, and its event and its reply are among those above.
+#[inline(always)]
+pub fn noted_of(session: u8, line: u32, event: &Event, reply: &Reply) -> Noted
+    ensures { ReadsAs result (record { session = session; line = line; event = event.now; reply = reply.now }) }
 {
-    if entry.line != 0 {
-        return None;
+    if line != 0 {
+        return Noted::Whole;
     }
-    let Asked { deed, inst, page } = asked_of(&entry.event)?;
-    let Told { answer, named } = told_of(&entry.reply, inst)?;
-    Some(Help {
-        session: entry.session,
-        inst,
+    let Some(Asked { deed, inst, page }) = asked_of(event) else {
+        return Noted::Whole;
+    };
+    let Some(Told { answer, named }) = told_of(reply, inst) else {
+        return Noted::Whole;
+    };
+    Noted::Short {
+        session,
         page,
+        inst,
         deed,
         answer,
         named,
-    })
+    }
 }
 
-/// Notes how the newest entry is kept, before the next comes. It takes no memory.
+/// Notes how an entry is kept. It takes no memory.
+#[inline(always)]
 pub fn keep(noted: &mut Vec<Noted>, how: Noted)
     requires room { vec_len noted.old < vec_capacity noted.old }
     ensures noted { noted.new.items ≡ noted.old.items ++ how ∷ [] }

@@ -33,7 +33,7 @@ pub use book::Book;
 pub use cause::{Cause, causes_of, order};
 pub use copies::copy_refusal;
 pub use event::{Entry, Event, Reply};
-pub use help::{Answer, Deed, Help, Noted};
+pub use help::{Answer, Deed, Noted};
 pub use numbers::{NoSum, number, number_text, sum, text_length};
 pub use rows::Rows;
 pub use table::Table;

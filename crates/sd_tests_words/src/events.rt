@@ -1,7 +1,7 @@
 //! A book, a table and a number text find memory where there is some.
 
 use sd_base::{Bytes, Duplicate, InstNo, Mode, PageNo, Refusal, Rid};
-use sd_model::{Answer, Book, Deed, Entry, Event, Help, Noted, Reply, Table, number_text};
+use sd_model::{Answer, Book, Deed, Entry, Event, Noted, Reply, Table, number_text};
 use std::test::Fail;
 
 #[test]
@@ -23,9 +23,7 @@ fn a_book_and_its_opening_find_memory(rt: HostRuntime) -> Result<(), Fail> {
 }
 
 #[test]
-fn a_short_entry_of_no_line_is_kept_in_few_bytes_once_another_comes(
-    rt: HostRuntime,
-) -> Result<(), Fail> {
+fn a_short_entry_of_no_line_is_kept_in_few_bytes(rt: HostRuntime) -> Result<(), Fail> {
     let mut book = Book::new(rt.alloc(), Table::new(rt.alloc()));
     let page = PageNo::new(7).ok_or("a page")?;
     let inst = InstNo::new(1).ok_or("an instance")?;
@@ -51,35 +49,59 @@ fn a_short_entry_of_no_line_is_kept_in_few_bytes_once_another_comes(
     );
     book.note(0, 0, Event::Flush { inst, page }, Reply::Did);
     let (noted, whole) = book.kept();
-    let (first, second, fourth) = match noted {
-        [
-            Noted::Short(first),
-            Noted::Short(second),
-            Noted::Whole,
-            Noted::Short(fourth),
-            Noted::Whole,
-        ] => { (*first, *second, *fourth) }
-        _ => return Err("another order".into()),
+    let [first, second, Noted::Whole, fourth, Noted::Whole, sixth] = noted else {
+        return Err("another order".into());
     };
-    assert!(rt; is_help(first, 3, Deed::AskExcl, Answer::Asked));
-    assert!(rt; is_help(second, 0, Deed::AskShared, Answer::MovingTo));
-    assert!(rt; is_help(fourth, 0, Deed::Give, Answer::Gave));
-    let [of_a_line, evicted, flushed] = whole else {
+    assert!(rt; is_short(first, 3, Deed::AskExcl, Answer::Asked));
+    assert!(rt; is_short(second, 0, Deed::AskShared, Answer::MovingTo));
+    assert!(rt; is_short(fourth, 0, Deed::Give, Answer::Gave));
+    assert!(rt;
+        matches!(
+            sixth,
+            Noted::Short {
+                deed: Deed::Flush,
+                answer: Answer::Did,
+                ..
+            }
+        )
+    );
+    let [of_a_line, evicted] = whole else {
         return Err("others stand whole".into());
     };
     assert!(rt; of_a_line.line == 4);
     assert!(rt; matches!(&evicted.event, Event::Evict { .. }));
-    assert!(rt; matches!(&flushed.event, Event::Flush { .. }));
+    assert!(rt;
+        matches!(
+            book.last(),
+            Some(Entry {
+                event: Event::Flush { .. },
+                reply: Reply::Did,
+                ..
+            })
+        )
+    );
     assert!(rt; book.count() == 6);
     Ok(())
 }
 
 // Whether instance 1 did this with page 7, and was told so of instance 2.
-fn is_help(help: Help, session: u8, deed: Deed, answer: Answer) -> bool {
-    help.session == session
-        && help.deed == deed
-        && help.answer == answer
-        && help.inst.get() == 1
-        && help.page.get() == 7
-        && help.named.get() == 2
+fn is_short(how: &Noted, by: u8, does: Deed, told: Answer) -> bool {
+    match how {
+        Noted::Whole => false,
+        Noted::Short {
+            session,
+            page,
+            inst,
+            deed,
+            answer,
+            named,
+        } => {
+            *session == by
+                && *deed == does
+                && *answer == told
+                && inst.get() == 1
+                && page.get() == 7
+                && named.get() == 2
+        }
+    }
 }

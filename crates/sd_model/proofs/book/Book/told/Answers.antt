@@ -1,11 +1,11 @@
 use Rattle.std.proofs.Common.{ap, ◌∙◌}
 use Rattle.sd_model.specs.History.{History}
 use Rattle.sd_model.specs.Booked.{of_lines}
-use Rattle.sd_model.proofs.Booked.{lines-booked}
+use Rattle.sd_model.proofs.Booked.{lines-read}
 use Rattle.sd_model.proofs.book.Book.told.Goals as goal
 
 pub returns : goal.returns
 returns c =
     ap of_lines c.deref.ensures.value
-    ∙ lines-booked c.self.inside.noted.items c.self.inside.whole.items c.self.invariant
+    ∙ lines-read c.self.inside.noted.items c.self.inside.whole.items c.self.invariant.0
     ∙ ap (λ (h : History). of_lines h.entries) c.self.view_is
