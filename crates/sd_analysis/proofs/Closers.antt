@@ -44,7 +44,7 @@ get_take (x ∷ xs) (suc j) (suc k) lt = get_take xs j k (omega arith)
 
 -- ---- with one record more
 
-ends_still : (t : TxnId) (xs : List Rec) (x : Rec) (k : ℕ) → IsFirstEnd xs t k → IsFirstEnd (xs ++ x ∷ []) t k
+pub ends_still : (t : TxnId) (xs : List Rec) (x : Rec) (k : ℕ) → IsFirstEnd xs t k → IsFirstEnd (xs ++ x ∷ []) t k
 ends_still t xs x k e =
     let lt : k < length xs = slice_get_within xs k e.here e.there in
     record {
@@ -160,7 +160,7 @@ finds_open xs x (Some k) prev own first runs judged = record {
 }
 
 -- one that was closed
-finds_shut : (xs : List Rec) (x : Rec) (k : ℕ) → of_txn x.txn x ≡ true → IsFirstEnd xs x.txn k → Finds xs (xs ++ x ∷ []) (Some k)
+pub finds_shut : (xs : List Rec) (x : Rec) (k : ℕ) → of_txn x.txn x ≡ true → IsFirstEnd xs x.txn k → Finds xs (xs ++ x ∷ []) (Some k)
 finds_shut xs x k own e = record {
   hit = off_before xs x k own e;
   others = λ j off. ⊎_elim (λ old. inl old) (λ new. inr (⊎_elim (λ h. let at = h.0 in let lt = slice_get_within xs k e.here e.there in omega arith) (behind j) new)) (shown xs x j off);

@@ -1,4 +1,4 @@
--- The losers of a table of the whole log: for the goals of `losers_of`.
+-- The losers by what is kept of the whole log: for the goals of `losers_of`.
 use Rattle.std.proofs.Common.{◌≡◌, ◌≢◌, ◌⊎◌, inl, inr, ⊎_elim, ℕ, zero, suc, ◌<◌, ◌≤◌, Bool, true, false, cond, List, [], ◌∷◌, ◌++◌, length, take, drop, map, slice_get, arith, Option, None, Some, refl, sym, ap, ◌∙◌, subst, append_assoc, append-nil}
 use Rattle.std.specs.List.{list_any, AllByRecursion}
 use Rattle.std.specs.List.Sorted.{IsStrictlySortedBy}
@@ -105,8 +105,13 @@ found_each P (row ∷ rows) t seen each found = ⊎_elim
     (λ is. let e : row.1 ≡ seen = (let f = rw is at found in cc) in subst P e each.0)
     (λ off. found_each P rows t seen each.1 (rw off at found)) (cases_Bool (same_txn t row.0))
 
-pub all_told : (log : List Placed) (rows : List Row) → IsOrdered rows → TellsAll log (flats log) rows → Each (IsTold log) rows
-all_told log rows ordered known = each_found (IsTold log) rows ordered (λ t seen found. subst (TellsOf log (flats log) t) found (known t))
+pub all_told : (log : List Placed) (closed : List (TxnId × ℕ)) (rows : List Row) → IsOrdered rows → TellsAll log (flats log) closed rows → Each (IsTold log) rows
+all_told log closed rows ordered known = each_found (IsTold log) rows ordered (λ t seen found. go t seen (lookup (same_txn t) closed)
+    (subst (TellsOf log (flats log) t (lookup (same_txn t) closed)) found (known t)))
+  where
+    go : (t : TxnId) (seen : Seen) (k : Option ℕ) → TellsOf log (flats log) t k (Some seen) → IsTold log (t, seen)
+    go t seen None tells = tells
+    go t seen (Some k) told = let c = told.1 in absurd (cc)
 
 -- ---- misplaced records
 
@@ -150,12 +155,14 @@ off_misplaced xs j off = record { here = off.here; there = off.there; own = off.
     go (inr w) = inr (inr w)
 
 -- a row of a log that is noted, by the transaction of a record that begins late
-row_covers : (log : List Placed) (rows : List Row) (worst : Option ℕ) → TellsAll log (flats log) rows → Each (IsCovered worst) rows → (j : ℕ) (x : Rec) → slice_get (flats log) j ≡ Some x → speaks x.kind ≡ true → BeginsLate (flats log) j x → Covers worst j
-row_covers log rows worst known covered j x there own late = go (lookup (same_txn x.txn) rows) refl (known x.txn)
+row_covers : (log : List Placed) (closed : List (TxnId × ℕ)) (rows : List Row) (worst : Option ℕ) → TellsAll log (flats log) closed rows → Each (IsCovered worst) rows → (j : ℕ) (x : Rec) → slice_get (flats log) j ≡ Some x → speaks x.kind ≡ true → BeginsLate (flats log) j x → Covers worst j
+row_covers log closed rows worst known covered j x there own late = go (lookup (same_txn x.txn) closed) (lookup (same_txn x.txn) rows) refl (known x.txn)
   where
-    go : (row : Option Seen) → lookup (same_txn x.txn) rows ≡ row → TellsOf log (flats log) x.txn row → Covers worst j
-    go None is none = let c = sym none ∙ any_at (of_txn x.txn) (flats log) j x there (own_of x own) in absurd (cc)
-    go (Some seen) is tells = lower worst seen.first j (covers seen.closed refl tells.closed) (⊎_elim
+    go : (k : Option ℕ) (row : Option Seen) → lookup (same_txn x.txn) rows ≡ row → TellsOf log (flats log) x.txn k row → Covers worst j
+    go (Some k) row is told =
+        let end = told.0 in absurd (open_shuts x.txn (flats log) k end.here late.2 end.there end.closes (own_is x.txn end.here end.own))
+    go None None is none = let c = sym none ∙ any_at (of_txn x.txn) (flats log) j x there (own_of x own) in absurd (cc)
+    go None (Some seen) is tells = lower worst seen.first j (covers seen.closed refl tells.closed) (⊎_elim
         (λ lt. let c = sym tells.first.none ∙ ap (list_any (of_txn x.txn)) (take-flats log seen.first) ∙ any_before (of_txn x.txn) (flats log) j seen.first x lt there (own_of x own) in absurd (cc))
         (λ le. le) (cases_lt j seen.first))
       where
@@ -171,15 +178,15 @@ row_covers log rows worst known covered j x there own late = go (lookup (same_tx
         covers (Some k) e end = absurd (open_shuts x.txn (flats log) k end.here late.2 end.there end.closes (own_is x.txn end.here end.own))
 
 -- each misplaced record, or one before it, is told
-pub all_covered : (log : List Placed) (rows : List Row) (worst : Option ℕ) → TellsAll log (flats log) rows → ((j : ℕ) → IsOff (flats log) j → Covers worst j) → Each (IsCovered worst) rows → (j : ℕ) → IsMisplaced (flats log) j → Covers worst j
-all_covered log rows worst known off covered j m = go m.wrong
+pub all_covered : (log : List Placed) (closed : List (TxnId × ℕ)) (rows : List Row) (worst : Option ℕ) → TellsAll log (flats log) closed rows → ((j : ℕ) → IsOff (flats log) j → Covers worst j) → Each (IsCovered worst) rows → (j : ℕ) → IsMisplaced (flats log) j → Covers worst j
+all_covered log closed rows worst known off covered j m = go m.wrong
   where
     still : IsWrongYet (flats log) j (after_all m.here.txn none_yet (take j (flats log))) m.here → Covers worst j
     still w = off j record { here = m.here; there = m.there; own = m.own; wrong = w }
 
     go : IsWrong (flats log) j (after_all m.here.txn none_yet (take j (flats log))) m.here → Covers worst j
     go (inl g) = still (inl g)
-    go (inr (inl late)) = row_covers log rows worst known covered j m.here m.there m.own late
+    go (inr (inl late)) = row_covers log closed rows worst known covered j m.here m.there m.own late
     go (inr (inr w)) = still (inr w)
 
 pub first_of_all : (xs : List Rec) (worst : Option ℕ) (at : ℕ) → worst ≡ Some at → IfSome worst (IsMisplaced xs) → ((j : ℕ) → IsMisplaced xs j → Covers worst j) → IsFirstMisplaced xs at
@@ -247,17 +254,20 @@ member_in log t seen (row ∷ rows) found runs = ⊎_elim
     ⊎_elim (λ shut. rw shut rest) (λ unshut. rw unshut (inr rest)) (cases_Bool (is_some row.1.closed)))
     (cases_Bool (same_txn t row.0))
 
-pub all_losers : (log : List Placed) (rows : List Row) → IsOrdered rows → TellsAll log (flats log) rows → AreLosers log (losers_in log rows)
-all_losers log rows ordered known = record {
-  each = each_loser log rows (all_told log rows ordered known);
+pub all_losers : (log : List Placed) (closed : List (TxnId × ℕ)) (rows : List Row) → IsOrdered rows → TellsAll log (flats log) closed rows
+    → AreLosers log (losers_in log rows)
+all_losers log closed rows ordered known = record {
+  each = each_loser log rows (all_told log closed rows ordered known);
   rise = rise_in log rows ordered;
-  all = λ t o there. go t o there (lookup (same_txn t) rows) refl (known t);
+  all = λ t o there. go t o there (lookup (same_txn t) closed) (lookup (same_txn t) rows) refl (known t);
 }
   where
-    go : (t : TxnId) → IsOpen t (flats log) → list_any (of_txn t) (flats log) ≡ true → (row : Option Seen) → lookup (same_txn t) rows ≡ row
-        → TellsOf log (flats log) t row → Member t (map (λ l. l.txn) (losers_in log rows))
-    go t o there None is none = let c = sym there ∙ none in absurd (cc)
-    go t o there (Some seen) is tells = member_in log t seen rows is (runs seen.closed tells.closed)
+    go : (t : TxnId) → IsOpen t (flats log) → list_any (of_txn t) (flats log) ≡ true → (k : Option ℕ) (row : Option Seen)
+        → lookup (same_txn t) rows ≡ row → TellsOf log (flats log) t k row → Member t (map (λ l. l.txn) (losers_in log rows))
+    go t o there (Some k) row is told =
+        let end = told.0 in absurd (open_shuts t (flats log) k end.here o end.there end.closes (own_is t end.here end.own))
+    go t o there None None is none = let c = sym there ∙ none in absurd (cc)
+    go t o there None (Some seen) is tells = member_in log t seen rows is (runs seen.closed tells.closed)
       where
         runs : (c : Option ℕ) → EndsAt (flats log) t c → is_some c ≡ false
         runs None e = refl
@@ -275,10 +285,11 @@ row_within log rows left row losers worst ending =
 pub lsn-at : (log : List Placed) (at : ℕ) (p : Placed) (lsn : ℕ) → at < length log → lsn ≡ (rec_at log at p).lsn → lsn ≡ lsn_at log at
 lsn-at log at p lsn lt is = is ∙ sym (ap (λ (o : Option Rec). option_map_or (λ (x : Rec). x.lsn) o 0) (found_at log at p lt))
 
-pub ending_start : (log : List Placed) (rows : List Row) (worst : Option ℕ) → IsOrdered rows → TellsAll log (flats log) rows → IsLeast (flats log) worst → Ending log rows rows [] worst
-ending_start log rows worst ordered known least = record {
+pub ending_start : (log : List Placed) (closed : List (TxnId × ℕ)) (rows : List Row) (worst : Option ℕ) → IsOrdered rows
+    → TellsAll log (flats log) closed rows → IsLeast (flats log) worst → Ending log rows rows [] worst
+ending_start log closed rows worst ordered known least = record {
   parts = refl;
-  told = all_told log rows ordered known;
+  told = all_told log closed rows ordered known;
   hit = if_some worst (IsOff (flats log)) (IsMisplaced (flats log)) (λ j off. off_misplaced (flats log) j off) least.hit;
   off = least.covers;
   past = [];

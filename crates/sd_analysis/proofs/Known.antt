@@ -1,4 +1,4 @@
--- What the table has of a transaction, with one record more: for the goals of `note_run`.
+-- What is kept of a transaction, with one record more: for the goals of `note_run`.
 use Rattle.std.proofs.Common.{◌≡◌, ◌⊎◌, ⊎_elim, ℕ, ◌+◌, ◌<◌, Bool, true, false, cond, List, [], ◌∷◌, ◌++◌, length, take, get_or, Option, None, Some, refl, sym, ap, ◌∙◌, subst, arith}
 use Rattle.std.specs.List.{list_any}
 use Rattle.std.specs.Map.{lookup}
@@ -16,11 +16,11 @@ use Rattle.sd_analysis.specs.declared.seen.Seen.{Seen}
 use Rattle.sd_analysis.specs.Losers.{record_at}
 use Rattle.sd_analysis.specs.Faults.{IsFirst, MayCome}
 use Rattle.sd_analysis.specs.Misplaced.{Covers, Finds, IsLeast}
-use Rattle.sd_analysis.specs.Seen.{closed_by, with_record, EndsAt, SeenFits, Judged, Tells, TellsOf, TellsAll}
-use Rattle.sd_analysis.proofs.Closers.{ends_off, ends_own, finds_next, finds_silent}
+use Rattle.sd_analysis.specs.Seen.{closed_by, with_record, EndsAt, IsFirstEnd, SeenFits, Judged, Tells, TellsOf, TellsAll}
+use Rattle.sd_analysis.proofs.Closers.{ends_off, ends_own, ends_still, finds_next, finds_shut, finds_silent}
 use Rattle.sd_analysis.proofs.Steps.{least_more}
 use Rattle.sd_analysis.proofs.Prefixes.{advance-own}
-use Rattle.sd_chain.proofs.Whose.{none_open, own_of, silent_of, advance-off, after_all-append, after_all-none, first_prev-there, first_prev-behind, first_prev-off}
+use Rattle.sd_chain.proofs.Whose.{none_open, own_is, own_of, silent_of, advance-off, after_all-append, after_all-none, first_prev-there, first_prev-behind, first_prev-off}
 
 -- what is seen of the transaction of x before x, which comes next
 pub record Ready (log : List Placed) (xs : List Rec) (x : Rec) (seen : Seen) : Type 0 where
@@ -39,7 +39,7 @@ any_off t (y ∷ ys) x off = ⊎_elim (λ is. rw is refl) (λ not. rw not (any_o
 
 -- a row of the table, or a new one
 pub ready_from : (log : List Placed) (xs : List Rec) (x : Rec) (at : ℕ) (row : Option Seen) (fresh seen : Seen) → of_txn x.txn x ≡ true
-    → xs ≡ flats (take at log) → record_at log at ≡ Some x → TellsOf log xs x.txn row → SeenFits log none_yet fresh → fresh.first ≡ at
+    → xs ≡ flats (take at log) → record_at log at ≡ Some x → TellsOf log xs x.txn None row → SeenFits log none_yet fresh → fresh.first ≡ at
     → fresh.first_prev ≡ x.prev → fresh.closed ≡ None → seen ≡ unwrap_or row fresh → Ready log xs x seen
 ready_from log xs x at None fresh seen own front there none fits first prev closed is = subst (Ready log xs x) (sym is) (record {
   fits = subst (λ (q : Sofar). SeenFits log q fresh) (sym (after_all-none x.txn none_yet xs none)) fits;
@@ -75,10 +75,11 @@ tells_more log xs x seen new own ready fits first prev closed = record {
 }
 
 -- a record of another transaction, or of none
-pub tells_other : (log : List Placed) (xs : List Rec) (x : Rec) (t : TxnId) (row : Option Seen) → of_txn t x ≡ false → TellsOf log xs t row
-    → TellsOf log (xs ++ x ∷ []) t row
-tells_other log xs x t None off none = any_off t xs x off ∙ none
-tells_other log xs x t (Some seen) off tells = record {
+pub tells_other : (log : List Placed) (xs : List Rec) (x : Rec) (t : TxnId) (k : Option ℕ) (row : Option Seen) → of_txn t x ≡ false
+    → TellsOf log xs t k row → TellsOf log (xs ++ x ∷ []) t k row
+tells_other log xs x t (Some k) row off told = (ends_still t xs x k told.0, told.1)
+tells_other log xs x t None None off none = any_off t xs x off ∙ none
+tells_other log xs x t None (Some seen) off tells = record {
   fits = subst (λ (q : Sofar). SeenFits log q seen)
       (sym (after_all-append t none_yet xs (x ∷ []) ∙ advance-off t (after_all t none_yet xs) x off)) tells.fits;
   there = any_off t xs x off ∙ tells.there;
@@ -87,10 +88,21 @@ tells_other log xs x t (Some seen) off tells = record {
   closed = ends_off t xs x seen.closed off tells.closed;
 }
 
--- a record of no transaction leaves the table
-pub all_same : (log : List Placed) (xs : List Rec) (x : Rec) (rows : List (TxnId × Seen)) → speaks x.kind ≡ false → TellsAll log xs rows
-    → TellsAll log (xs ++ x ∷ []) rows
-all_same log xs x rows silent known t = tells_other log xs x t (lookup (same_txn t) rows) (silent_of t x silent) (known t)
+-- a record of no transaction leaves what is kept
+pub all_same : (log : List Placed) (xs : List Rec) (x : Rec) (closed : List (TxnId × ℕ)) (rows : List (TxnId × Seen))
+    → speaks x.kind ≡ false → TellsAll log xs closed rows → TellsAll log (xs ++ x ∷ []) closed rows
+all_same log xs x closed rows silent known t =
+    tells_other log xs x t (lookup (same_txn t) closed) (lookup (same_txn t) rows) (silent_of t x silent) (known t)
+
+-- so does one of a transaction that is kept as closed
+still_all : (log : List Placed) (xs : List Rec) (x : Rec) (closed : List (TxnId × ℕ)) (rows : List (TxnId × Seen)) (k : ℕ)
+    → lookup (same_txn x.txn) closed ≡ Some k → TellsAll log xs closed rows → TellsAll log (xs ++ x ∷ []) closed rows
+still_all log xs x closed rows k shut known t = ⊎_elim
+    (λ own. let is : lookup (same_txn t) closed ≡ Some k = subst (λ (u : TxnId). lookup (same_txn u) closed ≡ Some k) (own_is t x own) shut in
+    let told = subst (λ (o : Option ℕ). TellsOf log xs t o (lookup (same_txn t) rows)) is (known t) in
+    subst (λ (o : Option ℕ). TellsOf log (xs ++ x ∷ []) t o (lookup (same_txn t) rows)) (sym is) (ends_still t xs x k told.0, told.1))
+    (λ off. tells_other log xs x t (lookup (same_txn t) closed) (lookup (same_txn t) rows) off (known t))
+    (cases_Bool (of_txn t x))
 
 -- the transaction that a record speaks of
 pub spoken : (b : Bool) (t u : TxnId) → Some t ≡ cond b (Some u) None → (b ≡ true) × (t ≡ u)
@@ -124,24 +136,27 @@ pub record Noting (log : List Placed) (at : ℕ) (x : Rec) (t : TxnId) (seen : S
   pub own : of_txn x.txn x ≡ true
   pub ready : Ready log (flats (take at log)) x seen
 
-pub noting : (log : List Placed) (at : ℕ) (d : Placed) (t : TxnId) (rows : List (TxnId × Seen)) (row : Option Seen) (fresh seen : Seen)
-    → at < length log → TellsAll log (flats (take at log)) rows
+pub noting : (log : List Placed) (at : ℕ) (d : Placed) (t : TxnId) (closed : List (TxnId × ℕ)) (rows : List (TxnId × Seen))
+    (row : Option Seen) (fresh seen : Seen) → at < length log → TellsAll log (flats (take at log)) closed rows
+    → lookup (same_txn t) closed ≡ None
     → Some t ≡ cond (speaks (rec_at log at d).kind) (Some (rec_at log at d).txn) None → row ≡ lookup (same_txn t) rows
     → SeenFits log none_yet fresh → fresh.first ≡ at → fresh.first_prev ≡ (rec_at log at d).prev → fresh.closed ≡ None → seen ≡ unwrap_or row fresh
     → Noting log at (rec_at log at d) t seen
-noting log at d t rows row fresh seen lt known says row_is fits first prev closed seen_is =
+noting log at d t closed rows row fresh seen lt known unshut says row_is fits first prev runs seen_is =
     let x = rec_at log at d in
     let s = spoken (speaks x.kind) t x.txn says in
     let own = own_of x s.0 in
     let there = found_at log at d lt in
     let held : row ≡ lookup (same_txn x.txn) rows = row_is ∙ ap (λ (u : TxnId). lookup (same_txn u) rows) s.1 in
+    let none : lookup (same_txn x.txn) closed ≡ None = subst (λ (u : TxnId). lookup (same_txn u) closed ≡ None) s.1 unshut in
     record {
       there = there;
       more = flats-more log at d lt;
       named = s.1;
       own = own;
-      ready = ready_from log (flats (take at log)) x at (lookup (same_txn x.txn) rows) fresh seen own refl there (known x.txn) fits
-          first prev closed
+      ready = ready_from log (flats (take at log)) x at (lookup (same_txn x.txn) rows) fresh seen own refl there
+          (subst (λ (o : Option ℕ). TellsOf log (flats (take at log)) x.txn o (lookup (same_txn x.txn) rows)) none (known x.txn)) fits
+          first prev runs
           (seen_is ∙ ap (λ (r : Option Seen). unwrap_or r fresh) held);
     }
 
@@ -182,15 +197,32 @@ least_at log at before found least lt h f either covers =
     (least_more (flats (take at log)) (rec_at log at d) before found least h (subst (λ (ys : List Rec). Finds (flats (take at log)) ys found) more f) either covers)
 
 -- a record of no transaction
-pub silent_all : (log : List Placed) (at : ℕ) (d : Placed) (rows : List (TxnId × Seen)) → at < length log
-    → None ≡ cond (speaks (rec_at log at d).kind) (Some (rec_at log at d).txn) None → TellsAll log (flats (take at log)) rows
-    → TellsAll log (flats (take (at + 1) log)) rows
-silent_all log at d rows lt says known =
+pub silent_all : (log : List Placed) (at : ℕ) (d : Placed) (closed : List (TxnId × ℕ)) (rows : List (TxnId × Seen)) → at < length log
+    → None ≡ cond (speaks (rec_at log at d).kind) (Some (rec_at log at d).txn) None → TellsAll log (flats (take at log)) closed rows
+    → TellsAll log (flats (take (at + 1) log)) closed rows
+silent_all log at d closed rows lt says known =
     let x = rec_at log at d in
-    subst (λ (ys : List Rec). TellsAll log ys rows) (sym (flats-more log at d lt))
-    (all_same log (flats (take at log)) x rows (unspoken (speaks x.kind) x.txn says) known)
+    subst (λ (ys : List Rec). TellsAll log ys closed rows) (sym (flats-more log at d lt))
+    (all_same log (flats (take at log)) x closed rows (unspoken (speaks x.kind) x.txn says) known)
 
--- the same of equal rows
-pub as_given : (log : List Placed) (ys : List Rec) (rows rows' : List (TxnId × Seen)) → rows' ≡ rows → TellsAll log ys rows
-    → TellsAll log ys rows'
-as_given log ys rows rows' e all = subst (TellsAll log ys) (sym e) all
+-- a record of a transaction that is kept as closed
+pub shut_all : (log : List Placed) (at : ℕ) (d : Placed) (t : TxnId) (k : ℕ) (closed : List (TxnId × ℕ)) (rows : List (TxnId × Seen))
+    → at < length log → Some t ≡ cond (speaks (rec_at log at d).kind) (Some (rec_at log at d).txn) None → Some k ≡ lookup (same_txn t) closed
+    → TellsAll log (flats (take at log)) closed rows → TellsAll log (flats (take (at + 1) log)) closed rows
+shut_all log at d t k closed rows lt says is known =
+    let x = rec_at log at d in
+    let s = spoken (speaks x.kind) t x.txn says in
+    subst (λ (ys : List Rec). TellsAll log ys closed rows) (sym (flats-more log at d lt))
+    (still_all log (flats (take at log)) x closed rows k (subst (λ (u : TxnId). lookup (same_txn u) closed ≡ Some k) s.1 (sym is)) known)
+
+-- what it shows
+pub finds_closed : (log : List Placed) (at : ℕ) (d : Placed) (t : TxnId) (k : ℕ) (closed : List (TxnId × ℕ)) (rows : List (TxnId × Seen))
+    → at < length log → Some t ≡ cond (speaks (rec_at log at d).kind) (Some (rec_at log at d).txn) None → Some k ≡ lookup (same_txn t) closed
+    → TellsAll log (flats (take at log)) closed rows → Finds (flats (take at log)) (flats (take (at + 1) log)) (Some k)
+finds_closed log at d t k closed rows lt says is known =
+    let x = rec_at log at d in
+    let xs = flats (take at log) in
+    let s = spoken (speaks x.kind) t x.txn says in
+    let shut = subst (λ (o : Option ℕ). TellsOf log xs t o (lookup (same_txn t) rows)) (sym is) (known t) in
+    subst (λ (ys : List Rec). Finds xs ys (Some k)) (sym (flats-more log at d lt))
+    (finds_shut xs x k (own_of x s.0) (subst (λ (u : TxnId). IsFirstEnd xs u k) s.1 shut.0))

@@ -9,3 +9,4 @@ pub mod Misplaced
 pub mod Orders
 pub mod Steps
 pub mod Runs
+pub mod Rising

@@ -1,5 +1,5 @@
 -- What the table has after records of one transaction that stand side by side: for the goals of `note_run`.
-use Rattle.std.proofs.Common.{◌≡◌, ◌≢◌, ⊎_elim, ℕ, ◌+◌, ◌<◌, Bool, false, cond, List, [], ◌∷◌, ◌++◌, length, take, None, Some, sym, ap, ◌∙◌, subst}
+use Rattle.std.proofs.Common.{◌≡◌, ◌≢◌, inl, inr, ⊎_elim, ℕ, ◌+◌, ◌<◌, Bool, false, cond, List, [], ◌∷◌, ◌++◌, length, take, Option, None, Some, refl, sym, ap, ◌∙◌, subst}
 use Rattle.std.specs.Map.{lookup}
 use Rattle.sd_base.specs.declared.ids.TxnId.{TxnId}
 use Rattle.sd_base.specs.Ids.{same_txn}
@@ -9,7 +9,7 @@ use Rattle.sd_log.specs.Logs.{flats}
 use Rattle.sd_chain.specs.Order.{speaks, none_yet, after_all}
 use Rattle.sd_chain.proofs.Whose.{first_prev-there, other_of, own_of}
 use Rattle.sd_analysis.specs.declared.seen.Seen.{Seen}
-use Rattle.sd_analysis.specs.Seen.{closed_by, with_record, SeenFits, OthersStay, Tells, TellsOf, TellsAll}
+use Rattle.sd_analysis.specs.Seen.{closed_by, with_record, EndsAt, IsFirstEnd, Keeps, SeenFits, OthersStay, Tells, TellsOf, TellsAll}
 use Rattle.sd_analysis.proofs.Known.{found_at, flats-more, length_front, rec_at, spoken, tells_more, tells_other, Noting}
 use Rattle.sd_base.proofs.SameIds.{cases_txn, eq-same, ne-same}
 
@@ -52,23 +52,60 @@ other_apart t u x named off e = let c = sym off ∙ eq-same t u (named ∙ e) in
 -- what is told of others stays
 pub others_on : (log : List Placed) (at : ℕ) (x : Rec) (t : TxnId) (seen : Seen) (xs : List Rec) → Noting log at x t seen
     → OthersStay log t xs (flats (take at log)) → OthersStay log t xs (flats (take (at + 1) log))
-others_on log at x t seen xs noting before u row off told =
-    subst (λ (ys : List Rec). TellsOf log ys u row) (sym noting.more)
-    (tells_other log (flats (take at log)) x u row (other_of u x (other_apart t u x noting.named off)) (before u row off told))
+others_on log at x t seen xs noting before u k row off told =
+    subst (λ (ys : List Rec). TellsOf log ys u k row) (sym noting.more)
+    (tells_other log (flats (take at log)) x u k row (other_of u x (other_apart t u x noting.named off)) (before u k row off told))
 
-pub others_same : (log : List Placed) (t : TxnId) (xs : List Rec) → OthersStay log t xs xs
-others_same log t xs u row off told = told
+others_same : (log : List Placed) (t : TxnId) (xs : List Rec) → OthersStay log t xs xs
+others_same log t xs u k row off told = told
 
--- the table with all of them noted
-pub run_all : (log : List Placed) (at : ℕ) (x : Rec) (t : TxnId) (ys : List Rec) (rows rows' : List (TxnId × Seen)) (seen new : Seen)
-    → Noting log at x t seen → TellsAll log (flats (take at log)) rows
-    → OthersStay log t (flats (take (at + 1) log)) ys → Tells log ys t new
-    → ((q : TxnId) → lookup (same_txn q) rows' ≡ cond (same_txn t q) (Some new) (lookup (same_txn q) rows))
-    → TellsAll log ys rows'
-run_all log at x t ys rows rows' seen new noting known stay tells written q = subst (TellsOf log ys q) (sym (written q)) (⊎_elim
-    (λ e. subst (λ (b : Bool). TellsOf log ys q (cond b (Some new) (lookup (same_txn q) rows))) (sym (eq-same t q e))
-    (subst (λ (u : TxnId). Tells log ys u new) e tells))
-    (λ ne. subst (λ (b : Bool). TellsOf log ys q (cond b (Some new) (lookup (same_txn q) rows))) (sym (ne-same t q ne))
-    (stay q (lookup (same_txn q) rows) (ne-same t q ne) (others_on log at x t seen (flats (take at log)) noting
-    (others_same log t (flats (take at log))) q (lookup (same_txn q) rows) (ne-same t q ne) (known q))))
-    (cases_txn t q))
+-- what is kept of it once it is closed in rising order
+pub keeps_shut : (t : TxnId) (seen : Seen) (end : Option ℕ) (closed closed' : List (TxnId × ℕ)) (rows : List (TxnId × Seen)) → end ≡ seen.closed
+    → (at : ℕ) × (end ≡ Some at) × ((q : TxnId) → lookup (same_txn q) closed' ≡ cond (same_txn t q) (Some at) (lookup (same_txn q) closed))
+    → Keeps t seen closed rows closed' rows
+keeps_shut t seen end closed closed' rows is (at, some, put) = inl (at, sym is ∙ some, refl, put)
+
+shut_at : (log : List Placed) (t : TxnId) (ys : List Rec) (new : Seen) (k : ℕ) → Tells log ys t new → new.closed ≡ Some k → IsFirstEnd ys t k
+shut_at log t ys new k tells shut = subst (EndsAt ys t) shut tells.closed
+
+-- what is kept with all of them noted, where the transaction's row was taken out and what is seen of it is kept then
+pub run_all : (log : List Placed) (at : ℕ) (x : Rec) (t : TxnId) (ys : List Rec) (closed closed' : List (TxnId × ℕ)) (rows taken rows' : List (TxnId × Seen)) (seen new : Seen)
+    → Noting log at x t seen → TellsAll log (flats (take at log)) closed rows
+    → OthersStay log t (flats (take (at + 1) log)) ys → Tells log ys t new → lookup (same_txn t) closed ≡ None
+    → ((q : TxnId) → lookup (same_txn q) taken ≡ cond (same_txn t q) None (lookup (same_txn q) rows))
+    → Keeps t new closed taken closed' rows'
+    → TellsAll log ys closed' rows'
+run_all log at x t ys closed closed' rows taken rows' seen new noting known stay tells unshut out kept q =
+    ⊎_elim (λ e. subst (λ (u : TxnId). TellsOf log ys u (lookup (same_txn u) closed') (lookup (same_txn u) rows')) e (own kept)) (λ ne. other (ne-same t q ne) kept) (cases_txn t q)
+  where
+    Kept : Type 0
+    Kept = Keeps t new closed taken closed' rows'
+
+    own : Kept → TellsOf log ys t (lookup (same_txn t) closed') (lookup (same_txn t) rows')
+    own (inl (k, shut, same, put)) =
+        let at_k : lookup (same_txn t) closed' ≡ Some k = put t ∙ ap (λ (b : Bool). cond b (Some k) (lookup (same_txn t) closed)) (eq-same t t refl) in
+        let gone : lookup (same_txn t) rows' ≡ None = ap (lookup (same_txn t)) same ∙ out t ∙ ap (λ (b : Bool). cond b None (lookup (same_txn t) rows)) (eq-same t t refl) in
+        subst (λ (o : Option ℕ). TellsOf log ys t o (lookup (same_txn t) rows')) (sym at_k) (shut_at log t ys new k tells shut, gone)
+    own (inr (same, put)) =
+        let none : lookup (same_txn t) closed' ≡ None = ap (lookup (same_txn t)) same ∙ unshut in
+        let row : lookup (same_txn t) rows' ≡ Some new = put t ∙ ap (λ (b : Bool). cond b (Some new) (lookup (same_txn t) taken)) (eq-same t t refl) in
+        subst (λ (o : Option ℕ). TellsOf log ys t o (lookup (same_txn t) rows')) (sym none)
+        (subst (λ (o : Option Seen). TellsOf log ys t None o) (sym row) tells)
+
+    rest : same_txn t q ≡ false → lookup (same_txn q) taken ≡ lookup (same_txn q) rows
+    rest off = out q ∙ ap (λ (b : Bool). cond b None (lookup (same_txn q) rows)) off
+
+    told : same_txn t q ≡ false → TellsOf log ys q (lookup (same_txn q) closed) (lookup (same_txn q) rows)
+    told off = stay q (lookup (same_txn q) closed) (lookup (same_txn q) rows) off (others_on log at x t seen (flats (take at log)) noting
+        (others_same log t (flats (take at log))) q (lookup (same_txn q) closed) (lookup (same_txn q) rows) off (known q))
+
+    joined : same_txn t q ≡ false → lookup (same_txn q) closed' ≡ lookup (same_txn q) closed → lookup (same_txn q) rows' ≡ lookup (same_txn q) rows
+        → TellsOf log ys q (lookup (same_txn q) closed') (lookup (same_txn q) rows')
+    joined off e f = subst (λ (o : Option ℕ). TellsOf log ys q o (lookup (same_txn q) rows')) (sym e)
+        (subst (λ (o : Option Seen). TellsOf log ys q (lookup (same_txn q) closed) o) (sym f) (told off))
+
+    other : same_txn t q ≡ false → Kept → TellsOf log ys q (lookup (same_txn q) closed') (lookup (same_txn q) rows')
+    other off (inl (k, shut, same, put)) = joined off
+        (put q ∙ ap (λ (b : Bool). cond b (Some k) (lookup (same_txn q) closed)) off) (ap (lookup (same_txn q)) same ∙ rest off)
+    other off (inr (same, put)) = joined off (ap (lookup (same_txn q)) same)
+        (put q ∙ ap (λ (b : Bool). cond b (Some new) (lookup (same_txn q) taken)) off ∙ rest off)

@@ -1,5 +1,5 @@
 -- What is known of a transaction from its records so far.
-use Rattle.std.specs.Prelude.{◌≡◌, ℕ, true, false, if◌then◌else◌, List, Option, None, Some, slice_get, take}
+use Rattle.std.specs.Prelude.{◌≡◌, ◌⊎◌, ℕ, true, false, cond, if◌then◌else◌, List, Option, None, Some, slice_get, take}
 use Rattle.std.specs.List.{list_any}
 use Rattle.std.specs.Map.{lookup}
 use Rattle.sd_base.specs.declared.ids.TxnId.{TxnId}
@@ -54,15 +54,23 @@ abbrev pub Judged : ℕ → Type 0 → Option ℕ → Type 0
 Judged at may None = may
 Judged at may (Some k) = (k ≡ at) × (may → ⊥)
 
--- what a table has of t; a transaction without a record has no row
-abbrev pub TellsOf : List Placed → List Rec → TxnId → Option Seen → Type 0
-TellsOf log xs t None = list_any (of_txn t) xs ≡ false
-TellsOf log xs t (Some seen) = Tells log xs t seen
+-- What is kept of t: the index of the record that closed it, or what is seen of it; nothing of a transaction without a record.
+abbrev pub TellsOf : List Placed → List Rec → TxnId → Option ℕ → Option Seen → Type 0
+TellsOf log xs t (Some k) row = IsFirstEnd xs t k × (row ≡ None)
+TellsOf log xs t None None = list_any (of_txn t) xs ≡ false
+TellsOf log xs t None (Some seen) = Tells log xs t seen
 
--- what a table has of each transaction
-abbrev pub TellsAll : List Placed → List Rec → List (TxnId × Seen) → Type 0
-TellsAll log xs rows = (t : TxnId) → TellsOf log xs t (lookup (same_txn t) rows)
+-- what is kept of each transaction
+abbrev pub TellsAll : List Placed → List Rec → List (TxnId × ℕ) → List (TxnId × Seen) → Type 0
+TellsAll log xs closed rows = (t : TxnId) → TellsOf log xs t (lookup (same_txn t) closed) (lookup (same_txn t) rows)
 
 -- what is told of other transactions than t is told with more records
 abbrev pub OthersStay : List Placed → TxnId → List Rec → List Rec → Type 0
-OthersStay log t xs ys = (u : TxnId) (row : Option Seen) → same_txn t u ≡ false → TellsOf log xs u row → TellsOf log ys u row
+OthersStay log t xs ys = (u : TxnId) (k : Option ℕ) (row : Option Seen) → same_txn t u ≡ false → TellsOf log xs u k row → TellsOf log ys u k row
+
+-- what is seen of t, which has a record, is kept where nothing of it was
+abbrev pub Keeps : TxnId → Seen → List (TxnId × ℕ) → List (TxnId × Seen) → List (TxnId × ℕ) → List (TxnId × Seen) → Type 0
+Keeps t seen closed rows closed' rows' =
+    ((k : ℕ) × (seen.closed ≡ Some k) × (rows' ≡ rows)
+    × ((q : TxnId) → lookup (same_txn q) closed' ≡ cond (same_txn t q) (Some k) (lookup (same_txn q) closed)))
+    ⊎ ((closed' ≡ closed) × ((q : TxnId) → lookup (same_txn q) rows' ≡ cond (same_txn t q) (Some seen) (lookup (same_txn q) rows)))

@@ -17,6 +17,7 @@
 //! - frozen: nothing
 #![tactic(auto)]
 
+mod closed;
 mod losers;
 mod owing;
 mod seen;

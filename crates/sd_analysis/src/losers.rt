@@ -8,12 +8,10 @@ ghost use Rattle.sd_analysis.specs.Misplaced.{IsLeast};
 ghost use Rattle.sd_analysis.specs.Seen.{TellsAll};
 ghost use Rattle.sd_analysis.specs.declared.losers.AnalysisError.TheVariants as F;
 
-use crate::seen::Seen;
-use crate::table::{least, note_run};
+use crate::table::{Known, least, note_run};
 use sd_base::{Lsn, Memory, Sequence, TxnId};
 use sd_log::Placed;
 use std::alloc::{AllocFailed, Global};
-use std::collections::BTreeMap;
 
 /// A transaction without a Commit or End: what it has open, by the indices of the records in their log, the top last; and the
 /// LSNs of its first and last record.
@@ -67,13 +65,13 @@ pub fn analyse(alloc: Global, log: &[Placed]) -> Result<Losers, AnalysisError>
     ensures place { (at : ℕ) → result ≡ Err (F.Disorder at) → at < length log.now }
     ensures first { (at : ℕ) → result ≡ Err (F.Disorder at) → IsFirstMisplaced (flats log.now) at }
 {
-    let mut table = BTreeMap::new(alloc);
+    let mut known = Known::new(alloc);
     let mut worst = None;
     let mut at = 0;
     while at < log.len() {
-        (at, worst) = note_run(alloc, &mut table, log, at, worst)?;
+        (at, worst) = note_run(alloc, &mut known, log, at, worst)?;
     }
-    losers_of(alloc, log, table, worst)
+    losers_of(alloc, log, known, worst)
 }
 
 // Those that aren't closed, once the whole log is noted, and `worst` is the least index that is misplaced so far. One whose
@@ -81,10 +79,10 @@ pub fn analyse(alloc: Global, log: &[Placed]) -> Result<Losers, AnalysisError>
 fn losers_of(
     alloc: Global,
     log: &[Placed],
-    table: BTreeMap<TxnId, Seen>,
+    known: Known,
     worst: Option<usize>,
 ) -> Result<Losers, AnalysisError>
-    requires known { TellsAll log.now (flats log.now) table.entries }
+    requires known { TellsAll log.now (flats log.now) known.closed known.rows.entries }
     requires least { IsLeast (flats log.now) worst }
     ensures in_order { OnOk result (AreTidy log.now) }
     ensures losers { IfOk result (AreLosers log.now) }
@@ -92,7 +90,7 @@ fn losers_of(
 {
     let mut losers = Vec::new(alloc);
     let mut worst = worst;
-    for (txn, seen) in table {
+    for (txn, seen) in known.rows {
         if seen.closed.is_some() {
             continue;
         }

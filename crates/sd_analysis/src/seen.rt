@@ -77,6 +77,13 @@ impl Seen {
         }
     }
 
+    /// The index of the record that closed it.
+    pub(crate) fn end(&self) -> Option<usize>
+        ensures { result ≡ self.now.closed }
+    {
+        self.closed
+    }
+
     /// The index of its first record, where that isn't the first that it wrote.
     pub(crate) fn late(&self) -> Option<usize>
         ensures { MatchOption result (self.now.first_prev ≡ 0) (λ k. (k ≡ self.now.first) × (self.now.first_prev ≢ 0)) }

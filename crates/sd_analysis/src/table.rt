@@ -1,12 +1,13 @@
-//! What the records so far tell of each transaction, by a map.
+//! What the records so far tell of each transaction.
 
-ghost use Rattle.std.specs.Prelude.{◌≡◌, ◌⊎◌, ℕ, ◌+◌, ◌<◌, ◌≤◌, length, take, cond, None, Some, IfOk, true};
+ghost use Rattle.std.specs.Prelude.{◌≡◌, ◌⊎◌, ℕ, ◌+◌, ◌<◌, ◌≤◌, [], length, take, cond, None, Some, IfOk, OnOk, true};
 ghost use Rattle.sd_log.specs.Logs.{flats};
 ghost use Rattle.sd_logrec.specs.View.{flat};
 ghost use Rattle.sd_chain.specs.Order.{speaks};
 ghost use Rattle.sd_analysis.specs.Misplaced.{Covers, IsLeast};
-ghost use Rattle.sd_analysis.specs.Seen.{OthersStay, Tells, TellsAll};
+ghost use Rattle.sd_analysis.specs.Seen.{Keeps, OthersStay, Tells, TellsAll};
 
+use crate::closed::Closed;
 use crate::seen::{Seen, prev_of};
 use sd_base::{Memory, TxnId};
 use sd_log::Placed;
@@ -14,33 +15,68 @@ use sd_logrec::Record;
 use std::alloc::Global;
 use std::collections::BTreeMap;
 
+/// What the records so far tell of each transaction: those that are closed, as far as they were closed in rising order, and what
+/// is seen of each other one.
+#[derive(Drop)]
+pub(crate) struct Known {
+    pub(crate) closed: Closed,
+    pub(crate) rows: BTreeMap<TxnId, Seen>,
+}
+
+impl Known {
+    /// Before the first record.
+    pub(crate) fn new(alloc: Global) -> Known
+        ensures closed { result.closed ≡ [] }
+        ensures rows { result.rows.entries ≡ [] }
+    {
+        Known {
+            closed: Closed::new(alloc),
+            rows: BTreeMap::new(alloc),
+        }
+    }
+
+    // Keeps what is seen of a transaction of which nothing is kept.
+    fn keep(&mut self, txn: TxnId, seen: Seen) -> Result<(), Memory>
+        ensures { OnOk result (Keeps txn seen self.old.closed self.old.rows.entries self.new.closed self.new.rows.entries) }
+    {
+        if self.closed.put(&txn, seen.end())? {
+            return Ok(());
+        }
+        self.rows.insert(txn, seen)?;
+        Ok(())
+    }
+}
+
 /// Takes note of the records from this index on that speak of one transaction: the index behind them, and the least index
 /// that is misplaced so far.
 pub(crate) fn note_run(
     alloc: Global,
-    table: &mut BTreeMap<TxnId, Seen>,
+    known: &mut Known,
     log: &[Placed],
     at: usize,
     worst: Option<usize>,
 ) -> Result<(usize, Option<usize>), Memory>
     requires inside { at < length log.now }
-    requires known { TellsAll log.now (flats (take at log.now)) table.old.entries }
+    requires known { TellsAll log.now (flats (take at log.now)) known.old.closed known.old.rows.entries }
     requires least { IsLeast (flats (take at log.now)) worst }
     ensures further { IfOk result (λ r. at < r.0) }
     ensures inside { IfOk result (λ r. r.0 ≤ length log.now) }
-    ensures known { IfOk result (λ r. TellsAll log.now (flats (take r.0 log.now)) table.new.entries) }
+    ensures known { IfOk result (λ r. TellsAll log.now (flats (take r.0 log.now)) known.new.closed known.new.rows.entries) }
     ensures least { IfOk result (λ r. IsLeast (flats (take r.0 log.now)) r.1) }
 {
     let rec = &log[at].rec;
     let Some(txn) = txn_of(rec) else {
         return Ok((at + 1, worst));
     };
-    let seen = table
-        .entry(txn)?
-        .or_insert(Seen::new(alloc, at, prev_of(rec)));
+    if let Some(end) = known.closed.find(&txn) {
+        return Ok((at + 1, least(worst, Some(end))));
+    }
+    let fresh = Seen::new(alloc, at, prev_of(rec));
+    let mut seen = known.rows.remove(&txn).unwrap_or(fresh);
     let found = seen.misplaced(log, at, rec);
     seen.note(at, rec)?;
-    let (next, worst) = note_rest(seen, log, at + 1, &txn, least(worst, found))?;
+    let (next, worst) = note_rest(&mut seen, log, at + 1, &txn, least(worst, found))?;
+    known.keep(txn, seen)?;
     Ok((next, worst))
 }
 

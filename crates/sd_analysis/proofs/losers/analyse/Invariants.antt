@@ -7,7 +7,7 @@ use Rattle.sd_analysis.proofs.losers.analyse.Given as goal
 abbrev pub invariant-loop-at : goal.invariant-loop-at
 invariant-loop-at l = record {
   inside : l.at ≤ length l.log;
-  known : TellsAll l.log (flats (take l.at l.log)) l.table.entries;
+  known : TellsAll l.log (flats (take l.at l.log)) l.known.closed l.known.rows.entries;
   least : IsLeast (flats (take l.at l.log)) l.worst;
 }
 

@@ -9,15 +9,15 @@ use Rattle.sd_analysis.proofs.losers.losers_of.Goals as goal
 pub loop-txn-init : goal.loop-txn-init
 loop-txn-init c =
     let log = c.args.log.now in
-    let rows = c.args.table.entries in
+    let rows = c.args.known.rows.entries in
     let gives = c.into_iter-txn-iterator.ensures.into_iter_gives in
     subst (λ (left : List Row). Ending log rows left c.new-losers.result.items c.args.worst) (sym gives.0)
-    (subst (λ (losers : List Loser). Ending log rows rows losers c.args.worst) (sym c.new-losers.ensures.items) (ending_start log rows c.args.worst gives.5 c.requires.known c.requires.least))
+    (subst (λ (losers : List Loser). Ending log rows rows losers c.args.worst) (sym c.new-losers.ensures.items) (ending_start log c.args.known.closed rows c.args.worst gives.5 c.requires.known c.requires.least))
 
 pub loop-txn-preserved-then-is_some : goal.loop-txn-preserved-then-is_some
 loop-txn-preserved-then-is_some c =
     let log = c.args.log.now in
-    let rows = c.args.table.entries in
+    let rows = c.args.known.rows.entries in
     let row : Row = (c.in-Some.txn, c.in-Some.seen) in
     ending_shut log rows c.next.new.self row c.loop-txn.losers.items c.loop-txn.worst
     (subst (λ (left : List Row). Ending log rows left c.loop-txn.losers.items c.loop-txn.worst) c.in-Some.ensures.steps c.loop-txn.invariant) (sym c.is_some.ensures ∙ c.if-is_some.true)
@@ -25,7 +25,7 @@ loop-txn-preserved-then-is_some c =
 pub loop-txn-preserved : goal.loop-txn-preserved
 loop-txn-preserved c =
     let log = c.args.log.now in
-    let rows = c.args.table.entries in
+    let rows = c.args.known.rows.entries in
     let row : Row = (c.in-Some.txn, c.in-Some.seen) in
     let ending = subst (λ (left : List Row). Ending log rows left c.loop-txn.losers.items c.loop-txn.worst) c.in-Some.ensures.steps
     c.loop-txn.invariant in
@@ -41,29 +41,29 @@ loop-txn-preserved c =
 pub returns-in-Some-worst-clause-first : goal.returns-in-Some-worst-clause-first
 returns-in-Some-worst-clause-first c at is =
     let log = c.args.log.now in
-    let rows = c.args.table.entries in
+    let rows = c.args.known.rows.entries in
     let left : c.loop-txn.txn-iterator ≡ [] = search rules in
     let ending = subst (λ (left : List Row). Ending log rows left c.loop-txn.losers.items c.loop-txn.worst) left c.loop-txn.invariant in
     let same : c.in-Some-worst.at ≡ at = cc in
     subst (IsFirstMisplaced (flats log)) same
     (first_of_all (flats log) c.loop-txn.worst c.in-Some-worst.at c.in-Some-worst.is ending.hit
-    (all_covered log rows c.loop-txn.worst c.requires.known ending.off (ending_all log rows c.loop-txn.losers.items c.loop-txn.worst ending).1))
+    (all_covered log c.args.known.closed rows c.loop-txn.worst c.requires.known ending.off (ending_all log rows c.loop-txn.losers.items c.loop-txn.worst ending).1))
 
-pub returns-in-None-worst-clause-in_order : goal.returns-in-None-worst-clause-in_order
-returns-in-None-worst-clause-in_order c =
+pub returns-clause-in_order : goal.returns-clause-in_order
+returns-clause-in_order c =
     let log = c.args.log.now in
-    let rows = c.args.table.entries in
+    let rows = c.args.known.rows.entries in
     let left : c.loop-txn.txn-iterator ≡ [] = search rules in
     let ending = subst (λ (left : List Row). Ending log rows left c.loop-txn.losers.items c.loop-txn.worst) left c.loop-txn.invariant in
     none_at_all (flats log) c.loop-txn.worst c.in-None-worst.is
-    (all_covered log rows c.loop-txn.worst c.requires.known ending.off (ending_all log rows c.loop-txn.losers.items c.loop-txn.worst ending).1)
+    (all_covered log c.args.known.closed rows c.loop-txn.worst c.requires.known ending.off (ending_all log rows c.loop-txn.losers.items c.loop-txn.worst ending).1)
 
-pub returns-in-None-worst-clause-losers : goal.returns-in-None-worst-clause-losers
-returns-in-None-worst-clause-losers c =
+pub returns-clause-losers : goal.returns-clause-losers
+returns-clause-losers c =
     let log = c.args.log.now in
-    let rows = c.args.table.entries in
+    let rows = c.args.known.rows.entries in
     let left : c.loop-txn.txn-iterator ≡ [] = search rules in
     let all = ending_all log rows c.loop-txn.losers.items c.loop-txn.worst
     (subst (λ (left : List Row). Ending log rows left c.loop-txn.losers.items c.loop-txn.worst) left c.loop-txn.invariant) in
     subst (AreLosers log) (sym (c.of-in-None-worst.ensures ∙ all.0))
-    (all_losers log rows c.into_iter-txn-iterator.ensures.into_iter_gives.5 c.requires.known)
+    (all_losers log c.args.known.closed rows c.into_iter-txn-iterator.ensures.into_iter_gives.5 c.requires.known)
