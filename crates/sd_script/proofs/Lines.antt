@@ -1,45 +1,19 @@
 -- The first line of a text. It serves the goals of text.rt.
-use Rattle.std.proofs.Common.{◌≡◌, ◌==◌, Bool, true, false, cond, ℕ, ◌+◌, ◌-◌, ◌<◌, ◌≤◌, List, [], ◌∷◌, length, take, drop, Some, None, refl, sym, ap, ◌∙◌, arith, ⊎_elim, length-drop, nat_lt}
-use Rattle.std.proofs.lemmas.Bool.{cases_lt, cond-true, cond-false, lt-ltb, le-ltb, ne_eqb}
-use Rattle.std.proofs.lemmas.List.{take_all}
+use Rattle.std.proofs.Common.{◌≡◌, ◌==◌, Bool, false, ℕ, ◌+◌, ◌-◌, ◌<◌, List, [], ◌∷◌, length, take, drop, Some, None, sym, ap, ◌∙◌, arith}
+use Rattle.std.proofs.lemmas.Bool.{cond-false, ne_eqb}
 use Rattle.std.proofs.lemmas.List.Splits.{slice_split_first, slice_split_none}
 use Rattle.std.proofs.lemmas.List.Sums.{fails_before_first}
 use Rattle.std.specs.Prelude.{position}
-use Rattle.std.specs.List.{slice_split, onto_first, position_or_len}
+use Rattle.std.specs.List.{slice_split, position_or_len}
 use Rattle.sd_script.specs.Text.{less_empty_last, lines_of}
+use Rattle.sd_forms.proofs.Parting.{found_at, not_found, rest_of, some_part}
 
 abbrev is_feed : ℕ → Bool
 is_feed b = b == 10
 
-some_part_if : (test : Bool) (b : ℕ) (all : List (List ℕ)) (first : List ℕ) (parts : List (List ℕ)) → all ≡ first ∷ parts → (x : List ℕ) × (xs : List (List ℕ)) × (cond {A = List (List ℕ)} test ([] ∷ all) (onto_first b all) ≡ x ∷ xs)
-some_part_if true b all first parts e = ([], all, refl)
-some_part_if false b all first parts e = (b ∷ first, parts, ap (onto_first b) e)
-
--- a text has a part, also where it is empty
-pub some_part : (p : ℕ → Bool) (text : List ℕ) → (first : List ℕ) × (parts : List (List ℕ)) × (slice_split p text ≡ first ∷ parts)
-some_part p [] = ([], [], refl)
-some_part p (b ∷ text) = let rest = some_part p text in some_part_if (p b) b (slice_split p text) rest.0 rest.1 rest.2
-
 with_line : (line text : List ℕ) (first : List ℕ) (parts : List (List ℕ)) → slice_split is_feed text ≡ first ∷ parts → less_empty_last (line ∷ slice_split is_feed text) ≡ line ∷ lines_of text
 with_line line text first parts e =
     ap (λ (l : List (List ℕ)). less_empty_last (line ∷ l)) e ∙ ap (λ (l : List (List ℕ)). line ∷ less_empty_last l) (sym e)
-
-pub found_at : (p : ℕ → Bool) (text : List ℕ) (i : ℕ) → position p text ≡ Some i → (position_or_len p text < length text) × (position_or_len p text ≡ i)
-found_at p text i e =
-    ⊎_elim
-    (λ lt. let is : Some (position_or_len p text) ≡ Some i = sym (cond-true (nat_lt (position_or_len p text) (length text)) (Some (position_or_len p text)) None (lt-ltb (position_or_len p text) (length text) lt)) ∙ e in (lt, cc))
-    (λ ge. let is : None ≡ Some i = sym (cond-false (nat_lt (position_or_len p text) (length text)) (Some (position_or_len p text)) None (le-ltb (position_or_len p text) (length text) ge)) ∙ e in absurd (cc))
-    (cases_lt (position_or_len p text) (length text))
-
-pub not_found : (p : ℕ → Bool) (text : List ℕ) → position p text ≡ None → length text ≤ position_or_len p text
-not_found p text e =
-    ⊎_elim
-    (λ lt. let is : Some (position_or_len p text) ≡ None = sym (cond-true (nat_lt (position_or_len p text) (length text)) (Some (position_or_len p text)) None (lt-ltb (position_or_len p text) (length text) lt)) ∙ e in absurd (cc))
-    (λ ge. ge)
-    (cases_lt (position_or_len p text) (length text))
-
-pub rest_of : (text : List ℕ) (i : ℕ) → take (length text - i) (drop i text) ≡ drop i text
-rest_of text i = take_all (length text - i) (drop i text) (omega (arith, length-drop i text))
 
 pub line_to_feed : (text : List ℕ) (i : ℕ) → position is_feed text ≡ Some i → lines_of text ≡ take i text ∷ lines_of (take (length text - (i + 1)) (drop (i + 1) text))
 line_to_feed text i e =

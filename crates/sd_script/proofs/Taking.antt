@@ -1,12 +1,12 @@
 -- Words and the line that is taken of them. It serves the goals of form.rt and reader.rt.
 use Rattle.std.proofs.Common.{◌≡◌, ℕ, ◌+◌, Bool, true, false, List, Option, None, Some, length, refl, sym, ◌∙◌, subst}
-use Rattle.std.specs.Prelude.{Result, Ok, Err, IfOk}
-use Rattle.sd_script.specs.declared.line.Form.{Form}
-use Rattle.sd_script.specs.declared.line.Line.{Line}
-use Rattle.sd_script.specs.Forms.{form_words, IsForm, IsFormOf}
+use Rattle.std.specs.Prelude.{◌↔◌, Result, Ok, Err, IfOk, IsTrue}
+use Rattle.sd_forms.specs.declared.line.Form.{Form}
+use Rattle.sd_forms.specs.declared.line.Line.{Line}
+use Rattle.sd_forms.specs.Forms.{form_words, IsForm, IsFormOf}
 use Rattle.sd_script.specs.Order.{Follows, begun, ordinal_of}
 use Rattle.sd_script.specs.Remembered.{AreOrdinals, FormFits, IsFresh, IsTakenIf, IsTakenOf}
-use Rattle.sd_script.proofs.OneForm.{one_form}
+use Rattle.sd_forms.proofs.OneForm.{one_form}
 use Rattle.sd_script.proofs.Readings.{ordinal_known}
 use Rattle.sd_script.proofs.Remembering.{known_from, ordinals_from, follows_from, fits_from, fresh_from}
 
@@ -47,3 +47,16 @@ taken before after line words (Ok true) took found fits number session = record 
 }
 taken before after line words (Ok false) took found fits number session = λ form is follows e.
     took (fresh_from before line.form (subst (Follows before) (the_form before words form line.form is follows e found) follows))
+
+-- a name that is new was unknown
+pub unknown_if_true : {E U : Type 0} (answer : Result Bool E) → IfOk answer (λ new. IsTrue new ↔ U) → answer ≡ Ok true → U
+unknown_if_true (Ok true) new e = new.0 refl
+unknown_if_true (Ok false) new e = absurd (cc)
+unknown_if_true (Err x) new e = absurd (cc)
+
+-- a line that begins a name again isn't taken, nor is one for which there is no memory
+pub not_taken : {E U : Type 0} (before after : List Line) (line : Line) (answer : Result Bool E) → (answer ≡ Ok true → ⊥)
+    → IfOk answer (λ new. IsTrue new ↔ U) → (IsFresh before line.form → U) → IfOk answer (IsTakenIf before line after)
+not_taken before after line (Ok true) other new unknown = absurd (other refl)
+not_taken before after line (Ok false) other new unknown = λ fresh. let yes : false ≡ true = new.1 (unknown fresh) in absurd (cc)
+not_taken before after line (Err x) other new unknown = tt

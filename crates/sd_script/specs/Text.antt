@@ -1,5 +1,5 @@
--- The lines of a text and the words of a line.
-use Rattle.std.specs.Prelude.{ℕ, ◌+◌, ◌==◌, min, List, [], ◌∷◌, length, take, sum_by, if◌then◌else◌, Option, None, Some}
+-- The lines of a text.
+use Rattle.std.specs.Prelude.{ℕ, ◌+◌, ◌==◌, min, List, [], ◌∷◌, length, take, sum_by, if◌then◌else◌}
 use Rattle.std.specs.List.{slice_split}
 
 -- the parts, less the last where it is empty
@@ -11,15 +11,6 @@ less_empty_last (part ∷ next ∷ parts) = part ∷ less_empty_last (next ∷ p
 -- the lines of a text, without their LFs; behind the last LF stands no line, unless bytes follow it
 abbrev pub lines_of : List ℕ → List (List ℕ)
 lines_of text = less_empty_last (slice_split (λ b. b == 10) text)
-
--- the words of a line, parted at each space
-abbrev pub words_of : List ℕ → List (List ℕ)
-words_of line = slice_split (λ b. b == 32) line
-
--- the words of what follows a word and its space, if that is there
-abbrev pub words_behind : Option (List ℕ) → List (List ℕ)
-words_behind None = []
-words_behind (Some rest) = words_of rest
 
 -- how many bytes of the text its first n lines take, their LFs included
 abbrev pub end_of : List ℕ → ℕ → ℕ

@@ -1,24 +1,18 @@
 //! From the words of a line to the reader, which takes it. A line is an instance's, whose first word is its number, or a verb's.
 
-ghost use Rattle.std.specs.Prelude.{◌≢◌, ℕ, ◌<◌, ◌∷◌, [], List, Option, codes, length, IfOk};
+ghost use Rattle.std.specs.Prelude.{◌<◌, ◌∷◌, [], length, IfOk};
 ghost use Rattle.std.specs.Fmt.{decimal};
 ghost use Rattle.std.specs.Option.{option_copied};
-ghost use Rattle.sd_script.specs.Forms.{IsFormOf, IsInst, IsNoInst};
-ghost use Rattle.sd_script.specs.Known.{known};
+ghost use Rattle.sd_forms.specs.Forms.{IsInst, IsNoInst};
 ghost use Rattle.sd_script.specs.Remembered.{IsTakenOf};
-ghost use Rattle.sd_script.specs.Text.{words_of, words_behind};
+ghost use Rattle.sd_forms.specs.Words.{words_of, words_behind};
 
-use crate::Form;
-use crate::inst_forms::{ask_of, evict_of, flush_of, force_of, give_of, take_of};
-use crate::names::Names;
-use crate::parts::{capacity_of, inst_of};
 use crate::reader::Reader;
-use crate::verb_forms::{
-    back_of, complex_of, delete_of, fail_all_of, fail_of, fault_of, fuse_of, insert_of, join_of,
-    lone_of, recover_of, rollback_of, save_of, where_of,
-};
-use crate::word::{first_word, is_add, is_begin, is_commit, is_insert, is_read, is_write};
 use sd_base::{InstNo, Memory};
+use sd_forms::{
+    ask_of, complex_of, first_word, five_of_verb, force_of, inst_of, is_add, is_begin, is_commit,
+    is_insert, is_read, is_write, lone_of, three_of_inst, three_of_verb, two_of_verb,
+};
 use std::alloc::Global;
 
 /// Takes the line of these bytes, if it may come next, and tells whether it did.
@@ -79,25 +73,6 @@ fn take_three_of_inst(
     }
 }
 
-// The form of three words of an instance's line that isn't a begin line.
-fn three_of_inst(inst: InstNo, verb: &[u8], word: &[u8]) -> Option<Form>
-    requires inst { IsInst inst }
-    requires verb { verb.now ≢ codes "begin" }
-    ensures { (known : List ℕ → Option ℕ) → IsFormOf known (decimal inst ∷ verb.now ∷ word.now ∷ []) result }
-{
-    if verb == b"give".as_slice() {
-        give_of(inst, word)
-    } else if verb == b"take".as_slice() {
-        take_of(inst, word)
-    } else if verb == b"evict".as_slice() {
-        evict_of(inst, word)
-    } else if verb == b"flush".as_slice() {
-        flush_of(inst, word)
-    } else {
-        None
-    }
-}
-
 // Takes a verb's line, of which this is left.
 fn take_of_verb(
     alloc: Global,
@@ -147,37 +122,6 @@ fn take_two_of_verb(
     reader.take_other(form)
 }
 
-// The form of two words of a verb's line that isn't a commit line.
-#[inline(never)]
-fn two_of_verb(
-    alloc: Global,
-    verb: &[u8],
-    word: &[u8],
-    begun: &Names,
-) -> Result<Option<Form>, Memory>
-    requires verb { IsNoInst verb.now }
-    requires other { verb.now ≢ codes "commit" }
-    ensures { IfOk result (IsFormOf (known begun.now) (verb.now ∷ word.now ∷ [])) }
-{
-    if verb == b"rollback".as_slice() {
-        rollback_of(alloc, word, begun)
-    } else if verb == b"where".as_slice() {
-        Ok(where_of(word))
-    } else if verb == b"fail".as_slice() {
-        Ok(fail_of(word))
-    } else if verb == b"fuse".as_slice() {
-        Ok(fuse_of(word))
-    } else if verb == b"fault".as_slice() {
-        Ok(fault_of(word))
-    } else if verb == b"recover".as_slice() {
-        Ok(recover_of(word))
-    } else if verb == b"join".as_slice() {
-        Ok(join_of(word))
-    } else {
-        Ok(None)
-    }
-}
-
 fn take_three_of_verb(
     alloc: Global,
     verb: &[u8],
@@ -194,32 +138,6 @@ fn take_three_of_verb(
     }
     let form = three_of_verb(alloc, verb, name, word, reader.names())?;
     reader.take_other(form)
-}
-
-// The form of three words of a verb's line that isn't a read line.
-#[inline(never)]
-fn three_of_verb(
-    alloc: Global,
-    verb: &[u8],
-    name: &[u8],
-    word: &[u8],
-    begun: &Names,
-) -> Result<Option<Form>, Memory>
-    requires verb { IsNoInst verb.now }
-    requires other { verb.now ≢ codes "read" }
-    ensures { IfOk result (IsFormOf (known begun.now) (verb.now ∷ name.now ∷ word.now ∷ [])) }
-{
-    if verb == b"delete".as_slice() {
-        delete_of(alloc, name, word, begun)
-    } else if verb == b"save".as_slice() {
-        save_of(alloc, name, word, begun)
-    } else if verb == b"back".as_slice() {
-        back_of(alloc, name, word, begun)
-    } else if verb == b"fail".as_slice() {
-        Ok(fail_all_of(name, word))
-    } else {
-        Ok(None)
-    }
 }
 
 fn take_four_of_verb(
@@ -263,27 +181,4 @@ fn take_five_of_verb(
 {
     let form = five_of_verb(alloc, verb, name, page, value, capacity, reader.names())?;
     reader.take_other(form)
-}
-
-#[inline(never)]
-fn five_of_verb(
-    alloc: Global,
-    verb: &[u8],
-    name: &[u8],
-    page: &[u8],
-    value: &[u8],
-    capacity: &[u8],
-    begun: &Names,
-) -> Result<Option<Form>, Memory>
-    requires { IsNoInst verb.now }
-    ensures { IfOk result (IsFormOf (known begun.now)
-        (verb.now ∷ name.now ∷ page.now ∷ value.now ∷ capacity.now ∷ [])) }
-{
-    if verb != b"insert".as_slice() {
-        return Ok(None);
-    }
-    let Some(capacity) = capacity_of(capacity, value) else {
-        return Ok(None);
-    };
-    insert_of(alloc, name, page, value, Some(capacity), begun)
 }

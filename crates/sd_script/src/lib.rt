@@ -6,28 +6,20 @@
 //! (`bad`, `exact_bad`); a text has one reading (`one_reading`, `no_bad_script`, `one_bad_line`).
 //! A line of a transaction tells it by the ordinal of its begin line (`Follows`).
 //! Refuses: `BadLine` with the cause `Word`, and `Memory`.
-//! Knows nothing of: what a line does, replies, devices.
-//! Stands on: sd_base.
+//! Knows nothing of: how a form is spelled, what a line does, replies, devices.
+//! Stands on: sd_base, sd_forms.
 //!
 //! To change:
 //! - free: bodies, the reader inside (`reader.rt`)
 //! - dear: the clauses of `Script::read`, `IsScript`
-//! - frozen: the words of the forms (`specs/Forms.antt`)
+//! - frozen: which lines may follow which (`specs/Order.antt`)
 #![tactic(auto)]
 
 mod form;
-mod inst_forms;
 pub mod laws;
-mod line;
-mod names;
-mod newest;
-mod packed;
-mod parts;
 mod reader;
 mod script;
 mod text;
-mod verb_forms;
-mod word;
 
-pub use line::{Form, Line};
 pub use script::{Kind, Script};
+pub use sd_forms::{Form, Line};

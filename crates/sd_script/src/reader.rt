@@ -1,21 +1,19 @@
 //! The reader: the lines so far, and what is needed of them to judge the next.
 
-ghost use Rattle.std.specs.Prelude.{◌≡◌, ℕ, ◌<◌, ◌≤◌, ◌↔◌, ◌∷◌, List, Option, [], codes, length, IsTrue, IfOk, IfErr, OnOk, OnErr};
+ghost use Rattle.std.specs.Prelude.{◌≡◌, ℕ, ◌<◌, ◌≤◌, ◌↔◌, ◌∷◌, List, Option, [], codes, length, true, Ok, IsTrue, IfOk, IfErr, OnOk, OnErr};
+ghost use Rattle.std.specs.Vec.{vec_len, vec_capacity};
 ghost use Rattle.std.specs.Fmt.{decimal};
 ghost use Rattle.sd_base.specs.declared.refusal.Refusal.TheVariants as refusal;
 ghost use Rattle.sd_base.specs.declared.refusal.LineError.TheVariants.{Word};
-ghost use Rattle.sd_script.specs.Forms.{IsForm, IsFormOf, IsInst, IsName};
-ghost use Rattle.sd_script.specs.Known.{known};
+ghost use Rattle.sd_forms.specs.Forms.{IsForm, IsFormOf, IsInst, IsName};
+ghost use Rattle.sd_forms.specs.Known.{known};
 ghost use Rattle.sd_script.specs.Order.{begun, ordinal_of, is_table, insts_of, pages_of, Follows};
 ghost use Rattle.sd_script.specs.Remembered.{known_after, begins_after, insts_after, pages_after, tables_after};
 ghost use Rattle.sd_script.specs.Remembered.{FormFits, IsUnknown, IsFresh, IsTakenIf, IsTakenOf, GoesOn, IsLineRefusedWith};
 
 use crate::form::take_line;
-use crate::inst_forms::begin_of;
-use crate::names::Names;
-use crate::verb_forms::{add_of, commit_of, insert_of, read_of, write_of};
-use crate::{Form, Line};
 use sd_base::{InstNo, LineError, Memory, PageNo, Refusal};
+use sd_forms::{Form, Line, Names, add_of, begin_of, commit_of, insert_of, read_of, write_of};
 use std::alloc::Global;
 use std::marker::Model;
 
@@ -40,8 +38,8 @@ pub(crate) struct Reader {
 
 impl Model for Reader {
     ghost use Rattle.std.specs.Prelude.{List};
-    ghost use Rattle.sd_script.specs.declared.line.Line.{Line};
-    ghost use Rattle.sd_script.specs.Known.{known};
+    ghost use Rattle.sd_forms.specs.declared.line.Line.{Line};
+    ghost use Rattle.sd_forms.specs.Known.{known};
     ghost use Rattle.sd_script.specs.Remembered.{Remembers};
 
     ghost Value = { List Line };
@@ -271,8 +269,7 @@ impl Reader {
         page.get() < self.pages
     }
 
-    // Takes the line behind the others, unless it begins a name again, and tells whether it did. What may find no memory comes
-    // first.
+    // Takes the line behind the others, unless it begins a name again, and tells whether it did.
     #[inline(always)]
     fn take(&mut self, line: Line) -> Result<bool, Memory>
         requires form { IsForm line.form }
@@ -280,17 +277,45 @@ impl Reader {
         requires few { length self.old ≤ 100000 }
         ensures { IfOk result (IsTakenIf self.old line self.new) }
     {
-        self.lines.reserve(1)?;
-        if !begin(&mut self.begun, self.begins, &line.form)? {
-            return Ok(false);
+        let ready = make_ready(&mut self.lines, &mut self.begun, self.begins, &line.form);
+        if !is_ready(&ready) {
+            return ready;
         }
         self.begins = begins_behind(self.begins, &line.form);
         self.insts = insts_behind(self.insts, &line.form);
         self.pages = pages_behind(self.pages, &line.form);
         self.tables = tables_behind(self.tables, &line.form);
-        self.lines.push(line)?;
+        self.lines.push_reserved(line);
         Ok(true)
     }
+}
+
+#[inline(always)]
+fn is_ready(ready: &Result<bool, Memory>) -> bool
+    ensures { IsTrue result ↔ (ready.now ≡ Ok true) }
+{
+    matches!(ready, Ok(true))
+}
+
+// Makes room for one more line of this form, and gives the name that it begins, if it begins one, this ordinal. It tells whether
+// the name had none. Else, and after `Memory`, the lines and the names are as before.
+#[inline(always)]
+fn make_ready(
+    lines: &mut Vec<Line>,
+    names: &mut Names,
+    begins: u32,
+    form: &Form,
+) -> Result<bool, Memory>
+    requires { IsForm form.now }
+    ensures lines { lines.new.items ≡ lines.old.items }
+    ensures room { result ≡ Ok true → vec_len lines.new < vec_capacity lines.new }
+    ensures new { IfOk result (λ new. IsTrue new ↔ IsUnknown (known names.old) form.now) }
+    ensures names { result ≡ Ok true → (name : List ℕ) → IsName name →
+        known names.new name ≡ known_after (known names.old) begins form.now name }
+    ensures same { (result ≡ Ok true → ⊥) → (name : List ℕ) → known names.new name ≡ known names.old name }
+{
+    lines.reserve(1)?;
+    begin(names, begins, form)
 }
 
 fn bad_line(number: u32) -> Refusal

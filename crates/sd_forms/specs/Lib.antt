@@ -1,0 +1,5 @@
+pub mod Words
+pub mod Forms
+pub mod Ordinals
+pub mod Packed
+pub mod Known
