@@ -9,8 +9,8 @@ use Rattle.std.proofs.lemmas.List.{take_more, drop_more, append-nil}
 use Rattle.std.proofs.lemmas.List.Concat.{flat_map-cons}
 use Rattle.std.proofs.lemmas.Grind.{flat_map-append}
 use Rattle.sd_model.specs.declared.event.Entry.{Entry}
-use Rattle.sd_script.specs.declared.line.Line.{Line}
-use Rattle.sd_script.specs.declared.line.Form.{Form}
+use Rattle.sd_forms.specs.declared.line.Line.{Line}
+use Rattle.sd_forms.specs.declared.line.Form.{Form}
 use Rattle.sd_report.specs.Report.{gathered, AreAbove, entries_of, upto, behind, AreFrom}
 
 -- of two numbers that differ the test is false

@@ -8,8 +8,8 @@ use Rattle.std.proofs.lemmas.List.Concat.{flat_map-cons}
 use Rattle.sd_base.specs.Ids.{same_txn}
 use Rattle.sd_model.specs.Booked.{of_lines}
 use Rattle.sd_model.specs.declared.event.Entry.{Entry}
-use Rattle.sd_script.specs.declared.line.Line.{Line}
-use Rattle.sd_script.specs.declared.line.Form.{Form}
+use Rattle.sd_forms.specs.declared.line.Line.{Line}
+use Rattle.sd_forms.specs.declared.line.Form.{Form}
 use Rattle.sd_report.specs.Words.{no_names}
 use Rattle.sd_report.specs.Report.{gathered, given, names_of, report, reported, entries_of, AreAbove, AreFrom}
 use Rattle.sd_report.proofs.LineOrder.{other_line}

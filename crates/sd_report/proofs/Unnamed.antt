@@ -9,10 +9,10 @@ use Rattle.sd_model.specs.declared.event.Event.{Event}
 use Rattle.sd_model.specs.declared.event.Reply.{Reply}
 use Rattle.sd_model.specs.declared.event.Reply.TheVariants as reply
 use Rattle.sd_model.specs.declared.event.Entry.{Entry}
-use Rattle.sd_script.specs.declared.line.Form.{Form}
-use Rattle.sd_script.specs.declared.line.Form.TheVariants as form
-use Rattle.sd_script.specs.declared.line.Line.{Line}
-use Rattle.sd_script.specs.Forms.{pick_word}
+use Rattle.sd_forms.specs.declared.line.Form.{Form}
+use Rattle.sd_forms.specs.declared.line.Form.TheVariants as form
+use Rattle.sd_forms.specs.declared.line.Line.{Line}
+use Rattle.sd_forms.specs.Forms.{pick_word}
 use Rattle.sd_report.specs.Words.{line_of, NamesOf}
 use Rattle.sd_report.specs.Refusals.{refusal_text, tells_txn}
 use Rattle.sd_report.specs.Replies.{no_reply, pulled_text, reply_text, last_text, words_of, behind_words, last_behind_words, behind_all, last_behind_all}

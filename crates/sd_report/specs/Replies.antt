@@ -8,9 +8,9 @@ use Rattle.sd_model.specs.declared.event.Event.{Event}
 use Rattle.sd_model.specs.declared.event.Reply.{Reply}
 use Rattle.sd_model.specs.declared.event.Reply.TheVariants as reply
 use Rattle.sd_model.specs.declared.event.Entry.{Entry}
-use Rattle.sd_script.specs.declared.line.Form.{Form}
-use Rattle.sd_script.specs.declared.line.Form.TheVariants as form
-use Rattle.sd_script.specs.Forms.{rid_word}
+use Rattle.sd_forms.specs.declared.line.Form.{Form}
+use Rattle.sd_forms.specs.declared.line.Form.TheVariants as form
+use Rattle.sd_forms.specs.Forms.{rid_word}
 use Rattle.sd_report.specs.Words.{txn_text, NamesOf}
 use Rattle.sd_report.specs.Places.{place_text}
 use Rattle.sd_report.specs.Refusals.{refusal_text}

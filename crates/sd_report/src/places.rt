@@ -1,6 +1,7 @@
 //! The text of a page's place.
 
-ghost use Rattle.std.specs.Prelude.{◌≡◌, ◌++◌, OnOk};
+ghost use Rattle.std.specs.Prelude.{◌≡◌, ◌++◌, codes, OnOk};
+ghost use Rattle.std.specs.Fmt.{decimal};
 ghost use Rattle.sd_base.specs.Sets.{members};
 ghost use Rattle.sd_report.specs.Places.{insts_text, lsn_text, dirty_text, writer_text, place_text};
 
@@ -53,30 +54,47 @@ fn push_writer(out: &mut Vec<u8>, writer: Option<InstNo>) -> Result<(), Memory>
     }
 }
 
+// The place of a page that is shared.
+fn push_shared(
+    out: &mut Vec<u8>,
+    set: InstSet,
+    writer: Option<InstNo>,
+    lsn: Lsn,
+) -> Result<(), Memory>
+    ensures { OnOk result (out.new.items
+        ≡ out.old.items ++ codes "shared " ++ insts_text (members set.bits) ++ lsn_text lsn ++ writer_text writer) }
+{
+    push_word(out, b"shared ")?;
+    push_insts(out, set)?;
+    push_lsn(out, lsn)?;
+    push_writer(out, writer)
+}
+
+// The place of a page that one instance has, or that moves to it: a word with its space.
+fn push_alone(
+    out: &mut Vec<u8>,
+    word: &[u8],
+    inst: InstNo,
+    dirty: bool,
+    lsn: Lsn,
+) -> Result<(), Memory>
+    ensures { OnOk result (out.new.items ≡ out.old.items ++ word.now ++ decimal inst ++ lsn_text lsn ++ dirty_text dirty) }
+{
+    push_word(out, word)?;
+    push_digits(out, u64::from(inst.get()))?;
+    push_lsn(out, lsn)?;
+    push_dirty(out, dirty)
+}
+
 /// Appends where a page is, with the LSN of its newest version.
 pub fn push_place(out: &mut Vec<u8>, place: &Place, lsn: Lsn) -> Result<(), Memory>
     ensures { OnOk result (out.new.items ≡ out.old.items ++ place_text place.now lsn) }
 {
     match place {
         Place::Free => push_word(out, b"free"),
-        Place::Shared { set, writer } => {
-            push_word(out, b"shared ")?;
-            push_insts(out, *set)?;
-            push_lsn(out, lsn)?;
-            push_writer(out, *writer)
-        }
-        Place::Excl { holder, dirty } => {
-            push_word(out, b"excl ")?;
-            push_digits(out, u64::from(holder.get()))?;
-            push_lsn(out, lsn)?;
-            push_dirty(out, *dirty)
-        }
-        Place::Moving { to, dirty, .. } => {
-            push_word(out, b"moving ")?;
-            push_digits(out, u64::from(to.get()))?;
-            push_lsn(out, lsn)?;
-            push_dirty(out, *dirty)
-        }
+        Place::Shared { set, writer } => push_shared(out, *set, *writer, lsn),
+        Place::Excl { holder, dirty } => push_alone(out, b"excl ", *holder, *dirty, lsn),
+        Place::Moving { to, dirty, .. } => push_alone(out, b"moving ", *to, *dirty, lsn),
         Place::Lost => push_word(out, b"lost"),
     }
 }

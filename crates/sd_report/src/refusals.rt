@@ -1,6 +1,7 @@
 //! The text of each refusal.
 
-ghost use Rattle.std.specs.Prelude.{◌≡◌, ◌-◌, ◌∷◌, ◌++◌, length, take, OnOk};
+ghost use Rattle.std.specs.Prelude.{◌≡◌, ◌-◌, ◌∷◌, ◌++◌, length, take, codes, OnOk};
+ghost use Rattle.std.specs.Fmt.{decimal};
 ghost use Rattle.std.specs.List.{flat_map};
 ghost use Rattle.sd_report.specs.Names.{name_in};
 ghost use Rattle.sd_report.specs.Words.{spelled};
@@ -8,7 +9,7 @@ ghost use Rattle.sd_report.specs.Refusals.{cause_word, refusal_words, page_of, p
 
 use crate::txn_names::TxnNames;
 use crate::words::{push_next, push_number, push_txn_numbers, push_word};
-use sd_base::{Cycle, LineError, Memory, PageNo, Refusal, TxnId};
+use sd_base::{Cycle, InstNo, LineError, Memory, PageNo, Refusal, TxnId};
 use sd_model::Event;
 
 /// The word of what is wrong with a line.
@@ -121,6 +122,31 @@ fn push_cycle(out: &mut Vec<u8>, names: &TxnNames, cycle: &Cycle) -> Result<(), 
     Ok(())
 }
 
+// Appends the page that the event names, and to whom it moves.
+fn push_moving(out: &mut Vec<u8>, event: &Event, to: InstNo) -> Result<(), Memory>
+    ensures { OnOk result (out.new.items ≡ out.old.items ++ page_text (page_of event.now) ++ codes " to" ++ 32 ∷ decimal to) }
+{
+    push_page(out, event)?;
+    push_next(out, b"to")?;
+    push_number(out, u64::from(to.get()))
+}
+
+// Appends where a device is damaged.
+fn push_damage(out: &mut Vec<u8>, dev: u8, at: u64) -> Result<(), Memory>
+    ensures { OnOk result (out.new.items ≡ out.old.items ++ 32 ∷ decimal dev ++ 32 ∷ decimal at) }
+{
+    push_number(out, u64::from(dev))?;
+    push_number(out, at)
+}
+
+// Appends which line is bad, and why.
+fn push_bad_line(out: &mut Vec<u8>, line: u32, cause: LineError) -> Result<(), Memory>
+    ensures { OnOk result (out.new.items ≡ out.old.items ++ 32 ∷ decimal line ++ 32 ∷ cause_word cause) }
+{
+    push_number(out, u64::from(line))?;
+    push_next(out, cause_name(cause))
+}
+
 // Appends what stands behind the words of a refusal of the event.
 fn push_arguments(
     out: &mut Vec<u8>,
@@ -137,19 +163,9 @@ fn push_arguments(
         Refusal::NeedPage { .. } | Refusal::Lost | Refusal::NotAsked | Refusal::Dirty => {
             push_page(out, event)
         }
-        Refusal::MovingTo { to } => {
-            push_page(out, event)?;
-            push_next(out, b"to")?;
-            push_number(out, u64::from(to.get()))
-        }
-        Refusal::Damaged { dev, at } => {
-            push_number(out, u64::from(*dev))?;
-            push_number(out, *at)
-        }
-        Refusal::BadLine { line, cause } => {
-            push_number(out, u64::from(*line))?;
-            push_next(out, cause_name(*cause))
-        }
+        Refusal::MovingTo { to } => push_moving(out, event, *to),
+        Refusal::Damaged { dev, at } => push_damage(out, *dev, *at),
+        Refusal::BadLine { line, cause } => push_bad_line(out, *line, *cause),
         _ => Ok(()),
     }
 }

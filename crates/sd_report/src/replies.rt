@@ -3,7 +3,7 @@
 ghost use Rattle.std.specs.Prelude.{◌≡◌, ◌∷◌, ◌++◌, codes, OnOk};
 ghost use Rattle.std.specs.Fmt.{decimal};
 ghost use Rattle.std.specs.Option.{option_copied};
-ghost use Rattle.sd_script.specs.Forms.{rid_word};
+ghost use Rattle.sd_forms.specs.Forms.{rid_word};
 ghost use Rattle.sd_report.specs.Names.{name_in};
 ghost use Rattle.sd_report.specs.Refusals.{refusal_text};
 ghost use Rattle.sd_report.specs.Replies.{no_reply, began, value_text, found, placed, done, rolled_back, asked, gave, shown, words_of};

@@ -4,8 +4,8 @@ ghost use Rattle.std.specs.Prelude.{◌≡◌, ◌+◌, ◌<◌, ◌≤◌, [], 
 ghost use Rattle.std.specs.List.{flat_map};
 ghost use Rattle.std.specs.Option.{option_copied};
 ghost use Rattle.std.specs.Fmt.{decimal};
-ghost use Rattle.sd_script.specs.declared.line.Form.TheVariants as form;
-ghost use Rattle.sd_script.specs.Forms.{pick_word, rid_word};
+ghost use Rattle.sd_forms.specs.declared.line.Form.TheVariants as form;
+ghost use Rattle.sd_forms.specs.Forms.{pick_word, rid_word};
 ghost use Rattle.sd_report.specs.Names.{name_in};
 ghost use Rattle.sd_report.specs.Words.{line_of, no_names};
 ghost use Rattle.sd_report.specs.Refusals.{refusal_text};

@@ -2,7 +2,7 @@
 
 ghost use Rattle.std.specs.Prelude.{◌≡◌, ◌<◌, [], ◌∷◌, ◌++◌, OnOk};
 ghost use Rattle.std.specs.Fmt.{decimal};
-ghost use Rattle.sd_script.specs.Forms.{rid_word};
+ghost use Rattle.sd_forms.specs.Forms.{rid_word};
 ghost use Rattle.sd_report.specs.Words.{txn_text};
 
 use itoa::Buffer;
@@ -69,12 +69,19 @@ pub fn push_end(out: &mut Vec<u8>) -> Result<(), Memory>
     Ok(())
 }
 
+// Appends a number with a dot behind it.
+fn push_dotted(out: &mut Vec<u8>, n: u64) -> Result<(), Memory>
+    ensures { OnOk result (out.new.items ≡ out.old.items ++ decimal n ++ 46 ∷ []) }
+{
+    push_digits(out, n)?;
+    push_word(out, b".")
+}
+
 /// Appends a record: page, dot, slot.
 pub fn push_rid(out: &mut Vec<u8>, rid: Rid) -> Result<(), Memory>
     ensures { OnOk result (out.new.items ≡ out.old.items ++ rid_word rid) }
 {
-    push_digits(out, u64::from(rid.page.get()))?;
-    push_word(out, b".")?;
+    push_dotted(out, u64::from(rid.page.get()))?;
     push_digits(out, u64::from(rid.slot))
 }
 
@@ -82,9 +89,7 @@ pub fn push_rid(out: &mut Vec<u8>, rid: Rid) -> Result<(), Memory>
 pub fn push_txn_numbers(out: &mut Vec<u8>, txn: TxnId) -> Result<(), Memory>
     ensures { OnOk result (out.new.items ≡ out.old.items ++ txn_text txn) }
 {
-    push_digits(out, u64::from(txn.inst.get()))?;
-    push_word(out, b".")?;
-    push_digits(out, u64::from(txn.epoch))?;
-    push_word(out, b".")?;
+    push_dotted(out, u64::from(txn.inst.get()))?;
+    push_dotted(out, u64::from(txn.epoch))?;
     push_digits(out, u64::from(txn.seq))
 }

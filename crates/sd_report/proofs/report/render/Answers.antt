@@ -1,6 +1,6 @@
 use Rattle.std.proofs.Common.{◌≡◌, ◌++◌, ℕ, List, take, sym, ap, ◌∙◌}
 use Rattle.std.proofs.lemmas.List.{take_all}
-use Rattle.sd_script.specs.declared.line.Line.{Line}
+use Rattle.sd_forms.specs.declared.line.Line.{Line}
 use Rattle.sd_report.specs.Names.{name_in}
 use Rattle.sd_report.specs.Report.{entries_of, gathered, reported}
 use Rattle.sd_report.proofs.LineOrder.{parted_none, parted_more, gathered_more}
