@@ -9,6 +9,11 @@ pub Each-append : {A : Type 0} (P : A → Type 0) (xs ys : List A) → Each P xs
 Each-append P [] ys a b = b
 Each-append P (x ∷ xs) ys a b = (a.0, Each-append P xs ys a.1 b)
 
+-- what holds of all holds of each in a list
+pub Each-all : {A : Type 0} (P : A → Type 0) → ((x : A) → P x) → (xs : List A) → Each P xs
+Each-all P all [] = tt
+Each-all P all (x ∷ xs) = (all x, Each-all P all xs)
+
 pub Each-front : {A : Type 0} (P : A → Type 0) (xs ys : List A) → Each P (xs ++ ys) → Each P xs
 Each-front P [] ys a = tt
 Each-front P (x ∷ xs) ys a = (a.0, Each-front P xs ys a.1)

@@ -8,8 +8,8 @@ use Rattle.sd_page.specs.Page.{Page}
 use Rattle.sd_pagelock.specs.Asks.{is_open_ask, open_asks}
 use Rattle.sd_pagelock.specs.declared.queue.Ask.{Ask}
 use Rattle.sd_pagelock.specs.Directory.{DirectoryState, asks_at, entry_at}
-use Rattle.sd_pagelock.specs.Places.{PageEntry}
-use Rattle.sd_pagelock.specs.Rows.{dirtied}
+use Rattle.sd_places.specs.Places.{PageEntry}
+use Rattle.sd_places.specs.Rows.{dirtied}
 use Rattle.sd_sound.specs.Logs.{kept_logs}
 use Rattle.sd_state.specs.Values.{rid_of}
 use Rattle.std.proofs.Common.{◌≢◌, ◌⊎◌, ap₂, inl, inr}

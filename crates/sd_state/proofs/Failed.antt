@@ -16,10 +16,10 @@ use Rattle.sd_chain.specs.Bytes.{disk_page}
 use Rattle.sd_chain.specs.Images.{Keeps}
 use Rattle.sd_coherent.specs.Changes as changes_law
 use Rattle.sd_chain.specs.Laws.{May}
-use Rattle.sd_pagelock.specs.Places.{PageEntry}
-use Rattle.sd_pagelock.specs.Rows.{dirtied}
-use Rattle.sd_pagelock.proofs.Members.{not_both}
-use Rattle.sd_pagelock.proofs.Uses
+use Rattle.sd_places.specs.Places.{PageEntry}
+use Rattle.sd_places.specs.Rows.{dirtied}
+use Rattle.sd_places.proofs.Members.{not_both}
+use Rattle.sd_places.proofs.Uses
 use Rattle.sd_coherent.specs.Coherent.{Coherent, Quiet}
 use Rattle.sd_coherent.specs.Forces.{failing}
 use Rattle.sd_coherent.specs.Named.{IsNamed}

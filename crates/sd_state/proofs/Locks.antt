@@ -10,9 +10,9 @@ use Rattle.sd_pagelock.specs.declared.queue.Ask.{Ask}
 use Rattle.sd_pagelock.specs.Asks.{is_open_ask}
 use Rattle.sd_pagelock.specs.Directory as directory
 use Rattle.sd_pagelock.specs.Directory.{DirectoryState, asks_at, entry_at, kept_rec, rec_lsn_at}
-use Rattle.sd_pagelock.specs.Places.{PageEntry, changed, is_free}
-use Rattle.sd_pagelock.specs.Rows.{locked}
-use Rattle.sd_pagelock.proofs.Uses.{clean-locked}
+use Rattle.sd_places.specs.Places.{PageEntry, changed, is_free}
+use Rattle.sd_places.specs.Rows.{locked}
+use Rattle.sd_places.proofs.Uses.{clean-locked}
 use Rattle.sd_pool.specs.Buffers as buffers
 use Rattle.sd_pool.specs.Buffers.{Buffers}
 use Rattle.sd_rig.specs.Devices as rig

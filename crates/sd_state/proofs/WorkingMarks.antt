@@ -10,7 +10,7 @@ use Rattle.sd_model.specs.Changes.{mark_of, with_mark}
 use Rattle.sd_model.specs.Words.{same_word}
 use Rattle.sd_txn.specs.Transactions as txns
 use Rattle.sd_state.specs.Tables.{NamedOnce}
-use Rattle.sd_state.proofs.UndoneRows.{word-is}
+use Rattle.sd_state.proofs.Words.{word-is}
 
 abbrev pub Marks : Type 0
 Marks = List (List ℕ × ℕ)

@@ -3,7 +3,7 @@ use Rattle.std.specs.Prelude.{◌≡◌, ℕ, zero, suc, ◌≤◌, false, List,
 use Rattle.sd_base.specs.declared.place.Status.TheVariants as S
 use Rattle.sd_pagelock.specs.Directory as directory
 use Rattle.sd_pagelock.specs.Directory.{asks_at, entry_at, rec_lsn_at}
-use Rattle.sd_pagelock.specs.Places.{PageEntry}
+use Rattle.sd_places.specs.Places.{PageEntry}
 use Rattle.sd_pool.specs.Buffers.{Buffers}
 use Rattle.sd_rig.specs.Devices as rig
 use Rattle.sd_rig.specs.Devices.{LeavesOnly}

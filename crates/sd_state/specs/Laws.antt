@@ -4,7 +4,7 @@ use Rattle.sd_page.specs.Page.{Page}
 use Rattle.sd_log.specs.Forces.{Forces}
 use Rattle.sd_model.specs.State.{State}
 use Rattle.sd_pagelock.specs.Directory.{entry_at}
-use Rattle.sd_pagelock.specs.Places.{holds, owns}
+use Rattle.sd_places.specs.Places.{holds, owns}
 use Rattle.sd_pool.specs.Buffers as buffers
 use Rattle.sd_rig.specs.Devices as rig
 use Rattle.sd_sound.specs.Logs.{Outcomes}

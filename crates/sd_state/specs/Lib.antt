@@ -8,12 +8,8 @@ pub mod Sums
 pub mod Laws
 pub mod Fresh
 pub mod Forcing
-pub mod Opening
 pub mod Recovering
 pub mod Joining
 pub mod Locking
 pub mod Working
-pub mod Changing
 pub mod Sealing
-pub mod Undoing
-pub mod UndoingFor

@@ -49,9 +49,9 @@ impl<G: Rig> Complex<G> {
         self.force_settled(i)
     }
 
-    // Forces a log that is settled, while no fall is due or that of the instance which recovers its instance, by this log. Once it
-    // is forced no fall is due.
-    pub(crate) fn force_settled(&mut self, i: InstNo) -> Result<(), Failed>
+    /// Forces a log that is settled, while no fall is due or that of the instance which recovers its instance, by this log. Once it
+    /// is forced no fall is due. `Failed` comes only where the rig's count of faults rose; a fall is due then.
+    pub fn force_settled(&mut self, i: InstNo) -> Result<(), Failed>
         requires good { (pend : Pending) × (m : State) × Good (G.seen self.old.rig) (G.leaves self.old.rig) pend (parts self.old) m }
         requires now { ForcesNow i (parts self.old) }
         requires settled { is_loose (parts self.old) i ≡ false }

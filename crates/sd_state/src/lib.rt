@@ -4,15 +4,14 @@
 //! stands for (`specs/Images.antt`). `Good` is the invariant (`specs/Good.antt`): the complex is as a state of the serial table
 //! says, with what is under way.
 //! Keeps: nothing but its parts; a state of the serial table is named in clauses alone.
-//! Promises: whatever a crash leaves stands for the serial table's state, and who may update a page is alone with it (`laws.rt`);
-//! a complex on blank devices is good (`fresh`), and so is one over what a reading of settled devices found (`opened`). Each
-//! call that changes a complex keeps it good, for the state of the serial table that its docstring names, and each image since
-//! its begin stands.
+//! Promises: whatever a crash leaves stands for the serial table's state, and who may update a page is alone with it (`laws.rt`).
+//! Each call that changes a complex keeps it good, for the state of the serial table that its docstring names, and each image since
+//! its begin stands. Changes of records, recoveries and openings stand in the crates above: sd_changes, sd_losers, sd_opened.
 //! Refuses: `LogFull` and `LsnEnd` exactly where the sums of the logs say so; `TooManyTxns` exactly; `Failed` only where the rig's
 //! count of faults rose; `Memory`, which changes nothing but by a force.
 //! Knows nothing of: scripts, replies; bytes, but through the crates below.
-//! Stands on: sd_base, sd_model, sd_page, sd_logrec, sd_rig, sd_gate, sd_twin, sd_log, sd_pool, sd_txn, sd_reclock, sd_pagelock,
-//! sd_chain, sd_redo, sd_sound, sd_coherent.
+//! Stands on: sd_base, sd_model, sd_page, sd_logrec, sd_rig, sd_gate, sd_twin, sd_log, sd_pool, sd_txn, sd_reclock, sd_places,
+//! sd_pagelock, sd_chain, sd_redo, sd_sound, sd_coherent.
 //! Lends: in `proofs`, over what a crash may leave, the lemma of each law, and how `Good` goes through a force (Forced, Failed).
 //! Held by the caller: that no fall is due, and that the instance falls which is to fall after a failed force.
 //!
@@ -22,22 +21,15 @@
 //! - frozen: nothing
 #![tactic(auto)]
 
-mod changing;
 mod complex;
 mod ending;
 mod forcing;
-mod fresh;
 mod joining;
 pub mod laws;
 mod lending;
 mod locking;
-mod opening;
-mod recovering;
 mod sealing;
 mod sums;
-mod undoing;
-mod undoing_for;
 mod working;
 
 pub use complex::{Checkpoint, Complex, Due, Shape};
-pub use opening::Found;

@@ -11,8 +11,8 @@ use sd_base::{InstNo, Lsn, Status};
 use std::cmp;
 
 impl<G> Complex<G> {
-    // At or above each LSN of a record or of a page.
-    pub(crate) fn great(&self) -> Lsn
+    /// At or above each LSN of a record or of a page.
+    pub fn great(&self) -> Lsn
         requires shape { IsShape (parts self.now) }
         ensures { result ≡ great_of (parts self.now) }
     {
@@ -40,8 +40,8 @@ impl<G> Complex<G> {
         self.logs[n as usize].last_lsn()
     }
 
-    // The records that all logs owe at most where log i owes so many; 2^64 - 1 where they are more.
-    pub(crate) fn owed_where(&self, i: InstNo, own: u64) -> u64
+    /// The records that all logs owe at most where log i owes so many; 2^64 - 1 where they are more.
+    pub fn owed_where(&self, i: InstNo, own: u64) -> u64
         requires shape { IsShape (parts self.now) }
         ensures { result ≡ min (owed_where i own (parts self.now)) (2 ^ 64 - 1) }
     {
@@ -52,8 +52,8 @@ impl<G> Complex<G> {
         sum
     }
 
-    // At or above what all logs owe at most, without a look at how they stand; 2^64 - 1 where that is more.
-    pub(crate) fn owed_above(&self) -> u64
+    /// At or above what all logs owe at most, without a look at how they stand; 2^64 - 1 where that is more.
+    pub fn owed_above(&self) -> u64
         requires shape { IsShape (parts self.now) }
         ensures { result ≡ min (owed_above (parts self.now)) (2 ^ 64 - 1) }
     {

@@ -4,7 +4,7 @@ use Rattle.sd_txn.specs.Transactions.{Transactions}
 use Rattle.sd_state.specs.Complexes.{parts}
 use Rattle.sd_state.specs.Parts.{Parts, owed_at, txns_at}
 use Rattle.sd_state.specs.Sums.{great_of, owed_where}
-use Rattle.sd_state.proofs.ChangeCalls.{passes}
+use Rattle.sd_state.proofs.Summed.{passes}
 use Rattle.sd_state.proofs.Items.{item-is}
 use Rattle.sd_state.proofs.complex.Complex.lacks_lsns_for.Goals as goal
 

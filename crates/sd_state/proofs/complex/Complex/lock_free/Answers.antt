@@ -1,8 +1,8 @@
 use Rattle.std.proofs.Common.{◌≡◌, ℕ, ◌-◌, ◌≤◌, ap, sym, ◌∙◌, subst, arith, slice_set}
 use Rattle.std.specs.Prelude.{None}
-use Rattle.sd_pagelock.specs.Moves.{IsMove}
-use Rattle.sd_pagelock.specs.Places.{PageEntry, is_free}
-use Rattle.sd_pagelock.specs.Rows.{locked}
+use Rattle.sd_places.specs.Moves.{IsMove}
+use Rattle.sd_places.specs.Places.{PageEntry, is_free}
+use Rattle.sd_places.specs.Rows.{locked}
 use Rattle.sd_pagelock.specs.Directory.{DirectoryState}
 use Rattle.sd_page.specs.Page.{Page}
 use Rattle.sd_pool.specs.Buffers.{Buffers, with_page}
@@ -12,7 +12,7 @@ use Rattle.sd_state.specs.Good.{Good}
 use Rattle.sd_state.specs.Locking.{IsSet, with_place}
 use Rattle.sd_state.specs.Parts.{Parts, pool_at}
 use Rattle.sd_state.proofs.Locks.{locked-good, pool-lent}
-use Rattle.sd_state.proofs.UndoneCalls.{image-unboxed}
+use Rattle.sd_state.proofs.Unboxed.{image-unboxed}
 use Rattle.sd_state.proofs.complex.Complex.lock_free.Goals as goal
 
 pub set-requires-clause-lawful : goal.set-requires-clause-lawful

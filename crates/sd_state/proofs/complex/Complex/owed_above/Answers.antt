@@ -1,7 +1,7 @@
 use Rattle.std.proofs.Common.{◌-◌, ◌^◌}
 use Rattle.sd_state.specs.Complexes.{parts}
 use Rattle.sd_state.specs.Sums.{owes_above}
-use Rattle.sd_state.proofs.ChangeCalls.{next-sum}
+use Rattle.sd_state.proofs.Summed.{next-sum}
 use Rattle.sd_state.proofs.complex.Complex.owed_above.Goals as goal
 
 pub loop-n-preserved : goal.loop-n-preserved

@@ -1,7 +1,7 @@
 use Rattle.std.proofs.Common.{◌-◌, ◌^◌, cond, eqb}
 use Rattle.sd_state.specs.Complexes.{parts}
 use Rattle.sd_state.specs.Sums.{owes_most}
-use Rattle.sd_state.proofs.ChangeCalls.{next-sum}
+use Rattle.sd_state.proofs.Summed.{next-sum}
 use Rattle.sd_state.proofs.complex.Complex.owed_where.Goals as goal
 
 pub loop-n-preserved : goal.loop-n-preserved

@@ -8,7 +8,7 @@ use Rattle.sd_state.specs.Good.{Good}
 use Rattle.sd_state.specs.Parts.{Parts, no_txns, txns_at}
 use Rattle.sd_state.specs.Values.{Pending}
 use Rattle.sd_state.specs.Working.{with_txns}
-use Rattle.sd_state.proofs.ChangeCalls.{table-same}
+use Rattle.sd_state.proofs.SameTables.{table-same}
 use Rattle.sd_state.proofs.Items.{item-same}
 use Rattle.sd_state.proofs.Recovers.{up-there}
 use Rattle.sd_state.proofs.WorkingTurns.{save-good}

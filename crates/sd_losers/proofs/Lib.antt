@@ -1,0 +1,5 @@
+pub mod Deciding
+pub mod RecoverRows
+pub mod Finishing
+pub mod UndoneFor
+pub mod UndoneForCalls
