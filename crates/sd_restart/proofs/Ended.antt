@@ -1,4 +1,4 @@
--- A reading of the nine devices that is ended, and one that is refused: for the goals of read_devices.
+-- A reading of the nine devices that is ended, and one that is refused: for the goals of read_into.
 use Rattle.std.proofs.Common.{◌≡◌, ℕ, ◌<◌, ◌≤◌, List, ◌∷◌, Some, length, map, slice_get, sym, ap, subst}
 use Rattle.std.specs.Prelude.{Err, IfOk, Ok, OnOk, Result}
 use Rattle.sd_base.specs.declared.refusal.Refusal.{Refusal}
@@ -12,7 +12,7 @@ use Rattle.sd_recovered.specs.declared.reading.Opened.{Opened}
 use Rattle.sd_rig.specs.Devices.{DeviceImages, device_len}
 use Rattle.sd_scan.specs.Masters.{said}
 use Rattle.sd_restart.specs.Devices.{images_of}
-use Rattle.sd_restart.specs.Reading.{IsReading}
+use Rattle.sd_found.specs.Reading.{IsReading}
 use Rattle.sd_restart.proofs.Nine.{are-nine}
 
 -- a refusal that names a place is no other

@@ -9,7 +9,7 @@ ghost use Rattle.sd_recovered.specs.Devices.{IsRecovered, devices_of, log_device
 ghost use Rattle.sd_recovered.specs.Reading.{FailsAmong, HasRead, IsUnread, SomeUnread};
 ghost use Rattle.sd_rig.specs.Devices.{IsUnchanged, LeavesOnly, device_len};
 ghost use Rattle.sd_restart.specs.Devices.{Calms, images_of};
-ghost use Rattle.sd_restart.specs.Reading.{IsReading};
+ghost use Rattle.sd_found.specs.Reading.{IsReading};
 
 use sd_base::{Failed, Memory, Refusal};
 use sd_recovered::{Opened, ReadLogs};
@@ -64,11 +64,8 @@ pub fn read_devices<G: Rig>(alloc: Global, rig: &mut G) -> Result<Opened, Refusa
     ensures cause { result ≡ Err R.Failed → Rises (G.faults rig.old) (G.faults rig.new) }
     ensures quiet { result ≢ Err R.Failed → G.faults rig.new ≡ G.faults rig.old }
 {
-    let mut buffer = bytes_of_device(alloc)?;
-    let bytes: &mut [u8] = &mut buffer;
-    let logs = read_logs(alloc, rig, &mut bytes[..LOG_LEN as usize])?;
-    read_device(rig, 0, bytes)?;
-    logs.finish(alloc, bytes)
+    let mut bytes = bytes_of_device(alloc)?;
+    read_into(alloc, rig, &mut bytes)
 }
 
 // As many bytes as the longest device has.
@@ -76,6 +73,25 @@ fn bytes_of_device(alloc: Global) -> Result<Vec<u8>, Memory>
     ensures { IfOk result (λ bytes. length bytes.items ≡ DATA_LEN) }
 {
     Ok(Vec::from_elem(alloc, 0u8, device_len(0) as usize)?)
+}
+
+// The same, into the bytes of the longest device.
+fn read_into<G: Rig>(alloc: Global, rig: &mut G, bytes: &mut [u8]) -> Result<Opened, Refusal>
+    requires { length bytes.old ≡ DATA_LEN }
+    ensures read { IfOk result (IsReading (images_of (G.seen rig.old))) }
+    ensures recovered { IfOk result (λ o. IsRecovered (devices_of (images_of (G.seen rig.old))) o.table) }
+    ensures stays { IsUnchanged (G.seen rig.old) (G.seen rig.new) (G.leaves rig.old) (G.leaves rig.new)
+        (G.moment rig.old) (G.moment rig.new) (G.since rig.old) (G.since rig.new) }
+
+    ensures unsound { (dev at : ℕ) → result ≡ Err (R.Damaged dev at) → DevicesAreSound (devices_of (images_of (G.seen rig.old))) → ⊥ }
+    ensures place { (dev at : ℕ) → result ≡ Err (R.Damaged dev at) → FailsFirstAt (devices_of (images_of (G.seen rig.old))) dev at }
+    ensures refusals { IfErr result (λ e. (e ≡ R.Failed) ⊎ (e ≡ R.Memory) ⊎ ((dev : ℕ) × (at : ℕ) × (e ≡ R.Damaged dev at))) }
+    ensures cause { result ≡ Err R.Failed → Rises (G.faults rig.old) (G.faults rig.new) }
+    ensures quiet { result ≢ Err R.Failed → G.faults rig.new ≡ G.faults rig.old }
+{
+    let logs = read_logs(alloc, rig, &mut bytes[..LOG_LEN as usize])?;
+    read_device(rig, 0, bytes)?;
+    logs.finish(alloc, bytes)
 }
 
 // What the logs of the instances 1 to 8 hold, each device read into these bytes.

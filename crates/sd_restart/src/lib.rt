@@ -8,9 +8,9 @@
 //! before. What stands for a state of the serial table opens to that state's table (`laws.rt`).
 //! Refuses: `Failed` where a device fails, `Memory`, and `Damaged` exactly where the devices aren't sound, with the first place
 //! that fails.
-//! Knows nothing of: events, waits, the number of instances that are to join.
-//! Stands on: sd_base, sd_model, sd_page, sd_logrec, sd_rig, sd_log, sd_txn, sd_reclock, sd_pagelock, sd_chain, sd_scan,
-//! sd_analysis, sd_relist, sd_undone, sd_recovered, sd_newest, sd_coherent, sd_sound, sd_state.
+//! Knows nothing of: events, waits, the number of instances that are to join; how a part is made of what was read.
+//! Stands on: sd_base, sd_model, sd_page, sd_logrec, sd_rig, sd_txn, sd_chain, sd_scan, sd_recovered, sd_sound, sd_state,
+//! sd_opened, sd_found.
 //! Lends: nothing.
 //! Held by the caller: that a pool has a frame, and at most 1,024.
 //!
@@ -20,11 +20,8 @@
 //! - frozen: nothing
 #![tactic(auto)]
 
-mod claims;
 mod devices;
-mod finding;
 pub mod laws;
-mod parts;
 mod restarting;
 
 pub use devices::{read_devices, settle_devices};

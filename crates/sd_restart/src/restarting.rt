@@ -10,16 +10,17 @@ ghost use Rattle.sd_recovered.specs.Devices.{IsRecovered};
 ghost use Rattle.sd_rig.specs.Devices.{LeavesOnly};
 ghost use Rattle.sd_state.specs.Complexes.{parts};
 ghost use Rattle.sd_state.specs.Good.{Good};
-ghost use Rattle.sd_state.specs.Opening.{AreOpened, OpensTo, opened_parts};
+ghost use Rattle.sd_opened.specs.Opening.{AreOpened, OpensTo, opened_parts};
 ghost use Rattle.sd_state.specs.Values.{Pending};
 ghost use Rattle.sd_restart.specs.Devices.{Calms};
 
 use crate::devices::{read_devices, settle_devices};
-use crate::finding::found_of;
 use sd_base::Refusal;
+use sd_found::found_of;
 use sd_model::Table;
+use sd_opened::{Found, opened};
 use sd_rig::Rig;
-use sd_state::{Complex, Found, Shape};
+use sd_state::{Complex, Shape};
 use std::alloc::Global;
 
 /// Opens a complex from nine devices, and answers the table that they stand for: each record as the committed transactions left
@@ -59,7 +60,7 @@ pub fn restart<G: Rig>(
 {
     let mut rig = rig;
     match found_on(alloc, &mut rig) {
-        Ok((found, table)) => match Complex::opened(alloc, rig, shape, found) {
+        Ok((found, table)) => match opened(alloc, rig, shape, found) {
             Ok(c) => Ok((c, table)),
             Err((_, rig)) => Err((Refusal::Memory, rig)),
         },

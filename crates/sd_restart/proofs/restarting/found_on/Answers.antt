@@ -6,7 +6,7 @@ use Rattle.sd_restart.specs.Devices.{AgreeOnNine, images_of}
 use Rattle.sd_restart.proofs.Alike.{sound-same}
 use Rattle.sd_restart.proofs.Calm.{calm-same, calm-then}
 use Rattle.sd_restart.proofs.Failing.{fails-same, opened-same}
-use Rattle.sd_restart.proofs.Found.{apart, eight, found-opens, masters-count, of-losers}
+use Rattle.sd_found.proofs.Found.{apart, eight, found-opens, masters-count, of-losers}
 use Rattle.sd_restart.proofs.Reopened.{agree, left-only, recovered-on, same-devices}
 use Rattle.sd_restart.proofs.restarting.found_on.Goals as goal
 

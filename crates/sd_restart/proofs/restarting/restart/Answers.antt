@@ -1,7 +1,7 @@
 use Rattle.std.proofs.Common.{sym, ap, subst}
 use Rattle.std.specs.Prelude.{Err}
 use Rattle.sd_base.specs.declared.refusal.Refusal.{Refusal}
-use Rattle.sd_state.specs.Opening.{AreOpened, opened_parts}
+use Rattle.sd_opened.specs.Opening.{AreOpened, opened_parts}
 use Rattle.sd_state.specs.Parts.{Parts}
 use Rattle.sd_restart.proofs.Reopened.{opened-still, opens-still}
 use Rattle.sd_restart.proofs.restarting.restart.Goals as goal
