@@ -38,8 +38,8 @@ use Rattle.sd_fits.specs.Fits.{Fits}
 use Rattle.sd_fits.proofs.Looking.{blocked-there, deadlock-there, locks-agree}
 use Rattle.sd_fits.proofs.Served.{bounds-stay, nothing-fits, relocked-good}
 use Rattle.sd_fits.proofs.Taking.{same-on, taken-fits}
-use Rattle.sd_ops.specs.Halves.{HalfServed, IsRewaited, NotesWait}
-use Rattle.sd_ops.proofs.Work.{IsFor, refused-turns, refused_to}
+use Rattle.sd_work.specs.Halves.{HalfServed, IsRewaited, NotesWait}
+use Rattle.sd_work.proofs.Work.{IsFor, refused-turns, refused_to}
 
 -- What is asked of an event whose lock is refused, in a world where another has a conflicting claim.
 pub record MayBlock (wanted : Option Rid) (w : Core) (e : Event) : Type 0 where

@@ -13,14 +13,14 @@ use Rattle.sd_chain.specs.Records.{home}
 use Rattle.sd_chain.proofs.Slots.{value-at}
 use Rattle.sd_rig.specs.Devices.{DeviceImages}
 use Rattle.sd_sound.specs.Logs.{Outcomes}
-use Rattle.sd_state.specs.Changing.{image_for}
+use Rattle.sd_changes.specs.Changing.{image_for}
 use Rattle.sd_state.specs.Good.{Good}
 use Rattle.sd_state.specs.Laws.{newest_of}
 use Rattle.sd_state.specs.Parts.{Parts, pool_at}
 use Rattle.sd_state.specs.Values.{Pending}
 use Rattle.sd_state.proofs.Locks.{pool-lent}
 use Rattle.sd_state.proofs.Standing.{each-copy-is-newest}
-use Rattle.sd_pagelock.specs.Places.{PageEntry, holds, holds_as}
+use Rattle.sd_places.specs.Places.{PageEntry, holds, holds_as}
 
 -- who holds a page in a mode holds it
 pub as-held : (mode : Mode) (e : PageEntry) (i : ℕ) → holds_as mode e i ≡ true → holds e i ≡ true

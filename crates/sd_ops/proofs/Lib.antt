@@ -1,13 +1,7 @@
 pub mod Held
-pub mod Begins
 pub mod Rows
 pub mod Lists
-pub mod Work
-pub mod Ending
-pub mod Commits
-pub mod Underway
 pub mod Used
-pub mod Committing
 pub mod Planning
 pub mod Setting
 pub mod Asking
@@ -20,4 +14,3 @@ pub mod Edited
 pub mod Vacating
 pub mod Filling
 pub mod Filled
-mod Marking

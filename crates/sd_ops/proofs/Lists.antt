@@ -25,7 +25,7 @@ use Rattle.sd_model.specs.declared.event.Reply.TheVariants as reply
 use Rattle.sd_model.proofs.Steps.{list-step}
 use Rattle.sd_page.specs.Page.{Page}
 use Rattle.sd_pagelock.specs.Directory.{entry_at}
-use Rattle.sd_pagelock.specs.Places.{PageEntry, holds, is_lost, seen}
+use Rattle.sd_places.specs.Places.{PageEntry, holds, is_lost, seen}
 use Rattle.sd_pool.specs.Buffers.{Buffers, image_at, used, with_page}
 use Rattle.sd_reclock.specs.Locks.{IsLowestOwner, OwnsIn, held}
 use Rattle.sd_sound.specs.Logs.{Outcomes}

@@ -10,7 +10,7 @@ use Rattle.sd_model.specs.declared.act.Act.{Act}
 use Rattle.sd_model.specs.declared.act.Claim.{Claim}
 use Rattle.sd_model.specs.declared.act.Life.{Life}
 use Rattle.sd_pagelock.specs.Directory.{entry_at}
-use Rattle.sd_pagelock.specs.Places.{PageEntry, holds_as, is_lost, owns}
+use Rattle.sd_places.specs.Places.{PageEntry, holds_as, is_lost, owns}
 use Rattle.sd_reclock.specs.Answers.{IsFree}
 use Rattle.sd_reclock.specs.Locks.{stands, wait_for, waits_in}
 use Rattle.sd_reclock.specs.declared.wait.Asked.{Asked}
@@ -20,7 +20,7 @@ use Rattle.sd_chain.specs.Pages.{value}
 use Rattle.sd_chain.specs.Records.{home}
 use Rattle.sd_world.specs.Bounds.{Bounds}
 use Rattle.sd_world.specs.Serving.{Core}
-use Rattle.sd_state.specs.Changing.{image_for}
+use Rattle.sd_changes.specs.Changing.{image_for}
 use Rattle.sd_state.specs.Parts.{Parts, status_at}
 use Rattle.sd_fits.specs.Fits.{Fits, FitsBounds}
 use Rattle.sd_fits.proofs.Taking.{noted-good, taken-fits, took-on}

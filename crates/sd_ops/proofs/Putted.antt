@@ -18,8 +18,8 @@ use Rattle.sd_model.specs.declared.event.Reply.{Reply}
 use Rattle.sd_model.proofs.Views.{part-here}
 use Rattle.sd_page.specs.Page.{Page}
 use Rattle.sd_pagelock.specs.Directory.{entry_at}
-use Rattle.sd_pagelock.specs.Places.{holds_as, is_lost}
-use Rattle.sd_pagelock.specs.Rows.{dirtied}
+use Rattle.sd_places.specs.Places.{holds_as, is_lost}
+use Rattle.sd_places.specs.Rows.{dirtied}
 use Rattle.sd_reclock.specs.Answers.{IsFree}
 use Rattle.sd_reclock.specs.Locks.{stands, wait_for, waits_in}
 use Rattle.sd_reclock.specs.declared.wait.Asked.{Asked}
@@ -31,7 +31,7 @@ use Rattle.sd_world.specs.Answers.{changes}
 use Rattle.sd_world.specs.Bounds.{Bounds, bounds_after, cost, counts, with_slot}
 use Rattle.sd_world.specs.Pages.{Pages, numbered, page_placed}
 use Rattle.sd_world.specs.Serving.{Core}
-use Rattle.sd_state.specs.Changing.{Change, change_of, changed_log, flat_of, image_for, putting, with_changed}
+use Rattle.sd_changes.specs.Changing.{Change, change_of, changed_log, flat_of, image_for, putting, with_changed}
 use Rattle.sd_state.specs.Good.{Good}
 use Rattle.sd_state.specs.Parts.{Parts, status_at}
 use Rattle.sd_state.specs.Values.{Pending}

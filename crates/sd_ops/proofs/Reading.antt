@@ -19,7 +19,7 @@ use Rattle.sd_model.specs.declared.cause.Cause.{Cause}
 use Rattle.sd_model.specs.declared.event.Event.TheVariants as event
 use Rattle.sd_model.specs.declared.event.Reply.TheVariants as reply
 use Rattle.sd_pagelock.specs.Directory.{entry_at}
-use Rattle.sd_pagelock.specs.Places.{PageEntry, holds, is_lost, seen}
+use Rattle.sd_places.specs.Places.{PageEntry, holds, is_lost, seen}
 use Rattle.sd_reclock.specs.Answers.{IsFree, IsRefused}
 use Rattle.sd_reclock.specs.Locks.{held, raised, stands, wait_for, waits, waits_in}
 use Rattle.sd_reclock.specs.declared.wait.Asked.{Asked}
@@ -31,7 +31,7 @@ use Rattle.sd_txn.specs.Transactions.{state_at}
 use Rattle.sd_txn.specs.declared.state.TxnState.{TxnState}
 use Rattle.sd_world.specs.Bounds.{bounds_after}
 use Rattle.sd_world.specs.Serving.{Core, refused}
-use Rattle.sd_state.specs.Changing.{image_for}
+use Rattle.sd_changes.specs.Changing.{image_for}
 use Rattle.sd_state.specs.Parts.{Parts, status_at, txns_at}
 use Rattle.sd_state.specs.Values.{Pending}
 use Rattle.sd_state.specs.Working.{with_locks}
@@ -41,9 +41,10 @@ use Rattle.sd_fits.proofs.Heads.{is-ready}
 use Rattle.sd_fits.proofs.Served.{bounds-stay}
 use Rattle.sd_fits.proofs.Taking.{noted-good, taken-fits, took-on, turned_to}
 use Rattle.sd_fits.proofs.Values.{copy-seen}
-use Rattle.sd_ops.specs.Halves.{HalfServed, HalfTurns, LacksPage, NotesWait}
+use Rattle.sd_work.specs.Halves.{HalfServed, HalfTurns, NotesWait}
+use Rattle.sd_ops.specs.Copies.{LacksPage}
 use Rattle.sd_ops.proofs.Asking.{MayBlock, asked-half}
-use Rattle.sd_ops.proofs.Work.{IsFor, IsWork, ready-passes, refused-half}
+use Rattle.sd_work.proofs.Work.{IsFor, IsWork, ready-passes, refused-half}
 
 -- a read is of a transaction that must run
 pub read-work : (t : TxnId) (r : Rid) → IsWork (event.Read t r) t

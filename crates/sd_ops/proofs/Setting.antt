@@ -17,7 +17,7 @@ use Rattle.sd_sound.specs.Logs.{Outcomes}
 use Rattle.sd_chain.specs.Records.{home}
 use Rattle.sd_pool.specs.Buffers.{Buffers}
 use Rattle.sd_model.specs.Tables.{Content}
-use Rattle.sd_state.specs.Changing.{IsMade, change_of}
+use Rattle.sd_changes.specs.Changing.{IsMade, change_of}
 use Rattle.sd_state.specs.Working.{with_locks}
 use Rattle.sd_state.proofs.Items.{item-set}
 use Rattle.sd_state.specs.Good.{Good}

@@ -18,7 +18,7 @@ use Rattle.sd_model.specs.declared.cause.Cause.{Cause}
 use Rattle.sd_model.specs.declared.event.Event.{Event}
 use Rattle.sd_model.specs.declared.event.Reply.TheVariants as reply
 use Rattle.sd_pagelock.specs.Directory.{entry_at}
-use Rattle.sd_pagelock.specs.Places.{holds_as, is_lost, owns}
+use Rattle.sd_places.specs.Places.{holds_as, is_lost, owns}
 use Rattle.sd_reclock.specs.Answers.{IsFree}
 use Rattle.sd_reclock.specs.Locks.{stands, wait_for}
 use Rattle.sd_rig.specs.Devices.{DeviceImages}
@@ -29,7 +29,7 @@ use Rattle.sd_txn.specs.Transactions.{state_at}
 use Rattle.sd_txn.specs.declared.state.TxnState.{TxnState}
 use Rattle.sd_world.specs.Bounds.{bounds_after}
 use Rattle.sd_world.specs.Serving.{Core, IsFault, refused}
-use Rattle.sd_state.specs.Changing.{image_for}
+use Rattle.sd_changes.specs.Changing.{image_for}
 use Rattle.sd_state.specs.Parts.{Parts, status_at, txns_at}
 use Rattle.sd_fits.specs.Fits.{Fits}
 use Rattle.sd_fits.proofs.Served.{bounds-stay}
@@ -37,11 +37,11 @@ use Rattle.sd_fits.proofs.Taking.{turned_to}
 use Rattle.sd_ops.specs.declared.edits.Edit.{Edit}
 use Rattle.sd_ops.specs.declared.edits.Edit.TheVariants.{To, By, Gone}
 use Rattle.sd_ops.specs.Edits.{IsLongEdit, IsSpoiled, IsVain, event_of}
-use Rattle.sd_ops.specs.Halves.{HalfServed, noted}
+use Rattle.sd_work.specs.Halves.{HalfServed, noted}
 use Rattle.sd_ops.specs.Puts.{IsGranted}
 use Rattle.sd_ops.proofs.Editing.{from-head, head_causes, ready-here, unlocked}
 use Rattle.sd_ops.proofs.Owning.{looked-fits, not-lost, owned-there, sees}
-use Rattle.sd_ops.proofs.Work.{IsFor, refused-turns, refused_to}
+use Rattle.sd_work.proofs.Work.{IsFor, refused-turns, refused_to}
 
 the-value : (u v : List ℕ) → Some u ≡ Some v → u ≡ v
 the-value u v e = cc

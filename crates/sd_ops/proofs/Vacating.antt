@@ -15,9 +15,9 @@ use Rattle.sd_page.specs.Reading.{entry_place, two_at}
 use Rattle.sd_page.specs.Spelling.{length_word, page_spelling}
 use Rattle.sd_page.proofs.Opened.{slot_at}
 use Rattle.sd_pool.specs.Buffers.{image_at}
-use Rattle.sd_state.specs.Changing.{image_for}
+use Rattle.sd_changes.specs.Changing.{image_for}
 use Rattle.sd_state.specs.Parts.{Parts, pool_at}
-use Rattle.sd_ops.specs.Halves.{LacksPage}
+use Rattle.sd_ops.specs.Copies.{LacksPage}
 use Rattle.sd_ops.specs.Vacancies.{IsDead, IsLongFor, IsVacant, LacksPlace, NoneUsable}
 use Rattle.sd_ops.proofs.Planning.{slot-fits}
 

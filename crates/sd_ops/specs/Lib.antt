@@ -1,4 +1,4 @@
-pub mod Halves
+pub mod Copies
 pub mod Listing
 pub mod Edits
 pub mod Puts

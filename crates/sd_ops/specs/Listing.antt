@@ -6,11 +6,11 @@ use Rattle.sd_base.specs.declared.refusal.Refusal.{Refusal}
 use Rattle.sd_base.specs.declared.refusal.Refusal.TheVariants as R
 use Rattle.sd_page.specs.Page.{Page, Slot, value_at}
 use Rattle.sd_pagelock.specs.Directory.{entry_at}
-use Rattle.sd_pagelock.specs.Places.{holds}
+use Rattle.sd_places.specs.Places.{holds}
 use Rattle.sd_pool.specs.Buffers.{image_at}
 use Rattle.sd_reclock.specs.Locks.{IsLowestOwner}
 use Rattle.sd_state.specs.Parts.{Parts, pool_at}
-use Rattle.sd_ops.specs.Halves.{LacksPage}
+use Rattle.sd_ops.specs.Copies.{LacksPage}
 
 -- the row of a slot, where it has a value
 abbrev pub row_at : ℕ → ℕ → Option (List ℕ) → List (Rid × List ℕ)

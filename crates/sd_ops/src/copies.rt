@@ -5,14 +5,14 @@ ghost use Rattle.sd_base.specs.declared.place.Mode.TheVariants.{Shared};
 ghost use Rattle.sd_chain.specs.Pages.{value};
 ghost use Rattle.sd_model.specs.State.{State};
 ghost use Rattle.sd_pagelock.specs.Directory.{entry_at};
-ghost use Rattle.sd_pagelock.specs.Places.{holds_as};
+ghost use Rattle.sd_places.specs.Places.{holds_as};
 ghost use Rattle.sd_pool.specs.Buffers.{image_at};
-ghost use Rattle.sd_state.specs.Changing.{image_for};
+ghost use Rattle.sd_changes.specs.Changing.{image_for};
 ghost use Rattle.sd_state.specs.Complexes.{parts};
 ghost use Rattle.sd_state.specs.Good.{Good};
 ghost use Rattle.sd_state.specs.Parts.{IsShape, pool_at};
 ghost use Rattle.sd_state.specs.Values.{Pending};
-ghost use Rattle.sd_ops.specs.Halves.{LacksPage};
+ghost use Rattle.sd_ops.specs.Copies.{LacksPage};
 
 use sd_base::{Bytes, InstNo, Memory, Mode, PageNo, Refusal, Rid, TxnId};
 use sd_page::Image;

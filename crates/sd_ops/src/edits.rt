@@ -7,13 +7,13 @@ ghost use Rattle.sd_chain.specs.Pages.{value};
 ghost use Rattle.sd_model.specs.State.{State};
 ghost use Rattle.sd_page.specs.Page.{Page};
 ghost use Rattle.sd_pagelock.specs.Directory.{entry_at};
-ghost use Rattle.sd_pagelock.specs.Places.{holds_as};
-ghost use Rattle.sd_state.specs.Changing.{image_for};
+ghost use Rattle.sd_places.specs.Places.{holds_as};
+ghost use Rattle.sd_changes.specs.Changing.{image_for};
 ghost use Rattle.sd_state.specs.Complexes.{parts};
 ghost use Rattle.sd_state.specs.Good.{Good};
 ghost use Rattle.sd_state.specs.Values.{Pending};
 ghost use Rattle.sd_ops.specs.Edits.{IsFitted, IsLongEdit, IsPlan, IsSumFitted};
-ghost use Rattle.sd_ops.specs.Halves.{LacksPage};
+ghost use Rattle.sd_ops.specs.Copies.{LacksPage};
 
 use crate::copies;
 use itoa::Buffer;

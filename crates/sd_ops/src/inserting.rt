@@ -9,24 +9,24 @@ ghost use Rattle.sd_model.specs.State.{State};
 ghost use Rattle.sd_model.specs.declared.event.Event.TheVariants as event;
 ghost use Rattle.sd_page.specs.Reading.{two_at};
 ghost use Rattle.sd_pagelock.specs.Directory.{entry_at};
-ghost use Rattle.sd_pagelock.specs.Places.{holds_as};
-ghost use Rattle.sd_state.specs.Changing.{image_for};
+ghost use Rattle.sd_places.specs.Places.{holds_as};
+ghost use Rattle.sd_changes.specs.Changing.{image_for};
 ghost use Rattle.sd_state.specs.Complexes.{parts};
 ghost use Rattle.sd_state.specs.Good.{Good};
 ghost use Rattle.sd_state.specs.Values.{Pending};
 ghost use Rattle.sd_world.specs.Serving.{Core, placed_at, telling};
 ghost use Rattle.sd_fits.specs.Fits.{Fits};
 ghost use Rattle.sd_fits.specs.Serving.{Serving};
-ghost use Rattle.sd_ops.specs.Halves.{HalfServed};
+ghost use Rattle.sd_work.specs.Halves.{HalfServed};
 ghost use Rattle.sd_ops.specs.Vacancies.{IsChosen, IsDead, IsFullFor, IsLongFor, IsUsable, IsVacant, LacksPlace, NoneUsable};
 
 use crate::copies::copy;
 use crate::putting::put;
-use crate::waiting::{ask, at_work, end_wait};
 use sd_base::{Bytes, Mode, NO_VALUE, PageNo, Refusal, Rid, TxnId};
 use sd_page::{Image, PAGE_BYTES};
 use sd_rig::Rig;
 use sd_state::Complex;
+use sd_work::{ask, at_work, end_wait};
 
 // A slot for a new record, with its capacity.
 #[derive(Clone, Copy)]

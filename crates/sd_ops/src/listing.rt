@@ -12,13 +12,13 @@ ghost use Rattle.sd_fits.specs.Serving.{Serving};
 ghost use Rattle.sd_ops.specs.Listing.{row_at, rows_below, IsListed, IsUnlisted};
 
 use crate::copies::copy;
-use crate::standing::is_up;
 use sd_base::{Bytes, InstNo, Memory, Mode, PageNo, Refusal, Rid};
 use sd_model::Rows;
 use sd_moves::touch;
 use sd_page::Image;
 use sd_rig::Rig;
 use sd_state::Complex;
+use sd_work::is_up;
 use std::alloc::Global;
 
 /// The records of a page, rising by slot, each with its committed value. The page is used: it is the last that will be evicted.

@@ -5,10 +5,10 @@ ghost use Rattle.sd_base.specs.declared.place.Mode.TheVariants.{Excl};
 ghost use Rattle.sd_base.specs.declared.place.Status.TheVariants as S;
 ghost use Rattle.sd_base.specs.declared.refusal.Refusal.TheVariants as R;
 ghost use Rattle.sd_pagelock.specs.Directory.{entry_at};
-ghost use Rattle.sd_pagelock.specs.Places.{holds_as};
+ghost use Rattle.sd_places.specs.Places.{holds_as};
 ghost use Rattle.sd_reclock.specs.Answers.{IsFree};
 ghost use Rattle.sd_reclock.specs.Locks.{stands, wait_for};
-ghost use Rattle.sd_state.specs.Changing.{FitsThere, LacksLsns, LacksRoom, change_of};
+ghost use Rattle.sd_changes.specs.Changing.{FitsThere, LacksLsns, LacksRoom, change_of};
 ghost use Rattle.sd_state.specs.Complexes.{parts};
 ghost use Rattle.sd_state.specs.Parts.{status_at, txns_at};
 ghost use Rattle.sd_txn.specs.Transactions.{state_at};
@@ -18,6 +18,7 @@ ghost use Rattle.sd_fits.specs.Fits.{Fits};
 ghost use Rattle.sd_ops.specs.Puts.{IsLowered, IsPutThere};
 
 use sd_base::{Bytes, Mode, Refusal, Rid, TxnId};
+use sd_changes::change;
 use sd_rig::Rig;
 use sd_state::Complex;
 
@@ -50,7 +51,7 @@ pub fn put<G: Rig>(
     name(t);
     let was = c.locks.mode(t, r);
     c.grant(t, r, Mode::Excl)?;
-    match c.change(t, *r, capacity, after) {
+    match change(c, t, *r, capacity, after) {
         Ok(()) => Ok(()),
         Err(refusal) => {
             c.locks.lower(t, r, was);

@@ -7,16 +7,16 @@ ghost use Rattle.sd_world.specs.Serving.{Core, did, found_reply, telling};
 ghost use Rattle.sd_fits.specs.Fits.{Fits};
 ghost use Rattle.sd_fits.specs.Serving.{Serving};
 ghost use Rattle.sd_ops.specs.Edits.{event_of};
-ghost use Rattle.sd_ops.specs.Halves.{HalfServed};
+ghost use Rattle.sd_work.specs.Halves.{HalfServed};
 
 use crate::copies;
 use crate::edits::{Edit, Plan, planned};
 use crate::putting::put;
-use crate::waiting::{ask, at_work, end_wait};
 use sd_base::{Bytes, Mode, Refusal, Rid, TxnId};
 use sd_moves::touch;
 use sd_rig::Rig;
 use sd_state::Complex;
+use sd_work::{ask, at_work, end_wait};
 
 /// Reads a record: its value, or none, as the transaction finds it, which has the record's `Shared` lock then. The page is used: it
 /// is the last that will be evicted.

@@ -7,10 +7,10 @@ use Rattle.sd_page.specs.Page.{Page}
 use Rattle.sd_pagelock.specs.declared.queue.Ask.{Ask}
 use Rattle.sd_pagelock.specs.Asks.{is_open_ask, open_asks}
 use Rattle.sd_pagelock.specs.Directory.{DirectoryState, asks_at, entry_at, kept_rec, rec_lsn_at}
-use Rattle.sd_pagelock.specs.Places.{PageEntry, changed, holds, holds_as, passes, is_lost}
-use Rattle.sd_pagelock.specs.Rows.{dropped, fallen, given_excl, may_drop, may_raise, may_share, may_yield, raised}
-use Rattle.sd_pagelock.proofs.Drops.{changed-fallen, two_moves}
-use Rattle.sd_pagelock.proofs.Losses.{changed-raised}
+use Rattle.sd_places.specs.Places.{PageEntry, changed, holds, holds_as, passes, is_lost}
+use Rattle.sd_places.specs.Rows.{dropped, fallen, given_excl, may_drop, may_raise, may_share, may_yield, raised}
+use Rattle.sd_places.proofs.Drops.{changed-fallen, two_moves}
+use Rattle.sd_places.proofs.Losses.{changed-raised}
 use Rattle.sd_chain.specs.Records.{Each}
 use Rattle.sd_world.specs.Pages.{given}
 use Rattle.sd_world.proofs.Forms.{not_had}

@@ -15,8 +15,8 @@ use Rattle.sd_model.specs.declared.event.Reply.{Reply}
 use Rattle.sd_model.specs.declared.event.Reply.TheVariants as reply
 use Rattle.sd_pagelock.specs.Asks.{queued}
 use Rattle.sd_pagelock.specs.Directory.{asks_at, entry_at}
-use Rattle.sd_pagelock.specs.Places.{PageEntry, holds, holds_as, is_free, is_lost}
-use Rattle.sd_pagelock.specs.Rows.{locked, may_raise, raised}
+use Rattle.sd_places.specs.Places.{PageEntry, holds, holds_as, is_free, is_lost}
+use Rattle.sd_places.specs.Rows.{locked, may_raise, raised}
 use Rattle.sd_pool.specs.Buffers as buffers
 use Rattle.sd_pool.specs.Buffers.{Buffers, IsPool, with_page}
 use Rattle.sd_world.specs.Bounds.{bounds_after}

@@ -5,7 +5,7 @@ use Rattle.sd_base.specs.declared.refusal.Refusal.{Refusal}
 use Rattle.sd_base.specs.declared.refusal.Refusal.TheVariants as R
 use Rattle.sd_pagelock.specs.Asks.{oldest}
 use Rattle.sd_pagelock.specs.Directory.{asks_at, entry_at}
-use Rattle.sd_pagelock.specs.Places.{holds, is_lost, owns, passes, receives, seen}
+use Rattle.sd_places.specs.Places.{holds, is_lost, owns, passes, receives, seen}
 use Rattle.sd_state.specs.Parts.{Parts, is_active, is_loose, log_at}
 
 -- The instance is active and has a copy of the page, which is neither lost nor on its way; `to` asks in this mode, and no other's

@@ -6,7 +6,7 @@ ghost use Rattle.sd_fits.specs.Fits.{Fits};
 ghost use Rattle.sd_fits.specs.Serving.{Serving};
 ghost use Rattle.sd_model.specs.declared.event.Event.TheVariants as event;
 ghost use Rattle.sd_pagelock.specs.Directory.{entry_at};
-ghost use Rattle.sd_pagelock.specs.Rows.{may_evict};
+ghost use Rattle.sd_places.specs.Rows.{may_evict};
 ghost use Rattle.sd_state.specs.Complexes.{parts};
 ghost use Rattle.sd_state.specs.Parts.{is_active, IsShape};
 ghost use Rattle.sd_transfer.specs.Evicting.{StaysFor};

@@ -1,6 +1,7 @@
 //! An instance gives a page to the one whose ask of another is the oldest.
 
 ghost use Rattle.std.specs.Prelude.{◌≡◌, ◌≢◌, ℕ, true, Err, IfErr, IfOk, None, OnErr, OnOk, Some};
+ghost use Rattle.sd_base.specs.declared.place.Status.TheVariants as S;
 ghost use Rattle.sd_base.specs.declared.refusal.Refusal.TheVariants as R;
 ghost use Rattle.sd_fits.specs.Fits.{Fits};
 ghost use Rattle.sd_fits.specs.Serving.{Serving};
@@ -10,13 +11,13 @@ ghost use Rattle.sd_model.specs.declared.event.Event.TheVariants as event;
 ghost use Rattle.sd_model.specs.declared.event.Reply.TheVariants as reply;
 ghost use Rattle.sd_moves.specs.Passing.{may_set_out};
 ghost use Rattle.sd_pagelock.specs.Directory.{entry_at};
-ghost use Rattle.sd_pagelock.specs.Places.{seen};
-ghost use Rattle.sd_pagelock.specs.Rows as rows;
+ghost use Rattle.sd_places.specs.Places.{seen};
+ghost use Rattle.sd_places.specs.Rows as rows;
 ghost use Rattle.sd_rig.specs.Devices.{LeavesSame};
 ghost use Rattle.sd_state.specs.Complexes.{parts};
 ghost use Rattle.sd_state.specs.Good.{Good};
 ghost use Rattle.sd_state.specs.Locking.{IsSet};
-ghost use Rattle.sd_state.specs.Parts.{is_active, pool_at, IsShape};
+ghost use Rattle.sd_state.specs.Parts.{is_active, pool_at, status_at, IsShape};
 ghost use Rattle.sd_state.specs.Values.{Pending};
 ghost use Rattle.sd_transfer.specs.Giving.{IsForcedFor, IsUngiven, MayGive, OnlyPages};
 ghost use Rattle.sd_world.specs.Pages.{given};
@@ -46,6 +47,7 @@ pub fn give<G: Rig>(c: &mut Complex<G>, j: InstNo, p: PageNo) -> Result<InstNo, 
     ensures disk { G.seen c.new.rig 0 ≡ G.seen c.old.rig 0 }
     ensures disk_leaves { LeavesSame (G.leaves c.old.rig 0) (G.leaves c.new.rig 0) }
     ensures forced { OnOk result (IsForcedFor (parts c.old) j p (parts c.new)) }
+    ensures down { result ≡ Err R.Failed → status_at (parts c.new) j ≡ S.Down }
 {
     laws::instances(j);
     let (to, mode) = may_give(c, j, p)?;
@@ -93,6 +95,7 @@ fn force_owner<G: Rig>(c: &mut Complex<G>, j: InstNo, p: PageNo) -> Result<(), R
         → ((w : Core) → Fits (G.seen c.old.rig) (G.leaves c.old.rig) (parts c.old) w → BreaksBy j e w)
         → Serving (telling G.seen G.leaves G.moment G.since G.faults) e (Some (reply.Refused R.Failed)) c.old c.new) }
     ensures only { IfErr result (λ n. n ≡ R.Failed) }
+    ensures down { OnErr result (status_at (parts c.new) j ≡ S.Down) }
 
     ensures disk { G.seen c.new.rig 0 ≡ G.seen c.old.rig 0 }
     ensures disk_leaves { LeavesSame (G.leaves c.old.rig 0) (G.leaves c.new.rig 0) }

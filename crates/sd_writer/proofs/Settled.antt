@@ -6,7 +6,7 @@ use Rattle.sd_chain.specs.Bytes.{disk_page}
 use Rattle.sd_coherent.specs.Coherent.{Sits}
 use Rattle.sd_model.specs.State.{State}
 use Rattle.sd_pagelock.specs.Directory.{entry_at}
-use Rattle.sd_pagelock.specs.Places.{changed}
+use Rattle.sd_places.specs.Places.{changed}
 use Rattle.sd_sound.specs.Logs.{Outcomes}
 use Rattle.sd_state.specs.Good.{Good, base_of}
 use Rattle.sd_state.specs.Images.{leaves_by}

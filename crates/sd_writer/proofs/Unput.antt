@@ -1,5 +1,5 @@
 -- A put that failed: how its event is served. For the calls of events that put pages.
-use Rattle.std.proofs.Common.{◌≡◌, ◌≢◌, inl, ℕ, ◌≤◌, true, false, refl, sym, ap, subst, arith}
+use Rattle.std.proofs.Common.{◌≡◌, ◌≢◌, inl, ℕ, ◌≤◌, true, false, [], refl, sym, ap, ◌∙◌, subst, arith}
 use Rattle.std.specs.Prelude.{None, Some}
 use Rattle.sd_base.specs.Streams.{Rises}
 use Rattle.sd_base.specs.Waits.{with_wait}
@@ -20,7 +20,7 @@ use Rattle.sd_state.specs.Complexes.{parts}
 use Rattle.sd_state.specs.Forcing.{KeepMasters}
 use Rattle.sd_state.specs.Good.{Good}
 use Rattle.sd_state.specs.Images.{Stands}
-use Rattle.sd_state.specs.Parts.{Parts}
+use Rattle.sd_state.specs.Parts.{Parts, is_loose, log_at}
 use Rattle.sd_state.specs.Values.{Pending}
 use Rattle.sd_state.specs.declared.complex.Complex.{Complex}
 use Rattle.sd_state.proofs.Masters.{masters-less}
@@ -31,7 +31,18 @@ use Rattle.sd_fits.proofs.Putting.{put-bounds, put-doubts, put-fits, put-pages}
 use Rattle.sd_fits.proofs.Refused.{IsFor, refused-turns}
 use Rattle.sd_fits.proofs.Served.{bounds-stay, passed}
 use Rattle.sd_writer.specs.Breaking.{BreaksBy}
+use Rattle.sd_writer.specs.Forcing.{OnlyLogs}
+use Rattle.sd_writer.specs.Writing.{IsUnread}
 use Rattle.sd_writer.proofs.Broken.{broken-serves}
+
+-- a read failed behind a force that left `mid` of old
+pub unread-behind : (i : ℕ) (old mid new : Parts) → OnlyLogs old mid → (is_loose old i ≡ false → (log_at mid i).tail ≡ [])
+    → new ≡ with_loose_disk false mid → IsUnread i old new
+unread-behind i old mid new stays forced same = record {
+  stays = same ∙ ap (with_loose_disk false) stays
+      ∙ ap (λ (k : Parts). record (with_loose_disk false old) { logs = k.logs; owed = k.owed }) (sym same);
+  forced = λ settled. ap (λ (k : Parts). (log_at k i).tail) same ∙ forced settled;
+}
 
 -- A put of instance i during event e failed, and left `mid` of c.
 module _ {G : Type 0} (tell : Telling G) (c mid : Complex G) (i : ℕ) (e : Event)

@@ -1,6 +1,7 @@
 //! The log of an instance is forced.
 
 ghost use Rattle.std.specs.Prelude.{◌≡◌, ◌≢◌, true, false, [], Err, IfErr, OnErr, OnOk, None, Some};
+ghost use Rattle.sd_base.specs.declared.place.Status.TheVariants as S;
 ghost use Rattle.sd_base.specs.declared.refusal.Refusal.TheVariants as R;
 ghost use Rattle.sd_fits.specs.Fits.{Fits};
 ghost use Rattle.sd_fits.specs.Serving.{Serving};
@@ -9,7 +10,7 @@ ghost use Rattle.sd_model.specs.declared.event.Event.TheVariants as event;
 ghost use Rattle.sd_model.specs.declared.event.Reply.TheVariants as reply;
 ghost use Rattle.sd_rig.specs.Devices.{LeavesSame};
 ghost use Rattle.sd_state.specs.Complexes.{parts};
-ghost use Rattle.sd_state.specs.Parts.{is_active, is_loose, log_at};
+ghost use Rattle.sd_state.specs.Parts.{is_active, is_loose, log_at, status_at};
 ghost use Rattle.sd_world.specs.Serving.{Core, did, telling};
 ghost use Rattle.sd_writer.specs.Breaking.{BreaksBy};
 ghost use Rattle.sd_writer.specs.Forcing.{OnlyLogs};
@@ -29,6 +30,7 @@ pub fn force<G: Rig>(c: &mut Complex<G>, i: InstNo) -> Result<(), Refusal>
     ensures served { Serving (telling G.seen G.leaves G.moment G.since G.faults) (event.Force i) (did result) c.old c.new }
     ensures there { result ≢ Err R.Memory }
     ensures forced { OnOk result (is_loose (parts c.old) i ≡ false → (log_at (parts c.new) i).tail ≡ []) }
+    ensures down { result ≡ Err R.Failed → status_at (parts c.new) i ≡ S.Down }
 {
     laws::instances(i);
     if !is_active(i, c.status(i)) {
@@ -40,7 +42,7 @@ pub fn force<G: Rig>(c: &mut Complex<G>, i: InstNo) -> Result<(), Refusal>
 /// Forces the log of an instance that is active, or makes the instance fall where the device fails: for an event that wants the log
 /// forced before it goes on. A log that isn't settled takes no call. It takes no memory, and leaves the data device as it was.
 ///
-/// `Failed` comes where the device failed; the event is then served so.
+/// `Failed` comes where the device failed; the instance has fallen then, and the event is served so.
 pub fn force_or_fall<G: Rig>(c: &mut Complex<G>, i: InstNo) -> Result<(), Refusal>
     requires fits { (w : Core) × Fits (G.seen c.old.rig) (G.leaves c.old.rig) (parts c.old) w }
     requires active { is_active (parts c.old) i ≡ true }
@@ -53,6 +55,7 @@ pub fn force_or_fall<G: Rig>(c: &mut Complex<G>, i: InstNo) -> Result<(), Refusa
         → ((w : Core) → Fits (G.seen c.old.rig) (G.leaves c.old.rig) (parts c.old) w → BreaksBy i e w)
         → Serving (telling G.seen G.leaves G.moment G.since G.faults) e (Some (reply.Refused R.Failed)) c.old c.new) }
     ensures only { IfErr result (λ n. n ≡ R.Failed) }
+    ensures down { OnErr result (status_at (parts c.new) i ≡ S.Down) }
 
     ensures disk { G.seen c.new.rig 0 ≡ G.seen c.old.rig 0 }
     ensures disk_leaves { LeavesSame (G.leaves c.old.rig 0) (G.leaves c.new.rig 0) }

@@ -1,18 +1,20 @@
 //! A page is written to the data device.
 
-ghost use Rattle.std.specs.Prelude.{◌≡◌, ◌≢◌, true, false, [], Err, IfErr, OnOk};
+ghost use Rattle.std.specs.Prelude.{◌≡◌, ◌≢◌, ◌⊎◌, true, false, [], Err, IfErr, OnOk};
+ghost use Rattle.sd_base.specs.declared.place.Status.TheVariants as S;
 ghost use Rattle.sd_base.specs.declared.refusal.Refusal.TheVariants as R;
 ghost use Rattle.sd_fits.specs.Fits.{Fits};
 ghost use Rattle.sd_fits.specs.Serving.{Serving};
 ghost use Rattle.sd_model.specs.declared.event.Event.TheVariants as event;
+ghost use Rattle.sd_moves.specs.Putting.{with_loose_disk};
 ghost use Rattle.sd_pagelock.specs.Directory.{entry_at};
-ghost use Rattle.sd_pagelock.specs.Places.{seen};
-ghost use Rattle.sd_pagelock.specs.Rows as rows;
+ghost use Rattle.sd_places.specs.Places.{seen};
+ghost use Rattle.sd_places.specs.Rows as rows;
 ghost use Rattle.sd_state.specs.Complexes.{parts};
-ghost use Rattle.sd_state.specs.Parts.{is_loose, log_at, IsShape};
+ghost use Rattle.sd_state.specs.Parts.{is_loose, log_at, status_at, IsShape};
 ghost use Rattle.sd_world.specs.Pages.{is_duty};
 ghost use Rattle.sd_world.specs.Serving.{Core, did, telling};
-ghost use Rattle.sd_writer.specs.Writing.{IsWriters, IsWritten, StaysUnwritten};
+ghost use Rattle.sd_writer.specs.Writing.{IsUnread, IsWriters, IsWritten, StaysUnwritten};
 
 use crate::forcing::force_or_fall;
 use sd_base::{InstNo, PageNo, Place, Refusal};
@@ -26,13 +28,15 @@ use sd_state::Complex;
 /// version. It takes no memory, and a page that isn't changed takes no call of a device.
 ///
 /// `Down` comes where the instance isn't active, `Lost` where the page is lost, and `NeedPage` where its write isn't the
-/// instance's: the first of these that applies, which changes nothing. `Failed` comes where a device failed; unless it was a
-/// read, the instance has fallen then.
+/// instance's: the first of these that applies, which changes nothing. `Failed` comes where a device failed. The instance has
+/// fallen then, unless it was a read that failed: its log is forced then, the data device settled, and all else as it was.
 pub fn write_page<G: Rig>(c: &mut Complex<G>, i: InstNo, p: PageNo) -> Result<(), Refusal>
     requires fits { (w : Core) × Fits (G.seen c.old.rig) (G.leaves c.old.rig) (parts c.old) w }
     ensures served { Serving (telling G.seen G.leaves G.moment G.since G.faults) (event.Flush i p) (did result) c.old c.new }
     ensures there { result ≢ Err R.Memory }
     ensures written { OnOk result (IsWritten p (G.seen c.new.rig) (G.leaves c.new.rig) (parts c.new)) }
+    ensures failed { result ≡ Err R.Failed
+        → (status_at (parts c.new) i ≡ S.Down) ⊎ IsUnread i (parts c.old) (parts c.new) }
 {
     laws::instances(i);
     may_put(c, i, p)?;
@@ -93,6 +97,8 @@ fn put_or_fall<G: Rig>(c: &mut Complex<G>, i: InstNo, p: PageNo) -> Result<(), R
     ensures served { Serving (telling G.seen G.leaves G.moment G.since G.faults) (event.Flush i p) (did result) c.old c.new }
     ensures there { result ≢ Err R.Memory }
     ensures written { OnOk result (IsWritten p (G.seen c.new.rig) (G.leaves c.new.rig) (parts c.new)) }
+    ensures failed { result ≡ Err R.Failed
+        → (status_at (parts c.new) i ≡ S.Down) ⊎ (parts c.new ≡ with_loose_disk false (parts c.old)) }
 {
     laws::instances(i);
     match put_page(c, p, i) {

@@ -1,5 +1,5 @@
 use Rattle.std.proofs.Common.{sym, ap, ◌∙◌, ◌-◌, ℕ, arith}
-use Rattle.sd_pagelock.specs.Places.{PageEntry, holds_as}
+use Rattle.sd_places.specs.Places.{PageEntry, holds_as}
 use Rattle.sd_state.specs.Complexes.{parts}
 use Rattle.sd_state.specs.Values.{Pending}
 use Rattle.sd_ops.proofs.Held.{copy-is, copy-there}

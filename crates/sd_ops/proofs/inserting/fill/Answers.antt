@@ -1,4 +1,4 @@
-use Rattle.std.proofs.Common.{◌≡◌, ◌≤◌, ℕ, true, List, length, sym, ap, ◌∙◌, subst, arith, rules}
+use Rattle.std.proofs.Common.{◌≡◌, ◌≤◌, ℕ, true, List, length, sym, ap, ◌∙◌, subst, arith}
 use Rattle.std.specs.Prelude.{None, Some, Err}
 use Rattle.std.proofs.lemmas.Result.{err_from_is_err_and}
 use Rattle.sd_base.specs.declared.ids.Rid.{Rid}
@@ -8,23 +8,23 @@ use Rattle.sd_base.specs.declared.refusal.Refusal.TheVariants as R
 use Rattle.sd_model.specs.declared.event.Event.TheVariants as event
 use Rattle.sd_model.specs.declared.event.Reply.TheVariants as reply
 use Rattle.sd_pagelock.specs.Directory.{entry_at}
-use Rattle.sd_pagelock.specs.Places.{holds_as}
+use Rattle.sd_places.specs.Places.{holds_as}
 use Rattle.sd_reclock.specs.Answers.{IsFree}
 use Rattle.sd_reclock.specs.Locks.{LockTable, stands, wait_for}
-use Rattle.sd_state.specs.Changing.{FitsThere, LacksRoom, change_of, image_for}
+use Rattle.sd_changes.specs.Changing.{FitsThere, LacksRoom, change_of, image_for}
 use Rattle.sd_state.specs.Complexes.{parts}
 use Rattle.sd_state.specs.Parts.{Parts, status_at, txns_at}
 use Rattle.sd_txn.specs.Transactions.{state_at}
 use Rattle.sd_txn.specs.declared.state.TxnState.{TxnState}
 use Rattle.sd_world.specs.Serving.{refused}
 use Rattle.sd_fits.specs.Fits.{Fits}
-use Rattle.sd_ops.specs.Halves.{HalfServed}
+use Rattle.sd_work.specs.Halves.{HalfServed}
 use Rattle.sd_ops.specs.Puts.{IsPutThere}
 use Rattle.sd_ops.specs.Vacancies.{IsFullFor, IsVacant}
 use Rattle.sd_ops.proofs.Filled.{filled-half, put-not-full, unfilled-half}
 use Rattle.sd_ops.proofs.Filling.{insert-asked, insert-away, insert-long, insert-work}
 use Rattle.sd_ops.proofs.Vacating.{not-long}
-use Rattle.sd_ops.proofs.Work.{err-half, off-half}
+use Rattle.sd_work.proofs.Work.{err-half, off-half}
 use Rattle.sd_ops.proofs.inserting.fill.Goals as goal
 
 pub returns-in_err-at_work-clause-half : goal.returns-in_err-at_work-clause-half

@@ -4,7 +4,7 @@ use Rattle.sd_base.specs.declared.place.Mode.TheVariants as modes
 use Rattle.sd_model.specs.State.{took}
 use Rattle.sd_model.specs.Waits.{claim_of}
 use Rattle.sd_reclock.specs.Locks.{held}
-use Rattle.sd_state.specs.Changing.{LacksLsns, LacksRoom, change_of, putting}
+use Rattle.sd_changes.specs.Changing.{LacksLsns, LacksRoom, change_of, putting}
 use Rattle.sd_state.specs.Complexes.{parts}
 use Rattle.sd_state.specs.Good.{Good}
 use Rattle.sd_state.specs.Parts.{Parts}
@@ -33,7 +33,7 @@ change-requires-clause-lock g c = given-excl (held c.args.c.now.locks) (held c.g
 
 pub lower-requires : goal.lower-requires
 lower-requires g c = record {
-  weaker = was-weaker c.mode-was.result (held c.change.new.self.locks c.args.t.now c.args.r.now)
+  weaker = was-weaker c.mode-was.result (held c.change.new.c.locks c.args.t.now c.args.r.now)
       (ap (λ (x : Parts). held x.locks c.args.t.now c.args.r.now) c.in-Err.ensures.refused
       ∙ given-excl (held c.args.c.now.locks) (held c.grant.new.self.locks) c.args.t.now c.args.r.now c.in_ok-grant.ensures.given);
 }
@@ -43,12 +43,12 @@ returns-in-Ok-clause-put g c = record {
   mid = parts c.grant.new.self;
   granted = record { rest = c.grant.ensures.parts; given = c.in_ok-grant.ensures.given; waiting = c.grant.ensures.waits };
   made = c.in-Ok.ensures.made;
-  keeps = λ m good. subst (λ d. Good (g.G.Rig.seen d) (g.G.Rig.leaves d) Pending.Idle (parts c.change.new.self)
+  keeps = λ m good. subst (λ d. Good (g.G.Rig.seen d) (g.G.Rig.leaves d) Pending.Idle (parts c.change.new.c)
       (putting c.args.t.now c.args.r.now c.args.after m)) (c.change.ensures.rig ∙ c.grant.ensures.rig)
       (c.in-Ok.ensures.good m (subst (λ d. Good (g.G.Rig.seen d) (g.G.Rig.leaves d) Pending.Idle (parts c.grant.new.self) m)
       (sym c.grant.ensures.rig) good));
   frames = frames-kept c.args.t.now c.args.r.now c.args.capacity c.args.after (parts c.args.c.now) (parts c.grant.new.self)
-      (parts c.change.new.self) c.name.ensures.low c.name.ensures.high c.requires.fits.1.good.shape.pools c.grant.ensures.parts
+      (parts c.change.new.c) c.name.ensures.low c.name.ensures.high c.requires.fits.1.good.shape.pools c.grant.ensures.parts
       c.in-Ok.ensures.made;
 }
 

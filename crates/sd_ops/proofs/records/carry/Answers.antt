@@ -6,18 +6,19 @@ use Rattle.sd_base.specs.declared.place.Status.TheVariants as S
 use Rattle.sd_model.specs.declared.event.Reply.TheVariants as reply
 use Rattle.sd_reclock.specs.Answers.{IsFree}
 use Rattle.sd_reclock.specs.Locks.{LockTable, stands, wait_for}
-use Rattle.sd_state.specs.Changing.{image_for}
+use Rattle.sd_changes.specs.Changing.{image_for}
 use Rattle.sd_state.specs.Complexes.{parts}
 use Rattle.sd_state.specs.Parts.{Parts, status_at, txns_at}
 use Rattle.sd_txn.specs.Transactions.{state_at}
 use Rattle.sd_txn.specs.declared.state.TxnState.{TxnState}
 use Rattle.sd_world.specs.Serving.{did, refused}
 use Rattle.sd_ops.specs.Edits.{IsPlan, event_of}
-use Rattle.sd_ops.specs.Halves.{HalfServed, LacksPage}
+use Rattle.sd_work.specs.Halves.{HalfServed}
+use Rattle.sd_ops.specs.Copies.{LacksPage}
 use Rattle.sd_ops.proofs.Edited.{put-served}
 use Rattle.sd_ops.proofs.Editing.{edit-asked, edit-away, edit-long, edit-work}
 use Rattle.sd_ops.proofs.Spoiling.{vain-half}
-use Rattle.sd_ops.proofs.Work.{err-half, off-half}
+use Rattle.sd_work.proofs.Work.{err-half, off-half}
 use Rattle.sd_ops.proofs.records.carry.Goals as goal
 
 pub returns-in_err-at_work-clause-half : goal.returns-in_err-at_work-clause-half

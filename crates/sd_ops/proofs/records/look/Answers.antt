@@ -12,9 +12,10 @@ use Rattle.sd_state.specs.Parts.{Parts, status_at, txns_at}
 use Rattle.sd_txn.specs.Transactions.{state_at}
 use Rattle.sd_txn.specs.declared.state.TxnState.{TxnState}
 use Rattle.sd_world.specs.Serving.{refused}
-use Rattle.sd_ops.specs.Halves.{HalfServed, LacksPage}
+use Rattle.sd_work.specs.Halves.{HalfServed}
+use Rattle.sd_ops.specs.Copies.{LacksPage}
 use Rattle.sd_ops.proofs.Reading.{read-asked, read-away, read-done, read-work}
-use Rattle.sd_ops.proofs.Work.{err-half, off-half}
+use Rattle.sd_work.proofs.Work.{err-half, off-half}
 use Rattle.sd_ops.proofs.records.look.Goals as goal
 
 pub returns-in_err-at_work-clause-half : goal.returns-in_err-at_work-clause-half

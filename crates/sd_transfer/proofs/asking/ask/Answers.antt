@@ -8,9 +8,9 @@ use Rattle.sd_transfer.specs.Asking.{IsUnserved}
 use Rattle.sd_fits.specs.Serving.{Serving}
 use Rattle.sd_model.specs.declared.event.Event.TheVariants.{Ask}
 use Rattle.sd_pagelock.specs.Directory.{DirectoryState, entry_at}
-use Rattle.sd_pagelock.specs.Places.{Formed, PageEntry, holds_as, is_free, is_lost, passes}
-use Rattle.sd_pagelock.specs.Rows.{may_raise}
-use Rattle.sd_pagelock.proofs.Uses.{free-is}
+use Rattle.sd_places.specs.Places.{Formed, PageEntry, holds_as, is_free, is_lost, passes}
+use Rattle.sd_places.specs.Rows.{may_raise}
+use Rattle.sd_places.proofs.Uses.{free-is}
 use Rattle.sd_world.specs.Pages.{answerer}
 use Rattle.sd_world.specs.Serving.{answered, had_or_asked, telling}
 use Rattle.sd_transfer.proofs.Asked.{had-lacks, had-pool, stays-there}

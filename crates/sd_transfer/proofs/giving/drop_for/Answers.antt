@@ -1,5 +1,5 @@
 use Rattle.std.proofs.Common.{◌∙◌, refl, ap, sym}
-use Rattle.sd_pagelock.specs.Rows.{may_raise}
+use Rattle.sd_places.specs.Rows.{may_raise}
 use Rattle.sd_pool.specs.Buffers.{without_page}
 use Rattle.sd_state.specs.Complexes.{parts}
 use Rattle.sd_state.specs.Parts.{Parts, pool_at}

@@ -1,7 +1,8 @@
-use Rattle.std.proofs.Common.{ℕ, ◌∙◌, ap, subst, sym}
+use Rattle.std.proofs.Common.{◌≡◌, ℕ, ◌∙◌, ap, subst, sym}
 use Rattle.std.specs.Prelude.{Result, Err, Some}
 use Rattle.std.proofs.lemmas.Result.{err_from_is_err_and}
 use Rattle.sd_base.specs.declared.refusal.Refusal.{Refusal}
+use Rattle.sd_base.specs.declared.refusal.Refusal.TheVariants as R
 use Rattle.sd_model.specs.declared.event.Event.TheVariants.{Give}
 use Rattle.sd_model.specs.declared.event.Reply.TheVariants as reply
 use Rattle.sd_rig.specs.Devices.{LeavesSame}
@@ -10,6 +11,7 @@ use Rattle.sd_state.specs.Values.{Pending}
 use Rattle.sd_fits.specs.Serving.{Serving, fits_by, stands_for}
 use Rattle.sd_world.specs.Serving.{gave, telling}
 use Rattle.sd_world.proofs.Serving.{served-again}
+use Rattle.sd_transfer.specs.Giving.{IsUngiven}
 use Rattle.sd_transfer.proofs.Given.{forced-still, give-breaks, give-refused, given-served, may-still}
 use Rattle.sd_transfer.proofs.giving.give.Goals as goal
 
@@ -67,3 +69,12 @@ pub returns-clause-disk_leaves : goal.returns-clause-disk_leaves
 returns-clause-disk_leaves g c =
     subst (λ (d : g.row.G.Denot). LeavesSame (g.G.Rig.leaves c.args.c.now.rig 0) (g.G.Rig.leaves d 0)) (sym c.hand_over.ensures.rig)
     c.force_owner.ensures.disk_leaves
+
+pub returns-in_err-to-clause-down : goal.returns-in_err-to-clause-down
+returns-in_err-to-clause-down g c = λ e.
+    let p = err_from_is_err_and c.from_residual.result c.from_residual.ensures.1 in
+    let same : c.in_err-to.field-0.0 ≡ R.Failed = cc (p.1, p.2) in
+    absurd (subst (IsUngiven (parts c.args.c.now) c.args.j c.args.p) same c.in_err-to.ensures.refused)
+
+pub returns-in_err-force_owner-clause-down : goal.returns-in_err-force_owner-clause-down
+returns-in_err-force_owner-clause-down g c = λ e. c.in_err-force_owner.ensures.down

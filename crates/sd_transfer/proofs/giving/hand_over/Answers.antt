@@ -4,7 +4,7 @@ use Rattle.sd_base.specs.declared.place.Mode.{Mode}
 use Rattle.sd_base.specs.declared.place.Mode.TheVariants as modes
 use Rattle.sd_page.specs.Page.{Page}
 use Rattle.sd_pagelock.specs.Directory.{DirectoryState, entry_at}
-use Rattle.sd_pagelock.specs.Places.{PageEntry}
+use Rattle.sd_places.specs.Places.{PageEntry}
 use Rattle.sd_pool.specs.Buffers.{without_page}
 use Rattle.sd_state.specs.Complexes.{parts}
 use Rattle.sd_state.specs.Locking.{IsSet}

@@ -4,7 +4,7 @@ use Rattle.std.proofs.lemmas.Result.{err_from_is_err_and}
 use Rattle.sd_base.specs.declared.refusal.Refusal.{Refusal}
 use Rattle.sd_model.specs.declared.event.Event.TheVariants.{Take}
 use Rattle.sd_pagelock.specs.Directory.{DirectoryState, entry_at}
-use Rattle.sd_pagelock.specs.Places.{Formed}
+use Rattle.sd_places.specs.Places.{Formed}
 use Rattle.sd_state.specs.Values.{Pending}
 use Rattle.sd_fits.specs.Serving.{Serving}
 use Rattle.sd_world.specs.Serving.{did, telling}

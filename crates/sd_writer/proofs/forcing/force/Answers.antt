@@ -1,5 +1,9 @@
-use Rattle.std.proofs.Common.{◌∙◌, ap, sym}
-use Rattle.sd_state.specs.Parts.{active_as}
+use Rattle.std.proofs.Common.{◌≡◌, ◌∙◌, ap, subst, sym}
+use Rattle.std.specs.Prelude.{OnErr, Result}
+use Rattle.sd_base.specs.declared.place.Status.TheVariants as S
+use Rattle.sd_base.specs.declared.refusal.Refusal.{Refusal}
+use Rattle.sd_state.specs.Complexes.{parts}
+use Rattle.sd_state.specs.Parts.{active_as, status_at}
 use Rattle.sd_world.specs.Serving.{telling}
 use Rattle.sd_writer.proofs.Forces.{force-did, force-refused}
 use Rattle.sd_writer.proofs.forcing.force.Goals as goal
@@ -19,3 +23,8 @@ returns-clause-served g c =
     force-did tell c.args.c.now c.args.i c.instances.ensures.low c.instances.ensures.high
     (ap (active_as c.args.i) (sym c.status.ensures) ∙ sym c.is_active.ensures ∙ c.if-not-is_active.false)
     c.force_or_fall.new.c c.force_or_fall.result force.spared force.failed force.only
+
+pub returns-clause-down : goal.returns-clause-down
+returns-clause-down g c = λ e.
+    subst (λ (r : Result (Unit {0}) Refusal). OnErr r (status_at (parts c.force_or_fall.new.c) c.args.i ≡ S.Down)) e
+    c.force_or_fall.ensures.down

@@ -1,4 +1,4 @@
-use Rattle.std.proofs.Common.{◌≡◌, inr, Bool, true, false, refl, sym, ap, ◌∙◌, subst, arith}
+use Rattle.std.proofs.Common.{◌≡◌, inr, Bool, true, false, refl, sym, ap, ◌∙◌, subst, arith, rules}
 use Rattle.sd_log.specs.Logs.{LogState, forced}
 use Rattle.sd_rig.specs.Devices.{LeavesSame}
 use Rattle.sd_sound.proofs.Kept.{forced-tail}
@@ -6,6 +6,7 @@ use Rattle.sd_state.specs.Complexes.{parts}
 use Rattle.sd_state.specs.Parts.{Parts, is_loose, log_at, no_log, owed_at}
 use Rattle.sd_state.specs.Values.{Pending}
 use Rattle.sd_state.proofs.Items.{item-set}
+use Rattle.sd_fits.proofs.Falling.{fallen-down}
 use Rattle.sd_moves.proofs.PutCalls.{not-err}
 use Rattle.sd_world.specs.Serving.{telling}
 use Rattle.sd_writer.specs.Forcing.{OnlyLogs}
@@ -88,3 +89,6 @@ pub returns-then-is_err-clause-disk_leaves : goal.returns-then-is_err-clause-dis
 returns-then-is_err-clause-disk_leaves g c =
     subst (λ (d : g.row.G.Denot). LeavesSame (g.G.Rig.leaves c.args.c.now.rig 0) (g.G.Rig.leaves d 0)) (sym c.down.ensures.rig)
     (c.force_log.ensures.others_leave 0 (omega (arith, c.instances.ensures.low)))
+
+pub returns-then-is_err-clause-down : goal.returns-then-is_err-clause-down
+returns-then-is_err-clause-down g c = search (rules, fallen-down)

@@ -1,5 +1,6 @@
-use Rattle.std.proofs.Common.{◌≡◌, inl, ap, ◌∙◌, subst}
+use Rattle.std.proofs.Common.{◌≡◌, inl, inr, ap, ◌∙◌, subst, rules}
 use Rattle.sd_model.specs.declared.event.Event.TheVariants.{Flush}
+use Rattle.sd_fits.proofs.Falling.{fallen-down}
 use Rattle.sd_moves.specs.Putting.{left_after}
 use Rattle.sd_moves.specs.declared.putting.Unput.{Unput}
 use Rattle.sd_state.specs.Complexes.{parts}
@@ -65,3 +66,11 @@ returns-in-Err-Unwritten-clause-served g c =
     put.good put.images put.time put.versions put.others_leave put.cause c.instances.ensures.low c.instances.ensures.high
     (subst (λ (e : Unput). parts c.put_page.new.c ≡ left_after e (parts c.args.c.now)) c.in-Err-Unwritten.field-0-is put.errors)
     c.down.new.c down.rig down.parts down.fallen down.good
+
+pub returns-in-Err-Unread-clause-failed : goal.returns-in-Err-Unread-clause-failed
+returns-in-Err-Unread-clause-failed g c = λ e.
+    inr (subst (λ (u : Unput). parts c.put_page.new.c ≡ left_after u (parts c.args.c.now)) c.in-Err-Unread.field-0-is
+    c.in-Err-Unread.ensures.errors)
+
+pub returns-in-Err-Unwritten-clause-failed : goal.returns-in-Err-Unwritten-clause-failed
+returns-in-Err-Unwritten-clause-failed g c = λ e. inl (search (rules, fallen-down))

@@ -1,19 +1,24 @@
-use Rattle.std.proofs.Common.{sym, ap, ◌∙◌, subst}
+use Rattle.std.proofs.Common.{◌≡◌, ◌⊎◌, inl, inr, false, sym, ap, ◌∙◌, subst}
 use Rattle.std.specs.Prelude.{Result, Err}
 use Rattle.std.proofs.lemmas.Result.{err_from_is_err_and}
+use Rattle.sd_base.specs.declared.place.Status.TheVariants as S
 use Rattle.sd_base.specs.declared.refusal.Refusal.{Refusal}
+use Rattle.sd_base.specs.declared.refusal.Refusal.TheVariants as R
 use Rattle.sd_model.specs.declared.event.Event.TheVariants.{Flush}
 use Rattle.sd_pagelock.specs.Directory.{entry_at}
-use Rattle.sd_pagelock.specs.Places.{is_lost}
-use Rattle.sd_pagelock.specs.Rows as rows
+use Rattle.sd_places.specs.Places.{is_lost}
+use Rattle.sd_places.specs.Rows as rows
 use Rattle.sd_state.specs.Complexes.{parts}
-use Rattle.sd_state.specs.Parts.{Parts, is_active, is_loose}
+use Rattle.sd_moves.specs.Putting.{with_loose_disk}
+use Rattle.sd_state.specs.Parts.{Parts, is_active, is_loose, status_at}
 use Rattle.sd_state.specs.Values.{Pending}
 use Rattle.sd_fits.specs.Serving.{Serving, fits_by, stands_for}
 use Rattle.sd_world.specs.Pages.{is_duty}
 use Rattle.sd_world.specs.Serving.{did, telling}
 use Rattle.sd_world.proofs.Serving.{served-again}
+use Rattle.sd_writer.specs.Writing.{IsUnread, StaysUnwritten}
 use Rattle.sd_writer.proofs.Settled.{settled-page}
+use Rattle.sd_writer.proofs.Unput.{unread-behind}
 use Rattle.sd_writer.proofs.Writes.{clean-served, clean-unchanged, flush-breaks, flush-refused}
 use Rattle.sd_writer.proofs.writing.write_page.Goals as goal
 
@@ -93,3 +98,22 @@ returns-clause-served g c =
     served-again tell stands_for (λ k. k.rig) (fits_by r.seen r.leaves) (Flush c.args.i c.args.p) (did c.put_or_fall.result)
     c.args.c.now c.force_or_fall.new.c new (λ t u img le s. g.met.G.Rig.earlier new.rig t u img le s)
     (c.in_ok-force_or_fall.ensures.spared (Flush c.args.i c.args.p)) c.put_or_fall.ensures.served
+
+pub returns-in_err-may_put-clause-failed : goal.returns-in_err-may_put-clause-failed
+returns-in_err-may_put-clause-failed g c = λ e.
+    let p = err_from_is_err_and c.from_residual.result c.from_residual.ensures.1 in
+    let same : c.in_err-may_put.field-0.0 ≡ R.Failed = cc (p.1, p.2) in
+    absurd (subst (StaysUnwritten (parts c.args.c.now) c.args.i c.args.p) same c.in_err-may_put.ensures.refused)
+
+pub returns-in_err-force_or_fall-clause-failed : goal.returns-in_err-force_or_fall-clause-failed
+returns-in_err-force_or_fall-clause-failed g c = λ e. inl c.in_err-force_or_fall.ensures.down
+
+pub returns-clause-failed : goal.returns-clause-failed
+returns-clause-failed g c = λ e. fails (c.put_or_fall.ensures.failed e)
+  where
+    fails : (status_at (parts c.put_or_fall.new.c) c.args.i ≡ S.Down)
+        ⊎ (parts c.put_or_fall.new.c ≡ with_loose_disk false (parts c.force_or_fall.new.c))
+        → (status_at (parts c.put_or_fall.new.c) c.args.i ≡ S.Down) ⊎ IsUnread c.args.i (parts c.args.c.now) (parts c.put_or_fall.new.c)
+    fails (inl down) = inl down
+    fails (inr same) = inr (unread-behind c.args.i (parts c.args.c.now) (parts c.force_or_fall.new.c) (parts c.put_or_fall.new.c)
+        c.in_ok-force_or_fall.ensures.stays c.in_ok-force_or_fall.ensures.forced same)

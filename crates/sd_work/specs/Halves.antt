@@ -1,9 +1,8 @@
 -- A call of a transaction before its wait is ended: what it promises, and what its refusals tell.
-use Rattle.std.specs.Prelude.{◌≡◌, ◌≢◌, ℕ, true, false, Option, None, Some, Result, Ok, Err}
+use Rattle.std.specs.Prelude.{◌≡◌, ◌≢◌, Option, None, Some, Result, Ok, Err}
 use Rattle.sd_base.specs.Waits.{Wait, Waits, with_wait}
 use Rattle.sd_base.specs.declared.ids.Rid.{Rid}
 use Rattle.sd_base.specs.declared.ids.TxnId.{TxnId}
-use Rattle.sd_base.specs.declared.place.Mode.{Mode}
 use Rattle.sd_base.specs.declared.place.Status.TheVariants as S
 use Rattle.sd_base.specs.declared.refusal.Refusal.{Refusal}
 use Rattle.sd_base.specs.declared.refusal.Refusal.TheVariants as R
@@ -14,8 +13,6 @@ use Rattle.sd_model.specs.Step.{Step}
 use Rattle.sd_model.specs.declared.event.Event.{Event}
 use Rattle.sd_model.specs.declared.event.Reply.{Reply}
 use Rattle.sd_model.specs.declared.event.Reply.TheVariants as reply
-use Rattle.sd_pagelock.specs.Directory.{entry_at}
-use Rattle.sd_pagelock.specs.Places.{holds_as, is_lost, seen}
 use Rattle.sd_reclock.specs.Locks.{waits}
 use Rattle.sd_rig.specs.Devices.{DeviceImages}
 use Rattle.sd_sound.specs.Logs.{Outcomes}
@@ -83,11 +80,3 @@ IsOff t c R.Down = IsUnresolved (txns_at c t.inst) t × (status_at c t.inst ≢ 
 IsOff t c (R.Busy by) =
     (by ≡ t) × IsUnresolved (txns_at c t.inst) t × (status_at c t.inst ≡ S.Up) × (state_at (txns_at c t.inst) t ≢ Some states.Running)
 IsOff t c n = ⊥
-
--- the page is lost, or the instance hasn't it in this mode; memory has no cause
-abbrev pub LacksPage : Mode → ℕ → ℕ → Parts → Refusal → Type 0
-LacksPage mode i p c R.Lost = is_lost (entry_at c.directory p) ≡ true
-LacksPage mode i p c (R.NeedPage place) =
-    (is_lost (entry_at c.directory p) ≡ false) × (holds_as mode (entry_at c.directory p) i ≡ false) × (seen place ≡ entry_at c.directory p)
-LacksPage mode i p c R.Memory = Unit {0}
-LacksPage mode i p c n = ⊥

@@ -46,12 +46,12 @@ use Rattle.sd_fits.proofs.Forcing.{failed-bounds, failed-doubts, failed-pages}
 use Rattle.sd_fits.proofs.Heads.{is-ready}
 use Rattle.sd_fits.proofs.Served.{ended-wait, still-serves}
 use Rattle.sd_fits.proofs.Still.{moved-fits}
-use Rattle.sd_ops.specs.Halves.{EndsWait, IsOff}
-use Rattle.sd_ops.proofs.Commits.{bare-fits, commit-turns, commit_bounds, commit_core, committed-fits, ending-bounds, ending-cut}
-use Rattle.sd_ops.proofs.Commits.{ending-else, ending-pages, ending-settled, no-tail-left}
-use Rattle.sd_ops.proofs.Ending.{half-serves}
-use Rattle.sd_ops.proofs.Underway.{committed-stands, cut-stands}
-use Rattle.sd_ops.proofs.Work.{IsWork, off-half, ready-passes}
+use Rattle.sd_work.specs.Halves.{EndsWait, IsOff}
+use Rattle.sd_work.proofs.Commits.{bare-fits, commit-turns, commit_bounds, commit_core, committed-fits, ending-bounds, ending-cut}
+use Rattle.sd_work.proofs.Commits.{ending-else, ending-pages, ending-settled, no-tail-left}
+use Rattle.sd_work.proofs.Ending.{half-serves}
+use Rattle.sd_work.proofs.Underway.{committed-stands, cut-stands}
+use Rattle.sd_work.proofs.Work.{IsWork, off-half, ready-passes}
 
 -- a commit is of a transaction that must run
 commit-work : (t : TxnId) → IsWork (Commit t) t

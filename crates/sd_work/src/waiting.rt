@@ -9,7 +9,7 @@ ghost use Rattle.sd_state.specs.Complexes.{parts};
 ghost use Rattle.sd_state.specs.Parts.{IsShape, status_at, txns_at};
 ghost use Rattle.sd_txn.specs.Transactions.{state_at};
 ghost use Rattle.sd_txn.specs.declared.state.TxnState.TheVariants.{Running};
-ghost use Rattle.sd_ops.specs.Halves.{EndsWait, IsOff, NotesWait, refusal_of};
+ghost use Rattle.sd_work.specs.Halves.{EndsWait, IsOff, NotesWait, refusal_of};
 
 use sd_base::{Mode, Refusal, Rid, Status, TxnId};
 use sd_state::Complex;

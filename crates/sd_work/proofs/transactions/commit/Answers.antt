@@ -7,8 +7,8 @@ use Rattle.sd_state.specs.Complexes.{parts}
 use Rattle.sd_world.specs.Serving.{Telling, did, telling}
 use Rattle.sd_fits.specs.Serving.{Serving}
 use Rattle.sd_fits.proofs.Disk.{leaves-same}
-use Rattle.sd_ops.proofs.Committing.{off-served, off-there}
-use Rattle.sd_ops.proofs.transactions.commit.Goals as goal
+use Rattle.sd_work.proofs.Committing.{off-served, off-there}
+use Rattle.sd_work.proofs.transactions.commit.Goals as goal
 
 pub returns-in-Err-clause-served : goal.returns-in-Err-clause-served
 returns-in-Err-clause-served g c =

@@ -12,8 +12,8 @@ use Rattle.sd_state.specs.Complexes.{parts}
 use Rattle.sd_state.specs.Parts.{txns_at}
 use Rattle.sd_world.specs.Serving.{Telling, began_reply, telling}
 use Rattle.sd_fits.specs.Serving.{Serving}
-use Rattle.sd_ops.proofs.Begins.{begun-served, down-served, refused-served}
-use Rattle.sd_ops.proofs.transactions.begin.Goals as goal
+use Rattle.sd_work.proofs.Begins.{begun-served, down-served, refused-served}
+use Rattle.sd_work.proofs.transactions.begin.Goals as goal
 
 pub returns-in_err-is_up-clause-served : goal.returns-in_err-is_up-clause-served
 returns-in_err-is_up-clause-served g c =

@@ -3,8 +3,8 @@ use Rattle.std.specs.Prelude.{IsSome}
 use Rattle.sd_txn.specs.Transactions.{Transactions, span_at}
 use Rattle.sd_world.specs.Serving.{Telling, telling}
 use Rattle.sd_fits.proofs.Disk.{leaves-same}
-use Rattle.sd_ops.proofs.Committing.{bare-served}
-use Rattle.sd_ops.proofs.transactions.commit_running.Goals as goal
+use Rattle.sd_work.proofs.Committing.{bare-served}
+use Rattle.sd_work.proofs.transactions.commit_running.Goals as goal
 
 pub committed_bare-requires-clause-bare : goal.committed_bare-requires-clause-bare
 committed_bare-requires-clause-bare g c =

@@ -26,7 +26,7 @@ use Rattle.sd_fits.specs.Serving.{Serving, fits_by, stands_for}
 use Rattle.sd_fits.proofs.Known.{none-waits}
 use Rattle.sd_fits.proofs.Served.{ended-wait, fits-left, relocked-good, running-wait, still-passes, still-serves}
 use Rattle.sd_fits.proofs.Taking.{same-on, taken-fits}
-use Rattle.sd_ops.specs.Halves.{EndsWait, HalfServed, HalfTurns, IsRewaited, noted, refusal_of}
+use Rattle.sd_work.specs.Halves.{EndsWait, HalfServed, HalfTurns, IsRewaited, noted, refusal_of}
 
 -- ---- no fault
 

@@ -35,7 +35,7 @@ use Rattle.sd_fits.proofs.Heads.{is-up, none-gone, not-up, stands-as, up-works}
 use Rattle.sd_fits.proofs.Known.{known-there}
 use Rattle.sd_fits.proofs.Served.{nothing-fits}
 use Rattle.sd_fits.proofs.Taking.{turned_to}
-use Rattle.sd_ops.specs.Halves.{HalfServed, HalfTurns, IsOff, noted}
+use Rattle.sd_work.specs.Halves.{HalfServed, HalfTurns, IsOff, noted}
 
 -- ---- a refusal, by its cause
 

@@ -5,8 +5,8 @@ use Rattle.sd_txn.specs.declared.state.TxnState.{TxnState}
 use Rattle.sd_world.specs.Serving.{Telling, telling}
 use Rattle.sd_fits.proofs.Heads.{some-there}
 use Rattle.sd_fits.proofs.Disk.{disk-leaves, disk-same}
-use Rattle.sd_ops.proofs.Committing.{cut-served, failed-due, forced-idle, forced-served, forced-tail, forcing}
-use Rattle.sd_ops.proofs.transactions.commit_recorded.Goals as goal
+use Rattle.sd_work.proofs.Committing.{cut-served, failed-due, forced-idle, forced-served, forced-tail, forcing}
+use Rattle.sd_work.proofs.transactions.commit_recorded.Goals as goal
 
 pub seal_commit-requires-clause-numbered : goal.seal_commit-requires-clause-numbered
 seal_commit-requires-clause-numbered g c =
@@ -30,8 +30,8 @@ committed-requires-clause-good g c =
     let m = c.requires.fits.0.scene.state in
     (m, c.in-Ok.ensures.good (Pending.Commits t) m (c.seal_commit.ensures.good m c.requires.fits.1.good))
 
-pub cut-requires-clause-good : goal.cut-requires-clause-good
-cut-requires-clause-good g c =
+pub fall_in_commit-requires-clause-good : goal.fall_in_commit-requires-clause-good
+fall_in_commit-requires-clause-good g c =
     let t = c.args.t.now in
     let m = c.requires.fits.0.scene.state in
     (m, c.in-Err.ensures.good (Pending.Commits t) m (c.seal_commit.ensures.good m c.requires.fits.1.good))
@@ -74,8 +74,8 @@ returns-in-Ok-clause-served g c =
     forced-served tell t c.args.c.now c.seal_commit.new.self c.force_log.new.self k e.forced c.committed.new.self d.rig e.quiet d.parts
     d.waits d.good
 
-pub cut-requires-clause-due : goal.cut-requires-clause-due
-cut-requires-clause-due g c =
+pub fall_in_commit-requires-clause-due : goal.fall_in_commit-requires-clause-due
+fall_in_commit-requires-clause-due g c =
     let tell : Telling _ = telling g.G.Rig.seen g.G.Rig.leaves g.G.Rig.moment g.G.Rig.since g.G.Rig.faults in
     let t = c.args.t.now in
     let n = c.name.ensures in
@@ -96,8 +96,8 @@ returns-in-Err-clause-served g c =
     let e = c.in-Err.ensures in
     let k = forcing tell t c.args.c.now c.seal_commit.new.self c.force_log.new.self n.low n.high r.up r.runs r.there
     (λ dev few. g.met.G.Rig.leaves_seen c.args.c.now.rig dev few) s.rig s.parts s.good e.good e.images e.time e.others e.masters in
-    let d = c.cut.ensures in
-    cut-served tell t c.args.c.now c.seal_commit.new.self c.force_log.new.self k e.failed c.cut.new.c d.rig d.parts d.fallen d.good e.cause
+    let d = c.fall_in_commit.ensures in
+    cut-served tell t c.args.c.now c.seal_commit.new.self c.force_log.new.self k e.failed c.fall_in_commit.new.c d.rig d.parts d.fallen d.good e.cause
 
 pub returns-in-Ok-clause-disk : goal.returns-in-Ok-clause-disk
 returns-in-Ok-clause-disk g c =
@@ -114,11 +114,11 @@ returns-in-Ok-clause-disk_leaves g c =
 pub returns-in-Err-clause-disk : goal.returns-in-Err-clause-disk
 returns-in-Err-clause-disk g c =
     let tell : Telling _ = telling g.G.Rig.seen g.G.Rig.leaves g.G.Rig.moment g.G.Rig.since g.G.Rig.faults in
-    disk-same tell (home c.args.t.now) c.name.ensures.low c.args.c.now c.seal_commit.new.self c.force_log.new.self c.cut.new.c
-    c.seal_commit.ensures.rig c.cut.ensures.rig c.in-Err.ensures.others
+    disk-same tell (home c.args.t.now) c.name.ensures.low c.args.c.now c.seal_commit.new.self c.force_log.new.self c.fall_in_commit.new.c
+    c.seal_commit.ensures.rig c.fall_in_commit.ensures.rig c.in-Err.ensures.others
 
 pub returns-in-Err-clause-disk_leaves : goal.returns-in-Err-clause-disk_leaves
 returns-in-Err-clause-disk_leaves g c =
     let tell : Telling _ = telling g.G.Rig.seen g.G.Rig.leaves g.G.Rig.moment g.G.Rig.since g.G.Rig.faults in
-    disk-leaves tell (home c.args.t.now) c.name.ensures.low c.args.c.now c.seal_commit.new.self c.force_log.new.self c.cut.new.c
-    c.seal_commit.ensures.rig c.cut.ensures.rig c.in-Err.ensures.others_leave
+    disk-leaves tell (home c.args.t.now) c.name.ensures.low c.args.c.now c.seal_commit.new.self c.force_log.new.self c.fall_in_commit.new.c
+    c.seal_commit.ensures.rig c.fall_in_commit.ensures.rig c.in-Err.ensures.others_leave

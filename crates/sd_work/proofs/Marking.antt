@@ -26,8 +26,8 @@ use Rattle.sd_fits.specs.Fits.{Fits}
 use Rattle.sd_fits.proofs.Heads.{is-ready}
 use Rattle.sd_fits.proofs.Served.{bounds-stay}
 use Rattle.sd_fits.proofs.Turning.{turned-fits, turned_core}
-use Rattle.sd_ops.specs.Halves.{HalfServed}
-use Rattle.sd_ops.proofs.Work.{IsWork, ready-passes}
+use Rattle.sd_work.specs.Halves.{HalfServed}
+use Rattle.sd_work.proofs.Work.{IsWork, ready-passes}
 
 -- a save is of a transaction that must run
 pub save-work : (t : TxnId) (name : List ℕ) → IsWork (Save t name) t

@@ -1,18 +1,23 @@
 //! Transactions: begun, marked, committed.
 
-ghost use Rattle.std.specs.Prelude.{◌≡◌, ◌≢◌, ◌^◌, ◌<◌, ◌≤◌, Err, IfOk, IsSome, None, Some};
+ghost use Rattle.std.specs.Prelude.{◌≡◌, ◌≢◌, ◌^◌, ◌<◌, ◌≤◌, ◌⊎◌, ℕ, true, Err, IfOk, IsSome, None, Some};
 ghost use Rattle.sd_base.specs.declared.place.Status.TheVariants as S;
 ghost use Rattle.sd_base.specs.declared.refusal.Refusal.TheVariants as R;
+ghost use Rattle.sd_chain.specs.Records.{home};
+ghost use Rattle.sd_model.specs.State.{State, cut_commit};
 ghost use Rattle.sd_model.specs.declared.event.Event.TheVariants as event;
+ghost use Rattle.sd_moves.specs.Falling.{IsFallen, with_fallen};
 ghost use Rattle.sd_rig.specs.Devices.{LeavesSame};
 ghost use Rattle.sd_state.specs.Complexes.{parts};
-ghost use Rattle.sd_state.specs.Parts.{status_at, txns_at};
+ghost use Rattle.sd_state.specs.Good.{Good};
+ghost use Rattle.sd_state.specs.Parts.{is_loose, status_at, txns_at};
+ghost use Rattle.sd_state.specs.Values.{Pending};
 ghost use Rattle.sd_txn.specs.Transactions.{span_at, state_at};
 ghost use Rattle.sd_txn.specs.declared.state.TxnState.TheVariants.{Running};
 ghost use Rattle.sd_world.specs.Serving.{Core, began_reply, did, telling};
 ghost use Rattle.sd_fits.specs.Fits.{Fits};
 ghost use Rattle.sd_fits.specs.Serving.{Serving};
-ghost use Rattle.sd_ops.specs.Halves.{HalfServed};
+ghost use Rattle.sd_work.specs.Halves.{HalfServed};
 
 use crate::standing::is_up;
 use crate::waiting::{at_work, end_wait, refuse};
@@ -133,10 +138,26 @@ fn commit_recorded<G: Rig>(c: &mut Complex<G>, t: &TxnId) -> Result<(), Refusal>
             Ok(())
         }
         Err(_) => {
-            cut(c, t);
+            fall_in_commit(c, t);
             Err(Refusal::CutCommit)
         }
     }
+}
+
+// The force of its Commit failed: its instance falls, and the transaction is in doubt.
+fn fall_in_commit<G: Rig>(c: &mut Complex<G>, t: &TxnId)
+    requires good { (m : State) × Good (G.seen c.old.rig) (G.leaves c.old.rig) (Pending.Commits t.now) (parts c.old) m }
+    requires due { ((parts c.old).due ≡ None)
+        ⊎ ((j : ℕ) × ((parts c.old).due ≡ Some (home t.now, j)) × (is_loose (parts c.old) j ≡ true)) }
+
+    ensures down { status_at (parts c.new) t.now.inst ≡ S.Down }
+    ensures good { (m : State) → Good (G.seen c.old.rig) (G.leaves c.old.rig) (Pending.Commits t.now) (parts c.old) m
+        → Good (G.seen c.new.rig) (G.leaves c.new.rig) Pending.Idle (parts c.new) (cut_commit t.now m) }
+    ensures parts { parts c.new ≡ with_fallen (home t.now) (parts c.new) (parts c.old) }
+    ensures fallen { IsFallen (home t.now) (parts c.old) (parts c.new) }
+    ensures rig { c.new.rig ≡ c.old.rig }
+{
+    cut(c, t);
 }
 
 // The numbers of a transaction's name.

@@ -3,8 +3,8 @@ use Rattle.std.specs.Prelude.{None}
 use Rattle.sd_model.specs.declared.event.Event.TheVariants as event
 use Rattle.sd_model.specs.declared.event.Reply.TheVariants as reply
 use Rattle.sd_world.specs.Serving.{telling}
-use Rattle.sd_ops.proofs.Ending.{half-serves}
-use Rattle.sd_ops.proofs.transactions.save.Goals as goal
+use Rattle.sd_work.proofs.Ending.{half-serves}
+use Rattle.sd_work.proofs.transactions.save.Goals as goal
 
 pub returns-clause-served : goal.returns-clause-served
 returns-clause-served g c = half-serves (telling g.G.Rig.seen g.G.Rig.leaves g.G.Rig.moment g.G.Rig.since g.G.Rig.faults) None

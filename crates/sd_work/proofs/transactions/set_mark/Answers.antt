@@ -9,9 +9,9 @@ use Rattle.sd_state.specs.Complexes.{parts}
 use Rattle.sd_state.specs.Good.{Good}
 use Rattle.sd_state.specs.Parts.{Parts, txns_at}
 use Rattle.sd_state.specs.Values.{Pending}
-use Rattle.sd_ops.proofs.Marking.{marked-half, save-work}
-use Rattle.sd_ops.proofs.Work.{err-half, off-half}
-use Rattle.sd_ops.proofs.transactions.set_mark.Goals as goal
+use Rattle.sd_work.proofs.Marking.{marked-half, save-work}
+use Rattle.sd_work.proofs.Work.{err-half, off-half}
+use Rattle.sd_work.proofs.transactions.set_mark.Goals as goal
 
 pub returns-in_err-at_work-clause-half : goal.returns-in_err-at_work-clause-half
 returns-in_err-at_work-clause-half g c =
