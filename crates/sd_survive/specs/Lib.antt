@@ -1,3 +1,1 @@
 pub mod Joining
-pub mod Rebuilding
-pub mod Recovering

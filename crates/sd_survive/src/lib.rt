@@ -1,17 +1,13 @@
-//! Instances that fail, are recovered, come back and join.
+//! Instances that fail and join, and devices that are armed.
 //!
 //! Meaning: each call is an event of the serial table, and serves it as `Serving` of sd_fits says.
 //! Keeps: nothing.
-//! Promises: from each world that the complex fits, the answer leads to one that it fits then (`failing.rt`, `beginning.rt`,
-//! `recovering.rt`, `joining.rt`, `arming.rt`). A failure calls no device and takes no memory; nor does it where devices are armed, of
-//! which nothing changes then that is told. A step of a recovery does its next task (`tasks.rt`): a device is settled (`settling.rt`), a
-//! lost page rebuilt (`rebuilding.rt`), the transaction in doubt decided (`deciding.rt`), a loser's last open record undone
-//! (`undoing.rt`), its End put; or nothing is left, and the recovery ends (`ending.rt`). All instances stand after it as they did,
-//! but where it was the last, or a device failed and the recoverer fell.
-//! Refuses: what the order of the event's causes says, the first that applies; `Memory` leaves a recovery where it was.
-//! Knows nothing of: whose turn it is, what is noted of an answer.
-//! Stands on: sd_base, sd_model, sd_page, sd_logrec, sd_rig, sd_log, sd_pool, sd_txn, sd_reclock, sd_pagelock, sd_chain, sd_merge,
-//! sd_coherent, sd_sound, sd_world, sd_state, sd_moves, sd_fits, sd_writer.
+//! Promises: from each world that the complex fits, the answer leads to one that it fits then (`failing.rt`, `joining.rt`,
+//! `arming.rt`). A failure calls no device and takes no memory; nor does it where devices are armed, of which nothing changes then
+//! that is told.
+//! Refuses: what the order of the event's causes says, the first that applies.
+//! Knows nothing of: recovery, whose turn it is, what is noted of an answer.
+//! Stands on: sd_base, sd_model, sd_logrec, sd_rig, sd_log, sd_txn, sd_chain, sd_sound, sd_world, sd_state, sd_moves, sd_fits.
 //! Lends: nothing.
 //! Held by the caller: that no fall is due, which `Fits` says.
 //!
@@ -22,20 +18,9 @@
 #![tactic(auto)]
 
 mod arming;
-mod beginning;
-mod deciding;
-mod ending;
 mod failing;
 mod joining;
-mod rebuilding;
-mod recovering;
-mod settling;
-mod tasks;
-mod undoing;
 
 pub use arming::arm;
-pub use beginning::recover_begin;
 pub use failing::fail;
 pub use joining::join;
-pub use recovering::{Recovery, recover_step};
-pub use tasks::{Task, needed, next_task};

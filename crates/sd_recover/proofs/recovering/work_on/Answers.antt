@@ -1,0 +1,364 @@
+use Rattle.std.proofs.Common.{◌≡◌, ℕ, suc, false, sym, subst, ap, ◌∙◌}
+use Rattle.std.specs.Prelude.{IsSome, None, Option, Some}
+use Rattle.sd_base.specs.declared.place.Status.TheVariants as S
+use Rattle.sd_base.proofs.Results.{when_ok}
+use Rattle.sd_chain.specs.Records.{home}
+use Rattle.sd_pagelock.specs.Directory.{entry_at}
+use Rattle.sd_places.specs.Places.{is_lost}
+use Rattle.sd_fits.specs.Serving.{Serving}
+use Rattle.sd_model.specs.declared.event.Event.TheVariants.{RecoverStep}
+use Rattle.sd_model.specs.declared.event.Reply.{Reply}
+use Rattle.sd_model.specs.declared.event.Reply.TheVariants as reply
+use Rattle.sd_state.specs.Complexes.{parts}
+use Rattle.sd_state.specs.Parts.{Parts, is_loose, status_at, txns_at}
+use Rattle.sd_txn.specs.Transactions.{span_at, state_at, top_at}
+use Rattle.sd_txn.specs.declared.state.OpenRec.{OpenRec}
+use Rattle.sd_txn.specs.declared.state.TxnState.{TxnState}
+use Rattle.sd_world.specs.Serving.{Telling, answered, telling}
+use Rattle.sd_recover.specs.Recovering.{AwaitsPage, IsNext, tasks_in}
+use Rattle.sd_recover.specs.declared.tasks.Task.TheVariants as task
+use Rattle.sd_recover.proofs.Wanting.{lost-none, none-wanted, wanted-so}
+use Rattle.sd_recover.proofs.Nexts.{next-cleared, opposite, there-cleared}
+use Rattle.sd_recover.proofs.Owns.{bare, doubtful, ended-loser, open-loser, own-row, spoken}
+use Rattle.sd_recover.proofs.recovering.work_on.Goals as goal
+
+pub decide_next-requires-clause-recovers : goal.decide_next-requires-clause-recovers
+decide_next-requires-clause-recovers g c =
+    let old : Parts = parts c.args.c.now in
+    let rig = c.args.c.now.rig in
+    let i : ℕ = c.args.i in
+    let n = c.instances.ensures in
+    let f = c.requires.fits in
+    let next = subst (IsNext old i) c.in-Decide.is c.requires.next in
+    let stands = doubtful (txns_at old i) c.in-Decide.t next.1 in
+    let own : home c.in-Decide.t ≡ i = own-row i (g.G.Rig.seen rig) (g.G.Rig.leaves rig) old f.0 f.1 n.low n.high c.in-Decide.t TxnState.Doubt stands in
+    subst (λ (j : ℕ). status_at old j ≡ S.Recovering c.args.by) (sym own) c.requires.recovers
+
+pub decide_next-requires-clause-settled : goal.decide_next-requires-clause-settled
+decide_next-requires-clause-settled g c =
+    let old : Parts = parts c.args.c.now in
+    let rig = c.args.c.now.rig in
+    let i : ℕ = c.args.i in
+    let n = c.instances.ensures in
+    let f = c.requires.fits in
+    let next = subst (IsNext old i) c.in-Decide.is c.requires.next in
+    let stands = doubtful (txns_at old i) c.in-Decide.t next.1 in
+    let own : home c.in-Decide.t ≡ i = own-row i (g.G.Rig.seen rig) (g.G.Rig.leaves rig) old f.0 f.1 n.low n.high c.in-Decide.t TxnState.Doubt stands in
+    subst (λ (j : ℕ). is_loose old j ≡ false) (sym own) (next.0.0 i n.high)
+
+pub decide_next-requires-clause-doubt : goal.decide_next-requires-clause-doubt
+decide_next-requires-clause-doubt g c =
+    let old : Parts = parts c.args.c.now in
+    let rig = c.args.c.now.rig in
+    let i : ℕ = c.args.i in
+    let n = c.instances.ensures in
+    let f = c.requires.fits in
+    let next = subst (IsNext old i) c.in-Decide.is c.requires.next in
+    let stands = doubtful (txns_at old i) c.in-Decide.t next.1 in
+    let own : home c.in-Decide.t ≡ i = own-row i (g.G.Rig.seen rig) (g.G.Rig.leaves rig) old f.0 f.1 n.low n.high c.in-Decide.t TxnState.Doubt stands in
+    subst (λ (j : ℕ). state_at (txns_at old j) c.in-Decide.t ≡ Some TxnState.Doubt) (sym own) stands
+
+pub undo_next-requires-clause-recovers : goal.undo_next-requires-clause-recovers
+undo_next-requires-clause-recovers g c =
+    let old : Parts = parts c.args.c.now in
+    let rig = c.args.c.now.rig in
+    let i : ℕ = c.args.i in
+    let n = c.instances.ensures in
+    let f = c.requires.fits in
+    let next = subst (IsNext old i) c.in-Undo.is c.requires.next in
+    let stands = (open-loser (txns_at old i) c.in-Undo.txn next.1.1).0 in
+    let own : home c.in-Undo.txn ≡ i = own-row i (g.G.Rig.seen rig) (g.G.Rig.leaves rig) old f.0 f.1 n.low n.high c.in-Undo.txn TxnState.Retained stands in
+    subst (λ (j : ℕ). status_at old j ≡ S.Recovering c.args.by) (sym own) c.requires.recovers
+
+pub undo_next-requires-clause-there : goal.undo_next-requires-clause-there
+undo_next-requires-clause-there g c =
+    let old : Parts = parts c.args.c.now in
+    let rig = c.args.c.now.rig in
+    let i : ℕ = c.args.i in
+    let n = c.instances.ensures in
+    let f = c.requires.fits in
+    let next = subst (IsNext old i) c.in-Undo.is c.requires.next in
+    let stands = (open-loser (txns_at old i) c.in-Undo.txn next.1.1).0 in
+    let own : home c.in-Undo.txn ≡ i = own-row i (g.G.Rig.seen rig) (g.G.Rig.leaves rig) old f.0 f.1 n.low n.high c.in-Undo.txn TxnState.Retained stands in
+    next.0
+
+pub undo_next-requires-clause-loser : goal.undo_next-requires-clause-loser
+undo_next-requires-clause-loser g c =
+    let old : Parts = parts c.args.c.now in
+    let rig = c.args.c.now.rig in
+    let i : ℕ = c.args.i in
+    let n = c.instances.ensures in
+    let f = c.requires.fits in
+    let next = subst (IsNext old i) c.in-Undo.is c.requires.next in
+    let stands = (open-loser (txns_at old i) c.in-Undo.txn next.1.1).0 in
+    let own : home c.in-Undo.txn ≡ i = own-row i (g.G.Rig.seen rig) (g.G.Rig.leaves rig) old f.0 f.1 n.low n.high c.in-Undo.txn TxnState.Retained stands in
+    subst (λ (j : ℕ). state_at (txns_at old j) c.in-Undo.txn ≡ Some TxnState.Retained) (sym own) stands
+
+pub undo_next-requires-clause-last : goal.undo_next-requires-clause-last
+undo_next-requires-clause-last g c =
+    let old : Parts = parts c.args.c.now in
+    let rig = c.args.c.now.rig in
+    let i : ℕ = c.args.i in
+    let n = c.instances.ensures in
+    let f = c.requires.fits in
+    let next = subst (IsNext old i) c.in-Undo.is c.requires.next in
+    let stands = (open-loser (txns_at old i) c.in-Undo.txn next.1.1).0 in
+    let own : home c.in-Undo.txn ≡ i = own-row i (g.G.Rig.seen rig) (g.G.Rig.leaves rig) old f.0 f.1 n.low n.high c.in-Undo.txn TxnState.Retained stands in
+    subst (λ (j : ℕ). (o : OpenRec) × (top_at (txns_at old j) c.in-Undo.txn ≡ Some o) × (c.in-Undo.page ≡ o.rid.page)) (sym own) next.1.2
+
+pub end_next-requires-clause-recovers : goal.end_next-requires-clause-recovers
+end_next-requires-clause-recovers g c =
+    let old : Parts = parts c.args.c.now in
+    let rig = c.args.c.now.rig in
+    let i : ℕ = c.args.i in
+    let n = c.instances.ensures in
+    let f = c.requires.fits in
+    let next = subst (IsNext old i) c.in-End.is c.requires.next in
+    let stands = ended-loser (txns_at old i) c.in-End.t next.1.2 in
+    let own : home c.in-End.t ≡ i = own-row i (g.G.Rig.seen rig) (g.G.Rig.leaves rig) old f.0 f.1 n.low n.high c.in-End.t TxnState.Retained stands in
+    subst (λ (j : ℕ). status_at old j ≡ S.Recovering c.args.by) (sym own) c.requires.recovers
+
+pub end_next-requires-clause-settled : goal.end_next-requires-clause-settled
+end_next-requires-clause-settled g c =
+    let old : Parts = parts c.args.c.now in
+    let rig = c.args.c.now.rig in
+    let i : ℕ = c.args.i in
+    let n = c.instances.ensures in
+    let f = c.requires.fits in
+    let next = subst (IsNext old i) c.in-End.is c.requires.next in
+    let stands = ended-loser (txns_at old i) c.in-End.t next.1.2 in
+    let own : home c.in-End.t ≡ i = own-row i (g.G.Rig.seen rig) (g.G.Rig.leaves rig) old f.0 f.1 n.low n.high c.in-End.t TxnState.Retained stands in
+    subst (λ (j : ℕ). is_loose old j ≡ false) (sym own) (next.0.0 i n.high)
+
+pub end_next-requires-clause-loser : goal.end_next-requires-clause-loser
+end_next-requires-clause-loser g c =
+    let old : Parts = parts c.args.c.now in
+    let rig = c.args.c.now.rig in
+    let i : ℕ = c.args.i in
+    let n = c.instances.ensures in
+    let f = c.requires.fits in
+    let next = subst (IsNext old i) c.in-End.is c.requires.next in
+    let stands = ended-loser (txns_at old i) c.in-End.t next.1.2 in
+    let own : home c.in-End.t ≡ i = own-row i (g.G.Rig.seen rig) (g.G.Rig.leaves rig) old f.0 f.1 n.low n.high c.in-End.t TxnState.Retained stands in
+    subst (λ (j : ℕ). state_at (txns_at old j) c.in-End.t ≡ Some TxnState.Retained) (sym own) stands
+
+pub end_next-requires-clause-empty : goal.end_next-requires-clause-empty
+end_next-requires-clause-empty g c =
+    let old : Parts = parts c.args.c.now in
+    let rig = c.args.c.now.rig in
+    let i : ℕ = c.args.i in
+    let n = c.instances.ensures in
+    let f = c.requires.fits in
+    let next = subst (IsNext old i) c.in-End.is c.requires.next in
+    let stands = ended-loser (txns_at old i) c.in-End.t next.1.2 in
+    let own : home c.in-End.t ≡ i = own-row i (g.G.Rig.seen rig) (g.G.Rig.leaves rig) old f.0 f.1 n.low n.high c.in-End.t TxnState.Retained stands in
+    subst (λ (j : ℕ). top_at (txns_at old j) c.in-End.t ≡ None) (sym own) (bare (txns_at old i) c.in-End.t next.1.1 next.1.2)
+
+pub end_next-requires-clause-there : goal.end_next-requires-clause-there
+end_next-requires-clause-there g c =
+    let old : Parts = parts c.args.c.now in
+    let rig = c.args.c.now.rig in
+    let i : ℕ = c.args.i in
+    let n = c.instances.ensures in
+    let f = c.requires.fits in
+    let next = subst (IsNext old i) c.in-End.is c.requires.next in
+    let stands = ended-loser (txns_at old i) c.in-End.t next.1.2 in
+    let own : home c.in-End.t ≡ i = own-row i (g.G.Rig.seen rig) (g.G.Rig.leaves rig) old f.0 f.1 n.low n.high c.in-End.t TxnState.Retained stands in
+    subst (λ (j : ℕ). IsSome (span_at (txns_at old j) c.in-End.t)) (sym own) (spoken (txns_at old i) c.in-End.t next.1.2)
+
+pub settle_next-requires-clause-device : goal.settle_next-requires-clause-device
+settle_next-requires-clause-device g c = (subst (IsNext (parts c.args.c.now) c.args.i) c.in-Settle.is c.requires.next).0
+
+pub settle_next-requires-clause-loose : goal.settle_next-requires-clause-loose
+settle_next-requires-clause-loose g c = (subst (IsNext (parts c.args.c.now) c.args.i) c.in-Settle.is c.requires.next).1
+
+pub settle_next-requires-clause-lowest : goal.settle_next-requires-clause-lowest
+settle_next-requires-clause-lowest g c = (subst (IsNext (parts c.args.c.now) c.args.i) c.in-Settle.is c.requires.next).2
+
+pub rebuild_next-requires-clause-settled : goal.rebuild_next-requires-clause-settled
+rebuild_next-requires-clause-settled g c = (subst (IsNext (parts c.args.c.now) c.args.i) c.in-Rebuild.is c.requires.next).0
+
+pub rebuild_next-requires-clause-lowest : goal.rebuild_next-requires-clause-lowest
+rebuild_next-requires-clause-lowest g c = (subst (IsNext (parts c.args.c.now) c.args.i) c.in-Rebuild.is c.requires.next).1
+
+pub finish-requires-clause-there : goal.finish-requires-clause-there
+finish-requires-clause-there g c = (subst (IsNext (parts c.args.c.now) c.args.i) c.in-Done.is c.requires.next).0
+
+pub finish-requires-clause-done : goal.finish-requires-clause-done
+finish-requires-clause-done g c = (subst (IsNext (parts c.args.c.now) c.args.i) c.in-Done.is c.requires.next).1
+
+pub returns-in-Settle-clause-served : goal.returns-in-Settle-clause-served
+returns-in-Settle-clause-served g c =
+    let tell : Telling _ = telling g.G.Rig.seen g.G.Rig.leaves g.G.Rig.moment g.G.Rig.since g.G.Rig.faults in
+    subst (λ (a : Option Reply). Serving tell (RecoverStep c.args.i) a c.args.c.now c.settle_next.new.c) (sym c.stepped.ensures.reply) c.settle_next.ensures.served
+
+pub returns-in-Rebuild-clause-served : goal.returns-in-Rebuild-clause-served
+returns-in-Rebuild-clause-served g c =
+    let tell : Telling _ = telling g.G.Rig.seen g.G.Rig.leaves g.G.Rig.moment g.G.Rig.since g.G.Rig.faults in
+    subst (λ (a : Option Reply). Serving tell (RecoverStep c.args.i) a c.args.c.now c.rebuild_next.new.c) (sym c.stepped-in-Rebuild.ensures.reply) c.rebuild_next.ensures.served
+
+pub returns-in-Decide-clause-served : goal.returns-in-Decide-clause-served
+returns-in-Decide-clause-served g c =
+    let tell : Telling _ = telling g.G.Rig.seen g.G.Rig.leaves g.G.Rig.moment g.G.Rig.since g.G.Rig.faults in
+    let old : Parts = parts c.args.c.now in
+    let rig = c.args.c.now.rig in
+    let i : ℕ = c.args.i in
+    let n = c.instances.ensures in
+    let f = c.requires.fits in
+    let next = subst (IsNext old i) c.in-Decide.is c.requires.next in
+    let stands = doubtful (txns_at old i) c.in-Decide.t next.1 in
+    let own : home c.in-Decide.t ≡ i = own-row i (g.G.Rig.seen rig) (g.G.Rig.leaves rig) old f.0 f.1 n.low n.high c.in-Decide.t TxnState.Doubt stands in
+    subst (λ (a : Option Reply). Serving tell (RecoverStep i) a c.args.c.now c.decide_next.new.c) (sym c.stepped-in-Decide.ensures.reply)
+    (subst (λ (j : ℕ). Serving tell (RecoverStep j) (answered (λ _. reply.Step) c.decide_next.result) c.args.c.now c.decide_next.new.c) own c.decide_next.ensures.served)
+
+pub returns-in-Undo-clause-served : goal.returns-in-Undo-clause-served
+returns-in-Undo-clause-served g c =
+    let tell : Telling _ = telling g.G.Rig.seen g.G.Rig.leaves g.G.Rig.moment g.G.Rig.since g.G.Rig.faults in
+    let old : Parts = parts c.args.c.now in
+    let rig = c.args.c.now.rig in
+    let i : ℕ = c.args.i in
+    let n = c.instances.ensures in
+    let f = c.requires.fits in
+    let next = subst (IsNext old i) c.in-Undo.is c.requires.next in
+    let stands = (open-loser (txns_at old i) c.in-Undo.txn next.1.1).0 in
+    let own : home c.in-Undo.txn ≡ i = own-row i (g.G.Rig.seen rig) (g.G.Rig.leaves rig) old f.0 f.1 n.low n.high c.in-Undo.txn TxnState.Retained stands in
+    subst (λ (a : Option Reply). Serving tell (RecoverStep i) a c.args.c.now c.undo_next.new.c) (sym c.stepped-in-Undo.ensures.reply)
+    (subst (λ (j : ℕ). Serving tell (RecoverStep j) (answered (λ _. reply.Step) c.undo_next.result) c.args.c.now c.undo_next.new.c) own c.undo_next.ensures.served)
+
+pub returns-in-End-clause-served : goal.returns-in-End-clause-served
+returns-in-End-clause-served g c =
+    let tell : Telling _ = telling g.G.Rig.seen g.G.Rig.leaves g.G.Rig.moment g.G.Rig.since g.G.Rig.faults in
+    let old : Parts = parts c.args.c.now in
+    let rig = c.args.c.now.rig in
+    let i : ℕ = c.args.i in
+    let n = c.instances.ensures in
+    let f = c.requires.fits in
+    let next = subst (IsNext old i) c.in-End.is c.requires.next in
+    let stands = ended-loser (txns_at old i) c.in-End.t next.1.2 in
+    let own : home c.in-End.t ≡ i = own-row i (g.G.Rig.seen rig) (g.G.Rig.leaves rig) old f.0 f.1 n.low n.high c.in-End.t TxnState.Retained stands in
+    subst (λ (a : Option Reply). Serving tell (RecoverStep i) a c.args.c.now c.end_next.new.c) (sym c.stepped-in-End.ensures.reply)
+    (subst (λ (j : ℕ). Serving tell (RecoverStep j) (answered (λ _. reply.Step) c.end_next.result) c.args.c.now c.end_next.new.c) own c.end_next.ensures.served)
+
+pub returns-in-Done-clause-served : goal.returns-in-Done-clause-served
+returns-in-Done-clause-served g c =
+    let tell : Telling _ = telling g.G.Rig.seen g.G.Rig.leaves g.G.Rig.moment g.G.Rig.since g.G.Rig.faults in
+    subst (λ (a : Option Reply). Serving tell (RecoverStep c.args.i) a c.args.c.now c.finish.new.c) (sym c.ended.ensures.reply) c.finish.ensures.served
+
+pub returns-in-Decide-clause-stepped : goal.returns-in-Decide-clause-stepped
+returns-in-Decide-clause-stepped g c = λ fine there.
+    let old : Parts = parts c.args.c.now in
+    let rig = c.args.c.now.rig in
+    let i : ℕ = c.args.i in
+    let n = c.instances.ensures in
+    let f = c.requires.fits in
+    let next = subst (IsNext old i) c.in-Decide.is c.requires.next in
+    let stands = doubtful (txns_at old i) c.in-Decide.t next.1 in
+    let own : home c.in-Decide.t ≡ i = own-row i (g.G.Rig.seen rig) (g.G.Rig.leaves rig) old f.0 f.1 n.low n.high c.in-Decide.t TxnState.Doubt stands in
+    subst (λ (j : ℕ). suc (tasks_in (txns_at (parts c.decide_next.new.c) j)) ≡ tasks_in (txns_at old j)) own
+    (when_ok c.decide_next.result tt _ (c.stepped-in-Decide.ensures.fine fine) c.decide_next.ensures.fewer)
+
+pub returns-in-Undo-clause-stepped : goal.returns-in-Undo-clause-stepped
+returns-in-Undo-clause-stepped g c = λ fine there.
+    let old : Parts = parts c.args.c.now in
+    let rig = c.args.c.now.rig in
+    let i : ℕ = c.args.i in
+    let n = c.instances.ensures in
+    let f = c.requires.fits in
+    let next = subst (IsNext old i) c.in-Undo.is c.requires.next in
+    let stands = (open-loser (txns_at old i) c.in-Undo.txn next.1.1).0 in
+    let own : home c.in-Undo.txn ≡ i = own-row i (g.G.Rig.seen rig) (g.G.Rig.leaves rig) old f.0 f.1 n.low n.high c.in-Undo.txn TxnState.Retained stands in
+    subst (λ (j : ℕ). suc (tasks_in (txns_at (parts c.undo_next.new.c) j)) ≡ tasks_in (txns_at old j)) own
+    (when_ok c.undo_next.result tt _ (c.stepped-in-Undo.ensures.fine fine) c.undo_next.ensures.fewer)
+
+pub returns-in-End-clause-stepped : goal.returns-in-End-clause-stepped
+returns-in-End-clause-stepped g c = λ fine there.
+    let old : Parts = parts c.args.c.now in
+    let rig = c.args.c.now.rig in
+    let i : ℕ = c.args.i in
+    let n = c.instances.ensures in
+    let f = c.requires.fits in
+    let next = subst (IsNext old i) c.in-End.is c.requires.next in
+    let stands = ended-loser (txns_at old i) c.in-End.t next.1.2 in
+    let own : home c.in-End.t ≡ i = own-row i (g.G.Rig.seen rig) (g.G.Rig.leaves rig) old f.0 f.1 n.low n.high c.in-End.t TxnState.Retained stands in
+    subst (λ (j : ℕ). suc (tasks_in (txns_at (parts c.end_next.new.c) j)) ≡ tasks_in (txns_at old j)) own
+    (when_ok c.end_next.result tt _ (c.stepped-in-End.ensures.fine fine) c.end_next.ensures.fewer)
+
+pub returns-in-Settle-clause-stepped : goal.returns-in-Settle-clause-stepped
+returns-in-Settle-clause-stepped g c = λ fine there.
+    let next = subst (IsNext (parts c.args.c.now) c.args.i) c.in-Settle.is c.requires.next in
+    absurd (opposite (is_loose (parts c.args.c.now) c.in-Settle.dev) next.1 (there.0 c.in-Settle.dev next.0))
+
+pub returns-in-Rebuild-clause-stepped : goal.returns-in-Rebuild-clause-stepped
+returns-in-Rebuild-clause-stepped g c = λ fine there.
+    let next = subst (IsNext (parts c.args.c.now) c.args.i) c.in-Rebuild.is c.requires.next in
+    absurd (opposite (is_lost (entry_at (parts c.args.c.now).directory c.in-Rebuild.p)) next.1.0 (there.1 c.in-Rebuild.p))
+
+pub returns-in-Done-clause-stepped : goal.returns-in-Done-clause-stepped
+returns-in-Done-clause-stepped g c = λ fine. absurd (c.ended.ensures.last fine)
+
+pub returns-in-Settle-clause-cleared : goal.returns-in-Settle-clause-cleared
+returns-in-Settle-clause-cleared g c = λ fine.
+    let old : Parts = parts c.args.c.now in
+    let new : Parts = parts c.settle_next.new.c in
+    next-cleared old new c.args.i (task.Settle c.in-Settle.dev) (subst (IsNext old c.args.i) c.in-Settle.is c.requires.next)
+    (when_ok c.settle_next.result tt _ (c.stepped.ensures.fine fine) c.settle_next.ensures.settled)
+
+pub returns-in-Rebuild-clause-cleared : goal.returns-in-Rebuild-clause-cleared
+returns-in-Rebuild-clause-cleared g c = λ fine.
+    let old : Parts = parts c.args.c.now in
+    let new : Parts = parts c.rebuild_next.new.c in
+    let next = subst (IsNext old c.args.i) c.in-Rebuild.is c.requires.next in
+    let is = when_ok c.rebuild_next.result tt _ (c.stepped-in-Rebuild.ensures.fine fine) c.rebuild_next.ensures.stays in
+    let set = when_ok c.rebuild_next.result tt _ (c.stepped-in-Rebuild.ensures.fine fine) c.rebuild_next.ensures.place in
+    next-cleared old new c.args.i (task.Rebuild c.in-Rebuild.p) next
+    (λ d le. ap (λ (k : Parts). is_loose k d) is ∙ next.0 d le, set.entry, set.others)
+
+pub returns-in-Decide-clause-cleared : goal.returns-in-Decide-clause-cleared
+returns-in-Decide-clause-cleared g c = λ fine.
+    there-cleared (parts c.args.c.now) (parts c.decide_next.new.c)
+    (subst (IsNext (parts c.args.c.now) c.args.i) c.in-Decide.is c.requires.next).0
+
+pub returns-in-Undo-clause-cleared : goal.returns-in-Undo-clause-cleared
+returns-in-Undo-clause-cleared g c = λ fine.
+    there-cleared (parts c.args.c.now) (parts c.undo_next.new.c)
+    (subst (IsNext (parts c.args.c.now) c.args.i) c.in-Undo.is c.requires.next).0
+
+pub returns-in-End-clause-cleared : goal.returns-in-End-clause-cleared
+returns-in-End-clause-cleared g c = λ fine.
+    there-cleared (parts c.args.c.now) (parts c.end_next.new.c)
+    (subst (IsNext (parts c.args.c.now) c.args.i) c.in-End.is c.requires.next).0
+
+pub returns-in-Done-clause-cleared : goal.returns-in-Done-clause-cleared
+returns-in-Done-clause-cleared g c = λ fine. absurd (c.ended.ensures.last fine)
+
+pub returns-in-Settle-clause-awaits : goal.returns-in-Settle-clause-awaits
+returns-in-Settle-clause-awaits g c =
+    let old : Parts = parts c.args.c.now in
+    none-wanted c.stepped.result c.settle_next.result (AwaitsPage old c.args.i) c.stepped.ensures.same
+    (lost-none c.settle_next.result c.args.by old (parts c.settle_next.new.c) c.settle_next.ensures.left)
+
+pub returns-in-Rebuild-clause-awaits : goal.returns-in-Rebuild-clause-awaits
+returns-in-Rebuild-clause-awaits g c =
+    let old : Parts = parts c.args.c.now in
+    none-wanted c.stepped-in-Rebuild.result c.rebuild_next.result (AwaitsPage old c.args.i) c.stepped-in-Rebuild.ensures.same
+    (lost-none c.rebuild_next.result c.args.by old (parts c.rebuild_next.new.c) c.rebuild_next.ensures.left)
+
+pub returns-in-Decide-clause-awaits : goal.returns-in-Decide-clause-awaits
+returns-in-Decide-clause-awaits g c =
+    none-wanted c.stepped-in-Decide.result c.decide_next.result (AwaitsPage (parts c.args.c.now) c.args.i) c.stepped-in-Decide.ensures.same
+    c.decide_next.ensures.only
+
+pub returns-in-Undo-clause-awaits : goal.returns-in-Undo-clause-awaits
+returns-in-Undo-clause-awaits g c =
+    let old : Parts = parts c.args.c.now in
+    wanted-so c.stepped-in-Undo.result (AwaitsPage old c.args.i)
+    (c.in-Undo.txn, c.in-Undo.page, subst (IsNext old c.args.i) c.in-Undo.is c.requires.next)
+
+pub returns-in-End-clause-awaits : goal.returns-in-End-clause-awaits
+returns-in-End-clause-awaits g c =
+    none-wanted c.stepped-in-End.result c.end_next.result (AwaitsPage (parts c.args.c.now) c.args.i) c.stepped-in-End.ensures.same
+    c.end_next.ensures.only
+
+pub returns-in-Done-clause-awaits : goal.returns-in-Done-clause-awaits
+returns-in-Done-clause-awaits g c =
+    none-wanted c.ended.result c.finish.result (AwaitsPage (parts c.args.c.now) c.args.i) c.ended.ensures.same c.finish.ensures.only

@@ -1,0 +1,103 @@
+//! The transaction in doubt of a recovered instance is decided.
+
+ghost use Rattle.std.specs.Prelude.{◌≡◌, ◌≢◌, Err, IfErr, None, OnErr, OnOk, Some, false, suc};
+ghost use Rattle.std.specs.List.{list_any};
+ghost use Rattle.sd_base.specs.declared.place.Status.TheVariants as S;
+ghost use Rattle.sd_base.specs.declared.refusal.Refusal.TheVariants as R;
+ghost use Rattle.sd_chain.specs.Fates.{commits};
+ghost use Rattle.sd_chain.specs.Records.{home};
+ghost use Rattle.sd_fits.specs.Fits.{Fits};
+ghost use Rattle.sd_fits.specs.Serving.{Serving};
+ghost use Rattle.sd_log.specs.Logs.{forced, scanned};
+ghost use Rattle.sd_logrec.specs.View.{flat};
+ghost use Rattle.sd_model.specs.declared.event.Event.TheVariants as event;
+ghost use Rattle.sd_model.specs.declared.event.Reply.TheVariants as reply;
+ghost use Rattle.sd_state.specs.Complexes.{parts};
+ghost use Rattle.sd_state.specs.Forcing.{with_forced};
+ghost use Rattle.sd_state.specs.Parts.{is_loose, log_at, owed_at, status_at, txns_at};
+ghost use Rattle.sd_recover.specs.Recovering.{WantsNone, tasks_in};
+ghost use Rattle.sd_txn.specs.Transactions.{state_at};
+ghost use Rattle.sd_txn.specs.declared.state.TxnState.{TxnState};
+ghost use Rattle.sd_world.specs.Serving.{Core, answered, telling};
+
+use sd_base::{Failed, InstNo, Refusal, TxnId};
+use sd_log::{Log, Placed};
+use sd_logrec::Record;
+use sd_losers::decided;
+use sd_moves::{down, laws};
+use sd_rig::Rig;
+use sd_state::Complex;
+
+/// Decides the transaction in doubt of an instance that `by` recovers: it is committed where the log has its Commit, and a loser where
+/// it hasn't. It looks through the records of the log once. It takes no memory.
+pub(crate) fn decide_next<G: Rig>(c: &mut Complex<G>, by: InstNo, t: &TxnId) -> Result<(), Refusal>
+    requires fits { (w : Core) × Fits (G.seen c.old.rig) (G.leaves c.old.rig) (parts c.old) w }
+    requires recovers { status_at (parts c.old) (home t.now) ≡ S.Recovering by }
+    requires settled { is_loose (parts c.old) (home t.now) ≡ false }
+    requires doubt { state_at (txns_at (parts c.old) (home t.now)) t.now ≡ Some TxnState.Doubt }
+    ensures served { Serving (telling G.seen G.leaves G.moment G.since G.faults) (event.RecoverStep (home t.now))
+        (answered (λ _. reply.Step) result) c.old c.new }
+    ensures there { result ≢ Err R.Memory }
+    ensures only { IfErr result WantsNone }
+    ensures fewer { OnOk result
+        (suc (tasks_in (txns_at (parts c.new) (home t.now))) ≡ tasks_in (txns_at (parts c.old) (home t.now))) }
+{
+    laws::instances(t.inst);
+    match at_rest(c, t.inst, by) {
+        Ok(()) => {
+            c.txns(t.inst).keeps();
+            let committed = has_commit(c.log(t.inst), t);
+            decided(c, t, committed);
+            Ok(())
+        }
+        Err(_) => Err(Refusal::Failed),
+    }
+}
+
+/// The log of an instance that `by` recovers has no tail from then on. Between two steps it has none, so that no device is called; after
+/// `Failed` the instance `by` has fallen.
+pub(crate) fn at_rest<G: Rig>(c: &mut Complex<G>, i: InstNo, by: InstNo) -> Result<(), Failed>
+    requires fits { (w : Core) × Fits (G.seen c.old.rig) (G.leaves c.old.rig) (parts c.old) w }
+    requires recovers { status_at (parts c.old) i ≡ S.Recovering by }
+    requires settled { is_loose (parts c.old) i ≡ false }
+    ensures spared { OnOk result
+        (Serving (telling G.seen G.leaves G.moment G.since G.faults) (event.RecoverStep i) None c.old c.new) }
+    ensures parts { OnOk result
+        (parts c.new ≡ with_forced i (forced (log_at (parts c.old) i)) (owed_at (parts c.new) i) (parts c.old)) }
+    ensures failed { OnErr result
+        (Serving (telling G.seen G.leaves G.moment G.since G.faults) (event.RecoverStep i) (Some (reply.Refused R.Failed)) c.old c.new) }
+{
+    laws::instances(i);
+    laws::instances(by);
+    match c.force_log(i) {
+        Ok(()) => Ok(()),
+        Err(failed) => {
+            down(c, by);
+            Err(failed)
+        }
+    }
+}
+
+// Whether the log has a Commit of the transaction.
+fn has_commit(log: &Log, t: &TxnId) -> bool
+    ensures { result ≡ list_any (λ p. commits t.now (flat p.rec)) (scanned log.now) }
+{
+    any_commit(log.scan(), t)
+}
+
+// Whether one of these records is a Commit of the transaction.
+fn any_commit(placed: &[Placed], t: &TxnId) -> bool
+    ensures { result ≡ list_any (λ p. commits t.now (flat p.rec)) placed.now }
+{
+    placed.iter().any(|p| commits(&p.rec, t))
+}
+
+// Whether the record is a Commit of the transaction.
+fn commits(rec: &Record, t: &TxnId) -> bool
+    ensures { result ≡ commits t.now (flat rec.now) }
+{
+    match rec {
+        Record::Commit { txn, .. } => *txn == *t,
+        _ => false,
+    }
+}

@@ -1,0 +1,86 @@
+//! A loser of a recovered instance gets its End, and the recovery ends.
+
+ghost use Rattle.std.specs.Prelude.{◌≡◌, ◌≢◌, ◌≤◌, ◌<◌, ◌^◌, Err, IfErr, IsSome, None, OnOk, Some, false, suc};
+ghost use Rattle.sd_base.specs.declared.place.Status.TheVariants as S;
+ghost use Rattle.sd_base.specs.declared.refusal.Refusal.TheVariants as R;
+ghost use Rattle.sd_chain.specs.Records.{home};
+ghost use Rattle.sd_fits.specs.Fits.{Fits};
+ghost use Rattle.sd_fits.specs.Serving.{Serving};
+ghost use Rattle.sd_model.specs.declared.event.Event.TheVariants as event;
+ghost use Rattle.sd_model.specs.declared.event.Reply.TheVariants as reply;
+ghost use Rattle.sd_state.specs.Complexes.{parts};
+ghost use Rattle.sd_state.specs.Parts.{is_loose, status_at, txns_at};
+ghost use Rattle.sd_recover.specs.Recovering.{tasks_in, AreThere, IsRowTask, WantsNone};
+ghost use Rattle.sd_recover.specs.declared.tasks.Task.TheVariants as task;
+ghost use Rattle.sd_txn.specs.Transactions.{span_at, state_at, top_at};
+ghost use Rattle.sd_txn.specs.declared.state.TxnState.{TxnState};
+ghost use Rattle.sd_world.specs.Serving.{Core, answered, telling};
+
+use crate::deciding::at_rest;
+use sd_base::{InstNo, Refusal, TxnId};
+use sd_losers::recovered;
+use sd_moves::{down, laws};
+use sd_rig::Rig;
+use sd_state::Complex;
+
+/// Puts the End of a loser into the log of its instance, which `by` recovers, and forces that. `Memory` changes nothing; after `Failed`
+/// the instance `by` has fallen.
+pub(crate) fn end_next<G: Rig>(c: &mut Complex<G>, by: InstNo, t: &TxnId) -> Result<(), Refusal>
+    requires fits { (w : Core) × Fits (G.seen c.old.rig) (G.leaves c.old.rig) (parts c.old) w }
+    requires recovers { status_at (parts c.old) (home t.now) ≡ S.Recovering by }
+    requires settled { is_loose (parts c.old) (home t.now) ≡ false }
+    requires loser { state_at (txns_at (parts c.old) (home t.now)) t.now ≡ Some TxnState.Retained }
+    requires empty { top_at (txns_at (parts c.old) (home t.now)) t.now ≡ None }
+    requires there { IsSome (span_at (txns_at (parts c.old) (home t.now)) t.now) }
+    ensures served { Serving (telling G.seen G.leaves G.moment G.since G.faults) (event.RecoverStep (home t.now))
+        (answered (λ _. reply.Step) result) c.old c.new }
+    ensures only { IfErr result WantsNone }
+    ensures fewer { OnOk result
+        (suc (tasks_in (txns_at (parts c.new) (home t.now))) ≡ tasks_in (txns_at (parts c.old) (home t.now))) }
+{
+    name(t);
+    laws::instances(by);
+    c.seal_end(t)?;
+    match c.force_log(t.inst) {
+        Ok(()) => Ok(()),
+        Err(_) => {
+            down(c, by);
+            Err(Refusal::Failed)
+        }
+    }
+}
+
+// The numbers of a transaction's name.
+fn name(t: &TxnId)
+    ensures low { 1 ≤ t.now.inst }
+    ensures high { t.now.inst ≤ 8 }
+    ensures epoch { t.now.epoch < 2 ^ 32 }
+    ensures seq { t.now.seq < 2 ^ 32 }
+{
+    let _inst = t.inst.get();
+    let _epoch = t.epoch;
+    let _seq = t.seq;
+}
+
+/// Ends the recovery of an instance by `by`: the transaction that was found committed is so, the losers are gone, and all of them let go
+/// of their locks. It takes no memory.
+pub(crate) fn finish<G: Rig>(c: &mut Complex<G>, i: InstNo, by: InstNo) -> Result<(), Refusal>
+    requires fits { (w : Core) × Fits (G.seen c.old.rig) (G.leaves c.old.rig) (parts c.old) w }
+    requires recovers { status_at (parts c.old) i ≡ S.Recovering by }
+    requires there { AreThere (parts c.old) }
+    requires done { IsRowTask (txns_at (parts c.old) i) task.Done }
+    ensures served { Serving (telling G.seen G.leaves G.moment G.since G.faults) (event.RecoverStep i)
+        (answered (λ _. reply.Finished) result) c.old c.new }
+    ensures memory { result ≢ Err R.Memory }
+    ensures only { IfErr result WantsNone }
+{
+    laws::instances(i);
+    match at_rest(c, i, by) {
+        Ok(()) => {
+            c.txns(i).keeps();
+            recovered(c, i);
+            Ok(())
+        }
+        Err(_) => Err(Refusal::Failed),
+    }
+}

@@ -1,0 +1,80 @@
+//! A loser's last open record is undone by the instance that recovers the loser's.
+
+ghost use Rattle.std.specs.Prelude.{◌≡◌, ◌↔◌, IfErr, IsTrue, OnOk, Some, suc, true};
+ghost use Rattle.sd_base.specs.declared.place.Status.TheVariants as S;
+ghost use Rattle.sd_base.specs.declared.refusal.Refusal.TheVariants as R;
+ghost use Rattle.sd_chain.specs.Records.{home};
+ghost use Rattle.sd_fits.specs.Fits.{Fits};
+ghost use Rattle.sd_fits.specs.Serving.{Serving};
+ghost use Rattle.sd_model.specs.declared.event.Event.TheVariants as event;
+ghost use Rattle.sd_model.specs.declared.event.Reply.TheVariants as reply;
+ghost use Rattle.sd_pagelock.specs.Directory.{entry_at};
+ghost use Rattle.sd_places.specs.Places.{owns};
+ghost use Rattle.sd_state.specs.Complexes.{parts};
+ghost use Rattle.sd_state.specs.Parts.{status_at, txns_at};
+ghost use Rattle.sd_recover.specs.Recovering.{tasks_in, AreThere, IsAway};
+ghost use Rattle.sd_txn.specs.Transactions.{state_at, top_at};
+ghost use Rattle.sd_txn.specs.declared.state.OpenRec.{OpenRec};
+ghost use Rattle.sd_txn.specs.declared.state.TxnState.{TxnState};
+ghost use Rattle.sd_world.specs.Serving.{Core, answered, telling};
+
+use sd_base::{InstNo, Mode, PageNo, Refusal, TxnId};
+use sd_losers::undo_forced;
+use sd_moves::{down, laws};
+use sd_pagelock::rows;
+use sd_rig::Rig;
+use sd_state::Complex;
+
+/// Undoes a loser's last open record, which is of this page, in the pool of `by`, which recovers the loser's instance: the CLR is forced
+/// into the log of that. `NeedPage` comes where `by` hasn't the page alone, and changes nothing; after `Memory` all is as it was, but
+/// that the log of `by` may be forced; after `Failed` the instance `by` has fallen.
+pub(crate) fn undo_next<G: Rig>(
+    c: &mut Complex<G>,
+    by: InstNo,
+    t: &TxnId,
+    page: PageNo,
+) -> Result<(), Refusal>
+    requires fits { (w : Core) × Fits (G.seen c.old.rig) (G.leaves c.old.rig) (parts c.old) w }
+    requires recovers { status_at (parts c.old) (home t.now) ≡ S.Recovering by }
+    requires there { AreThere (parts c.old) }
+    requires loser { state_at (txns_at (parts c.old) (home t.now)) t.now ≡ Some TxnState.Retained }
+    requires last { (o : OpenRec) × (top_at (txns_at (parts c.old) (home t.now)) t.now ≡ Some o) × (page ≡ o.rid.page) }
+    ensures served { Serving (telling G.seen G.leaves G.moment G.since G.faults) (event.RecoverStep (home t.now))
+        (answered (λ _. reply.Step) result) c.old c.new }
+    ensures fewer { OnOk result
+        (suc (tasks_in (txns_at (parts c.new) (home t.now))) ≡ tasks_in (txns_at (parts c.old) (home t.now))) }
+{
+    laws::instances(t.inst);
+    laws::instances(by);
+    c.txns(t.inst).keeps();
+    alone(c, by, page)?;
+    match undo_forced(c, t, by) {
+        Ok(()) => Ok(()),
+        Err(refusal) => {
+            if is_memory(&refusal) {
+                return Err(Refusal::Memory);
+            }
+            down(c, by);
+            Err(Refusal::Failed)
+        }
+    }
+}
+
+// Whether it is for want of memory.
+fn is_memory(refusal: &Refusal) -> bool
+    ensures { IsTrue result ↔ (refusal.now ≡ R.Memory) }
+{
+    matches!(refusal, Refusal::Memory)
+}
+
+// Whether the instance has the page alone.
+fn alone<G>(c: &Complex<G>, by: InstNo, page: PageNo) -> Result<(), Refusal>
+    ensures alone { OnOk result (owns (entry_at (parts c.now).directory page) by ≡ true) }
+    ensures away { IfErr result (IsAway by page (parts c.now)) }
+{
+    let place = c.entry(page);
+    if !rows::holds_as(Mode::Excl, &place, by) {
+        return Err(Refusal::NeedPage { place });
+    }
+    Ok(())
+}
