@@ -6,22 +6,23 @@ use Rattle.sd_model.specs.declared.event.Event.TheVariants as event
 use Rattle.sd_model.specs.declared.event.Reply.{Reply}
 use Rattle.sd_model.specs.declared.event.Reply.TheVariants as reply
 use Rattle.sd_model.specs.State.{State}
-use Rattle.sd_script.specs.declared.line.Form.{Form}
-use Rattle.sd_script.specs.declared.line.Form.TheVariants as form
-use Rattle.sd_script.specs.declared.line.Line.{Line}
+use Rattle.sd_forms.specs.declared.line.Form.{Form}
+use Rattle.sd_forms.specs.declared.line.Form.TheVariants as form
+use Rattle.sd_forms.specs.declared.line.Line.{Line}
 use Rattle.sd_script.specs.Order.{begun_by}
 use Rattle.sd_world.specs.Serving.{Core, Telling}
 use Rattle.sd_hall.specs.Bodies.{fits_in}
 use Rattle.sd_drive.specs.declared.driver.Driver.{Driver}
-use Rattle.sd_drive.specs.Bodies.{status_in}
-use Rattle.sd_drive.specs.Driven.{IsIn}
-use Rattle.sd_drive.specs.Driving.{Cursor, Known, Work, World, begins, cursor_in, done, goes_on, is_up, joins, next_absent, start_of, stays, works_of}
-use Rattle.sd_drive.specs.Lines.{Names, named_by, way_of}
-use Rattle.sd_drive.specs.Operating.{Came, DueIn, Operates, OperatesSome}
-use Rattle.sd_drive.specs.Pulls.{Pull}
-use Rattle.sd_drive.specs.Reaching.{AreDriven, AtLine, DrivesLine, DrivesSome, IsJoining, IsSame, JoinsNow, JoinsOn, JoinsSome, KnowsAll, Reached, WaitsToJoin, is_joined}
-use Rattle.sd_drive.specs.Running.{Start}
-use Rattle.sd_drive.proofs.Bodies.{fits-now, status-is}
+use Rattle.sd_pull.specs.Bodies.{status_in}
+use Rattle.sd_pull.specs.Driven.{IsIn}
+use Rattle.sd_pull.specs.Driving.{Cursor, Known, Work, World, begins, cursor_in, done, goes_on, is_up, joins, next_absent, start_of, stays, works_of}
+use Rattle.sd_pull.specs.Lines.{Names, named_by, way_of}
+use Rattle.sd_pull.specs.Operating.{Came, DueIn, Operates, OperatesSome}
+use Rattle.sd_pull.specs.Pulls.{Pull}
+use Rattle.sd_drive.specs.Reaching.{AreDriven, AtLine, DrivesLine, DrivesSome, IsJoining, IsSame, JoinsNow, JoinsOn, JoinsSome, KnowsAll, Reached, WaitsToJoin}
+use Rattle.sd_pull.specs.Replies.{is_joined}
+use Rattle.sd_pull.specs.Running.{Start}
+use Rattle.sd_pull.proofs.Bodies.{fits-now, status-is}
 use Rattle.sd_drive.proofs.Lines.{first-here, goes-there, knows-as, knows-more, passes-by}
 use Rattle.sd_drive.proofs.Tables.{first-behind, first-here as first-found, first-none}
 

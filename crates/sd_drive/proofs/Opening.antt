@@ -11,7 +11,7 @@ use Rattle.sd_model.specs.declared.event.Reply.{Reply}
 use Rattle.sd_model.specs.declared.event.Reply.TheVariants as reply
 use Rattle.sd_model.specs.State.{State}
 use Rattle.sd_rig.specs.Devices.{DeviceImages, Leaves}
-use Rattle.sd_script.specs.declared.line.Line.{Line}
+use Rattle.sd_forms.specs.declared.line.Line.{Line}
 use Rattle.sd_world.specs.Leading.{Leads}
 use Rattle.sd_world.specs.Serving.{Core, Telling}
 use Rattle.sd_fits.specs.Bodies.{fits_body, rig_of}
@@ -19,26 +19,26 @@ use Rattle.sd_fits.specs.declared.body.Body.{Body}
 use Rattle.sd_hall.specs.Bodies.{IsRigIn, fits_in}
 use Rattle.sd_hall.specs.Keeping.{Keeps}
 use Rattle.sd_drive.specs.declared.driver.Driver.{Driver}
-use Rattle.sd_drive.specs.declared.recovery.Outcome.{Outcome}
-use Rattle.sd_drive.specs.declared.recovery.Outcome.TheVariants as outcomes
-use Rattle.sd_drive.specs.declared.recovery.Owner.{Owner}
-use Rattle.sd_drive.specs.Bodies.{status_in}
-use Rattle.sd_drive.specs.Driven.{IsIn, StaysIn}
-use Rattle.sd_drive.specs.Driving.{Cursor, Known, TellsAt, Tells, Work, World, ahead, event_at, fails, followed, goes_on, is_down, leavers, left_from, next_down, opens, stays, untold, works_of}
+use Rattle.sd_pull.specs.declared.recovery.Outcome.{Outcome}
+use Rattle.sd_pull.specs.declared.recovery.Outcome.TheVariants as outcomes
+use Rattle.sd_pull.specs.declared.recovery.Owner.{Owner}
+use Rattle.sd_pull.specs.Bodies.{status_in}
+use Rattle.sd_pull.specs.Driven.{IsIn, StaysIn}
+use Rattle.sd_pull.specs.Driving.{Cursor, Known, TellsAt, Tells, Work, World, ahead, event_at, fails, followed, goes_on, is_down, leavers, left_from, next_down, opens, stays, untold, works_of}
 use Rattle.sd_drive.specs.Emptying.{BreaksBy, BreaksIn, IsAlone, OpensAt, OpensBy, OpensTo, StopsIn, pools_from}
-use Rattle.sd_drive.specs.Pulls.{Pull, is_pulling}
+use Rattle.sd_pull.specs.Pulls.{Pull, is_pulling}
 use Rattle.sd_drive.specs.Reaching.{AllJoined, HaveJoined, IsOpening, IsSame, JoinBreaks, Joins, JoinsAll, JoinsNext, Opens, OpensOn, OpensSome, Reached, begin_of}
-use Rattle.sd_drive.specs.Recoveries.{DoesSome, DueOf, GoneOn, IsDueOf, RecoversTo}
+use Rattle.sd_pull.specs.Recoveries.{DoesSome, DueOf, GoneOn, IsDueOf, RecoversTo}
 use Rattle.sd_drive.specs.Recovering.{IsRestarting, RestartBreaks, Restarts, RestartsNext, RestartsSome}
-use Rattle.sd_drive.specs.Running.{Breaks, Ran, Start}
-use Rattle.sd_drive.specs.Standing.{is_failed}
-use Rattle.sd_drive.proofs.Running.{ran-start}
-use Rattle.sd_drive.proofs.Bodies.{fits-now, fits-some, status-is}
+use Rattle.sd_pull.specs.Running.{Breaks, Ran, Start}
+use Rattle.sd_pull.specs.Standing.{is_failed}
+use Rattle.sd_pull.proofs.Running.{ran-start}
+use Rattle.sd_pull.proofs.Bodies.{fits-now, fits-some, status-is}
 use Rattle.sd_drive.proofs.Pools.{pools-none}
-use Rattle.sd_drive.proofs.Marks.{breaks-there}
+use Rattle.sd_pull.proofs.Marks.{breaks-there}
 use Rattle.sd_drive.proofs.Recovering.{down-behind, down-here}
-use Rattle.sd_drive.proofs.Steps.{Moved, Noted, moved}
-use Rattle.sd_drive.proofs.Telling.{own-in-vain, tells-at, unfails}
+use Rattle.sd_pull.proofs.Steps.{Moved, Noted, moved}
+use Rattle.sd_pull.proofs.Telling.{own-in-vain, tells-at, unfails}
 
 -- where the opening goes on
 join-goes : (known : Known) (w : Core) (i : ℕ) (r : Reply) (b : Bool) → ltb i known.insts ≡ b

@@ -6,8 +6,8 @@ use Rattle.sd_base.specs.declared.place.Status.{Status}
 use Rattle.sd_model.specs.declared.event.Event.TheVariants as event
 use Rattle.sd_model.specs.declared.event.Reply.{Reply}
 use Rattle.sd_model.specs.declared.event.Reply.TheVariants as reply
-use Rattle.sd_pagelock.specs.Places.{PageEntry, changed, holds}
-use Rattle.sd_script.specs.declared.line.Line.{Line}
+use Rattle.sd_places.specs.Places.{PageEntry, changed, holds}
+use Rattle.sd_forms.specs.declared.line.Line.{Line}
 use Rattle.sd_world.specs.Pages.{Pages, is_duty}
 use Rattle.sd_world.specs.Serving.{Core, Telling}
 use Rattle.sd_fits.specs.declared.body.Body.{Body}
@@ -15,14 +15,14 @@ use Rattle.sd_hall.specs.Bodies.{fits_in, open_in}
 use Rattle.sd_drive.specs.declared.driver.Driver.{Driver}
 use Rattle.sd_drive.specs.declared.emptying.Going.{Going}
 use Rattle.sd_drive.specs.declared.emptying.Going.TheVariants as goings
-use Rattle.sd_drive.specs.Bodies.{entry_in, status_in}
-use Rattle.sd_drive.specs.Driven.{IsIn, IsSomewhere, StaysIn, is_did}
-use Rattle.sd_drive.specs.Driving.{Cursor, Known, Work, World, empties, first_from, goes_on, is_up, leaver, leavers, lets_go, next_copy}
+use Rattle.sd_pull.specs.Bodies.{entry_in, status_in}
+use Rattle.sd_pull.specs.Driven.{IsIn, IsSomewhere, StaysIn, is_did}
+use Rattle.sd_pull.specs.Driving.{Cursor, Known, Work, World, empties, first_from, goes_on, is_up, leaver, leavers, lets_go, next_copy}
 use Rattle.sd_drive.specs.Emptying.{BreaksBy, BreaksIn, OpensAt, OpensBy, OpensTo, StopsIn, copies_from, pools_from, stands_at}
 use Rattle.sd_drive.specs.Going.{going_as}
 use Rattle.sd_drive.specs.Reaching.{OpensOn}
-use Rattle.sd_drive.specs.Running.{Start}
-use Rattle.sd_drive.proofs.Bodies.{entry-is, fits-now, status-is}
+use Rattle.sd_pull.specs.Running.{Start}
+use Rattle.sd_pull.proofs.Bodies.{entry-is, fits-now, status-is}
 use Rattle.sd_drive.proofs.Tables.{first-behind, first-here}
 
 -- ---- the next copy

@@ -19,15 +19,15 @@ use Rattle.sd_model.specs.declared.event.Reply.{Reply}
 use Rattle.sd_model.specs.declared.event.Reply.TheVariants as reply
 use Rattle.sd_model.specs.Reopening.{loser}
 use Rattle.sd_model.specs.State.{State, fresh}
-use Rattle.sd_script.specs.declared.line.Form.{Form}
-use Rattle.sd_script.specs.declared.line.Form.TheVariants as form
-use Rattle.sd_script.specs.declared.line.Line.{Line}
-use Rattle.sd_pagelock.specs.Places.{PageEntry, holds}
+use Rattle.sd_forms.specs.declared.line.Form.{Form}
+use Rattle.sd_forms.specs.declared.line.Form.TheVariants as form
+use Rattle.sd_forms.specs.declared.line.Line.{Line}
+use Rattle.sd_places.specs.Places.{PageEntry, holds}
 use Rattle.sd_world.specs.Pages.{Pages, page_placed}
 use Rattle.sd_world.specs.PageCauses.{IsNeededPage}
 use Rattle.sd_world.specs.Serving.{Core}
-use Rattle.sd_drive.specs.Driving.{Cursor, IsTold, Progress, Tells, Work, done, followed, is_up, leaver, leavers, marked, stays, untold}
-use Rattle.sd_drive.specs.Pulls.{Pull}
+use Rattle.sd_pull.specs.Driving.{Cursor, IsTold, Progress, Tells, Work, done, followed, is_up, leaver, leavers, marked, stays, untold}
+use Rattle.sd_pull.specs.Pulls.{Pull}
 use Rattle.sd_drive.proofs.Pools.{IsIdle, copy-here, idle-empties, idle-leavers, leaver-by, leavers-more}
 
 abbrev line : ℕ → Form → Line

@@ -3,14 +3,14 @@ use Rattle.std.specs.Prelude.{◌≡◌, ℕ, ◌-◌, true, false, List, Option
 use Rattle.sd_model.specs.State.{State}
 use Rattle.sd_model.specs.declared.event.Event.{Event}
 use Rattle.sd_model.specs.declared.event.Reply.{Reply}
-use Rattle.sd_script.specs.declared.line.Line.{Line}
+use Rattle.sd_forms.specs.declared.line.Line.{Line}
 use Rattle.sd_world.specs.Serving.{Core, Telling}
 use Rattle.sd_drive.specs.declared.driver.Driver.{Driver}
-use Rattle.sd_drive.specs.Driven.{IsIn}
-use Rattle.sd_drive.specs.Driving.{Cursor, Work, World, empties, event_at, goes_on, leavers}
-use Rattle.sd_drive.specs.Pulls.{puller}
+use Rattle.sd_pull.specs.Driven.{IsIn}
+use Rattle.sd_pull.specs.Driving.{Cursor, Work, World, empties, event_at, goes_on, leavers}
+use Rattle.sd_pull.specs.Pulls.{puller}
 use Rattle.sd_drive.specs.Reaching.{Opens, OpensOn}
-use Rattle.sd_drive.specs.Running.{Start}
+use Rattle.sd_pull.specs.Running.{Start}
 
 -- ---- places of the opening, by the core
 

@@ -1,14 +1,4 @@
-pub mod Lines
-pub mod Bodies
-pub mod Pulls
-pub mod Driving
-pub mod Measure
-pub mod Standing
-pub mod Running
-pub mod Driven
-pub mod Operating
 pub mod Reaching
 pub mod Going
 pub mod Emptying
-pub mod Recoveries
 pub mod Recovering

@@ -1,26 +1,22 @@
 -- How far a driver has come in its script.
 use Rattle.std.specs.Prelude.{◌≡◌, ◌⊎◌, ℕ, ◌+◌, ◌<◌, ◌≤◌, ◌^◌, Bool, true, false, List, [], ◌∷◌, Option, None, Some, length, take, drop, get_or, slice_get}
 use Rattle.sd_base.specs.declared.ids.TxnId.{TxnId}
-use Rattle.sd_base.specs.declared.place.Status.TheVariants as S
-use Rattle.sd_model.specs.Applies.{IsRolling}
-use Rattle.sd_model.specs.State.{State}
 use Rattle.sd_model.specs.declared.event.Event.TheVariants as event
-use Rattle.sd_model.specs.declared.event.Reply.{Reply}
-use Rattle.sd_model.specs.declared.event.Reply.TheVariants as reply
-use Rattle.sd_script.specs.declared.line.Form.{Form}
-use Rattle.sd_script.specs.declared.line.Form.TheVariants as form
-use Rattle.sd_script.specs.declared.line.Line.{Line}
-use Rattle.sd_script.specs.Forms.{IsForm}
+use Rattle.sd_forms.specs.declared.line.Form.{Form}
+use Rattle.sd_forms.specs.declared.line.Form.TheVariants as form
+use Rattle.sd_forms.specs.declared.line.Line.{Line}
+use Rattle.sd_forms.specs.Forms.{IsForm}
 use Rattle.sd_script.specs.Order.{Follows, begun, insts_of, ordinal_of, pages_of}
 use Rattle.sd_world.specs.Serving.{Core, Telling}
-use Rattle.sd_drive.specs.Bodies.{depth_in}
+use Rattle.sd_pull.specs.Bodies.{depth_in}
 use Rattle.sd_drive.specs.declared.driver.Driver.{Driver}
-use Rattle.sd_drive.specs.Driven.{IsIn}
-use Rattle.sd_drive.specs.Driving.{Cursor, Known, Work, World, ahead, cursor_in, leavers, next_absent, untold, works_of}
-use Rattle.sd_drive.specs.Operating.{IsDueFor}
-use Rattle.sd_drive.specs.Lines.{Names}
-use Rattle.sd_drive.specs.Pulls.{Pull}
-use Rattle.sd_drive.specs.Running.{Start}
+use Rattle.sd_pull.specs.Driven.{IsIn}
+use Rattle.sd_pull.specs.Driving.{Cursor, Known, Work, World, ahead, cursor_in, leavers, next_absent, untold, works_of}
+use Rattle.sd_pull.specs.Operating.{IsDueFor}
+use Rattle.sd_pull.specs.Lines.{Names}
+use Rattle.sd_pull.specs.Pulls.{Pull}
+use Rattle.sd_pull.specs.Running.{Start}
+use Rattle.sd_pull.specs.Standing.{GoesBack}
 
 -- the name and the ordinal that a line tells of its transaction, where it has one
 abbrev pub name_in : Form → List ℕ
@@ -69,23 +65,6 @@ IsPlain form.Table = ⊥
 IsPlain (form.Back name o mark) = ⊥
 IsPlain (form.Rollback name o) = ⊥
 IsPlain f = Unit {0}
-
--- the transaction that began, if one did
-abbrev pub began_by : Reply → Option TxnId
-began_by (reply.Began t) = Some t
-began_by r = None
-
-abbrev pub is_rows : Reply → Bool
-is_rows (reply.Rows rows) = true
-is_rows r = false
-
-abbrev pub is_step : Reply → Bool
-is_step reply.Step = true
-is_step r = false
-
-abbrev pub is_joined : Reply → Bool
-is_joined (reply.Joined epoch) = true
-is_joined r = false
 
 -- before the first entry
 abbrev pub before : ℕ → ℕ → List Line → Core → World
@@ -263,11 +242,6 @@ abbrev pub JoinsSome : {G : Type 0} → Telling G → Driver G → Driver G → 
 JoinsSome {G} tell old new line i =
     (start : Start G) (w : World) (lines : List Line) (n : ℕ) → slice_get lines n ≡ Some line → JoinsOn tell start lines n line old i w
     → (w' : World) × IsIn tell start new.hall w'
-
--- the transaction rolls back, at an instance that is up
-pub record GoesBack (m : State) (t : TxnId) : Type 0 where
-  pub rolls : IsRolling (m.part t).life
-  pub up : (m.inst t.inst).status ≡ S.Up
 
 -- The n-th line rolls this transaction back, and undoes next: in this world its first event was done.
 pub record RollsBack {G : Type 0} (tell : Telling G) (start : Start G) (lines : List Line) (n : ℕ) (line : Line) (driver : Driver G) (t : TxnId)

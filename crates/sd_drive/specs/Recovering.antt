@@ -1,15 +1,15 @@
 -- A line that recovers the instances that are down, and the recoveries of the opening: how far they are.
 use Rattle.std.specs.Prelude.{◌≡◌, ◌⊎◌, ℕ, ◌+◌, Bool, true, false, List, [], ◌∷◌, None, Some, drop, slice_get}
 use Rattle.sd_model.specs.declared.event.Event.TheVariants as event
-use Rattle.sd_script.specs.declared.line.Line.{Line}
+use Rattle.sd_forms.specs.declared.line.Line.{Line}
 use Rattle.sd_world.specs.Serving.{Telling}
 use Rattle.sd_drive.specs.declared.driver.Driver.{Driver}
-use Rattle.sd_drive.specs.Driven.{IsIn}
-use Rattle.sd_drive.specs.Driving.{Cursor, Work, World, cursor_in, next_down, opens, untold, works_of}
-use Rattle.sd_drive.specs.Operating.{IsDueFor}
-use Rattle.sd_drive.specs.Pulls.{Pull}
+use Rattle.sd_pull.specs.Driven.{IsIn}
+use Rattle.sd_pull.specs.Driving.{Cursor, Work, World, cursor_in, next_down, opens, untold, works_of}
+use Rattle.sd_pull.specs.Operating.{IsDueFor}
+use Rattle.sd_pull.specs.Pulls.{Pull}
 use Rattle.sd_drive.specs.Reaching.{KnowsAll, Reached}
-use Rattle.sd_drive.specs.Running.{Start}
+use Rattle.sd_pull.specs.Running.{Start}
 
 -- ---- a line
 

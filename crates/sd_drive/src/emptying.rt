@@ -6,14 +6,14 @@ ghost use Rattle.sd_state.specs.Complexes.{parts};
 ghost use Rattle.sd_state.specs.Parts.{IsShape, status_at};
 ghost use Rattle.sd_hall.specs.Bodies.{fits_in};
 ghost use Rattle.sd_world.specs.Serving.{Core};
-ghost use Rattle.sd_drive.specs.Bodies.{entry_in, status_in};
+ghost use Rattle.sd_pull.specs.Bodies.{entry_in, status_in};
 ghost use Rattle.sd_drive.specs.Going.{going_as};
 
 use crate::driver::is_up;
-use crate::pull::must_write;
 use sd_base::{InstNo, PageNo};
 use sd_hall::Hall;
 use sd_pagelock::rows;
+use sd_pull::must_write;
 use sd_rig::Rig;
 use sd_state::Complex;
 

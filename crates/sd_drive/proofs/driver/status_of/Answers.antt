@@ -1,7 +1,7 @@
 use Rattle.std.proofs.Common.{sym, ap, ◌∙◌}
 use Rattle.sd_world.specs.Serving.{Telling, telling}
-use Rattle.sd_drive.specs.Bodies.{status_in}
-use Rattle.sd_drive.proofs.Bodies.{open-is, open-shape, shut-status}
+use Rattle.sd_pull.specs.Bodies.{status_in}
+use Rattle.sd_pull.proofs.Bodies.{open-is, open-shape, shut-status}
 use Rattle.sd_drive.proofs.driver.status_of.Goals as goal
 
 pub status-requires : goal.status-requires

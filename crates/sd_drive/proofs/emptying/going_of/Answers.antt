@@ -1,8 +1,8 @@
 use Rattle.std.proofs.Common.{sym, ap, ◌∙◌}
 use Rattle.sd_world.specs.Serving.{Telling, telling}
-use Rattle.sd_drive.specs.Bodies.{entry_in, status_in}
+use Rattle.sd_pull.specs.Bodies.{entry_in, status_in}
 use Rattle.sd_drive.specs.Going.{going_as}
-use Rattle.sd_drive.proofs.Bodies.{open-is, open-shape}
+use Rattle.sd_pull.proofs.Bodies.{open-is, open-shape}
 use Rattle.sd_drive.proofs.Pools.{shut-stays}
 use Rattle.sd_drive.proofs.emptying.going_of.Goals as goal
 

@@ -1,7 +1,7 @@
 use Rattle.std.proofs.Common.{◌≡◌, ℕ, ◌+◌, refl, sym, ap, ◌∙◌, subst, arith}
 use Rattle.std.proofs.lemmas.Result.{err_from_is_err_and}
 use Rattle.sd_world.specs.Serving.{Telling, telling}
-use Rattle.sd_drive.specs.Driving.{is_up}
+use Rattle.sd_pull.specs.Driving.{is_up}
 use Rattle.sd_drive.specs.Emptying.{BreaksIn, OpensAt, OpensTo, StopsIn, copies_from, pools_from}
 use Rattle.sd_drive.proofs.Pools.{breaks-then, opens-fit, opens-in, opens-then, pool-begins, pool-ends, pool-stays, stops-then}
 use Rattle.sd_drive.proofs.driver.Driver.empty_pool.Goals as goal

@@ -1,7 +1,7 @@
 use Rattle.std.proofs.Common.{refl}
 use Rattle.std.proofs.lemmas.Result.{err_from_is_err_and}
 use Rattle.sd_world.specs.Serving.{Telling, telling}
-use Rattle.sd_drive.specs.Driving.{Cursor}
+use Rattle.sd_pull.specs.Driving.{Cursor}
 use Rattle.sd_drive.specs.Emptying.{stands_at}
 use Rattle.sd_drive.proofs.Pools.{evict-breaks, evicted, opens-somewhere, stays-stops}
 use Rattle.sd_drive.proofs.driver.Driver.evict.Goals as goal

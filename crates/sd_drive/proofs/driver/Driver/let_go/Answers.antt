@@ -1,8 +1,8 @@
 use Rattle.std.proofs.Common.{◌+◌, sym, ◌∙◌}
 use Rattle.sd_world.specs.Serving.{Telling, telling}
-use Rattle.sd_drive.specs.Driving.{Cursor}
+use Rattle.sd_pull.specs.Driving.{Cursor}
 use Rattle.sd_drive.specs.Emptying.{copies_from, stands_at}
-use Rattle.sd_drive.proofs.Helps.{on-ok-map}
+use Rattle.sd_pull.proofs.Helps.{on-ok-map}
 use Rattle.sd_drive.proofs.Pools.{breaks-then, opens-fit, opens-in, opens-then, page-goes, page-stays, page-written, stops-then}
 use Rattle.sd_drive.proofs.driver.Driver.let_go.Goals as goal
 

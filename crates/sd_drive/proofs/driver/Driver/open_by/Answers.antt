@@ -2,11 +2,11 @@ use Rattle.std.proofs.Common.{◌≡◌, false, true, refl, sym, ap, ◌∙◌, 
 use Rattle.sd_model.specs.declared.event.Entry.{Entry}
 use Rattle.sd_model.specs.declared.event.Reply.{Reply}
 use Rattle.sd_world.specs.Serving.{Telling, telling}
-use Rattle.sd_drive.specs.Driven.{is_did}
-use Rattle.sd_drive.specs.Standing.{is_failed}
-use Rattle.sd_drive.proofs.Marks.{failed-is}
+use Rattle.sd_pull.specs.Driven.{is_did}
+use Rattle.sd_pull.specs.Standing.{is_failed}
+use Rattle.sd_pull.proofs.Marks.{failed-is}
 use Rattle.sd_drive.proofs.Opening.{breaks-by, opens-by}
-use Rattle.sd_drive.proofs.Steps.{Noted, stays-in}
+use Rattle.sd_pull.proofs.Steps.{Noted, stays-in}
 use Rattle.sd_drive.proofs.driver.Driver.open_by.Goals as goal
 
 pub call-requires-clause-kept : goal.call-requires-clause-kept

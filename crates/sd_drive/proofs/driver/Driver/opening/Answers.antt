@@ -1,7 +1,7 @@
 use Rattle.std.proofs.Common.{⊎_elim, arith}
 use Rattle.std.proofs.lemmas.Result.{err_from_is_err_and}
 use Rattle.sd_world.specs.Serving.{Telling, telling}
-use Rattle.sd_drive.proofs.Helps.{each-way, on-ok-map}
+use Rattle.sd_pull.proofs.Helps.{each-way, on-ok-map}
 use Rattle.sd_drive.proofs.Opening.{fails-break, fails-keeps, is-restarting, joins-fail, joins-lost, joins-open, opened-all, opened-keeps, pools-fail, pools-lost, pools-open, reached-keeps, restart-fails, restart-lost}
 use Rattle.sd_drive.proofs.driver.Driver.opening.Goals as goal
 

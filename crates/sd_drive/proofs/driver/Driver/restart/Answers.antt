@@ -1,8 +1,8 @@
 use Rattle.std.proofs.Common.{refl, sym, ap, ◌∙◌, subst}
 use Rattle.sd_world.specs.Serving.{Telling, telling}
-use Rattle.sd_drive.specs.declared.recovery.Outcome.{Outcome}
-use Rattle.sd_drive.specs.Driving.{is_down}
-use Rattle.sd_drive.specs.Recoveries.{RecoversTo}
+use Rattle.sd_pull.specs.declared.recovery.Outcome.{Outcome}
+use Rattle.sd_pull.specs.Driving.{is_down}
+use Rattle.sd_pull.specs.Recoveries.{RecoversTo}
 use Rattle.sd_drive.proofs.Opening.{opening-owner, restart-broken, restart-fits, restart-in, restart-not, restart-some, restart-then}
 use Rattle.sd_drive.proofs.driver.Driver.restart.Goals as goal
 

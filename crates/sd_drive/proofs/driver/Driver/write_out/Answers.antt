@@ -1,9 +1,9 @@
 use Rattle.std.proofs.Common.{◌+◌, refl, ◌∙◌}
 use Rattle.std.proofs.lemmas.Result.{err_from_is_err_and}
 use Rattle.sd_world.specs.Serving.{Telling, telling}
-use Rattle.sd_drive.specs.Driving.{Cursor}
+use Rattle.sd_pull.specs.Driving.{Cursor}
 use Rattle.sd_drive.specs.Emptying.{copies_from, stands_at}
-use Rattle.sd_drive.proofs.Helps.{on-ok-map}
+use Rattle.sd_pull.proofs.Helps.{on-ok-map}
 use Rattle.sd_drive.proofs.Pools.{breaks-then, flush-breaks, opens-in, opens-somewhere, opens-then, stays-stops, stops-then, written, written-not}
 use Rattle.sd_drive.proofs.driver.Driver.write_out.Goals as goal
 

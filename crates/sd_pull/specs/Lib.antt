@@ -1,0 +1,11 @@
+pub mod Replies
+pub mod Lines
+pub mod Bodies
+pub mod Pulls
+pub mod Driving
+pub mod Measure
+pub mod Standing
+pub mod Running
+pub mod Driven
+pub mod Operating
+pub mod Recoveries
