@@ -13,7 +13,7 @@ use Rattle.sd_model.specs.SerialLaws.{RunIsSerial}
 use Rattle.sd_chain.specs.Checks.{DevicesAreSound}
 use Rattle.sd_chain.specs.Faults.{FailsFirstAt}
 use Rattle.sd_recovered.specs.Devices.{IsRecovered}
-use Rattle.sd_script.specs.declared.line.Line.{Line}
+use Rattle.sd_forms.specs.declared.line.Line.{Line}
 use Rattle.sd_script.specs.Order.{insts_of, pages_of}
 use Rattle.sd_script.specs.Reading.{IsScript, IsBadAt}
 use Rattle.sd_script.proofs.Readings.{no_bad_script}
@@ -27,12 +27,12 @@ use Rattle.sd_fits.proofs.Opened.{is-opened}
 use Rattle.sd_hall.specs.Bodies.{IsRigIn, fits_in}
 use Rattle.sd_hall.specs.Keeping.{Keeps}
 use Rattle.sd_hall.specs.declared.hall.Hall.{Hall}
-use Rattle.sd_drive.specs.Driving.{IsTold, World}
-use Rattle.sd_drive.specs.Driven.{IsIn}
+use Rattle.sd_pull.specs.Driving.{IsTold, World}
+use Rattle.sd_pull.specs.Driven.{IsIn}
 use Rattle.sd_drive.specs.Reaching.{Reached, before, begin_of}
-use Rattle.sd_drive.specs.Running.{Breaks, Led, Start}
+use Rattle.sd_pull.specs.Running.{Breaks, Led, Start}
 use Rattle.sd_drive.specs.declared.driver.Driver.{Driver}
-use Rattle.sd_drive.proofs.Running.{drives-leads, ran-led}
+use Rattle.sd_pull.proofs.Running.{drives-leads, ran-led}
 use Rattle.sd_top.specs.declared.status.Status.{Status}
 use Rattle.sd_top.specs.declared.status.Status.TheVariants as status
 use Rattle.sd_top.specs.Sides.{Ends, SourceSide, SinkSide}

@@ -1,5 +1,4 @@
 mod Answered
-mod Commands
 mod Rising
 mod Scripts
 pub mod Puts

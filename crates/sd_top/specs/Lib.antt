@@ -1,4 +1,3 @@
-pub mod Words
 pub mod Sides
 pub mod Input
 pub mod Output

@@ -10,22 +10,20 @@
 //! other words touch nothing (`usage`, `untouched`).
 //! Refuses: bad lines with `BadLine`, other words with `Usage`, devices that aren't sound with `Damaged`; faults and want of memory
 //! have their own status.
-//! Knows nothing of: how a line is driven, how an event is served, which files or streams there are.
-//! Stands on: sd_base, sd_model, sd_rig, sd_chain, sd_recovered, sd_world, sd_state, sd_fits, sd_restart, sd_script, sd_report,
-//! sd_hall, sd_drive.
+//! Knows nothing of: how words are read, how a line is driven, how an event is served, which files or streams there are.
+//! Stands on: sd_base, sd_model, sd_rig, sd_chain, sd_recovered, sd_world, sd_state, sd_fits, sd_restart, sd_forms, sd_script,
+//! sd_report, sd_hall, sd_pull, sd_drive, sd_command.
 //!
 //! To change:
 //! - free: bodies, proofs
 //! - dear: the clauses of `top`, `Outcome`
-//! - frozen: the statuses' numbers, the words of a command
+//! - frozen: the statuses' numbers
 #![tactic(auto)]
 
 mod input;
 mod output;
 mod replaying;
 mod status;
-mod words;
 
 pub use replaying::{Done, report_unopened, top};
 pub use status::Status;
-pub use words::place;

@@ -2,14 +2,14 @@
 
 ghost use Rattle.std.specs.Prelude.{◌≡◌, ◌⊎◌, ◌≤◌, ℕ, List, length, map, string_bytes, Some, None};
 ghost use Rattle.sd_base.specs.Streams.{Rises};
-ghost use Rattle.sd_script.specs.declared.line.Line.{Line};
+ghost use Rattle.sd_forms.specs.declared.line.Line.{Line};
 ghost use Rattle.sd_script.specs.Reading.{IsScript};
 ghost use Rattle.sd_world.specs.Serving.{telling};
 ghost use Rattle.sd_chain.specs.Checks.{DevicesAreSound};
 ghost use Rattle.sd_report.specs.Report.{report, AreAbove, AreFrom};
-ghost use Rattle.sd_drive.specs.Driving.{World};
+ghost use Rattle.sd_pull.specs.Driving.{World};
 ghost use Rattle.sd_drive.specs.Reaching.{AreDriven};
-ghost use Rattle.sd_top.specs.Words.{IsCommand};
+ghost use Rattle.sd_command.specs.Words.{IsCommand};
 ghost use Rattle.sd_top.specs.Unopened.{IsEnded, IsOpened, IsUnopened};
 ghost use Rattle.sd_script.specs.Order.{insts_of, pages_of};
 ghost use Rattle.sd_top.specs.declared.status.Status.TheVariants as status;
@@ -20,8 +20,8 @@ ghost use Rattle.sd_top.specs.Outcome.{Answers, Outcome, Delivers, TellsBad, Tel
 use crate::input::{InputError, read_all};
 use crate::output::write_all;
 use crate::status::Status;
-use crate::words::is_command;
 use sd_base::{Gate, LineError, Memory, Refusal, Sink, Source};
+use sd_command::is_command;
 use sd_drive::Driver;
 use sd_hall::Hall;
 use sd_model::Book;

@@ -2,8 +2,8 @@ use Rattle.std.proofs.Common.{rules, ap, ap₂, ◌∙◌, ◌≡◌, codes, tru
 use Rattle.std.proofs.lemmas.Result.{IfOk-weaker}
 use Rattle.clap.specs.Words.{app_of, new_rule, rule_of, with_rule}
 use Rattle.clap.specs.Simple.{app_of_fields, on_top}
-use Rattle.sd_top.specs.Words.{dir, mode, nameless}
-use Rattle.sd_top.proofs.words.command.Goals as goal
+use Rattle.sd_command.specs.Words.{dir, mode, nameless}
+use Rattle.sd_command.proofs.words.command.Goals as goal
 
 pub returns : goal.returns
 returns c =

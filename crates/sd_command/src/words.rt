@@ -2,7 +2,7 @@
 
 ghost use Rattle.std.specs.Prelude.{◌≡◌, ◌↔◌, IfOk, IsTrue, map, option_map, string_bytes, Some, None};
 ghost use Rattle.clap.specs.Words.{app_of, first_of, found_of, rows_of};
-ghost use Rattle.sd_top.specs.Words.{IsCommand, IsPlace, IsRead, IsReplay, command};
+ghost use Rattle.sd_command.specs.Words.{IsCommand, IsPlace, IsRead, IsReplay, command};
 
 use clap::error::ErrorKind;
 use clap::{Arg, ArgMatches, Command};

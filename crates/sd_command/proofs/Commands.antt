@@ -8,7 +8,7 @@ use Rattle.clap.specs.declared.error.Error.{Error}
 use Rattle.clap.specs.declared.error.kind.ErrorKind.TheVariants as kind
 use Rattle.clap.specs.declared.parser.matches.ArgMatches.{ArgMatches}
 use Rattle.clap.proofs.OnLiterals.{clap_on_literals}
-use Rattle.sd_top.specs.Words.{IsCommand, IsPlace, command, faults_in, found_in}
+use Rattle.sd_command.specs.Words.{IsCommand, IsPlace, command, faults_in, found_in}
 
 -- clap's contracts tell all of the command
 is_told : is_simple command ≡ true

@@ -1,9 +1,9 @@
 use Rattle.std.proofs.Common.{sym, subst, true≢false, ◌∙◌}
 use Rattle.std.specs.Prelude.{map, string_bytes}
 use Rattle.clap.specs.Words.{app_of}
-use Rattle.sd_top.specs.Words.{IsReplay}
-use Rattle.sd_top.proofs.Commands.{refuses_words, takes_words}
-use Rattle.sd_top.proofs.words.read.Goals as goal
+use Rattle.sd_command.specs.Words.{IsReplay}
+use Rattle.sd_command.proofs.Commands.{refuses_words, takes_words}
+use Rattle.sd_command.proofs.words.read.Goals as goal
 
 pub returns-in-Ok : goal.returns-in-Ok
 returns-in-Ok c =

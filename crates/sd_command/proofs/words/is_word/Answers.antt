@@ -1,5 +1,5 @@
-use Rattle.sd_top.proofs.Commands.{other_word, same_word}
-use Rattle.sd_top.proofs.words.is_word.Goals as goal
+use Rattle.sd_command.proofs.Commands.{other_word, same_word}
+use Rattle.sd_command.proofs.words.is_word.Goals as goal
 
 pub returns-in-Some : goal.returns-in-Some
 returns-in-Some c = same_word c.in-Some.given.now c.args.word.now _ c.eq.result c.eq.ensures c.in-Some.ensures
