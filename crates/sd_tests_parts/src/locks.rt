@@ -70,49 +70,52 @@ fn does(table: &mut RecordLocks, act: Act, t: &TxnId, r: &Rid) -> Result<Told, F
     Ok(Nothing)
 }
 
+// What the transaction of the number does to the record, and what it is told. Those from 100 on are of instance 2.
+const ACTS: [(u32, u16, Act, Told); 23] = [
+    (3, 1, Ask(S), Nothing),
+    (1, 1, Ask(S), Nothing),
+    (2, 1, Ask(S), Nothing),
+    (9, 1, Holder, One(1)),
+    (1, 1, Ask(X), One(2)),
+    (1, 1, Owner, Nothing),
+    // the one that came first goes, the others stay
+    (3, 1, End, Nothing),
+    (2, 1, Ask(X), Cycle(3)),
+    (2, 1, End, Nothing),
+    (1, 1, Try(X), Nothing),
+    (4, 1, Try(S), Nothing),
+    (4, 1, Try(X), One(1)),
+    (1, 900, Ask(X), Nothing),
+    (100, 2, Ask(X), Nothing),
+    (9, 1, Owner, One(1)),
+    (100, 900, Ask(S), One(1)),
+    (1, 2, Try(S), Cycle(3)),
+    (100, 2, Drop, Nothing),
+    (1, 2, Try(S), One(100)),
+    (1, 2, End, Nothing),
+    (9, 1, Holder, Nothing),
+    (9, 2, Owner, One(100)),
+    (100, 900, Ask(S), Nothing),
+];
+
+// The transaction of the number acts on the record of page 3.
+fn act_on(table: &mut RecordLocks, number: u32, slot: u16, act: Act) -> Result<Told, Fail> {
+    let page = PageNo::new(3).ok_or("a page")?;
+    let inst = InstNo::new(if number < 100 { 1 } else { 2 }).ok_or("an instance")?;
+    let t = TxnId {
+        inst,
+        epoch: 1,
+        seq: number,
+    };
+    does(table, act, &t, &Rid { page, slot })
+}
+
 #[test]
 fn locks_are_asked_for_and_released(rt: HostRuntime) -> Result<(), Fail> {
     let mut table = RecordLocks::new(rt.alloc());
-    let page = PageNo::new(3).ok_or("a page")?;
-    // What the transaction of the number does to the record, and what it is told. Those from 100 on are of instance 2.
-    let acts = [
-        (3, 1, Ask(S), Nothing),
-        (1, 1, Ask(S), Nothing),
-        (2, 1, Ask(S), Nothing),
-        (9, 1, Holder, One(1)),
-        (1, 1, Ask(X), One(2)),
-        (1, 1, Owner, Nothing),
-        // the one that came first goes, the others stay
-        (3, 1, End, Nothing),
-        (2, 1, Ask(X), Cycle(3)),
-        (2, 1, End, Nothing),
-        (1, 1, Try(X), Nothing),
-        (4, 1, Try(S), Nothing),
-        (4, 1, Try(X), One(1)),
-        (1, 900, Ask(X), Nothing),
-        (100, 2, Ask(X), Nothing),
-        (9, 1, Owner, One(1)),
-        (100, 900, Ask(S), One(1)),
-        (1, 2, Try(S), Cycle(3)),
-        (100, 2, Drop, Nothing),
-        (1, 2, Try(S), One(100)),
-        (1, 2, End, Nothing),
-        (9, 1, Holder, Nothing),
-        (9, 2, Owner, One(100)),
-        (100, 900, Ask(S), Nothing),
-    ];
-    for (number, slot, act, told) in acts {
-        let inst = InstNo::new(if number < 100 { 1 } else { 2 }).ok_or("an instance")?;
-        let t = TxnId {
-            inst,
-            epoch: 1,
-            seq: number,
-        };
-        assert_eq!(rt;
-            does(&mut table, act, &t, &Rid { page, slot })?,
-            told,
-            "{number} {slot}"
-        );
+    for (number, slot, act, answer) in ACTS {
+        let found = act_on(&mut table, number, slot, act)?;
+        assert_eq!(rt; found, answer, "{number} {slot}");
     }
     Ok(())
 }

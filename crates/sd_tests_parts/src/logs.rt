@@ -5,7 +5,7 @@ ghost use Rattle.sd_logrec.specs.Spelling.{HasSpelling, spelling};
 ghost use Rattle.sd_rig.specs.Devices.{LeavesOnly};
 ghost use Rattle.sd_log.specs.Logs.{StandsOn};
 
-use sd_base::{Bytes, InstNo, Lsn, PageNo, Pick, Refusal, Trouble, TxnId};
+use sd_base::{Bytes, InstNo, Lsn, Memory, PageNo, Pick, Refusal, Trouble, TxnId};
 use sd_log::{Area, Log};
 use sd_logrec::{AREA_LEN, Record};
 use sd_rig::{MemRig, Rig};
@@ -59,29 +59,77 @@ fn commit(inst: InstNo, lsn: Lsn) -> Record
     Record::Commit { lsn, txn, prev }
 }
 
-// Writes the two groups.
-fn write_log(alloc: Global, rig: &mut MemRig, inst: InstNo) -> Result<Log, Fail> {
+// Forces the start of epoch 1.
+fn write_start(alloc: Global, rig: &mut MemRig, inst: InstNo) -> Result<(), Fail> {
     let mut log = open(alloc, rig, inst)?;
     log.append(Record::Start { lsn: 1, epoch: 1 }, 0)?;
     log.force(rig)?;
-    let mut log = open(alloc, rig, inst)?;
+    Ok(())
+}
+
+// Forces the transaction.
+fn write_red<G: Rig>(alloc: Global, rig: &mut G, log: &mut Log, inst: InstNo) -> Result<(), Fail>
+    requires stands { StandsOn log.old (G.seen rig.old log.old.inst) }
+    requires stable { LeavesOnly (G.seen rig.old log.old.inst) (G.leaves rig.old log.old.inst) }
+{
     log.append(red(alloc, inst)?, 78)?;
     log.append(commit(inst, 3), 0)?;
     log.force(rig)?;
+    Ok(())
+}
+
+// Writes the two groups.
+fn write_log(alloc: Global, rig: &mut MemRig, inst: InstNo) -> Result<Log, Fail> {
+    write_start(alloc, rig, inst)?;
+    let mut log = open(alloc, rig, inst)?;
+    write_red(alloc, rig, &mut log, inst)?;
     Ok(log)
+}
+
+fn has_two_groups(alloc: Global, rig: &MemRig) -> Result<bool, Memory> {
+    let image = rig.image(alloc, 1)?;
+    Ok(&image[130..221] == TWO_GROUPS.as_slice())
+}
+
+// Whether one more change of the page is found beside the first.
+fn knows_its_page(alloc: Global, log: &mut Log, inst: InstNo) -> Result<bool, Fail> {
+    log.append(red(alloc, inst)?, 78)?;
+    let page = PageNo::new(0).ok_or("page 0")?;
+    let places = log.of_page(alloc, page)?;
+    Ok(places.as_slice() == [1, 3].as_slice())
 }
 
 #[test]
 fn groups_stand_byte_for_byte_and_their_pages_are_known(rt: HostRuntime) -> Result<(), Fail> {
     let alloc = rt.alloc();
-    let mut rig = MemRig::blank(alloc)?;
     let inst = InstNo::new(1).ok_or("instance 1")?;
+    let mut rig = MemRig::blank(alloc)?;
     let mut log = write_log(alloc, &mut rig, inst)?;
-    assert_eq!(rt; &rig.image(alloc, 1)?[130..221], TWO_GROUPS.as_slice());
-    log.append(red(alloc, inst)?, 78)?;
-    let page = PageNo::new(0).ok_or("page 0")?;
-    assert_eq!(rt; log.of_page(alloc, page)?.as_slice(), [1, 3].as_slice());
+    assert!(rt; has_two_groups(alloc, &rig)?);
+    assert!(rt; knows_its_page(alloc, &mut log, inst)?);
     Ok(())
+}
+
+// Whether a force of two more records is stopped by the trouble.
+fn is_stopped<G: Rig>(
+    rig: &mut G,
+    log: &mut Log,
+    inst: InstNo,
+    trouble: Trouble,
+) -> Result<bool, Refusal>
+    requires stands { StandsOn log.old (G.seen rig.old log.old.inst) }
+    requires stable { LeavesOnly (G.seen rig.old log.old.inst) (G.leaves rig.old log.old.inst) }
+{
+    log.append(commit(inst, 7), 0)?;
+    log.append(commit(inst, 8), 0)?;
+    rig.arm(trouble);
+    Ok(log.force(rig).is_err())
+}
+
+// How many records a log has on its device.
+fn count<G: Rig>(alloc: Global, rig: &mut G, inst: InstNo) -> Result<usize, Refusal> {
+    let log = Log::read_in(alloc, rig, inst, 0)?;
+    Ok(log.scan().len())
 }
 
 // A force that is stopped by this trouble, and a crash: whether the log has the tail behind it then, or nothing more.
@@ -91,15 +139,12 @@ fn is_cut_whole(
     inst: InstNo,
     trouble: Trouble,
     pick: Pick,
-) -> Result<bool, Fail> {
+) -> Result<bool, Refusal> {
     let mut log = open(alloc, rig, inst)?;
     let old = log.scan().len();
-    log.append(commit(inst, 7), 0)?;
-    log.append(commit(inst, 8), 0)?;
-    rig.arm(trouble);
-    let failed = log.force(rig).is_err();
+    let failed = is_stopped(rig, &mut log, inst, trouble)?;
     rig.crash(pick);
-    let left = Log::read_in(alloc, rig, inst, 0)?.scan().len();
+    let left = count(alloc, rig, inst)?;
     Ok(failed && (left == old || left == old + 2))
 }
 
@@ -120,6 +165,27 @@ fn a_stopped_force_leaves_the_tail_whole_or_not_at_all(rt: HostRuntime) -> Resul
     Ok(())
 }
 
+// What is told of the two groups with this byte at this place: whether a length is spoilt, and where.
+fn damage(alloc: Global, inst: InstNo, place: usize, byte: u8) -> Result<(bool, u64), Refusal> {
+    let mut bytes = TWO_GROUPS;
+    if let Some(spoilt) = bytes.get_mut(place) {
+        *spoilt = byte;
+    }
+    let mut area = Vec::from_slice(alloc, &bytes)?;
+    area.resize(AREA_LEN as usize, 0)?;
+    Ok(match Log::of_area(alloc, inst, 0, &area)? {
+        Area::Broken {
+            fault: Refusal::BadLog { at },
+            ..
+        } => (true, at),
+        Area::Broken {
+            fault: Refusal::BadRecord { at },
+            ..
+        } => (false, at),
+        _ => (false, 0),
+    })
+}
+
 #[test]
 fn a_damaged_byte_is_told_with_its_place(rt: HostRuntime) -> Result<(), Fail> {
     let inst = InstNo::new(1).ok_or("instance 1")?;
@@ -135,24 +201,7 @@ fn a_damaged_byte_is_told_with_its_place(rt: HostRuntime) -> Result<(), Fail> {
         (73, 9, false, 64),
     ];
     for (place, byte, is_length, told) in damages {
-        let mut bytes = TWO_GROUPS;
-        if let Some(spoilt) = bytes.get_mut(place) {
-            *spoilt = byte;
-        }
-        let mut area = Vec::from_slice(rt.alloc(), &bytes)?;
-        area.resize(AREA_LEN as usize, 0)?;
-        let read = Log::of_area(rt.alloc(), inst, 0, &area)?;
-        let found = match read {
-            Area::Broken {
-                fault: Refusal::BadLog { at },
-                ..
-            } => (true, at),
-            Area::Broken {
-                fault: Refusal::BadRecord { at },
-                ..
-            } => (false, at),
-            _ => (false, 0),
-        };
+        let found = damage(rt.alloc(), inst, place, byte)?;
         assert_eq!(rt; found, (is_length, told), "byte {place} is {byte}");
     }
     Ok(())
