@@ -3,10 +3,10 @@ use Rattle.std.proofs.Common.{◌≡◌, ◌⊎◌, inl, inr, ⊎_elim, ℕ, tru
 use Rattle.sd_logrec.specs.View.{Rec}
 use Rattle.sd_page.specs.Page.{Page}
 use Rattle.sd_chain.specs.Laws.{May}
-use Rattle.sd_pagelock.specs.Places.{PageEntry}
-use Rattle.sd_pagelock.specs.Rows.{dirtied}
-use Rattle.sd_pagelock.proofs.Members.{not_both}
-use Rattle.sd_pagelock.proofs.Uses
+use Rattle.sd_places.specs.Places.{PageEntry}
+use Rattle.sd_places.specs.Rows.{dirtied}
+use Rattle.sd_places.proofs.Members.{not_both}
+use Rattle.sd_places.proofs.Uses
 use Rattle.sd_coherent.specs.World.{Base, Dir}
 use Rattle.sd_coherent.specs.Coherent.{Coherent, Quiet}
 use Rattle.sd_coherent.specs.Forces.{failing}

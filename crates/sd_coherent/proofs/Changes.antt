@@ -13,11 +13,11 @@ use Rattle.sd_chain.specs.Laws.{May}
 use Rattle.sd_chain.proofs.Lists.{Each-append, Each-weaker}
 use Rattle.sd_chain.proofs.Newest.{and_true}
 use Rattle.sd_pagelock.specs.Directory.{kept_rec}
-use Rattle.sd_pagelock.specs.Places.{PageEntry, changed, holds, owns, passes, uses}
-use Rattle.sd_pagelock.specs.Rows.{dirtied}
-use Rattle.sd_pagelock.proofs.Drops.{owner-holds, owner-passes, owner-uses}
-use Rattle.sd_pagelock.proofs.Members.{not_both}
-use Rattle.sd_pagelock.proofs.Uses
+use Rattle.sd_places.specs.Places.{PageEntry, changed, holds, owns, passes, uses}
+use Rattle.sd_places.specs.Rows.{dirtied}
+use Rattle.sd_places.proofs.Drops.{owner-holds, owner-passes, owner-uses}
+use Rattle.sd_places.proofs.Members.{not_both}
+use Rattle.sd_places.proofs.Uses
 use Rattle.sd_coherent.specs.World.{Base, Dir, Stays, newest_version}
 use Rattle.sd_coherent.specs.Coherent.{Coherent, NoneBefore, Quiet, Sits}
 use Rattle.sd_coherent.specs.Changes.{Changes, ChangeKeeps, ChangeMayCome, OthersHaveNone, RestKeeps, SealKeeps, UndoMayCome}

@@ -10,7 +10,7 @@ use Rattle.sd_chain.specs.Order.{InOrder, Sofar, Tidy, advance, none_yet, of_txn
 use Rattle.sd_chain.specs.Images.{log}
 use Rattle.sd_chain.proofs.Lists.{Each-append, Each-back, Each-front, Each-weaker}
 use Rattle.sd_chain.proofs.Whose.{both, ends-off, own_is}
-use Rattle.sd_pagelock.proofs.Members.{not_both}
+use Rattle.sd_places.proofs.Members.{not_both}
 use Rattle.sd_coherent.specs.Checkpoints.{CloseBegins, CloseGrows, CloseSettles, CloseStays, Shut}
 use Rattle.sd_coherent.proofs.Changes.{log_here}
 use Rattle.sd_coherent.proofs.Versions.{Each-settled}

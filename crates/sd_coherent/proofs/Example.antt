@@ -11,9 +11,9 @@ use Rattle.sd_chain.specs.Pages.{redo}
 use Rattle.sd_chain.specs.Storage.{Storage, all_of, chain, newest, Sound}
 use Rattle.sd_chain.specs.Images.{Grows, MayChange, Settled, Tails, kept_at}
 use Rattle.sd_chain.specs.Laws.{May, Opens, as_read}
-use Rattle.sd_pagelock.specs.Places.{PageEntry, receives}
-use Rattle.sd_pagelock.specs.Rows.{fallen}
-use Rattle.sd_pagelock.proofs.Uses.{excl-found}
+use Rattle.sd_places.specs.Places.{PageEntry, receives}
+use Rattle.sd_places.specs.Rows.{fallen}
+use Rattle.sd_places.proofs.Uses.{excl-found}
 use Rattle.sd_coherent.specs.World.{Base, Dir, newest_version, put_at}
 use Rattle.sd_coherent.specs.Coherent.{Coherent}
 use Rattle.sd_coherent.specs.Statuses.{opened_base, opened_dir, with_status}

@@ -3,12 +3,12 @@ use Rattle.std.proofs.Common.{◌≡◌, ◌⊎◌, inl, inr, ⊎_elim, ℕ, ◌
 use Rattle.std.proofs.lemmas.Bool.{cases_eq}
 use Rattle.sd_page.specs.Page.{Page}
 use Rattle.sd_chain.specs.Laws.{May}
-use Rattle.sd_pagelock.specs.Places.{PageEntry, changed, holds, passes, receives, uses}
-use Rattle.sd_pagelock.specs.Rows.{fallen}
-use Rattle.sd_pagelock.proofs.Drops.{changed-fallen}
-use Rattle.sd_pagelock.proofs.Falls.{holds-fallen, uses-fallen}
-use Rattle.sd_pagelock.proofs.Members.{not_both}
-use Rattle.sd_pagelock.proofs.Uses
+use Rattle.sd_places.specs.Places.{PageEntry, changed, holds, passes, receives, uses}
+use Rattle.sd_places.specs.Rows.{fallen}
+use Rattle.sd_places.proofs.Drops.{changed-fallen}
+use Rattle.sd_places.proofs.Falls.{holds-fallen, uses-fallen}
+use Rattle.sd_places.proofs.Members.{not_both}
+use Rattle.sd_places.proofs.Uses
 use Rattle.sd_coherent.specs.World.{Base, newest_version, put_at}
 use Rattle.sd_coherent.specs.Coherent.{Sits}
 use Rattle.sd_coherent.specs.Falls.{BeginKeeps, DueOf, FallKeeps, SettledFallKeeps, begun, fell}

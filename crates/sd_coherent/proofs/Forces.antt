@@ -7,10 +7,10 @@ use Rattle.sd_page.specs.Page.{Page}
 use Rattle.sd_chain.specs.Records.{of_page}
 use Rattle.sd_chain.specs.Images.{all_kept}
 use Rattle.sd_chain.specs.Laws.{May}
-use Rattle.sd_pagelock.specs.Places.{PageEntry, holds, passes}
-use Rattle.sd_pagelock.specs.Rows.{dirtied}
-use Rattle.sd_pagelock.proofs.Members.{not_both}
-use Rattle.sd_pagelock.proofs.Uses
+use Rattle.sd_places.specs.Places.{PageEntry, holds, passes}
+use Rattle.sd_places.specs.Rows.{dirtied}
+use Rattle.sd_places.proofs.Members.{not_both}
+use Rattle.sd_places.proofs.Uses
 use Rattle.sd_coherent.specs.World.{Base, Dir, newest_version}
 use Rattle.sd_coherent.specs.Coherent.{Coherent, Quiet, Sits}
 use Rattle.sd_coherent.specs.Forces.{FailKeeps, SettledFailKeeps, SettleKeeps, Settles, failing}

@@ -6,12 +6,12 @@ use Rattle.std.proofs.lemmas.Option.{cond_some}
 use Rattle.sd_page.specs.Page.{Page}
 use Rattle.sd_chain.specs.Laws.{May}
 use Rattle.sd_pagelock.specs.Directory.{kept_rec}
-use Rattle.sd_pagelock.specs.Places.{PageEntry, changed, holds, passes, receives, uses}
-use Rattle.sd_pagelock.specs.Rows.{fallen, given_excl, given_shared, locked, raised, taken}
-use Rattle.sd_pagelock.proofs.Drops.{changed-fallen}
-use Rattle.sd_pagelock.proofs.Falls.{holds-fallen, holds-taken, uses-fallen, uses-taken}
-use Rattle.sd_pagelock.proofs.Losses.{changed-given, changed-raised, changed-taken}
-use Rattle.sd_pagelock.proofs.Uses
+use Rattle.sd_places.specs.Places.{PageEntry, changed, holds, passes, receives, uses}
+use Rattle.sd_places.specs.Rows.{fallen, given_excl, given_shared, locked, raised, taken}
+use Rattle.sd_places.proofs.Drops.{changed-fallen}
+use Rattle.sd_places.proofs.Falls.{holds-fallen, holds-taken, uses-fallen, uses-taken}
+use Rattle.sd_places.proofs.Losses.{changed-given, changed-raised, changed-taken}
+use Rattle.sd_places.proofs.Uses
 use Rattle.sd_coherent.specs.World.{Base, Dir, newest_version}
 use Rattle.sd_coherent.specs.Coherent.{Coherent, Quiet, Sits}
 use Rattle.sd_coherent.specs.Moves.{ForcedFor, IsRow, MayMove, Moved, Source, RowKeeps, RowKeepsRec, LockKeeps, RaiseKeeps, ShareKeeps, YieldKeeps, TakeKeeps, DropKeeps}

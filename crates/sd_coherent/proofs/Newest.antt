@@ -13,10 +13,10 @@ use Rattle.sd_chain.specs.Storage as images
 use Rattle.sd_chain.specs.Cuts.{cut}
 use Rattle.sd_chain.specs.Images.{Gives, Keeps, all_kept, log, with_disk}
 use Rattle.sd_chain.specs.Laws.{May}
-use Rattle.sd_pagelock.specs.Places.{PageEntry, holds, owns, passes}
-use Rattle.sd_pagelock.proofs.Drops.{owner-holds, owner-passes}
-use Rattle.sd_pagelock.proofs.Members.{not_both}
-use Rattle.sd_pagelock.proofs.Uses
+use Rattle.sd_places.specs.Places.{PageEntry, holds, owns, passes}
+use Rattle.sd_places.proofs.Drops.{owner-holds, owner-passes}
+use Rattle.sd_places.proofs.Members.{not_both}
+use Rattle.sd_places.proofs.Uses
 use Rattle.sd_coherent.specs.World.{Base, Dir, newest_version}
 use Rattle.sd_coherent.specs.Coherent.{Coherent, Quiet}
 use Rattle.sd_coherent.specs.Newest.{ActiveTailsCount, CommittedIsThere, EachCopyIsNewest, InactiveHasNone, MovingIsNewest, NewestIsHigh, OneMayUpdate, OpenIsThere, QuietTailsAgree, UpIsSettled}

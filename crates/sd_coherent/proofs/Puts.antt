@@ -14,9 +14,9 @@ use Rattle.sd_chain.proofs.Chains.{replay_rises}
 use Rattle.sd_chain.proofs.Images
 use Rattle.sd_chain.proofs.Lists.{Each-weaker, cond_both}
 use Rattle.sd_chain.proofs.Narrowed.{narrowed-safe}
-use Rattle.sd_pagelock.specs.Places.{PageEntry, changed, holds, passes, uses}
-use Rattle.sd_pagelock.proofs.Members.{not_both}
-use Rattle.sd_pagelock.proofs.Uses
+use Rattle.sd_places.specs.Places.{PageEntry, changed, holds, passes, uses}
+use Rattle.sd_places.proofs.Members.{not_both}
+use Rattle.sd_places.proofs.Uses
 use Rattle.sd_coherent.specs.World.{Base, Dir, newest_version}
 use Rattle.sd_coherent.specs.Coherent.{Coherent, NoneBefore, Quiet, Sits}
 use Rattle.sd_coherent.specs.Puts.{Cleaned, ForcedHasNone, LostHasNone, NoneUnforced, PutIsSafe, Puts, SameLsnIsSame, SyncKeeps, TryKeeps, UnputKeeps, WriteKeeps, with_device}

@@ -5,9 +5,9 @@ use Rattle.sd_page.specs.Page.{Page}
 use Rattle.sd_chain.specs.Storage.{newest}
 use Rattle.sd_chain.specs.Laws.{May}
 use Rattle.sd_chain.proofs.Images.{opening-safe}
-use Rattle.sd_pagelock.specs.Places.{PageEntry, changed, holds, passes, uses}
-use Rattle.sd_pagelock.specs.Rows.{nowhere}
-use Rattle.sd_pagelock.proofs.Members.{not_both}
+use Rattle.sd_places.specs.Places.{PageEntry, changed, holds, passes, uses}
+use Rattle.sd_places.specs.Rows.{nowhere}
+use Rattle.sd_places.proofs.Members.{not_both}
 use Rattle.sd_coherent.specs.Coherent.{NoneBefore}
 use Rattle.sd_coherent.specs.Statuses.{OpeningIsCoherent, StatusKeeps}
 

@@ -9,9 +9,9 @@ use Rattle.sd_chain.specs.Pages.{FitsKind, redo}
 use Rattle.sd_chain.specs.Order.{MayFollow, after_all, none_yet}
 use Rattle.sd_chain.specs.Images.{Allowed, Grows, IsSafe, Keeps, Lone, MayChange, MayUndo, Redone, log}
 use Rattle.sd_chain.specs.Laws.{May}
-use Rattle.sd_pagelock.specs.Places.{changed, owns}
+use Rattle.sd_places.specs.Places.{changed, owns}
 use Rattle.sd_pagelock.specs.Directory.{kept_rec}
-use Rattle.sd_pagelock.specs.Rows.{dirtied}
+use Rattle.sd_places.specs.Rows.{dirtied}
 use Rattle.sd_coherent.specs.World.{Base, Dir, Stays, newest_version}
 use Rattle.sd_coherent.specs.Coherent.{Coherent}
 use Rattle.sd_coherent.specs.Moves.{Elsewhere, OneCopy}

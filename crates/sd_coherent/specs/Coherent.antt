@@ -5,7 +5,7 @@ use Rattle.sd_page.specs.Page.{Page}
 use Rattle.sd_chain.specs.Records.{Each, of_page}
 use Rattle.sd_chain.specs.Images.{Allowed, IsSafe, log}
 use Rattle.sd_chain.specs.Laws.{May}
-use Rattle.sd_pagelock.specs.Places.{PageEntry, changed, holds, passes, uses}
+use Rattle.sd_places.specs.Places.{PageEntry, changed, holds, passes, uses}
 use Rattle.sd_coherent.specs.World.{Base, Dir, newest_version}
 
 -- no record of the page

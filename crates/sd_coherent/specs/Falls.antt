@@ -1,8 +1,8 @@
 -- An instance falls, and a recovery begins.
 use Rattle.std.specs.Prelude.{◌≢◌, ◌≡◌, ◌⊎◌, ℕ, Bool, true, false, None, Some, cond}
 use Rattle.sd_chain.specs.Laws.{May}
-use Rattle.sd_pagelock.specs.Places.{receives}
-use Rattle.sd_pagelock.specs.Rows.{fallen}
+use Rattle.sd_places.specs.Places.{receives}
+use Rattle.sd_places.specs.Rows.{fallen}
 use Rattle.sd_coherent.specs.World.{Base, Dir, put_at}
 use Rattle.sd_coherent.specs.Coherent.{Coherent}
 use Rattle.sd_coherent.specs.Forces.{Settles}

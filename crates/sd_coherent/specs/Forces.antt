@@ -3,7 +3,7 @@ use Rattle.std.specs.Prelude.{◌≡◌, ◌≢◌, ◌⊎◌, ℕ, ◌≤◌, B
 use Rattle.sd_page.specs.Page.{Page}
 use Rattle.sd_chain.specs.Images.{Allowed, IsSafe, Keeps, Settled, kept_at}
 use Rattle.sd_chain.specs.Laws.{May}
-use Rattle.sd_pagelock.specs.Rows.{dirtied}
+use Rattle.sd_places.specs.Rows.{dirtied}
 use Rattle.sd_coherent.specs.World.{Base, Dir, put_at}
 use Rattle.sd_coherent.specs.Coherent.{Coherent, Quiet}
 

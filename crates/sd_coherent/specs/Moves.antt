@@ -4,8 +4,8 @@ use Rattle.sd_base.specs.declared.place.Mode.{Mode}
 use Rattle.sd_page.specs.Page.{Page}
 use Rattle.sd_chain.specs.Laws.{May}
 use Rattle.sd_pagelock.specs.Directory.{kept_rec}
-use Rattle.sd_pagelock.specs.Places.{Formed, PageEntry, changed, holds, is_free, passes, receives, uses}
-use Rattle.sd_pagelock.specs.Rows.{fallen, given_excl, given_shared, locked, may_raise, may_share, may_yield, raised, taken}
+use Rattle.sd_places.specs.Places.{Formed, PageEntry, changed, holds, is_free, passes, receives, uses}
+use Rattle.sd_places.specs.Rows.{fallen, given_excl, given_shared, locked, may_raise, may_share, may_yield, raised, taken}
 use Rattle.sd_coherent.specs.World.{Base, Dir}
 use Rattle.sd_coherent.specs.Coherent.{Coherent}
 

@@ -7,7 +7,7 @@ use Rattle.sd_chain.specs.Records.{Each, IsOpen, Val, at, home, of_page, stack}
 use Rattle.sd_chain.specs.Pages.{value}
 use Rattle.sd_chain.specs.Images.{Gives, Keeps, all_kept, log}
 use Rattle.sd_chain.specs.Laws.{May}
-use Rattle.sd_pagelock.specs.Places.{PageEntry, holds, owns, passes}
+use Rattle.sd_places.specs.Places.{PageEntry, holds, owns, passes}
 use Rattle.sd_coherent.specs.World.{Base, Dir, newest_version}
 use Rattle.sd_coherent.specs.Coherent.{Coherent, Quiet}
 

@@ -3,8 +3,8 @@ use Rattle.std.specs.Prelude.{◌≡◌, ◌≢◌, ℕ, ◌≤◌, Bool, true, 
 use Rattle.sd_page.specs.Page.{Page}
 use Rattle.sd_chain.specs.Images.{Allowed, IsSafe, or_written}
 use Rattle.sd_chain.specs.Laws.{May, Narrows}
-use Rattle.sd_pagelock.specs.Places.{PageEntry, changed, is_lost}
-use Rattle.sd_pagelock.specs.Rows.{may_write, written}
+use Rattle.sd_places.specs.Places.{PageEntry, changed, is_lost}
+use Rattle.sd_places.specs.Rows.{may_write, written}
 use Rattle.sd_coherent.specs.World.{Base, Dir, newest_version}
 use Rattle.sd_coherent.specs.Coherent.{Coherent, Quiet}
 use Rattle.sd_coherent.specs.Moves.{ForcedFor}

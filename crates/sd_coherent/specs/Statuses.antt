@@ -2,8 +2,8 @@
 use Rattle.std.specs.Prelude.{◌≡◌, ◌⊎◌, ℕ, ◌≤◌, Bool, true, false, [], Option, None, Some, is_some}
 use Rattle.sd_chain.specs.Storage.{Storage, newest}
 use Rattle.sd_chain.specs.Laws.{May, Opens, as_read, without_tails}
-use Rattle.sd_pagelock.specs.Places.{uses}
-use Rattle.sd_pagelock.specs.Rows.{nowhere}
+use Rattle.sd_places.specs.Places.{uses}
+use Rattle.sd_places.specs.Rows.{nowhere}
 use Rattle.sd_coherent.specs.World.{Base, Dir}
 use Rattle.sd_coherent.specs.Coherent.{Coherent, NoneBefore}
 

@@ -3,7 +3,7 @@ use Rattle.std.specs.Prelude.{◌≡◌, ℕ, ◌≤◌, Bool, Option, eqb, cond
 use Rattle.sd_page.specs.Page.{Page}
 use Rattle.sd_chain.specs.Images.{Tails, Keeps, all_kept}
 use Rattle.sd_chain.specs.Laws.{May}
-use Rattle.sd_pagelock.specs.Places.{PageEntry}
+use Rattle.sd_places.specs.Places.{PageEntry}
 
 -- Logs, device 0 and the instances, where a crash may leave each page of device 0 so.
 pub record Base (may : May) : Type 0 where

@@ -7,7 +7,7 @@
 //! Promises: each event that its premises allow leaves a coherent complex (`laws.rt`; a file of specs for each kind of event).
 //! Refuses: nothing.
 //! Knows nothing of: the calls of a rig, the bytes of devices, records that are locked, what clients do.
-//! Stands on: sd_base, sd_page, sd_logrec, sd_chain, sd_pagelock.
+//! Stands on: sd_base, sd_page, sd_logrec, sd_chain, sd_places, sd_pagelock.
 //! Lends: in `proofs`, over any `may`, the lemma of each law: Newest, Named, Moves, Changes, Forces, Falls, Puts, Statuses,
 //! Calls, Crashes, Closed and Checkpoints; Cases and Versions for more of the kind.
 //! Held by the caller: that places are well formed (sd_pagelock's directory keeps it); that an ask is of an

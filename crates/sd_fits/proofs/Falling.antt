@@ -28,8 +28,8 @@ use Rattle.sd_chain.specs.Records.{IsOpen, home}
 use Rattle.sd_log.specs.Logs.{LogState, without_tail}
 use Rattle.sd_logrec.specs.View.{Rec}
 use Rattle.sd_pagelock.specs.Asks.{asks_without, open_asks}
-use Rattle.sd_pagelock.specs.Places.{PageEntry}
-use Rattle.sd_pagelock.specs.Rows.{fallen}
+use Rattle.sd_places.specs.Places.{PageEntry}
+use Rattle.sd_places.specs.Rows.{fallen}
 use Rattle.sd_page.specs.Page.{Page}
 use Rattle.sd_pool.specs.Buffers.{Buffers}
 use Rattle.sd_reclock.specs.Locks.{waits}

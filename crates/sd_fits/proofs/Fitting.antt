@@ -17,7 +17,7 @@ use Rattle.sd_state.specs.Parts.{Parts, among, is_loose, log_at, no_pool, status
 use Rattle.sd_state.specs.Sums.{most_to, owes_most, sum_to}
 use Rattle.sd_state.specs.Tables.{tells_log}
 use Rattle.sd_state.specs.Values.{Pending}
-use Rattle.sd_state.proofs.Beginning.{fresh-good, log-is, no-check, now-empty, owes-none, same-log, table-is}
+use Rattle.sd_opened.proofs.Beginning.{fresh-good, log-is, no-check, now-empty, owes-none, same-log, table-is}
 use Rattle.sd_state.proofs.Items.{at-each}
 use Rattle.sd_state.proofs.Standing.{left-stands}
 

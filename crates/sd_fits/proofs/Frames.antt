@@ -5,7 +5,7 @@ use Rattle.std.specs.List.{IsDistinct, AllByRecursion}
 use Rattle.std.specs.Map.{keys_of, lookup}
 use Rattle.std.proofs.lemmas.Bool.{cases_eq, cases_lt}
 use Rattle.sd_pagelock.specs.Directory.{entry_at}
-use Rattle.sd_pagelock.specs.Places.{PageEntry, holds}
+use Rattle.sd_places.specs.Places.{PageEntry, holds}
 use Rattle.sd_pool.specs.Buffers as buffers
 use Rattle.sd_pool.specs.Buffers.{Buffers, IsPool}
 use Rattle.sd_rig.specs.Devices as rig

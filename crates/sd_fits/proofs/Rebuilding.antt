@@ -5,7 +5,7 @@ use Rattle.sd_page.specs.Page.{Page}
 use Rattle.sd_model.specs.State.{State}
 use Rattle.sd_pagelock.specs.Asks.{open_asks}
 use Rattle.sd_pagelock.specs.Directory.{DirectoryState, asks_at, entry_at}
-use Rattle.sd_pagelock.specs.Places.{PageEntry}
+use Rattle.sd_places.specs.Places.{PageEntry}
 use Rattle.sd_rig.specs.Devices as rig
 use Rattle.sd_moves.specs.Putting.{SameVersions, with_loose_disk}
 use Rattle.sd_sound.specs.Logs.{Outcomes}

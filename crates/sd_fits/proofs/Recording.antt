@@ -18,8 +18,8 @@ use Rattle.sd_model.specs.State.{State}
 use Rattle.sd_page.specs.Page.{Page}
 use Rattle.sd_pagelock.specs.Asks.{open_asks}
 use Rattle.sd_pagelock.specs.Directory.{DirectoryState, asks_at, entry_at}
-use Rattle.sd_pagelock.specs.Places.{PageEntry, is_lost}
-use Rattle.sd_pagelock.specs.Rows.{dirtied}
+use Rattle.sd_places.specs.Places.{PageEntry, is_lost}
+use Rattle.sd_places.specs.Rows.{dirtied}
 use Rattle.sd_pool.specs.Buffers.{Buffers, image_at}
 use Rattle.sd_rig.specs.Devices.{DeviceImages}
 use Rattle.sd_txn.specs.Transactions.{OthersStay, Transactions, txn_at}
@@ -43,16 +43,16 @@ use Rattle.sd_sound.proofs.Appends.{appended-log}
 use Rattle.sd_world.specs.Bounds.{Bounds}
 use Rattle.sd_world.specs.Pages.{Pages, numbered, page_placed, put}
 use Rattle.sd_world.specs.Serving.{Core}
-use Rattle.sd_state.specs.Changing.{with_changed}
+use Rattle.sd_changes.specs.Changing.{with_changed}
 use Rattle.sd_state.specs.Good.{Good, Half, base_of, dir_of}
 use Rattle.sd_state.specs.Images.{begun_at, leaves_by, log_by}
 use Rattle.sd_state.specs.Laws.{newest_of}
 use Rattle.sd_state.specs.Parts.{Parts, is_loose, log_at, no_log, no_pool, no_txns, other_at, pool_at, status_at, txns_at, up_as}
 use Rattle.sd_state.specs.Sums.{great_of, most_to, owed_in_all}
 use Rattle.sd_state.specs.Values.{Pending, is_committed}
-use Rattle.sd_state.proofs.ChangeCalls.{most-at}
-use Rattle.sd_state.proofs.ChangedRows.{open-more}
-use Rattle.sd_state.proofs.ChangeLsns.{image-low}
+use Rattle.sd_state.proofs.Summed.{most-at}
+use Rattle.sd_changes.proofs.ChangedRows.{open-more}
+use Rattle.sd_changes.proofs.ChangeLsns.{image-low}
 use Rattle.sd_state.proofs.Items.{item-kept, item-set}
 use Rattle.sd_state.proofs.Lasts.{last-more}
 use Rattle.sd_state.proofs.Standing.{one-place}

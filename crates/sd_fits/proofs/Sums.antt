@@ -27,9 +27,9 @@ use Rattle.sd_state.specs.Images.{leaves_by, log_by}
 use Rattle.sd_state.specs.Parts.{Parts, log_at}
 use Rattle.sd_state.specs.Sums.{great_of, owed_in_all}
 use Rattle.sd_state.specs.Values.{Pending, values}
-use Rattle.sd_state.proofs.ChangeCalls.{most-at}
+use Rattle.sd_state.proofs.Summed.{most-at}
 use Rattle.sd_state.proofs.ChangedLists.{each-by}
-use Rattle.sd_state.proofs.ChangeLsns.{known-low}
+use Rattle.sd_changes.proofs.ChangeLsns.{known-low}
 use Rattle.sd_state.proofs.Owing.{most-in-all, owes-at-most}
 use Rattle.sd_state.proofs.Standing.{left-by, which}
 use Rattle.sd_model.specs.Fields.{inst_of}

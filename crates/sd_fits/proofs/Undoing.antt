@@ -26,8 +26,8 @@ use Rattle.sd_model.specs.declared.event.Event.TheVariants.{Undo}
 use Rattle.sd_model.specs.declared.event.Reply.TheVariants as reply
 use Rattle.sd_page.specs.Page.{Page}
 use Rattle.sd_pagelock.specs.Directory.{entry_at}
-use Rattle.sd_pagelock.specs.Places.{PageEntry, is_lost, owns}
-use Rattle.sd_pagelock.specs.Rows.{dirtied}
+use Rattle.sd_places.specs.Places.{PageEntry, is_lost, owns}
+use Rattle.sd_places.specs.Rows.{dirtied}
 use Rattle.sd_pool.specs.Buffers.{Buffers}
 use Rattle.sd_rig.specs.Devices.{DeviceImages}
 use Rattle.sd_txn.specs.Owing.{owed_of}
@@ -46,18 +46,18 @@ use Rattle.sd_world.specs.Bounds.{Bounds, bounds_after}
 use Rattle.sd_world.specs.PageCauses.{last_page, undo_page}
 use Rattle.sd_world.specs.Pages.{numbered, page_placed}
 use Rattle.sd_world.specs.Serving.{Core}
-use Rattle.sd_state.specs.Changing.{with_changed}
+use Rattle.sd_changes.specs.Changing.{with_changed}
 use Rattle.sd_state.specs.Good.{Good}
 use Rattle.sd_state.specs.Images.{log_by}
 use Rattle.sd_state.specs.Parts.{Parts, is_loose, log_at, owed_at, pool_at, status_at, txns_at}
 use Rattle.sd_state.specs.Sums.{great_of, owed_in_all, owes_most}
 use Rattle.sd_state.specs.Tables.{IsLive, IsLogged, RowIsLive, RowIsLogged, goes_on_as, tells_log}
-use Rattle.sd_state.specs.Undoing.{HasTop, HasUndone, RollsTo, clr_at, with_undone_by}
+use Rattle.sd_undos.specs.Undoing.{HasTop, HasUndone, RollsTo, clr_at, with_undone_by}
 use Rattle.sd_state.specs.Values.{Pending, is_doubt, put_of}
 use Rattle.sd_state.proofs.Standing.{one-place}
-use Rattle.sd_state.proofs.UndoneHalf.{life-same}
-use Rattle.sd_state.proofs.UndoneRows.{IsTop, top-of}
-use Rattle.sd_state.proofs.UndoneTop.{clr-falls, finds-place}
+use Rattle.sd_undos.proofs.UndoneHalf.{life-same}
+use Rattle.sd_undos.proofs.UndoneRows.{IsTop, top-of}
+use Rattle.sd_undos.proofs.UndoneTop.{clr-falls, finds-place}
 use Rattle.sd_state.proofs.WorkingGood.{working-settled}
 use Rattle.sd_state.proofs.WorkingTurns.{as-many}
 use Rattle.sd_moves.proofs.FallBounds.{sum-less}

@@ -12,7 +12,7 @@ use Rattle.sd_base.proofs.SameIds.{cases_rid, cases_txn, ne-same_rid}
 use Rattle.sd_logrec.specs.View.{Rec}
 use Rattle.sd_page.specs.Page.{Page, Slot, empty_page}
 use Rattle.sd_pagelock.specs.Directory.{entry_at}
-use Rattle.sd_pagelock.specs.Places.{holds}
+use Rattle.sd_places.specs.Places.{holds}
 use Rattle.sd_model.specs.Acts.{Puts, after, live, seen_over}
 use Rattle.sd_model.specs.Claims.{Claims, Clash, Owns}
 use Rattle.sd_model.specs.Kept.{MayCommit}
@@ -36,7 +36,7 @@ use Rattle.sd_chain.specs.Records.{Each, IsOpen, at, home, stack}
 use Rattle.sd_chain.proofs.Newest.{at_is}
 use Rattle.sd_coherent.proofs.Newest.{value-committed, value-open}
 use Rattle.sd_sound.specs.Logs.{Outcomes, all_at, base_at, kept_logs, tails_of}
-use Rattle.sd_state.specs.Changing.{image_for}
+use Rattle.sd_changes.specs.Changing.{image_for}
 use Rattle.sd_state.specs.Good.{Good, Half, base_of, dir_of}
 use Rattle.sd_state.specs.Images.{leaves_by, log_by}
 use Rattle.sd_state.specs.Laws.{newest_of}

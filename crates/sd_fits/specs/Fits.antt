@@ -15,7 +15,7 @@ use Rattle.sd_model.specs.Tables.{Content}
 use Rattle.sd_txn.specs.Transactions.{span_at}
 use Rattle.sd_page.specs.Page.{Page}
 use Rattle.sd_pagelock.specs.Directory.{asks_at, entry_at}
-use Rattle.sd_pagelock.specs.Places.{PageEntry, is_lost}
+use Rattle.sd_places.specs.Places.{PageEntry, is_lost}
 use Rattle.sd_reclock.specs.Locks.{waits}
 use Rattle.sd_rig.specs.Devices as rig
 use Rattle.sd_chain.specs.Bytes.{disk_page}

@@ -16,7 +16,7 @@ use Rattle.sd_world.specs.Bounds.{Bounds}
 use Rattle.sd_world.specs.Pages.{Pages, place_of}
 use Rattle.sd_world.specs.Serving.{Core}
 use Rattle.sd_state.specs.Images.{kept_epoch}
-use Rattle.sd_state.specs.Opening.{AreOpened, has_open, is_loser, is_lost_in, status_in}
+use Rattle.sd_opened.specs.Opening.{AreOpened, has_open, is_loser, is_lost_in, status_in}
 use Rattle.sd_state.specs.Parts.{Parts}
 use Rattle.sd_state.specs.Sums.{most_to}
 use Rattle.sd_fits.specs.Fits.{Fits, capacities}

@@ -23,8 +23,8 @@ use Rattle.sd_fits.specs.Serving.{Serving}
 use Rattle.sd_fits.specs.declared.body.Body.{Body}
 use Rattle.sd_fits.proofs.Framed.{turns-frames}
 use Rattle.sd_hall.specs.declared.hall.Hall.{Hall}
-use Rattle.sd_survive.specs.Recovering.{AwaitsPage, recovery}
-use Rattle.sd_survive.specs.declared.recovering.Recovery.{Recovery}
+use Rattle.sd_recover.specs.Recovering.{AwaitsPage, recovery}
+use Rattle.sd_recover.specs.declared.recovering.Recovery.{Recovery}
 use Rattle.sd_hall.specs.Bodies.{IsAwaited, IsAwaitedIn, IsDownAt, IsWorked, IsWorkedIn, ServesIn}
 use Rattle.sd_hall.specs.Keeping.{HasPlace, Keeps, MakesPlace}
 use Rattle.sd_hall.specs.Ledger.{IsOwed, entries_owed, owed_more}

@@ -14,7 +14,7 @@ use Rattle.sd_rig.specs.Devices.{DeviceImages, Leaves, LeavesOnly, device_len}
 use Rattle.sd_chain.specs.Bytes.{stable}
 use Rattle.sd_chain.specs.Checks.{DevicesAreSound}
 use Rattle.sd_world.specs.Serving.{Core, Telling, refused}
-use Rattle.sd_state.specs.Opening.{AreOpened, has_open, is_down_in, is_loser}
+use Rattle.sd_opened.specs.Opening.{AreOpened, has_open, is_down_in, is_loser}
 use Rattle.sd_state.specs.Parts.{Parts}
 use Rattle.sd_state.specs.declared.complex.Shape.{Shape}
 use Rattle.sd_fits.specs.Bodies.{LeavesNoMore, ServingHall, fits_body}

@@ -33,7 +33,7 @@ use Rattle.sd_model.proofs.Acts.{live_from-append}
 use Rattle.sd_model.proofs.Among.{once-more}
 use Rattle.sd_model.proofs.Listed.{new-id}
 use Rattle.sd_state.specs.Sums.{sum_to}
-use Rattle.sd_state.proofs.UndoneRows.{live-undone}
+use Rattle.sd_undos.proofs.UndoneRows.{live-undone}
 use Rattle.sd_moves.proofs.FallBounds.{sum-less}
 use Rattle.sd_hall.specs.Ledger.{entries_of, entries_of_part, entries_of_inst, entries_owed, owed_more}
 use Rattle.sd_hall.specs.Served.{IsServed}

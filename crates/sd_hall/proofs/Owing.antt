@@ -11,7 +11,7 @@ use Rattle.sd_model.specs.declared.act.Life.{Life}
 use Rattle.sd_model.specs.declared.event.Event.{Event}
 use Rattle.sd_model.specs.declared.event.Event.TheVariants as event
 use Rattle.sd_pagelock.specs.Directory.{entry_at}
-use Rattle.sd_pagelock.specs.Places.{PageEntry, owns}
+use Rattle.sd_places.specs.Places.{PageEntry, owns}
 use Rattle.sd_chain.specs.Fates.{Fate}
 use Rattle.sd_world.specs.PageCauses.{undo_page}
 use Rattle.sd_world.specs.Serving.{Core, Telling}

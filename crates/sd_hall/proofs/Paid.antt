@@ -25,7 +25,7 @@ use Rattle.sd_model.specs.declared.event.Event.{Event}
 use Rattle.sd_model.specs.declared.event.Event.TheVariants.{Commit, Fail, Undo}
 use Rattle.sd_model.specs.declared.event.Reply.{Reply}
 use Rattle.sd_model.specs.declared.event.Reply.TheVariants as reply
-use Rattle.sd_pagelock.specs.Places.{owns}
+use Rattle.sd_places.specs.Places.{owns}
 use Rattle.sd_world.specs.Answers.{Fails, Moves, RefusalLeaves}
 use Rattle.sd_world.specs.PageCauses.{PagesAgree, undo_page}
 use Rattle.sd_world.specs.Pages.{Pages}

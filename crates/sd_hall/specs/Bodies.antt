@@ -13,7 +13,7 @@ use Rattle.sd_state.specs.declared.complex.Complex.{Complex}
 use Rattle.sd_world.specs.Serving.{Core, Telling}
 use Rattle.sd_fits.specs.Bodies.{ServingHall, fits_body, rig_of}
 use Rattle.sd_fits.specs.declared.body.Body.{Body}
-use Rattle.sd_survive.specs.Recovering.{AwaitsPage, HasCleared, HasOneLess}
+use Rattle.sd_recover.specs.Recovering.{AwaitsPage, HasCleared, HasOneLess}
 use Rattle.sd_hall.specs.Served.{IsDownThen}
 
 -- it fits the world, open or closed

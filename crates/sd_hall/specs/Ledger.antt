@@ -13,7 +13,7 @@ use Rattle.sd_model.specs.declared.event.Reply.TheVariants.{At, Began, Did, Join
 use Rattle.sd_model.specs.Acts.{live}
 use Rattle.sd_model.specs.Changes.{goal}
 use Rattle.sd_model.specs.State.{Part, State}
-use Rattle.sd_pagelock.specs.Places.{owns}
+use Rattle.sd_places.specs.Places.{owns}
 use Rattle.sd_state.specs.Sums.{sum_to}
 use Rattle.sd_world.specs.PageCauses.{undo_page}
 use Rattle.sd_world.specs.Serving.{Core}

@@ -4,7 +4,7 @@ ghost use Rattle.std.specs.Prelude.{◌≡◌, ℕ, true, None, Some, cond};
 ghost use Rattle.sd_coherent.specs.Newest.{IsAlone};
 ghost use Rattle.sd_page.specs.Page.{Page};
 ghost use Rattle.sd_pagelock.specs.Directory.{entry_at, moving_image_at};
-ghost use Rattle.sd_pagelock.specs.Places.{holds, owns, passes};
+ghost use Rattle.sd_places.specs.Places.{holds, owns, passes};
 ghost use Rattle.sd_pool.specs.Buffers.{image_at};
 ghost use Rattle.sd_state.specs.Complexes.{parts};
 ghost use Rattle.sd_state.specs.Good.{dir_of};

@@ -10,8 +10,9 @@
 //! is its newest version (`laws.rt`).
 //! Refuses: `Memory`, which notes nothing, and after which the complex fits the same core; as it opens, also `Failed`, `Damaged`.
 //! Knows nothing of: sessions, scripts, how a line is driven.
-//! Stands on: sd_base, sd_model, sd_page, sd_rig, sd_pool, sd_txn, sd_pagelock, sd_chain, sd_sound, sd_recovered, sd_coherent,
-//! sd_world, sd_state, sd_moves, sd_fits, sd_ops, sd_transfer, sd_writer, sd_rollback, sd_survive, sd_restart, sd_shut.
+//! Stands on: sd_base, sd_model, sd_page, sd_rig, sd_pool, sd_txn, sd_places, sd_pagelock, sd_chain, sd_sound, sd_recovered,
+//! sd_coherent, sd_world, sd_state, sd_undos, sd_opened, sd_moves, sd_fits, sd_work, sd_ops, sd_transfer, sd_writer,
+//! sd_rollback, sd_recover, sd_survive, sd_restart, sd_shut.
 //! Held by the caller: that the event is one of those that are served (`IsServed`); that a pool has a frame, and at most 1,024.
 //!
 //! To change:

@@ -11,7 +11,7 @@ ghost use Rattle.sd_world.specs.Serving.{step_or_finished, telling};
 ghost use Rattle.sd_fits.specs.Fits.{Fits};
 ghost use Rattle.sd_fits.specs.Serving.{Serving};
 ghost use Rattle.sd_fits.specs.declared.body.Body.TheVariants as bodies;
-ghost use Rattle.sd_survive.specs.Recovering.{recovery};
+ghost use Rattle.sd_recover.specs.Recovering.{recovery};
 ghost use Rattle.sd_shut.specs.Closing.{NeitherClosesNorOpens};
 ghost use Rattle.sd_hall.specs.Bodies.{IsAwaitedIn, IsWorkedIn};
 ghost use Rattle.sd_hall.specs.Ledger.{IsOwed};
@@ -19,9 +19,9 @@ ghost use Rattle.sd_hall.specs.Served.{told, told_in, IsDownThen, IsServed};
 
 use sd_base::{Bytes, InstNo, Lsn, Memory, Place, Refusal, Rid, TxnId};
 use sd_model::{Event, Reply, Rows};
+use sd_recover::Recovery;
 use sd_rig::Rig;
 use sd_state::Complex;
-use sd_survive::Recovery;
 
 /// Does the event on the complex, and puts its reply where a Did stands. Where an entry is owed for it there is memory. An undo
 /// that a device fails takes its instance down, and a step of a recovery that is told does a task.
@@ -37,7 +37,7 @@ pub(crate) fn serve<G: Rig>(c: &mut Complex<G>, e: &Event, answer: &mut Reply) -
     ensures works { IsWorkedIn e.now (told_in result answer.new) (Some (bodies.Open c.old)) (Some (bodies.Open c.new)) }
 {
     match e {
-        Event::Begin { inst } => as_began(sd_ops::begin(c, *inst), answer),
+        Event::Begin { inst } => as_began(sd_work::begin(c, *inst), answer),
         Event::Read { txn, rid } => as_found(sd_ops::read(c, txn, rid), answer),
         Event::Write { txn, rid, value } => as_did(
             sd_ops::write(c, txn, rid, value.items()),
@@ -54,10 +54,10 @@ pub(crate) fn serve<G: Rig>(c: &mut Complex<G>, e: &Event, answer: &mut Reply) -
             answer,
         ),
         Event::Delete { txn, rid } => as_did(sd_ops::delete(c, txn, rid), answer),
-        Event::Save { txn, mark } => as_did(sd_ops::save(c, txn, mark), answer),
+        Event::Save { txn, mark } => as_did(sd_work::save(c, txn, mark), answer),
         Event::Back { txn, mark } => as_did(sd_rollback::back_to(c, txn, mark), answer),
         Event::Undo { txn } => as_step(sd_rollback::undo(c, txn), answer),
-        Event::Commit { txn } => as_did(sd_ops::commit(c, txn), answer),
+        Event::Commit { txn } => as_did(sd_work::commit(c, txn), answer),
         Event::List { inst, page } => as_listed(sd_ops::list_page(c, *inst, *page), answer),
         Event::Ask { inst, page, mode } => as_asked(
             sd_transfer::ask(c, *inst, *page, *mode),
@@ -70,10 +70,10 @@ pub(crate) fn serve<G: Rig>(c: &mut Complex<G>, e: &Event, answer: &mut Reply) -
         Event::Force { inst } => as_did(sd_writer::force(c, *inst), answer),
         Event::Fail { inst } => as_did(sd_survive::fail(c, *inst), answer),
         Event::RecoverBegin { inst, by } => as_did(
-            sd_survive::recover_begin(c, *inst, *by),
+            sd_recover::recover_begin(c, *inst, *by),
             answer,
         ),
-        Event::RecoverStep { inst } => as_recovery(sd_survive::recover_step(c, *inst), answer),
+        Event::RecoverStep { inst } => as_recovery(sd_recover::recover_step(c, *inst), answer),
         Event::Join { inst } => as_joined(sd_survive::join(c, *inst), answer),
         Event::Arm { trouble } => {
             sd_survive::arm(c, *trouble);

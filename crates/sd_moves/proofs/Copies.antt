@@ -8,7 +8,7 @@ use Rattle.sd_page.specs.Page.{Page}
 use Rattle.sd_rig.specs.Devices.{DeviceImages}
 use Rattle.sd_model.specs.State.{State}
 use Rattle.sd_pagelock.specs.Directory.{DirectoryState, entry_at, moving_image_at}
-use Rattle.sd_pagelock.specs.Places.{holds, passes}
+use Rattle.sd_places.specs.Places.{holds, passes}
 use Rattle.sd_pool.specs.Buffers as buffers
 use Rattle.sd_pool.specs.Buffers.{Buffers}
 use Rattle.sd_coherent.proofs.Newest.{moving-newest}
@@ -22,7 +22,7 @@ use Rattle.sd_state.specs.Values.{Pending}
 use Rattle.sd_state.specs.declared.complex.Complex.{Complex}
 use Rattle.sd_state.proofs.Locks.{pool-lent}
 use Rattle.sd_state.proofs.Standing.{each-copy-is-newest}
-use Rattle.sd_state.proofs.UndoneCalls.{image-unboxed}
+use Rattle.sd_state.proofs.Unboxed.{image-unboxed}
 use Rattle.sd_moves.specs.Passing.{IsOnWay}
 
 -- ---- what is lent of a copy

@@ -1,8 +1,8 @@
 -- Logs of instances that are neither active nor up count as unsettled: coherence stays. For the falls of src/falling.rt.
 use Rattle.std.proofs.Common.{◌≡◌, ◌⊎◌, inl, inr, ⊎_elim, ℕ, Bool, true, false, ◌∙◌}
 use Rattle.sd_chain.specs.Laws.{May}
-use Rattle.sd_pagelock.proofs.Members.{not_both}
-use Rattle.sd_pagelock.proofs.Uses
+use Rattle.sd_places.proofs.Members.{not_both}
+use Rattle.sd_places.proofs.Uses
 use Rattle.sd_coherent.specs.Coherent.{Coherent, Sits}
 use Rattle.sd_coherent.specs.World.{Base, Dir}
 use Rattle.sd_coherent.proofs.Cases.{by_seat, due_seat, lost_seat, own_seat}

@@ -5,8 +5,8 @@ use Rattle.sd_page.specs.Page.{Page}
 use Rattle.sd_model.specs.State.{State}
 use Rattle.sd_pagelock.specs.Directory as directory
 use Rattle.sd_pagelock.specs.Directory.{DirectoryState, entry_at}
-use Rattle.sd_pagelock.specs.Places.{PageEntry, is_lost}
-use Rattle.sd_pagelock.specs.Rows.{may_write, written}
+use Rattle.sd_places.specs.Places.{PageEntry, is_lost}
+use Rattle.sd_places.specs.Rows.{may_write, written}
 use Rattle.sd_rig.specs.Devices as rig
 use Rattle.sd_chain.specs.Bytes.{disk_page}
 use Rattle.sd_chain.specs.Images.{all_kept}

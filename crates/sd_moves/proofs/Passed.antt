@@ -10,9 +10,9 @@ use Rattle.sd_pagelock.specs.declared.queue.Ask.{Ask}
 use Rattle.sd_pagelock.specs.Asks.{is_open_ask, oldest, open_asks}
 use Rattle.sd_pagelock.specs.Directory.{DirectoryState, asks_at, entry_at, kept_rec, rec_lsn_at}
 use Rattle.sd_pagelock.specs.Directory as directory
-use Rattle.sd_pagelock.specs.Places.{Formed, PageEntry, changed, holds, owns, receives}
-use Rattle.sd_pagelock.specs.Rows.{given_excl, given_shared, may_share, may_yield, taken}
-use Rattle.sd_pagelock.proofs.Losses.{changed-given, changed-taken}
+use Rattle.sd_places.specs.Places.{Formed, PageEntry, changed, holds, owns, receives}
+use Rattle.sd_places.specs.Rows.{given_excl, given_shared, may_share, may_yield, taken}
+use Rattle.sd_places.proofs.Losses.{changed-given, changed-taken}
 use Rattle.sd_pool.specs.Buffers as buffers
 use Rattle.sd_pool.specs.Buffers.{Buffers}
 use Rattle.sd_rig.specs.Devices as rig

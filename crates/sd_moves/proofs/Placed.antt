@@ -15,11 +15,11 @@ use Rattle.sd_pagelock.specs.declared.queue.Ask.{Ask}
 use Rattle.sd_pagelock.specs.Asks.{is_open_ask, queued, stronger}
 use Rattle.sd_pagelock.specs.Directory as directory
 use Rattle.sd_pagelock.specs.Directory.{DirectoryState, asks_at, entry_at, rec_lsn_at}
-use Rattle.sd_pagelock.specs.Places.{Formed, PageEntry, changed, holds, passes, uses}
-use Rattle.sd_pagelock.specs.Rows.{fallen, is_only, may_evict, may_raise, raised}
-use Rattle.sd_pagelock.proofs.Drops.{changed-fallen}
-use Rattle.sd_pagelock.proofs.Losses.{changed-raised}
-use Rattle.sd_pagelock.proofs.Uses.{raise-shares}
+use Rattle.sd_places.specs.Places.{Formed, PageEntry, changed, holds, passes, uses}
+use Rattle.sd_places.specs.Rows.{fallen, is_only, may_evict, may_raise, raised}
+use Rattle.sd_places.proofs.Drops.{changed-fallen}
+use Rattle.sd_places.proofs.Losses.{changed-raised}
+use Rattle.sd_places.proofs.Uses.{raise-shares}
 use Rattle.sd_pool.specs.Buffers as buffers
 use Rattle.sd_pool.specs.Buffers.{Buffers}
 use Rattle.sd_rig.specs.Devices as rig
@@ -40,7 +40,7 @@ use Rattle.sd_state.specs.Locking.{IsSet, with_place}
 use Rattle.sd_state.specs.Parts.{Parts, is_active, log_at, no_pool, other_at, pool_at}
 use Rattle.sd_state.specs.Values.{Pending}
 use Rattle.sd_state.proofs.ChangedLists.{each-first, each-left}
-use Rattle.sd_state.proofs.UndoneCalls.{image-unboxed}
+use Rattle.sd_state.proofs.Unboxed.{image-unboxed}
 use Rattle.sd_state.proofs.Items.{item-kept, item-set}
 use Rattle.sd_moves.specs.Places.{IsAsked, with_directory}
 

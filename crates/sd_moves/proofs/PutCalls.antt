@@ -11,8 +11,8 @@ use Rattle.sd_page.proofs.Told.{told}
 use Rattle.sd_model.specs.State.{State}
 use Rattle.sd_pagelock.specs.Directory as directory
 use Rattle.sd_pagelock.specs.Directory.{DirectoryState, entry_at}
-use Rattle.sd_pagelock.specs.Places.{Formed, is_lost}
-use Rattle.sd_pagelock.specs.Rows.{written}
+use Rattle.sd_places.specs.Places.{Formed, is_lost}
+use Rattle.sd_places.specs.Rows.{written}
 use Rattle.sd_pool.specs.Buffers as buffers
 use Rattle.sd_gate.specs.Slots.{named_body}
 use Rattle.sd_gate.specs.declared.slots.Chosen.{Chosen}

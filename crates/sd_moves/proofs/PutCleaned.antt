@@ -8,9 +8,9 @@ use Rattle.sd_pagelock.specs.declared.queue.Ask.{Ask}
 use Rattle.sd_pagelock.specs.Asks.{is_open_ask}
 use Rattle.sd_pagelock.specs.Directory as directory
 use Rattle.sd_pagelock.specs.Directory.{DirectoryState, asks_at, entry_at, kept_rec, rec_lsn_at}
-use Rattle.sd_pagelock.specs.Places.{PageEntry, changed, is_lost}
-use Rattle.sd_pagelock.specs.Rows.{may_write, written}
-use Rattle.sd_pagelock.proofs.Uses.{clean-written}
+use Rattle.sd_places.specs.Places.{PageEntry, changed, is_lost}
+use Rattle.sd_places.specs.Rows.{may_write, written}
+use Rattle.sd_places.proofs.Uses.{clean-written}
 use Rattle.sd_rig.specs.Devices as rig
 use Rattle.sd_chain.specs.Bytes.{disk_page}
 use Rattle.sd_chain.specs.Images.{Keeps}

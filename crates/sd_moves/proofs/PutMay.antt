@@ -8,8 +8,8 @@ use Rattle.sd_logrec.specs.View.{flat}
 use Rattle.sd_page.specs.Page.{Page}
 use Rattle.sd_model.specs.State.{State}
 use Rattle.sd_pagelock.specs.Directory.{entry_at}
-use Rattle.sd_pagelock.specs.Places.{Formed, PageEntry, changed, holds}
-use Rattle.sd_pagelock.specs.Rows.{may_write}
+use Rattle.sd_places.specs.Places.{Formed, PageEntry, changed, holds}
+use Rattle.sd_places.specs.Rows.{may_write}
 use Rattle.sd_pool.specs.Buffers as buffers
 use Rattle.sd_rig.specs.Devices as rig
 use Rattle.sd_rig.specs.Devices.{IsUnchanged}

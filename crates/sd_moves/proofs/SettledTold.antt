@@ -42,7 +42,7 @@ use Rattle.sd_state.specs.Tables.{NamesLife, RowIsLogged}
 use Rattle.sd_state.specs.Values.{Pending}
 use Rattle.sd_state.proofs.Items.{item-set}
 use Rattle.sd_state.proofs.Standing.{left-stands, one-place}
-use Rattle.sd_state.proofs.OpenedAgain.{any-gives}
+use Rattle.sd_opened.proofs.OpenedAgain.{any-gives}
 use Rattle.sd_moves.specs.Settling.{HasOpen, IsReread, row_again, with_reread}
 use Rattle.sd_moves.proofs.SettledGood.{base-read, by-here, half-kept, half-there, was_at}
 use Rattle.sd_moves.proofs.SettledPlaces.{by-tail, by-within}

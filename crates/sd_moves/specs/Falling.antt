@@ -10,8 +10,8 @@ use Rattle.sd_page.specs.Page.{Page}
 use Rattle.sd_pagelock.specs.Asks.{asks_without, open_asks}
 use Rattle.sd_pagelock.specs.Directory as directory
 use Rattle.sd_pagelock.specs.Directory.{asks_at, entry_at, rec_lsn_at}
-use Rattle.sd_pagelock.specs.Places.{receives}
-use Rattle.sd_pagelock.specs.Rows.{fallen}
+use Rattle.sd_places.specs.Places.{receives}
+use Rattle.sd_places.specs.Rows.{fallen}
 use Rattle.sd_pool.specs.Buffers.{Buffers}
 use Rattle.sd_reclock.specs.Locks.{held, waits}
 use Rattle.sd_txn.specs.Transactions.{SameOrder, Transaction, Transactions, txn_at, with_state}

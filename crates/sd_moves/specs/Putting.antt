@@ -3,8 +3,8 @@ use Rattle.std.specs.Prelude.{◌≡◌, ℕ, Bool, true, false, List, [], Resul
 use Rattle.sd_page.specs.Page.{Page}
 use Rattle.sd_model.specs.State.{State}
 use Rattle.sd_pagelock.specs.Directory.{DirectoryState, entry_at}
-use Rattle.sd_pagelock.specs.Places.{changed}
-use Rattle.sd_pagelock.specs.Rows.{may_write}
+use Rattle.sd_places.specs.Places.{changed}
+use Rattle.sd_places.specs.Rows.{may_write}
 use Rattle.sd_world.specs.Pages.{is_duty}
 use Rattle.sd_rig.specs.Devices as rig
 use Rattle.sd_chain.specs.Bytes.{disk_page}

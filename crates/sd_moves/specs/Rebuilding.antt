@@ -3,7 +3,7 @@ use Rattle.std.specs.Prelude.{◌≡◌, ℕ, ◌≤◌, List, false, filter, No
 use Rattle.sd_logrec.specs.View.{Rec}
 use Rattle.sd_log.specs.Logs.{LogState, forced_in}
 use Rattle.sd_pagelock.specs.Directory.{entry_at}
-use Rattle.sd_pagelock.specs.Places.{PageEntry}
+use Rattle.sd_places.specs.Places.{PageEntry}
 use Rattle.sd_chain.specs.Storage.{all_of, sorted}
 use Rattle.sd_chain.specs.Records.{of_page}
 use Rattle.sd_state.specs.Parts.{Parts, is_loose}

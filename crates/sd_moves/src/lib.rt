@@ -9,8 +9,9 @@
 //! Refuses: `Memory`, by `queue_ask`, `take_copy`, `settle` and `newest_image` alone; a put and a rebuild answer `Unread` and
 //! `Unwritten`, `settle` `Unsynced` and `Unread`, and `newest_image` `Failed`, only where the rig's count of faults rose.
 //! Knows nothing of: scripts, replies, who may ask for a move, and which page a pool is to give up.
-//! Stands on: sd_base, sd_model, sd_page, sd_logrec, sd_rig, sd_gate, sd_twin, sd_log, sd_pool, sd_txn, sd_reclock, sd_pagelock,
-//! sd_chain, sd_merge, sd_redo, sd_scan, sd_analysis, sd_relist, sd_sound, sd_coherent, sd_world, sd_state.
+//! Stands on: sd_base, sd_model, sd_page, sd_logrec, sd_rig, sd_gate, sd_twin, sd_log, sd_pool, sd_txn, sd_reclock, sd_places,
+//! sd_pagelock, sd_chain, sd_merge, sd_redo, sd_scan, sd_analysis, sd_relist, sd_sound, sd_coherent, sd_world, sd_state,
+//! sd_opened.
 //! Lends: in `proofs`, how `Good` goes through a change of pools and directory (Placed, Passed), a sync and a put of the data device
 //! (PutSynced, PutTried, PutCleaned), a rebuild (Freed), a log that is read again (SettledWhole, SettledBounds), a fall (FallGood);
 //! and that each copy which a pool or the directory lends is the newest version (Copies).

@@ -9,7 +9,7 @@ ghost use Rattle.sd_chain.specs.Bytes.{disk_page, twin_at};
 ghost use Rattle.sd_gate.specs.Slots.{named_body, slot};
 ghost use Rattle.sd_model.specs.State.{State};
 ghost use Rattle.sd_pagelock.specs.Directory.{entry_at, moving_image_at};
-ghost use Rattle.sd_pagelock.specs.Rows as rows;
+ghost use Rattle.sd_places.specs.Rows as rows;
 ghost use Rattle.sd_pool.specs.Buffers as buffers;
 ghost use Rattle.sd_rig.specs.Devices.{AgreesOutside, Elapses, LeavesSame, Span};
 ghost use Rattle.sd_state.specs.Complexes.{parts};

@@ -9,7 +9,7 @@ ghost use Rattle.sd_chain.specs.Pages as pages;
 ghost use Rattle.sd_log.specs.Logs.{AreSpelled, scanned};
 ghost use Rattle.sd_model.specs.State.{State};
 ghost use Rattle.sd_pagelock.specs.Directory.{moving_image_at};
-ghost use Rattle.sd_pagelock.specs.Places.{PageEntry};
+ghost use Rattle.sd_places.specs.Places.{PageEntry};
 ghost use Rattle.sd_rig.specs.Devices.{AgreesOutside, Elapses, IsUnchanged, LeavesSame, Span};
 ghost use Rattle.sd_state.specs.Complexes.{parts};
 ghost use Rattle.sd_state.specs.Good.{Good};

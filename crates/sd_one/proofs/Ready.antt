@@ -26,7 +26,7 @@ use Rattle.sd_state.specs.Fresh.{IsFresh}
 use Rattle.sd_state.specs.Good.{Good}
 use Rattle.sd_state.specs.Parts.{Parts, is_loose, log_at, no_log, txns_at}
 use Rattle.sd_state.specs.Tables.{IsLive, RowIsLive, RowIsLogged, tells_log}
-use Rattle.sd_state.specs.Undoing.{RollsTo}
+use Rattle.sd_undos.specs.Undoing.{RollsTo}
 use Rattle.sd_state.specs.Values.{Pending, open_of, put_of}
 use Rattle.sd_state.proofs.EndingLeaves.{rolling-there}
 use Rattle.sd_state.proofs.Items.{item-set}

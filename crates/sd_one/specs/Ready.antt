@@ -7,7 +7,7 @@ use Rattle.sd_logrec.specs.Spelling.{IsTxn}
 use Rattle.sd_model.specs.State.{State}
 use Rattle.sd_page.specs.Page.{Slot}
 use Rattle.sd_pagelock.specs.Directory.{entry_at}
-use Rattle.sd_pagelock.specs.Places.{owns}
+use Rattle.sd_places.specs.Places.{owns}
 use Rattle.sd_rig.specs.Devices as rig
 use Rattle.sd_txn.specs.Transactions.{state_at, top_at}
 use Rattle.sd_txn.specs.declared.state.OpenRec.{OpenRec}

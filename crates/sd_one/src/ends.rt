@@ -39,7 +39,7 @@ pub fn undo<G: Rig>(c: &mut Complex<G>, t: &TxnId) -> Result<(), Stop>
     if !may_take_back(c, t) {
         return Err(Stop::Odd);
     }
-    c.undo(t);
+    sd_undos::undo(c, t);
     Ok(())
 }
 

@@ -8,8 +8,8 @@
 //! Refuses: what sd_state refuses, and `Odd` what doesn't stand as the call needs it; both leave the complex ready, but for `Failed`
 //! by a force.
 //! Knows nothing of: which state of the serial table it is, replies, other instances, recovery.
-//! Stands on: sd_base, sd_logrec, sd_rig, sd_log, sd_page, sd_pool, sd_txn, sd_pagelock, sd_chain, sd_sound, sd_model, sd_reclock,
-//! sd_state.
+//! Stands on: sd_base, sd_model, sd_page, sd_logrec, sd_rig, sd_log, sd_pool, sd_txn, sd_reclock, sd_places, sd_pagelock,
+//! sd_chain, sd_sound, sd_state, sd_undos, sd_changes, sd_opened.
 //! Beside the house: tests and benches hold it, and no part of the program is to stand on it.
 //!
 //! To change:

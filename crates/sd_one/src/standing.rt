@@ -3,8 +3,8 @@
 ghost use Rattle.std.specs.Prelude.{◌≡◌, ◌≤◌, true, None, IsTrue};
 ghost use Rattle.sd_logrec.specs.Spelling.{IsTxn};
 ghost use Rattle.sd_pagelock.specs.Directory.{entry_at};
-ghost use Rattle.sd_pagelock.specs.Places as places;
-ghost use Rattle.sd_state.specs.Changing.{FitsThere};
+ghost use Rattle.sd_places.specs.Places as places;
+ghost use Rattle.sd_changes.specs.Changing.{FitsThere};
 ghost use Rattle.sd_state.specs.Complexes.{parts};
 ghost use Rattle.sd_state.specs.Parts.{IsShape, pool_at, txns_at};
 ghost use Rattle.sd_state.specs.Sealing.{MayEnd};

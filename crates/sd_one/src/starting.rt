@@ -11,6 +11,7 @@ ghost use Rattle.sd_one.specs.Ready.{IsReady};
 use crate::standing::pool;
 use crate::stop::Stop;
 use sd_base::{InstNo, Mode, PageNo, Refusal, Status, Trouble};
+use sd_opened::fresh;
 use sd_pagelock::rows;
 use sd_rig::Rig;
 use sd_state::{Complex, Shape};
@@ -29,7 +30,7 @@ pub fn start<G: Rig>(alloc: Global, rig: G, frames: u16) -> Result<Complex<G>, (
         pages: 1024,
         frames,
     };
-    match Complex::fresh(alloc, rig, shape) {
+    match fresh(alloc, rig, shape) {
         Ok(mut c) => match join(&mut c) {
             Ok(()) => Ok(c),
             Err(stop) => Err((stop, c.images())),

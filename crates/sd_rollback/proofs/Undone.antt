@@ -26,7 +26,7 @@ use Rattle.sd_model.specs.declared.cause.Cause.{Cause}
 use Rattle.sd_model.specs.declared.event.Event.TheVariants.{Undo}
 use Rattle.sd_model.specs.declared.event.Reply.TheVariants as reply
 use Rattle.sd_pagelock.specs.Directory.{entry_at}
-use Rattle.sd_pagelock.specs.Places.{PageEntry, is_lost, owns, seen}
+use Rattle.sd_places.specs.Places.{PageEntry, is_lost, owns, seen}
 use Rattle.sd_rig.specs.Devices.{DeviceImages, Leaves}
 use Rattle.sd_txn.specs.Transactions.{OthersStay, Transaction, Transactions, depth_at, ids, state_at, top, top_at, txn_at, with_state}
 use Rattle.sd_txn.specs.declared.state.OpenRec.{OpenRec}
@@ -40,12 +40,12 @@ use Rattle.sd_world.specs.Serving.{Core, Serves, Telling, refused}
 use Rattle.sd_state.specs.Complexes.{parts}
 use Rattle.sd_state.specs.Good.{Good}
 use Rattle.sd_state.specs.Parts.{Parts, status_at, txns_at}
-use Rattle.sd_state.specs.Undoing.{HasUndone, RollsTo, clr_at}
+use Rattle.sd_undos.specs.Undoing.{HasUndone, RollsTo, clr_at}
 use Rattle.sd_state.specs.Values.{Pending}
 use Rattle.sd_state.specs.Working.{with_txns}
 use Rattle.sd_state.specs.declared.complex.Complex.{Complex}
-use Rattle.sd_state.proofs.UndoneHalf.{life-same}
-use Rattle.sd_state.proofs.UndoneThere.{undo-finds_top}
+use Rattle.sd_undos.proofs.UndoneHalf.{life-same}
+use Rattle.sd_undos.proofs.UndoneThere.{undo-finds_top}
 use Rattle.sd_fits.specs.Fits.{Fits}
 use Rattle.sd_fits.specs.Serving.{Serving, fits_by, stands_for}
 use Rattle.sd_fits.proofs.Heads.{is-up, some-there, stands-as, up-works}

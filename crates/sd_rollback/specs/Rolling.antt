@@ -6,7 +6,7 @@ use Rattle.sd_base.specs.declared.refusal.Refusal.{Refusal}
 use Rattle.sd_base.specs.declared.refusal.Refusal.TheVariants as R
 use Rattle.sd_model.specs.Changes.{goal}
 use Rattle.sd_pagelock.specs.Directory.{entry_at}
-use Rattle.sd_pagelock.specs.Places.{is_lost, owns, seen}
+use Rattle.sd_places.specs.Places.{is_lost, owns, seen}
 use Rattle.sd_txn.specs.Transactions.{IsUnresolved, depth_at, mark_at, state_at}
 use Rattle.sd_txn.specs.declared.state.TxnState.{TxnState}
 use Rattle.sd_state.specs.Parts.{Parts, status_at, txns_at}

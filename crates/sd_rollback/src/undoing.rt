@@ -7,7 +7,7 @@ ghost use Rattle.sd_fits.specs.Fits.{Fits};
 ghost use Rattle.sd_fits.specs.Serving.{Serving};
 ghost use Rattle.sd_model.specs.declared.event.Event.TheVariants as event;
 ghost use Rattle.sd_pagelock.specs.Directory.{entry_at};
-ghost use Rattle.sd_pagelock.specs.Places.{owns};
+ghost use Rattle.sd_places.specs.Places.{owns};
 ghost use Rattle.sd_rig.specs.Devices.{LeavesSame};
 ghost use Rattle.sd_state.specs.Complexes.{parts};
 ghost use Rattle.sd_state.specs.Parts.{status_at, txns_at, IsShape};
@@ -119,7 +119,7 @@ fn rollback_step<G: Rig>(c: &mut Complex<G>, t: &TxnId) -> Result<bool, Refusal>
     let page = page_of(c, t);
     match alone(c, t, page) {
         Ok(()) => {
-            c.undo(t);
+            sd_undos::undo(c, t);
             Ok(false)
         }
         Err(refusal) => Err(refusal),

@@ -3,6 +3,7 @@
 use crate::devices::blank;
 use sd_base::{InstNo, Refusal};
 use sd_one::Stop;
+use sd_opened::fresh;
 use sd_state::{Complex, Shape};
 use std::alloc::Global;
 use std::test::Fail;
@@ -14,7 +15,7 @@ fn forces(alloc: Global) -> Result<bool, Stop> {
         pages: 1024,
         frames: 2,
     };
-    let Ok(mut complex) = Complex::fresh(alloc, blank(alloc)?, shape) else {
+    let Ok(mut complex) = fresh(alloc, blank(alloc)?, shape) else {
         return Err(Stop::Refused(Refusal::Memory));
     };
     let Some(inst) = InstNo::new(8) else {

@@ -14,7 +14,7 @@ use Rattle.sd_world.specs.Serving.{Telling, did, placed_at, telling}
 use Rattle.sd_fits.specs.Serving.{Serving}
 use Rattle.sd_shut.specs.Closing.{NeitherClosesNorOpens}
 use Rattle.sd_hall.specs.Served.{IsServed}
-use Rattle.sd_survive.specs.Recovering.{AwaitsPage, HasCleared, HasOneLess}
+use Rattle.sd_recover.specs.Recovering.{AwaitsPage, HasCleared, HasOneLess}
 use Rattle.sd_hall.proofs.Keeping.{answered-some, awaits-so, failed-so, same-step, same-undo, served-as, stepped-so}
 use Rattle.sd_hall.proofs.serving.serve.Goals as goal
 

@@ -1,14 +1,14 @@
 use Rattle.std.proofs.Common.{ap, ◌∙◌, subst}
 use Rattle.std.specs.Prelude.{None}
 use Rattle.sd_pagelock.specs.Directory.{DirectoryState, entry_at}
-use Rattle.sd_pagelock.specs.Moves.{IsMove}
-use Rattle.sd_pagelock.specs.Places.{PageEntry}
-use Rattle.sd_pagelock.specs.Rows.{raised}
+use Rattle.sd_places.specs.Moves.{IsMove}
+use Rattle.sd_places.specs.Places.{PageEntry}
+use Rattle.sd_places.specs.Rows.{raised}
 use Rattle.sd_page.specs.Page.{Page}
 use Rattle.sd_state.specs.Complexes.{parts, unboxed}
 use Rattle.sd_state.specs.Locking.{IsSet}
 use Rattle.sd_state.specs.Parts.{Parts}
-use Rattle.sd_state.proofs.UndoneCalls.{image-unboxed}
+use Rattle.sd_state.proofs.Unboxed.{image-unboxed}
 use Rattle.sd_moves.proofs.Placed.{raised-good}
 use Rattle.sd_moves.proofs.places.raise.Goals as goal
 

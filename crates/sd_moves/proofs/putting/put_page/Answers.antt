@@ -5,8 +5,8 @@ use Rattle.std.proofs.lemmas.Result.{err_from_is_err_and}
 use Rattle.sd_page.specs.Page.{Page}
 use Rattle.sd_pagelock.specs.Directory as directory
 use Rattle.sd_pagelock.specs.Directory.{DirectoryState, entry_at}
-use Rattle.sd_pagelock.specs.Places.{Formed, PageEntry}
-use Rattle.sd_pagelock.specs.Rows.{written}
+use Rattle.sd_places.specs.Places.{Formed, PageEntry}
+use Rattle.sd_places.specs.Rows.{written}
 use Rattle.sd_pool.specs.Buffers.{image_at}
 use Rattle.sd_rig.specs.Spans.{elapses-then, span-then}
 use Rattle.sd_chain.specs.Bytes.{disk_page}
@@ -19,7 +19,7 @@ use Rattle.sd_state.specs.Images.{Stands, log_by}
 use Rattle.sd_state.specs.Laws.{newest_of}
 use Rattle.sd_state.specs.Locking.{IsSet}
 use Rattle.sd_state.specs.Parts.{Parts, log_at, pool_at}
-use Rattle.sd_state.proofs.UndoneCalls.{image-unboxed}
+use Rattle.sd_state.proofs.Unboxed.{image-unboxed}
 use Rattle.sd_moves.specs.Putting.{MayPut, SameVersions, left_after, with_loose_disk}
 use Rattle.sd_moves.specs.declared.putting.Unput.{Unput}
 use Rattle.sd_moves.proofs.PutCalls.{clean-good, duty-copy, forced-still, left-again, not-err, same-then}

@@ -3,13 +3,13 @@ use Rattle.std.specs.Prelude.{Result, Err, IfErr}
 use Rattle.std.proofs.lemmas.Result.{err_from_is_err_and}
 use Rattle.sd_page.specs.Page.{Page}
 use Rattle.sd_pagelock.specs.Directory.{DirectoryState}
-use Rattle.sd_pagelock.specs.Places.{PageEntry}
-use Rattle.sd_pagelock.specs.Rows.{written}
+use Rattle.sd_places.specs.Places.{PageEntry}
+use Rattle.sd_places.specs.Rows.{written}
 use Rattle.sd_state.specs.Complexes.{parts, unboxed}
 use Rattle.sd_state.specs.Good.{Good}
 use Rattle.sd_state.specs.Locking.{IsSet}
 use Rattle.sd_state.specs.Parts.{Parts}
-use Rattle.sd_state.proofs.UndoneCalls.{image-unboxed}
+use Rattle.sd_state.proofs.Unboxed.{image-unboxed}
 use Rattle.sd_moves.specs.Putting.{left_after, put_parts}
 use Rattle.sd_moves.specs.declared.putting.Unput.{Unput}
 use Rattle.sd_moves.proofs.Freed.{rebuilt-good, still-newest}

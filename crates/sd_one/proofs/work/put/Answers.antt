@@ -23,7 +23,7 @@ returns-in_err-change g c =
     let old : IsReady (g.G.Rig.seen c.grant.new.self.rig) (g.G.Rig.leaves c.grant.new.self.rig) (parts c.grant.new.self) =
     ready (ap (λ (p : Parts). p.due) c.in_ok-grant.ensures.parts ∙ c.requires.idle)
     (c.in_ok-grant.ensures.good c.requires.m c.requires.good) in
-    subst (λ r. IsReady (g.G.Rig.seen r) (g.G.Rig.leaves r) (parts c.change.new.self)) (sym c.change.ensures.rig)
+    subst (λ r. IsReady (g.G.Rig.seen r) (g.G.Rig.leaves r) (parts c.change.new.c)) (sym c.change.ensures.rig)
     (subst (λ (p : Parts). IsReady (g.G.Rig.seen c.grant.new.self.rig) (g.G.Rig.leaves c.grant.new.self.rig) p)
     (sym c.in_err-change.ensures.refused) old)
 

@@ -5,7 +5,7 @@ use Rattle.sd_base.specs.Ids.{same_txn}
 use Rattle.sd_base.specs.declared.refusal.Refusal.TheVariants as R
 use Rattle.sd_model.specs.Changes.{undid}
 use Rattle.sd_pagelock.specs.Directory.{entry_at}
-use Rattle.sd_pagelock.specs.Places.{owns}
+use Rattle.sd_places.specs.Places.{owns}
 use Rattle.sd_txn.specs.Transactions.{Transactions, ids}
 use Rattle.sd_state.specs.Complexes.{parts}
 use Rattle.sd_state.specs.Good.{Good}
@@ -55,8 +55,8 @@ returns-in-Ok-clause-served g c =
     let held = subst (λ (p : ℕ). owns (entry_at (parts old).directory p) t.inst ≡ true) (c.page_of-page.ensures top.0 top.1) c.in-Ok.ensures.alone in
     let once : IsDistinct same_txn (ids (txns_at (parts old) t.inst)) =
     subst (λ (tb : Transactions). IsDistinct same_txn (ids tb)) c.txns.ensures c.keeps.ensures.once in
-    step-served tell t old c.undo.new.self e.rig (λ img s. g.met.G.Rig.only_now rig img s) n.low n.high a.0 top.0 c.requires.up a.1 top.1 held once
-    e.made (λ m to good rolls. subst (λ d. Good (g.G.Rig.seen d) (g.G.Rig.leaves d) Pending.Idle (parts c.undo.new.self) (undid t m)) e.rig
+    step-served tell t old c.undo.new.c e.rig (λ img s. g.met.G.Rig.only_now rig img s) n.low n.high a.0 top.0 c.requires.up a.1 top.1 held once
+    e.made (λ m to good rolls. subst (λ d. Good (g.G.Rig.seen d) (g.G.Rig.leaves d) Pending.Idle (parts c.undo.new.c) (undid t m)) e.rig
     (e.good m to good rolls))
 
 pub returns-in-Err-clause-served : goal.returns-in-Err-clause-served
