@@ -7,9 +7,9 @@ use Rattle.sd_base.specs.declared.ids.TxnId.{TxnId}
 use Rattle.sd_base.specs.Ids.{same_txn}
 use Rattle.sd_model.specs.State.{State}
 use Rattle.sd_model.specs.Scenes.{of_running, is_running}
-use Rattle.sd_reclock.specs.declared.wait.Asked.{Asked}
-use Rattle.sd_reclock.specs.Locks.{wait_of, waits_in}
-use Rattle.sd_reclock.proofs.Noting.{map-cond, lookup-kept}
+use Rattle.sd_cycle.specs.declared.wait.Asked.{Asked}
+use Rattle.sd_cycle.specs.Waiting.{wait_of, waits_in}
+use Rattle.sd_cycle.proofs.Noting.{map-cond, lookup-kept}
 
 -- the waits that are left where those of others than running ones are dropped
 pub kept-running : (m : State) (old new : List (TxnId × Asked)) → new ≡ filter (λ e. is_running (m.part e.0).life) old

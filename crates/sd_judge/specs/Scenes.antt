@@ -3,8 +3,8 @@ use Rattle.std.specs.Prelude.{List}
 use Rattle.sd_base.specs.declared.ids.TxnId.{TxnId}
 use Rattle.sd_model.specs.Scenes.{Scene}
 use Rattle.sd_lists.specs.Lists.{Journal, state_of}
-use Rattle.sd_reclock.specs.declared.wait.Asked.{Asked}
-use Rattle.sd_reclock.specs.Locks.{waits_in}
+use Rattle.sd_cycle.specs.declared.wait.Asked.{Asked}
+use Rattle.sd_cycle.specs.Waiting.{waits_in}
 
 -- what a judge holds: the table's lists, and who waits for what
 pub record Watching : Type 0 where

@@ -1,13 +1,13 @@
 //! The lock that an event asks for, and what its transaction waits for afterwards.
 
 ghost use Rattle.std.specs.Prelude.{◌≡◌, option_map};
-ghost use Rattle.sd_reclock.specs.Locks.{wait_of};
+ghost use Rattle.sd_cycle.specs.Waiting.{wait_of};
 ghost use Rattle.sd_model.specs.Waits.{claim_of as claim_of_mode};
 ghost use Rattle.sd_model.specs.Scenes.{asked_of as wait_asked, of_page as wait_of_page, wait_after as wait_left};
 
 use sd_base::{Mode, PageNo, Refusal, Rid};
+use sd_cycle::Asked;
 use sd_model::{Claim, Event, Reply};
-use sd_reclock::Asked;
 
 /// The lock that the event asks for; which record an insert asks for is told.
 pub fn asked_of(event: &Event, told: &Option<Rid>) -> Option<Asked>

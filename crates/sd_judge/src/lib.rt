@@ -6,7 +6,7 @@
 //! `IsBlocked` and `IsDeadlock` hold (`Judge::step`, `specs/Exactly.antt`).
 //! Refuses: nothing but for want of memory; what it doesn't judge it says (`Verdict::Unjudged`).
 //! Knows nothing of: pages' bytes, pools, logs, devices, scripts; how a complex comes to its replies.
-//! Stands on: sd_base, sd_model, sd_reclock for the search of cycles, sd_lists, sd_causes, sd_oracle.
+//! Stands on: sd_base, sd_model, sd_cycle for the search of cycles, sd_lists, sd_causes, sd_oracle.
 //! Beside the house: tests hold it, and no part of the program is to stand on it.
 //!
 //! To change:

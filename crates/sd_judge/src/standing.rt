@@ -5,8 +5,8 @@ ghost use Rattle.sd_lists.specs.Lists.{state_of};
 
 use crate::asked::claim_of;
 use sd_base::{Memory, TxnId};
+use sd_cycle::{Asked, Standing};
 use sd_oracle::SerialTable;
-use sd_reclock::{Asked, Standing};
 use std::alloc::Global;
 
 /// The serial table as a keeper of claims.

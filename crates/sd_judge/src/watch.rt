@@ -7,7 +7,7 @@ ghost use Rattle.sd_model.specs.Waits.{stands as stands_in};
 ghost use Rattle.sd_model.specs.Scenes.{waits_after, of_running, is_running};
 ghost use Rattle.sd_model.specs.Exact.{Blocks, Closes, NamesWhom, IsExact, IsOfLock, IsOfFreeSlot};
 ghost use Rattle.sd_lists.specs.Lists.{state_of};
-ghost use Rattle.sd_reclock.specs.Locks.{wait_of, waits_in};
+ghost use Rattle.sd_cycle.specs.Waiting.{wait_of, waits_in};
 ghost use Rattle.sd_judge.specs.Exactly.{JudgesExactly};
 ghost use Rattle.sd_judge.specs.Watches.{scene, IsBlocking};
 
@@ -15,9 +15,9 @@ use crate::asked::{asked_of, claim_of, wait_after};
 use crate::standing::Table;
 use sd_base::{Cycle, Memory, Refusal, Rid, TxnId};
 use sd_causes::txn_of;
+use sd_cycle::{Asked, Asking};
 use sd_model::{Event, Reply};
 use sd_oracle::{Outcome, SerialTable, Verdict};
-use sd_reclock::{Asked, Asking};
 use std::alloc::Global;
 use std::collections::BTreeMap;
 

@@ -103,7 +103,7 @@ pub apart_both : (few few' many many' : Held) (t : TxnId) → IsApartFrom few ma
 apart_both few few' many many' t apart adds right = apart_fewer few few' many' adds (apart_freed few many many' t right apart)
 
 -- the lock on a record that nobody holds
-pub added : (few many : Held) (t : TxnId) (r : Rid) (mode : Mode) → lookup (same_rid r) few ≡ None → lookup (same_rid r) many ≡ None
+pub added : (few many : Held) (t : TxnId) (r : Rid) (mode : Mode) → lookup (same_rid r) few ≡ None → ((u : TxnId) → held_in many u r ≡ None)
     → Changes (few ++ many) ((few ++ (r, (t, mode) ∷ []) ∷ []) ++ many) t r (Some (raised (held_in (few ++ many) t r) mode))
 added few many t r mode none nowhere = subst (λ (m : Option Mode). Changes (few ++ many) ((few ++ row ∷ []) ++ many) t r (Some (raised m mode))) (sym (free t))
     (changes (few ++ many) ((few ++ row ∷ []) ++ many) t r (Some row.1) (Some mode) puts
@@ -113,7 +113,7 @@ added few many t r mode none nowhere = subst (λ (m : Option Mode). Changes (few
     row = (r, (t, mode) ∷ [])
 
     free : (u : TxnId) → held_in (few ++ many) u r ≡ None
-    free u = held_right few many u r none ∙ ap (λ (o : Option Modes). mode_among o u) nowhere
+    free u = held_right few many u r none ∙ nowhere u
 
     here : (q : Rid) → same_rid r q ≡ true → lookup (same_rid q) ((few ++ row ∷ []) ++ many) ≡ cond (same_rid r q) (Some row.1) (lookup (same_rid q) (few ++ many))
     here q h = look_left (same_rid q) (few ++ row ∷ []) many row.1 (push_puts few r row.1 none q ∙ cond-true (same_rid r q) (Some row.1) (lookup (same_rid q) few) h)
@@ -131,9 +131,9 @@ added few many t r mode none nowhere = subst (λ (m : Option Mode). Changes (few
     puts : PutsRid (few ++ many) ((few ++ (r, (t, mode) ∷ []) ∷ []) ++ many) r (Some ((t, mode) ∷ []))
     puts q = ⊎_elim (here q) (there q) (cases_Bool (same_rid r q))
 
-pub apart_added : (few many : Held) (r : Rid) (w : Modes) → lookup (same_rid r) few ≡ None → lookup (same_rid r) many ≡ None → IsApartFrom few many → IsApartFrom (few ++ (r, w) ∷ []) many
+pub apart_added : (few many : Held) (r : Rid) (w : Modes) → lookup (same_rid r) few ≡ None → ((u : TxnId) → held_in many u r ≡ None) → IsApartFrom few many → IsApartFrom (few ++ (r, w) ∷ []) many
 apart_added few many r w none nowhere apart q some u = ⊎_elim
-    (λ h. subst (λ (z : Rid). held_in many u z ≡ None) (same-rid-is r q h) (ap (λ (o : Option Modes). mode_among o u) nowhere))
+    (λ h. subst (λ (z : Rid). held_in many u z ≡ None) (same-rid-is r q h) (nowhere u))
     (λ h. apart q (let P : Option Modes → Type 0 = λ o. IsSome o in subst P (push_puts few r w none q ∙ cond-false (same_rid r q) (Some w) (lookup (same_rid q) few) h) some) u)
     (cases_Bool (same_rid r q))
 
@@ -219,13 +219,13 @@ raised_many few many many' all t r mode view none changed = subst (λ (l : Held)
     (changes_right few many many' t r (Some (raised (held_in all t r) mode)) none
     (subst (λ (m : Option Mode). Changes many many' t r (Some (raised m mode))) (held_many few many all t r view none) changed))
 
-pub added_few : (few new many all : Held) (t : TxnId) (r : Rid) (mode : Mode) → few ++ many ≡ all → lookup (same_rid r) few ≡ None → lookup (same_rid r) many ≡ None
+pub added_few : (few new many all : Held) (t : TxnId) (r : Rid) (mode : Mode) → few ++ many ≡ all → lookup (same_rid r) few ≡ None → ((u : TxnId) → held_in many u r ≡ None)
     → new ≡ few ++ (r, (t, mode) ∷ []) ∷ [] → Raises all (new ++ many) t r mode
 added_few few new many all t r mode view none nowhere is = subst (λ (l : Held). Raises all (l ++ many) t r mode) (sym is)
     (subst (λ (l : Held). Raises l ((few ++ (r, (t, mode) ∷ []) ∷ []) ++ many) t r mode) view (added few many t r mode none nowhere))
 
 -- both parts are apart still after a call that gives a lock, or finds no memory
-pub apart_after_add : {T E : Type 0} (o : Result T E) (few new many : Held) (r : Rid) (w : Modes) → lookup (same_rid r) few ≡ None → lookup (same_rid r) many ≡ None → IsApartFrom few many
+pub apart_after_add : {T E : Type 0} (o : Result T E) (few new many : Held) (r : Rid) (w : Modes) → lookup (same_rid r) few ≡ None → ((u : TxnId) → held_in many u r ≡ None) → IsApartFrom few many
     → OnOk o (new ≡ few ++ (r, w) ∷ []) → OnErr o (new ≡ few) → IsApartFrom new many
 apart_after_add o few new many r w none nowhere apart ok err = by_outcome o _ _ (IsApartFrom new many) ok err
     (λ is. subst (λ (l : Held). IsApartFrom l many) (sym is) (apart_added few many r w none nowhere apart))

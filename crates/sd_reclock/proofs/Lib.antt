@@ -1,12 +1,7 @@
 pub mod Lowest
 pub mod Writes
 pub mod Agreeing
-pub mod Walks
-pub mod Reached
-pub mod Counting
-pub mod Meeting
 pub mod Clashing
-pub mod Noting
 pub mod Lowering
 pub mod Owners
 pub mod Ranging
@@ -16,3 +11,4 @@ pub mod Placing
 pub mod Placed
 pub mod Joining
 pub mod Moving
+pub mod Marking

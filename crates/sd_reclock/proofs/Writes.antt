@@ -11,6 +11,7 @@ use Rattle.sd_base.specs.declared.ids.TxnId.{TxnId}
 use Rattle.sd_base.specs.declared.ids.Rid.{Rid}
 use Rattle.sd_base.specs.declared.place.Mode.{Mode}
 use Rattle.sd_base.specs.Ids.{same_txn, same_rid}
+use Rattle.sd_cycle.proofs.Noting.{PutsTxn}
 use Rattle.sd_reclock.specs.Locks.{Held, Modes, held_in, mode_among}
 use Rattle.sd_reclock.specs.Indexing.{Index, IsIndexed, names, rids_of}
 use Rattle.sd_base.proofs.SameIds.{cases_rid, cases_txn, ne-same_rid, ne-same}
@@ -31,9 +32,6 @@ or-false false = refl
 -- the record r has w now, and the others have what they had
 abbrev pub PutsRid : {X : Type 0} → List (Rid × X) → List (Rid × X) → Rid → Option X → Type 0
 PutsRid {X} old new r w = (q : Rid) → lookup (same_rid q) new ≡ cond (same_rid r q) w (lookup (same_rid q) old)
-
-abbrev pub PutsTxn : {X : Type 0} → List (TxnId × X) → List (TxnId × X) → TxnId → Option X → Type 0
-PutsTxn {X} old new t w = (u : TxnId) → lookup (same_txn u) new ≡ cond (same_txn t u) w (lookup (same_txn u) old)
 
 abbrev pub no_mode : Option Mode
 no_mode = None

@@ -1,9 +1,8 @@
 pub mod Locks
 pub mod Answers
 pub mod Indexing
-pub mod Reaching
-pub mod Searching
 pub mod Owning
 pub mod Holding
 pub mod Placing
 pub mod Singles
+pub mod Marking

@@ -1,5 +1,5 @@
 -- What a table of record locks says: who holds what, who stands in whose way, and who waits for what.
-use Rattle.std.specs.Prelude.{◌≡◌, ◌≢◌, ℕ, List, Option, None, Some, IsSome, option_map}
+use Rattle.std.specs.Prelude.{◌≡◌, ◌≢◌, ℕ, List, Option, None, Some, IsSome}
 use Rattle.std.specs.Map.{lookup}
 use Rattle.sd_base.specs.declared.ids.TxnId.{TxnId}
 use Rattle.sd_base.specs.declared.ids.Rid.{Rid}
@@ -7,7 +7,8 @@ use Rattle.sd_base.specs.declared.place.Mode.{Mode}
 use Rattle.sd_base.specs.declared.place.Mode.TheVariants as modes
 use Rattle.sd_base.specs.Ids.{same_txn, same_rid, IsBelow}
 use Rattle.sd_base.specs.Waits.{Wait, Waits, Clash, Obstacles}
-use Rattle.sd_reclock.specs.declared.wait.Asked.{Asked}
+pub use Rattle.sd_cycle.specs.declared.wait.Asked.{Asked}
+pub use Rattle.sd_cycle.specs.Waiting.{wait_of, waits_in}
 
 -- the locks on one record: each holder with its mode
 abbrev pub Modes : Type 0
@@ -80,15 +81,8 @@ abbrev pub IsLowestOwner : Held → ℕ → Option TxnId → Type 0
 IsLowestOwner locks p None = (u : TxnId) → OwnsIn locks p u → ⊥
 IsLowestOwner locks p (Some by) = OwnsIn locks p by × ((u : TxnId) → OwnsIn locks p u → IsBelow u by → ⊥)
 
-abbrev pub wait_of : Asked → Wait
-wait_of asked = record { rid = asked.rid; mode = asked.mode }
-
 abbrev pub wait_for : Rid → Mode → Wait
 wait_for r mode = record { rid = r; mode = mode }
-
--- what each transaction of the list waits for
-abbrev pub waits_in : List (TxnId × Asked) → Waits
-waits_in waiting t = option_map wait_of (lookup (same_txn t) waiting)
 
 -- the locks and the waits
 pub record LockTable : Type 0 where

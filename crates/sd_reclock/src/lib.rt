@@ -9,10 +9,10 @@
 //! without memory.
 //! Refuses: `Blocked`, `Deadlock`, and `Memory`, which leaves all as before.
 //! Knows nothing of: pages, logs, what a transaction does with a record, when it ends.
-//! Stands on: sd_base.
+//! Stands on: sd_base, sd_cycle for the search of cycles.
 //!
 //! To change:
-//! - free: bodies, the search (`search.rt`), which records stand in place (`few.rt`) and which behind an index (`many.rt`)
+//! - free: bodies, which records stand in place (`few.rt`), and which behind an index and marks of their pages (`many.rt`)
 //! - dear: `LockTable`, the clauses of `RecordLocks`
 //! - frozen: nothing; no byte on a device depends on it
 #![tactic(auto)]
@@ -22,10 +22,6 @@ mod holders;
 mod locks;
 mod many;
 mod others;
-mod search;
 mod table;
-mod wait;
 
-pub use search::{Asking, Standing};
 pub use table::RecordLocks;
-pub use wait::Asked;

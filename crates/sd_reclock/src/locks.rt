@@ -5,16 +5,16 @@ ghost use Rattle.std.specs.Map.{lookup};
 ghost use Rattle.sd_base.specs.declared.ids.TxnId.{TxnId};
 ghost use Rattle.sd_base.specs.declared.ids.Rid.{Rid};
 ghost use Rattle.sd_base.specs.Ids.{same_txn, same_rid, IsBelow};
-ghost use Rattle.sd_reclock.specs.Locks.{held_in, raised, wait_of, Agree, IsLowestHolder, IsLowestOwner, IsNoStronger, StandsIn};
+ghost use Rattle.sd_cycle.specs.Waiting.{wait_of};
+ghost use Rattle.sd_reclock.specs.Locks.{held_in, raised, Agree, IsLowestHolder, IsLowestOwner, IsNoStronger, StandsIn};
 ghost use Rattle.sd_reclock.specs.Answers.{IsFree};
 ghost use Rattle.sd_reclock.specs.Placing.{IsApartFrom};
 
 use crate::few::Few;
 use crate::holders::{Holders, lower_of};
 use crate::many::Many;
-use crate::search::Standing;
-use crate::wait::{Asked, clashes};
 use sd_base::{Memory, Mode, PageNo, Rid, TxnId};
+use sd_cycle::{Asked, Standing, clashes};
 use std::alloc::Global;
 use std::marker::Model;
 
@@ -66,7 +66,10 @@ impl Locks {
     pub fn is_unlocked(&self, r: &Rid) -> bool
         ensures { IsTrue result → (u : TxnId) → held_in self.now u r.now ≡ None }
     {
-        self.get(r).is_none()
+        match self.few.place_of(r) {
+            Some(_at) => false,
+            None => self.many.is_unlocked(r),
+        }
     }
 
     /// The mode in which a transaction holds a record; `None` where it doesn't.
@@ -190,9 +193,9 @@ impl Standing for Locks {
 
 // Whether a record that isn't among the few finds a place there: one is free, and the record isn't among the many.
 fn has_place(few: &Few, many: &Many, r: &Rid) -> bool
-    ensures { IsTrue result → lookup (same_rid r.now) many.now ≡ None }
+    ensures { IsTrue result → (u : TxnId) → held_in many.now u r.now ≡ None }
 {
-    few.has_place() && many.get(r).is_none()
+    few.has_place() && many.is_unlocked(r)
 }
 
 // Moves a record with a single lock from the few to the many, where memory is found.

@@ -1,23 +1,28 @@
 //! The locks on records, and an index from a transaction to its records. They see no wait.
 
-ghost use Rattle.std.specs.Prelude.{◌≡◌, ◌⊎◌, ◌+◌, ◌||◌, ◌&&◌, [], None, Some, cond, option_copied, true, false, IsTrue, IfOk, OnOk, OnErr};
+ghost use Rattle.std.specs.Prelude.{◌≡◌, ◌⊎◌, ◌+◌, ◌||◌, ◌&&◌, [], ℕ, None, Some, cond, option_copied, slice_index_or, true, false, IsTrue, IfOk, OnOk, OnErr};
 ghost use Rattle.std.specs.List.{list_any};
 ghost use Rattle.std.specs.Map.{lookup};
 ghost use Rattle.std.specs.declared.ops.Bound.TheVariants.{Excluded, Unbounded};
 ghost use Rattle.sd_base.specs.declared.ids.TxnId.{TxnId};
 ghost use Rattle.sd_base.specs.declared.ids.Rid.{Rid};
 ghost use Rattle.sd_base.specs.Ids.{same_txn, same_rid};
-ghost use Rattle.sd_reclock.specs.Locks.{held_in, raised, wait_of, Agree, IsLowestOwner, IsNoStronger, StandsIn};
+ghost use Rattle.sd_cycle.specs.Waiting.{wait_of};
+ghost use Rattle.sd_reclock.specs.Locks.{held_in, raised, Agree, IsLowestOwner, IsNoStronger, StandsIn};
 ghost use Rattle.sd_reclock.specs.Answers.{IsFree};
 ghost use Rattle.sd_reclock.specs.Indexing.{names, IsIndexed};
+ghost use Rattle.sd_reclock.specs.Marking.{AreMarked};
 
 use crate::holders::{Holders, lower_of};
-use crate::wait::Asked;
-use sd_base::{Memory, Mode, PageNo, Rid, TxnId};
+use sd_base::{Memory, Mode, PAGES, PageNo, Rid, TxnId};
+use sd_cycle::Asked;
 use std::alloc::Global;
 use std::collections::BTreeMap;
 use std::marker::Model;
 use std::ops::Bound;
+
+// One mark a page.
+const MARKS: usize = PAGES as usize;
 
 /// Who holds which record, of any number of records. Contracts see the list of locked records, each with its holders.
 #[derive(Drop)]
@@ -27,6 +32,8 @@ pub struct Many {
     index: BTreeMap<TxnId, Vec<Rid>>,
     // Lists of transactions that ended, whose room others use again. There is room for all that are in use.
     spare: Vec<Vec<Rid>>,
+    // Of each page whether a record of it may be here.
+    pages: [bool; MARKS],
     alloc: Global,
 }
 
@@ -40,10 +47,11 @@ impl Model for Many {
 
     ghost use Rattle.sd_reclock.specs.Indexing.{IsIndexed};
     ghost use Rattle.sd_reclock.specs.Locks.{Agree};
+    ghost use Rattle.sd_reclock.specs.Marking.{AreMarked};
 
     ghost view = { λ l. l.records.entries };
 
-    ghost invariant = { λ l. IsIndexed l.records.entries l.index.entries × Agree l.records.entries };
+    ghost invariant = { λ l. IsIndexed l.records.entries l.index.entries × Agree l.records.entries × AreMarked l.records.entries l.pages };
 }
 
 impl Many {
@@ -55,6 +63,7 @@ impl Many {
             records: BTreeMap::new(alloc),
             index: BTreeMap::new(alloc),
             spare: Vec::new(alloc),
+            pages: [false; MARKS],
             alloc,
         }
     }
@@ -67,6 +76,17 @@ impl Many {
         self.records.get(r)
     }
 
+    /// Whether nobody has a lock on the record. Where nobody has one in its page, it looks at no record.
+    pub fn is_unlocked(&self, r: &Rid) -> bool
+        ensures { IsTrue result → (u : TxnId) → held_in self.now u r.now ≡ None }
+    {
+        if self.pages[r.page.get() as usize] {
+            self.get(r).is_none()
+        } else {
+            true
+        }
+    }
+
     /// Gives the lock, or raises one that is there. After `Memory` the locks are as before.
     pub fn put(&mut self, t: &TxnId, wait: &Asked) -> Result<(), Memory>
         requires free { IsFree (StandsIn self.old) t.now (wait_of wait.now) }
@@ -75,6 +95,7 @@ impl Many {
         ensures agree { Agree self.new }
         ensures same { OnErr result (self.new ≡ self.old) }
     {
+        mark(&mut self.pages, wait.rid.page);
         put(
             self.alloc,
             &mut self.records,
@@ -118,7 +139,25 @@ impl Many {
         if let Some(rids) = self.index.remove(t) {
             release_each(&mut self.records, t, &rids);
             keep(&mut self.spare, rids);
+            unmark(&self.records, &mut self.pages);
         }
+    }
+}
+
+// Marks the page.
+fn mark(pages: &mut [bool; MARKS], p: PageNo)
+    ensures marked { slice_index_or pages.new p false ≡ true }
+    ensures more { (q : ℕ) → slice_index_or pages.new q false ≡ false → slice_index_or pages.old q false ≡ false }
+{
+    pages[p.get() as usize] = true;
+}
+
+// Takes all marks away where there are no records.
+fn unmark(records: &BTreeMap<Rid, Holders>, pages: &mut [bool; MARKS])
+    ensures { AreMarked records.now.entries pages.old → AreMarked records.now.entries pages.new }
+{
+    if records.is_empty() {
+        *pages = [false; MARKS];
     }
 }
 

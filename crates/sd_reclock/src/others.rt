@@ -4,10 +4,10 @@ ghost use Rattle.std.specs.Prelude.{◌≡◌, [], None, Some, cond, IsTrue, IfO
 ghost use Rattle.sd_base.specs.declared.ids.TxnId.{TxnId};
 ghost use Rattle.sd_base.specs.Ids.{same_txn};
 ghost use Rattle.sd_reclock.specs.Locks.{mode_of, raised, AgreeAmong, ClashesIn, IsLowestHolder, IsNoStronger, IsOwner};
-ghost use Rattle.sd_reclock.specs.Reaching.{AreThose};
+ghost use Rattle.sd_cycle.specs.Reaching.{AreThose};
 
-use crate::wait::{clashes, raise};
 use sd_base::{Memory, Mode, TxnId};
+use sd_cycle::clashes;
 use std::alloc::Global;
 use std::collections::BTreeMap;
 use std::marker::Model;
@@ -118,5 +118,15 @@ impl Others {
             Mode::Excl => Some(*t),
             Mode::Shared => None,
         }
+    }
+}
+
+/// The mode of a lock that is asked for again: `Excl` stays.
+pub fn raise(had: Option<Mode>, mode: Mode) -> Mode
+    ensures { result ≡ raised had mode }
+{
+    match had {
+        Some(Mode::Excl) => Mode::Excl,
+        Some(Mode::Shared) | None => mode,
     }
 }

@@ -10,9 +10,8 @@ ghost use Rattle.sd_reclock.specs.Locks.{Agree, IsLowestHolder, IsLowestOwner, I
 ghost use Rattle.sd_reclock.specs.Answers.{IsFree, IsRefused};
 
 use crate::locks::Locks;
-use crate::search::Asking;
-use crate::wait::Asked;
 use sd_base::{InstNo, Memory, Mode, PageNo, Refusal, Rid, TxnId};
+use sd_cycle::{Asked, Asking};
 use std::alloc::Global;
 use std::collections::BTreeMap;
 use std::marker::Model;

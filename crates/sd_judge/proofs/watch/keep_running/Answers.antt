@@ -3,7 +3,7 @@ use Rattle.std.proofs.lemmas.Map.Made.{filter_same_pairs}
 use Rattle.sd_base.specs.declared.ids.TxnId.{TxnId}
 use Rattle.sd_model.specs.State.{State}
 use Rattle.sd_lists.specs.Lists.{state_of}
-use Rattle.sd_reclock.specs.declared.wait.Asked.{Asked}
+use Rattle.sd_cycle.specs.declared.wait.Asked.{Asked}
 use Rattle.sd_model.specs.Scenes.{is_running}
 use Rattle.sd_judge.proofs.Noting.{kept-running}
 use Rattle.sd_judge.proofs.watch.keep_running.Goals as goal

@@ -1,8 +1,8 @@
 use Rattle.std.proofs.Common.{◌↔◌, IsTrue, Option, sym, subst}
 use Rattle.std.specs.Option.{option_map}
 use Rattle.std.specs.Prelude.{IfOk}
-use Rattle.sd_reclock.specs.declared.wait.Asked.{Asked}
-use Rattle.sd_reclock.specs.Locks.{wait_of}
+use Rattle.sd_cycle.specs.declared.wait.Asked.{Asked}
+use Rattle.sd_cycle.specs.Waiting.{wait_of}
 use Rattle.sd_model.specs.Exact.{Closes}
 use Rattle.sd_judge.specs.Watches.{scene}
 use Rattle.sd_judge.proofs.watch.Watch.closes.Goals as goal

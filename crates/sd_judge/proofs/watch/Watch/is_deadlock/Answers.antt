@@ -1,6 +1,6 @@
 use Rattle.std.proofs.Common.{◌≡◌, ◌↔◌, IsTrue, List, subst}
 use Rattle.sd_base.specs.declared.ids.TxnId.{TxnId}
-use Rattle.sd_reclock.specs.Locks.{wait_of}
+use Rattle.sd_cycle.specs.Waiting.{wait_of}
 use Rattle.sd_judge.specs.Watches.{scene}
 use Rattle.sd_judge.proofs.Deciding.{is-that-cycle}
 use Rattle.sd_judge.proofs.watch.Watch.is_deadlock.Goals as goal

@@ -2,7 +2,7 @@ use Rattle.std.proofs.Common.{◌↔◌, IsTrue, sym, subst}
 use Rattle.std.specs.Option.{option_map}
 use Rattle.std.specs.Prelude.{IfOk}
 use Rattle.sd_model.specs.declared.event.Reply.{Reply}
-use Rattle.sd_reclock.specs.Locks.{wait_of}
+use Rattle.sd_cycle.specs.Waiting.{wait_of}
 use Rattle.sd_model.specs.Exact.{IsExact}
 use Rattle.sd_judge.specs.Watches.{scene}
 use Rattle.sd_judge.proofs.watch.Watch.is_exact.Goals as goal

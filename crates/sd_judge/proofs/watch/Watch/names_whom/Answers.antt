@@ -2,7 +2,7 @@ use Rattle.std.proofs.Common.{◌↔◌, IsTrue, sym, subst}
 use Rattle.std.specs.Option.{option_map}
 use Rattle.std.specs.Prelude.{IfOk}
 use Rattle.sd_base.specs.declared.refusal.Refusal.{Refusal}
-use Rattle.sd_reclock.specs.Locks.{wait_of}
+use Rattle.sd_cycle.specs.Waiting.{wait_of}
 use Rattle.sd_model.specs.Exact.{NamesWhom}
 use Rattle.sd_judge.specs.Watches.{scene}
 use Rattle.sd_judge.proofs.watch.Watch.names_whom.Goals as goal

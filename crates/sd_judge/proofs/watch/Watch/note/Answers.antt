@@ -3,9 +3,9 @@ use Rattle.std.specs.Option.{option_map}
 use Rattle.sd_base.specs.declared.ids.TxnId.{TxnId}
 use Rattle.sd_model.specs.State.{State}
 use Rattle.sd_lists.specs.Lists.{state_of}
-use Rattle.sd_reclock.specs.declared.wait.Asked.{Asked}
-use Rattle.sd_reclock.specs.Locks.{wait_of, waits_in}
-use Rattle.sd_reclock.proofs.Noting.{waits_change}
+use Rattle.sd_cycle.specs.declared.wait.Asked.{Asked}
+use Rattle.sd_cycle.specs.Waiting.{wait_of, waits_in}
+use Rattle.sd_cycle.proofs.Noting.{waits_change}
 use Rattle.sd_judge.specs.declared.watch.Watch.{Watch}
 use Rattle.sd_model.specs.Scenes.{of_running}
 use Rattle.sd_model.proofs.Scenes.{noted}

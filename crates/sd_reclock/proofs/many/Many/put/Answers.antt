@@ -1,10 +1,13 @@
-use Rattle.std.proofs.Common.{Some, sym, subst, Result, Ok, Err}
+use Rattle.std.proofs.Common.{Some, refl, sym, subst, Result, Ok, Err}
 use Rattle.std.specs.Result.{OnOk}
 use Rattle.sd_base.specs.declared.ids.TxnId.{TxnId}
-use Rattle.sd_reclock.specs.Locks.{Held, Agree, StandsIn, wait_of, held_in, raised}
+use Rattle.sd_cycle.specs.Waiting.{wait_of}
+use Rattle.sd_reclock.specs.Locks.{Held, Agree, StandsIn, held_in, raised}
 use Rattle.sd_reclock.specs.Indexing.{IsIndexed}
+use Rattle.sd_reclock.specs.Marking.{AreMarked}
 use Rattle.sd_reclock.proofs.Writes.{by_outcome}
 use Rattle.sd_reclock.proofs.Agreeing.{agree_raised, indexed_after}
+use Rattle.sd_reclock.proofs.Marking.{marked_more, marked_put}
 use Rattle.sd_reclock.proofs.many.Many.put.Goals as goal
 
 agrees : (c : goal.After-put) → Agree c.put.new.records.entries
@@ -32,4 +35,8 @@ invariant_of-self c =
           (λ same. subst (λ (locks : Held). IsIndexed locks c.put.new.index.entries) (sym same)
           (λ u q h. c.self.invariant.0 u q (c.put.ensures.more u q h))),
       agrees c,
+      by_outcome c.put.result _ _ (AreMarked c.put.new.records.entries c.mark.new.pages) c.put.ensures.put c.put.ensures.same
+          (marked_put c.self.inside.pages c.mark.new.pages c.args.wait.now.rid.page c.mark.ensures.marked c.mark.ensures.more old c.put.new.records.entries c.args.t.now c.args.wait.now.rid _ refl c.self.invariant.2)
+          (λ same. subst (λ (locks : Held). AreMarked locks c.mark.new.pages) (sym same)
+          (marked_more c.self.inside.pages c.mark.new.pages c.args.wait.now.rid.page c.mark.ensures.marked c.mark.ensures.more old c.self.invariant.2)),
     )

@@ -4,13 +4,13 @@ use Rattle.std.proofs.lemmas.List.{get_or_append_left, length_push, take_all}
 use Rattle.std.specs.Bool.{OnFalse}
 use Rattle.std.specs.Option.{is_some}
 use Rattle.sd_base.specs.declared.ids.TxnId.{TxnId}
-use Rattle.sd_reclock.specs.declared.search.Met.{Met}
-use Rattle.sd_reclock.specs.Reaching.{met_at, AreThose}
-use Rattle.sd_reclock.specs.Searching.{has_seen, steps_of, IsWaiting}
-use Rattle.sd_reclock.proofs.Reached.{reached_next}
-use Rattle.sd_reclock.proofs.Meeting.{added, inside_next, look-seen, past, met, fewer_left}
-use Rattle.sd_reclock.proofs.search.Asking.meet.Goals as goal
-use Rattle.sd_reclock.proofs.search.Asking.meet.Goals.{then-contains_key+in_ok-insert+then-branch+in_ok-push, else-contains_key, else-contains_key-via-then-contains_key+in_ok-insert+else-branch, else-contains_key-via-else-contains_key}
+use Rattle.sd_cycle.specs.declared.search.Met.{Met}
+use Rattle.sd_cycle.specs.Reaching.{met_at, AreThose}
+use Rattle.sd_cycle.specs.Searching.{has_seen, steps_of, IsWaiting}
+use Rattle.sd_cycle.proofs.Reached.{reached_next}
+use Rattle.sd_cycle.proofs.Meeting.{added, inside_next, look-seen, past, met, fewer_left}
+use Rattle.sd_cycle.proofs.search.Asking.meet.Goals as goal
+use Rattle.sd_cycle.proofs.search.Asking.meet.Goals.{then-contains_key+in_ok-insert+then-branch+in_ok-push, else-contains_key, else-contains_key-via-then-contains_key+in_ok-insert+else-branch, else-contains_key-via-else-contains_key}
 use Rattle.sd_base.proofs.Orders.{look-txn}
 
 on_false : (b : Bool) (P : Type 0) → b ≡ false → OnFalse b P → P

@@ -3,7 +3,7 @@ use Rattle.std.specs.Prelude.{◌≡◌, ◌≢◌, ◌⊎◌, ◌↔◌, ℕ, �
 use Rattle.std.specs.List.{Contains}
 use Rattle.sd_base.specs.declared.ids.TxnId.{TxnId}
 use Rattle.sd_base.specs.Ids.{IsBelow}
-use Rattle.sd_reclock.specs.declared.search.Met.{Met}
+use Rattle.sd_cycle.specs.declared.search.Met.{Met}
 
 abbrev pub Steps : Type 1
 Steps = TxnId → TxnId → Type 0

@@ -6,7 +6,7 @@ use Rattle.std.specs.Option.{IfSome}
 use Rattle.sd_base.specs.declared.ids.TxnId.{TxnId}
 use Rattle.sd_base.specs.Ids.{IsBelow}
 use Rattle.sd_base.specs.Waits.{Wait, Waits, WaitsFor, Obstacles, ComesBefore, EndsWith, IsChain, IsCycle, IsDeadlock, asking}
-use Rattle.sd_reclock.specs.Reaching.{Steps, IsBack, IsEarlier, Precedes}
+use Rattle.sd_cycle.specs.Reaching.{Steps, IsBack, IsEarlier, Precedes}
 use Rattle.sd_base.proofs.Orders.{not_below_itself, below_trans}
 
 earlier_trans : (a b c : List TxnId) → IsEarlier a b → IsEarlier b c → IsEarlier a c

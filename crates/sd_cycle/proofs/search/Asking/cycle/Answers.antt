@@ -6,14 +6,14 @@ use Rattle.std.specs.List.{Contains, AllWithin, list_any}
 use Rattle.sd_base.specs.declared.ids.TxnId.{TxnId}
 use Rattle.sd_base.specs.Ids.{same_txn}
 use Rattle.sd_base.specs.Waits.{asking}
-use Rattle.sd_reclock.specs.declared.search.Met.{Met}
-use Rattle.sd_reclock.specs.Locks.{wait_of}
-use Rattle.sd_reclock.specs.Reaching.{met_at, IsWay}
-use Rattle.sd_reclock.specs.Searching.{has_seen, steps_of, stands_of, waits_of, IsWaiting}
-use Rattle.sd_reclock.proofs.Walks.{told_cycle, no_cycle}
-use Rattle.sd_reclock.proofs.Reached.{txn_at, reached_start, none_back, first_back, is_way}
-use Rattle.sd_reclock.proofs.Meeting.{goes}
-use Rattle.sd_reclock.proofs.search.Asking.cycle.Goals as goal
+use Rattle.sd_cycle.specs.declared.search.Met.{Met}
+use Rattle.sd_cycle.specs.Waiting.{wait_of}
+use Rattle.sd_cycle.specs.Reaching.{met_at, IsWay}
+use Rattle.sd_cycle.specs.Searching.{has_seen, steps_of, stands_of, waits_of, IsWaiting}
+use Rattle.sd_cycle.proofs.Walks.{told_cycle, no_cycle}
+use Rattle.sd_cycle.proofs.Reached.{txn_at, reached_start, none_back, first_back, is_way}
+use Rattle.sd_cycle.proofs.Meeting.{goes}
+use Rattle.sd_cycle.proofs.search.Asking.cycle.Goals as goal
 use Rattle.sd_base.proofs.Orders.{same-txn, same-txn-is}
 
 -- what the test found is in the list

@@ -1,8 +1,7 @@
 //! What a transaction waits for, and which modes conflict.
 
-ghost use Rattle.std.specs.Prelude.{◌≡◌, ◌↔◌, IsTrue};
+ghost use Rattle.std.specs.Prelude.{◌↔◌, IsTrue};
 ghost use Rattle.sd_base.specs.Waits.{Clash};
-ghost use Rattle.sd_reclock.specs.Locks.{raised};
 
 use sd_base::{Mode, Rid};
 
@@ -20,15 +19,5 @@ pub fn clashes(mode: Mode, other: Mode) -> bool
     match (mode, other) {
         (Mode::Shared, Mode::Shared) => false,
         (Mode::Shared, Mode::Excl) | (Mode::Excl, _) => true,
-    }
-}
-
-/// The mode of a lock that is asked for again: `Excl` stays.
-pub fn raise(had: Option<Mode>, mode: Mode) -> Mode
-    ensures { result ≡ raised had mode }
-{
-    match had {
-        Some(Mode::Excl) => Mode::Excl,
-        Some(Mode::Shared) | None => mode,
     }
 }

@@ -1,7 +1,7 @@
 use Rattle.std.proofs.Common.{◌≡◌, ◌<◌, ◌++◌, ◌∷◌, List, length}
 use Rattle.sd_base.specs.declared.ids.TxnId.{TxnId}
-use Rattle.sd_reclock.specs.Reaching.{met_at, IsWay}
-use Rattle.sd_reclock.proofs.search.Asking.way.Given as goal
+use Rattle.sd_cycle.specs.Reaching.{met_at, IsWay}
+use Rattle.sd_cycle.proofs.search.Asking.way.Given as goal
 
 abbrev pub invariant-loop-at : goal.invariant-loop-at
 invariant-loop-at g l = record {

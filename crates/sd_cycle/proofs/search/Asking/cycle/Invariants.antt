@@ -1,7 +1,7 @@
 use Rattle.std.proofs.Common.{◌+◌, ◌-◌, [], length}
-use Rattle.sd_reclock.specs.Reaching.{IsReached}
-use Rattle.sd_reclock.specs.Searching.{has_seen, steps_of, unseen, IsWaiting}
-use Rattle.sd_reclock.proofs.search.Asking.cycle.Given as goal
+use Rattle.sd_cycle.specs.Reaching.{IsReached}
+use Rattle.sd_cycle.specs.Searching.{has_seen, steps_of, unseen, IsWaiting}
+use Rattle.sd_cycle.proofs.search.Asking.cycle.Given as goal
 
 abbrev pub invariant-place : goal.invariant-place
 invariant-place g l = IsReached (steps_of g.L.Standing.stands l.self) (IsWaiting l.self) l.self.asker l.found.items (has_seen l.seen) l.at []

@@ -6,9 +6,9 @@ use Rattle.std.proofs.lemmas.List.Elements.{Contains-append_left, Contains-push,
 use Rattle.std.specs.List.{Contains}
 use Rattle.sd_base.specs.declared.ids.TxnId.{TxnId}
 use Rattle.sd_base.specs.Ids.{IsBelow}
-use Rattle.sd_reclock.specs.declared.search.Met.{Met}
-use Rattle.sd_reclock.specs.Reaching.{Steps, AreThose, IsBack, IsMet, IsReached, IsWay, Precedes, met_at}
-use Rattle.sd_reclock.proofs.Walks.{precedes_trans, precedes_length, precedes_more, precedes_below, precedes_less}
+use Rattle.sd_cycle.specs.declared.search.Met.{Met}
+use Rattle.sd_cycle.specs.Reaching.{Steps, AreThose, IsBack, IsMet, IsReached, IsWay, Precedes, met_at}
+use Rattle.sd_cycle.proofs.Walks.{precedes_trans, precedes_length, precedes_more, precedes_below, precedes_less}
 use Rattle.sd_base.proofs.SameIds.{cases_txn}
 use Rattle.sd_base.proofs.Orders.{below_or_above}
 

@@ -3,9 +3,9 @@
 ghost use Rattle.std.specs.Prelude.{◌≡◌, ◌+◌, ◌<◌, ◌≤◌, ◌∷◌, [], ℕ, List, IfSome, IfOk, IfNone, OnOk, length, option_map, reverse};
 ghost use Rattle.sd_base.specs.declared.ids.TxnId.{TxnId};
 ghost use Rattle.sd_base.specs.Waits.{Wait, asking};
-ghost use Rattle.sd_reclock.specs.Locks.{wait_of};
-ghost use Rattle.sd_reclock.specs.Reaching.{met_at, AreNext, AreThose, IsReached, IsWay};
-ghost use Rattle.sd_reclock.specs.Searching.{has_seen, steps_of, unseen, waits_of, ClosesFirst, ClosesNone, IsWaiting};
+ghost use Rattle.sd_cycle.specs.Waiting.{wait_of};
+ghost use Rattle.sd_cycle.specs.Reaching.{met_at, AreNext, AreThose, IsReached, IsWay};
+ghost use Rattle.sd_cycle.specs.Searching.{has_seen, steps_of, unseen, waits_of, ClosesFirst, ClosesNone, IsWaiting};
 
 use crate::wait::Asked;
 use sd_base::{Cycle, Memory, TxnId};

@@ -6,8 +6,8 @@ use Rattle.std.specs.BTreeSet.{BTreeSet}
 use Rattle.sd_base.specs.declared.ids.TxnId.{TxnId}
 use Rattle.sd_base.specs.Ids.{same_txn}
 use Rattle.sd_base.specs.Waits.{Obstacles, Waits, WaitsFor, asking, IsCycle, IsDeadlock}
-use Rattle.sd_reclock.specs.declared.search.Asking.{Asking}
-use Rattle.sd_reclock.specs.Locks.{wait_of, waits_in}
+use Rattle.sd_cycle.specs.declared.search.Asking.{Asking}
+use Rattle.sd_cycle.specs.Waiting.{wait_of, waits_in}
 
 abbrev pub stands_of : {L : Type 0} → (L → Obstacles) → Asking L → Obstacles
 stands_of stands asked = stands asked.locks.now

@@ -5,8 +5,8 @@ use Rattle.std.specs.Ordering.{is_lt}
 use Rattle.sd_base.specs.declared.ids.TxnId.{TxnId}
 use Rattle.sd_base.specs.Ids.{IsBelow}
 use Rattle.sd_base.specs.Waits.{Wait}
-use Rattle.sd_reclock.specs.Locks.{wait_of}
-use Rattle.sd_reclock.proofs.search.Asking.next_of.Goals as goal
+use Rattle.sd_cycle.specs.Waiting.{wait_of}
+use Rattle.sd_cycle.proofs.search.Asking.next_of.Goals as goal
 use Rattle.sd_base.proofs.Orders.{txn_cmp, below_or_above, below_trans, cmp_from_below}
 use Rattle.sd_base.proofs.SameIds.{cases_txn}
 

@@ -1,7 +1,7 @@
 use Rattle.std.proofs.Common.{◌≡◌, ◌<◌, ◌≤◌, ◌+◌, length, take}
-use Rattle.sd_reclock.specs.Reaching.{met_at, IsReached}
-use Rattle.sd_reclock.specs.Searching.{has_seen, steps_of, unseen, IsWaiting}
-use Rattle.sd_reclock.proofs.search.Asking.meet.Given as goal
+use Rattle.sd_cycle.specs.Reaching.{met_at, IsReached}
+use Rattle.sd_cycle.specs.Searching.{has_seen, steps_of, unseen, IsWaiting}
+use Rattle.sd_cycle.proofs.search.Asking.meet.Given as goal
 
 abbrev pub invariant-loop-u : goal.invariant-loop-u
 invariant-loop-u g l = record {

@@ -1,4 +1,4 @@
--- The waits after an answer. It serves the goals of table.rt.
+-- The waits after an answer. It serves the goals of crates above that keep waits.
 use Rattle.std.proofs.Common.{◌≡◌, ℕ, List, [], ◌∷◌, not, nat_eq, Option, Some, None, Bool, true, false, cond, refl, sym, ap, ◌∙◌}
 use Rattle.std.proofs.lemmas.Bool.{cond-true, cond-false}
 use Rattle.std.specs.List.{filter}
@@ -7,10 +7,13 @@ use Rattle.std.specs.Option.{option_map}
 use Rattle.sd_base.specs.declared.ids.TxnId.{TxnId}
 use Rattle.sd_base.specs.Ids.{same_txn}
 use Rattle.sd_base.specs.Waits.{Wait, with_wait}
-use Rattle.sd_reclock.specs.declared.wait.Asked.{Asked}
-use Rattle.sd_reclock.specs.Locks.{wait_of, waits_in}
-use Rattle.sd_reclock.proofs.Writes.{PutsTxn}
+use Rattle.sd_cycle.specs.declared.wait.Asked.{Asked}
+use Rattle.sd_cycle.specs.Waiting.{wait_of, waits_in}
 use Rattle.sd_base.proofs.Orders.{same-txn-is}
+
+-- the transaction t has w now, and the others have what they had
+abbrev pub PutsTxn : {X : Type 0} → List (TxnId × X) → List (TxnId × X) → TxnId → Option X → Type 0
+PutsTxn {X} old new t w = (u : TxnId) → lookup (same_txn u) new ≡ cond (same_txn t u) w (lookup (same_txn u) old)
 
 pub map-cond : (b : Bool) (x y : Option Asked) → option_map wait_of (cond b x y) ≡ cond {A = Option Wait} b (option_map wait_of x) (option_map wait_of y)
 map-cond true x y = refl

@@ -12,14 +12,14 @@ use Rattle.std.specs.BTreeSet.{BTreeSet, contains}
 use Rattle.sd_base.specs.declared.ids.TxnId.{TxnId}
 use Rattle.sd_base.specs.Ids.{same_txn, IsBelow}
 use Rattle.sd_base.specs.Waits.{Wait, Obstacles}
-use Rattle.sd_reclock.specs.declared.search.Asking.{Asking}
-use Rattle.sd_reclock.specs.declared.search.Met.{Met}
-use Rattle.sd_reclock.specs.declared.wait.Asked.{Asked}
-use Rattle.sd_reclock.specs.Locks.{wait_of}
-use Rattle.sd_reclock.specs.Reaching.{met_at, AreNext, IsMet, IsReached}
-use Rattle.sd_reclock.specs.Searching.{has_seen, steps_of, unseen, waits_of, IsWaiting}
-use Rattle.sd_reclock.proofs.Reached.{txn_at, more, reached_more, reached_past}
-use Rattle.sd_reclock.proofs.Counting.{fewer}
+use Rattle.sd_cycle.specs.declared.search.Asking.{Asking}
+use Rattle.sd_cycle.specs.declared.search.Met.{Met}
+use Rattle.sd_cycle.specs.declared.wait.Asked.{Asked}
+use Rattle.sd_cycle.specs.Waiting.{wait_of}
+use Rattle.sd_cycle.specs.Reaching.{met_at, AreNext, IsMet, IsReached}
+use Rattle.sd_cycle.specs.Searching.{has_seen, steps_of, unseen, waits_of, IsWaiting}
+use Rattle.sd_cycle.proofs.Reached.{txn_at, more, reached_more, reached_past}
+use Rattle.sd_cycle.proofs.Counting.{fewer}
 use Rattle.sd_base.proofs.Orders.{txn_cmp, txn_is_eq, same-txn-is}
 use Rattle.sd_base.proofs.SameIds.{ne-same}
 

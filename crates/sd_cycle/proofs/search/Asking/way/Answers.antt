@@ -1,9 +1,9 @@
 use Rattle.std.proofs.Common.{◌≡◌, ◌≢◌, ℕ, ◌<◌, List, [], ◌∷◌, ◌++◌, length, reverse, sym, ap, subst, ◌∙◌, arith, get_or}
 use Rattle.std.proofs.lemmas.List.{append-nil, append_assoc, get_or_default}
 use Rattle.sd_base.specs.declared.ids.TxnId.{TxnId}
-use Rattle.sd_reclock.specs.declared.search.Met.{Met}
-use Rattle.sd_reclock.specs.Reaching.{met_at, IsWay}
-use Rattle.sd_reclock.proofs.search.Asking.way.Goals as goal
+use Rattle.sd_cycle.specs.declared.search.Met.{Met}
+use Rattle.sd_cycle.specs.Reaching.{met_at, IsWay}
+use Rattle.sd_cycle.proofs.search.Asking.way.Goals as goal
 
 -- one place further on the way
 way_more : (t : TxnId) (found : List Met) (at : ℕ) (path rest : List TxnId) → at ≢ 0 → IsWay t found at rest

@@ -2,10 +2,10 @@ use Rattle.std.proofs.Common.{Option, Some, ap, sym, ◌∙◌}
 use Rattle.std.proofs.lemmas.Bool.{cond-true, cond-false}
 use Rattle.std.specs.Option.{option_map}
 use Rattle.sd_base.specs.Ids.{same_txn}
-use Rattle.sd_reclock.specs.declared.wait.Asked.{Asked}
-use Rattle.sd_reclock.specs.Locks.{wait_of}
-use Rattle.sd_reclock.specs.Searching.{waits_of}
-use Rattle.sd_reclock.proofs.search.Asking.wait_of.Goals as goal
+use Rattle.sd_cycle.specs.declared.wait.Asked.{Asked}
+use Rattle.sd_cycle.specs.Waiting.{wait_of}
+use Rattle.sd_cycle.specs.Searching.{waits_of}
+use Rattle.sd_cycle.proofs.search.Asking.wait_of.Goals as goal
 use Rattle.sd_base.proofs.Orders.{look-txn}
 
 pub returns-then-eq : goal.returns-then-eq

@@ -1,1 +1,0 @@
-use Rattle.sd_reclock.proofs.locks.Locks.settle.Goals as goal
