@@ -18,14 +18,6 @@ pub mod Joins
 pub mod Locks
 pub mod LockReads
 pub mod RecoverDone
-pub mod Sealed
-pub mod SealedGood
-pub mod SealedCommits
-pub mod SealedTold
-pub mod SealedLaws
-pub mod SealedEnds
-pub mod SealedCalls
-pub mod SealedTests
 pub mod WorkingGood
 pub mod WorkingValues
 pub mod WorkingBegins

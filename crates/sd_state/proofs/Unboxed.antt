@@ -1,6 +1,6 @@
 -- Images that are on their way, out of their boxes. For all that reads the page directory.
 use Rattle.std.proofs.Common.{◌≡◌, ℕ, sym, ap, ◌∙◌}
-use Rattle.std.specs.Prelude.{Option, None, option_map}
+use Rattle.std.specs.Prelude.{None, option_map}
 use Rattle.std.specs.Box.{box_value}
 use Rattle.std.specs.Global.{Box}
 use Rattle.std.proofs.Math.ListN.{get_or-map}

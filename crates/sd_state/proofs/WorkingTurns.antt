@@ -1,5 +1,4 @@
 -- A transaction turns: it rolls back, runs again, or sets a mark. For the calls of working.rt.
-use Rattle.sd_state.proofs.SealedLaws.{there-of}
 use Rattle.std.proofs.Common.{◌≡◌, ◌≢◌, ◌⊎◌, inl, inr, ⊎_elim, ℕ, ◌-◌, ◌≤◌, false, if◌then◌else◌, ◌==◌, ◌++◌, cond, List, [], length, slice_set, refl, sym, ap, ap₂, ◌∙◌, subst, arith}
 use Rattle.std.specs.Prelude.{Option, None, Some, option_and_then, option_map}
 use Rattle.std.specs.Option.{option_map_or}
@@ -29,7 +28,7 @@ use Rattle.sd_sound.specs.Logs.{Outcomes, all_at, base_at, kept_logs, tail_at, t
 use Rattle.sd_state.specs.Good.{Good, Half}
 use Rattle.sd_state.specs.Images.{leaves_by, log_by}
 use Rattle.sd_state.specs.Parts.{Parts, among, log_at, no_txns, status_at, txns_at}
-use Rattle.sd_state.specs.Tables.{GoesOn, IsLive, IsLogged, NamedOnce, NamesLife, RowIsLive, RowIsLogged, StandsAs, goes_on_as, lock_of, tells_log}
+use Rattle.sd_state.specs.Tables.{GoesOn, IsInDoubt, IsLive, IsLogged, NamedOnce, NamesLife, RowIsLive, RowIsLogged, StandsAs, goes_on_as, lock_of, tells_log}
 use Rattle.sd_state.specs.Values.{Pending, is_doubt, open_of, put_of, rid_of}
 use Rattle.sd_state.specs.Working.{with_txns}
 use Rattle.sd_state.proofs.Items.{item-kept, item-set}
@@ -39,6 +38,14 @@ use Rattle.sd_state.proofs.EndingLeaves.{known-row, rolling-there, step-lasts}
 use Rattle.sd_state.proofs.Recovers.{up-there}
 use Rattle.sd_state.proofs.WorkingTakes.{lasts-there, running-goes, running-there}
 use Rattle.sd_state.proofs.WorkingValues.{values-other}
+
+-- who stands in a table is there
+pub there-of : (s : TxnState) (life : Life) (f w : Fate) → StandsAs s life f w → life ≢ Life.Gone
+there-of TxnState.Running life f w is e = let c = sym is ∙ e in absurd (cc)
+there-of (TxnState.Rolling to) life f w is e = let c = sym is ∙ e in absurd (cc)
+there-of TxnState.Retained life f w is e = ⊎_elim (λ r. let c = sym r ∙ e in absurd (cc)) (λ d. subst IsInDoubt e d.0) is
+there-of TxnState.Doubt life f w is e = subst IsInDoubt e is
+there-of TxnState.Committed life f w is e = subst IsInDoubt e is.0
 
 -- a row that stands so and has these marks, and a part
 abbrev pub row_as : TxnState → Marks → Transaction → Transaction

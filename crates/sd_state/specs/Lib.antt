@@ -12,4 +12,3 @@ pub mod Recovering
 pub mod Joining
 pub mod Locking
 pub mod Working
-pub mod Sealing

@@ -2,7 +2,6 @@
 
 ghost use Rattle.std.specs.Prelude.{ℕ, List};
 ghost use Rattle.sd_state.specs.Laws.{EachCopyIsNewest, ForceLeftStands, LeftStands, OneMayUpdate};
-ghost use Rattle.sd_state.specs.Sealing.{CheckSeals, CommitSeals, EndSeals, StartSeals};
 ghost use Rattle.sd_state.specs.Working.{ReadIsGood};
 
 /// What a crash may leave of each device, at one moment.
@@ -21,17 +20,6 @@ pub fn page_locks<M: Moment>()
     ensures one { OneMayUpdate M.leaves }
     ensures newest { EachCopyIsNewest M.leaves }
 {}
-
-/// A record without a page comes to a log: the End or the Commit of a transaction that has a record, which is never refused, and
-/// whose row is shut; one of a checkpoint; or the Start of the next epoch.
-pub fn sealing<M: Moment>()
-    ensures end { EndSeals M.leaves }
-    ensures commit { CommitSeals M.leaves }
-    ensures check { CheckSeals M.leaves }
-    ensures start { StartSeals M.leaves }
-{
-    sd_txn::laws::owed_by_shut();
-}
 
 /// A transaction that runs and has the lock finds what it sees at a record: the invariant holds with the read noted.
 pub fn reads<M: Moment>()

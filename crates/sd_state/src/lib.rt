@@ -6,9 +6,10 @@
 //! Keeps: nothing but its parts; a state of the serial table is named in clauses alone.
 //! Promises: whatever a crash leaves stands for the serial table's state, and who may update a page is alone with it (`laws.rt`).
 //! Each call that changes a complex keeps it good, for the state of the serial table that its docstring names, and each image since
-//! its begin stands. Changes of records, recoveries and openings stand in the crates above: sd_changes, sd_losers, sd_opened.
-//! Refuses: `LogFull` and `LsnEnd` exactly where the sums of the logs say so; `TooManyTxns` exactly; `Failed` only where the rig's
-//! count of faults rose; `Memory`, which changes nothing but by a force.
+//! its begin stands. Records that come to a log, recoveries and openings stand in the crates above: sd_seals, sd_changes, sd_losers,
+//! sd_opened.
+//! Refuses: `LsnEnd` and `TooManyTxns` exactly; `Failed` only where the rig's count of faults rose; `Memory`, which changes nothing
+//! but by a force.
 //! Knows nothing of: scripts, replies; bytes, but through the crates below.
 //! Stands on: sd_base, sd_model, sd_page, sd_logrec, sd_rig, sd_gate, sd_twin, sd_log, sd_pool, sd_txn, sd_reclock, sd_places,
 //! sd_pagelock, sd_chain, sd_redo, sd_sound, sd_coherent.
@@ -28,7 +29,6 @@ mod joining;
 pub mod laws;
 mod lending;
 mod locking;
-mod sealing;
 mod sums;
 mod working;
 

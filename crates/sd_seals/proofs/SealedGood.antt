@@ -36,12 +36,12 @@ use Rattle.sd_sound.proofs.Appends.{appended-log}
 use Rattle.sd_state.specs.Good.{IsOlder, IsOfBegun, Good, Half, IsChecking, IsInstance, IsKnownLsn, IsSettledAt, IsTold, IsUnderWay, OwesAtMost}
 use Rattle.sd_state.specs.Images.{IsEpochOf, begun_at, leaves_by, log_by}
 use Rattle.sd_state.specs.Parts.{Begun, Parts, among, check_at, epoch_at, is_loose, log_at, no_log, no_txns, other_at, owed_at, status_at, txns_at}
-use Rattle.sd_state.specs.Sealing.{MaySeal}
+use Rattle.sd_seals.specs.Sealing.{MaySeal}
 use Rattle.sd_state.specs.Tables.{GoesOn, IsInDoubt, NamesLife, RowIsLive, RowIsLogged, StandsAs, tells_log}
 use Rattle.sd_state.specs.Values.{Pending, put_of, values}
 use Rattle.sd_state.proofs.Items.{item-kept, item-set}
 use Rattle.sd_state.proofs.Lasts.{last-grows, last-more}
-use Rattle.sd_state.proofs.Sealed.{commits-same, half-sealed, stack-same, with_came}
+use Rattle.sd_seals.proofs.Sealed.{commits-same, half-sealed, stack-same, with_came}
 use Rattle.sd_state.proofs.Begun.{began-there, begun-more, older-more}
 use Rattle.sd_state.proofs.Standing.{no-place, one-place, bases-by, known-still, others-still}
 use Rattle.sd_page.specs.Page.{Page}

@@ -8,19 +8,19 @@ use Rattle.sd_sound.specs.Logs.{next_lsn}
 use Rattle.sd_state.specs.Complexes.{parts}
 use Rattle.sd_state.specs.Good.{Good}
 use Rattle.sd_state.specs.Parts.{Parts, epoch_at, is_loose, log_at, status_at, up_as}
-use Rattle.sd_state.specs.Sealing.{NoRoomFor, with_more, with_start}
+use Rattle.sd_seals.specs.Sealing.{NoRoomFor, with_more, with_start}
 use Rattle.sd_state.specs.Tables.{tells_log}
 use Rattle.sd_state.specs.Values.{Pending}
 use Rattle.sd_state.proofs.Items.{item-is}
-use Rattle.sd_state.proofs.SealedCalls.{settled-up}
-use Rattle.sd_state.proofs.SealedTests.{few-told, next-small, start-good}
-use Rattle.sd_state.proofs.complex.Complex.seal_start.Goals as goal
+use Rattle.sd_seals.proofs.SealedCalls.{settled-up}
+use Rattle.sd_seals.proofs.SealedTests.{few-told, next-small, start-good}
+use Rattle.sd_seals.proofs.sealing.seal_start.Goals as goal
 
 pub tested-requires-clause-few : goal.tested-requires-clause-few
 tested-requires-clause-few g c =
-    let p : Parts = parts c.args.self.now in
+    let p : Parts = parts c.args.c.now in
     let i : ℕ = c.args.i in
-    let rig = c.args.self.now.rig in
+    let rig = c.args.c.now.rig in
     let seen = g.G.Rig.seen rig in
     let leaves = g.G.Rig.leaves rig in
     let low : 1 ≤ i = omega (arith, c.get.ensures.value, c.get.ensures.low) in
@@ -32,9 +32,9 @@ tested-requires-clause-few g c =
 
 pub returns-then-was-clause-lsns : goal.returns-then-was-clause-lsns
 returns-then-was-clause-lsns g c =
-    let p : Parts = parts c.args.self.now in
+    let p : Parts = parts c.args.c.now in
     let i : ℕ = c.args.i in
-    let rig = c.args.self.now.rig in
+    let rig = c.args.c.now.rig in
     let seen = g.G.Rig.seen rig in
     let leaves = g.G.Rig.leaves rig in
     let low : 1 ≤ i = omega (arith, c.get.ensures.value, c.get.ensures.low) in
@@ -48,14 +48,14 @@ returns-then-was-clause-lsns g c =
 
 pub put_plain-requires-clause-room : goal.put_plain-requires-clause-room
 put_plain-requires-clause-room g c =
-    subst (λ n. NoRoomFor c.args.i n (parts c.args.self.now) → ⊥)
+    subst (λ n. NoRoomFor c.args.i n (parts c.args.c.now) → ⊥)
     (sym (length-spelling (records.Start c.next_lsn-lsn.result (c.index-was.result.now + 1)))) c.in_ok-tested.ensures.room
 
 pub returns-in_err-put_plain-clause-lsns : goal.returns-in_err-put_plain-clause-lsns
 returns-in_err-put_plain-clause-lsns g c =
-    let p : Parts = parts c.args.self.now in
+    let p : Parts = parts c.args.c.now in
     let i : ℕ = c.args.i in
-    let rig = c.args.self.now.rig in
+    let rig = c.args.c.now.rig in
     let seen = g.G.Rig.seen rig in
     let leaves = g.G.Rig.leaves rig in
     let low : 1 ≤ i = omega (arith, c.get.ensures.value, c.get.ensures.low) in
@@ -73,9 +73,9 @@ returns-in_err-put_plain-clause-lsns g c =
 
 pub returns-clause-epoch : goal.returns-clause-epoch
 returns-clause-epoch g c =
-    let p : Parts = parts c.args.self.now in
+    let p : Parts = parts c.args.c.now in
     let i : ℕ = c.args.i in
-    let rig = c.args.self.now.rig in
+    let rig = c.args.c.now.rig in
     let seen = g.G.Rig.seen rig in
     let leaves = g.G.Rig.leaves rig in
     let low : 1 ≤ i = omega (arith, c.get.ensures.value, c.get.ensures.low) in
@@ -89,9 +89,9 @@ returns-clause-epoch g c =
 
 pub returns-clause-lsns : goal.returns-clause-lsns
 returns-clause-lsns g c =
-    let p : Parts = parts c.args.self.now in
+    let p : Parts = parts c.args.c.now in
     let i : ℕ = c.args.i in
-    let rig = c.args.self.now.rig in
+    let rig = c.args.c.now.rig in
     let seen = g.G.Rig.seen rig in
     let leaves = g.G.Rig.leaves rig in
     let low : 1 ≤ i = omega (arith, c.get.ensures.value, c.get.ensures.low) in
@@ -108,9 +108,9 @@ returns-clause-lsns g c =
 
 pub returns-clause-parts : goal.returns-clause-parts
 returns-clause-parts g c =
-    let p : Parts = parts c.args.self.now in
+    let p : Parts = parts c.args.c.now in
     let i : ℕ = c.args.i in
-    let rig = c.args.self.now.rig in
+    let rig = c.args.c.now.rig in
     let seen = g.G.Rig.seen rig in
     let leaves = g.G.Rig.leaves rig in
     let low : 1 ≤ i = omega (arith, c.get.ensures.value, c.get.ensures.low) in
@@ -128,7 +128,7 @@ returns-clause-parts g c =
     let next : c.next_lsn-lsn.result ≡ min (next_lsn (log_at p i) 0) (2 ^ 62 - 1) = c.next_lsn-lsn.ensures
     ∙ ap (λ (l : LogState). min (next_lsn l 0) (2 ^ 62 - 1)) c.log.ensures in
     let lsn-is : c.next_lsn-lsn.result ≡ next_lsn (log_at p i) 0 = omega (arith, next, small) in
-    let q : Parts = parts c.put_plain.new.self in
+    let q : Parts = parts c.put_plain.new.c in
     let spare : ℕ = (log_at q i).spare in
     let made : record q { epochs = slice_set q.epochs (c.get.result - 1) (was + 1) }
     ≡ with_start i (next_lsn (log_at p i) 0) (was + 1) spare p =
@@ -139,9 +139,9 @@ returns-clause-parts g c =
 
 pub returns-clause-good : goal.returns-clause-good
 returns-clause-good g c m good =
-    let p : Parts = parts c.args.self.now in
+    let p : Parts = parts c.args.c.now in
     let i : ℕ = c.args.i in
-    let rig = c.args.self.now.rig in
+    let rig = c.args.c.now.rig in
     let seen = g.G.Rig.seen rig in
     let leaves = g.G.Rig.leaves rig in
     let low : 1 ≤ i = omega (arith, c.get.ensures.value, c.get.ensures.low) in
@@ -159,7 +159,7 @@ returns-clause-good g c m good =
     let next : c.next_lsn-lsn.result ≡ min (next_lsn (log_at p i) 0) (2 ^ 62 - 1) = c.next_lsn-lsn.ensures
     ∙ ap (λ (l : LogState). min (next_lsn l 0) (2 ^ 62 - 1)) c.log.ensures in
     let lsn-is : c.next_lsn-lsn.result ≡ next_lsn (log_at p i) 0 = omega (arith, next, small) in
-    let q : Parts = parts c.put_plain.new.self in
+    let q : Parts = parts c.put_plain.new.c in
     let spare : ℕ = (log_at q i).spare in
     let made : record q { epochs = slice_set q.epochs (c.get.result - 1) (was + 1) }
     ≡ with_start i (next_lsn (log_at p i) 0) (was + 1) spare p =

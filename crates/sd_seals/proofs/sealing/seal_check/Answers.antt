@@ -4,17 +4,17 @@ use Rattle.sd_txn.specs.Owing.{reserve_of}
 use Rattle.sd_state.specs.Complexes.{parts}
 use Rattle.sd_state.specs.Good.{Good}
 use Rattle.sd_state.specs.Parts.{Parts, log_at, txns_at, up_as}
-use Rattle.sd_state.specs.Sealing.{NoLsnLeft, NoRoomFor, with_more}
+use Rattle.sd_seals.specs.Sealing.{NoLsnLeft, NoRoomFor, with_more}
 use Rattle.sd_state.specs.Tables.{tells_log}
-use Rattle.sd_state.proofs.SealedCalls.{by-answer}
-use Rattle.sd_state.proofs.SealedTests.{check-good, few-told, plain-free, refused-so}
-use Rattle.sd_state.proofs.complex.Complex.seal_check.Goals as goal
+use Rattle.sd_seals.proofs.SealedCalls.{by-answer}
+use Rattle.sd_seals.proofs.SealedTests.{check-good, few-told, plain-free, refused-so}
+use Rattle.sd_seals.proofs.sealing.seal_check.Goals as goal
 
 pub tested-requires-clause-few : goal.tested-requires-clause-few
 tested-requires-clause-few g c =
-    let p : Parts = parts c.args.self.now in
+    let p : Parts = parts c.args.c.now in
     let i : ℕ = c.args.i in
-    let rig = c.args.self.now.rig in
+    let rig = c.args.c.now.rig in
     let seen = g.G.Rig.seen rig in
     let leaves = g.G.Rig.leaves rig in
     let low : 1 ≤ i = omega (arith, c.get-number.ensures.value, c.get-number.ensures.low) in
@@ -29,22 +29,22 @@ put_plain-requires-clause-further g c = plain-free c.args.rec c.requires.may.kin
 
 pub returns-clause-refusals : goal.returns-clause-refusals
 returns-clause-refusals g c =
-    (refused-so c.put_plain.result (NoRoomFor c.args.i (length (spelling c.args.rec)) (parts c.args.self.now))
-    (NoLsnLeft c.args.i (parts c.args.self.now))
-    (subst (λ n. NoRoomFor c.args.i n (parts c.args.self.now) → ⊥) c.len.ensures c.in_ok-tested.ensures.room)
+    (refused-so c.put_plain.result (NoRoomFor c.args.i (length (spelling c.args.rec)) (parts c.args.c.now))
+    (NoLsnLeft c.args.i (parts c.args.c.now))
+    (subst (λ n. NoRoomFor c.args.i n (parts c.args.c.now) → ⊥) c.len.ensures c.in_ok-tested.ensures.room)
     c.in_ok-tested.ensures.left c.put_plain.ensures.only).2
 
 pub returns-clause-good : goal.returns-clause-good
 returns-clause-good g c pend m good =
-    let p : Parts = parts c.args.self.now in
+    let p : Parts = parts c.args.c.now in
     let i : ℕ = c.args.i in
-    let rig = c.args.self.now.rig in
+    let rig = c.args.c.now.rig in
     let seen = g.G.Rig.seen rig in
     let leaves = g.G.Rig.leaves rig in
     let low : 1 ≤ i = omega (arith, c.get-number.ensures.value, c.get-number.ensures.low) in
     let high : i ≤ 8 = omega (arith, c.get-number.ensures.value, c.get-number.ensures.high) in
     let reads : leaves 0 (seen 0) = g.met.G.Rig.leaves_seen rig 0 (omega arith) in
-    let new : Parts = parts c.put_plain.new.self in
+    let new : Parts = parts c.put_plain.new.c in
     let room : NoRoomFor i (length (spelling c.args.rec)) p → ⊥ =
     subst (λ n. NoRoomFor i n p → ⊥) c.len.ensures c.in_ok-tested.ensures.room in
     let after : Parts = with_more i c.args.rec (log_at new i).spare p in

@@ -6,11 +6,11 @@ use Rattle.sd_state.specs.Parts.{Parts, owed_at, txns_at}
 use Rattle.sd_state.specs.Sums.{great_of, owed_where}
 use Rattle.sd_state.proofs.Summed.{passes}
 use Rattle.sd_state.proofs.Items.{item-is}
-use Rattle.sd_state.proofs.complex.Complex.lacks_lsns_for.Goals as goal
+use Rattle.sd_seals.proofs.sealing.lacks_lsns_for.Goals as goal
 
 pub returns : goal.returns
 returns g c =
-    let p : Parts = parts c.args.self.now in
+    let p : Parts = parts c.args.c.now in
     let i : ℕ = c.args.i in
     let low : 1 ≤ i = omega (arith, c.get.ensures.value, c.get.ensures.low) in
     let high : i ≤ 8 = omega (arith, c.get.ensures.value, c.get.ensures.high) in

@@ -30,13 +30,13 @@ use Rattle.sd_sound.proofs.Owing.{end-owes}
 use Rattle.sd_state.specs.Good.{Good}
 use Rattle.sd_state.specs.Images.{leaves_by, log_by}
 use Rattle.sd_state.specs.Parts.{Parts, is_loose, log_at, status_at, txns_at, up_as}
-use Rattle.sd_state.specs.Sealing.{HasEnd, IsShutBy, MayEnd, MaySeal, commit_of, end_of, prev_of, with_last}
+use Rattle.sd_seals.specs.Sealing.{HasEnd, IsShutBy, MayPutEnd, MaySeal, commit_of, end_of, prev_of, with_last}
 use Rattle.sd_state.specs.Tables.{GoesOn, IsInDoubt, IsLogged, NamesLife, RowIsLive, RowIsLogged, StandsAs, goes_on_as, tells_log}
 use Rattle.sd_state.specs.Values.{Pending, open_of, put_of}
 use Rattle.sd_state.proofs.ChangedLists.{span-last, span-there}
-use Rattle.sd_state.proofs.SealedEnds.{memory-there, room-there}
-use Rattle.sd_state.proofs.SealedLaws.{commit-seals, end-seals}
-use Rattle.sd_state.proofs.SealedTold.{Falls}
+use Rattle.sd_seals.proofs.SealedEnds.{memory-there, room-there}
+use Rattle.sd_seals.proofs.SealedLaws.{commit-seals, end-seals}
+use Rattle.sd_seals.proofs.SealedTold.{Falls}
 use Rattle.sd_state.proofs.Standing.{one-place}
 
 -- an instance that may append has a settled log, while no fall is due
@@ -180,11 +180,11 @@ commit-good t seen leaves c new m g reads low high settled tells runs e =
 
 -- ---- whom an End may end
 
-pub may-tells : (t : TxnId) (c : Parts) → MayEnd t c → tells_log (status_at c (home t)) ≡ true
+pub may-tells : (t : TxnId) (c : Parts) → MayPutEnd t c → tells_log (status_at c (home t)) ≡ true
 may-tells t c h = ⊎_elim (λ up. ap tells_log up.0) (λ r. ap tells_log r.1) h.stands
 
 pub may-settled : (t : TxnId) (seen : rig.DeviceImages) (leaves : Outcomes) (pend : Pending) (c : Parts) (m : State) → 1 ≤ home t
-    → home t ≤ 8 → Good seen leaves pend c m → c.due ≡ None → MayEnd t c → is_loose c (home t) ≡ false
+    → home t ≤ 8 → Good seen leaves pend c m → c.due ≡ None → MayPutEnd t c → is_loose c (home t) ≡ false
 may-settled t seen leaves pend c m low high g idle h = ⊎_elim
     (λ up. settled-up seen leaves pend c m (home t) low high g idle (ap up_as up.0)) (λ r. r.2) h.stands
 
@@ -199,7 +199,7 @@ doubt-stops (Life.Doubt cut) runs rolls d on = on
 -- It may have no further records.
 stops : (t : TxnId) (seen : rig.DeviceImages) (leaves : Outcomes) (c : Parts) (m : State) → Good seen leaves Pending.Idle c m
     → leaves 0 (seen 0) → 1 ≤ home t → home t ≤ 8 → is_loose c (home t) ≡ false → tells_log (status_at c (home t)) ≡ true
-    → MayEnd t c → GoesOn Pending.Idle t (m.part t) → ⊥
+    → MayPutEnd t c → GoesOn Pending.Idle t (m.part t) → ⊥
 stops t seen leaves c m g reads low high settled tells h on =
     let i : ℕ = home t in
     let runs : Type 0 = Pending.Idle ≡ Pending.Commits t → ⊥ in
@@ -225,7 +225,7 @@ stops t seen leaves c m g reads low high settled tells h on =
     h.stands
 
 pub end-good : (t : TxnId) (seen : rig.DeviceImages) (leaves : Outcomes) (c new : Parts) (m : State) → Good seen leaves Pending.Idle c m
-    → leaves 0 (seen 0) → 1 ≤ home t → home t ≤ 8 → c.due ≡ None → MayEnd t c → HasEnd t (λ x. end_of t x c) c new
+    → leaves 0 (seen 0) → 1 ≤ home t → home t ≤ 8 → c.due ≡ None → MayPutEnd t c → HasEnd t (λ x. end_of t x c) c new
     → Good seen leaves Pending.Idle new m
 end-good t seen leaves c new m g reads low high idle h e =
     let settled = may-settled t seen leaves Pending.Idle c m low high g idle h in

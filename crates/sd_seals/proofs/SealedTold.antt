@@ -29,14 +29,14 @@ use Rattle.sd_sound.proofs.Appends.{appended-log}
 use Rattle.sd_sound.proofs.Owing.{before-there, ends-speaks, now-ended}
 use Rattle.sd_sound.proofs.Room.{end-len}
 use Rattle.sd_state.specs.Parts.{IsShape, Parts, log_at, no_log, no_txns, txns_at}
-use Rattle.sd_state.specs.Sealing.{IsShutBy, MaySeal, with_last}
+use Rattle.sd_seals.specs.Sealing.{IsShutBy, MaySeal, with_last}
 use Rattle.sd_state.specs.Tables.{IsLogged, RowIsLogged}
 use Rattle.sd_state.specs.Good.{IsTold}
 use Rattle.sd_model.specs.State.{State}
 use Rattle.sd_state.specs.Values.{open_of}
 use Rattle.sd_state.proofs.ChangedLists.{span-other, span-there}
 use Rattle.sd_state.proofs.Items.{item-set}
-use Rattle.sd_state.proofs.Sealed.{stack-same}
+use Rattle.sd_seals.proofs.Sealed.{stack-same}
 
 -- what ends a transaction changes no page
 pub no-page : (k : Kind) → ends k ≡ true → changes k ≡ false

@@ -33,7 +33,7 @@ use Rattle.sd_sound.proofs.Owing.{plain-owes}
 use Rattle.sd_state.specs.Good.{Good, IsTold, OwesAtMost}
 use Rattle.sd_state.specs.Images.{begun_at, log_by}
 use Rattle.sd_state.specs.Parts.{Parts, epoch_at, is_loose, log_at, no_log, other_at, owed_at, status_at, txns_at, up_as}
-use Rattle.sd_state.specs.Sealing.{IsTestedFor, MayCheck, MaySeal, NoLsnLeft, NoRoomFor, with_more, with_start}
+use Rattle.sd_seals.specs.Sealing.{IsTestedFor, MayCheck, MaySeal, NoLsnLeft, NoRoomFor, with_more, with_start}
 use Rattle.sd_state.specs.Sums.{great_of, most_to, owed_in_all, owed_where, owes_most, sum_to}
 use Rattle.sd_state.specs.Tables.{tells_log}
 use Rattle.sd_state.specs.Values.{Pending}
@@ -41,8 +41,8 @@ use Rattle.sd_state.proofs.ChangedLists.{each-by, reached}
 use Rattle.sd_state.proofs.Items.{item-kept, item-set}
 use Rattle.sd_state.proofs.Owing.{most-in-all, owes-at-most}
 use Rattle.sd_state.proofs.Owed.{few-owed}
-use Rattle.sd_state.proofs.SealedCalls.{settled-up}
-use Rattle.sd_state.proofs.SealedLaws.{check-seals, start-seals}
+use Rattle.sd_seals.proofs.SealedCalls.{settled-up}
+use Rattle.sd_seals.proofs.SealedLaws.{check-seals, start-seals}
 use Rattle.sd_state.proofs.Standing.{one-place}
 
 -- the greatest is at or above each

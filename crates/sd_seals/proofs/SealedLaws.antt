@@ -47,18 +47,19 @@ use Rattle.sd_sound.proofs.Reserved.{end-keeps, tested-keeps}
 use Rattle.sd_state.specs.Good.{IsOlder, Good, Half, IsTold, IsUnderWay, base_of}
 use Rattle.sd_state.specs.Images.{IsEpochOf, leaves_by, log_by}
 use Rattle.sd_state.specs.Parts.{Parts, among, epoch_at, log_at, no_txns, other_at, status_at, txns_at}
-use Rattle.sd_state.specs.Sealing.{CheckSeals, CommitSeals, EndSeals, IsShutBy, IsTestedFor, MaySeal, StartSeals, with_last}
-use Rattle.sd_state.specs.Sealing.{with_more}
+use Rattle.sd_seals.specs.Sealing.{CheckSeals, CommitSeals, EndSeals, IsShutBy, IsTestedFor, MaySeal, StartSeals, with_last}
+use Rattle.sd_seals.specs.Sealing.{with_more}
 use Rattle.sd_state.specs.Tables.{GoesOn, IsInDoubt, NamesLife, RowIsLive, RowIsLogged, StandsAs, goes_on_as}
 use Rattle.sd_state.specs.Values.{Pending, is_doubt, open_of, put_of, values}
 use Rattle.sd_state.proofs.ChangedLists.{span-other}
-use Rattle.sd_state.proofs.Items.{item-kept, item-set}
-use Rattle.sd_state.proofs.Sealed.{grows, stack-same, values-stay, with_came}
-use Rattle.sd_state.proofs.SealedCommits.{commits-it}
-use Rattle.sd_state.proofs.SealedGood as sealed
-use Rattle.sd_state.proofs.SealedGood.{IsSealing, sealed-good}
-use Rattle.sd_state.proofs.SealedTold.{Falls, no-page, off-other, stack-is, tells}
-use Rattle.sd_state.proofs.SealedTold.{there as row-there, was as row-was}
+use Rattle.sd_state.proofs.Items.{item-kept, item-same, item-set}
+use Rattle.sd_state.proofs.WorkingTurns.{there-of}
+use Rattle.sd_seals.proofs.Sealed.{grows, stack-same, values-stay, with_came}
+use Rattle.sd_seals.proofs.SealedCommits.{commits-it}
+use Rattle.sd_seals.proofs.SealedGood as sealed
+use Rattle.sd_seals.proofs.SealedGood.{IsSealing, sealed-good}
+use Rattle.sd_seals.proofs.SealedTold.{Falls, no-page, off-other, stack-is, tells}
+use Rattle.sd_seals.proofs.SealedTold.{there as row-there, was as row-was}
 use Rattle.sd_state.proofs.Standing.{no-place, one-place}
 
 -- ---- the end of a transaction: no refusal
@@ -180,14 +181,6 @@ module _ (i spare : ℕ) (y : Record) (table : Transactions) (seen : rig.DeviceI
       (base_of seen (leaves_by c moved leaves) (log_by c moved) c).version (g.half moved).coherent.safe s.no_page it_ends
       (stack-by moved ∙ done)
       (λ keeps. values m pend (kept_logs (tails_of (log_by c moved)) keeps)) (g.half moved).gives disk all keeps p q)
-
--- who stands in a table is there
-pub there-of : (s : TxnState) (life : Life) (f w : Fate) → StandsAs s life f w → life ≢ Life.Gone
-there-of TxnState.Running life f w is e = let c = sym is ∙ e in absurd (cc)
-there-of (TxnState.Rolling to) life f w is e = let c = sym is ∙ e in absurd (cc)
-there-of TxnState.Retained life f w is e = ⊎_elim (λ r. let c = sym r ∙ e in absurd (cc)) (λ d. subst IsInDoubt e d.0) is
-there-of TxnState.Doubt life f w is e = subst IsInDoubt e is
-there-of TxnState.Committed life f w is e = subst IsInDoubt e is.0
 
 -- a row without open records keeps its marks
 marks-idle : (x : Transaction) → x.stack ≡ [] → AreMarks x.marks (depth x) → (shut x).marks ≡ x.marks
@@ -335,12 +328,6 @@ rows-plain (Some x) t xs y off none idle h = ⊎_elim
     }))
     h
 
-item-stays : {A : Type 0} (none : A) (items : List A) (i : ℕ) → 1 ≤ i → slice_set items (i - 1) (among none items i) ≡ items
-item-stays none items zero low = absurd (omega (arith, low))
-item-stays none items (suc j) low =
-    let k : suc j - 1 ≡ j = omega arith in
-    ap (λ (n : ℕ). slice_set items n (get_or items j none)) k ∙ set-get_or items j none
-
 -- a record of no transaction, with the epochs that there are then
 sealing-plain : (i spare : ℕ) (y : Record) (epochs : List ℕ) (pend pend' : Pending) (c : Parts) (m : State) → MaySeal i y c
     → (flat y).kind ≡ Plain → ((t : TxnId) → (pend' ≡ Pending.Commits t → ⊥) → pend ≡ Pending.Commits t → ⊥)
@@ -389,7 +376,7 @@ module _ (i spare : ℕ) (y : Record) (epochs : List ℕ) (seen : rig.DeviceImag
   all-here = sealed.all-here i spare y table epochs seen leaves pend pend' c m g reads s
 
   txns-stay : slice_set c.txns (i - 1) table ≡ c.txns
-  txns-stay = item-stays no_txns c.txns i s.may.low
+  txns-stay = item-same no_txns c.txns i s.may.low
 
   told : IsTold last m i
   told =

@@ -1,5 +1,5 @@
-use Rattle.sd_state.proofs.SealedLaws.{check-seals, commit-seals, end-seals, start-seals}
-use Rattle.sd_state.proofs.laws.sealing.Goals as goal
+use Rattle.sd_seals.proofs.SealedLaws.{check-seals, commit-seals, end-seals, start-seals}
+use Rattle.sd_seals.proofs.laws.sealing.Goals as goal
 
 pub returns-clause-end : goal.returns-clause-end
 returns-clause-end g c = end-seals g.M.Moment.leaves c.owed_by_shut.ensures.reserve c.owed_by_shut.ensures.owed

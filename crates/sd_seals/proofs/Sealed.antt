@@ -42,7 +42,7 @@ use Rattle.sd_sound.proofs.Appends.{appended-log, kept-elsewhere, kept-old, kept
 use Rattle.sd_state.specs.Good.{Half, base_of, dir_of}
 use Rattle.sd_state.specs.Images.{IsClaimed, IsEpochOf, IsOpenIn}
 use Rattle.sd_state.specs.Parts.{Begun, Parts, check_at}
-use Rattle.sd_state.specs.Sealing.{with_ended}
+use Rattle.sd_seals.specs.Sealing.{with_ended}
 use Rattle.sd_state.specs.Values.{Pending, as_done, is_committed, rid_of, undecided, values}
 use Rattle.sd_model.specs.Acts.{after}
 use Rattle.sd_model.specs.declared.act.Claim.{Claim}

@@ -17,7 +17,7 @@ use Rattle.sd_sound.proofs.Room.{end-len, end-room}
 use Rattle.sd_state.specs.Good.{Good}
 use Rattle.sd_state.specs.Images.{log_by}
 use Rattle.sd_state.specs.Parts.{Parts, log_at, other_at, status_at}
-use Rattle.sd_state.specs.Sealing.{MaySeal}
+use Rattle.sd_seals.specs.Sealing.{MaySeal}
 use Rattle.sd_state.specs.Values.{Pending}
 use Rattle.sd_state.proofs.Standing.{no-place, one-place}
 

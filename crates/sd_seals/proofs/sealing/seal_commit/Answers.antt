@@ -10,18 +10,18 @@ use Rattle.sd_txn.specs.Transactions.{Transaction, txn_at}
 use Rattle.sd_state.specs.Complexes.{parts}
 use Rattle.sd_state.specs.Good.{Good}
 use Rattle.sd_state.specs.Parts.{Parts, is_loose, log_at, status_at, txns_at, up_as}
-use Rattle.sd_state.specs.Sealing.{HasEnd, commit_of}
+use Rattle.sd_seals.specs.Sealing.{HasEnd, commit_of}
 use Rattle.sd_state.specs.Tables.{tells_log}
 use Rattle.sd_state.specs.Values.{Pending}
 use Rattle.sd_base.proofs.Results.{when_ok}
-use Rattle.sd_state.proofs.SealedCalls.{as-end, commit-good, commit-is, commit-memory, commit-room, running-row, settled-up}
-use Rattle.sd_state.proofs.complex.Complex.seal_commit.Goals as goal
+use Rattle.sd_seals.proofs.SealedCalls.{as-end, commit-good, commit-is, commit-memory, commit-room, running-row, settled-up}
+use Rattle.sd_seals.proofs.sealing.seal_commit.Goals as goal
 
 pub put_end-requires-clause-room : goal.put_end-requires-clause-room
 put_end-requires-clause-room g c =
-    let p : Parts = parts c.args.self.now in
+    let p : Parts = parts c.args.c.now in
     let t = c.args.t.now in
-    let rig = c.args.self.now.rig in
+    let rig = c.args.c.now.rig in
     let seen = g.G.Rig.seen rig in
     let leaves = g.G.Rig.leaves rig in
     let low : 1 ≤ home t = c.requires.numbered.low in
@@ -40,9 +40,9 @@ put_end-requires-clause-room g c =
 
 pub unwrap-requires : goal.unwrap-requires
 unwrap-requires g c =
-    let p : Parts = parts c.args.self.now in
+    let p : Parts = parts c.args.c.now in
     let t = c.args.t.now in
-    let rig = c.args.self.now.rig in
+    let rig = c.args.c.now.rig in
     let seen = g.G.Rig.seen rig in
     let leaves = g.G.Rig.leaves rig in
     let low : 1 ≤ home t = c.requires.numbered.low in
@@ -62,9 +62,9 @@ unwrap-requires g c =
 
 pub returns-clause-parts : goal.returns-clause-parts
 returns-clause-parts g c =
-    let p : Parts = parts c.args.self.now in
+    let p : Parts = parts c.args.c.now in
     let t = c.args.t.now in
-    let rig = c.args.self.now.rig in
+    let rig = c.args.c.now.rig in
     let seen = g.G.Rig.seen rig in
     let leaves = g.G.Rig.leaves rig in
     let low : 1 ≤ home t = c.requires.numbered.low in
@@ -81,17 +81,17 @@ returns-clause-parts g c =
     let done = c.put_end.ensures.memory (commit-memory t row.0 seen leaves Pending.Idle p m good reads low high settled tells row.1 row.3
     c.next_lsn-lsn.result c.prev_for-prev.result next c.prev_for-prev.ensures c.requires.up) in
     let rec : Record = records.Commit c.next_lsn-lsn.result t c.prev_for-prev.result in
-    as-end t rec (λ x. commit_of t x p) p (parts c.put_end.new.self) refl
+    as-end t rec (λ x. commit_of t x p) p (parts c.put_end.new.c) refl
     (λ x is. commit-is t x seen leaves Pending.Idle p m good reads low high settled tells is
     (subst (λ o. IsSome (option_and_then (λ (z : Transaction). z.span) o)) is c.requires.there)
     c.next_lsn-lsn.result c.prev_for-prev.result next c.prev_for-prev.ensures)
-    (when_ok c.put_end.result tt (HasEnd t (λ x. rec) p (parts c.put_end.new.self)) done c.put_end.ensures.ok)
+    (when_ok c.put_end.result tt (HasEnd t (λ x. rec) p (parts c.put_end.new.c)) done c.put_end.ensures.ok)
 
 pub returns-clause-good : goal.returns-clause-good
 returns-clause-good g c m2 good2 =
-    let p : Parts = parts c.args.self.now in
+    let p : Parts = parts c.args.c.now in
     let t = c.args.t.now in
-    let rig = c.args.self.now.rig in
+    let rig = c.args.c.now.rig in
     let seen = g.G.Rig.seen rig in
     let leaves = g.G.Rig.leaves rig in
     let low : 1 ≤ home t = c.requires.numbered.low in
@@ -108,11 +108,11 @@ returns-clause-good g c m2 good2 =
     let done = c.put_end.ensures.memory (commit-memory t row.0 seen leaves Pending.Idle p m good reads low high settled tells row.1 row.3
     c.next_lsn-lsn.result c.prev_for-prev.result next c.prev_for-prev.ensures c.requires.up) in
     let rec : Record = records.Commit c.next_lsn-lsn.result t c.prev_for-prev.result in
-    let made : HasEnd t (λ x. commit_of t x p) p (parts c.put_end.new.self) =
-    as-end t rec (λ x. commit_of t x p) p (parts c.put_end.new.self) refl
+    let made : HasEnd t (λ x. commit_of t x p) p (parts c.put_end.new.c) =
+    as-end t rec (λ x. commit_of t x p) p (parts c.put_end.new.c) refl
     (λ x is. commit-is t x seen leaves Pending.Idle p m good reads low high settled tells is
     (subst (λ o. IsSome (option_and_then (λ (z : Transaction). z.span) o)) is c.requires.there)
     c.next_lsn-lsn.result c.prev_for-prev.result next c.prev_for-prev.ensures)
-    (when_ok c.put_end.result tt (HasEnd t (λ x. rec) p (parts c.put_end.new.self)) done c.put_end.ensures.ok) in
-    subst (λ r. Good (g.G.Rig.seen r) (g.G.Rig.leaves r) (Pending.Commits t) (parts c.put_end.new.self) m2) (sym c.put_end.ensures.rig)
-    (commit-good t seen leaves p (parts c.put_end.new.self) m2 good2 reads low high settled tells c.requires.runs made)
+    (when_ok c.put_end.result tt (HasEnd t (λ x. rec) p (parts c.put_end.new.c)) done c.put_end.ensures.ok) in
+    subst (λ r. Good (g.G.Rig.seen r) (g.G.Rig.leaves r) (Pending.Commits t) (parts c.put_end.new.c) m2) (sym c.put_end.ensures.rig)
+    (commit-good t seen leaves p (parts c.put_end.new.c) m2 good2 reads low high settled tells c.requires.runs made)

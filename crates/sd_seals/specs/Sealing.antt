@@ -99,7 +99,7 @@ pub record HasEnd (t : TxnId) (y : Transaction → Record) (old new : Parts) : T
 
 -- An End may come: nothing is open, and t rolls back wholly, while its instance is up; or it is a loser whose instance is being
 -- recovered and has a settled log.
-pub record MayEnd (t : TxnId) (c : Parts) : Type 0 where
+pub record MayPutEnd (t : TxnId) (c : Parts) : Type 0 where
   pub x : Transaction
   pub row : txn_at (txns_at c (home t)) t ≡ Some x
   pub there : IsSome x.span
