@@ -1,0 +1,14 @@
+pub mod FallCoherent
+pub mod FallModel
+pub mod FallCuts
+pub mod FallStatus
+pub mod FallOwed
+pub mod FallGood
+pub mod FallRows
+pub mod FallSteps
+pub mod FallLeft
+pub mod FallDown
+pub mod FallDropped
+pub mod FallEpochs
+pub mod FallFinal
+pub mod FallBounds

@@ -1,5 +1,0 @@
-use Rattle.sd_moves.proofs.FallRows.{HaveLost}
-use Rattle.sd_moves.proofs.falling.lose.Given as goal
-
-abbrev pub invariant-loop-n : goal.invariant-loop-n
-invariant-loop-n l = HaveLost l.n l.fn.table l.table

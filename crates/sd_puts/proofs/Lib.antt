@@ -1,0 +1,10 @@
+pub mod PutPages
+pub mod PutMay
+pub mod PutDevice
+pub mod PutSynced
+pub mod PutTried
+pub mod PutCleaned
+pub mod PutCalls
+pub mod Freed
+pub mod Merged
+pub mod Spelled

@@ -1,0 +1,12 @@
+pub mod SettleSynced
+pub mod SettledHalf
+pub mod SettledRows
+pub mod SettledGood
+pub mod SettledWhole
+pub mod SettledFound
+pub mod SettledPlaces
+pub mod SettledTold
+pub mod SettledCalls
+pub mod SettledBounds
+pub mod SettledRead
+pub mod SettledStanding
