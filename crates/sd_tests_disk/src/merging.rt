@@ -1,30 +1,33 @@
 //! The records of two logs that change a page, merged.
 
+ghost use Rattle.std.specs.Prelude.{◌<◌, All, length};
+ghost use Rattle.sd_log.specs.Logs.{AreSpelled, scanned};
+
 use crate::bytes_by_hand::{LOSER, WORKED};
-use crate::devices::{device, log};
-use sd_base::{InstNo, PageNo};
+use crate::devices::log_of;
+use sd_base::{InstNo, Memory, PageNo};
+use sd_log::Log;
 use sd_merge::merge_page;
-use sd_scan::{Scanned, scan};
+use std::alloc::Global;
 use std::test::Fail;
+
+// Whether the records of the page are those of these LSNs.
+fn have_lsns(alloc: Global, logs: &[Log], page: PageNo, lsns: [u64; 3]) -> Result<bool, Memory>
+    requires few { length logs.now < 256 }
+    requires spelled { All (λ log. AreSpelled (scanned log)) logs.now }
+{
+    let found = merge_page(alloc, logs, page)?;
+    Ok(found.iter().map(|p| p.rec.lsn()).eq(lsns))
+}
 
 #[test]
 fn records_of_a_page_come_by_lsn(rt: HostRuntime) -> Result<(), Fail> {
     let alloc = rt.alloc();
     let one = InstNo::new(1).ok_or("instance 1")?;
     let two = InstNo::new(2).ok_or("instance 2")?;
-    let Scanned { log: first, .. } = scan(
-        alloc,
-        device(alloc, 1, &[log(1, &WORKED)])?.items(),
-        one,
-    )?;
-    let Scanned { log: second, .. } = scan(
-        alloc,
-        device(alloc, 2, &[log(2, &LOSER)])?.items(),
-        two,
-    )?;
-    let logs = [first, second];
-    let found = merge_page(alloc, &logs, PageNo::new(0).ok_or("page 0")?)?;
-    let lsns: [u64; 3] = [2, 4, 5];
-    assert!(rt; found.iter().map(|p| p.rec.lsn()).eq(lsns));
+    let page = PageNo::new(0).ok_or("page 0")?;
+    let first = log_of(alloc, one, &WORKED)?;
+    let logs = [first, log_of(alloc, two, &LOSER)?];
+    assert!(rt; have_lsns(alloc, &logs, page, [2, 4, 5])?);
     Ok(())
 }

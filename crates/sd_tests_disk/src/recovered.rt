@@ -1,17 +1,55 @@
 //! Nine devices by hand: the table that they stand for, the place of each check that fails, and a log with each byte
 //! flipped.
 
+ghost use Rattle.std.specs.Prelude.{◌<◌};
+
 use crate::bytes_by_hand::*;
 use crate::devices::{Patch, bytes_at, devices, log};
 use sd_base::{PageNo, Refusal, Rid};
 use sd_model::Table;
-use sd_recovered::{open, recovered};
+use sd_recovered::{Opened, open, recovered};
 use std::alloc::Global;
 use std::test::Fail;
 
 fn value(table: &Table, page: u16, slot: u16) -> Option<&[u8]> {
     let page = PageNo::new(page)?;
     table.get(Rid { page, slot })
+}
+
+// Of what nine devices stand for: the values of slot 0 of the pages 0, 1 and 2; of page 0 the LSN of the disk image and the
+// RecLSN; the counts of the masters of logs 1 and 5.
+#[derive(Drop)]
+struct Stood<'a> {
+    values: [Option<&'a [u8]>; 3],
+    disk: u64,
+    rec: Option<u64>,
+    counts: [u64; 2],
+}
+
+fn count(opened: &Opened, log: usize) -> u64 {
+    match opened.masters.get(log) {
+        Some(Some(master)) => master.count,
+        _ => 0,
+    }
+}
+
+fn holds(opened: &Opened, stood: &Stood<'_>) -> bool {
+    let [zero, one, two] = stood.values;
+    let [first, fifth] = stood.counts;
+    value(&opened.table, 0, 0) == zero
+        && value(&opened.table, 1, 0) == one
+        && value(&opened.table, 2, 0) == two
+        && opened.disk_lsns.first() == Some(&stood.disk)
+        && opened.rec_lsns.first() == Some(&stood.rec)
+        && count(opened, 0) == first
+        && count(opened, 4) == fifth
+}
+
+// Whether the devices stand for this.
+fn stand(alloc: Global, patches: &[Patch<'_>], stood: &Stood<'_>) -> Result<bool, Refusal> {
+    let devices = devices(alloc, patches)?;
+    let opened = open(alloc, &devices)?;
+    Ok(holds(&opened, stood))
 }
 
 #[test]
@@ -50,31 +88,21 @@ fn sound_devices_stand_for_what_was_committed(rt: HostRuntime) -> Result<(), Fai
         (&full, [None, None, None], 0, None, [0, 1]),
     ];
     for (n, (patches, values, disk, rec, counts)) in cases.iter().enumerate() {
-        let opened = open(alloc, &devices(alloc, patches)?)?;
-        for (page, wanted) in values.iter().enumerate() {
-            assert_eq!(rt;
-                value(&opened.table, page as u16, 0),
-                *wanted,
-                "case {n}, page {page}"
-            );
-        }
-        assert_eq!(rt; opened.disk_lsns.first(), Some(disk), "case {n}");
-        assert_eq!(rt; opened.rec_lsns.first(), Some(rec), "case {n}");
-        for (log, wanted) in [0usize, 4].iter().zip(counts) {
-            let count = opened
-                .masters
-                .get(*log)
-                .and_then(|m| m.as_ref())
-                .map_or(0, |m| m.count);
-            assert_eq!(rt; count, *wanted, "case {n}, log {log}");
-        }
+        let stood = Stood {
+            values: *values,
+            disk: *disk,
+            rec: *rec,
+            counts: *counts,
+        };
+        assert!(rt; stand(alloc, patches, &stood)?, "case {n}");
     }
     Ok(())
 }
 
 // The device and the place of what isn't sound; `None` of sound devices.
 fn damage(alloc: Global, patches: &[Patch<'_>]) -> Result<Option<(u8, u64)>, Refusal> {
-    match recovered(alloc, &devices(alloc, patches)?) {
+    let devices = devices(alloc, patches)?;
+    match recovered(alloc, &devices) {
         Err(Refusal::Damaged { dev, at }) => Ok(Some((dev, at))),
         Err(e) => Err(e),
         Ok(_) => Ok(None),
@@ -160,17 +188,24 @@ fn is_near(at: usize, table: &Table) -> bool {
     }
 }
 
+// Whether the worked log with this byte flipped is found damaged, or stands for such a table.
+fn costs_a_group_at_most(alloc: Global, at: usize) -> Result<bool, Refusal>
+    requires { at < 90 }
+{
+    let mut bytes = WORKED;
+    bytes[at] = !bytes[at];
+    let devices = devices(alloc, &[log(1, &bytes)])?;
+    match recovered(alloc, &devices) {
+        Ok(table) => Ok(is_near(at, &table)),
+        Err(Refusal::Damaged { .. }) => Ok(true),
+        Err(e) => Err(e),
+    }
+}
+
 #[test]
 fn a_flipped_byte_is_found_or_costs_a_group_at_most(rt: HostRuntime) -> Result<(), Fail> {
-    let alloc = rt.alloc();
     for at in 0..WORKED.len() {
-        let mut bytes = WORKED;
-        bytes[at] = !bytes[at];
-        match recovered(alloc, &devices(alloc, &[log(1, &bytes)])?) {
-            Ok(table) => assert!(rt; is_near(at, &table)),
-            Err(Refusal::Damaged { .. }) => {}
-            Err(e) => return Err(e.into()),
-        }
+        assert!(rt; costs_a_group_at_most(rt.alloc(), at)?, "{at}");
     }
     Ok(())
 }

@@ -6,6 +6,14 @@ use sd_base::InstNo;
 use sd_scan::{MasterRecord, Scanned, scan};
 use std::test::Fail;
 
+// Whether the records stand at their places, and this is the master that counts.
+fn is_read(scanned: &Scanned, master: &Option<MasterRecord>) -> bool {
+    let places: [u32; 6] = [5, 23, 64, 95, 104, 125];
+    scanned.log.scan().iter().map(|p| p.place).eq(places)
+        && scanned.log.gate() == 138
+        && scanned.master == *master
+}
+
 #[test]
 fn the_newer_master_counts(rt: HostRuntime) -> Result<(), Fail> {
     let newer = Some(MasterRecord {
@@ -20,14 +28,9 @@ fn the_newer_master_counts(rt: HostRuntime) -> Result<(), Fail> {
         bytes_at(1, 65, &NEW_SLOT),
         log(1, &THREE_GROUPS),
     ];
+    let inst = InstNo::new(1).ok_or("instance 1")?;
     let device = device(rt.alloc(), 1, &patches)?;
-    let Scanned { log, master } = scan(
-        rt.alloc(),
-        device.items(),
-        InstNo::new(1).ok_or("instance 1")?,
-    )?;
-    let places: [u32; 6] = [5, 23, 64, 95, 104, 125];
-    assert!(rt; log.scan().iter().map(|p| p.place).eq(places) && log.gate() == 138);
-    assert_eq!(rt; master, newer);
+    let scanned = scan(rt.alloc(), device.items(), inst)?;
+    assert!(rt; is_read(&scanned, &newer));
     Ok(())
 }

@@ -8,8 +8,6 @@ use sd_base::{InstNo, InstSet, Lsn, Memory, Mode, PageNo, Place};
 use sd_pagelock::rows::changed;
 use sd_pagelock::{Directory, is_lawful};
 use std::alloc::Global;
-use std::process::Abort;
-use std::test::Fail;
 
 // Moves the page where that is lawful, and the LSN of a first change is given. Whether it moved.
 fn moved(directory: &mut Directory<u32>, p: PageNo, to: &Place, rec: Option<Lsn>) -> bool {
@@ -24,18 +22,21 @@ fn moved(directory: &mut Directory<u32>, p: PageNo, to: &Place, rec: Option<Lsn>
     true
 }
 
-fn names() -> Option<(InstNo, InstNo, PageNo)> {
-    Some((InstNo::new(1)?, InstNo::new(2)?, PageNo::new(1023)?))
+fn names() -> (InstNo, InstNo, PageNo) {
+    (
+        InstNo::new(1).unwrap(),
+        InstNo::new(2).unwrap(),
+        PageNo::new(1023).unwrap(),
+    )
 }
 
-// Moves the page by each place in turn, while the second instance asks for it.
+// Moves the page by each place in turn, while the second instance asks for it. Whether all is as it is told.
 fn passes_on(
-    rt: &impl Abort,
     directory: &mut Directory<u32>,
     one: InstNo,
     two: InstNo,
     p: PageNo,
-) -> Result<(), Memory> {
+) -> Result<bool, Memory> {
     let excl = |holder: InstNo, dirty: bool| Place::Excl { holder, dirty };
     let way = Place::Moving {
         to: two,
@@ -56,40 +57,44 @@ fn passes_on(
     ];
     for (place, rec, moves, rec_lsn) in places {
         directory.ask(two, p, Mode::Excl, 0)?;
-        assert_eq!(rt; moved(directory, p, &place, rec), moves);
-        assert_eq!(rt; directory.rec_lsn(p), rec_lsn);
+        if moved(directory, p, &place, rec) != moves || directory.rec_lsn(p) != rec_lsn {
+            return Ok(false);
+        }
     }
-    Ok(())
+    Ok(true)
 }
 
-// An image of the page sets out and arrives, and the first instance's ask is forgotten.
+// An image of the page sets out and arrives, and the first instance's ask is forgotten. Whether all is as it should be.
 fn sets_out(
-    rt: &impl Abort,
     directory: &mut Directory<u32>,
     one: InstNo,
     two: InstNo,
     p: PageNo,
-) -> Result<(), Memory> {
+) -> Result<bool, Memory> {
     directory.ask(one, p, Mode::Shared, 0)?;
-    assert_eq!(rt; directory.oldest_ask(p, two), Some((one, Mode::Shared)));
-    assert_eq!(rt; directory.first_for(two), Some(p));
+    let is_asked = directory.oldest_ask(p, two) == Some((one, Mode::Shared));
+    let is_first = directory.first_for(two) == Some(p);
     directory.send(p, 40);
-    assert_eq!(rt; directory.under_way(p), Some(&40));
-    assert_eq!(rt; directory.arrive(p, 0), Some(40));
+    let is_under_way = directory.under_way(p) == Some(&40);
+    let has_arrived = directory.arrive(p, 0) == Some(40);
     directory.forget(one);
-    assert_eq!(rt; directory.oldest_ask(p, two), None);
-    Ok(())
+    let is_forgotten = directory.oldest_ask(p, two).is_none();
+    Ok(is_asked && is_first && is_under_way && has_arrived && is_forgotten)
+}
+
+// Whether the page passes on, sets out, and is lost with the instance that has it.
+fn passes_on_and_is_lost(alloc: Global) -> Result<bool, Memory> {
+    let (one, two, p) = names();
+    let mut directory: Directory<u32> = Directory::new(alloc)?;
+    let passes = passes_on(&mut directory, one, two, p)?;
+    let sets_out = sets_out(&mut directory, one, two, p)?;
+    directory.fall(two);
+    Ok(passes && sets_out && directory.first_lost() == Some(p))
 }
 
 #[test]
-fn a_page_passes_on_and_is_lost(rt: HostRuntime) -> Result<(), Fail> {
-    let (one, two, p) = names().ok_or("names")?;
-    let mut directory: Directory<u32> = Directory::new(rt.alloc())?;
-    passes_on(&rt, &mut directory, one, two, p)?;
-    sets_out(&rt, &mut directory, one, two, p)?;
-    directory.fall(two);
-    assert_eq!(rt; directory.first_lost(), Some(p));
-    Ok(())
+fn a_page_passes_on_and_is_lost(rt: HostRuntime) {
+    assert!(rt; matches!(passes_on_and_is_lost(rt.alloc()), Ok(true)));
 }
 
 // What arrives of a copy that set out in the room of an ask.
@@ -107,10 +112,14 @@ fn copied(
     Ok(directory.arrive(p, room).map(|image| *image))
 }
 
+// The same in a directory that is made.
+fn copied_anew(alloc: Global) -> Result<Option<u32>, Memory> {
+    let (one, _, p) = names();
+    let mut directory: Directory<Box<u32>> = Directory::new(alloc)?;
+    copied(alloc, &mut directory, one, p)
+}
+
 #[test]
-fn a_copy_sets_out_in_the_room_of_an_ask(rt: HostRuntime) -> Result<(), Fail> {
-    let (one, _, p) = names().ok_or("names")?;
-    let mut directory: Directory<Box<u32>> = Directory::new(rt.alloc())?;
-    assert_eq!(rt; copied(rt.alloc(), &mut directory, one, p)?, Some(40));
-    Ok(())
+fn a_copy_sets_out_in_the_room_of_an_ask(rt: HostRuntime) {
+    assert!(rt; matches!(copied_anew(rt.alloc()), Ok(Some(40))));
 }

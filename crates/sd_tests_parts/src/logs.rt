@@ -10,7 +10,6 @@ use sd_log::{Area, Log};
 use sd_logrec::{AREA_LEN, Record};
 use sd_rig::{MemRig, Rig};
 use std::alloc::Global;
-use std::test::Fail;
 
 // Two groups: the start of epoch 1, and transaction 1.1.1, which puts `red` into slot 0 of page 0 and commits. Behind
 // them a closed gate.
@@ -32,7 +31,7 @@ fn open<G: Rig>(alloc: Global, rig: &mut G, inst: InstNo) -> Result<Log, Refusal
 }
 
 // Transaction 1.1.1 puts `red` into slot 0 of page 0.
-fn red(alloc: Global, inst: InstNo) -> Result<Record, Fail>
+fn red(alloc: Global, inst: InstNo) -> Result<Record, Memory>
     ensures { IfOk result (λ r. HasSpelling r) }
 {
     let (epoch, seq) = (1, 1);
@@ -40,7 +39,7 @@ fn red(alloc: Global, inst: InstNo) -> Result<Record, Fail>
         lsn: 2,
         txn: TxnId { inst, epoch, seq },
         prev: 0,
-        page: PageNo::new(0).ok_or("page 0")?,
+        page: PageNo::new(0).unwrap(),
         slot: 0,
         capacity: 3,
         before: None,
@@ -60,7 +59,7 @@ fn commit(inst: InstNo, lsn: Lsn) -> Record
 }
 
 // Forces the start of epoch 1.
-fn write_start(alloc: Global, rig: &mut MemRig, inst: InstNo) -> Result<(), Fail> {
+fn write_start(alloc: Global, rig: &mut MemRig, inst: InstNo) -> Result<(), Refusal> {
     let mut log = open(alloc, rig, inst)?;
     log.append(Record::Start { lsn: 1, epoch: 1 }, 0)?;
     log.force(rig)?;
@@ -68,7 +67,7 @@ fn write_start(alloc: Global, rig: &mut MemRig, inst: InstNo) -> Result<(), Fail
 }
 
 // Forces the transaction.
-fn write_red<G: Rig>(alloc: Global, rig: &mut G, log: &mut Log, inst: InstNo) -> Result<(), Fail>
+fn write_red<G: Rig>(alloc: Global, rig: &mut G, log: &mut Log, inst: InstNo) -> Result<(), Refusal>
     requires stands { StandsOn log.old (G.seen rig.old log.old.inst) }
     requires stable { LeavesOnly (G.seen rig.old log.old.inst) (G.leaves rig.old log.old.inst) }
 {
@@ -79,7 +78,7 @@ fn write_red<G: Rig>(alloc: Global, rig: &mut G, log: &mut Log, inst: InstNo) ->
 }
 
 // Writes the two groups.
-fn write_log(alloc: Global, rig: &mut MemRig, inst: InstNo) -> Result<Log, Fail> {
+fn write_log(alloc: Global, rig: &mut MemRig, inst: InstNo) -> Result<Log, Refusal> {
     write_start(alloc, rig, inst)?;
     let mut log = open(alloc, rig, inst)?;
     write_red(alloc, rig, &mut log, inst)?;
@@ -92,22 +91,30 @@ fn has_two_groups(alloc: Global, rig: &MemRig) -> Result<bool, Memory> {
 }
 
 // Whether one more change of the page is found beside the first.
-fn knows_its_page(alloc: Global, log: &mut Log, inst: InstNo) -> Result<bool, Fail> {
+fn knows_its_page(alloc: Global, log: &mut Log, inst: InstNo) -> Result<bool, Refusal> {
     log.append(red(alloc, inst)?, 78)?;
-    let page = PageNo::new(0).ok_or("page 0")?;
-    let places = log.of_page(alloc, page)?;
+    let places = log.of_page(alloc, PageNo::new(0).unwrap())?;
     Ok(places.as_slice() == [1, 3].as_slice())
 }
 
-#[test]
-fn groups_stand_byte_for_byte_and_their_pages_are_known(rt: HostRuntime) -> Result<(), Fail> {
-    let alloc = rt.alloc();
-    let inst = InstNo::new(1).ok_or("instance 1")?;
+// Whether the two groups stand on a device to which they are written, and their log knows the page.
+fn stand_as_written(alloc: Global, rig: &mut MemRig) -> Result<bool, Refusal> {
+    let inst = InstNo::new(1).unwrap();
+    let mut log = write_log(alloc, rig, inst)?;
+    let stand = has_two_groups(alloc, rig)?;
+    let knows = knows_its_page(alloc, &mut log, inst)?;
+    Ok(stand && knows)
+}
+
+// The same on devices that are made.
+fn stand_anew(alloc: Global) -> Result<bool, Refusal> {
     let mut rig = MemRig::blank(alloc)?;
-    let mut log = write_log(alloc, &mut rig, inst)?;
-    assert!(rt; has_two_groups(alloc, &rig)?);
-    assert!(rt; knows_its_page(alloc, &mut log, inst)?);
-    Ok(())
+    stand_as_written(alloc, &mut rig)
+}
+
+#[test]
+fn groups_stand_byte_for_byte_and_their_pages_are_known(rt: HostRuntime) {
+    assert!(rt; matches!(stand_anew(rt.alloc()), Ok(true)));
 }
 
 // Whether a force of two more records is stopped by the trouble.
@@ -148,21 +155,28 @@ fn is_cut_whole(
     Ok(failed && (left == old || left == old + 2))
 }
 
-#[test]
-fn a_stopped_force_leaves_the_tail_whole_or_not_at_all(rt: HostRuntime) -> Result<(), Fail> {
-    let mut rig = MemRig::blank(rt.alloc())?;
-    let inst = InstNo::new(1).ok_or("instance 1")?;
-    for pick in [Pick::Keep, Pick::Lose, Pick::Tear, Pick::Junk] {
-        for calls in 0..4u64 {
-            for trouble in [Trouble::Fuse(calls), Trouble::Fault(calls + 1)] {
-                assert!(rt;
-                    is_cut_whole(rt.alloc(), &mut rig, inst, trouble, pick)?,
-                    "{calls}, {pick:?}"
-                );
+// The same of each of the first four calls, which fails once or from then on.
+fn are_cut_whole(alloc: Global, rig: &mut MemRig, pick: Pick) -> Result<bool, Refusal> {
+    let inst = InstNo::new(1).unwrap();
+    for calls in 0..4u64 {
+        for trouble in [Trouble::Fuse(calls), Trouble::Fault(calls + 1)] {
+            if !is_cut_whole(alloc, rig, inst, trouble, pick)? {
+                return Ok(false);
             }
         }
     }
-    Ok(())
+    Ok(true)
+}
+
+#[test]
+fn a_stopped_force_leaves_the_tail_whole_or_not_at_all(rt: HostRuntime) {
+    let mut rig = MemRig::blank(rt.alloc()).expect(&rt, "memory for devices");
+    for pick in [Pick::Keep, Pick::Lose, Pick::Tear, Pick::Junk] {
+        assert!(rt;
+            matches!(are_cut_whole(rt.alloc(), &mut rig, pick), Ok(true)),
+            "{pick:?}"
+        );
+    }
 }
 
 // What is told of the two groups with this byte at this place: whether a length is spoilt, and where.
@@ -186,23 +200,24 @@ fn damage(alloc: Global, inst: InstNo, place: usize, byte: u8) -> Result<(bool, 
     })
 }
 
+// The place of a byte, the byte, whether it spoils a group's length, and the place that is told.
+const DAMAGES: [(usize, u8, bool, u64); 8] = [
+    (1, 1, true, 0),
+    (4, 8, true, 0),
+    (4, 9, false, 5),
+    (19, 1, true, 18),
+    (22, 40, false, 23),
+    (22, 68, false, 90),
+    (64, 8, false, 64),
+    (73, 9, false, 64),
+];
+
 #[test]
-fn a_damaged_byte_is_told_with_its_place(rt: HostRuntime) -> Result<(), Fail> {
-    let inst = InstNo::new(1).ok_or("instance 1")?;
-    // The place of a byte, the byte, whether it spoils a group's length, and the place that is told.
-    let damages = [
-        (1, 1, true, 0),
-        (4, 8, true, 0),
-        (4, 9, false, 5),
-        (19, 1, true, 18),
-        (22, 40, false, 23),
-        (22, 68, false, 90),
-        (64, 8, false, 64),
-        (73, 9, false, 64),
-    ];
-    for (place, byte, is_length, told) in damages {
-        let found = damage(rt.alloc(), inst, place, byte)?;
-        assert_eq!(rt; found, (is_length, told), "byte {place} is {byte}");
+fn a_damaged_byte_is_told_with_its_place(rt: HostRuntime) {
+    let inst = InstNo::new(1).unwrap();
+    for (place, byte, is_length, told) in DAMAGES {
+        let found = damage(rt.alloc(), inst, place, byte);
+        let is_told = matches!(found, Ok((length, at)) if length == is_length && at == told);
+        assert!(rt; is_told, "byte {place} is {byte}");
     }
-    Ok(())
 }

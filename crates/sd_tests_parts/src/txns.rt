@@ -1,11 +1,9 @@
 //! Transaction tables: begins up to the last, open records and marks, and what the ends take of a log; each call
 //! succeeds with ample memory.
 
-use sd_base::{Bytes, InstNo, PageNo, Refusal, Rid, TxnId, Word};
+use sd_base::{Bytes, InstNo, Memory, PageNo, Refusal, Rid, TxnId, Word};
 use sd_txn::{OpenRec, TxnState, TxnTable};
 use std::alloc::Global;
-use std::process::Abort;
-use std::test::Fail;
 
 #[derive(Clone, Copy)]
 enum Call {
@@ -20,22 +18,24 @@ enum Call {
 }
 
 // An open record of page 0 with this value before.
-fn record(alloc: Global, before: Option<&[u8]>) -> Result<OpenRec, Fail> {
-    let page = PageNo::new(0).ok_or("page 0")?;
+fn record(alloc: Global, before: Option<&[u8]>) -> Result<OpenRec, Memory> {
+    let page = PageNo::new(0).unwrap();
+    let before = match before {
+        Some(bytes) => Some(Bytes::copy_of(alloc, bytes)?),
+        None => None,
+    };
     Ok(OpenRec {
         lsn: 7,
         prev: 0,
         rid: Rid { page, slot: 7 },
-        before: match before {
-            Some(bytes) => Some(Bytes::copy_of(alloc, bytes)?),
-            None => None,
-        },
+        before,
     })
 }
 
-fn calls(alloc: Global, table: &mut TxnTable, t: &TxnId, call: Call) -> Result<(), Fail> {
+// Makes the call, where the transaction is unresolved.
+fn calls(alloc: Global, table: &mut TxnTable, t: &TxnId, call: Call) -> Result<(), Memory> {
     if table.state(t).is_none() {
-        return Err("the transaction isn't unresolved")?;
+        return Ok(());
     }
     match call {
         Call::Push(before) => table.push(t, record(alloc, before)?)?,
@@ -65,19 +65,16 @@ const STEPS: [(Call, Option<usize>, u64, u64); 12] = [
     (Call::End, None, 0, 0),
 ];
 
-fn takes_steps(
-    rt: &impl Abort,
-    alloc: Global,
-    table: &mut TxnTable,
-    t: &TxnId,
-) -> Result<(), Fail> {
+// Whether what is told of each call is so behind it.
+fn takes_steps(alloc: Global, table: &mut TxnTable, t: &TxnId) -> Result<bool, Memory> {
     let here = Word::copy_of(alloc, b"here")?;
     for (call, mark, bytes, records) in STEPS {
         calls(alloc, table, t, call)?;
-        assert_eq!(rt; table.mark(t, &here), mark);
-        assert!(rt; table.reserve() == bytes && table.owed() == records);
+        if table.mark(t, &here) != mark || table.reserve() != bytes || table.owed() != records {
+            return Ok(false);
+        }
     }
-    Ok(())
+    Ok(true)
 }
 
 // Whether 63 transactions more begin, and no further one.
@@ -90,14 +87,38 @@ fn is_full_at_64(table: &mut TxnTable) -> bool {
     matches!(table.begin(2), Err(Refusal::TooManyTxns))
 }
 
+// Whether a transaction takes the steps, is there again, and 63 more begin beside it.
+fn opens_and_ends(alloc: Global, table: &mut TxnTable) -> bool {
+    let Ok(t) = table.begin(1) else {
+        return false;
+    };
+    matches!(takes_steps(alloc, table, &t), Ok(true))
+        && table.adopt(&t).is_ok()
+        && is_full_at_64(table)
+}
+
 #[test]
-fn a_transaction_opens_undoes_and_ends(rt: HostRuntime) -> Result<(), Fail> {
-    let alloc = rt.alloc();
-    let inst = InstNo::new(1).ok_or("instance 1")?;
-    let mut table = TxnTable::new(alloc, inst);
-    let t = table.begin(1).ok().ok_or("it begins")?;
-    takes_steps(&rt, alloc, &mut table, &t)?;
-    table.adopt(&t)?;
-    assert!(rt; is_full_at_64(&mut table));
-    Ok(())
+fn a_transaction_opens_undoes_and_ends(rt: HostRuntime) {
+    let inst = InstNo::new(1).unwrap();
+    let mut table = TxnTable::new(rt.alloc(), inst);
+    assert!(rt; opens_and_ends(rt.alloc(), &mut table));
+}
+
+// Whether epoch 7 gives one number more, and then none, and epoch 8 gives one. Which numbers these are, and that what is
+// unresolved stays, the clauses of `begin` tell.
+fn gives_the_last(table: &mut TxnTable) -> bool {
+    if table.begin(7).is_err() {
+        return false;
+    }
+    if !matches!(table.begin(7), Err(Refusal::LsnEnd)) {
+        return false;
+    }
+    table.begin(8).is_ok()
+}
+
+#[test]
+fn the_last_number_is_given_and_none_after_it(rt: HostRuntime) {
+    let inst = InstNo::new(1).unwrap();
+    let mut table = TxnTable::counted(rt.alloc(), inst, 7, 4_294_967_294);
+    assert!(rt; gives_the_last(&mut table));
 }

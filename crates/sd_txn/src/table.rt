@@ -47,10 +47,17 @@ impl TxnTable {
     pub fn new(alloc: Global, inst: InstNo) -> TxnTable
         ensures { result ≡ record { inst = inst; epoch = 0; begins = 0; unresolved = [] } }
     {
+        TxnTable::counted(alloc, inst, 0, 0)
+    }
+
+    /// The table of an instance without transactions, of which so many began in this epoch.
+    pub fn counted(alloc: Global, inst: InstNo, epoch: u32, begins: u32) -> TxnTable
+        ensures { result ≡ record { inst = inst; epoch = epoch; begins = begins; unresolved = [] } }
+    {
         TxnTable {
             inst,
-            epoch: 0,
-            begins: 0,
+            epoch,
+            begins,
             txns: TxnList::new(alloc),
             owed: Owed {
                 undo: 0,
