@@ -1,11 +1,8 @@
--- A hall keeps its run. It serves the goals of `call` in hall.rt, and of `serve` in serving.rt.
-use Rattle.std.proofs.Common.{◌≡◌, ◌≢◌, inl, inr, ℕ, Bool, true, false, ◌+◌, ◌-◌, ◌≤◌, List, [], ◌∷◌, ◌++◌, length, Option, None, Some, refl, sym, ap, ◌∙◌, subst, arith}
+-- A hall keeps its run. It serves the goals of `call` in hall.rt.
+use Rattle.std.proofs.Common.{◌≡◌, inl, inr, ℕ, ◌+◌, ◌-◌, ◌≤◌, List, [], ◌∷◌, ◌++◌, length, Option, None, Some, refl, sym, ap, ◌∙◌, subst, arith}
 use Rattle.std.specs.List.{slice_get}
-use Rattle.std.specs.Prelude.{IfErr, Result, Ok, Err, OnErr}
+use Rattle.std.specs.Prelude.{Result, Ok, Err, OnErr}
 use Rattle.std.proofs.lemmas.List.{length-append}
-use Rattle.sd_base.specs.declared.ids.TxnId.{TxnId}
-use Rattle.sd_base.specs.declared.place.Place.{Place}
-use Rattle.sd_base.specs.declared.refusal.Refusal.{Refusal}
 use Rattle.sd_base.specs.declared.refusal.Refusal.TheVariants as R
 use Rattle.sd_base.proofs.Lists.{slice_get-push}
 use Rattle.sd_model.specs.declared.event.Entry.{Entry}
@@ -14,24 +11,20 @@ use Rattle.sd_model.specs.declared.event.Event.TheVariants as event
 use Rattle.sd_model.specs.declared.event.Reply.{Reply}
 use Rattle.sd_model.specs.declared.event.Reply.TheVariants as reply
 use Rattle.sd_world.specs.Leading.{Leads}
-use Rattle.sd_world.specs.Serving.{Core, Telling, Turns, answered, step_or_finished}
+use Rattle.sd_world.specs.Serving.{Core, Telling, Turns}
 use Rattle.sd_world.proofs.Leading.{leads-grow}
-use Rattle.sd_state.specs.Parts.{Parts}
-use Rattle.sd_state.specs.declared.complex.Complex.{Complex}
 use Rattle.sd_state.specs.declared.complex.Shape.{Shape}
-use Rattle.sd_fits.specs.Serving.{Serving}
 use Rattle.sd_fits.specs.declared.body.Body.{Body}
 use Rattle.sd_fits.proofs.Framed.{turns-frames}
 use Rattle.sd_hall.specs.declared.hall.Hall.{Hall}
-use Rattle.sd_recover.specs.Recovering.{AwaitsPage, recovery}
-use Rattle.sd_recover.specs.declared.recovering.Recovery.{Recovery}
-use Rattle.sd_hall.specs.Bodies.{IsAwaited, IsAwaitedIn, IsDownAt, IsWorked, IsWorkedIn, ServesIn}
+use Rattle.sd_serve.specs.Bodies.{IsAwaited, IsAwaitedIn, IsDownAt, IsWorked, IsWorkedIn, ServesIn}
+use Rattle.sd_serve.specs.Owed.{IsOwed}
+use Rattle.sd_serve.specs.Served.{IsServed}
 use Rattle.sd_hall.specs.Keeping.{HasPlace, Keeps, MakesPlace}
-use Rattle.sd_hall.specs.Ledger.{IsOwed, entries_owed, owed_more}
-use Rattle.sd_hall.specs.Served.{IsServed}
-use Rattle.sd_hall.proofs.Owes.{step-owed}
-use Rattle.sd_hall.proofs.Bodies.{fell-in, listed-in, next-in, paid-in, same-in}
-use Rattle.sd_hall.proofs.Paid.{HasFallen, owed-none, owed-some}
+use Rattle.sd_owed.specs.Ledger.{entries_owed, owed_more}
+use Rattle.sd_owed.proofs.Owes.{step-owed}
+use Rattle.sd_owed.proofs.Bodies.{fell-in, listed-in, next-in, paid-in, same-in}
+use Rattle.sd_owed.proofs.Paid.{HasFallen, owed-none, owed-some}
 
 -- one entry more is owed at most
 pub more-one : (e : Event) (r : Reply) → owed_more e r ≤ 1
@@ -44,51 +37,10 @@ more-one (event.Back t k) reply.Did = omega arith
 more-one (event.Join i) (reply.Joined epoch) = omega arith
 more-one e r = omega arith
 
--- the event of an arm is served, and told so
-pub served-as : {G : Type 0} (tell : Telling G) (old new : Complex G) (e arm : Event) (r answer : Option Reply) → e ≡ arm
-    → r ≡ answer → Serving tell arm answer old new → Serving tell e r old new
-served-as {G} tell old new e arm r answer is so served = subst (λ (x : Event). Serving tell x r old new) (sym is)
-    (subst (λ (x : Option Reply). Serving tell arm x old new) (sym so) served)
-
--- a call that doesn't want memory is told of
-pub answered-some : {X : Type 0} (answer : X → Reply) (done : Result X Refusal) → done ≢ Err R.Memory → answered answer done ≢ None
-answered-some answer (Ok x) ne = λ e. cc
-answered-some answer (Err R.Memory) ne = λ e. ne refl
-answered-some answer (Err n) ne = λ e. cc
-
-pub same-undo : (t u : TxnId) → event.Undo t ≡ event.Undo u → t ≡ u
-same-undo t u e = cc
-
--- an undo that is told to have failed has
-pub failed-so : (done : Result Bool Refusal) → answered step_or_finished done ≡ Some (reply.Refused R.Failed) → done ≡ Err R.Failed
-failed-so (Ok false) e = absurd (cc)
-failed-so (Ok true) e = absurd (cc)
-failed-so (Err R.Failed) e = refl
-failed-so (Err n) e = absurd (cc)
-
-pub same-step : (i j : ℕ) → event.RecoverStep i ≡ event.RecoverStep j → i ≡ j
-same-step i j e = cc
-
--- a step of a recovery that is told to want a page has an undo next
-pub awaits-so : (c : Parts) (i : ℕ) (done : Result Recovery Refusal)
-    → IfErr done (λ n. (place : Place) → n ≡ R.NeedPage place → AwaitsPage c i)
-    → (place : Place) → answered recovery done ≡ Some (reply.Refused (R.NeedPage place)) → AwaitsPage c i
-awaits-so c i (Ok Recovery.Step) awaits place e = absurd (cc)
-awaits-so c i (Ok Recovery.Done) awaits place e = absurd (cc)
-awaits-so c i (Err (R.NeedPage at)) awaits place e = awaits at refl
-awaits-so c i (Err n) awaits place e = absurd (cc)
-
 -- so says the reply of a call
 pub awaited-of : {G : Type 0} (e : Event) (r : Reply) (body : Option (Body G)) → IsAwaitedIn e (Some r) body → IsAwaited e r body
 awaited-of (event.RecoverStep i) (reply.Refused (R.NeedPage place)) body awaits = awaits i place refl refl
 awaited-of e r body awaits = tt
-
--- a step that is told is one that was made
-pub stepped-so : (done : Result Recovery Refusal) → answered recovery done ≡ Some reply.Step → done ≡ Ok Recovery.Step
-stepped-so (Ok Recovery.Step) e = refl
-stepped-so (Ok Recovery.Done) e = absurd (cc)
-stepped-so (Err R.Memory) e = absurd (cc)
-stepped-so (Err n) e = absurd (cc)
 
 -- so says the reply of a call
 pub worked-of : {G : Type 0} (e : Event) (r : Reply) (old new : Option (Body G)) → IsWorkedIn e (Some r) old new → IsWorked e r old new

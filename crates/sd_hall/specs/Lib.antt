@@ -1,4 +1,1 @@
-pub mod Ledger
-pub mod Served
-pub mod Bodies
 pub mod Keeping

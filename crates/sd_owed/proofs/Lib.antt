@@ -1,0 +1,7 @@
+pub mod Owes
+pub mod Paid
+mod Rolling
+mod Owing
+mod Fallen
+pub mod Opening
+pub mod Bodies
