@@ -3,7 +3,7 @@
 
 ghost use Rattle.std.specs.Prelude.{◌≡◌, IfOk, OnErr, Some};
 ghost use Rattle.sd_fits.specs.declared.body.Body.{Body};
-ghost use Rattle.sd_hall.specs.Bodies.{fits_in};
+ghost use Rattle.sd_serve.specs.Bodies.{fits_in};
 ghost use Rattle.sd_model.specs.declared.event.Event.TheVariants as event;
 ghost use Rattle.sd_state.specs.Complexes.{parts};
 ghost use Rattle.sd_state.specs.Parts.{IsShape};
@@ -16,9 +16,9 @@ use crate::replies::{ends_failed, is_did, is_failed, is_need};
 use sd_base::{InstNo, Memory, Mode, PageNo, Status};
 use sd_hall::Hall;
 use sd_model::{Event, Reply};
-use sd_recover::needed;
 use sd_rig::Rig;
 use sd_state::Complex;
+use sd_tasks::needed;
 
 /// Whose entries are noted: those of a line, under its session and number, or those of the opening, under 0 and 0.
 #[derive(Clone, Copy)]

@@ -1,57 +1,34 @@
 -- A recovery waits for a page that its recoverer hasn't alone: for the goals of `undo_next`.
-use Rattle.std.proofs.Common.{◌≡◌, inl, inr, ⊎_elim, ℕ, ◌≤◌, false, List, [], ◌∷◌, ◌++◌, length, refl, sym, ap, ◌∙◌, subst, arith}
-use Rattle.std.specs.Prelude.{Option, Some, option_and_then, reverse}
-use Rattle.std.proofs.Common.{length-append}
-use Rattle.std.proofs.lemmas.List.{reverse-append}
-use Rattle.sd_base.specs.declared.ids.Rid.{Rid}
+use Rattle.std.proofs.Common.{◌≡◌, ℕ, ◌≤◌, refl, sym, ap, ◌∙◌}
+use Rattle.std.specs.Prelude.{Some}
 use Rattle.sd_base.specs.declared.ids.TxnId.{TxnId}
 use Rattle.sd_base.specs.declared.place.Place.{Place}
 use Rattle.sd_base.specs.declared.place.Status.TheVariants as S
 use Rattle.sd_base.specs.declared.refusal.Refusal.{Refusal}
 use Rattle.sd_base.specs.declared.refusal.Refusal.TheVariants as R
-use Rattle.sd_logrec.specs.View.{Rec}
 use Rattle.sd_rig.specs.Devices.{DeviceImages, Leaves}
-use Rattle.sd_txn.specs.Transactions.{Transaction, state_at, top, top_at, txn_at}
+use Rattle.sd_txn.specs.Transactions.{state_at, top_at}
 use Rattle.sd_txn.specs.declared.state.OpenRec.{OpenRec}
 use Rattle.sd_txn.specs.declared.state.TxnState.{TxnState}
-use Rattle.sd_txn.proofs.Stacks.{split-top}
-use Rattle.sd_chain.specs.Fates.{Fate, fate}
-use Rattle.sd_chain.proofs.Lists.{Each-front}
-use Rattle.sd_chain.specs.Records.{Each, home, stack}
-use Rattle.sd_model.specs.Applies.{HasPage, IsLost}
+use Rattle.sd_chain.specs.Records.{home}
+use Rattle.sd_model.specs.Applies.{HasPage}
 use Rattle.sd_model.specs.State.{State}
-use Rattle.sd_model.specs.declared.act.Claim.{Claim}
-use Rattle.sd_model.specs.declared.act.Life.{Life}
 use Rattle.sd_model.specs.declared.cause.Cause.{Cause}
 use Rattle.sd_model.specs.declared.event.Event.TheVariants.{RecoverStep}
 use Rattle.sd_places.specs.Places.{PageEntry, is_lost, owns}
-use Rattle.sd_sound.specs.Logs.{Outcomes, all_at, base_at, tail_at}
+use Rattle.sd_sound.specs.Logs.{Outcomes}
 use Rattle.sd_world.specs.PageCauses.{IsNeededPage}
 use Rattle.sd_world.specs.Serving.{Core, Telling, refused}
 use Rattle.sd_state.specs.Complexes.{parts}
-use Rattle.sd_state.specs.Parts.{Parts, is_loose, log_at, status_at, txns_at}
-use Rattle.sd_state.specs.Tables.{IsLogged, NamesLife, RowIsLogged, StandsAs, tells_log}
-use Rattle.sd_state.specs.Values.{rid_of}
+use Rattle.sd_state.specs.Parts.{Parts, status_at, txns_at}
 use Rattle.sd_state.specs.declared.complex.Complex.{Complex}
-use Rattle.sd_undos.proofs.UndoneRows.{IsTop, top-of}
-use Rattle.sd_losers.proofs.Deciding.{has-row}
 use Rattle.sd_fits.specs.Fits.{Fits}
 use Rattle.sd_fits.specs.Serving.{Serving}
 use Rattle.sd_fits.proofs.Recovering.{recovers-at}
 use Rattle.sd_fits.proofs.Refused.{IsFor, refused-serves}
-use Rattle.sd_recover.specs.Recovering.{AreThere, IsAway}
-
--- who stands as a loser lost, or is in doubt
-lost-is : (life : Life) (forced whole : Fate) → StandsAs TxnState.Retained life forced whole → IsLost life
-lost-is life forced whole (inl retained) = inl retained
-lost-is Life.Gone forced whole (inr d) = absurd d.0
-lost-is Life.Running forced whole (inr d) = absurd d.0
-lost-is Life.Retained forced whole (inr d) = inl refl
-lost-is (Life.Rolling to) forced whole (inr d) = absurd d.0
-lost-is (Life.Doubt cut) forced whole (inr d) = inr (cut, refl)
-
-head-claim : (P : Rec → Type 0) (y : Rec) (ys : List Rec) → Each P (y ∷ ys) → P y
-head-claim P y ys e = e.0
+use Rattle.sd_recover.specs.Recovering.{IsAway}
+use Rattle.sd_tasks.specs.Tasks.{AreThere}
+use Rattle.sd_tasks.proofs.Awaited.{page-needed}
 
 module _ (t : TxnId) (by : ℕ) (seen : DeviceImages) (leaves : Outcomes) (c : Parts) (w : Core) (f : Fits seen leaves c w) (low : 1 ≤ home t)
     (high : home t ≤ 8) (recovers : status_at c (home t) ≡ S.Recovering by) (there : AreThere c)
@@ -62,56 +39,11 @@ module _ (t : TxnId) (by : ℕ) (seen : DeviceImages) (leaves : Outcomes) (c : P
   abbrev i : ℕ
   i = home t
 
-  abbrev all : List Rec
-  all = all_at (log_at c i)
-
-  settled : is_loose c i ≡ false
-  settled = there.0 i high
-
-  abbrev x : Transaction
-  x = (has-row (txns_at c i) t TxnState.Retained loser).x
-
-  row : txn_at (txns_at c i) t ≡ Some x
-  row = (has-row (txns_at c i) t TxnState.Retained loser).row
-
-  retained : x.state ≡ TxnState.Retained
-  retained = (has-row (txns_at c i) t TxnState.Retained loser).state
-
-  top-is : top x ≡ Some o
-  top-is = sym (ap (λ (q : Option Transaction). option_and_then top q) row) ∙ last
-
-  split : (front : List OpenRec) × (x.stack ≡ front ++ o ∷ [])
-  split = split-top x.stack o top-is
-
-  logged : IsLogged x t all
-  logged = ⊎_elim (λ l. l)
-      (λ s. let a = length-append split.0 (o ∷ []) in let b = ap length split.1 in let e = ap length s.emptied in
-      absurd (omega (arith, a, b, e)))
-      (subst (λ (q : Option Transaction). RowIsLogged q t all) row ((f.good.told i low high (ap tells_log recovers) settled).rows t refl))
-
-  the-top : IsTop o (reverse split.0) (stack t all)
-  the-top = top-of o (reverse split.0) (stack t all) (sym logged.open_ones ∙ ap reverse split.1 ∙ reverse-append split.0 (o ∷ []))
-
-  claimed : Each (λ (z : Rec). (m.part t).claims (rid_of z) ≡ Claim.Excl) (stack t all)
-  claimed = (f.good.half (λ j. false)).held t (Each-front _ (base_at (log_at c i)) (tail_at (log_at c i)) logged.alive)
-
-  claims-it : (m.part t).claims o.rid ≡ Claim.Excl
-  claims-it = subst (λ (r : Rid). (m.part t).claims r ≡ Claim.Excl) (ap (λ (q : OpenRec). q.rid) the-top.first)
-      (head-claim (λ (z : Rec). (m.part t).claims (rid_of z) ≡ Claim.Excl) the-top.top the-top.below
-      (subst (Each (λ (z : Rec). (m.part t).claims (rid_of z) ≡ Claim.Excl)) the-top.is claimed))
-
-  is-lost : IsLost (m.part t).life
-  is-lost = lost-is (m.part t).life (fate t (base_at (log_at c i))) (fate t all)
-      (subst (λ (s : TxnState). StandsAs s (m.part t).life (fate t (base_at (log_at c i))) (fate t all)) retained
-      (subst (λ (q : Option Transaction). NamesLife q (m.part t).life (fate t (base_at (log_at c i))) (fate t all)) row
-      ((f.good.instances i low high).names t refl)))
-
-  -- the page of the loser's last open record is needed
-  pub page-needed : IsNeededPage m i o.rid.page
-  page-needed = (t, refl, is-lost, (o.rid.slot, claims-it))
+  needed : IsNeededPage m i o.rid.page
+  needed = page-needed t by seen leaves c w f low high recovers there loser o last
 
   has-page : HasPage m (RecoverStep i)
-  has-page = (t, (refl, is-lost, (o.rid.page, (o.rid.slot, claims-it))))
+  has-page = (needed.0, (needed.1, needed.2, (o.rid.page, needed.3)))
 
   away : (place : Place) → IsAway by o.rid.page c (R.NeedPage place) → IsFor m w (RecoverStep i) (R.NeedPage place) Cause.Away
   away place h = record {
@@ -129,7 +61,7 @@ module _ (t : TxnId) (by : ℕ) (seen : DeviceImages) (leaves : Outcomes) (c : P
       o.rid.page,
       by,
       recovers-at i by seen leaves c w f low high recovers,
-      page-needed,
+      needed,
       h.1 ∙ sym (f.pages.entry o.rid.page),
       ap (λ (e : PageEntry). owns e by) (f.pages.entry o.rid.page) ∙ h.0,
       λ p. ap is_lost (f.pages.entry p) ∙ there.1 p,

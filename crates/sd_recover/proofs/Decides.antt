@@ -1,15 +1,12 @@
 -- The transaction in doubt is decided, once its log has no tail: for the goals of `decide_next`.
-use Rattle.std.proofs.Common.{◌≡◌, ⊎_elim, ℕ, ◌≤◌, Bool, true, false, cond, ◌||◌, List, [], ◌∷◌, ◌++◌, map, max, append-nil, refl, sym, ap, ◌∙◌, subst, arith}
+use Rattle.std.proofs.Common.{◌≡◌, ⊎_elim, ℕ, ◌≤◌, Bool, false, cond, ◌||◌, List, [], ◌∷◌, max, refl, sym, ap, ◌∙◌, subst, arith}
 use Rattle.std.specs.Prelude.{None, Some}
-use Rattle.std.specs.List.{flat_map, list_any}
+use Rattle.std.specs.List.{list_any}
 use Rattle.std.proofs.lemmas.Bool.{cases_eq}
-use Rattle.std.proofs.lemmas.List.{map-append}
 use Rattle.sd_base.specs.declared.ids.TxnId.{TxnId}
 use Rattle.sd_base.specs.declared.place.Status.TheVariants as S
-use Rattle.sd_logrec.specs.Kept.{Group, Records}
 use Rattle.sd_logrec.specs.View.{Rec, flat}
-use Rattle.sd_logrec.specs.declared.record.Record.{Record}
-use Rattle.sd_log.specs.Logs.{LogState, flats, forced, placed, placed_groups, placed_tail, scanned}
+use Rattle.sd_log.specs.Logs.{LogState, flats, forced, scanned}
 use Rattle.sd_log.specs.declared.placed.Placed.{Placed}
 use Rattle.sd_rig.specs.Devices.{DeviceImages}
 use Rattle.sd_txn.specs.Owing.{owed_of}
@@ -35,7 +32,7 @@ use Rattle.sd_state.specs.Values.{Pending}
 use Rattle.sd_state.specs.declared.complex.Complex.{Complex}
 use Rattle.sd_state.proofs.Items.{item-kept}
 use Rattle.sd_merge.proofs.Flats.{flats-log}
-use Rattle.sd_moves.proofs.FallBounds.{sum-less}
+use Rattle.sd_falls.proofs.FallBounds.{sum-less}
 use Rattle.sd_fits.specs.Fits.{Fits, FitsBounds}
 use Rattle.sd_fits.specs.Serving.{Serving, fits_by}
 use Rattle.sd_fits.proofs.Forcing.{no-more}

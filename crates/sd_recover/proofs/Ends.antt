@@ -26,11 +26,11 @@ use Rattle.sd_sound.proofs.Room.{end-len}
 use Rattle.sd_world.specs.Serving.{Core}
 use Rattle.sd_state.specs.Good.{Good}
 use Rattle.sd_state.specs.Parts.{Parts, among, is_loose, log_at, no_log, no_txns, status_at, txns_at}
-use Rattle.sd_state.specs.Sealing.{HasEnd, MayEnd, end_of}
+use Rattle.sd_seals.specs.Sealing.{HasEnd, MayPutEnd, end_of}
 use Rattle.sd_state.specs.Tables.{IsLogged, RowIsLogged, tells_log}
 use Rattle.sd_state.specs.Values.{Pending}
 use Rattle.sd_state.proofs.Items.{item-kept, item-set}
-use Rattle.sd_state.proofs.SealedCalls.{has}
+use Rattle.sd_seals.proofs.SealedCalls.{has}
 use Rattle.sd_fits.specs.Fits.{Fits, FitsBounds, FitsDoubts, FitsPages}
 use Rattle.sd_fits.proofs.Recovering.{IsAside, step_sums}
 use Rattle.sd_fits.proofs.Sealing.{AreMore, sealed-bounds, sealed-doubts, sealed-pages}
@@ -55,7 +55,7 @@ none-top (x ∷ xs) e =
 
 pub may-end : (t : TxnId) (by : ℕ) (c : Parts) → status_at c (home t) ≡ S.Recovering by → is_loose c (home t) ≡ false
     → state_at (txns_at c (home t)) t ≡ Some TxnState.Retained → top_at (txns_at c (home t)) t ≡ None
-    → IsSome (span_at (txns_at c (home t)) t) → MayEnd t c
+    → IsSome (span_at (txns_at c (home t)) t) → MayPutEnd t c
 may-end t by c recovers settled loser none spoken =
     let r = row-of (txn_at (txns_at c (home t)) t) TxnState.Retained loser in
     record {

@@ -26,11 +26,11 @@ use Rattle.sd_state.specs.Parts.{Parts, is_loose, log_at, status_at, txns_at}
 use Rattle.sd_state.specs.Recovering.{IsDone, MayEnd}
 use Rattle.sd_state.specs.Tables.{IsLogged, NamesLife, RowIsLogged, StandsAs, lock_of, tells_log}
 use Rattle.sd_fits.specs.Fits.{Fits}
-use Rattle.sd_recover.specs.Recovering as next
-use Rattle.sd_recover.specs.Recovering.{AreThere, IsRowTask, open_lsn}
-use Rattle.sd_recover.specs.declared.tasks.Task.TheVariants as task
+use Rattle.sd_tasks.specs.Tasks as next
+use Rattle.sd_tasks.specs.Tasks.{AreThere, IsRowTask, open_lsn}
+use Rattle.sd_tasks.specs.declared.tasks.Task.TheVariants as task
 use Rattle.sd_recover.proofs.Ends.{none-top}
-use Rattle.sd_recover.proofs.Rows.{none-open, none-passes}
+use Rattle.sd_tasks.proofs.Rows.{none-open, none-passes}
 
 -- ---- nothing is left to do of a row
 

@@ -20,7 +20,7 @@ use Rattle.sd_state.specs.Recovering.{decided_as}
 use Rattle.sd_state.specs.Tables.{IsLogged, IsShut}
 use Rattle.sd_state.specs.Values.{open_of}
 use Rattle.sd_state.proofs.ChangedLists.{span-there}
-use Rattle.sd_recover.specs.Recovering.{row_is_doubt, tasks_in, tasks_of}
+use Rattle.sd_tasks.specs.Tasks.{row_is_doubt, tasks_in, tasks_of}
 
 -- a decision is made
 pub decided-fewer : (old new : Transactions) (t : TxnId) (x : Transaction) (b : Bool) → IsDistinct same_txn (ids old) → txn_at old t ≡ Some x

@@ -2,8 +2,7 @@ mod Left
 mod Rebuilt
 mod Settled
 mod Begun
-mod Rows
-mod Nexts
+mod Cleared
 mod Steps
 mod Decides
 mod Ends
@@ -11,7 +10,6 @@ mod Ended
 mod Finished
 mod Swept
 mod Away
-mod Owns
 mod Stepped
 mod UndoneFor
 mod UndoServed

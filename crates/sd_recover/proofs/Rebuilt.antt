@@ -15,9 +15,9 @@ use Rattle.sd_model.specs.declared.event.Event.{Event}
 use Rattle.sd_model.specs.declared.event.Event.TheVariants.{RecoverStep}
 use Rattle.sd_model.specs.declared.event.Reply.TheVariants as reply
 use Rattle.sd_moves.specs.Places.{with_directory}
-use Rattle.sd_moves.specs.Putting.{SameVersions, with_loose_disk}
-use Rattle.sd_moves.specs.Rebuilding.{MayRebuild}
-use Rattle.sd_moves.proofs.PutCalls.{disk-same, read-elapses}
+use Rattle.sd_puts.specs.Putting.{SameVersions, with_loose_disk}
+use Rattle.sd_puts.specs.Rebuilding.{MayRebuild}
+use Rattle.sd_puts.proofs.PutCalls.{disk-same, read-elapses}
 use Rattle.sd_pagelock.specs.Directory.{DirectoryState, entry_at}
 use Rattle.sd_places.specs.Places.{PageEntry, is_lost}
 use Rattle.sd_places.proofs.Uses.{lost-is}

@@ -13,9 +13,9 @@ use Rattle.sd_model.specs.declared.cause.Cause.{Cause}
 use Rattle.sd_model.specs.declared.event.Event.{Event}
 use Rattle.sd_model.specs.declared.event.Event.TheVariants.{RecoverStep}
 use Rattle.sd_model.specs.declared.event.Reply.TheVariants as reply
-use Rattle.sd_moves.specs.Falling.{IsFallen, with_fallen}
-use Rattle.sd_moves.specs.Putting.{with_loose_disk}
-use Rattle.sd_moves.specs.Settling.{IsReread, with_reread}
+use Rattle.sd_falls.specs.Falling.{IsFallen, with_fallen}
+use Rattle.sd_puts.specs.Putting.{with_loose_disk}
+use Rattle.sd_settle.specs.Settling.{IsReread, with_reread}
 use Rattle.sd_sound.specs.Logs.{Less, Outcomes}
 use Rattle.sd_world.specs.Answers.{Fails}
 use Rattle.sd_world.specs.Serving.{Core, Passes, Telling}

@@ -38,14 +38,14 @@ use Rattle.sd_state.specs.Tables.{tells_log}
 use Rattle.sd_state.specs.Values.{Pending, is_doubt}
 use Rattle.sd_state.specs.declared.complex.Complex.{Complex}
 use Rattle.sd_losers.proofs.Finishing as ended
-use Rattle.sd_moves.proofs.FallBounds.{sum-less}
+use Rattle.sd_falls.proofs.FallBounds.{sum-less}
 use Rattle.sd_fits.specs.Fits.{Fits, FitsBounds}
 use Rattle.sd_fits.specs.Serving.{Serving, fits_by}
 use Rattle.sd_fits.proofs.Doubts.{DoubtsStay, doubts-kept}
 use Rattle.sd_fits.proofs.Forcing.{no-more}
 use Rattle.sd_fits.proofs.Recovering.{rests}
 use Rattle.sd_fits.proofs.Served.{bounds-stay, none-ended}
-use Rattle.sd_recover.specs.Recovering.{AreThere}
+use Rattle.sd_tasks.specs.Tasks.{AreThere}
 use Rattle.sd_recover.proofs.Steps.{then-serves}
 
 -- a table without rows owes nothing

@@ -13,7 +13,7 @@ use Rattle.sd_log.specs.Logs.{LogState, forced, with_record}
 use Rattle.sd_model.specs.State.{State, fall}
 use Rattle.sd_model.specs.declared.event.Event.TheVariants.{RecoverStep}
 use Rattle.sd_model.specs.declared.event.Reply.TheVariants as reply
-use Rattle.sd_moves.specs.Falling.{IsFallen, with_fallen}
+use Rattle.sd_falls.specs.Falling.{IsFallen, with_fallen}
 use Rattle.sd_pagelock.specs.Directory.{entry_at}
 use Rattle.sd_places.specs.Places.{PageEntry, is_lost, owns}
 use Rattle.sd_places.specs.Rows.{dirtied}
@@ -45,8 +45,8 @@ use Rattle.sd_fits.specs.Fits.{Fits, FitsBounds, FitsDoubts, FitsPages}
 use Rattle.sd_fits.specs.Serving.{fits_by, stands_for}
 use Rattle.sd_fits.proofs.Falling.{numbers_of}
 use Rattle.sd_fits.proofs.Recovering.{IsAside, broken, broken-fits, broken-turns, recovers-at, step_sums}
-use Rattle.sd_recover.specs.Recovering.{AreThere}
-use Rattle.sd_recover.proofs.Away.{page-needed}
+use Rattle.sd_tasks.specs.Tasks.{AreThere}
+use Rattle.sd_tasks.proofs.Awaited.{page-needed}
 use Rattle.sd_recover.proofs.Steps.{passes-to}
 use Rattle.sd_recover.proofs.UndoneFor.{made, undone-bounds, undone-doubts}
 use Rattle.sd_recover.proofs.UndoServed.{fin-aside, fin-pages, popped-owes, step-more}

@@ -11,7 +11,7 @@ use Rattle.sd_base.specs.declared.refusal.Refusal.TheVariants as R
 use Rattle.sd_model.specs.State.{State, fall}
 use Rattle.sd_model.specs.declared.event.Event.TheVariants.{RecoverStep}
 use Rattle.sd_model.specs.declared.event.Reply.TheVariants as reply
-use Rattle.sd_moves.specs.Falling.{IsFallen, with_fallen}
+use Rattle.sd_falls.specs.Falling.{IsFallen, with_fallen}
 use Rattle.sd_pagelock.specs.Directory.{entry_at}
 use Rattle.sd_places.specs.Places.{owns}
 use Rattle.sd_rig.specs.Devices.{Elapses, Span}
@@ -32,7 +32,7 @@ use Rattle.sd_state.specs.declared.complex.Complex.{Complex}
 use Rattle.sd_fits.specs.Serving.{fits_by, stands_for}
 use Rattle.sd_fits.proofs.Recovering.{recovers-at, step_sums}
 use Rattle.sd_fits.proofs.Served.{bounds-stay}
-use Rattle.sd_recover.specs.Recovering.{AreThere}
+use Rattle.sd_tasks.specs.Tasks.{AreThere}
 use Rattle.sd_recover.proofs.Steps.{breaks, failed-all, failed-aside, failed-due, same-aside}
 use Rattle.sd_recover.proofs.UndoBreaks.{undo-breaks, who}
 

@@ -44,8 +44,8 @@ use Rattle.sd_fits.specs.Fits.{Fits}
 use Rattle.sd_fits.specs.Serving.{fits_by, stands_for}
 use Rattle.sd_fits.proofs.Falling.{numbers_of}
 use Rattle.sd_fits.proofs.Recovering.{aside-fits, recovers-at, step-turns, step_core, step_sums}
-use Rattle.sd_recover.specs.Recovering.{AreThere}
-use Rattle.sd_recover.proofs.Away.{page-needed}
+use Rattle.sd_tasks.specs.Tasks.{AreThere}
+use Rattle.sd_tasks.proofs.Awaited.{page-needed}
 use Rattle.sd_recover.proofs.Steps.{forced-whole, passes-to}
 use Rattle.sd_recover.proofs.UndoneFor.{made, owes-less, undone-bounds, undone-doubts}
 use Rattle.sd_recover.proofs.UndoServed.{fin-aside, fin-pages, step-more}

@@ -56,7 +56,7 @@ use Rattle.sd_state.proofs.Items.{item-kept, item-set}
 use Rattle.sd_state.proofs.Lasts.{last-forced, last-more}
 use Rattle.sd_state.proofs.Standing.{one-place}
 use Rattle.sd_undos.proofs.UndoneTop.{clr-falls, finds-place}
-use Rattle.sd_moves.proofs.FallBounds.{sum-less}
+use Rattle.sd_falls.proofs.FallBounds.{sum-less}
 use Rattle.sd_fits.specs.Fits.{AreWithin, Fits, FitsBounds, FitsDoubts, ReachesAtMost, capacities}
 use Rattle.sd_fits.proofs.Changing.{caps-set}
 use Rattle.sd_fits.proofs.Doubts.{HadCommit, doubts-on, same-doubts}

@@ -1,40 +1,12 @@
--- A recovery waits for the page of an undo, and no other task wants a page: for the goals of `needed`, `work_on` and `recover_step`.
-use Rattle.std.proofs.Common.{◌≡◌, ℕ, ◌≤◌, refl, sym, subst}
-use Rattle.std.specs.Prelude.{IfErr, Result, Ok, Err, Some}
-use Rattle.sd_base.specs.declared.ids.TxnId.{TxnId}
+-- No task but an undo wants a page: for the goals of `work_on` and `recover_step`.
+use Rattle.std.proofs.Common.{◌≡◌, ℕ, refl, subst}
+use Rattle.std.specs.Prelude.{IfErr, Result, Ok, Err}
 use Rattle.sd_base.specs.declared.place.Place.{Place}
-use Rattle.sd_base.specs.declared.place.Status.TheVariants as S
 use Rattle.sd_base.specs.declared.refusal.Refusal.{Refusal}
 use Rattle.sd_base.specs.declared.refusal.Refusal.TheVariants as R
-use Rattle.sd_chain.specs.Records.{home}
-use Rattle.sd_rig.specs.Devices.{DeviceImages}
-use Rattle.sd_sound.specs.Logs.{Outcomes}
-use Rattle.sd_txn.specs.Transactions.{state_at, top_at}
-use Rattle.sd_txn.specs.declared.state.OpenRec.{OpenRec}
-use Rattle.sd_txn.specs.declared.state.TxnState.{TxnState}
-use Rattle.sd_world.specs.PageCauses.{IsNeededPage}
-use Rattle.sd_world.specs.Serving.{Core}
-use Rattle.sd_state.specs.Parts.{Parts, status_at, txns_at}
-use Rattle.sd_fits.specs.Fits.{Fits}
+use Rattle.sd_state.specs.Parts.{Parts}
 use Rattle.sd_recover.specs.Rebuilding.{LeavesLost}
-use Rattle.sd_recover.specs.Recovering.{IsNext, IsUnrecovering, WantsNone}
-use Rattle.sd_recover.specs.declared.tasks.Task.TheVariants as task
-use Rattle.sd_recover.proofs.Away.{page-needed}
-use Rattle.sd_recover.proofs.Owns.{open-loser, own-row}
-
--- the page of the undo that is next is needed
-pub undo-needed : (i p : ℕ) (t : TxnId) (seen : DeviceImages) (leaves : Outcomes) (c : Parts) (w : Core) → Fits seen leaves c w → 1 ≤ i → i ≤ 8
-    → (by : ℕ) → status_at c i ≡ S.Recovering by → IsNext c i (task.Undo t p) → IsNeededPage w.scene.state i p
-undo-needed i p t seen leaves c w f low high by recovers next =
-    let loser = (open-loser (txns_at c i) t next.1.1).0 in
-    let own : home t ≡ i = own-row i seen leaves c w f low high t TxnState.Retained loser in
-    let last : (o : OpenRec) × (top_at (txns_at c (home t)) t ≡ Some o) × (p ≡ o.rid.page) =
-    subst (λ (j : ℕ). (o : OpenRec) × (top_at (txns_at c j) t ≡ Some o) × (p ≡ o.rid.page)) (sym own) next.1.2 in
-    subst (λ (j : ℕ). IsNeededPage w.scene.state j p) own
-    (subst (IsNeededPage w.scene.state (home t)) (sym last.2)
-    (page-needed t by seen leaves c w f (subst (λ (j : ℕ). 1 ≤ j) (sym own) low) (subst (λ (j : ℕ). j ≤ 8) (sym own) high)
-    (subst (λ (j : ℕ). status_at c j ≡ S.Recovering by) (sym own) recovers) next.0
-    (subst (λ (j : ℕ). state_at (txns_at c j) t ≡ Some TxnState.Retained) (sym own) loser) last.0 last.1))
+use Rattle.sd_recover.specs.Recovering.{IsUnrecovering, WantsNone}
 
 -- a task that was refused and wants no page
 pub none-wanted : {X Y : Type 0} (result : Result X Refusal) (done : Result Y Refusal) (A : Type 0)

@@ -15,16 +15,18 @@ ghost use Rattle.sd_model.specs.declared.event.Reply.TheVariants as reply;
 ghost use Rattle.sd_state.specs.Complexes.{parts};
 ghost use Rattle.sd_state.specs.Forcing.{with_forced};
 ghost use Rattle.sd_state.specs.Parts.{is_loose, log_at, owed_at, status_at, txns_at};
-ghost use Rattle.sd_recover.specs.Recovering.{WantsNone, tasks_in};
+ghost use Rattle.sd_recover.specs.Recovering.{WantsNone};
+ghost use Rattle.sd_tasks.specs.Tasks.{tasks_in};
 ghost use Rattle.sd_txn.specs.Transactions.{state_at};
 ghost use Rattle.sd_txn.specs.declared.state.TxnState.{TxnState};
 ghost use Rattle.sd_world.specs.Serving.{Core, answered, telling};
 
 use sd_base::{Failed, InstNo, Refusal, TxnId};
+use sd_falls::down;
 use sd_log::{Log, Placed};
 use sd_logrec::Record;
 use sd_losers::decided;
-use sd_moves::{down, laws};
+use sd_moves::laws;
 use sd_rig::Rig;
 use sd_state::Complex;
 

@@ -10,17 +10,20 @@ ghost use Rattle.sd_model.specs.declared.event.Event.TheVariants as event;
 ghost use Rattle.sd_model.specs.declared.event.Reply.TheVariants as reply;
 ghost use Rattle.sd_state.specs.Complexes.{parts};
 ghost use Rattle.sd_state.specs.Parts.{is_loose, status_at, txns_at};
-ghost use Rattle.sd_recover.specs.Recovering.{tasks_in, AreThere, IsRowTask, WantsNone};
-ghost use Rattle.sd_recover.specs.declared.tasks.Task.TheVariants as task;
+ghost use Rattle.sd_recover.specs.Recovering.{WantsNone};
+ghost use Rattle.sd_tasks.specs.Tasks.{tasks_in, AreThere, IsRowTask};
+ghost use Rattle.sd_tasks.specs.declared.tasks.Task.TheVariants as task;
 ghost use Rattle.sd_txn.specs.Transactions.{span_at, state_at, top_at};
 ghost use Rattle.sd_txn.specs.declared.state.TxnState.{TxnState};
 ghost use Rattle.sd_world.specs.Serving.{Core, answered, telling};
 
 use crate::deciding::at_rest;
 use sd_base::{InstNo, Refusal, TxnId};
+use sd_falls::down;
 use sd_losers::recovered;
-use sd_moves::{down, laws};
+use sd_moves::laws;
 use sd_rig::Rig;
+use sd_seals::seal_end;
 use sd_state::Complex;
 
 /// Puts the End of a loser into the log of its instance, which `by` recovers, and forces that. `Memory` changes nothing; after `Failed`
@@ -40,7 +43,7 @@ pub(crate) fn end_next<G: Rig>(c: &mut Complex<G>, by: InstNo, t: &TxnId) -> Res
 {
     name(t);
     laws::instances(by);
-    c.seal_end(t)?;
+    seal_end(c, t)?;
     match c.force_log(t.inst) {
         Ok(()) => Ok(()),
         Err(_) => {

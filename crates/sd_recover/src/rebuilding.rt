@@ -18,8 +18,10 @@ ghost use Rattle.sd_world.specs.Answers.{IsLowestLost};
 ghost use Rattle.sd_world.specs.Serving.{Core, answered, telling};
 
 use sd_base::{InstNo, PageNo, Refusal};
-use sd_moves::{Unput, down, laws, newest_image, rebuilt};
+use sd_falls::down;
+use sd_moves::laws;
 use sd_page::Image;
+use sd_puts::{Unput, newest_image, rebuilt};
 use sd_rig::Rig;
 use sd_state::Complex;
 

@@ -11,7 +11,8 @@ ghost use Rattle.sd_model.specs.declared.event.Event.TheVariants as event;
 ghost use Rattle.sd_model.specs.declared.event.Reply.TheVariants as reply;
 ghost use Rattle.sd_state.specs.Complexes.{parts};
 ghost use Rattle.sd_state.specs.Parts.{status_at, IsShape};
-ghost use Rattle.sd_recover.specs.Recovering.{recovery, AwaitsPage, HasCleared, HasOneLess, HaveStayedOrFallen, IsNext, IsUnrecovering};
+ghost use Rattle.sd_recover.specs.Recovering.{recovery, AwaitsPage, HasCleared, HasOneLess, HaveStayedOrFallen, IsUnrecovering};
+ghost use Rattle.sd_tasks.specs.Tasks.{IsNext};
 ghost use Rattle.sd_recover.specs.declared.recovering.Recovery.TheVariants as recoveries;
 ghost use Rattle.sd_world.specs.Serving.{Core, answered, telling};
 
@@ -19,12 +20,12 @@ use crate::deciding::decide_next;
 use crate::ending::{end_next, finish};
 use crate::rebuilding::rebuild_next;
 use crate::settling::settle_next;
-use crate::tasks::{Task, next_task};
 use crate::undoing::undo_next;
 use sd_base::{InstNo, Refusal, Status};
 use sd_moves::laws;
 use sd_rig::Rig;
 use sd_state::Complex;
+use sd_tasks::{Task, next_task};
 
 /// What a step of a recovery comes to.
 #[derive(Clone, Copy, PartialEq, Eq)]

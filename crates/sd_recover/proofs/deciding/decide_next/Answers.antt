@@ -12,7 +12,7 @@ use Rattle.sd_state.specs.Parts.{Parts, txns_at}
 use Rattle.sd_losers.proofs.Deciding.{has-row}
 use Rattle.sd_txn.specs.Transactions.{Transactions, ids}
 use Rattle.sd_txn.specs.declared.state.TxnState.{TxnState}
-use Rattle.sd_recover.specs.Recovering.{tasks_in}
+use Rattle.sd_tasks.specs.Tasks.{tasks_in}
 use Rattle.sd_recover.proofs.Left.{decided-fewer}
 use Rattle.sd_recover.proofs.Decides.{decides, doubt-then, fits-mid, kept-then, no-tail, recovers-then, settled-then}
 use Rattle.sd_recover.proofs.deciding.decide_next.Goals as goal

@@ -37,7 +37,7 @@ pub returns-in_err-seal_end-clause-served : goal.returns-in_err-seal_end-clause-
 returns-in_err-seal_end-clause-served g c =
     let tell : Telling _ = telling g.G.Rig.seen g.G.Rig.leaves g.G.Rig.moment g.G.Rig.since g.G.Rig.faults in
     let old = c.args.c.now in
-    let new = c.seal_end.new.self in
+    let new = c.seal_end.new.c in
     let s = c.in_err-seal_end.ensures in
     let p = err_from_is_err_and c.from_residual.result c.from_residual.ensures.1 in
     subst (λ (r : Result (Unit {0}) Refusal). Serving tell (RecoverStep (home c.args.t.now)) (answered (λ _. reply.Step) r) old new)
@@ -61,7 +61,7 @@ down-requires-clause-due g c =
     let n = c.name.ensures in
     let s = c.in_ok-seal_end.ensures in
     let e = c.in-Err.ensures in
-    end-due tell c.args.by c.args.t.now c.args.c.now c.seal_end.new.self c.force_log.new.self n.low n.high r.recovers r.settled
+    end-due tell c.args.by c.args.t.now c.args.c.now c.seal_end.new.c c.force_log.new.self n.low n.high r.recovers r.settled
     (g.met.G.Rig.leaves_seen c.args.c.now.rig 0 (search rules)) s.rig s.parts s.good e.good e.images e.time e.others e.masters r.fits.0 r.fits.1 e.failed
 
 pub returns-in-Ok-clause-served : goal.returns-in-Ok-clause-served
@@ -71,7 +71,7 @@ returns-in-Ok-clause-served g c =
     let n = c.name.ensures in
     let s = c.in_ok-seal_end.ensures in
     let e = c.in-Ok.ensures in (
-      λ w f. end-step tell c.args.by c.args.t.now c.args.c.now c.seal_end.new.self c.force_log.new.self n.low n.high r.recovers r.settled
+      λ w f. end-step tell c.args.by c.args.t.now c.args.c.now c.seal_end.new.c c.force_log.new.self n.low n.high r.recovers r.settled
           (g.met.G.Rig.leaves_seen c.args.c.now.rig 0 (search rules)) s.rig s.parts s.good e.good e.images e.time e.others e.masters w f
           (e.forced (ap (λ p. is_loose p (home c.args.t.now)) s.parts.is ∙ r.settled)),
       e.quiet ∙ ap tell.faults s.rig,
@@ -87,7 +87,7 @@ returns-in-Err-clause-served g c =
     let e = c.in-Err.ensures in
     let d = c.down.ensures in
     let old = c.args.c.now in
-    let sealed = c.seal_end.new.self in
+    let sealed = c.seal_end.new.c in
     let then = c.force_log.new.self in (
       λ w f. end-fails tell c.args.by c.args.t.now old sealed then n.low n.high r.recovers r.settled
           (g.met.G.Rig.leaves_seen old.rig 0 (search rules)) s.rig s.parts s.good e.good e.images e.time e.others e.masters w f e.failed
@@ -102,5 +102,5 @@ returns-in-Ok-clause-fewer g c =
     let n = c.name.ensures in
     let s = c.in_ok-seal_end.ensures in
     let e = c.in-Ok.ensures in
-    end-fewer c.args.t.now (parts c.args.c.now) (parts c.seal_end.new.self) (parts c.force_log.new.self) n.low n.high r.fits.1.good.shape.txns
+    end-fewer c.args.t.now (parts c.args.c.now) (parts c.seal_end.new.c) (parts c.force_log.new.self) n.low n.high r.fits.1.good.shape.txns
     r.empty s.parts (e.forced (ap (λ p. is_loose p (home c.args.t.now)) s.parts.is ∙ r.settled))

@@ -9,8 +9,8 @@ use Rattle.sd_txn.specs.Transactions.{Transactions, ids}
 use Rattle.sd_world.specs.Serving.{Core, Telling, telling}
 use Rattle.sd_fits.specs.Fits.{Fits}
 use Rattle.sd_state.specs.Recovering.{MayEnd}
-use Rattle.sd_recover.specs.Recovering.{IsRowTask}
-use Rattle.sd_recover.specs.declared.tasks.Task.TheVariants as task
+use Rattle.sd_tasks.specs.Tasks.{IsRowTask}
+use Rattle.sd_tasks.specs.declared.tasks.Task.TheVariants as task
 use Rattle.sd_recover.proofs.Finished.{may-finish}
 use Rattle.sd_recover.proofs.Steps.{log-forced}
 use Rattle.sd_recover.proofs.Swept.{finishes, recovers-then, there-then}

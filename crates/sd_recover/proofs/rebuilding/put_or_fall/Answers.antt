@@ -1,8 +1,8 @@
 use Rattle.std.proofs.Common.{◌≡◌, inl, inr, false, ap, ◌∙◌, subst, arith}
 use Rattle.sd_model.specs.declared.event.Event.TheVariants.{RecoverStep}
-use Rattle.sd_moves.specs.Putting.{left_after}
-use Rattle.sd_moves.specs.declared.putting.Unput.{Unput}
-use Rattle.sd_moves.proofs.PutCalls.{disk-same}
+use Rattle.sd_puts.specs.Putting.{left_after}
+use Rattle.sd_puts.specs.declared.putting.Unput.{Unput}
+use Rattle.sd_puts.proofs.PutCalls.{disk-same}
 use Rattle.sd_state.specs.Complexes.{parts}
 use Rattle.sd_state.specs.Parts.{Parts}
 use Rattle.sd_state.specs.Values.{Pending}

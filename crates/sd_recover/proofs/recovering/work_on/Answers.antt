@@ -15,11 +15,12 @@ use Rattle.sd_txn.specs.Transactions.{span_at, state_at, top_at}
 use Rattle.sd_txn.specs.declared.state.OpenRec.{OpenRec}
 use Rattle.sd_txn.specs.declared.state.TxnState.{TxnState}
 use Rattle.sd_world.specs.Serving.{Telling, answered, telling}
-use Rattle.sd_recover.specs.Recovering.{AwaitsPage, IsNext, tasks_in}
-use Rattle.sd_recover.specs.declared.tasks.Task.TheVariants as task
+use Rattle.sd_recover.specs.Recovering.{AwaitsPage}
+use Rattle.sd_tasks.specs.Tasks.{IsNext, tasks_in}
+use Rattle.sd_tasks.specs.declared.tasks.Task.TheVariants as task
 use Rattle.sd_recover.proofs.Wanting.{lost-none, none-wanted, wanted-so}
-use Rattle.sd_recover.proofs.Nexts.{next-cleared, opposite, there-cleared}
-use Rattle.sd_recover.proofs.Owns.{bare, doubtful, ended-loser, open-loser, own-row, spoken}
+use Rattle.sd_recover.proofs.Cleared.{next-cleared, opposite, there-cleared}
+use Rattle.sd_tasks.proofs.Owns.{bare, doubtful, ended-loser, open-loser, own-row, spoken}
 use Rattle.sd_recover.proofs.recovering.work_on.Goals as goal
 
 pub decide_next-requires-clause-recovers : goal.decide_next-requires-clause-recovers

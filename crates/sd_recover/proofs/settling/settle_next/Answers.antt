@@ -1,7 +1,7 @@
 use Rattle.std.proofs.Common.{inl, inr, ⊎_elim, ℕ, ◌≤◌, ap, arith, false, slice_set, sym, ◌∙◌}
 use Rattle.std.specs.Prelude.{Err}
 use Rattle.std.proofs.lemmas.Bool.{cases_eq}
-use Rattle.sd_moves.specs.declared.settling.Unsettled.{Unsettled}
+use Rattle.sd_settle.specs.declared.settling.Unsettled.{Unsettled}
 use Rattle.sd_world.specs.Serving.{telling}
 use Rattle.sd_fits.proofs.Falling.{fallen-down}
 use Rattle.sd_state.specs.Complexes.{parts}

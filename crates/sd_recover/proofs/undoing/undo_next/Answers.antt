@@ -20,10 +20,11 @@ use Rattle.sd_losers.proofs.Deciding.{has-row}
 use Rattle.sd_txn.specs.Transactions.{Transaction, Transactions, ids}
 use Rattle.sd_txn.specs.declared.state.TxnState.{TxnState}
 use Rattle.sd_world.specs.Serving.{Telling, answered, telling}
-use Rattle.sd_recover.specs.Recovering.{IsAway, tasks_in}
+use Rattle.sd_recover.specs.Recovering.{IsAway}
+use Rattle.sd_tasks.specs.Tasks.{tasks_in}
 use Rattle.sd_recover.proofs.Left.{row-some, undone-fewer}
 use Rattle.sd_recover.proofs.Away.{page-away}
-use Rattle.sd_recover.proofs.Owns.{its-top}
+use Rattle.sd_tasks.proofs.Owns.{its-top}
 use Rattle.sd_recover.proofs.Steps.{force-spares, rises}
 use Rattle.sd_recover.proofs.UndoFails.{left-due, left-serves}
 use Rattle.sd_recover.proofs.UndoSteps.{undo-step}

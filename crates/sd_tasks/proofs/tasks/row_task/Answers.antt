@@ -1,8 +1,8 @@
 use Rattle.std.proofs.Common.{rules, sym}
 use Rattle.sd_txn.specs.Transactions.{top_at}
-use Rattle.sd_recover.proofs.Owns.{open-loser}
-use Rattle.sd_recover.proofs.Nexts.{its-page}
-use Rattle.sd_recover.proofs.tasks.row_task.Goals as goal
+use Rattle.sd_tasks.proofs.Owns.{open-loser}
+use Rattle.sd_tasks.proofs.Nexts.{its-page}
+use Rattle.sd_tasks.proofs.tasks.row_task.Goals as goal
 
 pub page_of-page-requires : goal.page_of-page-requires
 page_of-page-requires c = (open-loser c.args.table.now c.in-Some-last_open.txn (sym c.in-Some-last_open.ensures)).1

@@ -1,8 +1,8 @@
-use Rattle.std.proofs.Common.{sym, subst}
+use Rattle.std.proofs.Common.{subst}
 use Rattle.sd_state.specs.Complexes.{parts}
-use Rattle.sd_recover.specs.Recovering.{IsNext}
-use Rattle.sd_recover.proofs.Wanting.{undo-needed}
-use Rattle.sd_recover.proofs.tasks.needed.Goals as goal
+use Rattle.sd_tasks.specs.Tasks.{IsNext}
+use Rattle.sd_tasks.proofs.Awaited.{undo-needed}
+use Rattle.sd_tasks.proofs.tasks.needed.Goals as goal
 
 pub returns-in-Undo-clause-claimed : goal.returns-in-Undo-clause-claimed
 returns-in-Undo-clause-claimed g c = λ w by f recovers.

@@ -8,7 +8,7 @@ use Rattle.sd_base.proofs.SameIds.{cases_txn, ne-same}
 use Rattle.sd_txn.specs.Transactions.{Transaction, Transactions, state_at, top_at}
 use Rattle.sd_txn.specs.declared.state.OpenRec.{OpenRec}
 use Rattle.sd_txn.specs.declared.state.TxnState.{TxnState}
-use Rattle.sd_recover.specs.Recovering.{is_later, is_loser, later, open_lsn, row_is_doubt}
+use Rattle.sd_tasks.specs.Tasks.{is_later, is_loser, later, open_lsn, row_is_doubt}
 
 -- by the two ways in which a test comes out
 two : {P : Type 0} (b : Bool) → (b ≡ true → P) → (b ≡ false → P) → P

@@ -1,4 +1,4 @@
--- What a task in the rows of a recovered instance is about: for the goals of `work_on`.
+-- What a task in the rows of a recovered instance is about: for the goals of `row_task`, and of the tasks of a recovery.
 use Rattle.std.proofs.Common.{◌≡◌, ⊎_elim, ℕ, ◌≤◌, Bool, true, false, cond, refl, sym, ap, ◌∙◌}
 use Rattle.std.specs.Prelude.{Option, None, Some, IsSome, is_some, option_map}
 use Rattle.std.proofs.lemmas.Bool.{cases_eq}
@@ -13,8 +13,8 @@ use Rattle.sd_world.specs.Serving.{Core}
 use Rattle.sd_state.specs.Parts.{Parts, txns_at}
 use Rattle.sd_losers.proofs.Deciding.{has-row}
 use Rattle.sd_fits.specs.Fits.{Fits}
-use Rattle.sd_recover.specs.Recovering.{in_doubt, is_loser, last_open, row_is_doubt, to_end}
-use Rattle.sd_recover.proofs.Rows.{doubt-is, found-passes, last-open, loser-is, none-open, open-is}
+use Rattle.sd_tasks.specs.Tasks.{in_doubt, is_loser, last_open, row_is_doubt, to_end}
+use Rattle.sd_tasks.proofs.Rows.{doubt-is, found-passes, last-open, loser-is, none-open, open-is}
 use Rattle.std.specs.Prelude.{option_and_then}
 use Rattle.sd_txn.specs.Transactions.{ids, top}
 

@@ -8,9 +8,9 @@ ghost use Rattle.sd_state.specs.Complexes.{parts};
 ghost use Rattle.sd_state.specs.Parts.{status_at, IsShape};
 ghost use Rattle.sd_world.specs.PageCauses.{IsNeededPage};
 ghost use Rattle.sd_world.specs.Serving.{Core};
-ghost use Rattle.sd_recover.specs.Recovering.{in_doubt, is_later, is_loser, last_open, later, open_lsn, row_is_doubt, to_end};
-ghost use Rattle.sd_recover.specs.Recovering.{AreSettled, IsLowestLoose, IsNext, IsRowTask};
-ghost use Rattle.sd_recover.specs.declared.tasks.Task.TheVariants as task;
+ghost use Rattle.sd_tasks.specs.Tasks.{in_doubt, is_later, is_loser, last_open, later, open_lsn, row_is_doubt, to_end};
+ghost use Rattle.sd_tasks.specs.Tasks.{AreSettled, IsLowestLoose, IsNext, IsRowTask};
+ghost use Rattle.sd_tasks.specs.declared.tasks.Task.TheVariants as task;
 ghost use Rattle.sd_txn.specs.Transactions.{top_at};
 ghost use Rattle.sd_txn.specs.declared.state.OpenRec.{OpenRec};
 

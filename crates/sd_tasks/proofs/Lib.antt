@@ -1,0 +1,4 @@
+pub mod Rows
+pub mod Owns
+mod Nexts
+pub mod Awaited
