@@ -24,7 +24,7 @@ use Rattle.sd_fits.specs.declared.body.Body.{Body}
 use Rattle.sd_fits.specs.Bodies.{rig_of}
 use Rattle.sd_fits.specs.Opened.{opening_core}
 use Rattle.sd_fits.proofs.Opened.{is-opened}
-use Rattle.sd_hall.specs.Bodies.{IsRigIn, fits_in}
+use Rattle.sd_serve.specs.Bodies.{IsRigIn, fits_in}
 use Rattle.sd_hall.specs.Keeping.{Keeps}
 use Rattle.sd_hall.specs.declared.hall.Hall.{Hall}
 use Rattle.sd_pull.specs.Driving.{IsTold, World}
@@ -33,14 +33,15 @@ use Rattle.sd_drive.specs.Reaching.{Reached, before, begin_of}
 use Rattle.sd_pull.specs.Running.{Breaks, Led, Start}
 use Rattle.sd_drive.specs.declared.driver.Driver.{Driver}
 use Rattle.sd_pull.proofs.Running.{drives-leads, ran-led}
-use Rattle.sd_top.specs.declared.status.Status.{Status}
-use Rattle.sd_top.specs.declared.status.Status.TheVariants as status
-use Rattle.sd_top.specs.Sides.{Ends, SourceSide, SinkSide}
-use Rattle.sd_top.specs.Input.{Taken, IsAtEnd}
+use Rattle.sd_status.specs.declared.status.Status.{Status}
+use Rattle.sd_status.specs.declared.status.Status.TheVariants as status
+use Rattle.sd_status.specs.Sides.{SourceSide, SinkSide}
+use Rattle.sd_status.specs.Input.{Taken, IsAtEnd}
+use Rattle.sd_status.specs.Reporting.{Delivers, TellsDamaged, TellsUnopened}
 use Rattle.sd_top.specs.Opening.{AreRead, LedFrom, Opens, frames_of, opening, opening_world}
 use Rattle.sd_top.specs.declared.replaying.Ended.{Ended}
 use Rattle.sd_top.specs.Unopened.{IsEnded, IsOpened, IsUnopened}
-use Rattle.sd_top.specs.Outcome.{FailsAtOnce, FailsLater, Gave, Replayed, Answers, Outcome, Delivers, TellsDamaged, TellsUnopened}
+use Rattle.sd_top.specs.Outcome.{Ends, FailsAtOnce, FailsLater, Gave, Replayed, Answers, Outcome}
 use Rattle.sd_top.proofs.Scripts.{script_size}
 
 -- ---- the opening

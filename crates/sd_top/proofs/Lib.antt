@@ -1,5 +1,3 @@
 mod Answered
 mod Rising
 mod Scripts
-pub mod Puts
-pub mod Takes

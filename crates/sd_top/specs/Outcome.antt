@@ -1,10 +1,8 @@
 -- What `top` answers, status by status.
-use Rattle.std.specs.Prelude.{◌≡◌, ◌⊎◌, ℕ, ◌<◌, true, List, [], ◌∷◌, Option, None, Some, length, codes}
+use Rattle.std.specs.Prelude.{◌≡◌, ◌⊎◌, ℕ, ◌<◌, true, List, Option, None, Some, length}
 use Rattle.sd_base.specs.Streams.{Appends, Rises}
 use Rattle.sd_base.specs.declared.ids.Rid.{Rid}
 use Rattle.sd_base.specs.declared.refusal.LineError.{LineError}
-use Rattle.sd_base.specs.declared.refusal.Refusal.{Refusal}
-use Rattle.sd_base.specs.declared.refusal.Refusal.TheVariants as R
 use Rattle.sd_model.specs.Acts.{Serial}
 use Rattle.sd_model.specs.History.{History}
 use Rattle.sd_model.specs.declared.event.Entry.{Entry}
@@ -13,15 +11,20 @@ use Rattle.sd_chain.specs.Faults.{FailsFirstAt}
 use Rattle.sd_forms.specs.declared.line.Line.{Line}
 use Rattle.sd_script.specs.Reading.{IsScript, IsBadAt}
 use Rattle.sd_world.specs.Serving.{Telling}
-use Rattle.sd_report.specs.Words.{line_of}
 use Rattle.sd_report.specs.Report.{bad_text, damaged_text, report}
+use Rattle.sd_status.specs.declared.status.Status.{Status}
+use Rattle.sd_status.specs.declared.status.Status.TheVariants as status
+use Rattle.sd_status.specs.Sides.{SourceSide, SinkSide}
+use Rattle.sd_status.specs.Input.{Taken, IsAtEnd}
+use Rattle.sd_status.specs.Output.{AppendsFront}
+use Rattle.sd_status.specs.Reporting.{WrittenUnless, device_text}
 use Rattle.sd_pull.specs.Driving.{IsTold, World}
-use Rattle.sd_top.specs.declared.status.Status.{Status}
-use Rattle.sd_top.specs.declared.status.Status.TheVariants as status
-use Rattle.sd_top.specs.Sides.{Ends, SourceSide, SinkSide}
-use Rattle.sd_top.specs.Input.{Taken, IsAtEnd}
-use Rattle.sd_top.specs.Output.{AppendsFront}
 use Rattle.sd_top.specs.Opening.{AreRead, LedFrom}
+
+-- What a script that was read may change: the sink, and the devices.
+pub record Ends (G : Type 0) : Type 0 where
+  pub sink : SinkSide
+  pub rig : G
 
 -- The source gave this text: all that it had, or 4,194,305 bytes, which is more than a script has.
 pub record Gave (source source' : SourceSide) (text : List ℕ) : Type 0 where
@@ -51,19 +54,9 @@ pub record CutShort (sink sink' : SinkSide) (lines : List Line) (history : Histo
   pub front : AppendsFront sink.written (report lines history.entries) sink'.written
   pub failed : Rises sink.faults sink'.faults
 
--- the text is written whole, or a front of it, where the sink failed
-abbrev pub WrittenUnless : SinkSide → List ℕ → SinkSide → Type 0
-WrittenUnless sink text sink' =
-    Appends sink.written text sink'.written
-    ⊎ (Rises sink.faults sink'.faults × AppendsFront sink.written text sink'.written)
-
 -- the text is bad at a line first, and the sink has got just that
 abbrev pub WritesFirst : List ℕ → SinkSide → SinkSide → Type 0
 WritesFirst text sink sink' = (line : ℕ) × IsBadAt text line × WrittenUnless sink (bad_text line LineError.Word) sink'
-
--- what is written where a device failed in the opening
-abbrev pub device_text : List ℕ
-device_text = line_of (codes "device" ∷ [])
 
 -- A device failed in the reading of the devices, which read as before.
 pub record FailsAtOnce {G : Type 0} (tell : Telling G) (rig rig' : G) : Type 0 where
@@ -153,29 +146,3 @@ Outcome tell status.NoMemory source source' old new book =
     IsUntouched old new book ⊎ AnswersAll tell status.NoMemory source source' old new book
 Outcome tell status.Usage source source' old new book = ⊥
 Outcome tell s source source' old new book = AnswersAll tell s source source' old new book
-
--- what becomes of a report
-abbrev pub Delivers : Status → SinkSide → List ℕ → SinkSide → Type 0
-Delivers status.Done sink text sink' = Appends sink.written text sink'.written
-Delivers status.WriteFault sink text sink' =
-    Rises sink.faults sink'.faults × AppendsFront sink.written text sink'.written
-Delivers status.NoMemory sink text sink' = sink'.written ≡ sink.written
-Delivers s sink text sink' = ⊥
-
--- a bad line is told
-abbrev pub TellsBad : Status → ℕ → LineError → SinkSide → SinkSide → Type 0
-TellsBad status.BadLine line cause sink sink' = WrittenUnless sink (bad_text line cause) sink'
-TellsBad status.NoMemory line cause sink sink' = sink'.written ≡ sink.written
-TellsBad s line cause sink sink' = ⊥
-
--- that the devices aren't sound is told, where there is memory for it
-abbrev pub TellsDamaged : Status → ℕ → ℕ → SinkSide → SinkSide → Type 0
-TellsDamaged status.Damaged dev at sink sink' = WrittenUnless sink (damaged_text dev at) sink'
-TellsDamaged status.NoMemory dev at sink sink' = sink'.written ≡ sink.written
-TellsDamaged s dev at sink sink' = ⊥
-
--- the opening ended for this: devices that aren't sound are told, and one that failed
-abbrev pub TellsUnopened : Refusal → Status → SinkSide → SinkSide → Type 0
-TellsUnopened R.Failed s sink sink' = (s ≡ status.Device) × WrittenUnless sink device_text sink'
-TellsUnopened (R.Damaged dev at) s sink sink' = TellsDamaged s dev at sink sink'
-TellsUnopened n s sink sink' = (s ≡ status.NoMemory) × (sink'.written ≡ sink.written)

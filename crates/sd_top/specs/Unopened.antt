@@ -4,7 +4,7 @@ use Rattle.sd_forms.specs.declared.line.Line.{Line}
 use Rattle.sd_script.specs.Order.{insts_of, pages_of}
 use Rattle.sd_world.specs.Serving.{Telling}
 use Rattle.sd_fits.specs.Opened.{opening_core}
-use Rattle.sd_hall.specs.Bodies.{IsRigIn}
+use Rattle.sd_serve.specs.Bodies.{IsRigIn}
 use Rattle.sd_hall.specs.Keeping.{Keeps}
 use Rattle.sd_drive.specs.declared.driver.Driver.{Driver}
 use Rattle.sd_pull.specs.Driving.{IsTold, World}

@@ -10,20 +10,18 @@
 //! other words touch nothing (`usage`, `untouched`).
 //! Refuses: bad lines with `BadLine`, other words with `Usage`, devices that aren't sound with `Damaged`; faults and want of memory
 //! have their own status.
-//! Knows nothing of: how words are read, how a line is driven, how an event is served, which files or streams there are.
-//! Stands on: sd_base, sd_model, sd_rig, sd_chain, sd_recovered, sd_world, sd_state, sd_fits, sd_restart, sd_forms, sd_script,
-//! sd_report, sd_hall, sd_pull, sd_drive, sd_command.
+//! Knows nothing of: how words are read, how a line is driven, how an event is served, how a text is written, which files or streams
+//! there are.
+//! Stands on: sd_base, sd_model, sd_rig, sd_chain, sd_recovered, sd_world, sd_state, sd_fits, sd_restart, sd_serve, sd_forms,
+//! sd_script, sd_report, sd_hall, sd_pull, sd_drive, sd_command, sd_status.
 //!
 //! To change:
 //! - free: bodies, proofs
 //! - dear: the clauses of `top`, `Outcome`
-//! - frozen: the statuses' numbers
+//! - frozen: nothing
 #![tactic(auto)]
 
-mod input;
-mod output;
 mod replaying;
-mod status;
 
-pub use replaying::{Done, report_unopened, top};
-pub use status::Status;
+pub use replaying::{Done, top};
+pub use sd_status::{Status, report_unopened};

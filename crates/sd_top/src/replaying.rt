@@ -6,29 +6,25 @@ ghost use Rattle.sd_forms.specs.declared.line.Line.{Line};
 ghost use Rattle.sd_script.specs.Reading.{IsScript};
 ghost use Rattle.sd_world.specs.Serving.{telling};
 ghost use Rattle.sd_chain.specs.Checks.{DevicesAreSound};
-ghost use Rattle.sd_report.specs.Report.{report, AreAbove, AreFrom};
 ghost use Rattle.sd_pull.specs.Driving.{World};
 ghost use Rattle.sd_drive.specs.Reaching.{AreDriven};
 ghost use Rattle.sd_command.specs.Words.{IsCommand};
 ghost use Rattle.sd_top.specs.Unopened.{IsEnded, IsOpened, IsUnopened};
 ghost use Rattle.sd_script.specs.Order.{insts_of, pages_of};
-ghost use Rattle.sd_top.specs.declared.status.Status.TheVariants as status;
-ghost use Rattle.sd_top.specs.Input.{Taken};
+ghost use Rattle.sd_status.specs.declared.status.Status.TheVariants as status;
+ghost use Rattle.sd_status.specs.Input.{Taken};
 ghost use Rattle.sd_top.specs.Opening.{frames_of};
-ghost use Rattle.sd_top.specs.Outcome.{Answers, Outcome, Delivers, TellsBad, TellsDamaged, TellsUnopened};
+ghost use Rattle.sd_top.specs.Outcome.{Answers, Outcome};
 
-use crate::input::{InputError, read_all};
-use crate::output::write_all;
-use crate::status::Status;
-use sd_base::{Gate, LineError, Memory, Refusal, Sink, Source};
+use sd_base::{Gate, Memory, Refusal, Sink, Source};
 use sd_command::is_command;
 use sd_drive::Driver;
 use sd_hall::Hall;
 use sd_model::Book;
-use sd_report::{bad_line, damaged_line, render_book};
 use sd_rig::Rig;
 use sd_script::{Form, Kind, Line, Script};
 use sd_state::Shape;
+use sd_status::{InputError, Status, read_all, report_bad_line, report_book, report_unopened};
 use std::alloc::Global;
 
 /// What `top` answers: its status, the rig, and the book, which is there where a script was read and the complex was
@@ -141,20 +137,6 @@ fn replay_text<K: Sink, G: Rig>(alloc: Global, text: &[u8], sink: &mut K, rig: G
     }
 }
 
-// Writes which line is bad, and what is wrong with it. A sink that fails doesn't change the status.
-fn report_bad_line<K: Sink>(alloc: Global, line: u32, cause: LineError, sink: &mut K) -> Status
-    ensures { TellsBad result line cause (record { written = K.written sink.old; faults = K.faults sink.old })
-        (record { written = K.written sink.new; faults = K.faults sink.new }) }
-{
-    match bad_line(alloc, line, cause) {
-        Err(Memory) => Status::NoMemory,
-        Ok(text) => {
-            let _ = write_all(sink, &text);
-            Status::BadLine
-        }
-    }
-}
-
 fn replay_lines<K: Sink, G: Rig>(alloc: Global, lines: &[Line], sink: &mut K, rig: G) -> Done<G>
     requires script { (text : List ℕ) × IsScript text lines.now }
     ensures { (text : List ℕ) → IsScript text lines.now → Answers (telling G.seen G.leaves G.moment G.since G.faults) result.status text
@@ -197,36 +179,6 @@ fn run<K: Sink, G: Rig>(
     }
 }
 
-/// Writes why the complex wasn't opened: that a device failed, or where the devices aren't sound. A sink that fails doesn't change
-/// the status.
-pub fn report_unopened<K: Sink>(alloc: Global, refusal: &Refusal, sink: &mut K) -> Status
-    ensures { TellsUnopened refusal.now result (record { written = K.written sink.old; faults = K.faults sink.old })
-        (record { written = K.written sink.new; faults = K.faults sink.new }) }
-{
-    match refusal {
-        Refusal::Failed => {
-            let _ = write_all(sink, b"device\n");
-            Status::Device
-        }
-        Refusal::Damaged { dev, at } => report_damaged(alloc, *dev, *at, sink),
-        _ => Status::NoMemory,
-    }
-}
-
-// Writes where the devices fail first.
-fn report_damaged<K: Sink>(alloc: Global, dev: u8, at: u64, sink: &mut K) -> Status
-    ensures { TellsDamaged result dev at (record { written = K.written sink.old; faults = K.faults sink.old })
-        (record { written = K.written sink.new; faults = K.faults sink.new }) }
-{
-    match damaged_line(alloc, dev, at) {
-        Err(Memory) => Status::NoMemory,
-        Ok(text) => {
-            let _ = write_all(sink, &text);
-            Status::Damaged
-        }
-    }
-}
-
 fn run_lines<K: Sink, G: Rig>(
     alloc: Global,
     lines: &[Line],
@@ -246,7 +198,7 @@ fn run_lines<K: Sink, G: Rig>(
     sd_model::laws::serial_order();
     let Ended { done, book, rig } = do_lines(lines, driver);
     let status = match done {
-        Ok(()) => report(alloc, lines, &book, sink),
+        Ok(()) => report_book(alloc, lines, &book, sink),
         Err(Memory) => Status::NoMemory,
     };
     Done {
@@ -273,22 +225,6 @@ fn do_lines<G: Rig>(lines: &[Line], mut driver: Driver<G>) -> Ended<G>
     let done = driver.replay(lines);
     let (book, rig) = driver.close();
     Ended { done, book, rig }
-}
-
-fn report<K: Sink>(alloc: Global, lines: &[Line], book: &Book, sink: &mut K) -> Status
-    requires lines { AreAbove 0 lines.now }
-    requires entries { AreFrom 0 book.now.entries }
-    ensures { Delivers result (record { written = K.written sink.old; faults = K.faults sink.old })
-        (report lines.now book.now.entries)
-        (record { written = K.written sink.new; faults = K.faults sink.new }) }
-{
-    match render_book(alloc, lines, book) {
-        Err(Memory) => Status::NoMemory,
-        Ok(text) => match write_all(sink, &text) {
-            Ok(()) => Status::Done,
-            Err(_) => Status::WriteFault,
-        },
-    }
 }
 
 // What the first line gives.

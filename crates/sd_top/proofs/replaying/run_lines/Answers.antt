@@ -2,8 +2,8 @@ use Rattle.std.proofs.Common.{refl, ap, subst}
 use Rattle.std.specs.Prelude.{OnOk, Some}
 use Rattle.sd_world.specs.Serving.{Telling, telling}
 use Rattle.sd_pull.specs.Driving.{IsTold}
-use Rattle.sd_top.specs.declared.status.Status.TheVariants as status
-use Rattle.sd_top.specs.Sides.{SinkSide}
+use Rattle.sd_status.specs.declared.status.Status.TheVariants as status
+use Rattle.sd_status.specs.Sides.{SinkSide}
 use Rattle.sd_top.proofs.Answered.{answers_partial, answers_same, answers_told}
 use Rattle.sd_top.proofs.Rising.{entries-rise}
 use Rattle.sd_report.proofs.Scripts.{script_above}
@@ -15,11 +15,11 @@ pub do_lines-done-requires-clause-driven : goal.do_lines-done-requires-clause-dr
 do_lines-done-requires-clause-driven g c = script_driven c.requires.script.0 c.args.lines.now c.args.driver.insts c.args.driver.pages
     c.requires.script.1 c.requires.insts c.requires.pages
 
-pub report-status-requires-clause-lines : goal.report-status-requires-clause-lines
-report-status-requires-clause-lines g c = script_above c.requires.script.0 c.args.lines.now c.requires.script.1
+pub report_book-status-requires-clause-lines : goal.report_book-status-requires-clause-lines
+report_book-status-requires-clause-lines g c = script_above c.requires.script.0 c.args.lines.now c.requires.script.1
 
-pub report-status-requires-clause-entries : goal.report-status-requires-clause-entries
-report-status-requires-clause-entries g c =
+pub report_book-status-requires-clause-entries : goal.report_book-status-requires-clause-entries
+report_book-status-requires-clause-entries g c =
     let lines = c.args.lines.now in
     let (rig, w, o) = c.requires.opened in
     let e = c.do_lines-done.ensures rig w o in
@@ -36,10 +36,10 @@ returns g c = λ text rig w script o.
     let serial = c.serial_order.ensures in
     elim c.match-done.branch [
       | in-Ok v ↦
-          let after : SinkSide = record { written = g.K.Sink.written v.report-status.new.sink; faults = g.K.Sink.faults v.report-status.new.sink } in
-          let answered = answers_told serial.serial tell rig ended.rig v.report-status.result text lines ended.book e.last sink after
-          script e.led (subst (λ r. OnOk r (IsTold e.last.core.scene.state e.last.told)) v.in-Ok.is e.told) v.report-status.ensures in
-          answers_same tell text (record { sink = sink; rig = rig }) v.report-status.result c.match-done.status after
+          let after : SinkSide = record { written = g.K.Sink.written v.report_book-status.new.sink; faults = g.K.Sink.faults v.report_book-status.new.sink } in
+          let answered = answers_told serial.serial tell rig ended.rig v.report_book-status.result text lines ended.book e.last sink after
+          script e.led (subst (λ r. OnOk r (IsTold e.last.core.scene.state e.last.told)) v.in-Ok.is e.told) v.report_book-status.ensures in
+          answers_same tell text (record { sink = sink; rig = rig }) v.report_book-status.result c.match-done.status after
           (record { written = g.K.Sink.written c.match-done.sink; faults = g.K.Sink.faults c.match-done.sink }) ended.rig ended.rig
           (Some ended.book) (Some ended.book) v.status-is
           (ap (λ k. record { written = g.K.Sink.written k; faults = g.K.Sink.faults k }) v.sink-is) refl refl answered

@@ -1,5 +1,6 @@
 use Rattle.sd_world.specs.Serving.{Telling, telling}
-use Rattle.sd_top.specs.Sides.{Ends, SourceSide}
+use Rattle.sd_status.specs.Sides.{SourceSide}
+use Rattle.sd_top.specs.Outcome.{Ends}
 use Rattle.sd_top.proofs.Answered.{completes, damages, tells_unsound}
 use Rattle.sd_top.proofs.replaying.top.Goals as goal
 

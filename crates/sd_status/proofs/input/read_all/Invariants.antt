@@ -1,6 +1,6 @@
 use Rattle.std.proofs.Common.{◌≤◌, ◌-◌, vec_len}
-use Rattle.sd_top.specs.Input.{Taken}
-use Rattle.sd_top.proofs.input.read_all.Given as goal
+use Rattle.sd_status.specs.Input.{Taken}
+use Rattle.sd_status.proofs.input.read_all.Given as goal
 
 -- what was taken so far, and that no more is taken than may be
 abbrev pub invariant-loop-piece : goal.invariant-loop-piece

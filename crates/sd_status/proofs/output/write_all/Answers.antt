@@ -1,8 +1,8 @@
 use Rattle.std.proofs.Common.{ℕ, ◌≡◌, ◌-◌, ◌≤◌, List, length, take, drop, ◌++◌, arith, ap, ◌∙◌, sym, subst, length-drop, take-add}
 use Rattle.std.proofs.lemmas.List.{take_all}
 use Rattle.sd_base.specs.Streams.{Appends}
-use Rattle.sd_top.proofs.Puts.{appends_more}
-use Rattle.sd_top.proofs.output.write_all.Goals as goal
+use Rattle.sd_status.proofs.Puts.{appends_more}
+use Rattle.sd_status.proofs.output.write_all.Goals as goal
 
 pub loop-done-preserved : goal.loop-done-preserved
 loop-done-preserved g c =

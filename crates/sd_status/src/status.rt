@@ -1,7 +1,7 @@
 //! How a call of `top` ends.
 
 ghost use Rattle.std.specs.Prelude.{◌≡◌};
-ghost use Rattle.sd_top.specs.ExitNumber.{exit_number};
+ghost use Rattle.sd_status.specs.ExitNumber.{exit_number};
 
 /// How a call of `top` ended. The program's exit status is its number.
 #[derive(Clone, Copy, Debug, PartialEq, Eq)]

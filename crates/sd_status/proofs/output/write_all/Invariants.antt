@@ -1,6 +1,6 @@
 use Rattle.std.proofs.Common.{◌≤◌, ◌-◌, length, take}
 use Rattle.sd_base.specs.Streams.{Appends}
-use Rattle.sd_top.proofs.output.write_all.Given as goal
+use Rattle.sd_status.proofs.output.write_all.Given as goal
 
 abbrev pub invariant-loop-done : goal.invariant-loop-done
 invariant-loop-done g l =

@@ -1,5 +1,5 @@
--- What stands outside a call: the two streams, each as it is known from outside by what is left or written, where that is
--- told, and by how often it failed; and the devices.
+-- The two streams of a run, each as it is known from outside by what is left or written, where that is told, and by how often it
+-- failed.
 use Rattle.std.specs.Prelude.{ℕ, List, Option}
 
 -- a source: the bytes that are left, and how often it failed
@@ -11,8 +11,3 @@ pub record SourceSide : Type 0 where
 pub record SinkSide : Type 0 where
   pub written : Option (List ℕ)
   pub faults : ℕ
-
--- what a script that was read may change: the sink, and the devices
-pub record Ends (G : Type 0) : Type 0 where
-  pub sink : SinkSide
-  pub rig : G

@@ -2,8 +2,8 @@
 
 ghost use Rattle.std.specs.Prelude.{◌≡◌, ℕ, ◌<◌, ◌≤◌, List, length, vec_len, IfOk};
 ghost use Rattle.sd_base.specs.Streams.{Rises};
-ghost use Rattle.sd_top.specs.Input.{Taken, IsAtEnd};
-ghost use Rattle.sd_top.specs.declared.input.InputError.TheVariants.{Memory};
+ghost use Rattle.sd_status.specs.Input.{Taken, IsAtEnd};
+ghost use Rattle.sd_status.specs.declared.input.InputError.TheVariants.{Memory};
 
 use sd_base::Source;
 use std::alloc::{AllocError, Global};
@@ -31,6 +31,9 @@ impl From<AllocError> for InputError {
 
 /// The bytes of the source up to its end, or its next `MOST_BYTES`, where it has as many.
 /// Each turn takes a byte, ends the input, or is a fault.
+///
+/// `Fault` comes only where the source's count of faults rose, and `Memory` where there was none for the bytes; those that were
+/// taken until then are gone from the source.
 pub fn read_all<S: Source>(alloc: Global, source: &mut S) -> Result<Vec<u8>, InputError>
     ensures taken { IfOk result (λ text. Taken (S.left source.old) text.items (S.left source.new)) }
     ensures whole { IfOk result (λ text. vec_len text < MOST_BYTES → IsAtEnd (S.left source.new)) }

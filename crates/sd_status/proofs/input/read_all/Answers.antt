@@ -1,7 +1,7 @@
 use Rattle.std.proofs.Common.{ℕ, ◌≤◌, length, take, ◌++◌, arith}
 use Rattle.std.proofs.lemmas.List.{length-take}
-use Rattle.sd_top.proofs.Takes.{taken_more, length_more}
-use Rattle.sd_top.proofs.input.read_all.Goals as goal
+use Rattle.sd_status.proofs.Takes.{taken_more, length_more}
+use Rattle.sd_status.proofs.input.read_all.Goals as goal
 
 -- the piece for which there was no memory is gone too
 pub returns-in_err-extend_from_slice-clause-bounded :

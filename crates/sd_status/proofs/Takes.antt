@@ -3,7 +3,7 @@ use Rattle.std.proofs.Common.{◌≡◌, ℕ, ◌+◌, ◌≤◌, List, ◌++◌
 use Rattle.std.specs.Prelude.{Option, None, Some}
 use Rattle.std.proofs.lemmas.List.{length-take-le}
 use Rattle.sd_base.specs.Streams.{Gives}
-use Rattle.sd_top.specs.Input.{Taken}
+use Rattle.sd_status.specs.Input.{Taken}
 
 -- a piece more
 pub taken_more : (first middle last : Option (List ℕ)) (text out : List ℕ) (n : ℕ) → Taken first text middle → Gives middle n out last → Taken first (text ++ take n out) last

@@ -2,7 +2,7 @@
 
 ghost use Rattle.std.specs.Prelude.{◌≤◌, OnOk, OnErr};
 ghost use Rattle.sd_base.specs.Streams.{Rises, Appends};
-ghost use Rattle.sd_top.specs.Output.{AppendsFront};
+ghost use Rattle.sd_status.specs.Output.{AppendsFront};
 
 use sd_base::{Failed, Sink};
 

@@ -1,7 +1,7 @@
 -- The number with which the program ends.
 use Rattle.std.specs.Prelude.{ℕ}
-use Rattle.sd_top.specs.declared.status.Status.{Status}
-use Rattle.sd_top.specs.declared.status.Status.TheVariants as status
+use Rattle.sd_status.specs.declared.status.Status.{Status}
+use Rattle.sd_status.specs.declared.status.Status.TheVariants as status
 
 abbrev pub exit_number : Status → ℕ
 exit_number status.Done = 0
