@@ -1,5 +1,5 @@
 -- Records that nobody else changed since, told by each log and by the greatest LSN of others. It serves the goals of undone.
-use Rattle.std.proofs.Common.{◌≡◌, ◌≢◌, ◌⊎◌, inl, inr, ⊎_elim, ◌<◌, ◌≤◌, ℕ, zero, suc, Bool, true, false, cond, eqb, not, ◌&&◌, max, List, [], ◌∷◌, ◌++◌, slice_get, refl, sym, ap, subst, ◌∙◌, arith, eq-eqb}
+use Rattle.std.proofs.Common.{◌≡◌, ◌≢◌, ◌⊎◌, inl, inr, ⊎_elim, ◌<◌, ℕ, zero, suc, Bool, true, false, cond, eqb, not, ◌&&◌, List, [], ◌∷◌, slice_get, refl, sym, ap, subst, ◌∙◌, arith, eq-eqb}
 use Rattle.std.specs.Prelude.{filter}
 use Rattle.std.specs.Option.{option_map_or}
 use Rattle.std.proofs.lemmas.Bool.{cases_Bool}
@@ -12,9 +12,8 @@ use Rattle.sd_chain.specs.Records.{Each, at, changes, home, of_rid}
 use Rattle.sd_chain.specs.Storage.{Alone, Storage, opens}
 use Rattle.sd_undone.specs.Others.{all_in, last_of_others, other_lsn}
 use Rattle.sd_undone.proofs.Lasts.{last-append}
-use Rattle.sd_chain.proofs.Lists.{filter-cons, filter-skip, Each-weaker}
+use Rattle.sd_chain.proofs.Lists.{filter-skip, Each-weaker}
 use Rattle.sd_chain.proofs.Newest.{at_is, at_from}
-use Rattle.sd_base.proofs.Orders.{same-txn-is}
 use Rattle.sd_base.proofs.SameIds.{ne-same, eq-same}
 use Rattle.sd_chain.proofs.Opens.{Each-stack}
 

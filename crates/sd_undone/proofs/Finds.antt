@@ -1,5 +1,5 @@
 -- Values that are undone: by place, and in tables that agree below page 1,024. It serves the goals of undone.
-use Rattle.std.proofs.Common.{◌≡◌, ◌≢◌, ◌⊎◌, inl, inr, ⊎_elim, ℕ, ◌<◌, Bool, true, false, cond, eqb, ◌&&◌, List, [], ◌∷◌, ◌++◌, refl, sym, ap, subst, ◌∙◌, eq-eqb, eqb-true}
+use Rattle.std.proofs.Common.{◌≡◌, ◌≢◌, inl, inr, ⊎_elim, ℕ, ◌<◌, cond, List, [], ◌∷◌, refl, sym, ap, subst, ◌∙◌}
 use Rattle.std.specs.Prelude.{filter}
 use Rattle.std.proofs.lemmas.Bool.{cases_Bool}
 use Rattle.sd_logrec.specs.View.{Rec}
@@ -7,11 +7,9 @@ use Rattle.sd_base.specs.declared.ids.TxnId.{TxnId}
 use Rattle.sd_chain.specs.Records.{Val, at, Each}
 use Rattle.sd_chain.specs.Undoing.{undo_one, undo_all, EachFound, stacks_of, Member}
 use Rattle.sd_chain.specs.Storage.{Linked, Storage, opens}
-use Rattle.sd_undone.proofs.Keys.{both}
 use Rattle.sd_undone.proofs.Steps.{found-front, found-back}
 use Rattle.sd_chain.proofs.Lists.{filter-cons, filter-skip}
-use Rattle.sd_chain.proofs.Newest.{at_is}
-use Rattle.sd_chain.proofs.Recover.{undo_one_at, undo_one_off, found_linked}
+use Rattle.sd_chain.proofs.Recover.{undo_one_off, found_linked}
 use Rattle.sd_base.proofs.SameIds.{cases_txn}
 
 -- a value at whose place nothing is undone

@@ -1,5 +1,5 @@
 -- The loser at which taking back stops is the first open transaction whose stack isn't as it was left. It serves the goals of undone.
-use Rattle.std.proofs.Common.{◌≡◌, ◌≢◌, ◌⊎◌, inl, inr, ⊎_elim, ◌+◌, ◌-◌, ◌<◌, ◌≤◌, ℕ, suc, List, [], ◌∷◌, ◌++◌, Some, append_assoc, length, reverse, slice_get, take, drop, refl, sym, ap, ap₂, subst, ◌∙◌, arith}
+use Rattle.std.proofs.Common.{◌≡◌, ◌≢◌, ◌⊎◌, inl, inr, ⊎_elim, ◌+◌, ◌-◌, ◌<◌, ℕ, suc, List, [], ◌∷◌, ◌++◌, append_assoc, reverse, slice_get, take, drop, refl, sym, ap, ap₂, subst, ◌∙◌, arith}
 use Rattle.std.specs.Prelude.{All, filter}
 use Rattle.std.proofs.lemmas.Bool.{cases_Bool}
 use Rattle.sd_base.specs.declared.ids.TxnId.{TxnId}
@@ -10,14 +10,14 @@ use Rattle.sd_logrec.specs.View.Kind.{Update}
 use Rattle.sd_log.specs.Logs.{AreSpelled, LogState, flats, scanned}
 use Rattle.sd_chain.specs.Records.{Each, Val, at, home, stack}
 use Rattle.sd_chain.specs.Storage.{Alone, HasPlace, Linked, Open, StackFits, Storage, now, opens}
-use Rattle.sd_chain.specs.Undoing.{EachFound, Member, stacks_of, undo_all}
+use Rattle.sd_chain.specs.Undoing.{Member, stacks_of, undo_all}
 use Rattle.sd_chain.proofs.Recover.{linked_found}
 use Rattle.sd_analysis.specs.declared.losers.Loser.{Loser}
 use Rattle.sd_analysis.specs.Losers.{IsLoser}
 use Rattle.sd_undone.specs.Others.{by_others}
 use Rattle.sd_undone.specs.Reading.{AreLosersOf, NewestAreRead, txns_of}
 use Rattle.sd_undone.specs.Stops.{FirstMisfit, StandsLowest, StopsAt, front_of}
-use Rattle.sd_undone.specs.Taking.{MayTake, open_in, picked, stacks_in}
+use Rattle.sd_undone.specs.Taking.{MayTake, picked}
 use Rattle.sd_undone.specs.Values.{slots_in, values_in}
 use Rattle.sd_undone.proofs.Alones.{first-at, nil_or, not-both}
 use Rattle.sd_undone.proofs.Finds.{undo-off}

@@ -1,5 +1,5 @@
 -- The losers in front of one, as transactions of the image. It serves the goals of undone.
-use Rattle.std.proofs.Common.{◌≡◌, ◌⊎◌, inl, inr, ◌+◌, ◌-◌, ◌<◌, ◌≤◌, ℕ, zero, suc, List, [], ◌∷◌, ◌++◌, Option, Some, append_assoc, map, slice_get, take, drop, refl, sym, ap, subst, ◌∙◌, arith}
+use Rattle.std.proofs.Common.{◌≡◌, ◌⊎◌, inl, inr, ◌+◌, ◌<◌, ℕ, zero, suc, List, [], ◌∷◌, ◌++◌, Some, append_assoc, slice_get, take, drop, refl, sym, ap, subst, ◌∙◌, arith}
 use Rattle.sd_base.specs.declared.ids.TxnId.{TxnId}
 use Rattle.sd_base.specs.Ids.{IsBelow}
 use Rattle.sd_logrec.specs.View.{Rec}
@@ -9,7 +9,7 @@ use Rattle.sd_chain.specs.Storage.{Storage}
 use Rattle.sd_chain.specs.Undoing.{stacks_of}
 use Rattle.sd_analysis.specs.declared.losers.Loser.{Loser}
 use Rattle.sd_undone.specs.Reading.{AreLosersFrom, IsLosersOf, txns_of}
-use Rattle.sd_undone.specs.Taking.{open_in, stacks_in}
+use Rattle.sd_undone.specs.Taking.{open_in}
 use Rattle.sd_undone.proofs.Opened.{Follows, Rises, ids, stacks-of}
 use Rattle.sd_undone.proofs.Stacks.{stacks-append}
 

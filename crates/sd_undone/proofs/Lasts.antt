@@ -1,11 +1,11 @@
 -- What a map tells of the last changes of others, record by record. It serves last_changes.rt.
-use Rattle.std.proofs.Common.{◌≡◌, ◌<◌, ◌≤◌, ℕ, Bool, true, false, cond, eqb, not, ◌&&◌, max, List, [], ◌∷◌, ◌++◌, Option, Some, refl, sym, ap, subst, ◌∙◌, arith}
+use Rattle.std.proofs.Common.{◌≡◌, ◌<◌, ◌≤◌, ℕ, Bool, true, false, cond, eqb, not, ◌&&◌, max, List, [], ◌∷◌, ◌++◌, Option, Some, refl, sym, ap, ◌∙◌, arith}
 use Rattle.std.specs.Map.{lookup}
 use Rattle.std.specs.Ordering.{is_eq}
 use Rattle.sd_base.specs.declared.ids.Rid.{Rid}
 use Rattle.sd_base.specs.declared.ids.TxnId.{TxnId}
 use Rattle.sd_base.specs.contracts.ids.RidOrd.TheImpl.{cmp-value}
-use Rattle.sd_base.specs.Ids.{same_rid, same_txn}
+use Rattle.sd_base.specs.Ids.{same_txn}
 use Rattle.sd_logrec.specs.View.{Rec, flat}
 use Rattle.sd_log.specs.declared.placed.Placed.{Placed}
 use Rattle.sd_log.specs.Logs.{LogState, flats, scanned}

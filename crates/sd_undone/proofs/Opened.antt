@@ -1,5 +1,5 @@
 -- The losers of all logs are the open transactions of the image, and what they have open its stacks. It serves the goals of undone.
-use Rattle.std.proofs.Common.{◌≡◌, ◌≢◌, ◌⊎◌, inl, inr, ⊎_elim, ◌+◌, ◌<◌, ◌≤◌, ℕ, zero, suc, true, false, List, [], ◌∷◌, ◌++◌, Option, Some, None, length, map, reverse, slice_get, refl, sym, ap, subst, ◌∙◌, arith}
+use Rattle.std.proofs.Common.{◌≡◌, ◌≢◌, ◌⊎◌, inl, inr, ⊎_elim, ◌+◌, ◌<◌, ◌≤◌, ℕ, zero, suc, List, [], ◌∷◌, ◌++◌, Option, Some, length, map, reverse, refl, sym, ap, subst, ◌∙◌, arith}
 use Rattle.std.specs.Prelude.{All}
 use Rattle.std.specs.List.{cons_option, filter_map, list_any}
 use Rattle.std.specs.Option.{option_map_or}
@@ -22,7 +22,7 @@ use Rattle.sd_chain.specs.Laws.{AreOpen}
 use Rattle.sd_chain.specs.Undoing.{Apart, Member, stacks_of}
 use Rattle.sd_analysis.specs.declared.losers.Loser.{Loser}
 use Rattle.sd_analysis.specs.Losers.{AreAt, AreLosers, IsLoser, Rise, record_at}
-use Rattle.sd_undone.specs.Reading.{AreLosersFrom, AreLosersOf, IsLosersOf, NewestAreRead, txns_of}
+use Rattle.sd_undone.specs.Reading.{AreLosersFrom, AreLosersOf, txns_of}
 use Rattle.sd_undone.specs.Taking.{open_in, picked, stacks_in}
 use Rattle.sd_undone.proofs.Alones.{log_at}
 use Rattle.sd_undone.proofs.Stacks.{member-back, member-front, stacks-append}

@@ -1,10 +1,10 @@
 -- A slot's value and capacity, told by clauses and by look-ups, and after a write. It serves put_back and take_back.
-use Rattle.std.proofs.Common.{◌≡◌, ◌≢◌, ◌<◌, ◌≤◌, ℕ, zero, suc, List, [], ◌∷◌, length, refl, ap, subst, arith}
-use Rattle.std.specs.Prelude.{None, Some, Result, Ok, OnOk, unwrap_or}
+use Rattle.std.proofs.Common.{◌≡◌, ◌<◌, ◌≤◌, ℕ, zero, suc, List, [], ◌∷◌, length, refl, ap, arith}
+use Rattle.std.specs.Prelude.{unwrap_or}
 use Rattle.sd_base.specs.Values.{size}
-use Rattle.sd_page.specs.Page.{CanTake, Slot, capacity_at, capacity_for, value_at, written}
+use Rattle.sd_page.specs.Page.{CanTake, Slot, capacity_for, written}
 use Rattle.sd_chain.specs.Records.{Val}
-use Rattle.sd_chain.specs.Pages.{value, capacity, write}
+use Rattle.sd_chain.specs.Pages.{capacity, write}
 use Rattle.sd_undone.specs.Values.{SameSlots}
 use Rattle.sd_chain.proofs.Slots.{capacity-at}
 

@@ -1,19 +1,15 @@
 -- What holds of a transaction's stack, and of the stacks of several. It serves the goals of undone.
-use Rattle.std.proofs.Common.{◌≡◌, ◌≢◌, ⊎_elim, ℕ, Bool, true, false, cond, ◌&&◌, ◌||◌, List, [], ◌∷◌, ◌++◌, inl, inr, append_assoc, refl, sym, ap, subst, ◌∙◌}
+use Rattle.std.proofs.Common.{◌≡◌, Bool, true, false, cond, ◌&&◌, ◌||◌, List, [], ◌∷◌, ◌++◌, inl, inr, append_assoc, refl, sym, ap, ◌∙◌}
 use Rattle.std.specs.List.{list_any}
-use Rattle.std.proofs.lemmas.Bool.{cases_Bool}
 use Rattle.sd_base.specs.declared.ids.TxnId.{TxnId}
 use Rattle.sd_base.specs.Ids.{same_txn}
 use Rattle.sd_logrec.specs.View.{Rec, Kind}
 use Rattle.sd_logrec.specs.View.Kind.{Update, Clr, Commit, End, Plain}
-use Rattle.sd_chain.specs.Records.{Each, moved, rest, stack, stack_from, step}
+use Rattle.sd_chain.specs.Records.{Each, moved, stack_from, step}
 use Rattle.sd_chain.specs.Order.{of_txn, speaks}
 use Rattle.sd_chain.specs.Storage.{Storage, opens}
 use Rattle.sd_chain.specs.Undoing.{Member, stacks_of}
-use Rattle.sd_chain.proofs.Stacks.{step-other, step-own}
 use Rattle.sd_chain.proofs.Lists.{Each-append, Each-front, Each-back}
-use Rattle.sd_chain.proofs.Opens.{Each-rest, Each-moved, Each-stack_from}
-use Rattle.sd_base.proofs.SameIds.{cases_txn, ne-same, eq-same}
 
 -- a transaction without a record has nothing open
 plain-kept : (k : Kind) (x : Rec) (stk : List Rec) → speaks k ≡ false → moved k x stk ≡ stk

@@ -1,13 +1,12 @@
 -- Records taken back one after another, and a list of them after another. It serves taking_back.rt.
-use Rattle.std.proofs.Common.{◌≡◌, ◌≢◌, ⊎_elim, ◌<◌, ◌≤◌, ℕ, zero, suc, Bool, true, false, cond, eqb, ◌&&◌, List, [], ◌∷◌, ◌++◌, Option, Some, length, slice_get, slice_set, refl, sym, ap, subst, ◌∙◌, arith, eq-eqb, ne_eqb}
+use Rattle.std.proofs.Common.{◌≡◌, ◌≢◌, ⊎_elim, ◌<◌, ℕ, zero, suc, Bool, true, false, cond, eqb, ◌&&◌, List, [], ◌∷◌, ◌++◌, Some, length, slice_get, slice_set, refl, sym, ap, subst, ◌∙◌, arith, eq-eqb, ne_eqb}
 use Rattle.std.proofs.lemmas.Bool.{cases_eq}
 use Rattle.sd_base.specs.declared.ids.TxnId.{TxnId}
-use Rattle.sd_base.specs.Values.{size}
 use Rattle.sd_page.specs.Page.{Page, Slot}
 use Rattle.sd_logrec.specs.View.{Rec}
 use Rattle.sd_logrec.specs.View.Kind.{Update}
-use Rattle.sd_chain.specs.Records.{Val, Each, at}
-use Rattle.sd_chain.specs.Pages.{value, capacity, write}
+use Rattle.sd_chain.specs.Records.{Val}
+use Rattle.sd_chain.specs.Pages.{value, write}
 use Rattle.sd_chain.specs.Storage.{HasPlace}
 use Rattle.sd_chain.specs.Undoing.{EachFound, undo_all, undo_one}
 use Rattle.sd_undone.specs.Values.{SameShape, SameSlots, slots_in, values_in}

@@ -8,7 +8,7 @@ use Rattle.sd_logrec.specs.View.{Rec}
 use Rattle.sd_log.specs.declared.placed.Placed.{Placed}
 use Rattle.sd_log.specs.Logs.{LogState, scanned}
 use Rattle.sd_analysis.specs.declared.losers.Loser.{Loser}
-use Rattle.sd_undone.specs.Stops.{StopsAt, StopsIn, front_of}
+use Rattle.sd_undone.specs.Stops.{StopsAt, StopsIn}
 use Rattle.sd_undone.specs.Taking.{MayTake, Taken, lowest_place, open_in, picked, stacks_in}
 use Rattle.sd_undone.proofs.Steps.{takes-append, takes-back}
 

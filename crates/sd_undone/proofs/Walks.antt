@@ -1,8 +1,10 @@
--- Stacks taken back index by index, loser by loser and log by log. It serves the loops of taking_back.rt.
+-- Stacks taken back index by index, loser by loser and log by log, or none at all. It serves the loops of taking_back.rt, and
+-- undo.
 use Rattle.std.proofs.Common.{◌≡◌, ◌+◌, ◌-◌, ◌<◌, ◌≤◌, ℕ, List, [], ◌∷◌, ◌++◌, length, get_or, take, drop, reverse, refl, sym, ap, subst, ◌∙◌, arith}
 use Rattle.std.proofs.lemmas.List.{append-nil, append_assoc, get_or-reverse, length-reverse, length-take-le, take-append-drop, take_more}
-use Rattle.std.proofs.lemmas.List.Elements.{filter_map-append}
+use Rattle.std.proofs.lemmas.List.Elements.{All-head, All-tail, filter_map-append}
 use Rattle.std.proofs.lemmas.Grind.{flat_map-append}
+use Rattle.std.specs.List.{All}
 use Rattle.std.proofs.Math.Seq.{take-length}
 use Rattle.sd_base.specs.declared.ids.TxnId.{TxnId}
 use Rattle.sd_page.specs.Page.{Page}
@@ -11,7 +13,7 @@ use Rattle.sd_log.specs.declared.placed.Placed.{Placed}
 use Rattle.sd_log.specs.Logs.{LogState, scanned}
 use Rattle.sd_analysis.specs.declared.losers.Loser.{Loser}
 use Rattle.sd_analysis.specs.Losers.{record_at}
-use Rattle.sd_undone.specs.Taking.{MayTake, Taken, open_in, picked, stacks_in}
+use Rattle.sd_undone.specs.Taking.{HaveNothingOpen, MayTake, Taken, open_in, picked, stacks_in}
 use Rattle.sd_undone.proofs.Steps.{taken-append, takes-append, takes-back, takes-front}
 
 -- one list more
@@ -96,3 +98,17 @@ open-parts logs losers j le same =
     ∙ ap (λ (l : List (List Loser)). open_in (take j logs ++ drop j logs) l) (sym (take-append-drop j losers))
     ∙ open-append (take j logs) (drop j logs) (take j losers) (drop j losers)
     (length-take-le j losers (omega (arith, le, same)) ∙ sym (length-take-le j logs le))
+
+-- where nothing is open
+stacks-none : (log : List Placed) (losers : List Loser) → HaveNothingOpen losers → stacks_in log losers ≡ []
+stacks-none log [] none = refl
+stacks-none log (l ∷ ls) none =
+    ap (λ (at : List ℕ). picked log (reverse at) ++ stacks_in log ls) (All-head (λ (x : Loser). x.open ≡ []) l ls none)
+    ∙ stacks-none log ls (All-tail (λ (x : Loser). x.open ≡ []) l ls none)
+
+pub open-none : (logs : List LogState) (losers : List (List Loser)) → All HaveNothingOpen losers → open_in logs losers ≡ []
+open-none [] losers none = refl
+open-none (log ∷ logs) [] none = refl
+open-none (log ∷ logs) (ls ∷ losers) none =
+    ap (λ (xs : List Rec). xs ++ open_in logs losers) (stacks-none (scanned log) ls (All-head HaveNothingOpen ls losers none))
+    ∙ open-none logs losers (All-tail HaveNothingOpen ls losers none)

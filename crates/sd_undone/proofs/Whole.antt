@@ -1,12 +1,12 @@
 -- What was taken back fits in the image, and what doesn't fit can't be taken back. It serves the goals of undone.
-use Rattle.std.proofs.Common.{◌≡◌, ◌≢◌, ◌⊎◌, inl, inr, ⊎_elim, ◌<◌, ℕ, List, [], ◌∷◌, refl, sym, ap, subst, ◌∙◌, arith}
+use Rattle.std.proofs.Common.{◌≡◌, ◌≢◌, ⊎_elim, ◌<◌, ℕ, List, [], sym, ap, subst, ◌∙◌, arith}
 use Rattle.std.specs.Prelude.{All, filter}
 use Rattle.sd_base.specs.declared.ids.TxnId.{TxnId}
 use Rattle.sd_page.specs.Page.{Page, Slot}
 use Rattle.sd_logrec.specs.View.{Rec}
 use Rattle.sd_logrec.specs.View.Kind.{Update}
 use Rattle.sd_log.specs.Logs.{AreSpelled, LogState, scanned}
-use Rattle.sd_chain.specs.Records.{Each, Val, at}
+use Rattle.sd_chain.specs.Records.{Each, at}
 use Rattle.sd_chain.specs.Pages.{value}
 use Rattle.sd_chain.specs.Storage.{Alone, HasPlace, Linked, Open, Sound, StackFits, Storage, newest, now, opens}
 use Rattle.sd_chain.specs.Laws.{UndoingFinds}

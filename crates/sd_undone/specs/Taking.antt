@@ -1,6 +1,6 @@
 -- Records that are taken back in pages, one after another.
 use Rattle.std.specs.Prelude.{◌≡◌, ℕ, ◌<◌, ◌≤◌, List, [], ◌∷◌, ◌++◌, length, option_and_then, reverse, slice_get}
-use Rattle.std.specs.List.{filter_map, flat_map}
+use Rattle.std.specs.List.{All, filter_map, flat_map}
 use Rattle.std.specs.Option.{option_map_or}
 use Rattle.sd_base.specs.declared.ids.TxnId.{TxnId}
 use Rattle.sd_base.specs.Values.{size}
@@ -53,3 +53,7 @@ abbrev pub open_in : List LogState → List (List Loser) → List Rec
 open_in [] losers = []
 open_in (log ∷ logs) [] = []
 open_in (log ∷ logs) (ls ∷ losers) = stacks_in (scanned log) ls ++ open_in logs losers
+
+-- none of these losers has anything open
+abbrev pub HaveNothingOpen : List Loser → Type 0
+HaveNothingOpen losers = All (λ l. l.open ≡ []) losers

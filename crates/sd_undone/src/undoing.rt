@@ -1,6 +1,6 @@
 //! The stacks of losers, taken back in the pages.
 
-ghost use Rattle.std.specs.Prelude.{◌≡◌, ℕ, ◌<◌, [], All, length, Err, IfOk, OnOk};
+ghost use Rattle.std.specs.Prelude.{◌≡◌, ◌↔◌, ℕ, ◌<◌, All, length, Err, IfOk, IsTrue, OnOk};
 ghost use Rattle.sd_base.specs.declared.ids.Rid.{Rid};
 ghost use Rattle.sd_base.specs.declared.ids.TxnId.{TxnId};
 ghost use Rattle.sd_model.specs.Tables.{contents};
@@ -10,14 +10,14 @@ ghost use Rattle.sd_chain.specs.Undoing.{stacks_of, undo_all};
 ghost use Rattle.sd_undone.specs.Reading.{AreLosersOf, NewestAreRead, txns_of};
 ghost use Rattle.sd_undone.specs.Others.{by_others};
 ghost use Rattle.sd_undone.specs.Stops.{FirstMisfit, StopsAt};
-ghost use Rattle.sd_undone.specs.Taking.{MayTake, open_in};
+ghost use Rattle.sd_undone.specs.Taking.{HaveNothingOpen, MayTake, open_in};
 ghost use Rattle.sd_undone.specs.Values.{values_in};
 ghost use Rattle.sd_undone.specs.declared.undoing.UndoError.TheVariants as F;
 
 use crate::last_changes::LastChanges;
 use crate::table::table_of;
 use crate::taking_back::take_back_all;
-use sd_analysis::Losers;
+use sd_analysis::{Loser, Losers};
 use sd_base::Memory;
 use sd_chain::laws;
 use sd_log::Log;
@@ -70,6 +70,7 @@ pub fn undone(
 
 /// Undo in the pages alone: the table that they hold once what these losers have open is taken back, whoever they are.
 /// `Misfit` comes exactly where a record may not be taken back, with the place of the first such stack behind those before it.
+/// The logs are gone over only where a loser has anything open.
 pub fn undo(
     alloc: Global,
     pages: Vec<Image>,
@@ -85,8 +86,25 @@ pub fn undo(
         → MayTake pages.items (by_others logs.now) (open_in logs.now losers.now) → ⊥ }
     ensures first { (inst place : ℕ) → result ≡ Err (F.Misfit inst place) → StopsAt pages.items (by_others logs.now) logs.now losers.now inst place }
 {
+    if is_nothing_open(losers) {
+        return Ok(table_of(alloc, &pages)?);
+    }
     let last = LastChanges::of(alloc, logs)?;
     let mut pages = pages;
     take_back_all(&mut pages, &last, logs, losers)?;
     Ok(table_of(alloc, &pages)?)
+}
+
+// Whether no loser of any log has anything open.
+fn is_nothing_open(losers: &[Losers]) -> bool
+    ensures { IsTrue result ↔ All HaveNothingOpen losers.now }
+{
+    losers.iter().all(|own| have_nothing_open(own.items()))
+}
+
+// Whether none of these losers has anything open.
+fn have_nothing_open(losers: &[Loser]) -> bool
+    ensures { IsTrue result ↔ HaveNothingOpen losers.now }
+{
+    losers.iter().all(|loser| loser.open.items().is_empty())
 }

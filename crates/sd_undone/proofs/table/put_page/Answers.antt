@@ -1,4 +1,4 @@
-use Rattle.std.proofs.Common.{◌≡◌, ◌+◌, ℕ, List, None, Some, Option, option_map, refl, length, subst, sym, ap, ◌∙◌, arith}
+use Rattle.std.proofs.Common.{◌≡◌, ◌+◌, ℕ, List, None, Some, Option, option_map, refl, subst, sym, ap, ◌∙◌, arith}
 use Rattle.sd_base.specs.declared.ids.Rid.{Rid}
 use Rattle.sd_model.specs.Tables.{contents}
 use Rattle.sd_undone.proofs.Rows.{upto, upto-more, upto-dead, upto-all}

@@ -1,11 +1,11 @@
-use Rattle.std.proofs.Common.{List, sym, subst, ap, ◌∙◌, arith}
+use Rattle.std.proofs.Common.{sym, subst, ap, ◌∙◌, arith}
 use Rattle.sd_base.specs.Values.{size}
-use Rattle.sd_page.specs.Page.{CanTake, Page, Slot}
+use Rattle.sd_page.specs.Page.{CanTake, Page}
 use Rattle.sd_chain.specs.Records.{Val}
 use Rattle.sd_chain.specs.Pages.{write}
 use Rattle.sd_undone.proofs.Slots.{takes, write-written}
 use Rattle.sd_undone.proofs.taking_back.put_back.Goals as goal
-use Rattle.sd_chain.proofs.Slots.{has-slot, lacks-slot, value-at}
+use Rattle.sd_chain.proofs.Slots.{has-slot, value-at}
 use Rattle.sd_base.proofs.Results.{when_ok}
 
 pub returns-then-value_len-capacity-clause-misfit : goal.returns-then-value_len-capacity-clause-misfit

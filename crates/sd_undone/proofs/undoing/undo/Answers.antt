@@ -1,16 +1,19 @@
-use Rattle.std.proofs.Common.{◌≡◌, ◌++◌, ℕ, List, Result, Err, length, take, drop, sym, subst, ap, ◌∙◌}
+use Rattle.std.proofs.Common.{◌≡◌, ◌++◌, ℕ, List, [], Result, Err, length, take, drop, sym, subst, ap, ◌∙◌}
 use Rattle.std.proofs.Math.Seq.{take-append_seam}
 use Rattle.std.proofs.lemmas.Result.{err_from_is_err_and}
 use Rattle.sd_base.specs.declared.ids.TxnId.{TxnId}
 use Rattle.sd_model.specs.declared.table.Table.{Table}
 use Rattle.sd_page.specs.Page.{Page}
+use Rattle.sd_logrec.specs.View.{Rec}
 use Rattle.sd_chain.specs.Records.{Val}
+use Rattle.sd_chain.specs.Undoing.{undo_all}
 use Rattle.sd_undone.specs.declared.undoing.UndoError.{UndoError}
 use Rattle.sd_undone.specs.declared.undoing.UndoError.TheVariants as F
 use Rattle.sd_undone.specs.Others.{by_others, seen_in}
 use Rattle.sd_undone.specs.Stops.{StopsAt}
 use Rattle.sd_undone.specs.Taking.{MayTake, Taken, open_in}
 use Rattle.sd_undone.specs.Values.{values_in}
+use Rattle.sd_undone.proofs.Walks.{open-none}
 use Rattle.sd_undone.proofs.undoing.undo.Goals as goal
 
 same_err : (a b : UndoError) → ◌≡◌ {A = Result Table UndoError} (Err a) (Err b) → a ≡ b
@@ -36,6 +39,24 @@ returns-in_err-take_back_all-clause-first c = λ inst place is.
     (c.in_err-take_back_all.ensures.first inst place
     (ap Err (same_err c.in_err-take_back_all.field-0.0 (F.Misfit inst place) (ap Err (sym p.2) ∙ sym p.1 ∙ is)))))
 
+-- where nothing is open
+nothing-taken : (pages : List Page) (others : TxnId → ℕ → ℕ → ℕ) (xs : List Rec) → xs ≡ [] → MayTake pages others xs
+nothing-taken pages others xs e = subst (MayTake pages others) (sym e) (record { kinds = tt; found = tt; places = tt; last = tt })
+
+pub returns-then-is_nothing_open-clause-fits : goal.returns-then-is_nothing_open-clause-fits
+returns-then-is_nothing_open-clause-fits c =
+    let logs = c.args.logs.now in let losers = c.args.losers.now in
+    nothing-taken c.args.pages.items (by_others logs) (open_in logs losers)
+    (open-none logs losers (c.is_nothing_open.ensures.0 c.if-is_nothing_open.true))
+
+pub returns-then-is_nothing_open-clause-values : goal.returns-then-is_nothing_open-clause-values
+returns-then-is_nothing_open-clause-values c = λ r.
+    let logs = c.args.logs.now in let losers = c.args.losers.now in
+    c.in_ok-table_of.ensures r
+    ∙ ap (λ (pages : List Page). values_in pages r.page r.slot) c.deref.ensures.value
+    ∙ sym (ap (λ (xs : List Rec). undo_all (values_in c.args.pages.items) xs r.page r.slot)
+    (open-none logs losers (c.is_nothing_open.ensures.0 c.if-is_nothing_open.true)))
+
 pub returns-clause-fits : goal.returns-clause-fits
 returns-clause-fits c =
     let logs = c.args.logs.now in let all = open_in logs c.args.losers.now in
@@ -47,9 +68,9 @@ pub returns-clause-values : goal.returns-clause-values
 returns-clause-values c = λ r.
     let new = c.take_back_all.new.pages in let old = c.args.pages.items in let all = open_in c.args.logs.now c.args.losers.now in
     let len : c.args.pages.len ≡ length new = c.args.pages.ok.0 ∙ sym (ap length c.deref_mut.ensures.value) ∙ sym c.take_back_all.auto.pages in
-    let whole : c.deref.result.now ≡ new = c.deref.ensures.value
+    let whole : c.deref-2.result.now ≡ new = c.deref-2.ensures.value
     ∙ ap (λ (n : ℕ). take n (new ++ drop (length new) old)) len ∙ take-append_seam new (drop (length new) old) in
     let taken : Taken old new all = subst (λ (pages : List Page). Taken pages new all) c.deref_mut.ensures.value c.in_ok-take_back_all.ensures.taken in
-    c.in_ok-table_of.ensures r
+    c.in_ok-table_of-2.ensures r
     ∙ ap (λ (pages : List Page). values_in pages r.page r.slot) whole
     ∙ ap (λ (f : ℕ → ℕ → Val). f r.page r.slot) taken.values

@@ -1,4 +1,4 @@
-use Rattle.std.proofs.Common.{ℕ, Bool, cond, max, sym, ap, ◌∙◌}
+use Rattle.std.proofs.Common.{Bool, cond, max, sym, ap, ◌∙◌}
 use Rattle.sd_undone.proofs.Keys.{same-eq}
 use Rattle.sd_undone.proofs.last_changes.Last.others.Goals as goal
 
