@@ -1,9 +1,10 @@
-use Rattle.std.proofs.Common.{◌≡◌, ℕ, ◌∙◌, ap, subst, sym}
-use Rattle.std.specs.Prelude.{Option, Result, Err}
+use Rattle.std.proofs.Common.{◌≡◌, ◌||◌, ℕ, ◌∙◌, Bool, ap, ap₂, subst, sym}
+use Rattle.std.specs.Prelude.{Option, Result, Err, not}
 use Rattle.std.proofs.lemmas.Result.{err_from_is_err_and}
 use Rattle.sd_base.specs.declared.refusal.Refusal.{Refusal}
 use Rattle.sd_base.specs.declared.refusal.Refusal.TheVariants as R
 use Rattle.sd_state.specs.Complexes.{parts}
+use Rattle.sd_state.specs.Values.{Pending}
 use Rattle.sd_transfer.specs.Asking.{IsUnserved}
 use Rattle.sd_fits.specs.Serving.{Serving}
 use Rattle.sd_model.specs.declared.event.Event.TheVariants.{Ask}
@@ -131,3 +132,30 @@ returns-in_err-queue_ask-clause-still g c =
     let rig = c.args.c.now.rig in
     let tell = telling g.G.Rig.seen g.G.Rig.leaves g.G.Rig.moment g.G.Rig.since g.G.Rig.faults in
     unchanged-to tell rig rig c.queue_ask.new.c.rig c.queue_ask.ensures.rig (unchanged-here tell rig)
+
+pub fetch-requires-clause-fits : goal.fetch-requires-clause-fits
+fetch-requires-clause-fits g c = c.requires.fits
+
+pub fetch-requires-clause-may : goal.fetch-requires-clause-may
+fetch-requires-clause-may g c = c.in_ok-place.ensures.may
+
+pub raise-requires-clause-good : goal.raise-requires-clause-good
+raise-requires-clause-good g c = let fits = c.requires.fits in (Pending.Idle, fits.0.scene.state, fits.1.good)
+
+pub raise-requires-clause-idle : goal.raise-requires-clause-idle
+raise-requires-clause-idle g c = c.requires.fits.1.idle
+
+pub raise-requires-clause-sole : goal.raise-requires-clause-sole
+raise-requires-clause-sole g c =
+    ap (may_raise c.args.i) (sym c.in_ok-place.ensures.place) ∙ sym c.may_raise.ensures ∙ c.if-may_raise.true
+
+pub queue_ask-requires-clause-good : goal.queue_ask-requires-clause-good
+queue_ask-requires-clause-good g c = let fits = c.requires.fits in (Pending.Idle, fits.0.scene.state, fits.1.good)
+
+pub queue_ask-requires-clause-active : goal.queue_ask-requires-clause-active
+queue_ask-requires-clause-active g c = c.in_ok-place.ensures.may.active
+
+pub queue_ask-requires-clause-wanted : goal.queue_ask-requires-clause-wanted
+queue_ask-requires-clause-wanted g c = ap₂ (λ (lost had : Bool). not (lost || had)) c.in_ok-place.ensures.may.found
+    (ap (λ (e : PageEntry). holds_as c.args.mode e c.args.i) (sym c.in_ok-place.ensures.place)
+    ∙ sym c.holds_as.ensures ∙ c.if-holds_as.false)

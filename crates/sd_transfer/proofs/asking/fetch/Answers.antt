@@ -6,8 +6,9 @@ use Rattle.sd_chain.specs.Bytes.{disk_page}
 use Rattle.sd_fits.specs.Serving.{Serving}
 use Rattle.sd_model.specs.declared.event.Event.TheVariants.{Ask}
 use Rattle.sd_model.specs.declared.event.Reply.TheVariants as reply
+use Rattle.sd_pagelock.specs.Directory.{entry_at}
 use Rattle.sd_pool.specs.Buffers.{LacksFrame}
-use Rattle.sd_state.specs.Parts.{Parts, pool_at}
+use Rattle.sd_state.specs.Parts.{Parts, is_active, pool_at}
 use Rattle.sd_state.specs.Values.{Pending}
 use Rattle.sd_world.specs.Serving.{answered, telling}
 use Rattle.sd_transfer.proofs.Fetched.{fetched, full-served, read-refused, read-spared, unchanged-to}
@@ -79,3 +80,26 @@ returns-clause-served g c =
     c.lacks_frame.ensures.past (λ lacks. unlike c.if-lacks_frame.false (c.lacks_frame.ensures.full.1 lacks))
     c.read_disk.new.self read.stays read.parts read.good c.lock_free.new.self c.in_ok-image.image.value lock.rig
     c.in_ok-lock_free.ensures.parts c.in_ok-lock_free.ensures.place lock.good c.in_ok-image.ensures.quiet
+
+pub lock_free-requires-clause-idle : goal.lock_free-requires-clause-idle
+lock_free-requires-clause-idle g c = ap (λ (k : Parts). k.due) c.read_disk.ensures.parts ∙ c.requires.fits.1.idle
+
+pub lock_free-requires-clause-free : goal.lock_free-requires-clause-free
+lock_free-requires-clause-free g c =
+    ap (λ (k : Parts). entry_at k.directory c.args.p) c.read_disk.ensures.parts ∙ c.requires.free
+
+pub lock_free-requires-clause-active : goal.lock_free-requires-clause-active
+lock_free-requires-clause-active g c = ap (λ (k : Parts). is_active k c.args.i) c.read_disk.ensures.parts ∙ c.requires.may.active
+
+pub returns-in_err-image-clause-still : goal.returns-in_err-image-clause-still
+returns-in_err-image-clause-still g c = c.read_disk.ensures.stays
+
+pub returns-in_err-lock_free-clause-still : goal.returns-in_err-lock_free-clause-still
+returns-in_err-lock_free-clause-still g c =
+    let tell = telling g.G.Rig.seen g.G.Rig.leaves g.G.Rig.moment g.G.Rig.since g.G.Rig.faults in
+    unchanged-to tell c.args.c.now.rig c.read_disk.new.self.rig c.lock_free.new.self.rig c.lock_free.ensures.rig c.read_disk.ensures.stays
+
+pub returns-clause-still : goal.returns-clause-still
+returns-clause-still g c =
+    let tell = telling g.G.Rig.seen g.G.Rig.leaves g.G.Rig.moment g.G.Rig.since g.G.Rig.faults in
+    unchanged-to tell c.args.c.now.rig c.read_disk.new.self.rig c.lock_free.new.self.rig c.lock_free.ensures.rig c.read_disk.ensures.stays

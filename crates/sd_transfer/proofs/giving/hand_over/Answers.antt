@@ -11,7 +11,8 @@ use Rattle.sd_state.specs.Locking.{IsSet}
 use Rattle.sd_state.specs.Parts.{Parts, pool_at}
 use Rattle.sd_fits.proofs.Places.{frames-kept}
 use Rattle.sd_moves.specs.Passing.{may_set_out, with_sent}
-use Rattle.sd_transfer.proofs.Dropped.{given-dropped, stays-alone, stays-shared}
+use Rattle.sd_transfer.specs.Giving.{OnlyPages}
+use Rattle.sd_transfer.proofs.Dropped.{given-dropped, given-sent, stays-alone, stays-shared}
 use Rattle.sd_transfer.proofs.giving.hand_over.Goals as goal
 
 pub drop_for-requires-clause-spare : goal.drop_for-requires-clause-spare
@@ -40,3 +41,46 @@ returns-else-may_set_out-clause-place g c =
     (given-dropped c.args.j c.args.to c.args.mode (entry_at old.directory c.args.p)
     (stays-alone old c.args.j c.args.p c.args.to c.args.mode (c.requires.good.2.asks c.args.p) c.requires.may stays) stays)
     c.drop_for.ensures.place
+
+pub move_copy-requires-clause-good : goal.move_copy-requires-clause-good
+move_copy-requires-clause-good g c = c.requires.good
+
+pub move_copy-requires-clause-idle : goal.move_copy-requires-clause-idle
+move_copy-requires-clause-idle g c = c.requires.idle
+
+pub move_copy-requires-clause-held : goal.move_copy-requires-clause-held
+move_copy-requires-clause-held g c = c.requires.may.held
+
+pub move_copy-requires-clause-row : goal.move_copy-requires-clause-row
+move_copy-requires-clause-row g c =
+    ap (may_set_out c.args.mode c.args.to) (sym c.entry.ensures) ∙ sym c.may_set_out.ensures ∙ c.if-may_set_out.true
+
+pub move_copy-requires-clause-asked : goal.move_copy-requires-clause-asked
+move_copy-requires-clause-asked g c = c.requires.may.asked
+
+pub move_copy-requires-clause-forced : goal.move_copy-requires-clause-forced
+move_copy-requires-clause-forced g c = c.requires.forced
+
+pub drop_for-requires-clause-good : goal.drop_for-requires-clause-good
+drop_for-requires-clause-good g c = c.requires.good
+
+pub drop_for-requires-clause-idle : goal.drop_for-requires-clause-idle
+drop_for-requires-clause-idle g c = c.requires.idle
+
+-- but for pools and directory, all is as it was
+sent-only : (old : Parts) (mode : Mode) (p j : ℕ) (places : DirectoryState Page) → OnlyPages old (with_sent mode p j places old)
+sent-only old modes.Shared p j places = refl
+sent-only old modes.Excl p j places = refl
+
+pub returns-then-may_set_out-clause-pages : goal.returns-then-may_set_out-clause-pages
+returns-then-may_set_out-clause-pages g c =
+    let old : Parts = parts c.args.c.now in
+    subst (OnlyPages old) (sym c.move_copy.ensures.parts)
+    (sent-only old c.args.mode c.args.p c.args.j (parts c.move_copy.new.c).directory)
+
+pub returns-then-may_set_out-clause-place : goal.returns-then-may_set_out-clause-place
+returns-then-may_set_out-clause-place g c =
+    let old : Parts = parts c.args.c.now in
+    let row = ap (may_set_out c.args.mode c.args.to) (sym c.entry.ensures) ∙ sym c.may_set_out.ensures ∙ c.if-may_set_out.true in
+    subst (λ (e : PageEntry). IsSet c.args.p e None old.directory (parts c.move_copy.new.c).directory)
+    (given-sent c.args.j c.args.to c.args.mode (entry_at old.directory c.args.p) row) c.move_copy.ensures.place
