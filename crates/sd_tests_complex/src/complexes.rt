@@ -1,12 +1,11 @@
 //! A complex is made on blank devices where there is memory, and a log of it is forced.
 
-use crate::devices::blank;
 use sd_base::{InstNo, Refusal};
 use sd_one::Stop;
 use sd_opened::fresh;
+use sd_ready::blank;
 use sd_state::{Complex, Shape};
 use std::alloc::Global;
-use std::test::Fail;
 
 // Whether a log of a fresh complex is forced.
 fn forces(alloc: Global) -> Result<bool, Stop> {
@@ -15,21 +14,24 @@ fn forces(alloc: Global) -> Result<bool, Stop> {
         pages: 1024,
         frames: 2,
     };
-    let Ok(mut complex) = fresh(alloc, blank(alloc)?, shape) else {
-        return Err(Stop::Refused(Refusal::Memory));
-    };
     let Some(inst) = InstNo::new(8) else {
         return Err(Stop::Odd);
     };
-    Ok(complex.force_log(inst).is_ok())
+    match fresh(alloc, blank(alloc)?, shape) {
+        Ok(mut complex) => Ok(complex.force_log(inst).is_ok()),
+        Err(_) => Err(Stop::Refused(Refusal::Memory)),
+    }
+}
+
+// The same, once more where there was no memory.
+fn forces_at_last(alloc: Global) -> bool {
+    match forces(alloc) {
+        Ok(forced) => forced,
+        Err(_) => matches!(forces(alloc), Ok(true)),
+    }
 }
 
 #[test]
-fn a_fresh_complex_finds_memory_and_forces_a_log(rt: HostRuntime) -> Result<(), Fail> {
-    let forced = match forces(rt.alloc()) {
-        Ok(forced) => forced,
-        Err(_) => forces(rt.alloc())?,
-    };
-    assert!(rt; forced);
-    Ok(())
+fn a_fresh_complex_finds_memory_and_forces_a_log(rt: HostRuntime) {
+    assert!(rt; forces_at_last(rt.alloc()));
 }

@@ -5,30 +5,34 @@ ghost use Rattle.sd_state.specs.Complexes.{parts};
 ghost use Rattle.sd_state.specs.Parts.{IsShape, is_loose};
 ghost use Rattle.sd_one.specs.Ready.{IsReady};
 
-use crate::devices::blank;
-use crate::ready::{begun, checked, get_page, record, seen, written};
-use sd_base::{Refusal, Status};
+use crate::checks::checked;
+use crate::seeing::{Seen, seen};
+use sd_base::{Refusal, Rid, Status, TxnId};
 use sd_logrec::AREA;
 use sd_one::{Stop, first, roll_back_whole};
+use sd_ready::{begun, blank, get_page, record, written};
 use sd_restart::reopen;
 use sd_rig::{MemRig, Rig};
+use sd_seals::seal_start;
 use sd_state::{Complex, Shape};
 use std::alloc::Global;
-use std::test::Fail;
 
 // The group of a Start of epoch 1, whose LSN is four below the greatest.
 const START_GROUP: [u8; 18] = [
     0xa5, 0, 0, 0, 13, 1, 0x3f, 0xff, 0xff, 0xff, 0xff, 0xff, 0xff, 0xfb, 0, 0, 0, 1,
 ];
 
+// What is seen behind the change.
+const CHANGED: Seen<'static> = (3, 2, true, Some(b"red"));
+
 // A complex over devices on which instance 1 has begun an epoch near the end; it has come up in the next one, and has page 5. All
 // is made once more where there is no memory.
-fn at_work(alloc: Global) -> Result<Complex<MemRig>, Fail>
+fn at_work(alloc: Global) -> Result<Complex<MemRig>, Stop>
     ensures { IfOk result (λ c. IsReady (⟦<MemRig as Rig>⟧.seen c.rig) (⟦<MemRig as Rig>⟧.leaves c.rig) (parts c)) }
 {
     match opened(alloc) {
         Ok(c) => Ok(c),
-        Err(_) => Ok(opened(alloc)?),
+        Err(_) => opened(alloc),
     }
 }
 
@@ -42,8 +46,7 @@ fn opened(alloc: Global) -> Result<Complex<MemRig>, Stop>
     let Ok(mut c) = open(alloc, rig) else {
         return Err(Stop::Odd);
     };
-    join(&mut c)?;
-    get_page(&mut c)?;
+    come_up(&mut c)?;
     Ok(c)
 }
 
@@ -59,6 +62,15 @@ fn open<G: Rig>(alloc: Global, rig: G) -> Result<Complex<G>, (Refusal, G)>
     Ok(complex)
 }
 
+// The instance joins, and gets page 5.
+fn come_up<G: Rig>(c: &mut Complex<G>) -> Result<(), Stop>
+    requires { IsReady (G.seen c.old.rig) (G.leaves c.old.rig) (parts c.old) }
+    ensures { OnOk result (IsReady (G.seen c.new.rig) (G.leaves c.new.rig) (parts c.new)) }
+{
+    join(c)?;
+    get_page(c)
+}
+
 // Instance 1 begins its next epoch, and comes up. `Odd` where it isn't clean.
 fn join<G: Rig>(c: &mut Complex<G>) -> Result<(), Stop>
     requires { IsReady (G.seen c.old.rig) (G.leaves c.old.rig) (parts c.old) }
@@ -71,7 +83,7 @@ fn join<G: Rig>(c: &mut Complex<G>) -> Result<(), Stop>
     if !matches!(c.status(i), Status::Clean) {
         return Err(Stop::Odd);
     }
-    c.seal_start(i)?;
+    seal_start(c, i)?;
     c.force_log(i)?;
     c.joined(i);
     Ok(())
@@ -85,28 +97,46 @@ fn is_settled<G>(c: &Complex<G>) -> bool
     !c.loose[1]
 }
 
-fn is_at_end(told: &Result<(), Stop>) -> bool {
+fn is_at_end(told: Result<(), Stop>) -> bool {
     matches!(told, Err(Stop::Refused(Refusal::LsnEnd)))
+}
+
+// Whether a second change and a checkpoint's record are refused for want of an LSN, and leave all as it was.
+fn has_no_lsn<G: Rig>(alloc: Global, c: &mut Complex<G>, t: &TxnId, r: &Rid) -> bool
+    requires { IsReady (G.seen c.old.rig) (G.leaves c.old.rig) (parts c.old) }
+    ensures { IsReady (G.seen c.new.rig) (G.leaves c.new.rig) (parts c.new) }
+{
+    let changed = seen(c, r) == CHANGED;
+    let is_change_refused = is_at_end(written(alloc, c, t, r, b"tan"));
+    let is_check_refused = is_at_end(checked(c));
+    changed && is_change_refused && is_check_refused && seen(c, r) == CHANGED
+}
+
+// One transaction changes the record, and no LSN is left for a second change; both roll back. Whether all is so.
+fn runs_out<G: Rig>(alloc: Global, c: &mut Complex<G>) -> Result<bool, Stop>
+    requires { IsReady (G.seen c.old.rig) (G.leaves c.old.rig) (parts c.old) }
+{
+    let r = record();
+    let t = begun(c)?;
+    let u = begun(c)?;
+    written(alloc, c, &t, &r, b"red")?;
+    let has_none = has_no_lsn(alloc, c, &t, &r);
+    roll_back_whole(c, &t)?;
+    let is_first_back = seen(c, &r) == (5, 1, true, None);
+    let is_refused = is_at_end(written(alloc, c, &u, &r, b"tan"));
+    roll_back_whole(c, &u)?;
+    let are_both_back = seen(c, &r) == (5, 0, true, None);
+    Ok(has_none && is_first_back && is_refused && are_both_back)
+}
+
+// The same of a complex that is made.
+fn is_run_out(alloc: Global) -> Result<bool, Stop> {
+    let mut c = at_work(alloc)?;
+    runs_out(alloc, &mut c)
 }
 
 // Three LSNs are left behind the Start: one for a change, and two that are owed for that, its undo and the End.
 #[test]
-fn the_last_lsns_are_for_what_is_owed(rt: HostRuntime) -> Result<(), Fail> {
-    let alloc = rt.alloc();
-    let r = record().ok_or("page 5")?;
-    let red: &[u8] = b"red";
-    let mut c = at_work(alloc)?;
-    let t = begun(&mut c)?;
-    let u = begun(&mut c)?;
-    written(alloc, &mut c, &t, &r, red)?;
-    assert_eq!(rt; seen(&c, &r), (3, 2, true, Some(red)));
-    assert!(rt; is_at_end(&written(alloc, &mut c, &t, &r, b"tan")));
-    assert!(rt; is_at_end(&checked(&mut c)));
-    assert_eq!(rt; seen(&c, &r), (3, 2, true, Some(red)));
-    roll_back_whole(&mut c, &t)?;
-    assert_eq!(rt; seen(&c, &r), (5, 1, true, None));
-    assert!(rt; is_at_end(&written(alloc, &mut c, &u, &r, b"tan")));
-    roll_back_whole(&mut c, &u)?;
-    assert_eq!(rt; seen(&c, &r), (5, 0, true, None));
-    Ok(())
+fn the_last_lsns_are_for_what_is_owed(rt: HostRuntime) {
+    assert!(rt; matches!(is_run_out(rt.alloc()), Ok(true)));
 }

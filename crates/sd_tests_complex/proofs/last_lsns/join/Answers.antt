@@ -21,15 +21,15 @@ joined-requires-clause-forced g c =
     let i : ℕ = c.first-i.result in
     let started = c.in_ok-seal_start.ensures.good c.requires.m c.requires.good in
     let one = c.first-i.ensures in
-    let settled : is_loose (parts c.seal_start.new.self) i ≡ false =
+    let settled : is_loose (parts c.seal_start.new.c) i ≡ false =
     ap (λ (p : Parts). is_loose p i) c.in_ok-seal_start.ensures.parts
     ∙ ap (λ (n : ℕ). is_loose (parts c.args.c.now) n) one ∙ c.if-not-is_settled.ensures refl in
-    forced-empty (parts c.seal_start.new.self) (parts c.force_log.new.self) i (owed_at (parts c.force_log.new.self) i)
+    forced-empty (parts c.seal_start.new.c) (parts c.force_log.new.self) i (owed_at (parts c.force_log.new.self) i)
     (omega (arith, one)) (omega (arith, one)) started.shape.logs (c.in_ok-force_log.ensures.forced settled)
 
 pub returns : goal.returns
 returns g c =
-    let settled : is_loose (parts c.seal_start.new.self) c.first-i.result ≡ false =
+    let settled : is_loose (parts c.seal_start.new.c) c.first-i.result ≡ false =
     ap (λ (p : Parts). is_loose p c.first-i.result) c.in_ok-seal_start.ensures.parts
     ∙ ap (λ (n : ℕ). is_loose (parts c.args.c.now) n) c.first-i.ensures ∙ c.if-not-is_settled.ensures refl in
     ready (ap (λ (p : Parts). p.due) c.joined.ensures.parts ∙ ap (λ (p : Parts). p.due) (c.in_ok-force_log.ensures.forced settled)

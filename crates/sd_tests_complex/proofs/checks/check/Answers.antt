@@ -5,7 +5,7 @@ use Rattle.sd_state.specs.Complexes.{parts}
 use Rattle.sd_state.specs.Parts.{Parts, log_at, status_at}
 use Rattle.sd_state.specs.Values.{Pending}
 use Rattle.sd_one.proofs.Ready.{ready}
-use Rattle.sd_tests_complex.proofs.ready.check.Goals as goal
+use Rattle.sd_tests_complex.proofs.checks.check.Goals as goal
 
 pub seal_check-requires-clause-may : goal.seal_check-requires-clause-may
 seal_check-requires-clause-may g c =

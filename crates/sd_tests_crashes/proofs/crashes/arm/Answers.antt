@@ -1,6 +1,6 @@
 use Rattle.std.proofs.Common.{◌∙◌, sym, subst}
 use Rattle.sd_sound.specs.Logs.{IsBlank}
-use Rattle.sd_tests_complex.proofs.crashes.arm.Goals as goal
+use Rattle.sd_tests_crashes.proofs.crashes.arm.Goals as goal
 
 pub returns : goal.returns
 returns g c =

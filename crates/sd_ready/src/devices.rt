@@ -1,4 +1,4 @@
-//! Devices for the tests: of zeros, with memory for the record of what is done to them.
+//! Devices for the runs: of zeros, with memory for the record of what is done to them.
 
 ghost use Rattle.std.specs.Prelude.{IfOk};
 ghost use Rattle.sd_rig.specs.Replay.{left_of};
@@ -9,8 +9,8 @@ use sd_base::Memory;
 use sd_rig::MemRig;
 use std::alloc::Global;
 
-/// Devices of zeros.
-pub(crate) fn blank(alloc: Global) -> Result<MemRig, Memory>
+/// Devices of zeros. `Memory` where there is none for them, or for the record of what is done to them.
+pub fn blank(alloc: Global) -> Result<MemRig, Memory>
     ensures { IfOk result (λ rig. AreBlank (λ d. (device rig d).seen) (left_of (devices rig))) }
 {
     let mut rig = zeros(alloc)?;

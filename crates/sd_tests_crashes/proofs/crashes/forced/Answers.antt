@@ -4,7 +4,7 @@ use Rattle.sd_state.specs.Parts.{Parts, is_loose}
 use Rattle.sd_state.specs.Values.{Pending}
 use Rattle.sd_state.proofs.WorkingGood.{working-settled}
 use Rattle.sd_one.proofs.Ready.{ready}
-use Rattle.sd_tests_complex.proofs.ready.forced.Goals as goal
+use Rattle.sd_tests_crashes.proofs.crashes.forced.Goals as goal
 
 pub returns : goal.returns
 returns g c =
