@@ -29,14 +29,31 @@ pub fn moves(alloc: Global, times: u32) -> bool {
 fn are_done(alloc: Global, times: u32) -> Option<()> {
     let page = PageNo::new(0)?;
     let mut places = Directory::new(alloc).ok()?;
+    between_two(alloc, &mut places, page, times)
+}
+
+// The same, of two members that are made.
+fn between_two(alloc: Global, places: &mut Places, page: PageNo, times: u32) -> Option<()> {
     let mut giver = Member::new(alloc, 1)?;
     let mut taker = Member::new(alloc, 2)?;
-    read(alloc, &mut places, &mut giver, page)?;
+    pass_on(alloc, places, &mut giver, &mut taker, page, times)
+}
+
+// The page is read by the one, and passed on between both so many times.
+fn pass_on(
+    alloc: Global,
+    places: &mut Places,
+    one: &mut Member,
+    other: &mut Member,
+    page: PageNo,
+    times: u32,
+) -> Option<()> {
+    read(alloc, places, one, page)?;
     for n in 0..times {
         if n % 2 == 0 {
-            pass(alloc, &mut places, &mut giver, &mut taker, page)?;
+            pass(alloc, places, one, other, page)?;
         } else {
-            pass(alloc, &mut places, &mut taker, &mut giver, page)?;
+            pass(alloc, places, other, one, page)?;
         }
     }
     Some(())

@@ -1,6 +1,7 @@
 //! Nine devices with logs of committed transfers, read to the table that they stand for.
 
-ghost use Rattle.std.specs.Prelude.{◌≡◌, ◌≤◌, length, IfOk};
+ghost use Rattle.std.specs.Prelude.{◌≡◌, ◌<◌, ◌≤◌, ◌^◌, length, IfOk};
+ghost use Rattle.sd_logrec.specs.Spelling.{HasSpelling};
 ghost use Rattle.sd_rig.specs.Devices.{device_len};
 ghost use Rattle.sd_recovered.specs.Devices.{AreDevices};
 
@@ -37,18 +38,30 @@ fn devices(alloc: Global, logs: u32, transfers: u32) -> Result<Vec<Bytes>, Memor
     requires most { logs ≤ 8 }
     ensures { IfOk result (λ devices. AreDevices devices.items) }
 {
-    let devices = [
-        blank(alloc, DATA_LEN)?,
-        log(alloc, 1, logs, transfers)?,
-        log(alloc, 2, logs, transfers)?,
-        log(alloc, 3, logs, transfers)?,
-        log(alloc, 4, logs, transfers)?,
-        log(alloc, 5, logs, transfers)?,
-        log(alloc, 6, logs, transfers)?,
-        log(alloc, 7, logs, transfers)?,
-        log(alloc, 8, logs, transfers)?,
-    ];
+    let (one, two, three, four) = four_logs(alloc, 1, logs, transfers)?;
+    let (five, six, seven, eight) = four_logs(alloc, 5, logs, transfers)?;
+    let data = blank(alloc, DATA_LEN)?;
+    let devices = [data, one, two, three, four, five, six, seven, eight];
     Ok(Vec::from_array(alloc, devices)?)
+}
+
+type FourLogs = (Bytes, Bytes, Bytes, Bytes);
+
+// The log devices of four instances, from this one on.
+fn four_logs(alloc: Global, first: u8, logs: u32, transfers: u32) -> Result<FourLogs, Memory>
+    requires first { first ≤ 5 }
+    requires least { 1 ≤ logs }
+    requires most { logs ≤ 8 }
+    ensures first { IfOk result (λ found. length found.0 ≡ device_len 1) }
+    ensures second { IfOk result (λ found. length found.1 ≡ device_len 1) }
+    ensures third { IfOk result (λ found. length found.2 ≡ device_len 1) }
+    ensures fourth { IfOk result (λ found. length found.3 ≡ device_len 1) }
+{
+    let one = log(alloc, first, logs, transfers)?;
+    let two = log(alloc, first + 1, logs, transfers)?;
+    let three = log(alloc, first + 2, logs, transfers)?;
+    let four = log(alloc, first + 3, logs, transfers)?;
+    Ok((one, two, three, four))
 }
 
 fn blank(alloc: Global, len: u32) -> Result<Bytes, Memory>
@@ -76,16 +89,36 @@ fn filled(alloc: Global, inst: InstNo, logs: u32, transfers: u32) -> Result<Byte
     ensures { IfOk result (λ device. length device ≡ device_len 1) }
 {
     let mut bytes = Vec::from_elem(alloc, 0u8, AREA as usize)?;
-    let mut start = Vec::new(alloc);
-    Record::Start { lsn: 1, epoch: 1 }.put(&mut start)?;
-    put_group(&mut bytes, &start)?;
-    for n in 0..transfers {
-        if n % logs + 1 == u32::from(inst.get()) {
-            put_group(&mut bytes, &transfer(alloc, inst, logs, n)?)?;
-        }
-    }
+    put_groups(alloc, &mut bytes, inst, logs, transfers)?;
     bytes.resize(LOG_LEN as usize, 0)?;
     Ok(Bytes::of(alloc, bytes)?)
+}
+
+// The groups of a log: the start of epoch 1, and each transfer of the instance.
+fn put_groups(
+    alloc: Global,
+    bytes: &mut Vec<u8>,
+    inst: InstNo,
+    logs: u32,
+    transfers: u32,
+) -> Result<(), Memory>
+    requires least { 1 ≤ logs }
+    requires most { logs ≤ 8 }
+{
+    put_group(bytes, &start(alloc)?)?;
+    for n in 0..transfers {
+        if n % logs + 1 == u32::from(inst.get()) {
+            put_group(bytes, &transfer(alloc, inst, logs, n)?)?;
+        }
+    }
+    Ok(())
+}
+
+// The record that starts epoch 1.
+fn start(alloc: Global) -> Result<Vec<u8>, Memory> {
+    let mut body = Vec::new(alloc);
+    put_record(Record::Start { lsn: 1, epoch: 1 }, &mut body)?;
+    Ok(body)
 }
 
 fn put_group(bytes: &mut Vec<u8>, body: &[u8]) -> Result<(), Memory> {
@@ -109,10 +142,25 @@ fn transfer(alloc: Global, inst: InstNo, logs: u32, n: u32) -> Result<Vec<u8>, M
         before: before(logs, n),
     };
     let mut body = Vec::new(alloc);
-    transfer.first_change(alloc)?.put(&mut body)?;
-    transfer.second_change(alloc)?.put(&mut body)?;
-    transfer.commit().put(&mut body)?;
+    put_records(alloc, &transfer, &mut body)?;
     Ok(body)
+}
+
+// Appends the spellings of a transfer's three records.
+fn put_records(alloc: Global, transfer: &Transfer, body: &mut Vec<u8>) -> Result<(), Memory>
+    requires low { 1 ≤ transfer.now.first }
+    requires high { transfer.now.first < 2 ^ 61 }
+{
+    put_record(transfer.first_change(alloc)?, body)?;
+    put_record(transfer.second_change(alloc)?, body)?;
+    put_record(transfer.commit(), body)
+}
+
+// Appends the spelling of a record.
+fn put_record(made: Record, body: &mut Vec<u8>) -> Result<(), Memory>
+    requires { HasSpelling made }
+{
+    made.put(body)
 }
 
 // The transfer that changed the page of transfer n before it.

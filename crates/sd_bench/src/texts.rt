@@ -5,8 +5,9 @@ ghost use Rattle.std.specs.Prelude.{◌<◌};
 use crate::books::noted;
 use itoa::Buffer;
 use sd_base::Memory;
+use sd_model::Entry;
 use sd_report::{in_order, render};
-use sd_script::{Kind, Script};
+use sd_script::{Kind, Line, Script};
 use std::alloc::Global;
 
 /// What a text repeats.
@@ -45,22 +46,31 @@ pub fn readings(alloc: Global, piece: Piece, times: u32, reads: u32) -> bool {
 /// Makes a script of so many transfers and the book of them, and renders its report so many times. The reports stay. `false`
 /// where there was no memory.
 pub fn reports(alloc: Global, transfers: u32, renders: u32) -> bool {
-    let Ok(text) = text(alloc, Piece::Transfer, transfers) else {
-        return false;
-    };
-    let (Ok(script), Some(book)) = (
-        Script::read(alloc, &text, Kind::Replay),
-        noted(alloc, transfers),
-    ) else {
-        return false;
-    };
-    let entries = book.told();
-    if !in_order(script.lines(), entries) {
+    match transfer_script(alloc, transfers) {
+        Some(script) => reports_of(alloc, script.lines(), transfers, renders),
+        None => false,
+    }
+}
+
+fn transfer_script(alloc: Global, transfers: u32) -> Option<Script> {
+    let text = text(alloc, Piece::Transfer, transfers).ok()?;
+    Script::read(alloc, &text, Kind::Replay).ok()
+}
+
+fn reports_of(alloc: Global, lines: &[Line], transfers: u32, renders: u32) -> bool {
+    match noted(alloc, transfers) {
+        Some(book) => are_rendered(alloc, lines, book.told(), renders),
+        None => false,
+    }
+}
+
+fn are_rendered(alloc: Global, lines: &[Line], entries: &[Entry], renders: u32) -> bool {
+    if !in_order(lines, entries) {
         return false;
     }
     let mut reports = Vec::new(alloc);
     for _ in 0..renders {
-        let Ok(report) = render(alloc, script.lines(), entries) else {
+        let Ok(report) = render(alloc, lines, entries) else {
             return false;
         };
         if reports.push(report).is_err() {
