@@ -14,7 +14,7 @@ use Rattle.sd_forms.specs.declared.line.Line.{Line}
 use Rattle.sd_script.specs.Order.{begun_by}
 use Rattle.sd_world.specs.PageCauses.{names_page}
 use Rattle.sd_world.specs.Serving.{Core, Telling}
-use Rattle.sd_hall.specs.Served.{IsServed}
+use Rattle.sd_serve.specs.Served.{IsServed}
 use Rattle.sd_drive.specs.declared.driver.Driver.{Driver}
 use Rattle.sd_pull.specs.Driven.{is_did}
 use Rattle.sd_pull.specs.Driving.{Cursor, Known, Work, World, goes_on, stays, works_of}

@@ -11,7 +11,7 @@ use Rattle.sd_forms.specs.Forms.{IsForm}
 use Rattle.sd_script.specs.Order.{Follows, begun, has_name}
 use Rattle.sd_world.specs.PageCauses.{names_page}
 use Rattle.sd_world.specs.Serving.{Telling}
-use Rattle.sd_hall.specs.Served.{IsServed}
+use Rattle.sd_serve.specs.Served.{IsServed}
 use Rattle.sd_drive.specs.declared.driver.Driver.{Driver}
 use Rattle.sd_pull.specs.Driven.{IsIn}
 use Rattle.sd_pull.specs.Driving.{Cursor, World, works_of}

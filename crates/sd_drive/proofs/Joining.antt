@@ -11,7 +11,7 @@ use Rattle.sd_forms.specs.declared.line.Form.TheVariants as form
 use Rattle.sd_forms.specs.declared.line.Line.{Line}
 use Rattle.sd_script.specs.Order.{begun_by}
 use Rattle.sd_world.specs.Serving.{Core, Telling}
-use Rattle.sd_hall.specs.Bodies.{fits_in}
+use Rattle.sd_serve.specs.Bodies.{fits_in}
 use Rattle.sd_drive.specs.declared.driver.Driver.{Driver}
 use Rattle.sd_pull.specs.Bodies.{status_in}
 use Rattle.sd_pull.specs.Driven.{IsIn}

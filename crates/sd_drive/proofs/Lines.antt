@@ -15,7 +15,7 @@ use Rattle.sd_forms.specs.declared.line.Line.{Line}
 use Rattle.sd_script.specs.Order.{Follows, begun, begun_by, ordinal_of}
 use Rattle.sd_world.specs.PageCauses.{names_page}
 use Rattle.sd_world.specs.Serving.{Core, Telling}
-use Rattle.sd_hall.specs.Served.{IsServed}
+use Rattle.sd_serve.specs.Served.{IsServed}
 use Rattle.sd_drive.specs.declared.driver.Driver.{Driver}
 use Rattle.sd_pull.specs.Driven.{IsIn}
 use Rattle.sd_pull.specs.Driving.{Cursor, Known, Work, World, ahead, begins, cursor_in, followed, goes_on, left_from, start_of, works_of}

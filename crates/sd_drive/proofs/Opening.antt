@@ -16,7 +16,7 @@ use Rattle.sd_world.specs.Leading.{Leads}
 use Rattle.sd_world.specs.Serving.{Core, Telling}
 use Rattle.sd_fits.specs.Bodies.{fits_body, rig_of}
 use Rattle.sd_fits.specs.declared.body.Body.{Body}
-use Rattle.sd_hall.specs.Bodies.{IsRigIn, fits_in}
+use Rattle.sd_serve.specs.Bodies.{IsRigIn, fits_in}
 use Rattle.sd_hall.specs.Keeping.{Keeps}
 use Rattle.sd_drive.specs.declared.driver.Driver.{Driver}
 use Rattle.sd_pull.specs.declared.recovery.Outcome.{Outcome}

@@ -15,7 +15,7 @@ use Rattle.sd_world.specs.Serving.{Telling}
 use Rattle.sd_drive.specs.declared.driver.Driver.{Driver}
 use Rattle.sd_pull.specs.Driven.{IsIn}
 use Rattle.sd_base.specs.declared.place.Status.{Status}
-use Rattle.sd_hall.specs.Bodies.{fits_in}
+use Rattle.sd_serve.specs.Bodies.{fits_in}
 use Rattle.sd_world.specs.Serving.{Core}
 use Rattle.sd_pull.specs.Bodies.{status_in}
 use Rattle.sd_pull.specs.Driving.{first_from, lister_by, Cursor, Known, Work, World, begins, cursor_in, goes_on, is_up, lister, start_of, stays, works_of}

@@ -4,7 +4,7 @@ ghost use Rattle.std.specs.Prelude.{◌≡◌};
 ghost use Rattle.sd_pagelock.specs.Directory.{entry_at};
 ghost use Rattle.sd_state.specs.Complexes.{parts};
 ghost use Rattle.sd_state.specs.Parts.{IsShape, status_at};
-ghost use Rattle.sd_hall.specs.Bodies.{fits_in};
+ghost use Rattle.sd_serve.specs.Bodies.{fits_in};
 ghost use Rattle.sd_world.specs.Serving.{Core};
 ghost use Rattle.sd_pull.specs.Bodies.{entry_in, status_in};
 ghost use Rattle.sd_drive.specs.Going.{going_as};

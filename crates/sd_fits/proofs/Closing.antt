@@ -30,7 +30,7 @@ use Rattle.sd_world.specs.Bounds.{bounds_after}
 use Rattle.sd_world.specs.Serving.{Core, Turns}
 use Rattle.sd_state.specs.Images.{Stands}
 use Rattle.sd_state.specs.Values.{Pending, is_doubt}
-use Rattle.sd_moves.proofs.FallModel.{cond-doubts, cond-gone, values-by}
+use Rattle.sd_falls.proofs.FallModel.{cond-doubts, cond-gone, values-by}
 use Rattle.sd_fits.specs.Closed.{AllFail, AllFailAgain, ClosedStays, FitsClosed, closed_core}
 use Rattle.sd_fits.specs.Opened.{NoneMore}
 use Rattle.sd_fits.specs.Sums.{IsWithinSums}

@@ -46,10 +46,10 @@ use Rattle.sd_state.specs.Parts.{Begun, Parts, check_at, count_at, log_at, no_lo
 use Rattle.sd_state.specs.Values.{Pending, is_doubt}
 use Rattle.sd_state.proofs.Items.{item-kept, item-set}
 use Rattle.sd_state.proofs.Standing.{one-place}
-use Rattle.sd_moves.specs.Falling.{IsFallen, emptied_pool, is_recovered_by, logs_by, owed_dropped, with_fallen}
-use Rattle.sd_moves.proofs.FallBounds.{fallen-great, fallen-log, fallen-owes, fallen-versions, kept_by}
-use Rattle.sd_moves.proofs.FallDropped.{kept-all}
-use Rattle.sd_moves.proofs.FallFinal.{when-dropped}
+use Rattle.sd_falls.specs.Falling.{IsFallen, emptied_pool, is_recovered_by, logs_by, owed_dropped, with_fallen}
+use Rattle.sd_falls.proofs.FallBounds.{fallen-great, fallen-log, fallen-owes, fallen-versions, kept_by}
+use Rattle.sd_falls.proofs.FallDropped.{kept-all}
+use Rattle.sd_falls.proofs.FallFinal.{when-dropped}
 use Rattle.sd_fits.specs.Fits.{AreWithin, Fits, FitsBounds, FitsDoubts, FitsPages, ReachesAtMost, capacities}
 use Rattle.sd_fits.proofs.Doubts.{DoubtsStay, doubts-kept}
 

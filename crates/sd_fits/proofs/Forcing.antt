@@ -35,7 +35,7 @@ use Rattle.sd_world.specs.Bounds.{Bounds}
 use Rattle.sd_world.specs.Pages.{Pages}
 use Rattle.sd_fits.specs.Fits.{AreWithin, FitsBounds, FitsDoubts, FitsPages, ReachesAtMost, capacities}
 use Rattle.sd_fits.proofs.Doubts.{doubts-kept, same-doubts}
-use Rattle.sd_moves.proofs.FallBounds.{sum-less, told-most}
+use Rattle.sd_falls.proofs.FallBounds.{sum-less, told-most}
 
 -- ---- versions that see the same records
 

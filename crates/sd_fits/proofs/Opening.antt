@@ -41,7 +41,7 @@ use Rattle.sd_opened.proofs.OpenedGood.{opened-good}
 use Rattle.sd_opened.proofs.OpenedHalf.{all-is, base-is, is-settled, kept-here, left-is, no-check, no-other, now-same}
 use Rattle.sd_opened.proofs.OpenedImage.{no-doubt}
 use Rattle.sd_state.proofs.Standing.{one-place}
-use Rattle.sd_moves.proofs.FallBounds.{sum-less}
+use Rattle.sd_falls.proofs.FallBounds.{sum-less}
 use Rattle.sd_fits.specs.Opened.{IsOpenedOn, opened_core, opened_pages}
 use Rattle.sd_fits.specs.Fits.{AreWithin, Fits, FitsBounds, FitsPages, ReachesAtMost, capacities}
 use Rattle.sd_fits.specs.Sums.{IsWithinSums}

@@ -6,8 +6,8 @@ use Rattle.sd_pagelock.specs.Directory.{DirectoryState}
 use Rattle.sd_rig.specs.Devices as rig
 use Rattle.sd_txn.specs.Owing.{owed_of}
 use Rattle.sd_chain.specs.Images.{all_kept}
-use Rattle.sd_moves.specs.Putting.{SameVersions, with_loose_disk}
-use Rattle.sd_moves.proofs.FallBounds.{sum-less}
+use Rattle.sd_puts.specs.Putting.{SameVersions, with_loose_disk}
+use Rattle.sd_falls.proofs.FallBounds.{sum-less}
 use Rattle.sd_sound.specs.Logs.{Outcomes}
 use Rattle.sd_world.specs.Bounds.{Bounds}
 use Rattle.sd_world.specs.Pages.{Pages}

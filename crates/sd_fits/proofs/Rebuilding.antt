@@ -7,7 +7,7 @@ use Rattle.sd_pagelock.specs.Asks.{open_asks}
 use Rattle.sd_pagelock.specs.Directory.{DirectoryState, asks_at, entry_at}
 use Rattle.sd_places.specs.Places.{PageEntry}
 use Rattle.sd_rig.specs.Devices as rig
-use Rattle.sd_moves.specs.Putting.{SameVersions, with_loose_disk}
+use Rattle.sd_puts.specs.Putting.{SameVersions, with_loose_disk}
 use Rattle.sd_sound.specs.Logs.{Outcomes}
 use Rattle.sd_world.specs.Answers.{IsLowestLost, Rebuilds, Steps}
 use Rattle.sd_world.specs.Bounds.{Bounds}

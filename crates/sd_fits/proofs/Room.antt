@@ -11,12 +11,12 @@ use Rattle.sd_sound.specs.Logs.{Outcomes}
 use Rattle.sd_sound.proofs.Kept.{forced-gate}
 use Rattle.sd_state.specs.Good.{Good}
 use Rattle.sd_state.specs.Parts.{Parts, is_loose, log_at, owed_at, status_at, txns_at}
-use Rattle.sd_state.specs.Sealing.{NoLsnLeft, NoRoomFor}
+use Rattle.sd_seals.specs.Sealing.{NoLsnLeft, NoRoomFor}
 use Rattle.sd_state.specs.Sums.{great_of, owed_in_all, owed_where, owes_most}
 use Rattle.sd_state.specs.Tables.{tells_log}
 use Rattle.sd_state.specs.Values.{Pending}
 use Rattle.sd_world.specs.Bounds.{Bounds}
-use Rattle.sd_moves.proofs.FallBounds.{sum-less}
+use Rattle.sd_falls.proofs.FallBounds.{sum-less}
 use Rattle.sd_fits.specs.Fits.{FitsBounds}
 
 module _ (i : ℕ) (seen : rig.DeviceImages) (leaves : Outcomes) (pend : Pending) (c : Parts) (m : State) (b : Bounds)

@@ -52,7 +52,7 @@ use Rattle.sd_world.specs.Bounds.{Bounds}
 use Rattle.sd_world.specs.Pages.{Pages}
 use Rattle.sd_fits.specs.Fits.{AreWithin, FitsBounds, FitsDoubts, FitsPages, HaveSlots, ReachesAtMost, capacities}
 use Rattle.sd_fits.proofs.Doubts.{commits-more, doubts-on, placed-slots, same-doubts, slots-kept}
-use Rattle.sd_moves.proofs.FallBounds.{sum-less}
+use Rattle.sd_falls.proofs.FallBounds.{sum-less}
 
 -- ---- one record more in a tail
 

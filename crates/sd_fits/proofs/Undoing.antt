@@ -60,7 +60,7 @@ use Rattle.sd_undos.proofs.UndoneRows.{IsTop, top-of}
 use Rattle.sd_undos.proofs.UndoneTop.{clr-falls, finds-place}
 use Rattle.sd_state.proofs.WorkingGood.{working-settled}
 use Rattle.sd_state.proofs.WorkingTurns.{as-many}
-use Rattle.sd_moves.proofs.FallBounds.{sum-less}
+use Rattle.sd_falls.proofs.FallBounds.{sum-less}
 use Rattle.sd_fits.specs.Fits.{AreWithin, Fits, FitsBounds, ReachesAtMost, capacities}
 use Rattle.sd_fits.proofs.Changing.{caps-set}
 use Rattle.sd_fits.proofs.Recording.{Records}

@@ -9,7 +9,7 @@ use Rattle.sd_state.specs.Parts.{Parts}
 use Rattle.sd_state.specs.Sums.{great_of, owed_in_all, owes_most}
 use Rattle.sd_world.specs.Bounds.{Bounds}
 use Rattle.sd_world.specs.Pages.{Pages}
-use Rattle.sd_moves.proofs.FallBounds.{sum-less}
+use Rattle.sd_falls.proofs.FallBounds.{sum-less}
 use Rattle.sd_fits.specs.Fits.{FitsBounds, FitsPages}
 
 module _ (txns : List Transactions) (locks : LockTable) (seen : rig.DeviceImages) (leaves : Outcomes) (c : Parts) where

@@ -9,14 +9,14 @@
 //! Refuses: nothing.
 //! Knows nothing of: the calls of events.
 //! Stands on: sd_base, sd_model, sd_page, sd_logrec, sd_rig, sd_gate, sd_log, sd_pool, sd_txn, sd_reclock, sd_places,
-//! sd_pagelock, sd_chain, sd_sound, sd_coherent, sd_world, sd_state, sd_undos, sd_changes, sd_opened, sd_moves.
+//! sd_pagelock, sd_chain, sd_sound, sd_coherent, sd_world, sd_state, sd_seals, sd_undos, sd_changes, sd_opened, sd_moves,
+//! sd_falls, sd_puts, sd_settle.
 //! Lends: in `proofs` the lemma of each law (Fitting), and how a complex goes on fitting: where nothing or locks alone change
 //! (Served, Still), where transactions work, turn and end (Heads, Worked, Taking, Turning, Leaving), where pages move, are put or
 //! rebuilt (Places, Passing, Frames, Putting, Rebuilding), where a log grows, is forced (Recording, Changing, Undoing, Sealing,
-//! Forcing) or is full (Room), where an instance falls (Falling); what a record has (Values, Unclaimed), who stands in the way of
-//! a lock (Looking), how a refusal for what instances and pages say is served (Refused), what a row tells of its transaction
-//! (Known), what is left of the data device (Disk) and within the sums (Sums), how a complex is closed and opened (Closing,
-//! Reopening, Opening, Opened), that frames stay (Framed), and events on one that is open or closed (Bodies).
+//! Forcing) or is full (Room), where an instance falls (Falling); of a record (Values, Unclaimed), of who stands in the way of a
+//! lock (Looking), of a refusal (Refused), of a row (Known), of the data device (Disk), the sums (Sums) and frames (Framed); how
+//! a complex is closed and opened (Closing, Reopening, Opening, Opened), and events on one that is open or closed (Bodies).
 //!
 //! To change:
 //! - free: proofs

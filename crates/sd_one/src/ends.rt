@@ -9,6 +9,7 @@ use crate::standing::{is_bare, may_end, may_take_back, runs};
 use crate::stop::Stop;
 use sd_base::TxnId;
 use sd_rig::Rig;
+use sd_seals::{seal_commit, seal_end};
 use sd_state::Complex;
 
 /// Commits a transaction: its Commit is forced, where it has a record. `Odd` where it doesn't run.
@@ -23,7 +24,7 @@ pub fn commit<G: Rig>(c: &mut Complex<G>, t: &TxnId) -> Result<(), Stop>
         c.committed_bare(t);
         return Ok(());
     }
-    c.seal_commit(t);
+    seal_commit(c, t);
     c.force_log(t.inst)?;
     c.committed(t);
     Ok(())
@@ -91,6 +92,6 @@ fn seal<G: Rig>(c: &mut Complex<G>, t: &TxnId) -> Result<(), Stop>
     if !may_end(c, t) {
         return Ok(());
     }
-    c.seal_end(t)?;
+    seal_end(c, t)?;
     Ok(())
 }

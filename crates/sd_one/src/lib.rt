@@ -9,7 +9,7 @@
 //! by a force.
 //! Knows nothing of: which state of the serial table it is, replies, other instances, recovery.
 //! Stands on: sd_base, sd_model, sd_page, sd_logrec, sd_rig, sd_log, sd_pool, sd_txn, sd_reclock, sd_places, sd_pagelock,
-//! sd_chain, sd_sound, sd_state, sd_undos, sd_changes, sd_opened.
+//! sd_chain, sd_sound, sd_state, sd_seals, sd_undos, sd_changes, sd_opened.
 //! Beside the house: tests and benches hold it, and no part of the program is to stand on it.
 //!
 //! To change:

@@ -7,7 +7,7 @@ ghost use Rattle.sd_places.specs.Places as places;
 ghost use Rattle.sd_changes.specs.Changing.{FitsThere};
 ghost use Rattle.sd_state.specs.Complexes.{parts};
 ghost use Rattle.sd_state.specs.Parts.{IsShape, pool_at, txns_at};
-ghost use Rattle.sd_state.specs.Sealing.{MayEnd};
+ghost use Rattle.sd_seals.specs.Sealing.{MayPutEnd};
 ghost use Rattle.sd_txn.specs.Transactions.{span_at};
 ghost use Rattle.sd_one.specs.Ready.{FitsAt, MayTakeBack, Rolls, Runs};
 
@@ -62,7 +62,7 @@ pub fn may_take_back<G>(c: &Complex<G>, t: &TxnId) -> bool
 /// Whether it does, and has a record and nothing open, so that its End may come.
 pub fn may_end<G>(c: &Complex<G>, t: &TxnId) -> bool
     requires { IsShape (parts c.now) }
-    ensures may { IsTrue result → MayEnd t.now (parts c.now) }
+    ensures may { IsTrue result → MayPutEnd t.now (parts c.now) }
     ensures numbered { IsTrue result → IsTxn t.now }
 {
     let table = c.txns(t.inst);

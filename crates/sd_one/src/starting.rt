@@ -14,6 +14,7 @@ use sd_base::{InstNo, Mode, PageNo, Refusal, Status, Trouble};
 use sd_opened::fresh;
 use sd_pagelock::rows;
 use sd_rig::Rig;
+use sd_seals::seal_start;
 use sd_state::{Complex, Shape};
 use std::alloc::Global;
 
@@ -46,7 +47,7 @@ fn join<G: Rig>(c: &mut Complex<G>) -> Result<(), Stop>
     ensures { OnOk result (IsReady (G.seen c.new.rig) (G.leaves c.new.rig) (parts c.new)) }
 {
     let i = first();
-    c.seal_start(i)?;
+    seal_start(c, i)?;
     c.force_log(i)?;
     c.joined(i);
     Ok(())

@@ -42,8 +42,7 @@ use Rattle.sd_opened.proofs.OpenedHalf.{nine-settled}
 use Rattle.sd_opened.proofs.OpenedImage.{values-now}
 use Rattle.sd_opened.proofs.OpenedPages.{unchanged-same}
 use Rattle.sd_state.proofs.Standing.{left-stands}
-use Rattle.sd_reclock.specs.Locks.{waits_in}
-use Rattle.sd_reclock.specs.declared.wait.Asked.{Asked}
+use Rattle.sd_reclock.specs.Locks.{waits_in, Asked}
 
 none-of-both : (b : Bool) → (b && false) ≡ false
 none-of-both true = refl

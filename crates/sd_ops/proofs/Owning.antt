@@ -12,8 +12,7 @@ use Rattle.sd_model.specs.declared.act.Life.{Life}
 use Rattle.sd_pagelock.specs.Directory.{entry_at}
 use Rattle.sd_places.specs.Places.{PageEntry, holds_as, is_lost, owns}
 use Rattle.sd_reclock.specs.Answers.{IsFree}
-use Rattle.sd_reclock.specs.Locks.{stands, wait_for, waits_in}
-use Rattle.sd_reclock.specs.declared.wait.Asked.{Asked}
+use Rattle.sd_reclock.specs.Locks.{stands, wait_for, waits_in, Asked}
 use Rattle.sd_rig.specs.Devices.{DeviceImages}
 use Rattle.sd_sound.specs.Logs.{Outcomes}
 use Rattle.sd_chain.specs.Pages.{value}

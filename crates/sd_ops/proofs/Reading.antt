@@ -21,8 +21,7 @@ use Rattle.sd_model.specs.declared.event.Reply.TheVariants as reply
 use Rattle.sd_pagelock.specs.Directory.{entry_at}
 use Rattle.sd_places.specs.Places.{PageEntry, holds, is_lost, seen}
 use Rattle.sd_reclock.specs.Answers.{IsFree, IsRefused}
-use Rattle.sd_reclock.specs.Locks.{held, raised, stands, wait_for, waits, waits_in}
-use Rattle.sd_reclock.specs.declared.wait.Asked.{Asked}
+use Rattle.sd_reclock.specs.Locks.{held, raised, stands, wait_for, waits, waits_in, Asked}
 use Rattle.sd_rig.specs.Devices.{DeviceImages}
 use Rattle.sd_sound.specs.Logs.{Outcomes}
 use Rattle.sd_chain.specs.Pages.{value}

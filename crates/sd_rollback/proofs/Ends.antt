@@ -40,12 +40,12 @@ use Rattle.sd_world.specs.Serving.{Core, Turns}
 use Rattle.sd_state.specs.Forcing.{KeepMasters, with_forced}
 use Rattle.sd_state.specs.Good.{Good}
 use Rattle.sd_state.specs.Parts.{Parts, among, is_loose, log_at, no_log, no_txns, owed_at, status_at, txns_at}
-use Rattle.sd_state.specs.Sealing.{HasEnd, end_of}
+use Rattle.sd_seals.specs.Sealing.{HasEnd, end_of}
 use Rattle.sd_state.specs.Tables.{tells_log}
 use Rattle.sd_state.specs.Values.{Pending}
 use Rattle.sd_state.specs.Working.{with_working}
 use Rattle.sd_state.proofs.Items.{item-kept, item-set}
-use Rattle.sd_state.proofs.SealedCalls.{has}
+use Rattle.sd_seals.proofs.SealedCalls.{has}
 use Rattle.sd_fits.specs.Fits.{Fits, FitsBounds, FitsDoubts, FitsPages}
 use Rattle.sd_fits.proofs.Falling.{IsElsewhere}
 use Rattle.sd_fits.proofs.Forcing.{forced-bounds, forced-doubts, forced-pages}

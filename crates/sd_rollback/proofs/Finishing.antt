@@ -31,11 +31,11 @@ use Rattle.sd_state.specs.Forcing.{KeepMasters, with_failed, with_forced}
 use Rattle.sd_state.specs.Good.{Good}
 use Rattle.sd_state.specs.Images.{Stands}
 use Rattle.sd_state.specs.Parts.{Parts, acting, actor, is_loose, log_at, no_txns, owed_at, status_at, txns_at}
-use Rattle.sd_state.specs.Sealing.{HasEnd, MayEnd, end_of}
+use Rattle.sd_seals.specs.Sealing.{HasEnd, MayPutEnd, end_of}
 use Rattle.sd_state.specs.Values.{Pending}
 use Rattle.sd_state.specs.Working.{with_working}
 use Rattle.sd_state.specs.declared.complex.Complex.{Complex}
-use Rattle.sd_moves.specs.Falling.{IsFallen, with_fallen}
+use Rattle.sd_falls.specs.Falling.{IsFallen, with_fallen}
 use Rattle.sd_state.proofs.Items.{item-set}
 use Rattle.sd_fits.specs.Fits.{Fits, FitsBounds, FitsDoubts, FitsPages}
 use Rattle.sd_fits.specs.Serving.{Serving, fits_by, stands_for}
@@ -61,7 +61,7 @@ none-open [] e = refl
 none-open (x ∷ xs) e = absurd (omega (arith, e))
 
 pub may-end : (t : TxnId) (c : Parts) → status_at c (home t) ≡ S.Up → state_at (txns_at c (home t)) t ≡ Some (TxnState.Rolling None)
-    → depth_at (txns_at c (home t)) t ≡ 0 → IsSome (span_at (txns_at c (home t)) t) → MayEnd t c
+    → depth_at (txns_at c (home t)) t ≡ 0 → IsSome (span_at (txns_at c (home t)) t) → MayPutEnd t c
 may-end t c up rolls empty spoken =
     let r = row-of (txn_at (txns_at c (home t)) t) (TxnState.Rolling None) rolls empty in
     record {

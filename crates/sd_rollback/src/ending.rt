@@ -15,8 +15,9 @@ ghost use Rattle.sd_world.specs.Serving.{Core, answered, step_or_finished, telli
 
 use crate::standing::name;
 use sd_base::{Refusal, TxnId};
-use sd_moves::down;
+use sd_falls::down;
 use sd_rig::Rig;
+use sd_seals::seal_end;
 use sd_state::Complex;
 
 /// Ends a whole rollback of which nothing is open: `Ok(true)`, once the End of the transaction is forced; one without a record has
@@ -59,7 +60,7 @@ fn finish_recorded<G: Rig>(c: &mut Complex<G>, t: &TxnId) -> Result<bool, Refusa
 {
     name(t);
     // Memory is reserved for its End.
-    c.seal_end(t).unwrap();
+    seal_end(c, t).unwrap();
     match c.force_log(t.inst) {
         Ok(()) => {
             // Its locks go, and its end is told, once its End is forced.

@@ -9,7 +9,7 @@
 //! has fallen then.
 //! Knows nothing of: scripts, whose turn it is, how a page comes to an instance.
 //! Stands on: sd_base, sd_model, sd_page, sd_logrec, sd_rig, sd_log, sd_txn, sd_reclock, sd_places, sd_pagelock, sd_chain,
-//! sd_sound, sd_world, sd_state, sd_undos, sd_moves, sd_fits.
+//! sd_sound, sd_world, sd_state, sd_seals, sd_undos, sd_falls, sd_fits.
 //! Lends: nothing.
 //! Held by the caller: that the complex fits a world.
 //!

@@ -9,10 +9,10 @@ use Rattle.sd_sound.proofs.Kept.{forced-tail}
 use Rattle.sd_world.specs.Serving.{Core}
 use Rattle.sd_state.specs.Forcing.{with_failed, with_forced}
 use Rattle.sd_state.specs.Parts.{IsShape, Parts, acting, actor, is_loose, log_at, no_log, owed_at, status_at, up_as}
-use Rattle.sd_state.specs.Sealing.{with_start}
+use Rattle.sd_seals.specs.Sealing.{with_start}
 use Rattle.sd_state.specs.Values.{Pending}
 use Rattle.sd_state.proofs.Items.{item-set}
-use Rattle.sd_state.proofs.SealedCalls.{settled-up}
+use Rattle.sd_seals.proofs.SealedCalls.{settled-up}
 use Rattle.sd_fits.specs.Fits.{Fits}
 use Rattle.sd_survive.specs.Joining.{MayStart}
 

@@ -27,12 +27,12 @@ use Rattle.sd_state.specs.Good.{Good}
 use Rattle.sd_state.specs.Images.{Stands}
 use Rattle.sd_state.specs.Joining.{with_joined}
 use Rattle.sd_state.specs.Parts.{Parts, epoch_at, is_loose, log_at, no_log, owed_at, status_at}
-use Rattle.sd_state.specs.Sealing.{with_start}
+use Rattle.sd_seals.specs.Sealing.{with_start}
 use Rattle.sd_state.specs.Values.{Pending}
 use Rattle.sd_state.specs.declared.complex.Complex.{Complex}
 use Rattle.sd_state.proofs.Items.{item-kept, item-set}
-use Rattle.sd_moves.specs.Falling.{IsFallen, with_fallen}
-use Rattle.sd_moves.proofs.FallModel.{IsFall, start-falls}
+use Rattle.sd_falls.specs.Falling.{IsFallen, with_fallen}
+use Rattle.sd_falls.proofs.FallModel.{IsFall, start-falls}
 use Rattle.sd_fits.specs.Fits.{Fits, FitsBounds, FitsDoubts, FitsPages}
 use Rattle.sd_fits.specs.Serving.{fits_by, stands_for}
 use Rattle.sd_fits.proofs.Falling.{IsElsewhere, fallen-fits, fell-waits, fell_core, numbers_of, turns-fell}

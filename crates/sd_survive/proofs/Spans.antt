@@ -17,7 +17,7 @@ use Rattle.sd_chain.specs.Storage.{Recovered}
 use Rattle.sd_chain.specs.Records.{Each, Val, stack}
 use Rattle.sd_state.specs.Images.{IsEpochOf, Stands, kept_epoch}
 use Rattle.sd_state.specs.Values.{Pending, rid_of, starts_of}
-use Rattle.sd_moves.proofs.FallModel.{IsFall}
+use Rattle.sd_falls.proofs.FallModel.{IsFall}
 use Rattle.sd_fits.specs.Serving.{stands_for}
 use Rattle.sd_survive.proofs.Fewer.{failed_so}
 

@@ -31,15 +31,15 @@ use Rattle.sd_state.specs.Forcing.{KeepMasters, with_failed, with_forced}
 use Rattle.sd_state.specs.Good.{Good}
 use Rattle.sd_state.specs.Joining.{with_joined}
 use Rattle.sd_state.specs.Parts.{Parts, is_loose, log_at, no_log, owed_at, status_at, txns_at, up_as}
-use Rattle.sd_state.specs.Sealing.{with_start}
+use Rattle.sd_seals.specs.Sealing.{with_start}
 use Rattle.sd_state.specs.Sums.{great_of, owed_in_all, owes_most}
 use Rattle.sd_state.specs.Tables.{tells_log}
 use Rattle.sd_state.specs.Values.{Pending}
 use Rattle.sd_state.proofs.Items.{item-kept, item-set}
-use Rattle.sd_state.proofs.SealedCalls.{settled-up}
+use Rattle.sd_seals.proofs.SealedCalls.{settled-up}
 use Rattle.sd_world.specs.Bounds.{Bounds, bounds_after}
 use Rattle.sd_world.specs.Serving.{Core}
-use Rattle.sd_moves.proofs.FallBounds.{sum-less}
+use Rattle.sd_falls.proofs.FallBounds.{sum-less}
 use Rattle.sd_fits.specs.Fits.{Fits, FitsBounds, FitsDoubts, FitsPages}
 use Rattle.sd_fits.proofs.Forcing.{failed-bounds, failed-doubts, failed-pages, forced-bounds, forced-doubts, forced-pages}
 use Rattle.sd_fits.proofs.Forcing.{no-more}

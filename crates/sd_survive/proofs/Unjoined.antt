@@ -18,11 +18,11 @@ use Rattle.sd_sound.specs.Logs.{Outcomes, past_at}
 use Rattle.sd_world.specs.Serving.{Core, Serves, Telling, refused}
 use Rattle.sd_state.specs.Complexes.{parts}
 use Rattle.sd_state.specs.Parts.{Parts, epoch_at, is_loose, log_at, status_at, up_as}
-use Rattle.sd_state.specs.Sealing.{NoLsnLeft, NoRoomFor}
+use Rattle.sd_seals.specs.Sealing.{NoLsnLeft, NoRoomFor}
 use Rattle.sd_state.specs.Tables.{tells_log}
 use Rattle.sd_state.specs.Values.{Pending}
 use Rattle.sd_state.specs.declared.complex.Complex.{Complex}
-use Rattle.sd_state.proofs.SealedCalls.{settled-up}
+use Rattle.sd_seals.proofs.SealedCalls.{settled-up}
 use Rattle.sd_state.proofs.Standing.{no-place}
 use Rattle.sd_fits.specs.Fits.{Fits}
 use Rattle.sd_fits.specs.Serving.{Serving, fits_by, stands_for}

@@ -9,7 +9,8 @@ ghost use Rattle.sd_state.specs.Complexes.{parts};
 ghost use Rattle.sd_world.specs.Serving.{Core, did, telling};
 
 use sd_base::{InstNo, Refusal};
-use sd_moves::{down, is_active, laws};
+use sd_falls::down;
+use sd_moves::{is_active, laws};
 use sd_rig::Rig;
 use sd_state::Complex;
 

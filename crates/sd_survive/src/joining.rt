@@ -11,8 +11,10 @@ ghost use Rattle.sd_survive.specs.Joining.{MayStart, StaysOut};
 ghost use Rattle.sd_world.specs.Serving.{Core, joined_reply, telling};
 
 use sd_base::{InstNo, Refusal, Status};
-use sd_moves::{down, laws};
+use sd_falls::down;
+use sd_moves::laws;
 use sd_rig::Rig;
+use sd_seals::seal_start;
 use sd_state::Complex;
 
 /// An instance that has nothing to recover comes up, and answers the epoch in which it is: the Start of that epoch is forced.
@@ -26,7 +28,7 @@ pub fn join<G: Rig>(c: &mut Complex<G>, i: InstNo) -> Result<u32, Refusal>
 {
     laws::instances(i);
     may_start(c, i)?;
-    let epoch = c.seal_start(i)?;
+    let epoch = seal_start(c, i)?;
     match c.force_log(i) {
         Ok(()) => {
             c.joined(i);

@@ -7,7 +7,8 @@
 //! that is told.
 //! Refuses: what the order of the event's causes says, the first that applies.
 //! Knows nothing of: recovery, whose turn it is, what is noted of an answer.
-//! Stands on: sd_base, sd_model, sd_logrec, sd_rig, sd_log, sd_txn, sd_chain, sd_sound, sd_world, sd_state, sd_moves, sd_fits.
+//! Stands on: sd_base, sd_model, sd_logrec, sd_rig, sd_log, sd_txn, sd_chain, sd_sound, sd_world, sd_state, sd_seals,
+//! sd_moves, sd_falls, sd_fits.
 //! Lends: nothing.
 //! Held by the caller: that no fall is due, which `Fits` says.
 //!

@@ -32,12 +32,12 @@ use Rattle.sd_state.specs.Forcing.{KeepMasters, with_failed, with_forced}
 use Rattle.sd_state.specs.Good.{Good}
 use Rattle.sd_state.specs.Images.{Stands}
 use Rattle.sd_state.specs.Parts.{Parts, acting, actor, is_loose, log_at, owed_at, status_at, txns_at}
-use Rattle.sd_state.specs.Sealing.{HasEnd, commit_of}
+use Rattle.sd_seals.specs.Sealing.{HasEnd, commit_of}
 use Rattle.sd_state.specs.Values.{Pending}
 use Rattle.sd_state.specs.Working.{with_working}
 use Rattle.sd_state.specs.declared.complex.Complex.{Complex}
-use Rattle.sd_moves.specs.Falling.{IsFallen, with_fallen}
-use Rattle.sd_moves.proofs.FallCuts.{cut-falls}
+use Rattle.sd_falls.specs.Falling.{IsFallen, with_fallen}
+use Rattle.sd_falls.proofs.FallCuts.{cut-falls}
 use Rattle.sd_fits.specs.Fits.{Fits, FitsBounds, FitsDoubts, FitsPages}
 use Rattle.sd_fits.specs.Serving.{Serving, fits_by, stands_for}
 use Rattle.sd_fits.proofs.Disk.{other-device}

@@ -20,7 +20,7 @@ use Rattle.sd_chain.proofs.Fates.{committed-fate}
 use Rattle.sd_state.specs.Images.{IsClaimed, IsOpenIn, Stands}
 use Rattle.sd_state.specs.Values.{Pending, as_done, is_committed, is_doubt, rid_of, undecided, values}
 use Rattle.sd_state.proofs.EndingValues.{values-committed}
-use Rattle.sd_moves.proofs.FallModel.{IsFall}
+use Rattle.sd_falls.proofs.FallModel.{IsFall}
 
 -- who has the same part has the same claims
 claimed-as : (m m' : State) (u : TxnId) (log : List Rec) → m'.part u ≡ m.part u → IsClaimed m u log → IsClaimed m' u log

@@ -6,7 +6,7 @@ ghost use Rattle.sd_base.specs.declared.refusal.Refusal.TheVariants as R;
 ghost use Rattle.sd_chain.specs.Records.{home};
 ghost use Rattle.sd_model.specs.State.{State, cut_commit};
 ghost use Rattle.sd_model.specs.declared.event.Event.TheVariants as event;
-ghost use Rattle.sd_moves.specs.Falling.{IsFallen, with_fallen};
+ghost use Rattle.sd_falls.specs.Falling.{IsFallen, with_fallen};
 ghost use Rattle.sd_rig.specs.Devices.{LeavesSame};
 ghost use Rattle.sd_state.specs.Complexes.{parts};
 ghost use Rattle.sd_state.specs.Good.{Good};
@@ -22,8 +22,9 @@ ghost use Rattle.sd_work.specs.Halves.{HalfServed};
 use crate::standing::is_up;
 use crate::waiting::{at_work, end_wait, refuse};
 use sd_base::{InstNo, Memory, Refusal, TxnId, Word};
-use sd_moves::cut;
+use sd_falls::cut;
 use sd_rig::Rig;
+use sd_seals::seal_commit;
 use sd_state::Complex;
 use std::alloc::Global;
 
@@ -130,7 +131,7 @@ fn commit_recorded<G: Rig>(c: &mut Complex<G>, t: &TxnId) -> Result<(), Refusal>
     ensures disk_leaves { LeavesSame (G.leaves c.old.rig 0) (G.leaves c.new.rig 0) }
 {
     name(t);
-    c.seal_commit(t);
+    seal_commit(c, t);
     match c.force_log(t.inst) {
         Ok(()) => {
             // Its locks go, and it is told, once its Commit is forced.

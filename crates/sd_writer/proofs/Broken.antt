@@ -13,7 +13,7 @@ use Rattle.sd_model.specs.declared.cause.Cause.{Cause}
 use Rattle.sd_model.specs.declared.event.Event.{Event}
 use Rattle.sd_model.specs.declared.event.Reply.{Reply}
 use Rattle.sd_model.specs.declared.event.Reply.TheVariants as reply
-use Rattle.sd_moves.specs.Falling.{IsFallen, with_fallen}
+use Rattle.sd_falls.specs.Falling.{IsFallen, with_fallen}
 use Rattle.sd_world.specs.Answers.{Fails}
 use Rattle.sd_world.specs.Bounds.{bounds_after}
 use Rattle.sd_world.specs.Serving.{Core, Passes, Serves, Telling, Turns}

@@ -18,7 +18,7 @@ use Rattle.sd_model.specs.declared.event.Event.{Event}
 use Rattle.sd_model.specs.declared.event.Reply.TheVariants as reply
 use Rattle.sd_chain.specs.Checks.{owed}
 use Rattle.sd_chain.specs.Records.{IsOpen, home}
-use Rattle.sd_moves.specs.Falling.{IsFallen, with_fallen}
+use Rattle.sd_falls.specs.Falling.{IsFallen, with_fallen}
 use Rattle.sd_sound.specs.Logs.{Outcomes, all_at, base_at}
 use Rattle.sd_sound.proofs.Kept.{forced-base, forced-tail}
 use Rattle.sd_world.specs.Serving.{Core, Spares, Telling}

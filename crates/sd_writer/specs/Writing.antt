@@ -4,7 +4,7 @@ use Rattle.sd_base.specs.declared.refusal.Refusal.{Refusal}
 use Rattle.sd_base.specs.declared.refusal.Refusal.TheVariants as R
 use Rattle.sd_chain.specs.Bytes.{disk_page}
 use Rattle.sd_coherent.specs.Coherent.{Quiet}
-use Rattle.sd_moves.specs.Putting.{with_loose_disk}
+use Rattle.sd_puts.specs.Putting.{with_loose_disk}
 use Rattle.sd_pagelock.specs.Directory.{entry_at}
 use Rattle.sd_places.specs.Places.{is_lost, seen}
 use Rattle.sd_rig.specs.Devices as rig

@@ -16,7 +16,8 @@ ghost use Rattle.sd_writer.specs.Breaking.{BreaksBy};
 ghost use Rattle.sd_writer.specs.Forcing.{OnlyLogs};
 
 use sd_base::{InstNo, Refusal};
-use sd_moves::{down, is_active, laws};
+use sd_falls::down;
+use sd_moves::{is_active, laws};
 use sd_rig::Rig;
 use sd_state::Complex;
 

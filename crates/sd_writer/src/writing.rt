@@ -6,7 +6,7 @@ ghost use Rattle.sd_base.specs.declared.refusal.Refusal.TheVariants as R;
 ghost use Rattle.sd_fits.specs.Fits.{Fits};
 ghost use Rattle.sd_fits.specs.Serving.{Serving};
 ghost use Rattle.sd_model.specs.declared.event.Event.TheVariants as event;
-ghost use Rattle.sd_moves.specs.Putting.{with_loose_disk};
+ghost use Rattle.sd_puts.specs.Putting.{with_loose_disk};
 ghost use Rattle.sd_pagelock.specs.Directory.{entry_at};
 ghost use Rattle.sd_places.specs.Places.{seen};
 ghost use Rattle.sd_places.specs.Rows as rows;
@@ -18,8 +18,10 @@ ghost use Rattle.sd_writer.specs.Writing.{IsUnread, IsWriters, IsWritten, StaysU
 
 use crate::forcing::force_or_fall;
 use sd_base::{InstNo, PageNo, Place, Refusal};
-use sd_moves::{Unput, down, is_active, laws, put_page};
+use sd_falls::down;
+use sd_moves::{is_active, laws};
 use sd_pagelock::rows;
+use sd_puts::{Unput, put_page};
 use sd_rig::Rig;
 use sd_state::Complex;
 

@@ -24,18 +24,18 @@ committed-requires-clause-forced g c =
     let i : ℕ = c.args.t.now.inst in
     let runs = c.if-not-runs.ensures refl in
     let sealed = c.seal_commit.ensures.good c.requires.m c.requires.good in
-    let settled : is_loose (parts c.seal_commit.new.self) i ≡ false =
+    let settled : is_loose (parts c.seal_commit.new.c) i ≡ false =
     ap (λ (p : Parts). is_loose p i) c.seal_commit.ensures.parts.is
     ∙ working-settled (g.G.Rig.seen c.args.c.now.rig) (g.G.Rig.leaves c.args.c.now.rig) Pending.Idle (parts c.args.c.now) c.requires.m i
     c.requires.good c.requires.idle runs.numbered.low runs.up in
-    forced-empty (parts c.seal_commit.new.self) (parts c.force_log.new.self) i (owed_at (parts c.force_log.new.self) i)
+    forced-empty (parts c.seal_commit.new.c) (parts c.force_log.new.self) i (owed_at (parts c.force_log.new.self) i)
     runs.numbered.low runs.numbered.high sealed.shape.logs (c.in_ok-force_log.ensures.forced settled)
 
 pub returns : goal.returns
 returns g c =
     let i : ℕ = c.args.t.now.inst in
     let runs = c.if-not-runs.ensures refl in
-    let settled : is_loose (parts c.seal_commit.new.self) i ≡ false =
+    let settled : is_loose (parts c.seal_commit.new.c) i ≡ false =
     ap (λ (p : Parts). is_loose p i) c.seal_commit.ensures.parts.is
     ∙ working-settled (g.G.Rig.seen c.args.c.now.rig) (g.G.Rig.leaves c.args.c.now.rig) Pending.Idle (parts c.args.c.now) c.requires.m i
     c.requires.good c.requires.idle runs.numbered.low runs.up in

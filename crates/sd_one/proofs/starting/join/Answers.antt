@@ -16,7 +16,7 @@ joined-requires-clause-good g c =
 
 pub returns : goal.returns
 returns g c =
-    let settled : is_loose (parts c.seal_start.new.self) c.first-i.result ≡ false =
+    let settled : is_loose (parts c.seal_start.new.c) c.first-i.result ≡ false =
     ap (λ (p : Parts). is_loose p c.first-i.result) c.in_ok-seal_start.ensures.parts
     ∙ fresh-settled c.requires.fresh.0 c.first-i.result (parts c.args.c.now) c.requires.fresh.1 c.first-i.ensures in
     ready (ap (λ (p : Parts). p.due) c.joined.ensures.parts ∙ ap (λ (p : Parts). p.due) (c.in_ok-force_log.ensures.forced settled)

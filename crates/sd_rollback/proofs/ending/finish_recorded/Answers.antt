@@ -53,9 +53,9 @@ rolled_back-requires-clause-idle g c =
     let s = c.seal_end.ensures in
     let e = c.in-Ok.ensures in
     let ends = when_ok c.seal_end.result tt _ (s.there r.up) s.parts in
-    let k = ending tell t c.args.c.now c.seal_end.new.self c.force_log.new.self n.low n.high r.up r.rolls r.empty r.there
+    let k = ending tell t c.args.c.now c.seal_end.new.c c.force_log.new.self n.low n.high r.up r.rolls r.empty r.there
     (λ dev few. g.met.G.Rig.leaves_seen c.args.c.now.rig dev few) s.rig ends s.good e.good e.images e.time e.others e.masters in
-    forced-idle tell t c.args.c.now c.seal_end.new.self c.force_log.new.self k e.forced r.fits.0 r.fits.1
+    forced-idle tell t c.args.c.now c.seal_end.new.c c.force_log.new.self k e.forced r.fits.0 r.fits.1
 
 pub rolled_back-requires-clause-up : goal.rolled_back-requires-clause-up
 rolled_back-requires-clause-up g c =
@@ -66,9 +66,9 @@ rolled_back-requires-clause-up g c =
     let s = c.seal_end.ensures in
     let e = c.in-Ok.ensures in
     let ends = when_ok c.seal_end.result tt _ (s.there r.up) s.parts in
-    let k = ending tell t c.args.c.now c.seal_end.new.self c.force_log.new.self n.low n.high r.up r.rolls r.empty r.there
+    let k = ending tell t c.args.c.now c.seal_end.new.c c.force_log.new.self n.low n.high r.up r.rolls r.empty r.there
     (λ dev few. g.met.G.Rig.leaves_seen c.args.c.now.rig dev few) s.rig ends s.good e.good e.images e.time e.others e.masters in
-    forced-up tell t c.args.c.now c.seal_end.new.self c.force_log.new.self k e.forced r.fits.0 r.fits.1
+    forced-up tell t c.args.c.now c.seal_end.new.c c.force_log.new.self k e.forced r.fits.0 r.fits.1
 
 pub rolled_back-requires-clause-rolls : goal.rolled_back-requires-clause-rolls
 rolled_back-requires-clause-rolls g c =
@@ -79,9 +79,9 @@ rolled_back-requires-clause-rolls g c =
     let s = c.seal_end.ensures in
     let e = c.in-Ok.ensures in
     let ends = when_ok c.seal_end.result tt _ (s.there r.up) s.parts in
-    let k = ending tell t c.args.c.now c.seal_end.new.self c.force_log.new.self n.low n.high r.up r.rolls r.empty r.there
+    let k = ending tell t c.args.c.now c.seal_end.new.c c.force_log.new.self n.low n.high r.up r.rolls r.empty r.there
     (λ dev few. g.met.G.Rig.leaves_seen c.args.c.now.rig dev few) s.rig ends s.good e.good e.images e.time e.others e.masters in
-    forced-rolls tell t c.args.c.now c.seal_end.new.self c.force_log.new.self k e.forced r.fits.0 r.fits.1
+    forced-rolls tell t c.args.c.now c.seal_end.new.c c.force_log.new.self k e.forced r.fits.0 r.fits.1
 
 pub rolled_back-requires-clause-bare : goal.rolled_back-requires-clause-bare
 rolled_back-requires-clause-bare g c =
@@ -92,9 +92,9 @@ rolled_back-requires-clause-bare g c =
     let s = c.seal_end.ensures in
     let e = c.in-Ok.ensures in
     let ends = when_ok c.seal_end.result tt _ (s.there r.up) s.parts in
-    let k = ending tell t c.args.c.now c.seal_end.new.self c.force_log.new.self n.low n.high r.up r.rolls r.empty r.there
+    let k = ending tell t c.args.c.now c.seal_end.new.c c.force_log.new.self n.low n.high r.up r.rolls r.empty r.there
     (λ dev few. g.met.G.Rig.leaves_seen c.args.c.now.rig dev few) s.rig ends s.good e.good e.images e.time e.others e.masters in
-    forced-bare tell t c.args.c.now c.seal_end.new.self c.force_log.new.self k e.forced r.fits.0 r.fits.1
+    forced-bare tell t c.args.c.now c.seal_end.new.c c.force_log.new.self k e.forced r.fits.0 r.fits.1
 
 pub rolled_back-requires-clause-ended : goal.rolled_back-requires-clause-ended
 rolled_back-requires-clause-ended g c =
@@ -105,9 +105,9 @@ rolled_back-requires-clause-ended g c =
     let s = c.seal_end.ensures in
     let e = c.in-Ok.ensures in
     let ends = when_ok c.seal_end.result tt _ (s.there r.up) s.parts in
-    let k = ending tell t c.args.c.now c.seal_end.new.self c.force_log.new.self n.low n.high r.up r.rolls r.empty r.there
+    let k = ending tell t c.args.c.now c.seal_end.new.c c.force_log.new.self n.low n.high r.up r.rolls r.empty r.there
     (λ dev few. g.met.G.Rig.leaves_seen c.args.c.now.rig dev few) s.rig ends s.good e.good e.images e.time e.others e.masters in
-    inr (forced-tail tell t c.args.c.now c.seal_end.new.self c.force_log.new.self k e.forced r.fits.0 r.fits.1)
+    inr (forced-tail tell t c.args.c.now c.seal_end.new.c c.force_log.new.self k e.forced r.fits.0 r.fits.1)
 
 pub returns-in-Ok-clause-served : goal.returns-in-Ok-clause-served
 returns-in-Ok-clause-served g c =
@@ -118,10 +118,10 @@ returns-in-Ok-clause-served g c =
     let s = c.seal_end.ensures in
     let e = c.in-Ok.ensures in
     let ends = when_ok c.seal_end.result tt _ (s.there r.up) s.parts in
-    let k = ending tell t c.args.c.now c.seal_end.new.self c.force_log.new.self n.low n.high r.up r.rolls r.empty r.there
+    let k = ending tell t c.args.c.now c.seal_end.new.c c.force_log.new.self n.low n.high r.up r.rolls r.empty r.there
     (λ dev few. g.met.G.Rig.leaves_seen c.args.c.now.rig dev few) s.rig ends s.good e.good e.images e.time e.others e.masters in
     let d = c.rolled_back.ensures in
-    forced-served tell t c.args.c.now c.seal_end.new.self c.force_log.new.self k e.forced c.rolled_back.new.self d.rig e.quiet d.parts d.waits d.good
+    forced-served tell t c.args.c.now c.seal_end.new.c c.force_log.new.self k e.forced c.rolled_back.new.self d.rig e.quiet d.parts d.waits d.good
 
 pub down-requires-clause-due : goal.down-requires-clause-due
 down-requires-clause-due g c =
@@ -132,9 +132,9 @@ down-requires-clause-due g c =
     let s = c.seal_end.ensures in
     let e = c.in-Err.ensures in
     let ends = when_ok c.seal_end.result tt _ (s.there r.up) s.parts in
-    let k = ending tell t c.args.c.now c.seal_end.new.self c.force_log.new.self n.low n.high r.up r.rolls r.empty r.there
+    let k = ending tell t c.args.c.now c.seal_end.new.c c.force_log.new.self n.low n.high r.up r.rolls r.empty r.there
     (λ dev few. g.met.G.Rig.leaves_seen c.args.c.now.rig dev few) s.rig ends s.good e.good e.images e.time e.others e.masters in
-    failed-due tell t c.args.c.now c.seal_end.new.self c.force_log.new.self k e.failed r.fits.0 r.fits.1
+    failed-due tell t c.args.c.now c.seal_end.new.c c.force_log.new.self k e.failed r.fits.0 r.fits.1
 
 pub returns-in-Err-clause-served : goal.returns-in-Err-clause-served
 returns-in-Err-clause-served g c =
@@ -145,33 +145,33 @@ returns-in-Err-clause-served g c =
     let s = c.seal_end.ensures in
     let e = c.in-Err.ensures in
     let ends = when_ok c.seal_end.result tt _ (s.there r.up) s.parts in
-    let k = ending tell t c.args.c.now c.seal_end.new.self c.force_log.new.self n.low n.high r.up r.rolls r.empty r.there
+    let k = ending tell t c.args.c.now c.seal_end.new.c c.force_log.new.self n.low n.high r.up r.rolls r.empty r.there
     (λ dev few. g.met.G.Rig.leaves_seen c.args.c.now.rig dev few) s.rig ends s.good e.good e.images e.time e.others e.masters in
     let d = c.down.ensures in
-    failed-served tell t c.args.c.now c.seal_end.new.self c.force_log.new.self k e.failed c.down.new.c d.rig d.parts d.fallen d.good e.cause
+    failed-served tell t c.args.c.now c.seal_end.new.c c.force_log.new.self k e.failed c.down.new.c d.rig d.parts d.fallen d.good e.cause
 
 pub returns-in-Ok-clause-disk : goal.returns-in-Ok-clause-disk
 returns-in-Ok-clause-disk g c =
     let tell : Telling _ = telling g.G.Rig.seen g.G.Rig.leaves g.G.Rig.moment g.G.Rig.since g.G.Rig.faults in
-    disk-same tell (home c.args.t.now) c.name.ensures.low c.args.c.now c.seal_end.new.self c.force_log.new.self c.rolled_back.new.self
+    disk-same tell (home c.args.t.now) c.name.ensures.low c.args.c.now c.seal_end.new.c c.force_log.new.self c.rolled_back.new.self
     c.seal_end.ensures.rig c.rolled_back.ensures.rig c.in-Ok.ensures.others
 
 pub returns-in-Ok-clause-disk_leaves : goal.returns-in-Ok-clause-disk_leaves
 returns-in-Ok-clause-disk_leaves g c =
     let tell : Telling _ = telling g.G.Rig.seen g.G.Rig.leaves g.G.Rig.moment g.G.Rig.since g.G.Rig.faults in
-    disk-leaves tell (home c.args.t.now) c.name.ensures.low c.args.c.now c.seal_end.new.self c.force_log.new.self c.rolled_back.new.self
+    disk-leaves tell (home c.args.t.now) c.name.ensures.low c.args.c.now c.seal_end.new.c c.force_log.new.self c.rolled_back.new.self
     c.seal_end.ensures.rig c.rolled_back.ensures.rig c.in-Ok.ensures.others_leave
 
 pub returns-in-Err-clause-disk : goal.returns-in-Err-clause-disk
 returns-in-Err-clause-disk g c =
     let tell : Telling _ = telling g.G.Rig.seen g.G.Rig.leaves g.G.Rig.moment g.G.Rig.since g.G.Rig.faults in
-    disk-same tell (home c.args.t.now) c.name.ensures.low c.args.c.now c.seal_end.new.self c.force_log.new.self c.down.new.c
+    disk-same tell (home c.args.t.now) c.name.ensures.low c.args.c.now c.seal_end.new.c c.force_log.new.self c.down.new.c
     c.seal_end.ensures.rig c.down.ensures.rig c.in-Err.ensures.others
 
 pub returns-in-Err-clause-disk_leaves : goal.returns-in-Err-clause-disk_leaves
 returns-in-Err-clause-disk_leaves g c =
     let tell : Telling _ = telling g.G.Rig.seen g.G.Rig.leaves g.G.Rig.moment g.G.Rig.since g.G.Rig.faults in
-    disk-leaves tell (home c.args.t.now) c.name.ensures.low c.args.c.now c.seal_end.new.self c.force_log.new.self c.down.new.c
+    disk-leaves tell (home c.args.t.now) c.name.ensures.low c.args.c.now c.seal_end.new.c c.force_log.new.self c.down.new.c
     c.seal_end.ensures.rig c.down.ensures.rig c.in-Err.ensures.others_leave
 
 pub returns-in-Err-clause-down : goal.returns-in-Err-clause-down

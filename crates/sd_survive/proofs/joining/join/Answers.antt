@@ -35,7 +35,7 @@ joined-requires-clause-settled g c =
     let seal = start.good fits.0.scene.state fits.1.good in
     let low = c.instances.ensures.low in
     let high = c.instances.ensures.high in
-    let s : Parts = parts c.seal_start.new.self in
+    let s : Parts = parts c.seal_start.new.c in
     let settled = start-settled c.args.i (next_lsn (log_at old c.args.i) 0) c.in_ok-epoch.epoch (log_at s c.args.i).spare
     (g.G.Rig.seen rig) (g.G.Rig.leaves rig) old s fits.0 fits.1 low high c.in_ok-may_start.ensures.waits start.parts in
     joined-settled c.args.i (next_lsn (log_at old c.args.i) 0) c.in_ok-epoch.epoch (log_at s c.args.i).spare
@@ -51,7 +51,7 @@ joined-requires-clause-forced g c =
     let seal = start.good fits.0.scene.state fits.1.good in
     let low = c.instances.ensures.low in
     let high = c.instances.ensures.high in
-    let s : Parts = parts c.seal_start.new.self in
+    let s : Parts = parts c.seal_start.new.c in
     let settled = start-settled c.args.i (next_lsn (log_at old c.args.i) 0) c.in_ok-epoch.epoch (log_at s c.args.i).spare
     (g.G.Rig.seen rig) (g.G.Rig.leaves rig) old s fits.0 fits.1 low high c.in_ok-may_start.ensures.waits start.parts in
     joined-bare c.args.i (next_lsn (log_at old c.args.i) 0) c.in_ok-epoch.epoch (log_at s c.args.i).spare
@@ -71,7 +71,7 @@ down-requires-clause-due g c =
     let rig = c.args.c.now.rig in
     let start = c.in_ok-epoch.ensures in
     let seal = start.good fits.0.scene.state fits.1.good in
-    let s : Parts = parts c.seal_start.new.self in
+    let s : Parts = parts c.seal_start.new.c in
     failed-due c.args.i (next_lsn (log_at old c.args.i) 0) c.in_ok-epoch.epoch (log_at s c.args.i).spare
     (g.G.Rig.seen rig) (g.G.Rig.leaves rig) old s fits.0 fits.1 c.instances.ensures.low c.instances.ensures.high
     c.in_ok-may_start.ensures.waits start.parts (parts c.force_log.new.self) seal.shape c.in-Err.ensures.failed
@@ -95,9 +95,9 @@ returns-in_err-epoch g c =
     let p = err_from_is_err_and c.from_residual-in_err-epoch.result c.from_residual-in_err-epoch.ensures.1 in
     let seal = c.in_err-epoch.ensures in
     record {
-      served = subst (λ (r : Result ℕ Refusal). Serving tell (Join c.args.i) (joined_reply r) old c.seal_start.new.self)
+      served = subst (λ (r : Result ℕ Refusal). Serving tell (Join c.args.i) (joined_reply r) old c.seal_start.new.c)
           (sym (p.1 ∙ ap (λ (n : Refusal). Err n) p.2))
-          (seal-refused tell old c.seal_start.new.self c.args.i c.instances.ensures.low c.instances.ensures.high seal.rig
+          (seal-refused tell old c.seal_start.new.c c.args.i c.instances.ensures.low c.instances.ensures.high seal.rig
           seal.stays
           (λ img since. g.met.G.Rig.only_now old.rig img since) c.in_ok-may_start.ensures.waits c.in_err-epoch.field-0.0
           seal.refusals (λ e. seal.full.0 (ap (λ (n : Refusal). Err n) e))
@@ -107,7 +107,7 @@ returns-in_err-epoch g c =
 pub returns-in-Ok : goal.returns-in-Ok
 returns-in-Ok g c =
     let old = c.args.c.now in
-    let s = c.seal_start.new.self in
+    let s = c.seal_start.new.c in
     let k = c.force_log.new.self in
     let i : ℕ = c.args.i in
     let tell = telling g.G.Rig.seen g.G.Rig.leaves g.G.Rig.moment g.G.Rig.since g.G.Rig.faults in
@@ -148,7 +148,7 @@ returns-in-Ok g c =
 pub returns-in-Err : goal.returns-in-Err
 returns-in-Err g c =
     let old = c.args.c.now in
-    let s = c.seal_start.new.self in
+    let s = c.seal_start.new.c in
     let k = c.force_log.new.self in
     let i : ℕ = c.args.i in
     let tell = telling g.G.Rig.seen g.G.Rig.leaves g.G.Rig.moment g.G.Rig.since g.G.Rig.faults in

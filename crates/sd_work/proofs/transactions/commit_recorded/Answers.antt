@@ -44,9 +44,9 @@ committed-requires-clause-idle g c =
     let r = c.requires in
     let s = c.seal_commit.ensures in
     let e = c.in-Ok.ensures in
-    let k = forcing tell t c.args.c.now c.seal_commit.new.self c.force_log.new.self n.low n.high r.up r.runs r.there
+    let k = forcing tell t c.args.c.now c.seal_commit.new.c c.force_log.new.self n.low n.high r.up r.runs r.there
     (λ dev few. g.met.G.Rig.leaves_seen c.args.c.now.rig dev few) s.rig s.parts s.good e.good e.images e.time e.others e.masters in
-    forced-idle tell t c.args.c.now c.seal_commit.new.self c.force_log.new.self k e.forced r.fits.0 r.fits.1
+    forced-idle tell t c.args.c.now c.seal_commit.new.c c.force_log.new.self k e.forced r.fits.0 r.fits.1
 
 pub committed-requires-clause-forced : goal.committed-requires-clause-forced
 committed-requires-clause-forced g c =
@@ -56,9 +56,9 @@ committed-requires-clause-forced g c =
     let r = c.requires in
     let s = c.seal_commit.ensures in
     let e = c.in-Ok.ensures in
-    let k = forcing tell t c.args.c.now c.seal_commit.new.self c.force_log.new.self n.low n.high r.up r.runs r.there
+    let k = forcing tell t c.args.c.now c.seal_commit.new.c c.force_log.new.self n.low n.high r.up r.runs r.there
     (λ dev few. g.met.G.Rig.leaves_seen c.args.c.now.rig dev few) s.rig s.parts s.good e.good e.images e.time e.others e.masters in
-    forced-tail tell t c.args.c.now c.seal_commit.new.self c.force_log.new.self k e.forced r.fits.0 r.fits.1
+    forced-tail tell t c.args.c.now c.seal_commit.new.c c.force_log.new.self k e.forced r.fits.0 r.fits.1
 
 pub returns-in-Ok-clause-served : goal.returns-in-Ok-clause-served
 returns-in-Ok-clause-served g c =
@@ -68,10 +68,10 @@ returns-in-Ok-clause-served g c =
     let r = c.requires in
     let s = c.seal_commit.ensures in
     let e = c.in-Ok.ensures in
-    let k = forcing tell t c.args.c.now c.seal_commit.new.self c.force_log.new.self n.low n.high r.up r.runs r.there
+    let k = forcing tell t c.args.c.now c.seal_commit.new.c c.force_log.new.self n.low n.high r.up r.runs r.there
     (λ dev few. g.met.G.Rig.leaves_seen c.args.c.now.rig dev few) s.rig s.parts s.good e.good e.images e.time e.others e.masters in
     let d = c.committed.ensures in
-    forced-served tell t c.args.c.now c.seal_commit.new.self c.force_log.new.self k e.forced c.committed.new.self d.rig e.quiet d.parts
+    forced-served tell t c.args.c.now c.seal_commit.new.c c.force_log.new.self k e.forced c.committed.new.self d.rig e.quiet d.parts
     d.waits d.good
 
 pub fall_in_commit-requires-clause-due : goal.fall_in_commit-requires-clause-due
@@ -82,9 +82,9 @@ fall_in_commit-requires-clause-due g c =
     let r = c.requires in
     let s = c.seal_commit.ensures in
     let e = c.in-Err.ensures in
-    let k = forcing tell t c.args.c.now c.seal_commit.new.self c.force_log.new.self n.low n.high r.up r.runs r.there
+    let k = forcing tell t c.args.c.now c.seal_commit.new.c c.force_log.new.self n.low n.high r.up r.runs r.there
     (λ dev few. g.met.G.Rig.leaves_seen c.args.c.now.rig dev few) s.rig s.parts s.good e.good e.images e.time e.others e.masters in
-    failed-due tell t c.args.c.now c.seal_commit.new.self c.force_log.new.self k e.failed r.fits.0 r.fits.1
+    failed-due tell t c.args.c.now c.seal_commit.new.c c.force_log.new.self k e.failed r.fits.0 r.fits.1
 
 pub returns-in-Err-clause-served : goal.returns-in-Err-clause-served
 returns-in-Err-clause-served g c =
@@ -94,31 +94,31 @@ returns-in-Err-clause-served g c =
     let r = c.requires in
     let s = c.seal_commit.ensures in
     let e = c.in-Err.ensures in
-    let k = forcing tell t c.args.c.now c.seal_commit.new.self c.force_log.new.self n.low n.high r.up r.runs r.there
+    let k = forcing tell t c.args.c.now c.seal_commit.new.c c.force_log.new.self n.low n.high r.up r.runs r.there
     (λ dev few. g.met.G.Rig.leaves_seen c.args.c.now.rig dev few) s.rig s.parts s.good e.good e.images e.time e.others e.masters in
     let d = c.fall_in_commit.ensures in
-    cut-served tell t c.args.c.now c.seal_commit.new.self c.force_log.new.self k e.failed c.fall_in_commit.new.c d.rig d.parts d.fallen d.good e.cause
+    cut-served tell t c.args.c.now c.seal_commit.new.c c.force_log.new.self k e.failed c.fall_in_commit.new.c d.rig d.parts d.fallen d.good e.cause
 
 pub returns-in-Ok-clause-disk : goal.returns-in-Ok-clause-disk
 returns-in-Ok-clause-disk g c =
     let tell : Telling _ = telling g.G.Rig.seen g.G.Rig.leaves g.G.Rig.moment g.G.Rig.since g.G.Rig.faults in
-    disk-same tell (home c.args.t.now) c.name.ensures.low c.args.c.now c.seal_commit.new.self c.force_log.new.self c.committed.new.self
+    disk-same tell (home c.args.t.now) c.name.ensures.low c.args.c.now c.seal_commit.new.c c.force_log.new.self c.committed.new.self
     c.seal_commit.ensures.rig c.committed.ensures.rig c.in-Ok.ensures.others
 
 pub returns-in-Ok-clause-disk_leaves : goal.returns-in-Ok-clause-disk_leaves
 returns-in-Ok-clause-disk_leaves g c =
     let tell : Telling _ = telling g.G.Rig.seen g.G.Rig.leaves g.G.Rig.moment g.G.Rig.since g.G.Rig.faults in
-    disk-leaves tell (home c.args.t.now) c.name.ensures.low c.args.c.now c.seal_commit.new.self c.force_log.new.self c.committed.new.self
+    disk-leaves tell (home c.args.t.now) c.name.ensures.low c.args.c.now c.seal_commit.new.c c.force_log.new.self c.committed.new.self
     c.seal_commit.ensures.rig c.committed.ensures.rig c.in-Ok.ensures.others_leave
 
 pub returns-in-Err-clause-disk : goal.returns-in-Err-clause-disk
 returns-in-Err-clause-disk g c =
     let tell : Telling _ = telling g.G.Rig.seen g.G.Rig.leaves g.G.Rig.moment g.G.Rig.since g.G.Rig.faults in
-    disk-same tell (home c.args.t.now) c.name.ensures.low c.args.c.now c.seal_commit.new.self c.force_log.new.self c.fall_in_commit.new.c
+    disk-same tell (home c.args.t.now) c.name.ensures.low c.args.c.now c.seal_commit.new.c c.force_log.new.self c.fall_in_commit.new.c
     c.seal_commit.ensures.rig c.fall_in_commit.ensures.rig c.in-Err.ensures.others
 
 pub returns-in-Err-clause-disk_leaves : goal.returns-in-Err-clause-disk_leaves
 returns-in-Err-clause-disk_leaves g c =
     let tell : Telling _ = telling g.G.Rig.seen g.G.Rig.leaves g.G.Rig.moment g.G.Rig.since g.G.Rig.faults in
-    disk-leaves tell (home c.args.t.now) c.name.ensures.low c.args.c.now c.seal_commit.new.self c.force_log.new.self c.fall_in_commit.new.c
+    disk-leaves tell (home c.args.t.now) c.name.ensures.low c.args.c.now c.seal_commit.new.c c.force_log.new.self c.fall_in_commit.new.c
     c.seal_commit.ensures.rig c.fall_in_commit.ensures.rig c.in-Err.ensures.others_leave

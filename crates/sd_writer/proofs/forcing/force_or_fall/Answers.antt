@@ -7,7 +7,7 @@ use Rattle.sd_state.specs.Parts.{Parts, is_loose, log_at, no_log, owed_at}
 use Rattle.sd_state.specs.Values.{Pending}
 use Rattle.sd_state.proofs.Items.{item-set}
 use Rattle.sd_fits.proofs.Falling.{fallen-down}
-use Rattle.sd_moves.proofs.PutCalls.{not-err}
+use Rattle.sd_puts.proofs.PutCalls.{not-err}
 use Rattle.sd_world.specs.Serving.{telling}
 use Rattle.sd_writer.specs.Forcing.{OnlyLogs}
 use Rattle.sd_writer.proofs.Forced.{force-due, force-fails, force-loose, force-spares, forced-logs, same-logs, was-err, was-settled}

@@ -1,8 +1,8 @@
 use Rattle.std.proofs.Common.{◌≡◌, inl, inr, ap, ◌∙◌, subst, rules}
 use Rattle.sd_model.specs.declared.event.Event.TheVariants.{Flush}
 use Rattle.sd_fits.proofs.Falling.{fallen-down}
-use Rattle.sd_moves.specs.Putting.{left_after}
-use Rattle.sd_moves.specs.declared.putting.Unput.{Unput}
+use Rattle.sd_puts.specs.Putting.{left_after}
+use Rattle.sd_puts.specs.declared.putting.Unput.{Unput}
 use Rattle.sd_state.specs.Complexes.{parts}
 use Rattle.sd_state.specs.Parts.{Parts}
 use Rattle.sd_state.specs.Values.{Pending}

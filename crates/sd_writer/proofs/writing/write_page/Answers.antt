@@ -9,7 +9,7 @@ use Rattle.sd_pagelock.specs.Directory.{entry_at}
 use Rattle.sd_places.specs.Places.{is_lost}
 use Rattle.sd_places.specs.Rows as rows
 use Rattle.sd_state.specs.Complexes.{parts}
-use Rattle.sd_moves.specs.Putting.{with_loose_disk}
+use Rattle.sd_puts.specs.Putting.{with_loose_disk}
 use Rattle.sd_state.specs.Parts.{Parts, is_active, is_loose, status_at}
 use Rattle.sd_state.specs.Values.{Pending}
 use Rattle.sd_fits.specs.Serving.{Serving, fits_by, stands_for}
