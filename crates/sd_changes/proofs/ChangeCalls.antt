@@ -11,9 +11,9 @@ use Rattle.sd_base.specs.declared.refusal.Refusal.TheVariants as refusals
 use Rattle.sd_base.specs.declared.place.Mode.TheVariants as modes
 use Rattle.sd_page.specs.declared.op.Op.{Op}
 use Rattle.sd_reclock.specs.Locks.{Agree, Held, held_in}
-use Rattle.sd_pagelock.specs.Asks.{is_open_ask, open_asks}
+use Rattle.sd_asks.specs.Asks.{is_open_ask, open_asks}
 use Rattle.sd_places.specs.Places.{PageEntry}
-use Rattle.sd_pagelock.specs.declared.queue.Ask.{Ask}
+use Rattle.sd_asks.specs.declared.queue.Ask.{Ask}
 use Rattle.sd_txn.specs.Owing.{bytes_owed, owed_of, records_owed, undo_len}
 use Rattle.sd_txn.specs.declared.state.TxnState.{TxnState}
 use Rattle.sd_redo.proofs.Written.{write-written}

@@ -11,7 +11,7 @@ ghost use Rattle.sd_log.specs.Logs.{needed, with_record};
 ghost use Rattle.sd_logrec.specs.Spelling.{HasSpelling, IsTxn, spelling};
 ghost use Rattle.sd_model.specs.State.{State};
 ghost use Rattle.sd_page.specs.Page.{CanTake, PageFits, applied};
-ghost use Rattle.sd_pagelock.specs.Asks.{open_asks};
+ghost use Rattle.sd_asks.specs.Asks.{open_asks};
 ghost use Rattle.sd_pagelock.specs.Directory.{asks_at, entry_at, kept_rec, moving_image_at, rec_lsn_at};
 ghost use Rattle.sd_places.specs.Places.{changed, owns};
 ghost use Rattle.sd_places.specs.Rows.{dirtied};

@@ -12,11 +12,11 @@ use Rattle.sd_model.specs.Listed.{IsAtWork}
 use Rattle.sd_model.specs.State.{Part, State}
 use Rattle.sd_model.specs.declared.act.Claim.{Claim}
 use Rattle.sd_model.specs.declared.act.Life.{Life}
-use Rattle.sd_pagelock.specs.Asks.{is_open_ask, open_asks, asks_without}
+use Rattle.sd_asks.specs.Asks.{is_open_ask, open_asks, asks_without}
 use Rattle.sd_pagelock.specs.Directory.{asks_at, entry_at}
 use Rattle.sd_places.specs.Places.{PageEntry}
 use Rattle.sd_places.specs.Rows.{fallen}
-use Rattle.sd_pagelock.specs.declared.queue.Ask.{Ask}
+use Rattle.sd_asks.specs.declared.queue.Ask.{Ask}
 use Rattle.sd_pool.specs.Buffers as buffers
 use Rattle.sd_pool.specs.Buffers.{Buffers}
 use Rattle.sd_rig.specs.Devices as rig

@@ -6,7 +6,7 @@ use Rattle.std.specs.Box.{box_value}
 use Rattle.std.specs.Global.{Box}
 use Rattle.sd_base.specs.declared.ids.TxnId.{TxnId}
 use Rattle.sd_page.specs.Page.{Page}
-use Rattle.sd_pagelock.specs.Asks.{asks_without, open_asks}
+use Rattle.sd_asks.specs.Asks.{asks_without, open_asks}
 use Rattle.sd_pagelock.specs.Directory.{DirectoryState, asks_at, entry_at, moving_image_at, rec_lsn_at}
 use Rattle.sd_places.specs.Places.{receives}
 use Rattle.sd_places.specs.Rows.{fallen}

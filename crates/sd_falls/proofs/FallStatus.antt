@@ -6,9 +6,9 @@ use Rattle.sd_base.specs.declared.place.Status.{Status}
 use Rattle.sd_base.specs.declared.place.Status.TheVariants as S
 use Rattle.sd_model.specs.State.{freed, lost}
 use Rattle.sd_model.specs.declared.act.Life.{Life}
-use Rattle.sd_pagelock.specs.Asks.{asks_without, is_open_ask, open_asks}
+use Rattle.sd_asks.specs.Asks.{asks_without, is_open_ask, open_asks}
 use Rattle.sd_places.specs.Places.{PageEntry}
-use Rattle.sd_pagelock.specs.declared.queue.Ask.{Ask}
+use Rattle.sd_asks.specs.declared.queue.Ask.{Ask}
 use Rattle.sd_chain.specs.Fates.{Fate}
 use Rattle.sd_chain.specs.Records.{Each}
 use Rattle.sd_txn.specs.Transactions.{Transaction}

@@ -27,7 +27,7 @@ use Rattle.sd_chain.specs.Images.{Keeps}
 use Rattle.sd_chain.specs.Records.{IsOpen, home}
 use Rattle.sd_log.specs.Logs.{LogState, without_tail}
 use Rattle.sd_logrec.specs.View.{Rec}
-use Rattle.sd_pagelock.specs.Asks.{asks_without, open_asks}
+use Rattle.sd_asks.specs.Asks.{asks_without, open_asks}
 use Rattle.sd_places.specs.Places.{PageEntry}
 use Rattle.sd_places.specs.Rows.{fallen}
 use Rattle.sd_page.specs.Page.{Page}

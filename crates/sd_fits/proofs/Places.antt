@@ -12,7 +12,7 @@ use Rattle.sd_model.specs.State.{State}
 use Rattle.sd_model.specs.Step.{Step}
 use Rattle.sd_model.specs.declared.event.Event.{Event}
 use Rattle.sd_model.specs.declared.event.Reply.{Reply}
-use Rattle.sd_pagelock.specs.Asks.{open_asks, queued}
+use Rattle.sd_asks.specs.Asks.{open_asks, queued}
 use Rattle.sd_pagelock.specs.Directory.{DirectoryState, asks_at, entry_at}
 use Rattle.sd_places.specs.Places.{PageEntry, is_lost}
 use Rattle.sd_pool.specs.Buffers.{Buffers}

@@ -3,7 +3,7 @@ use Rattle.std.proofs.Common.{◌≡◌, ℕ, false, refl, sym, ap, ◌∙◌}
 use Rattle.std.specs.Prelude.{None}
 use Rattle.sd_page.specs.Page.{Page}
 use Rattle.sd_model.specs.State.{State}
-use Rattle.sd_pagelock.specs.Asks.{open_asks}
+use Rattle.sd_asks.specs.Asks.{open_asks}
 use Rattle.sd_pagelock.specs.Directory.{DirectoryState, asks_at, entry_at}
 use Rattle.sd_places.specs.Places.{PageEntry}
 use Rattle.sd_rig.specs.Devices as rig

@@ -8,7 +8,7 @@
 //! and one opened from sound devices, fits its world, and so on through a closing and a reopening (`laws.rt`).
 //! Refuses: nothing.
 //! Knows nothing of: the calls of events.
-//! Stands on: sd_base, sd_model, sd_page, sd_logrec, sd_rig, sd_gate, sd_log, sd_pool, sd_txn, sd_reclock, sd_places,
+//! Stands on: sd_base, sd_model, sd_page, sd_logrec, sd_rig, sd_gate, sd_log, sd_pool, sd_txn, sd_reclock, sd_places, sd_asks,
 //! sd_pagelock, sd_chain, sd_sound, sd_coherent, sd_world, sd_state, sd_seals, sd_undos, sd_changes, sd_opened, sd_moves,
 //! sd_falls, sd_puts, sd_settle.
 //! Lends: in `proofs` the lemma of each law (Fitting), and how a complex goes on fitting: where nothing or locks alone change

@@ -7,8 +7,8 @@
 //! meanwhile (`recovering`, `decided`, `undo_forced`, `recovered`; the law of the undo in `laws.rt`).
 //! Refuses: `Failed` only where the rig's count of faults rose, in an undo; `Memory` before anything is undone.
 //! Knows nothing of: scripts, replies, the order of a recovery's tasks.
-//! Stands on: sd_base, sd_model, sd_page, sd_logrec, sd_rig, sd_log, sd_pool, sd_txn, sd_reclock, sd_places, sd_pagelock,
-//! sd_chain, sd_sound, sd_coherent, sd_state, sd_undos.
+//! Stands on: sd_base, sd_model, sd_page, sd_logrec, sd_rig, sd_log, sd_pool, sd_txn, sd_reclock, sd_places, sd_asks,
+//! sd_pagelock, sd_chain, sd_sound, sd_coherent, sd_state, sd_undos.
 //! Held by the caller: that logs are settled, and that the instance falls which is to fall after a failed force.
 //!
 //! To change:

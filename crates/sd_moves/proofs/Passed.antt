@@ -6,8 +6,8 @@ use Rattle.sd_base.specs.declared.place.Mode.{Mode}
 use Rattle.sd_logrec.specs.View.{flat}
 use Rattle.sd_page.specs.Page.{Page}
 use Rattle.sd_model.specs.State.{State}
-use Rattle.sd_pagelock.specs.declared.queue.Ask.{Ask}
-use Rattle.sd_pagelock.specs.Asks.{is_open_ask, oldest, open_asks}
+use Rattle.sd_asks.specs.declared.queue.Ask.{Ask}
+use Rattle.sd_asks.specs.Asks.{is_open_ask, oldest, open_asks}
 use Rattle.sd_pagelock.specs.Directory.{DirectoryState, asks_at, entry_at, kept_rec, rec_lsn_at}
 use Rattle.sd_pagelock.specs.Directory as directory
 use Rattle.sd_places.specs.Places.{Formed, PageEntry, changed, holds, owns, receives}

@@ -7,7 +7,7 @@
 //! (`rig`). The newest version of each page stays what it was.
 //! Refuses: `Memory`, by `queue_ask` and `take_copy` alone.
 //! Knows nothing of: devices, scripts, replies, who may ask for a move, and which page a pool is to give up.
-//! Stands on: sd_base, sd_model, sd_page, sd_logrec, sd_rig, sd_pool, sd_places, sd_pagelock, sd_chain, sd_sound,
+//! Stands on: sd_base, sd_model, sd_page, sd_logrec, sd_rig, sd_pool, sd_places, sd_asks, sd_pagelock, sd_chain, sd_sound,
 //! sd_coherent, sd_state.
 //! Lends: in `proofs`, how `Good` goes through a change of pools and directory (Placed, Passed), and that each copy which a pool
 //! or the directory lends is the newest version (Copies).

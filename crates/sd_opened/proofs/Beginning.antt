@@ -16,7 +16,7 @@ use Rattle.sd_model.specs.declared.act.Claim.{Claim}
 use Rattle.sd_model.proofs.Opened.{fresh-opened, opened-placed, opened-listed, opened-marked}
 use Rattle.sd_model.proofs.Recoverers.{opened-recoverers}
 use Rattle.sd_model.proofs.Serial.{fresh-opening, opening_run-kept}
-use Rattle.sd_pagelock.specs.Asks.{is_open_ask}
+use Rattle.sd_asks.specs.Asks.{is_open_ask}
 use Rattle.sd_pagelock.specs.Directory.{entry_at, rec_lsn_at}
 use Rattle.sd_places.specs.Places.{PageEntry, changed, holds, passes, uses}
 use Rattle.sd_pool.specs.Buffers.{Buffers}

@@ -23,7 +23,7 @@ use Rattle.sd_log.specs.Logs.{LogState, forced, last_lsn, scanned, AreSpelled}
 use Rattle.sd_page.specs.Page.{Page}
 use Rattle.sd_model.specs.State.{State}
 use Rattle.sd_model.specs.declared.act.Life.{Life}
-use Rattle.sd_pagelock.specs.Asks.{is_open_ask}
+use Rattle.sd_asks.specs.Asks.{is_open_ask}
 use Rattle.sd_pagelock.specs.Directory.{entry_at}
 use Rattle.sd_rig.specs.Devices as rig
 use Rattle.sd_rig.specs.Devices.{LeavesOnly}

@@ -6,8 +6,8 @@
 //! settled devices found for each state to which they open (`opened`). No device is called.
 //! Refuses: `Memory`, which hands the devices back.
 //! Knows nothing of: how devices are read; scripts, replies.
-//! Stands on: sd_base, sd_model, sd_page, sd_logrec, sd_rig, sd_log, sd_pool, sd_txn, sd_reclock, sd_places, sd_pagelock,
-//! sd_chain, sd_sound, sd_coherent, sd_state.
+//! Stands on: sd_base, sd_model, sd_page, sd_logrec, sd_rig, sd_log, sd_pool, sd_txn, sd_reclock, sd_places, sd_asks,
+//! sd_pagelock, sd_chain, sd_sound, sd_coherent, sd_state.
 //! Lends: in `proofs`, that what a crash leaves of a complex opens again (OpenedAgain, OpenedFresh).
 //!
 //! To change:

@@ -1,61 +1,57 @@
--- What the directory keeps when a page's place is written. It serves directory.rt.
-use Rattle.std.proofs.Common.{◌≡◌, ⊎_elim, ℕ, zero, suc, ◌<◌, List, Option, None, length, get_or, replicate, refl, sym, ap, ◌∙◌, subst, arith}
+-- What the directory keeps when a page's place and RecLSN are written. It serves directory.rt, and calls that make two moves of one event.
+use Rattle.std.proofs.Common.{◌≡◌, ◌≢◌, ⊎_elim, ℕ, ◌<◌, Bool, true, false, List, Option, None, length, replicate, refl, sym, ap, ◌∙◌, arith}
 use Rattle.std.specs.Prelude.{is_some, slice_set}
 use Rattle.std.proofs.lemmas.Bool.{cases_eq}
 use Rattle.std.proofs.lemmas.List.{get_or-set_other, length-set, length-replicate}
 use Rattle.std.proofs.lemmas.Grind.{get_or-set_at}
 use Rattle.sd_base.specs.declared.place.Place as coded
-use Rattle.sd_base.specs.declared.place.Place.TheVariants as variants
-use Rattle.sd_places.specs.Places.{seen, changed, Formed, InRange}
-use Rattle.sd_pagelock.specs.Directory.{IsKept, lost_among}
-use Rattle.sd_pagelock.proofs.Counts.{none_counted}
+use Rattle.sd_places.specs.Places.{PageEntry, changed, place_at}
+use Rattle.sd_places.specs.Rows.{fallen}
+use Rattle.sd_places.proofs.Drops.{changed-fallen}
+use Rattle.sd_placetable.proofs.Kept.{blank}
+use Rattle.sd_pagelock.specs.Directory.{IsKept, kept_rec}
 
--- what holds of one item and of all others
-each : {X : Type 0} (P : ℕ → X → Type 0) (xs : List X) (i : ℕ) (x d : X) → i < length xs → P i x → ((q : ℕ) → P q (get_or xs q d)) → (q : ℕ) → P q (get_or (slice_set xs i x) q d)
-each P xs i x d lt here all q = ⊎_elim
-    (λ e. subst (λ (z : ℕ). P z (get_or (slice_set xs i x) z d)) (sym e) (subst (P i) (sym (get_or-set_at xs i i x d refl lt)) here))
-    (λ ne. subst (P q) (sym (get_or-set_other xs i q x d ne)) (all q))
-    (cases_eq q i)
+pub kept-write : (old new : List coded.Place) (recs : List (Option ℕ)) (images i : ℕ) (to : PageEntry) (rec : Option ℕ)
+    → IsKept old recs images → i < 1024 → is_some rec ≡ changed to → place_at new i ≡ to → ((q : ℕ) → q ≢ i → place_at new q ≡ place_at old q)
+    → IsKept new (slice_set recs i rec) images
+kept-write old new recs images i to rec k lt marked here others = record {
+  marks = length-set recs i rec ∙ k.marks;
+  frames = k.frames;
+  marked = λ q. ⊎_elim
+      (λ e. ap is_some (get_or-set_at recs i q rec None e (omega (arith, lt, k.marks))) ∙ marked ∙ sym (ap (λ (z : ℕ). changed (place_at new z)) e ∙ ap changed here))
+      (λ ne. ap is_some (get_or-set_other recs i q rec None ne) ∙ k.marked q ∙ sym (ap changed (others q ne)))
+      (cases_eq q i);
+}
 
-pub kept-write : (places : List coded.Place) (recs : List (Option ℕ)) (images lost n i : ℕ) (to : coded.Place) (rec : Option ℕ)
-    → IsKept places recs images lost → n ≡ lost_among (slice_set places i to) → i < 1024 → Formed (seen to) → InRange (seen to) → is_some rec ≡ changed (seen to)
-    → IsKept (slice_set places i to) (slice_set recs i rec) images n
-kept-write places recs images lost n i to rec k counted lt formed range marked =
-    let in_places : i < length places = omega (arith, k.pages) in
-    let in_recs : i < length recs = omega (arith, k.marks) in
-    record {
-      pages = length-set places i to ∙ k.pages;
-      marks = length-set recs i rec ∙ k.marks;
-      frames = k.frames;
-      counted = counted;
-      formed = each (λ (q : ℕ) (x : coded.Place). Formed (seen x)) places i to variants.Free in_places formed k.formed;
-      in_range = each (λ (q : ℕ) (x : coded.Place). InRange (seen x)) places i to variants.Free in_places range k.in_range;
-      marked = λ q. ⊎_elim
-          (λ e. ap is_some (get_or-set_at recs i q rec None e in_recs) ∙ marked ∙ ap (λ (x : coded.Place). changed (seen x)) (sym (get_or-set_at places i q to variants.Free e in_places)))
-          (λ ne. ap is_some (get_or-set_other recs i q rec None ne) ∙ k.marked q ∙ ap (λ (x : coded.Place). changed (seen x)) (sym (get_or-set_other places i q to variants.Free ne)))
-          (cases_eq q i);
-    }
+-- as many images
+pub kept-images : (places : List coded.Place) (recs : List (Option ℕ)) (images n : ℕ) → n ≡ images → IsKept places recs images → IsKept places recs n
+kept-images places recs images n same k = record { marks = k.marks; frames = same ∙ k.frames; marked = k.marked }
 
--- one value for each page
-pub get_or-replicate : {X : Type 0} (n i : ℕ) (x : X) → get_or (replicate n x) i x ≡ x
-get_or-replicate zero i x = refl
-get_or-replicate (suc n) zero x = refl
-get_or-replicate (suc n) (suc i) x = get_or-replicate n i x
+-- a fall leaves each page changed, or unchanged
+pub kept-fallen : (i : ℕ) (old new : List coded.Place) (recs : List (Option ℕ)) (images : ℕ) → IsKept old recs images
+    → ((p : ℕ) → place_at new p ≡ fallen i (place_at old p)) → IsKept new recs images
+kept-fallen i old new recs images k left = record {
+  marks = k.marks;
+  frames = k.frames;
+  marked = λ p. k.marked p ∙ sym (ap changed (left p) ∙ changed-fallen i (place_at old p));
+}
 
-pub kept-new : (images : ℕ) (places : List coded.Place) (recs : List (Option ℕ)) → places ≡ replicate 1024 variants.Free → recs ≡ replicate 1024 None → images ≡ 1024 → IsKept places recs images 0
+pub kept-new : (images : ℕ) (places : List coded.Place) (recs : List (Option ℕ)) → ((p : ℕ) → place_at places p ≡ PageEntry.Free)
+    → recs ≡ replicate 1024 None → images ≡ 1024 → IsKept places recs images
 kept-new images places recs free clean frames = record {
-  pages = ap length free ∙ length-replicate 1024 variants.Free;
   marks = ap length clean ∙ length-replicate {A = Option ℕ} 1024 None;
   frames = frames;
-  counted = sym (ap lost_among free ∙ none_counted 1024);
-  formed = λ p. subst (λ (x : coded.Place). Formed (seen x)) (sym (at p)) tt;
-  in_range = λ p. subst (λ (x : coded.Place). InRange (seen x)) (sym (at p)) (λ k used. absurd (cc));
-  marked = λ p. ap is_some (ap (λ (xs : List (Option ℕ)). get_or xs p None) clean ∙ get_or-replicate 1024 p None) ∙ ap (λ (x : coded.Place). changed (seen x)) (sym (at p));
+  marked = λ p. ap is_some (blank recs None clean p) ∙ sym (ap changed (free p));
 }
-  where
-    at : (p : ℕ) → get_or places p variants.Free ≡ variants.Free
-    at p = ap (λ (xs : List coded.Place). get_or xs p variants.Free) free ∙ get_or-replicate 1024 p variants.Free
 
--- where nothing is on its way
-pub blank : {X : Type 0} (xs : List X) (x : X) → xs ≡ replicate 1024 x → (p : ℕ) → get_or xs p x ≡ x
-blank xs x e p = ap (λ l. get_or l p x) e ∙ get_or-replicate 1024 p x
+-- a page that stays changed, or unchanged, keeps its RecLSN in two moves of one event as in one
+pub kept_rec-twice : (a b c : Bool) → b ≡ a → c ≡ b → (rec : Option ℕ)
+    → kept_rec b c (kept_rec a b rec None) None ≡ kept_rec a c rec None
+kept_rec-twice true true true e f rec = refl
+kept_rec-twice true true false e f rec = refl
+kept_rec-twice true false true e f rec = absurd (cc)
+kept_rec-twice true false false e f rec = refl
+kept_rec-twice false true true e f rec = absurd (cc)
+kept_rec-twice false true false e f rec = refl
+kept_rec-twice false false true e f rec = refl
+kept_rec-twice false false false e f rec = refl

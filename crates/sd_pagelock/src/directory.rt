@@ -1,59 +1,47 @@
 //! The directory: each page's place and RecLSN, what of it is on its way, and the asks for it.
 
-ghost use Rattle.std.specs.Prelude.{◌≡◌, ◌+◌, ◌≤◌, ℕ, true, IfOk, cond, length, position};
-ghost use Rattle.sd_places.specs.Places.{seen, is_lost};
-
-use crate::asks::Asks;
-use crate::filled::{nothing, repeated};
-use crate::noted::{GROUP, GROUPS, Noted};
-use crate::queue::Queue;
-use sd_base::{InstNo, InstSet, Lsn, Memory, Mode, PAGES, PageNo, Place};
-use sd_places::laws;
-use sd_places::rows::{changed, fallen, holds, is_lost, receives, rests};
+use sd_asks::Asks;
+use sd_base::{InstNo, Lsn, Memory, Mode, PAGES, PageNo, Place};
+use sd_places::rows::{changed, receives};
+use sd_placetable::{GROUP, GROUPS, PlaceTable, nothing, repeated};
 use std::alloc::Global;
 use std::marker::Model;
 
 /// The page directory. `I` is what travels when a page moves from pool to pool.
 #[derive(Drop)]
 pub struct Directory<I> {
-    places: Vec<Place>,
+    places: PlaceTable,
     rec_lsns: Vec<Option<Lsn>>,
     images: Vec<Option<I>>,
     // what an image of the page can set out in, of each page that is asked for and isn't on its way
     rooms: Vec<Option<I>>,
     asks: Asks,
-    // how many of the places are lost
-    lost: usize,
-    // who uses which page
-    noted: Noted,
 }
 
 impl<I> Model for Directory<I> {
     ghost use Rattle.std.specs.Prelude.{length};
     ghost use Rattle.sd_pagelock.specs.Directory.{DirectoryState, HaveRoom, IsKept};
-    ghost use Rattle.sd_pagelock.specs.Noted.{AreNoted};
 
     ghost Value = { DirectoryState I };
 
     ghost view = { λ d. record {
-      places = d.places.items;
+      places = d.places;
       rec_lsns = d.rec_lsns.items;
       images = d.images.items;
       queues = d.asks;
     } };
 
-    ghost invariant = { λ d. IsKept d.places.items d.rec_lsns.items (length d.images.items) d.lost
-        × HaveRoom d.asks d.images.items d.rooms.items
-        × AreNoted d.places.items d.noted };
+    ghost invariant = { λ d. IsKept d.places d.rec_lsns.items (length d.images.items)
+        × HaveRoom d.asks d.images.items d.rooms.items };
 }
 
 impl<I: Drop> Directory<I> {
-    ghost use Rattle.std.specs.Prelude.{◌≡◌, ◌≢◌, ◌<◌, ◌≤◌, ℕ, [], None, Some, IsTrue, IfNone, IfOk, IfSome, is_some, option_copied, cond, true, false, Option};
+    ghost use Rattle.std.specs.Prelude.{◌≡◌, ◌≢◌, ◌≤◌, ℕ, [], None, Some, IsTrue, IfNone, IfOk, IfSome, is_some, option_copied, cond, true, false, Option};
     ghost use Rattle.sd_places.specs.Places.{PageEntry, seen, is_free, changed, receives, Formed, InRange};
     ghost use Rattle.sd_places.specs.Rows.{fallen};
     ghost use Rattle.sd_places.specs.Moves.{IsMove};
-    ghost use Rattle.sd_pagelock.specs.Asks.{queued, oldest, open_asks, asks_without, IsOneEach};
-    ghost use Rattle.sd_pagelock.specs.Directory.{entry_at, rec_lsn_at, moving_image_at, asks_at, can_give, is_wanted, kept_rec};
+    ghost use Rattle.sd_asks.specs.Asks.{open_asks, asks_without, IsOneEach};
+    ghost use Rattle.sd_pagelock.specs.Directory.{entry_at, rec_lsn_at, moving_image_at, asks_at, kept_rec};
 
     /// The directory of 1,024 free pages, with no asks and nothing on its way. It takes all memory that places need;
     /// room for an image comes with an ask.
@@ -64,13 +52,11 @@ impl<I: Drop> Directory<I> {
         ensures unasked { IfOk result (λ d. (p : ℕ) → asks_at d p ≡ []) }
     {
         Ok(Directory {
-            places: repeated(alloc, PAGES, Place::Free)?,
+            places: PlaceTable::new(alloc)?,
             rec_lsns: repeated(alloc, PAGES, None)?,
             images: nothing(alloc)?,
             rooms: nothing(alloc)?,
             asks: Asks::new(alloc),
-            lost: 0,
-            noted: Noted::new(alloc)?,
         })
     }
 
@@ -83,6 +69,7 @@ impl<I: Drop> Directory<I> {
         ensures marked { (p : ℕ) → is_some (rec_lsn_at self.now p) ≡ changed (entry_at self.now p) }
         ensures once { (p : ℕ) → IsOneEach (asks_at self.now p) }
     {
+        self.places.keeps();
         self.asks.keeps();
     }
 
@@ -90,7 +77,7 @@ impl<I: Drop> Directory<I> {
     pub fn entry(&self, p: PageNo) -> Place
         ensures { seen result ≡ entry_at self.now p }
     {
-        self.places[p.get() as usize]
+        *self.places.place(p)
     }
 
     /// The LSN of the page's first change that the disk doesn't have; `None` exactly where it is free or clean.
@@ -117,11 +104,10 @@ impl<I: Drop> Directory<I> {
         ensures other_rec_lsns { (q : ℕ) → q ≢ p → rec_lsn_at self.new q ≡ rec_lsn_at self.old q }
         ensures other_asks { (q : ℕ) → q ≢ p → asks_at self.new q ≡ asks_at self.old q }
     {
+        self.keeps();
         let rec = self.kept_rec(p, &to, rec);
         self.asks.close(p, &to);
-        let users = self.noted.users(p);
         self.write(p, to, rec);
-        self.regroup_left(p, users);
     }
 
     /// The instance goes down: of each page its copy goes, and what moved to it. Its asks go, and those that the places
@@ -137,10 +123,11 @@ impl<I: Drop> Directory<I> {
     {
         self.keeps();
         for group in 0..GROUPS {
-            if self.noted.has(group, i) {
-                self.fall_in(group, i);
+            if self.places.may_use(group, i) {
+                self.stop_in(group, i);
             }
         }
+        self.places.fall(i);
         self.asks.fall(i, &self.places);
     }
 
@@ -212,15 +199,10 @@ impl<I: Drop> Directory<I> {
 }
 
 impl<I: Drop> Directory<I> {
-    ghost use Rattle.std.specs.Prelude.{◌≡◌, ◌≢◌, ◌<◌, ◌≤◌, ◌+◌, ◌*◌, ℕ, None, Option, IfSome, IfNone, OnOk, OnErr, find, is_some, cond, true, false};
-    ghost use Rattle.std.specs.Option.{option_map};
-    ghost use Rattle.std.specs.Ordering.{nat_cmp};
-    ghost use Rattle.std.specs.Map.{keys_of};
-    ghost use Rattle.std.specs.List.Sorted.{IsStrictlySortedBy};
-    ghost use Rattle.sd_places.specs.Places.{seen, changed, is_lost, holds, receives, rests, Formed};
-    ghost use Rattle.sd_places.specs.Rows.{fallen};
-    ghost use Rattle.sd_pagelock.specs.Asks.{queued, oldest, open_asks, asks_without};
-    ghost use Rattle.sd_pagelock.specs.Directory.{entry_at, rec_lsn_at, moving_image_at, asks_at, can_give, is_wanted, kept_rec};
+    ghost use Rattle.std.specs.Prelude.{◌≡◌, ◌≢◌, ◌<◌, ◌≤◌, ◌+◌, ◌*◌, ℕ, None, Option, IfNone, IfOk, IfSome, OnErr, OnOk, is_some, cond, true, false};
+    ghost use Rattle.sd_places.specs.Places.{seen, changed, is_lost, receives, Formed};
+    ghost use Rattle.sd_asks.specs.Asks.{queued, oldest, asks_without};
+    ghost use Rattle.sd_pagelock.specs.Directory.{entry_at, rec_lsn_at, moving_image_at, asks_at, is_wanted, kept_rec};
 
     /// `i` asks for the page: at the end of its asks, or in the place of its older ask, which becomes the stronger of
     /// both. It brings room, in which a copy of the page's image can set out. After `Memory` all is as before.
@@ -232,7 +214,7 @@ impl<I: Drop> Directory<I> {
         ensures rec_lsns { (q : ℕ) → rec_lsn_at self.new q ≡ rec_lsn_at self.old q }
         ensures images { (q : ℕ) → moving_image_at self.new q ≡ moving_image_at self.old q }
     {
-        self.asks.add(*self.places.allocator(), p, i, mode)?;
+        self.asks.add(*self.rec_lsns.allocator(), p, i, mode)?;
         self.rooms[p.get() as usize] = Some(room);
         Ok(())
     }
@@ -250,7 +232,7 @@ impl<I: Drop> Directory<I> {
         if self.rooms[p.get() as usize].is_none() {
             return Ok(false);
         }
-        self.asks.add(*self.places.allocator(), p, i, mode)?;
+        self.asks.add(*self.rec_lsns.allocator(), p, i, mode)?;
         Ok(true)
     }
 
@@ -268,7 +250,7 @@ impl<I: Drop> Directory<I> {
         ensures lowest { IfSome result (λ p. (q : ℕ) → q < p → is_wanted self.now i q ≡ false) }
         ensures none { IfNone result ((q : ℕ) → is_wanted self.now i q ≡ false) }
     {
-        self.first_given(i)
+        self.asks.first_for(i, &self.places)
     }
 
     /// The lowest lost page; `None` exactly where there is none, which is told without a search.
@@ -277,10 +259,7 @@ impl<I: Drop> Directory<I> {
         ensures lowest { IfSome result (λ p. (q : ℕ) → q < p → is_lost (entry_at self.now q) ≡ false) }
         ensures none { IfNone result ((q : ℕ) → is_lost (entry_at self.now q) ≡ false) }
     {
-        if self.lost == 0 {
-            return None;
-        }
-        lost_page(&self.places)
+        self.places.first_lost()
     }
 
     /// All asks of `i` are gone; the others keep their order. It takes no memory.
@@ -291,26 +270,6 @@ impl<I: Drop> Directory<I> {
         ensures images { (q : ℕ) → moving_image_at self.new q ≡ moving_image_at self.old q }
     {
         self.asks.forget(i);
-    }
-
-    // The first of the asked pages that `i` can give.
-    fn first_given(&self, i: InstNo) -> Option<PageNo>
-        ensures value { result ≡ option_map (λ e. e.0) (find (λ e. can_give self.now i e.0 e.1) self.now.queues) }
-        ensures rising { IsStrictlySortedBy nat_cmp (keys_of self.now.queues) }
-    {
-        self.asks
-            .queues
-            .iter()
-            .find(|(p, queue)| self.can_give(i, **p, queue))
-            .map(|(p, _)| *p)
-    }
-
-    // Whether `i` has a copy of the page to give, and another asks for it.
-    fn can_give(&self, i: InstNo, p: PageNo, queue: &Queue) -> bool
-        ensures { result ≡ can_give self.now i p queue.now }
-    {
-        let place = self.entry(p);
-        rests(&place) && holds(&place, i) && queue.oldest(i).is_some()
     }
 
     // The RecLSN of the page where it moves to this place.
@@ -327,53 +286,36 @@ impl<I: Drop> Directory<I> {
         }
     }
 
-    // Who used the page before, and now uses none of its group, isn't noted for the group any more: so a fall looks at those
-    // groups alone in which the instance has a page.
-    fn regroup_left(&mut self, p: PageNo, before: InstSet)
-        ensures { self.new ≡ self.old }
-    {
-        self.noted.regroup_left(p, before);
-    }
-
-    // What the fall of `i` leaves of the pages of a group, without their asks.
-    fn fall_in(&mut self, group: u16, i: InstNo)
+    // What is on its way to `i` of the pages of a group goes no further.
+    fn stop_in(&mut self, group: u16, i: InstNo)
         requires { group < 32 }
-        ensures here { (p : ℕ) → 32 * group ≤ p → p < 32 * group + 32 → entry_at self.new p ≡ fallen i (entry_at self.old p) }
-        ensures images { (p : ℕ) → 32 * group ≤ p → p < 32 * group + 32 → moving_image_at self.new p
+        ensures here { (p : ℕ) → 32 * group ≤ p → p < 32 * group + 32 → moving_image_at self.new p
             ≡ cond {A = Option I} (receives (entry_at self.old p) i) None (moving_image_at self.old p) }
-        ensures below { (q : ℕ) → q < 32 * group → entry_at self.new q ≡ entry_at self.old q }
-        ensures above { (q : ℕ) → 32 * group + 32 ≤ q → entry_at self.new q ≡ entry_at self.old q }
-        ensures images_below { (q : ℕ) → q < 32 * group → moving_image_at self.new q ≡ moving_image_at self.old q }
-        ensures images_above { (q : ℕ) → 32 * group + 32 ≤ q → moving_image_at self.new q ≡ moving_image_at self.old q }
-        ensures rec_lsns { (q : ℕ) → rec_lsn_at self.new q ≡ rec_lsn_at self.old q }
-        ensures asks { (q : ℕ) → asks_at self.new q ≡ asks_at self.old q }
+        ensures below { (q : ℕ) → q < 32 * group → moving_image_at self.new q ≡ moving_image_at self.old q }
+        ensures above { (q : ℕ) → 32 * group + 32 ≤ q → moving_image_at self.new q ≡ moving_image_at self.old q }
+        ensures places { self.new.places ≡ self.old.places }
+        ensures rec_lsns { self.new.rec_lsns ≡ self.old.rec_lsns }
+        ensures asks { self.new.queues ≡ self.old.queues }
     {
         let first = GROUP * group;
         for n in first..first + GROUP {
             match PageNo::new(n) {
-                Some(p) => self.fall_at(p, i),
+                Some(p) => self.stop_at(p, i),
                 None => {}
             }
         }
-        self.noted.regroup(group);
     }
 
-    // What the fall of `i` leaves of the page, without its asks.
-    fn fall_at(&mut self, p: PageNo, i: InstNo)
-        ensures here { entry_at self.new p ≡ fallen i (entry_at self.old p) }
-        ensures image { moving_image_at self.new p
+    // What is on its way to `i` of the page goes no further.
+    fn stop_at(&mut self, p: PageNo, i: InstNo)
+        ensures here { moving_image_at self.new p
             ≡ cond {A = Option I} (receives (entry_at self.old p) i) None (moving_image_at self.old p) }
-        ensures others { (q : ℕ) → q ≢ p → entry_at self.new q ≡ entry_at self.old q }
-        ensures other_images { (q : ℕ) → q ≢ p → moving_image_at self.new q ≡ moving_image_at self.old q }
-        ensures rec_lsn { rec_lsn_at self.new p ≡ rec_lsn_at self.old p }
-        ensures other_rec_lsns { (q : ℕ) → q ≢ p → rec_lsn_at self.new q ≡ rec_lsn_at self.old q }
-        ensures asks { (q : ℕ) → asks_at self.new q ≡ asks_at self.old q }
+        ensures others { (q : ℕ) → q ≢ p → moving_image_at self.new q ≡ moving_image_at self.old q }
+        ensures places { self.new.places ≡ self.old.places }
+        ensures rec_lsns { self.new.rec_lsns ≡ self.old.rec_lsns }
+        ensures asks { self.new.queues ≡ self.old.queues }
     {
-        self.keeps();
-        let place = self.entry(p);
-        let rec = self.rec_lsn(p);
-        self.write(p, fallen(i, &place), rec);
-        if receives(&place, i) {
+        if receives(self.places.place(p), i) {
             self.keep_room(p);
         }
     }
@@ -403,12 +345,8 @@ impl<I: Drop> Directory<I> {
         ensures others { (q : ℕ) → q ≢ p → entry_at self.new q ≡ entry_at self.old q }
         ensures other_rec_lsns { (q : ℕ) → q ≢ p → rec_lsn_at self.new q ≡ rec_lsn_at self.old q }
     {
-        laws::users_are_instances(&to);
-        let at = p.get() as usize;
-        self.lost = recounted(self.lost, &self.places[at], &to);
-        self.noted.note(p, &to);
-        self.places[at] = to;
-        self.rec_lsns[at] = rec;
+        self.places.put(p, to);
+        self.rec_lsns[p.get() as usize] = rec;
     }
 }
 
@@ -436,32 +374,4 @@ impl<T: Copy + Drop> Directory<Box<T>> {
             self.images[at] = Some(room);
         }
     }
-}
-
-// The lowest lost page.
-fn lost_page(places: &[Place]) -> Option<PageNo>
-    requires { length places.now ≡ 1024 }
-    ensures { result ≡ position (λ place. is_lost (seen place)) places.now }
-{
-    match lost_at(places) {
-        Some(at) => PageNo::new(at as u16),
-        None => None,
-    }
-}
-
-// Where the first lost page stands.
-fn lost_at(places: &[Place]) -> Option<usize>
-    ensures { result ≡ position (λ place. is_lost (seen place)) places.now }
-{
-    places.iter().position(|place| is_lost(place))
-}
-
-// The number of lost pages where one of the counted places becomes another.
-fn recounted(lost: usize, was: &Place, to: &Place) -> usize
-    requires low { is_lost (seen was.now) ≡ true → 1 ≤ lost }
-    requires high { lost ≤ 1024 }
-    ensures { result + cond {A = ℕ} (is_lost (seen was.now)) 1 0 ≡ lost + cond {A = ℕ} (is_lost (seen to.now)) 1 0 }
-{
-    let others = if is_lost(was) { lost - 1 } else { lost };
-    if is_lost(to) { others + 1 } else { others }
 }

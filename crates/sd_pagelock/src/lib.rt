@@ -11,7 +11,7 @@
 //! Refuses: nothing but want of memory, in `new` and `ask`.
 //! Knows nothing of: how one place becomes another; pools, logs, devices; what an image is; which instances run.
 //! Lends: `rows`, `laws` and `is_lawful` of sd_places, to those who move pages.
-//! Stands on: sd_base, sd_places.
+//! Stands on: sd_base, sd_places, sd_placetable, sd_asks.
 //!
 //! To change:
 //! - free: bodies and private helpers
@@ -19,12 +19,7 @@
 //! - frozen: nothing
 #![tactic(auto)]
 
-mod asks;
 mod directory;
-mod filled;
-mod noted;
-mod queue;
 
 pub use directory::Directory;
-pub use queue::Ask;
 pub use sd_places::{is_lawful, laws, rows};

@@ -6,8 +6,8 @@ use Rattle.std.specs.Option.{option_map}
 use Rattle.sd_base.specs.Sets.{has, with_member, without}
 use Rattle.sd_base.specs.declared.place.Mode.{Mode}
 use Rattle.sd_base.specs.declared.place.Mode.TheVariants as modes
-use Rattle.sd_pagelock.specs.declared.queue.Ask.{Ask}
-use Rattle.sd_pagelock.specs.Asks.{asks_without, is_open_ask, oldest, open_asks, queued, stronger}
+use Rattle.sd_asks.specs.declared.queue.Ask.{Ask}
+use Rattle.sd_asks.specs.Asks.{asks_without, is_open_ask, oldest, open_asks, queued, stronger}
 use Rattle.sd_places.specs.Places.{PageEntry, holds, holds_as, is_lost, owns, passes, rests}
 use Rattle.sd_places.proofs.Members.{has-with_member}
 use Rattle.sd_places.specs.Rows.{dropped, fallen, given_excl, left_alone, may_yield, nowhere, shared_left, taken}

@@ -8,8 +8,8 @@ use Rattle.sd_model.specs.declared.event.Event.TheVariants as event
 use Rattle.sd_model.specs.declared.event.Reply.TheVariants as reply
 use Rattle.sd_model.specs.State.{State}
 use Rattle.sd_model.specs.Causes.{order}
-use Rattle.sd_pagelock.specs.declared.queue.Ask.{Ask}
-use Rattle.sd_pagelock.specs.Asks.{oldest, open_asks, queued}
+use Rattle.sd_asks.specs.declared.queue.Ask.{Ask}
+use Rattle.sd_asks.specs.Asks.{oldest, open_asks, queued}
 use Rattle.sd_places.specs.Places.{PageEntry, holds, holds_as, is_free, is_lost, passes, receives, rests}
 use Rattle.sd_places.specs.Rows.{may_raise, taken}
 use Rattle.sd_world.specs.Pages.{Pages, asked, given, page_placed, put}

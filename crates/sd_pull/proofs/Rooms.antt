@@ -7,7 +7,7 @@ use Rattle.sd_model.specs.declared.event.Reply.TheVariants as reply
 use Rattle.sd_model.specs.State.{State}
 use Rattle.sd_model.specs.Causes.{order}
 use Rattle.sd_places.specs.Places.{Formed, PageEntry, holds, receives}
-use Rattle.sd_pagelock.specs.Asks.{open_asks}
+use Rattle.sd_asks.specs.Asks.{open_asks}
 use Rattle.sd_places.specs.Rows.{fallen, written}
 use Rattle.sd_places.proofs.Falls.{holds-fallen}
 use Rattle.sd_world.specs.Pages.{Pages, put}

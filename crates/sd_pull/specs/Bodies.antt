@@ -3,7 +3,7 @@ use Rattle.std.specs.Prelude.{ℕ, List, [], Option, None, Some}
 use Rattle.sd_base.specs.declared.ids.TxnId.{TxnId}
 use Rattle.sd_base.specs.declared.place.Status.{Status}
 use Rattle.sd_base.specs.declared.place.Status.TheVariants as S
-use Rattle.sd_pagelock.specs.declared.queue.Ask.{Ask}
+use Rattle.sd_asks.specs.declared.queue.Ask.{Ask}
 use Rattle.sd_pagelock.specs.Directory.{asks_at, entry_at}
 use Rattle.sd_places.specs.Places.{PageEntry}
 use Rattle.sd_state.specs.Complexes.{parts}

@@ -1,8 +1,8 @@
 -- How far a pull is from its end, by what the directory tells: a number that each round of the pull, from an ask to the next, lowers.
 use Rattle.std.specs.Prelude.{◌≡◌, ◌≢◌, ℕ, ◌+◌, ◌*◌, ◌<◌, Bool, true, false, List, length, cond, not}
 use Rattle.sd_base.specs.declared.place.Mode.{Mode}
-use Rattle.sd_pagelock.specs.declared.queue.Ask.{Ask}
-use Rattle.sd_pagelock.specs.Asks.{asks_without, open_asks}
+use Rattle.sd_asks.specs.declared.queue.Ask.{Ask}
+use Rattle.sd_asks.specs.Asks.{asks_without, open_asks}
 use Rattle.sd_places.specs.Places.{PageEntry, holds, holds_as, receives}
 use Rattle.sd_places.specs.Rows.{taken}
 use Rattle.sd_world.specs.Pages.{Pages, held_count}

@@ -7,7 +7,7 @@ use Rattle.sd_logrec.specs.Kept.{master}
 use Rattle.sd_log.specs.Logs.{StandsOn, forced}
 use Rattle.sd_page.specs.Page.{Page}
 use Rattle.sd_model.specs.State.{State}
-use Rattle.sd_pagelock.specs.Asks.{is_open_ask}
+use Rattle.sd_asks.specs.Asks.{is_open_ask}
 use Rattle.sd_pagelock.specs.Directory.{DirectoryState, asks_at, entry_at}
 use Rattle.sd_rig.specs.Devices as rig
 use Rattle.sd_rig.specs.Devices.{LeavesOnly, LeavesSame}

@@ -8,7 +8,7 @@
 //! Refuses: `Unread` and `Unwritten` by `put_page` and `rebuilt`, `Failed` by `newest_image`, only where the rig's count of
 //! faults rose; `Memory` by `newest_image` alone.
 //! Knows nothing of: events, replies, how a log is forced; whose turn it is to write.
-//! Stands on: sd_base, sd_model, sd_page, sd_logrec, sd_rig, sd_gate, sd_twin, sd_log, sd_pool, sd_places, sd_pagelock,
+//! Stands on: sd_base, sd_model, sd_page, sd_logrec, sd_rig, sd_gate, sd_twin, sd_log, sd_pool, sd_places, sd_asks, sd_pagelock,
 //! sd_chain, sd_merge, sd_redo, sd_sound, sd_coherent, sd_world, sd_state, sd_moves.
 //! Lends: in `proofs`, how `Good` goes through a sync and a put of the data device (PutSynced, PutTried, PutCleaned), and a
 //! rebuild (Freed, Merged).

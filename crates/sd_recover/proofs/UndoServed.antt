@@ -8,7 +8,7 @@ use Rattle.sd_base.specs.declared.ids.TxnId.{TxnId}
 use Rattle.sd_base.specs.declared.place.Status.TheVariants as S
 use Rattle.sd_log.specs.Logs.{LogState}
 use Rattle.sd_model.specs.State.{State}
-use Rattle.sd_pagelock.specs.Asks.{open_asks}
+use Rattle.sd_asks.specs.Asks.{open_asks}
 use Rattle.sd_pagelock.specs.Directory.{asks_at, entry_at}
 use Rattle.sd_places.specs.Places.{PageEntry, owns}
 use Rattle.sd_places.specs.Rows.{dirtied}

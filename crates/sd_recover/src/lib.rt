@@ -10,9 +10,9 @@
 //! but where it was the last, or a device failed and the recoverer fell.
 //! Refuses: what the order of the event's causes says, the first that applies; `Memory` leaves a recovery where it was.
 //! Knows nothing of: which task is next, how an instance falls or joins, whose turn it is, what is noted of an answer.
-//! Stands on: sd_base, sd_model, sd_page, sd_logrec, sd_rig, sd_log, sd_pool, sd_txn, sd_reclock, sd_places, sd_pagelock,
-//! sd_chain, sd_merge, sd_coherent, sd_sound, sd_world, sd_state, sd_seals, sd_undos, sd_changes, sd_losers, sd_moves,
-//! sd_falls, sd_puts, sd_settle, sd_fits, sd_writer, sd_tasks.
+//! Stands on: sd_base, sd_model, sd_page, sd_logrec, sd_rig, sd_log, sd_pool, sd_txn, sd_reclock, sd_places, sd_asks,
+//! sd_pagelock, sd_chain, sd_merge, sd_coherent, sd_sound, sd_world, sd_state, sd_seals, sd_undos, sd_changes, sd_losers,
+//! sd_moves, sd_falls, sd_puts, sd_settle, sd_fits, sd_writer, sd_tasks.
 //! Lends: nothing.
 //! Held by the caller: that no fall is due, which `Fits` says.
 //!

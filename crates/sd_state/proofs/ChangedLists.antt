@@ -5,8 +5,8 @@ use Rattle.sd_chain.specs.Images.{Grows, Tails}
 use Rattle.sd_chain.specs.Records.{at}
 use Rattle.sd_model.specs.Claims.{Claims}
 use Rattle.sd_page.specs.Page.{Page}
-use Rattle.sd_pagelock.specs.Asks.{is_open_ask, open_asks}
-use Rattle.sd_pagelock.specs.declared.queue.Ask.{Ask}
+use Rattle.sd_asks.specs.Asks.{is_open_ask, open_asks}
+use Rattle.sd_asks.specs.declared.queue.Ask.{Ask}
 use Rattle.sd_pagelock.specs.Directory.{DirectoryState, asks_at, entry_at}
 use Rattle.sd_places.specs.Places.{PageEntry}
 use Rattle.sd_places.specs.Rows.{dirtied}

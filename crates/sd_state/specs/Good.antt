@@ -18,7 +18,7 @@ use Rattle.sd_model.specs.State.{State}
 use Rattle.sd_model.specs.declared.act.Claim.{Claim}
 use Rattle.sd_model.specs.declared.act.Inst.{Inst}
 use Rattle.sd_model.specs.declared.act.Life.{Life}
-use Rattle.sd_pagelock.specs.Asks.{is_open_ask}
+use Rattle.sd_asks.specs.Asks.{is_open_ask}
 use Rattle.sd_pagelock.specs.Directory as directory
 use Rattle.sd_pagelock.specs.Directory.{asks_at, entry_at, rec_lsn_at}
 use Rattle.sd_pool.specs.Buffers as buffers

@@ -3,7 +3,7 @@ use Rattle.std.proofs.Common.{◌≡◌, ℕ, Bool, true, refl, sym, arith}
 use Rattle.std.specs.Prelude.{Option, None, Some, IsSome, position}
 use Rattle.std.proofs.lemmas.List.Sums.{fails_before_first}
 use Rattle.std.proofs.lemmas.List.Quantifiers.{position-Some}
-use Rattle.sd_pagelock.proofs.Queues.{past_end}
+use Rattle.sd_placetable.proofs.Firsts.{past_end}
 use Rattle.sd_txn.specs.declared.state.OpenRec.{OpenRec}
 use Rattle.sd_state.specs.Parts.{IsShape, Parts}
 use Rattle.sd_tasks.specs.Tasks.{AreSettled, IsLowestLoose}

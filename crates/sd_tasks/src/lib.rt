@@ -8,8 +8,8 @@
 //! (`next_task`). The page that an undo is of is told too, and that the serial table needs it (`needed`). No memory is taken.
 //! Refuses: nothing.
 //! Knows nothing of: how a task is done, what is answered, who recovers.
-//! Stands on: sd_base, sd_model, sd_logrec, sd_rig, sd_txn, sd_places, sd_pagelock, sd_chain, sd_sound, sd_world, sd_state,
-//! sd_undos, sd_losers, sd_moves, sd_fits.
+//! Stands on: sd_base, sd_model, sd_logrec, sd_rig, sd_txn, sd_places, sd_placetable, sd_pagelock, sd_chain, sd_sound, sd_world,
+//! sd_state, sd_undos, sd_losers, sd_moves, sd_fits.
 //! Lends: in `proofs`, what the rows say of a task (Rows), whose row it is and how it stands (Owns), and that the page of an undo is
 //! needed (Awaited).
 //! Held by the caller: that the complex has its shape (`IsShape` of sd_state).

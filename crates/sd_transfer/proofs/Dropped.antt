@@ -4,8 +4,8 @@ use Rattle.std.specs.Prelude.{None, not}
 use Rattle.sd_base.specs.declared.place.Mode.{Mode}
 use Rattle.sd_base.specs.declared.place.Mode.TheVariants as modes
 use Rattle.sd_page.specs.Page.{Page}
-use Rattle.sd_pagelock.specs.declared.queue.Ask.{Ask}
-use Rattle.sd_pagelock.specs.Asks.{is_open_ask, open_asks}
+use Rattle.sd_asks.specs.declared.queue.Ask.{Ask}
+use Rattle.sd_asks.specs.Asks.{is_open_ask, open_asks}
 use Rattle.sd_pagelock.specs.Directory.{DirectoryState, asks_at, entry_at, kept_rec, rec_lsn_at}
 use Rattle.sd_places.specs.Places.{PageEntry, changed, holds, holds_as, passes, is_lost}
 use Rattle.sd_places.specs.Rows.{dropped, fallen, given_excl, may_drop, may_raise, may_share, may_yield, raised}
@@ -20,7 +20,8 @@ use Rattle.sd_state.specs.Parts.{Parts, is_active}
 use Rattle.sd_moves.specs.Passing.{may_set_out, set_out}
 use Rattle.sd_moves.proofs.Passed.{oldest-each}
 use Rattle.sd_transfer.specs.Giving.{MayGive}
-use Rattle.sd_pagelock.proofs.Raised.{kept_rec-twice, open_asks-raised}
+use Rattle.sd_pagelock.proofs.Kept.{kept_rec-twice}
+use Rattle.sd_asks.proofs.Raised.{open_asks-raised}
 
 module _ (p j i : ℕ) (old mid : DirectoryState Page)
     (drop : IsSet p (fallen j (entry_at old p)) None old mid) where

@@ -13,7 +13,7 @@ use Rattle.sd_model.specs.declared.event.Event.{Event}
 use Rattle.sd_model.specs.declared.event.Event.TheVariants.{Ask}
 use Rattle.sd_model.specs.declared.event.Reply.{Reply}
 use Rattle.sd_model.specs.declared.event.Reply.TheVariants as reply
-use Rattle.sd_pagelock.specs.Asks.{queued}
+use Rattle.sd_asks.specs.Asks.{queued}
 use Rattle.sd_pagelock.specs.Directory.{asks_at, entry_at}
 use Rattle.sd_places.specs.Places.{PageEntry, holds, holds_as, is_free, is_lost}
 use Rattle.sd_places.specs.Rows.{locked, may_raise, raised}

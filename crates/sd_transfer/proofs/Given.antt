@@ -13,7 +13,7 @@ use Rattle.sd_model.specs.declared.cause.Cause.{Cause}
 use Rattle.sd_model.specs.declared.event.Event.{Event}
 use Rattle.sd_model.specs.declared.event.Event.TheVariants.{Give}
 use Rattle.sd_model.specs.declared.event.Reply.TheVariants as reply
-use Rattle.sd_pagelock.specs.Asks.{oldest}
+use Rattle.sd_asks.specs.Asks.{oldest}
 use Rattle.sd_pagelock.specs.Directory.{asks_at, entry_at}
 use Rattle.sd_places.specs.Places.{PageEntry, holds, is_lost, owns, passes, receives, seen}
 use Rattle.sd_world.specs.PageCauses.{IsAway, IsLostFor, IsUnasked, IsUnderWay, NoneSays}

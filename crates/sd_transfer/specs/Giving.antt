@@ -3,7 +3,7 @@ use Rattle.std.specs.Prelude.{◌≡◌, ℕ, true, false, [], None, Some}
 use Rattle.sd_base.specs.declared.place.Mode.{Mode}
 use Rattle.sd_base.specs.declared.refusal.Refusal.{Refusal}
 use Rattle.sd_base.specs.declared.refusal.Refusal.TheVariants as R
-use Rattle.sd_pagelock.specs.Asks.{oldest}
+use Rattle.sd_asks.specs.Asks.{oldest}
 use Rattle.sd_pagelock.specs.Directory.{asks_at, entry_at}
 use Rattle.sd_places.specs.Places.{holds, is_lost, owns, passes, receives, seen}
 use Rattle.sd_state.specs.Parts.{Parts, is_active, is_loose, log_at}

@@ -23,8 +23,8 @@ use Rattle.sd_model.specs.Lives.{IsDoubt, LivesAreSound, SuitsStatus}
 use Rattle.sd_model.specs.declared.act.Life.{Life}
 use Rattle.sd_page.specs.Page.{Page}
 use Rattle.sd_pagelock.specs.Directory.{DirectoryState, asks_at, entry_at}
-use Rattle.sd_pagelock.specs.Asks.{is_open_ask}
-use Rattle.sd_pagelock.specs.declared.queue.Ask.{Ask}
+use Rattle.sd_asks.specs.Asks.{is_open_ask}
+use Rattle.sd_asks.specs.declared.queue.Ask.{Ask}
 use Rattle.sd_places.specs.Places.{PageEntry}
 use Rattle.sd_places.specs.Rows.{dirtied}
 use Rattle.sd_pool.specs.Buffers.{Buffers}

@@ -15,7 +15,7 @@ use Rattle.sd_model.specs.Changes.{goal, undid}
 use Rattle.sd_model.specs.State.{State}
 use Rattle.sd_model.specs.declared.act.Life.{Life}
 use Rattle.sd_page.specs.Page.{Page}
-use Rattle.sd_pagelock.specs.Asks.{open_asks}
+use Rattle.sd_asks.specs.Asks.{open_asks}
 use Rattle.sd_pagelock.specs.Directory as directory
 use Rattle.sd_pagelock.specs.Directory.{DirectoryState, asks_at, entry_at, kept_rec, rec_lsn_at}
 use Rattle.sd_places.specs.Places.{changed, owns}

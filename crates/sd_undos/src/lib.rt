@@ -6,8 +6,8 @@
 //! finds, in `laws.rt`).
 //! Refuses: nothing; it takes no memory.
 //! Knows nothing of: scripts, replies, who rolls back.
-//! Stands on: sd_base, sd_model, sd_page, sd_logrec, sd_rig, sd_log, sd_pool, sd_txn, sd_places, sd_pagelock, sd_chain, sd_sound,
-//! sd_coherent, sd_state.
+//! Stands on: sd_base, sd_model, sd_page, sd_logrec, sd_rig, sd_log, sd_pool, sd_txn, sd_places, sd_asks, sd_pagelock, sd_chain,
+//! sd_sound, sd_coherent, sd_state.
 //! Lends: in `proofs`, over what a crash may leave, the lemma of each law (Undone, UndoneTop); of the parts of an undo, for whoever
 //! undoes for another: `last_of`, `undo_at`, `take_back`.
 //! Held by the caller: that no fall is due, and the page.

@@ -14,11 +14,11 @@ use Rattle.sd_model.specs.declared.event.Event.{Event}
 use Rattle.sd_model.specs.declared.event.Event.TheVariants.{Flush}
 use Rattle.sd_model.specs.declared.event.Reply.TheVariants as reply
 use Rattle.sd_puts.specs.Putting.{SameVersions, with_written}
-use Rattle.sd_pagelock.specs.Asks.{is_open_ask, open_asks}
+use Rattle.sd_asks.specs.Asks.{is_open_ask, open_asks}
 use Rattle.sd_pagelock.specs.Directory.{asks_at, entry_at}
 use Rattle.sd_places.specs.Places.{PageEntry, changed, is_lost, seen}
 use Rattle.sd_places.specs.Rows.{may_write, written}
-use Rattle.sd_pagelock.specs.declared.queue.Ask.{Ask}
+use Rattle.sd_asks.specs.declared.queue.Ask.{Ask}
 use Rattle.sd_places.proofs.Uses.{clean-written}
 use Rattle.sd_world.specs.Bounds.{bounds_after}
 use Rattle.sd_world.specs.PageCauses.{IsAway, IsLostFor}

@@ -2,7 +2,7 @@ use Rattle.std.proofs.Common.{◌≡◌, ℕ, ◌-◌, ◌≤◌, Some, get_or, 
 use Rattle.std.specs.Prelude.{option_map}
 use Rattle.sd_log.specs.Logs.{LogState, with_record}
 use Rattle.sd_page.specs.Page.{Page, applied, empty_page}
-use Rattle.sd_pagelock.specs.Asks.{open_asks}
+use Rattle.sd_asks.specs.Asks.{open_asks}
 use Rattle.sd_pagelock.specs.Directory.{asks_at, entry_at, kept_rec, rec_lsn_at}
 use Rattle.sd_places.specs.Places.{changed, owns}
 use Rattle.sd_places.specs.Rows.{dirtied}

@@ -4,7 +4,7 @@ use Rattle.sd_logrec.specs.Spelling.{spelling}
 use Rattle.sd_logrec.specs.View.{flat}
 use Rattle.sd_logrec.specs.declared.record.Record.{Record}
 use Rattle.sd_log.specs.Logs.{LogState, with_record}
-use Rattle.sd_pagelock.specs.Asks.{open_asks}
+use Rattle.sd_asks.specs.Asks.{open_asks}
 use Rattle.sd_places.specs.Moves.{IsMove}
 use Rattle.sd_pagelock.specs.Directory.{asks_at, entry_at, kept_rec, rec_lsn_at}
 use Rattle.sd_places.specs.Places.{changed, owns}

@@ -1,0 +1,4 @@
+mod Finds
+mod Lookups
+pub mod Queues
+pub mod Raised

@@ -1,0 +1,4 @@
+mod Counts
+pub mod Firsts
+mod Groups
+pub mod Kept
