@@ -24,6 +24,7 @@ use Rattle.sd_pull.specs.Pulls.{Pull}
 use Rattle.sd_drive.specs.Reaching.{AreDriven, AtLine, DrivesLine, DrivesSome, IsRolledBack, IsSame, Knows, KnowsAll, Reached, RollsBack, UndoesAll, UndoesSome, at_ordinal, name_in, ordinal_in}
 use Rattle.sd_pull.specs.Running.{Start}
 use Rattle.sd_pull.proofs.Acts.{back-done}
+use Rattle.sd_pull.proofs.Measures.{unlike}
 use Rattle.sd_drive.proofs.Lines.{came-ended, goes-there, is-named, is-served, knows-more, knows-now, once-due, passes}
 
 -- ---- lines that roll back
@@ -31,34 +32,34 @@ use Rattle.sd_drive.proofs.Lines.{came-ended, goes-there, is-named, is-served, k
 pub rolls-named : (f : Form) → rolls_back f ≡ true → IsSome (ordinal_in f)
 rolls-named (form.Back name o mark) rolls = refl
 rolls-named (form.Rollback name o) rolls = refl
-rolls-named f rolls = absurd (cc)
+rolls-named f rolls = unlike rolls refl
 
 rolls-single : (f : Form) → rolls_back f ≡ true → way_of f ≡ Way.Single
 rolls-single (form.Back name o mark) rolls = refl
 rolls-single (form.Rollback name o) rolls = refl
-rolls-single f rolls = absurd (cc)
+rolls-single f rolls = unlike rolls refl
 
 rolls-begins : (f : Form) → rolls_back f ≡ true → begun_by f ≡ []
 rolls-begins (form.Back name o mark) rolls = refl
 rolls-begins (form.Rollback name o) rolls = refl
-rolls-begins f rolls = absurd (cc)
+rolls-begins f rolls = unlike rolls refl
 
 pub rolls-names : (f : Form) → rolls_back f ≡ true → (r : Reply) (names : Names) → named_by f r names ≡ names
 rolls-names (form.Back name o mark) rolls r names = refl
 rolls-names (form.Rollback name o) rolls r names = refl
-rolls-names f rolls r names = absurd (cc)
+rolls-names f rolls r names = unlike rolls refl
 
 -- the transaction of its name is that of its ordinal
 name-known : (txns : List (Option TxnId)) (names : Names) (f : Form) (x : Option TxnId) → rolls_back f ≡ true → Knows txns names f
     → at_ordinal txns (ordinal_in f) ≡ x → names (name_in f) ≡ x
 name-known txns names (form.Back name o mark) x rolls knows is = sym (knows o refl) ∙ is
 name-known txns names (form.Rollback name o) x rolls knows is = sym (knows o refl) ∙ is
-name-known txns names f x rolls knows is = absurd (cc)
+name-known txns names f x rolls knows is = unlike rolls refl
 
 rolls-none : (names : Names) (f : Form) → rolls_back f ≡ true → names (name_in f) ≡ None → event_of names f ≡ None
 rolls-none names (form.Back name o mark) rolls none = ap (option_map (λ t. event.Back t (Some mark))) none
 rolls-none names (form.Rollback name o) rolls none = ap (option_map (λ t. event.Back t None)) none
-rolls-none names f rolls none = absurd (cc)
+rolls-none names f rolls none = unlike rolls refl
 
 this : (a b : Event) → Some a ≡ Some b → a ≡ b
 this a b is = cc
@@ -70,12 +71,12 @@ rolls-first names (form.Back name o mark) t e rolls named is =
     (Some mark, this (event.Back t (Some mark)) e (sym (ap (option_map (λ u. event.Back u (Some mark))) named) ∙ is))
 rolls-first names (form.Rollback name o) t e rolls named is =
     (None, this (event.Back t None) e (sym (ap (option_map (λ u. event.Back u None)) named) ∙ is))
-rolls-first names f t e rolls named is = absurd (cc)
+rolls-first names f t e rolls named is = unlike rolls refl
 
 rolls-undo : (names : Names) (f : Form) (t : TxnId) → rolls_back f ≡ true → names (name_in f) ≡ Some t → undo_of names f ≡ Some (event.Undo t)
 rolls-undo names (form.Back name o mark) t rolls named = ap (option_map (λ u. event.Undo u)) named
 rolls-undo names (form.Rollback name o) t rolls named = ap (option_map (λ u. event.Undo u)) named
-rolls-undo names f t rolls named = absurd (cc)
+rolls-undo names f t rolls named = unlike rolls refl
 
 pub undo-rolls : (names : Names) (f : Form) (e : Event) → undo_of names f ≡ Some e → rolls_back f ≡ true
 undo-rolls names (form.Back name o mark) e is = refl
@@ -86,7 +87,7 @@ undo-rolls names f e is = absurd (cc)
 
 did-is : (r : Reply) → is_did r ≡ true → r ≡ reply.Did
 did-is reply.Did did = refl
-did-is r did = absurd (cc)
+did-is r did = unlike did refl
 
 back-goes : (w : Core) (known : Known) (line : Line) → rolls_back line.form ≡ true
     → goes_on w known (Work.Do line) Cursor.Once reply.Did ≡ Some Cursor.Undoes

@@ -1,8 +1,8 @@
 //! What transactions leave: one begins, takes a record with its acts, commits.
 
 ghost use Rattle.std.specs.Prelude.{◌≡◌, ◌<◌, IfOk, OnOk, OnErr};
-ghost use Rattle.sd_model.specs.State.{took, began, committed as with_committed};
-ghost use Rattle.sd_lists.specs.Lists.{meaning};
+ghost use Rattle.sd_model.specs.State.{took, took_part, began, committed as with_committed};
+ghost use Rattle.sd_lists.specs.Lists.{meaning, part_of};
 
 use crate::lists::{Lists, append};
 use crate::standing::{Standing, last_standing};
@@ -25,12 +25,19 @@ impl Lists {
         ensures took { OnOk result (meaning self.new ≡ took txn.now rid.now mode acts.now (meaning self.old)) }
         ensures same { OnErr result (meaning self.new ≡ meaning self.old) }
     {
-        let alloc = *self.parts.allocator();
-        let standing = match last_standing(&self.parts, txn) {
-            Some(standing) => standing.took(alloc, *rid, mode, acts)?,
-            None => Standing::gone(alloc).took(alloc, *rid, mode, acts)?,
-        };
+        let standing = self.taking(txn, *rid, mode, acts)?;
         self.set_part(*txn, standing)
+    }
+
+    // What the transaction is with a claim and acts more.
+    fn taking(&self, txn: &TxnId, rid: Rid, mode: Claim, acts: &[Act]) -> Result<Standing, Memory>
+        ensures { IfOk result (λ s. part_of s ≡ took_part rid mode acts.now ((meaning self.now).part txn.now)) }
+    {
+        let alloc = self.alloc();
+        match last_standing(&self.parts, txn) {
+            Some(standing) => standing.took(alloc, rid, mode, acts),
+            None => Standing::gone(alloc).took(alloc, rid, mode, acts),
+        }
     }
 
     /// Lets the transaction begin at the instance. After `Memory` nothing is changed.
@@ -57,9 +64,9 @@ impl Lists {
         ensures same { OnErr result (meaning self.new ≡ meaning self.old) }
     {
         let alloc = *self.parts.allocator();
-        let acts = self.acts(txn)?;
         self.done.reserve(1)?;
         self.parts.reserve(1)?;
+        let acts = self.acts(txn)?;
         append(&mut self.done, Done { txn: *txn, acts });
         append(&mut self.parts, (*txn, Standing::gone(alloc)));
         Ok(())

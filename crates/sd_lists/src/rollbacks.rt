@@ -2,7 +2,7 @@
 
 ghost use Rattle.std.specs.Prelude.{◌≡◌, IfOk, OnOk, OnErr};
 ghost use Rattle.sd_model.specs.State.{put_part, turned, gone};
-ghost use Rattle.sd_model.specs.Changes.{marked, undid};
+ghost use Rattle.sd_model.specs.Changes.{marked, undid, undid_part};
 ghost use Rattle.sd_lists.specs.Lists.{meaning, part_of};
 
 use crate::lists::Lists;
@@ -48,8 +48,15 @@ impl Lists {
         ensures undid { OnOk result (meaning self.new ≡ undid txn.now (meaning self.old)) }
         ensures same { OnErr result (meaning self.new ≡ meaning self.old) }
     {
-        let standing = self.standing(txn)?.undid(self.alloc())?;
+        let standing = self.undoing(txn)?;
         self.set_part(*txn, standing)
+    }
+
+    // What the transaction is with its last live put undone.
+    fn undoing(&self, txn: &TxnId) -> Result<Standing, Memory>
+        ensures { IfOk result (λ s. part_of s ≡ undid_part ((meaning self.now).part txn.now)) }
+    {
+        self.standing(txn)?.undid(self.alloc())
     }
 
     /// Nothing is left of the transaction. After `Memory` nothing is changed.

@@ -1,6 +1,6 @@
 //! What a transaction is at one moment, and look-ups in lists of changes.
 
-ghost use Rattle.std.specs.Prelude.{◌≡◌, ◌++◌, ◌∷◌, [], IfOk, option_copied, filter, leb, ℕ, List};
+ghost use Rattle.std.specs.Prelude.{◌≡◌, ◌++◌, ◌∷◌, [], IfOk, OnOk, option_copied, filter, leb, ℕ, List};
 ghost use Rattle.sd_model.specs.State.{gone, begun_part, took_part, with_life, lost_part};
 ghost use Rattle.sd_model.specs.Claims.{raised_claim};
 ghost use Rattle.sd_model.specs.Changes.{mark_of, with_mark, swept_part, undid_part};
@@ -119,13 +119,18 @@ fn longer(alloc: Global, acts: &[Act], more: &[Act]) -> Result<Sequence<Act>, Me
     ensures { IfOk result (λ s. s ≡ acts.now ++ more.now) }
 {
     let mut all = Vec::with_capacity(alloc, acts.len())?;
+    add_acts(&mut all, acts)?;
+    add_acts(&mut all, more)?;
+    Ok(Sequence::of(all))
+}
+
+fn add_acts(all: &mut Vec<Act>, acts: &[Act]) -> Result<(), Memory>
+    ensures { OnOk result (all.new.items ≡ all.old.items ++ acts.now) }
+{
     for act in acts {
         all.push(act.copy()?)?;
     }
-    for act in more {
-        all.push(act.copy()?)?;
-    }
-    Ok(Sequence::of(all))
+    Ok(())
 }
 
 fn copy_marks(alloc: Global, marks: &[(Word, usize)]) -> Result<Sequence<(Word, usize)>, Memory>
@@ -133,9 +138,17 @@ fn copy_marks(alloc: Global, marks: &[(Word, usize)]) -> Result<Sequence<(Word, 
 {
     let mut all = Vec::with_capacity(alloc, marks.len())?;
     for mark in marks {
-        all.push((mark.0.copy()?, mark.1))?;
+        add_mark(&mut all, &mark.0, mark.1)?;
     }
     Ok(Sequence::of(all))
+}
+
+fn add_mark(marks: &mut Vec<(Word, usize)>, name: &Word, count: usize) -> Result<(), Memory>
+    ensures { OnOk result (marks.new.items ≡ marks.old.items ++ (name.now, count) ∷ []) }
+{
+    let copied = name.copy()?;
+    marks.push((copied, count))?;
+    Ok(())
 }
 
 /// The marks with one more, in place of the first of its name.
@@ -151,14 +164,14 @@ pub fn with_mark(
     let mut found = false;
     for mark in marks {
         if !found && name.items() == mark.0.items() {
-            all.push((name.copy()?, count))?;
+            add_mark(&mut all, name, count)?;
             found = true;
         } else {
-            all.push((mark.0.copy()?, mark.1))?;
+            add_mark(&mut all, &mark.0, mark.1)?;
         }
     }
     if !found {
-        all.push((name.copy()?, count))?;
+        add_mark(&mut all, name, count)?;
     }
     Ok(Sequence::of(all))
 }
@@ -174,7 +187,7 @@ fn lasting(
     let mut all = Vec::with_capacity(alloc, marks.len())?;
     for mark in marks {
         if mark.1 <= count {
-            all.push((mark.0.copy()?, mark.1))?;
+            add_mark(&mut all, &mark.0, mark.1)?;
         }
     }
     Ok(Sequence::of(all))
@@ -195,10 +208,7 @@ fn claimed(
 ) -> Result<Sequence<(Rid, Claim)>, Memory>
     ensures { IfOk result (λ s. s ≡ claims.now ++ (rid, mode) ∷ []) }
 {
-    let mut all = Vec::with_capacity(alloc, claims.len())?;
-    for claim in claims {
-        all.push(*claim)?;
-    }
+    let mut all = claims.to_vec(alloc)?;
     all.push((rid, mode))?;
     Ok(Sequence::of(all))
 }

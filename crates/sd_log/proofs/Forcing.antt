@@ -12,10 +12,11 @@ use Rattle.sd_logrec.proofs.Groups.{gate_closed, group_behind, groups_end}
 use Rattle.sd_logrec.proofs.Lengths.{length-four}
 use Rattle.sd_rig.specs.Devices.{AgreesOutside, DeviceImages}
 use Rattle.sd_rig.specs.Ranges.{outside_before}
-use Rattle.sd_log.specs.Buffers.{framed}
+use Rattle.sd_log.specs.Buffers.{BufferState, framed}
 use Rattle.sd_gate.specs.Gates.{Fills}
 use Rattle.sd_log.specs.Forces.{Forces, StandsEither, forced_at, forced_len}
 use Rattle.sd_log.specs.declared.log.Log.TheInside.{Inside}
+use Rattle.sd_log.specs.JournalStates.{JournalState, settled}
 use Rattle.sd_log.specs.LogInside.{IsLog, log_view}
 use Rattle.sd_log.specs.Logs.{LogState, StandsOn, forced, forced_with, tail_group, tail_len}
 
@@ -48,6 +49,15 @@ pub record IsTailed (log : LogState) : Type 0 where
 forced_some : (log : LogState) (ts : List Record) → ts ≢ [] → forced_with log ts ≡ record { inst = log.inst; start = log.start; gate = log.gate + 5 + tail_len log; groups = log.groups ++ tail_group log ∷ []; tail = []; spare = log.spare }
 forced_some log [] some = absurd (some refl)
 forced_some log (t ∷ ts) some = refl
+
+-- the log of which the tail became a group
+pub settled_forced : (l : Inside) (journal : JournalState) (tail : BufferState) (len : ℕ)
+    → journal ≡ settled len l.journal → len ≡ tail_len (log_view l) → l.journal.tail ≢ []
+    → log_view (record { inst = l.inst; journal = journal; pages = l.pages; tail = tail; spare = l.spare }) ≡ forced (log_view l)
+settled_forced l journal tail len same size some =
+    ap (λ (j : JournalState). log_view (record { inst = l.inst; journal = j; pages = l.pages; tail = tail; spare = l.spare }))
+    (same ∙ ap (λ n. settled n l.journal) size)
+    ∙ sym (forced_some (log_view l) l.journal.tail some)
 
 -- what the bytes behind the gate say
 framed_parts : (text bytes : List ℕ) (n : ℕ) → length text ≡ n → take (5 + n) bytes ≡ framed text → (take (4 + n) bytes ≡ four n ++ text) × (get_or bytes (4 + n) 0 ≡ 0)

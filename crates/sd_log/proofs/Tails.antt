@@ -1,5 +1,5 @@
 -- A record that comes into a log's tail. It serves the goals of `append`.
-use Rattle.std.proofs.Common.{◌≡◌, ℕ, ◌+◌, ◌*◌, ◌<◌, ◌≤◌, true, List, [], ◌∷◌, ◌++◌, length, refl, sym, ap, ◌∙◌, arith, length-append}
+use Rattle.std.proofs.Common.{◌≡◌, ℕ, ◌+◌, ◌*◌, ◌<◌, ◌≤◌, true, List, [], ◌∷◌, ◌++◌, length, refl, sym, ap, ◌∙◌, subst, arith, length-append}
 use Rattle.std.specs.List.{AllByRecursion}
 use Rattle.sd_logrec.specs.declared.record.Record.{Record}
 use Rattle.sd_logrec.specs.declared.record.Record.TheVariants as records
@@ -9,7 +9,7 @@ use Rattle.sd_logrec.proofs.Lengths.{length-spelling}
 use Rattle.sd_log.specs.declared.log.Log.TheInside.{Inside}
 use Rattle.sd_log.specs.Buffers.{BufferState}
 use Rattle.sd_log.specs.JournalStates.{JournalState}
-use Rattle.sd_log.specs.LogInside.{IsLog}
+use Rattle.sd_log.specs.LogInside.{AreForced, IsLog}
 use Rattle.sd_log.specs.Logs.{is_reserved, placed_groups, placed_tail}
 use Rattle.sd_log.specs.ByPage.{changed_page, changed_pages}
 use Rattle.sd_log.specs.PagesInside.{PagesState}
@@ -79,6 +79,42 @@ put_is l r kept journal pages tail h p =
       chains_are = p.chains_is ∙ ap (λ (x : List ℕ). x ++ changed_page r ∷ []) h.chains_are ∙ sym (pages-more l.journal.gate l.journal.groups l.journal.tail r)
           ∙ ap (λ (rs : List Record). changed_pages (placed_groups l.journal.groups ++ placed_tail l.journal.gate rs)) (sym p.tail_is)
           ∙ sym (rw (p.gate_is, p.groups_is) refl);
+    }
+
+-- what room for more makes of the parts
+pub record Widens (l : Inside) (journal : JournalState) (pages : PagesState) (tail : BufferState) : Type 0 where
+  pub text_is : tail.text ≡ l.tail.text
+  pub same : journal ≡ record l.journal { room = journal.room }
+  pub chains_is : pages.chains ≡ l.pages.chains
+  pub text_room : l.tail.room ≤ tail.room
+  pub record_room : l.journal.room ≤ journal.room
+  pub page_room : l.pages.room ≤ pages.room
+
+pub widened_log : (l : Inside) (journal : JournalState) (pages : PagesState) (tail : BufferState)
+    → IsLog l → Widens l journal pages tail
+    → IsLog (record { inst = l.inst; journal = journal; pages = pages; tail = tail; spare = l.spare })
+widened_log l journal pages tail h w =
+    let size : length tail.text ≡ length l.tail.text = ap length w.text_is in
+    let gate : journal.gate ≡ l.journal.gate = ap (λ (j : JournalState). j.gate) w.same in
+    let text_room = w.text_room in
+    let record_room = w.record_room in
+    let page_room = w.page_room in
+    let spare_text = h.spare_text in
+    let spare_records = h.spare_records in
+    let spare_pages = h.spare_pages in
+    record {
+      text_is = w.text_is ∙ h.text_is ∙ sym (ap (λ (j : JournalState). spelled j.tail) w.same);
+      spelled_ones = subst (λ (j : JournalState). AllByRecursion HasSpelling j.tail) (sym w.same) h.spelled_ones;
+      forced_are = subst (λ (j : JournalState). AreForced j.start j.gate j.groups) (sym w.same) h.forced_are;
+      gate_within = subst (λ (j : JournalState). j.gate < 1048576) (sym w.same) h.gate_within;
+      fits = λ some. let fits = h.fits (omega arith) in omega arith;
+      least = λ some. let least = h.least (omega arith) in omega arith;
+      spare_small = h.spare_small;
+      spare_text = omega arith;
+      spare_records = omega arith;
+      spare_pages = omega arith;
+      chains_are = w.chains_is ∙ h.chains_are
+          ∙ sym (ap (λ (j : JournalState). changed_pages (placed_groups j.groups ++ placed_tail j.gate j.tail)) w.same);
     }
 
 -- a tail whose spelling has no bytes

@@ -1,6 +1,6 @@
 //! The log of an instance: its calls.
 
-ghost use Rattle.std.specs.Prelude.{◌≡◌, ◌≢◌, ◌⊎◌, ◌↔◌, [], ◌∷◌, ◌++◌, ℕ, ◌+◌, ◌-◌, ◌^◌, ◌<◌, ◌≤◌, false, true, max, min, if◌then◌else◌, length, map, Err, Ok, IsTrue, IsOk, IfErr, IfOk, OnErr, OnOk};
+ghost use Rattle.std.specs.Prelude.{◌≡◌, ◌≢◌, ◌⊎◌, ◌↔◌, [], ◌∷◌, ◌++◌, ℕ, ◌+◌, ◌-◌, ◌/◌, ◌^◌, ◌<◌, ◌≤◌, false, true, max, min, if◌then◌else◌, length, map, Err, Ok, IsTrue, IsOk, IfErr, IfOk, OnErr, OnOk};
 ghost use Rattle.sd_base.specs.Streams.{Rises};
 ghost use Rattle.sd_base.specs.declared.refusal.Refusal.TheVariants as R;
 ghost use Rattle.sd_logrec.specs.Fronts.{front, fronts_within};
@@ -201,9 +201,7 @@ impl Log {
         ensures there { max len END_LEN + kept ≤ self.old.spare → IsOk result }
     {
         let all = len.max(END_LEN) + kept;
-        self.tail.reserve(all)?;
-        self.journal.reserve(all / END_LEN)?;
-        self.pages.reserve(all / END_LEN)?;
+        reserve(&mut self.tail, &mut self.journal, &mut self.pages, all)?;
         let place = self.journal.gate() as usize + GROUP_HEAD + self.tail.len();
         self.tail.put(&r);
         self.pages.push(&r);
@@ -291,6 +289,29 @@ impl Log {
         self.pages.truncate(self.journal.placed().len());
         self.tail.clear();
     }
+}
+
+// Makes room for records of so many bytes more, and for as many of them as there may be.
+fn reserve(
+    tail: &mut Buffer,
+    journal: &mut Journal,
+    pages: &mut PageChains,
+    all: usize,
+) -> Result<(), Memory>
+    requires { all < 2 ^ 32 }
+    ensures text { tail.new.text ≡ tail.old.text }
+    ensures same { journal.new ≡ record journal.old { room = journal.new.room } }
+    ensures chains { pages.new.chains ≡ pages.old.chains }
+    ensures bytes { OnOk result (all ≤ tail.new.room) }
+    ensures records { OnOk result (all / END_LEN ≤ journal.new.room) }
+    ensures links { OnOk result (all / END_LEN ≤ pages.new.room) }
+    ensures stays { (tail.old.room ≤ tail.new.room) × (journal.old.room ≤ journal.new.room) × (pages.old.room ≤ pages.new.room) }
+    ensures there { all ≤ tail.old.room → all / END_LEN ≤ journal.old.room → all / END_LEN ≤ pages.old.room → IsOk result }
+{
+    let count = all / END_LEN;
+    tail.reserve(all)?;
+    journal.reserve(count)?;
+    pages.reserve(count)
 }
 
 // What is read of an area of which these bytes stand from the place `start` on.

@@ -44,9 +44,9 @@ fn read_records(alloc: Global, journal: &mut Journal, body: &[u8]) -> Result<(),
     let place = journal.gate() as usize + GROUP_HEAD;
     let mut at = 0;
     while at < body.len() {
+        journal.reserve(1)?;
         match Record::take(alloc, body, at) {
             Ok((rec, next)) => {
-                journal.reserve(1)?;
                 journal.push(rec, (place + at) as u32);
                 at = next;
             }

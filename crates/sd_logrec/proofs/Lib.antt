@@ -8,5 +8,6 @@ pub mod Parts
 pub mod Places
 pub mod Records
 pub mod Rising
+mod Rooms
 pub mod WholeFronts
 pub mod Writes

@@ -47,21 +47,55 @@ appends_then a b c p q x y = record {
   capacity = omega (arith, x.capacity, y.capacity);
 }
 
+-- where two pieces have room, the first has, and once it is written the second has
+pub room_first : (a : Vec ℕ) (p q : List ℕ) → HasRoom a (p ++ q) → HasRoom a p
+room_first a p q room = omega (arith, length-append p q, room)
+
+pub room_then : (a b : Vec ℕ) (p q : List ℕ) → Appends a b p → HasRoom a (p ++ q) → HasRoom b q
+room_then a b p q x room = omega (arith, length-append p q, x.len, x.capacity, room)
+
 -- the fields behind what each record of a transaction begins with
+pub head_then : (type lsn : ℕ) (txn : TxnId) (prev : ℕ) (fields : List ℕ)
+    → row type lsn (transaction txn ++ eight prev) ++ fields ≡ row type lsn (transaction txn ++ (eight prev ++ fields))
+head_then type lsn txn prev fields =
+    let t : List ℕ = transaction txn in
+    let p : List ℕ = eight prev in
+    append_assoc (one type) (eight lsn ++ (t ++ p)) fields
+    ∙ ap (λ (l : List ℕ). one type ++ l) (append_assoc (eight lsn) (t ++ p) fields ∙ ap (λ (l : List ℕ). eight lsn ++ l) (append_assoc t p fields))
+
 pub appends_head : (a b c : Vec ℕ) (type lsn : ℕ) (txn : TxnId) (prev : ℕ) (fields : List ℕ) → Appends a b (row type lsn (transaction txn ++ eight prev)) → Appends b c fields
     → Appends a c (row type lsn (transaction txn ++ (eight prev ++ fields)))
 appends_head a b c type lsn txn prev fields x y =
-    let t : List ℕ = transaction txn in
-    let p : List ℕ = eight prev in
-    subst (Appends a c)
-    (append_assoc (one type) (eight lsn ++ (t ++ p)) fields ∙ ap (λ (l : List ℕ). one type ++ l) (append_assoc (eight lsn) (t ++ p) fields ∙ ap (λ (l : List ℕ). eight lsn ++ l) (append_assoc t p fields)))
-    (appends_then a b c (row type lsn (t ++ p)) fields x y)
+    subst (Appends a c) (head_then type lsn txn prev fields)
+    (appends_then a b c (row type lsn (transaction txn ++ eight prev)) fields x y)
+
+pub room_head : (a : Vec ℕ) (type lsn : ℕ) (txn : TxnId) (prev : ℕ) (fields : List ℕ)
+    → HasRoom a (row type lsn (transaction txn ++ (eight prev ++ fields))) → HasRoom a (row type lsn (transaction txn ++ eight prev) ++ fields)
+room_head a type lsn txn prev fields = subst (HasRoom a) (sym (head_then type lsn txn prev fields))
 
 -- the values behind the place of a change
+pub place_then : (page slot capacity : ℕ) (values : List ℕ)
+    → (four page ++ (two slot ++ two capacity)) ++ values ≡ four page ++ (two slot ++ (two capacity ++ values))
+place_then page slot capacity values =
+    append_assoc (four page) (two slot ++ two capacity) values
+    ∙ ap (λ (l : List ℕ). four page ++ l) (append_assoc (two slot) (two capacity) values)
+
 pub appends_place : (a b c : Vec ℕ) (page slot capacity : ℕ) (values : List ℕ) → Appends a b (four page ++ (two slot ++ two capacity)) → Appends b c values
     → Appends a c (four page ++ (two slot ++ (two capacity ++ values)))
 appends_place a b c page slot capacity values x y =
-    let m : List ℕ = two slot ++ two capacity in
-    subst (Appends a c)
-    (append_assoc (four page) m values ∙ ap (λ (l : List ℕ). four page ++ l) (append_assoc (two slot) (two capacity) values))
-    (appends_then a b c (four page ++ m) values x y)
+    subst (Appends a c) (place_then page slot capacity values)
+    (appends_then a b c (four page ++ (two slot ++ two capacity)) values x y)
+
+pub room_place : (a : Vec ℕ) (page slot capacity : ℕ) (values : List ℕ)
+    → HasRoom a (four page ++ (two slot ++ (two capacity ++ values))) → HasRoom a ((four page ++ (two slot ++ two capacity)) ++ values)
+room_place a page slot capacity values = subst (HasRoom a) (sym (place_then page slot capacity values))
+
+-- the fields behind a type and an LSN
+pub row_then : (type lsn : ℕ) (fields : List ℕ) → (one type ++ eight lsn) ++ fields ≡ row type lsn fields
+row_then type lsn fields = append_assoc (one type) (eight lsn) fields
+
+pub appends_row : (a b c : Vec ℕ) (type lsn : ℕ) (fields : List ℕ) → Appends a b (one type ++ eight lsn) → Appends b c fields → Appends a c (row type lsn fields)
+appends_row a b c type lsn fields x y = subst (Appends a c) (row_then type lsn fields) (appends_then a b c (one type ++ eight lsn) fields x y)
+
+pub room_row : (a : Vec ℕ) (type lsn : ℕ) (fields : List ℕ) → HasRoom a (row type lsn fields) → HasRoom a ((one type ++ eight lsn) ++ fields)
+room_row a type lsn fields = subst (HasRoom a) (sym (row_then type lsn fields))

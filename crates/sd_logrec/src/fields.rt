@@ -148,7 +148,9 @@ fn bytes_of(alloc: Global, bytes: &[u8], len: usize) -> Result<(Bytes, &[u8]), M
 pub fn value_of(alloc: Global, bytes: &[u8]) -> Result<(Option<Bytes>, &[u8]), Miss>
     ensures { Gives (λ x. (x.0, x.1.now)) result (value_at bytes.now) }
 {
-    let (len, rest) = u16_of(bytes).ok_or(Miss::Nothing)?;
+    let Some((len, rest)) = u16_of(bytes) else {
+        return Err(Miss::Nothing);
+    };
     if len == NO_VALUE {
         return Ok((None, rest));
     }

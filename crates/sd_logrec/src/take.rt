@@ -29,12 +29,18 @@ fn update_of(alloc: Global, lsn: Lsn, bytes: &[u8]) -> Result<(Record, &[u8]), M
     let Some((txn, rest)) = txn_of(bytes) else {
         return Err(Miss::Nothing);
     };
-    let (prev, rest) = u64_of(rest).ok_or(Miss::Nothing)?;
+    let Some((prev, rest)) = u64_of(rest) else {
+        return Err(Miss::Nothing);
+    };
     let Some((page, rest)) = page_of(rest) else {
         return Err(Miss::Nothing);
     };
-    let (slot, rest) = slot_of(rest).ok_or(Miss::Nothing)?;
-    let (capacity, rest) = capacity_of(rest).ok_or(Miss::Nothing)?;
+    let Some((slot, rest)) = slot_of(rest) else {
+        return Err(Miss::Nothing);
+    };
+    let Some((capacity, rest)) = capacity_of(rest) else {
+        return Err(Miss::Nothing);
+    };
     let (before, rest) = value_of(alloc, rest)?;
     let (after, rest) = value_of(alloc, rest)?;
     let update = Record::Update {
@@ -57,12 +63,18 @@ fn clr_of(alloc: Global, lsn: Lsn, bytes: &[u8]) -> Result<(Record, &[u8]), Miss
     let Some((txn, rest)) = txn_of(bytes) else {
         return Err(Miss::Nothing);
     };
-    let (prev, rest) = u64_of(rest).ok_or(Miss::Nothing)?;
-    let (undo_next, rest) = u64_of(rest).ok_or(Miss::Nothing)?;
+    let Some((prev, rest)) = u64_of(rest) else {
+        return Err(Miss::Nothing);
+    };
+    let Some((undo_next, rest)) = u64_of(rest) else {
+        return Err(Miss::Nothing);
+    };
     let Some((page, rest)) = page_of(rest) else {
         return Err(Miss::Nothing);
     };
-    let (slot, rest) = slot_of(rest).ok_or(Miss::Nothing)?;
+    let Some((slot, rest)) = slot_of(rest) else {
+        return Err(Miss::Nothing);
+    };
     let (after, rest) = value_of(alloc, rest)?;
     let clr = Record::Clr {
         lsn,
@@ -198,7 +210,9 @@ fn is_before(t: TxnId, u: TxnId) -> bool
 fn spans_of(alloc: Global, bytes: &[u8]) -> Result<(Spans, &[u8]), Miss>
     ensures { Gives (λ x. (x.0, x.1.now)) result (spans_at bytes.now) }
 {
-    let (count, rest) = u16_of(bytes).ok_or(Miss::Nothing)?;
+    let Some((count, rest)) = u16_of(bytes) else {
+        return Err(Miss::Nothing);
+    };
     let (spans, rest) = span_list(alloc, count, rest)?;
     if !spans_rise(&spans) {
         return Err(Miss::Nothing);
@@ -210,7 +224,9 @@ fn spans_of(alloc: Global, bytes: &[u8]) -> Result<(Spans, &[u8]), Miss>
 fn recs_of(alloc: Global, bytes: &[u8]) -> Result<(Recs, &[u8]), Miss>
     ensures { Gives (λ x. (x.0, x.1.now)) result (recs_at bytes.now) }
 {
-    let (count, rest) = u16_of(bytes).ok_or(Miss::Nothing)?;
+    let Some((count, rest)) = u16_of(bytes) else {
+        return Err(Miss::Nothing);
+    };
     let (recs, rest) = rec_list(alloc, count, rest)?;
     if !recs_rise(&recs) {
         return Err(Miss::Nothing);
@@ -222,7 +238,9 @@ fn recs_of(alloc: Global, bytes: &[u8]) -> Result<(Recs, &[u8]), Miss>
 fn end_check_of(alloc: Global, lsn: Lsn, bytes: &[u8]) -> Result<(Record, &[u8]), Miss>
     ensures { Gives (λ x. (x.0, x.1.now)) result (end_check_at lsn bytes.now) }
 {
-    let (begin, rest) = u64_of(bytes).ok_or(Miss::Nothing)?;
+    let Some((begin, rest)) = u64_of(bytes) else {
+        return Err(Miss::Nothing);
+    };
     let (spans, rest) = spans_of(alloc, rest)?;
     let (recs, rest) = recs_of(alloc, rest)?;
     let check = Record::EndCheck {
@@ -255,8 +273,12 @@ fn fields_of(alloc: Global, kind: u8, lsn: Lsn, bytes: &[u8]) -> Result<(Record,
 fn record_of(alloc: Global, bytes: &[u8]) -> Result<(Record, &[u8]), Miss>
     ensures { Gives (λ x. (x.0, x.1.now)) result (record_at bytes.now) }
 {
-    let (kind, rest) = byte_of(bytes).ok_or(Miss::Nothing)?;
-    let (lsn, rest) = lsn_of(rest).ok_or(Miss::Nothing)?;
+    let Some((kind, rest)) = byte_of(bytes) else {
+        return Err(Miss::Nothing);
+    };
+    let Some((lsn, rest)) = lsn_of(rest) else {
+        return Err(Miss::Nothing);
+    };
     fields_of(alloc, kind, lsn, rest)
 }
 

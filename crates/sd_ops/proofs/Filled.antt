@@ -1,7 +1,7 @@
 -- An insert at its end: the record is made, or its change is refused. For `fill`.
 use Rattle.std.proofs.Common.{◌≡◌, ◌≢◌, ◌⊎◌, inl, inr, ⊎_elim, ℕ, ◌+◌, ◌^◌, ◌<◌, ◌≤◌, Bool, true, false, cond, eq-eqb, List, []}
 use Rattle.std.proofs.Common.{◌∷◌, ◌++◌, length, refl, sym, ap, ◌∙◌, subst, arith}
-use Rattle.std.specs.Prelude.{None, Some, Result, Ok, Err, IfErr, OnErr}
+use Rattle.std.specs.Prelude.{None, Some, Result, Ok, Err, IfErr, IfOk, OnErr}
 use Rattle.std.proofs.lemmas.Bool.{cases_lt}
 use Rattle.sd_base.specs.Values.{size}
 use Rattle.sd_base.specs.declared.ids.Rid.{Rid}
@@ -257,3 +257,25 @@ put-not-full r (Err x) k n P is same was only full = ⊎_elim
     (λ l. absurd (cc))
     (λ rest. ⊎_elim (λ l. absurd (cc)) (λ l. absurd (cc)) rest)
     only
+
+-- A refusal that is passed on is the one that was given.
+pub same-refusal : {A : Type 0} (r : Result A Refusal) (k n what : Refusal) → r ≡ Err k → k ≡ n → r ≡ Err what → n ≡ what
+same-refusal r k n what is same told = cc
+
+-- What is said of a value says nothing of a refusal.
+pub err-ok : {A : Type 0} (r : Result A Refusal) (k : Refusal) (P : A → Type 0) → r ≡ Err k → IfOk r P
+err-ok r k P is = subst (λ x. IfOk x P) (sym is) tt
+
+-- A value is no full page.
+pub ok-not_full : {A P : Type 0} (x : A) → Ok x ≡ Err R.PageFull → P
+ok-not_full x full = absurd (cc)
+
+-- Want of memory is neither that nor want of room in a log, or of LSNs.
+pub memory-not_page : {P : Type 0} → R.Memory ≡ R.PageFull → P
+memory-not_page full = absurd (cc)
+
+pub memory-not_full : {P : Type 0} → R.Memory ≡ R.LogFull → P
+memory-not_full full = absurd (cc)
+
+pub memory-not_lsns : {P : Type 0} → R.Memory ≡ R.LsnEnd → P
+memory-not_lsns lsns = absurd (cc)

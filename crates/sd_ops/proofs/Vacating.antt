@@ -25,6 +25,10 @@ use Rattle.sd_ops.proofs.Planning.{slot-fits}
 pub not-long : (v : List ℕ) (asked : ℕ) → (IsLongFor v asked → ⊥) → length v ≤ asked
 not-long v asked short = ⊎_elim (λ lt. absurd (short (inr (inr lt)))) (λ le. le) (cases_lt asked (length v))
 
+-- nor is the capacity too big
+pub asked-small : (v : List ℕ) (asked : ℕ) → (IsLongFor v asked → ⊥) → asked ≤ 256
+asked-small v asked short = ⊎_elim (λ lt. absurd (short (inr (inl lt)))) (λ le. le) (cases_lt 256 asked)
+
 -- behind the last slot there is no value
 beyond-none : (slots : List Slot) → value slots (length slots) ≡ None
 beyond-none [] = refl

@@ -1,6 +1,6 @@
 //! Which answers of begins, reads, changes and commits may follow, and what they leave.
 
-ghost use Rattle.std.specs.Prelude.{◌≡◌, IfOk, OnErr, MatchOption, ◌<◌, option_copied, [], ◌∷◌, ℕ, List};
+ghost use Rattle.std.specs.Prelude.{◌≡◌, None, Some, IfOk, OnErr, MatchOption, ◌<◌, option_copied, [], ◌∷◌, ℕ, List};
 ghost use Rattle.sd_model.specs.Applies.{Clear};
 ghost use Rattle.sd_lists.specs.Lists.{meaning};
 ghost use Rattle.sd_oracle.specs.Judging.{IsOpenEnded, JudgesRow, IsSumAt, Replaces};
@@ -40,10 +40,7 @@ pub fn answer(lists: &mut Lists, event: &Event, reply: &Reply) -> Result<Verdict
             _ => Ok(Verdict::Differs),
         },
         Event::Write { txn, rid, value } => match reply {
-            Reply::Did => {
-                let new = Some(value.copy()?);
-                Ok(verdict(answer_put(lists, txn, rid, &new)?))
-            }
+            Reply::Did => Ok(verdict(answer_write(lists, txn, rid, value)?)),
             _ => Ok(Verdict::Differs),
         },
         Event::Add { txn, rid, by } => match reply {
@@ -119,6 +116,15 @@ fn answer_read(
     Ok(true)
 }
 
+// A write that was done.
+fn answer_write(lists: &mut Lists, txn: &TxnId, rid: &Rid, value: &Bytes) -> Result<bool, Memory>
+    ensures answered { IfOk result (λ b. Replaces b (meaning lists.old) txn.now rid.now (Some value.now) (meaning lists.new)) }
+    ensures same { OnErr result (meaning lists.new ≡ meaning lists.old) }
+{
+    let new = Some(value.copy()?);
+    answer_put(lists, txn, rid, &new)
+}
+
 // A write or a delete that was done: the record has `new`, or is absent.
 fn answer_put(
     lists: &mut Lists,
@@ -132,13 +138,21 @@ fn answer_put(
     if !lists.runs(txn) {
         return Ok(false);
     }
-    let old = owned(lists.alloc(), lists.view(txn, rid))?;
-    if old.is_none() {
+    let alloc = lists.alloc();
+    let Some(old) = lists.view(txn, rid) else {
         return Ok(false);
-    }
-    let acts = read_and_put(lists.alloc(), rid, &old, new)?;
+    };
+    let acts = acts_over(alloc, rid, old, new)?;
     lists.take(txn, rid, Claim::Excl, &acts)?;
     Ok(true)
+}
+
+// The acts of a change of a record that has a value.
+fn acts_over(alloc: Global, rid: &Rid, old: &[u8], new: &Option<Bytes>) -> Result<Vec<Act>, Memory>
+    ensures { IfOk result (λ acts. acts.items ≡ Act.Read rid.now (Some old.now) ∷ Act.Put rid.now new.now ∷ []) }
+{
+    let old = Some(Bytes::copy_of(alloc, old)?);
+    read_and_put(alloc, rid, &old, new)
 }
 
 // An add that was done.
@@ -191,10 +205,16 @@ fn answer_insert(
         return Ok(false);
     }
     let _ = capacity;
-    let new = Some(value.copy()?);
-    let acts = read_and_put(lists.alloc(), rid, &None, &new)?;
+    let acts = acts_of_insert(lists.alloc(), rid, value)?;
     lists.take(txn, rid, Claim::Excl, &acts)?;
     Ok(true)
+}
+
+fn acts_of_insert(alloc: Global, rid: &Rid, value: &Bytes) -> Result<Vec<Act>, Memory>
+    ensures { IfOk result (λ acts. acts.items ≡ Act.Read rid.now None ∷ Act.Put rid.now (Some value.now) ∷ []) }
+{
+    let new = Some(value.copy()?);
+    read_and_put(alloc, rid, &None, &new)
 }
 
 // A commit that was done.

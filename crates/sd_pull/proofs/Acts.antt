@@ -121,8 +121,8 @@ module _ (m m' : State) where
 
 -- a cause of the devices is told as their failure
 rig-fails : (n : Refusal) → has_cause Cause.Rig (causes_of n) ≡ true → is_failed (reply.Refused n) ≡ false → ⊥
-rig-fails R.Failed named fine = absurd (cc)
-rig-fails n named fine = absurd (cc)
+rig-fails R.Failed named fine = unlike refl fine
+rig-fails n named fine = unlike named refl
 
 module _ (m m' : State) where
   refused-same : (e : Event) (n : Refusal) (c : Cause) → IsCalm m e → is_failed (reply.Refused n) ≡ false → has_cause c (causes_of n) ≡ true
@@ -170,7 +170,7 @@ module _ (m m' : State) where
     where
       by : (c : Cause) → has_cause c (Cause.Frame ∷ []) ≡ true → First m (event.Ask i p mode) c → (m.inst 1).status ≡ S.Closed → ⊥
       by Cause.Frame named first closed = first.1.0 closed
-      by c named first closed = absurd (cc)
+      by c named first closed = unlike named refl
 
   pub take-open : (i p : ℕ) → Step m (event.Take i p) (reply.Refused R.PoolFull) m' → (m'.inst 1).status ≡ S.Closed → ⊥
   take-open i p s shut = by s.0 s.1 s.3
@@ -178,18 +178,18 @@ module _ (m m' : State) where
     where
       by : (c : Cause) → has_cause c (Cause.Frame ∷ []) ≡ true → First m (event.Take i p) c → (m.inst 1).status ≡ S.Closed → ⊥
       by Cause.Frame named first closed = first.1.0 closed
-      by c named first closed = absurd (cc)
+      by c named first closed = unlike named refl
 
 -- ---- a refusal for want of a page
 
 module _ (m m' : State) where
   away-stays : (e : Event) (c : Cause) → has_cause c (Cause.Away ∷ []) ≡ true → Refuses m e c m' → m' ≡ m
-  away-stays e Cause.NoRecord away h = absurd (cc)
-  away-stays e Cause.NotNumber away h = absurd (cc)
-  away-stays e Cause.Digits away h = absurd (cc)
-  away-stays e Cause.Over away h = absurd (cc)
-  away-stays e Cause.Rig away h = absurd (cc)
-  away-stays e Cause.Cut away h = absurd (cc)
+  away-stays e Cause.NoRecord away h = unlike away refl
+  away-stays e Cause.NotNumber away h = unlike away refl
+  away-stays e Cause.Digits away h = unlike away refl
+  away-stays e Cause.Over away h = unlike away refl
+  away-stays e Cause.Rig away h = unlike away refl
+  away-stays e Cause.Cut away h = unlike away refl
   away-stays e c away h = h
 
   -- nothing changes
@@ -210,21 +210,21 @@ away-open m (event.Take i p) first closed = first.1.0 closed
 away-open m (event.Evict i p) first closed = first.1.0 closed
 away-open m (event.Flush i p) first closed = first.1.0 closed
 away-open m (event.RecoverStep i) first closed = first.1.0 closed
-away-open m (event.Back t None) first closed = let there = first.0 in absurd (cc)
-away-open m (event.Back t (Some k)) first closed = let there = first.0 in absurd (cc)
-away-open m e first closed = let there = first.0 in absurd (cc)
+away-open m (event.Back t None) first closed = unlike first.0 refl
+away-open m (event.Back t (Some k)) first closed = unlike first.0 refl
+away-open m e first closed = unlike first.0 refl
 
 pub need-open : (m m' : State) (e : Event) (place : Place) → Step m e (reply.Refused (R.NeedPage place)) m' → (m'.inst 1).status ≡ S.Closed → ⊥
 need-open m m' e place s shut = by s.0 s.1 s.3 (sym (ap (λ (k : State). (k.inst 1).status) (need-stays m m' e place s)) ∙ shut)
   where
     by : (c : Cause) → has_cause c (Cause.Away ∷ []) ≡ true → First m e c → (m.inst 1).status ≡ S.Closed → ⊥
     by Cause.Away named first closed = away-open m e first closed
-    by c named first closed = absurd (cc)
+    by c named first closed = unlike named refl
 
 -- so an answer that wants a page leaves all as it was
 pub wants-stays : (m : State) (e : Event) (r : Reply) (m' : State) → is_need r ≡ true → Step m e r m' → m' ≡ m
 wants-stays m e (reply.Refused (R.NeedPage place)) m' need s = need-stays m m' e place s
-wants-stays m e r m' need s = absurd (cc)
+wants-stays m e r m' need s = unlike need refl
 
 -- an instance isn't refused as Down
 is-up : (s : Status) → ((s ≡ S.Up → ⊥) → ⊥) → s ≡ S.Up
@@ -238,7 +238,7 @@ undo-needs m t place m' s = by s.0 s.1 s.3
   where
     by : (c : Cause) → has_cause c (Cause.Away ∷ []) ≡ true → First m (event.Undo t) c → HasPage m (event.Undo t) × ((m.inst t.inst).status ≡ S.Up)
     by Cause.Away away first = (first.2, is-up (m.inst t.inst).status first.1.1.1.0)
-    by c away first = absurd (cc)
+    by c away first = unlike away refl
 
 -- ---- one that rolls back
 

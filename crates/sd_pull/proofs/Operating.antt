@@ -1,5 +1,5 @@
 -- An event of a line comes, and comes again behind a pull. It serves the goals of events.rt.
-use Rattle.std.proofs.Common.{◌≡◌, ◌⊎◌, inl, inr, ⊎_elim, ℕ, Bool, true, false, List, [], ◌∷◌, ◌++◌, refl, sym, ap, ◌∙◌, subst}
+use Rattle.std.proofs.Common.{◌≡◌, ◌⊎◌, inl, inr, ⊎_elim, ℕ, Bool, true, false, List, [], refl, sym, ap, ◌∙◌, subst}
 use Rattle.std.specs.Prelude.{Option, None, Some}
 use Rattle.sd_base.specs.declared.place.Mode.{Mode}
 use Rattle.sd_model.specs.declared.event.Entry.{Entry}
@@ -18,7 +18,7 @@ use Rattle.sd_pull.specs.Pulls.{Pull, Puller, is_pulling}
 use Rattle.sd_pull.specs.Standing.{Pulling, Wants, is_need, need_of, wanted_of}
 use Rattle.sd_pull.proofs.Acts.{page-stays, wants-stays}
 use Rattle.sd_pull.proofs.Needs.{need-some, no-need, puller_in, wanted-none, wanted-some}
-use Rattle.sd_pull.proofs.Steps.{Noted, moved}
+use Rattle.sd_pull.proofs.Steps.{Noted, moved, noted-some}
 use Rattle.sd_pull.proofs.Telling.{own-again, own-done, own-pulls, pulling-begins}
 use Rattle.sd_pull.specs.Running.{Start}
 
@@ -176,12 +176,8 @@ module _ {G : Type 0} (tell : Telling G) (session number : ℕ) (e : Event) wher
             (s.start, k.0, k.2)
 
 -- an event that came was noted
-not-empty : (es : List Entry) (x : Entry) → es ++ x ∷ [] ≡ [] → ⊥
-not-empty [] x is = absurd (cc)
-not-empty (e ∷ es) x is = absurd (cc)
-
 pub came-some : {G : Type 0} (tell : Telling G) (old new : Hall G) (session number : ℕ) (e : Event) → Operates tell old new session number e
     → DueIn tell old session number e → new.book.entries ≡ [] → ⊥
 came-some tell old new session number e came d none =
     let c = came d.start d.world d.known d.line d.rest d.cursor d.there d.due in
-    not-empty c.before (record { session = session; line = number; event = e; reply = c.reply }) (sym c.noted ∙ none)
+    noted-some c.before (record { session = session; line = number; event = e; reply = c.reply }) c.noted none

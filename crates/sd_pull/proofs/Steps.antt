@@ -19,6 +19,14 @@ use Rattle.sd_pull.proofs.Telling.{helping, pulling-on}
 use Rattle.sd_pull.specs.Running.{Ran, Start}
 use Rattle.sd_pull.proofs.Running.{ran-noted, ran-spared}
 
+-- a book in which an entry was noted isn't empty
+one-more : (es : List Entry) (x : Entry) → es ++ x ∷ [] ≡ [] → ⊥
+one-more [] x is = absurd (cc)
+one-more (e ∷ es) x is = absurd (cc)
+
+pub noted-some : {es : List Entry} (old : List Entry) (x : Entry) → es ≡ old ++ x ∷ [] → es ≡ [] → ⊥
+noted-some old x is none = one-more old x (sym is ∙ none)
+
 module _ {G : Type 0} (tell : Telling G) (old new : Hall G) where
   -- an entry more, with what the call of its event says; `earlier` is the rig's law
   pub record Noted (x : Entry) : Type 0 where

@@ -10,7 +10,7 @@ ghost use Rattle.sd_report.specs.Names.{name_in};
 ghost use Rattle.sd_report.specs.Words.{line_of, no_names};
 ghost use Rattle.sd_report.specs.Refusals.{refusal_text};
 ghost use Rattle.sd_report.specs.Replies.{no_reply, pulled_text, last_text, words_of, last_behind_all, last_behind_words};
-ghost use Rattle.sd_report.specs.Report.{entries_of, reported, report, bad_text, damaged_text};
+ghost use Rattle.sd_report.specs.Report.{entries_of, last_entry, reported, report, bad_text, damaged_text};
 ghost use Rattle.sd_report.specs.Report.{gathered, reply_tells_txn, tell_txns, AreFrom, AreAbove};
 ghost use Rattle.sd_report.specs.Report.{row_line, rows_in, table_text, table_rows};
 
@@ -214,6 +214,21 @@ fn push_line(
         ++ reported (name_in names.now) line.now.form (entries_of line.now.number entries.now)) }
 {
     let last = last_of(line.number, entries);
+    push_form(out, names, line, last, entries)
+}
+
+// The same by the last of the line's entries.
+fn push_form(
+    out: &mut Vec<u8>,
+    names: &TxnNames,
+    line: &Line,
+    last: Option<&Entry>,
+    entries: &[Entry],
+) -> Result<(), Memory>
+    requires last { option_copied last ≡ last_entry (entries_of line.now.number entries.now) }
+    ensures { OnOk result (out.new.items ≡ out.old.items
+        ++ reported (name_in names.now) line.now.form (entries_of line.now.number entries.now)) }
+{
     let form = &line.form;
     match form {
         Form::Complex {
@@ -311,11 +326,17 @@ pub fn bad_line(alloc: Global, line: u32, cause: LineError) -> Result<Vec<u8>, M
     ensures { IfOk result (λ text. text.items ≡ bad_text line cause) }
 {
     let mut out = Vec::new(alloc);
-    push_word(&mut out, b"bad line")?;
-    push_number(&mut out, u64::from(line))?;
-    push_next(&mut out, cause_name(cause))?;
-    push_end(&mut out)?;
+    push_bad(&mut out, line, cause)?;
     Ok(out)
+}
+
+fn push_bad(out: &mut Vec<u8>, line: u32, cause: LineError) -> Result<(), Memory>
+    ensures { OnOk result (out.new.items ≡ out.old.items ++ bad_text line cause) }
+{
+    push_word(out, b"bad line")?;
+    push_number(out, u64::from(line))?;
+    push_next(out, cause_name(cause))?;
+    push_end(out)
 }
 
 /// The text that tells where devices that aren't sound fail first. `Memory` comes where there is none.
@@ -323,9 +344,15 @@ pub fn damaged_line(alloc: Global, dev: u8, at: u64) -> Result<Vec<u8>, Memory>
     ensures { IfOk result (λ text. text.items ≡ damaged_text dev at) }
 {
     let mut out = Vec::new(alloc);
-    push_word(&mut out, b"damaged")?;
-    push_number(&mut out, u64::from(dev))?;
-    push_number(&mut out, at)?;
-    push_end(&mut out)?;
+    push_damaged(&mut out, dev, at)?;
     Ok(out)
+}
+
+fn push_damaged(out: &mut Vec<u8>, dev: u8, at: u64) -> Result<(), Memory>
+    ensures { OnOk result (out.new.items ≡ out.old.items ++ damaged_text dev at) }
+{
+    push_word(out, b"damaged")?;
+    push_number(out, u64::from(dev))?;
+    push_number(out, at)?;
+    push_end(out)
 }

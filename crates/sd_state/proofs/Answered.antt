@@ -1,6 +1,6 @@
 -- What answers of calls give, and what is read of a complex at a place: for the calls that change a complex.
 use Rattle.std.proofs.Common.{◌≡◌, ◌≢◌, ◌⊎◌, inl, inr, ⊎_elim, ℕ, ◌-◌, ◌≤◌, Bool, true, List, [], ◌∷◌, length, get_or, slice_set, refl, sym, ap, ◌∙◌, arith, subst}
-use Rattle.std.specs.Prelude.{Result, Ok, Err, IfOk, OnErr, OnOk}
+use Rattle.std.specs.Prelude.{Result, Ok, Err, IfErr, IfOk, OnErr, OnOk}
 use Rattle.std.proofs.lemmas.Bool.{cases_eq}
 use Rattle.std.proofs.Math.ListN.{get_or-map}
 use Rattle.std.proofs.lemmas.List.{get_or_read, length-set, set-get_or}
@@ -10,10 +10,12 @@ use Rattle.std.specs.Prelude.{None, option_map}
 use Rattle.sd_page.specs.Page.{Page}
 use Rattle.sd_pagelock.specs.Directory.{DirectoryState, moving_image_at}
 use Rattle.sd_log.specs.Logs.{LogState}
+use Rattle.sd_reclock.specs.Locks.{LockTable}
 use Rattle.sd_txn.specs.Transactions.{Transactions}
 use Rattle.sd_state.specs.Complexes.{unboxed}
 use Rattle.sd_state.specs.Forcing.{with_forced}
 use Rattle.sd_state.specs.Parts.{IsShape, Parts, among, is_loose, log_at, no_log, no_txns, owed_at, txns_at}
+use Rattle.sd_state.specs.Working.{with_txns, with_working}
 use Rattle.sd_state.proofs.Items.{item-is, item-kept, item-set}
 
 pub nil-or : {A : Type 0} (xs : List A) → (xs ≡ []) ⊎ (xs ≢ [])
@@ -103,3 +105,37 @@ pub still-unboxed : {E : Type 0} (r : Result (DirectoryState (Box Page)) E) → 
     → IfOk r (λ d. (p : ℕ) → moving_image_at (unboxed d) p ≡ None)
 still-unboxed (Ok d) still = λ p. none-unboxed d p (still p)
 still-unboxed (Err e) still = tt
+
+-- An answer that is Ok has what is said of errors, and an error what is said of values.
+pub ok-no_err : {A B : Type 0} (r : Result A B) (x : A) (P : Type 0) → r ≡ Ok x → OnErr r P
+ok-no_err {A = A} {B = B} r x P is = subst (λ (s : Result A B). OnErr s P) (sym is) tt
+
+pub err-no_ok : {A B : Type 0} (r : Result A B) (y : B) (P : Type 0) → r ≡ Err y → OnOk r P
+err-no_ok {A = A} {B = B} r y P is = subst (λ (s : Result A B). OnOk s P) (sym is) tt
+
+pub err-if_no : {A B : Type 0} (r : Result A B) (y : B) (P : A → Type 0) → r ≡ Err y → IfOk r P
+err-if_no {A = A} {B = B} r y P is = subst (λ (s : Result A B). IfOk s P) (sym is) tt
+
+-- an error that is passed on
+pub err-if : {A B : Type 0} (r : Result A B) (y z : B) (P : B → Type 0) → r ≡ Err y → y ≡ z → P z → IfErr r P
+err-if {A = A} {B = B} r y z P is same h =
+    subst (λ (s : Result A B). IfErr s P) (sym is) (subst P (sym same) h)
+
+pub passed-on : {A B : Type 0} (r s : Result A B) (y z : B) → r ≡ Err z → s ≡ Err y → y ≡ z → r ≡ s
+passed-on r s y z from to same = cc
+
+-- the parts once the table of instance i and the locks are written
+pub worked-parts : (c : Parts) (i at : ℕ) (table : Transactions) (locks : LockTable) → 1 ≤ i → i ≤ 8 → length c.txns ≡ 8 → at ≡ i - 1
+    → record c { txns = slice_set c.txns at table; locks = locks }
+    ≡ with_working i (txns_at (record c { txns = slice_set c.txns at table; locks = locks }) i) locks c
+worked-parts c i at table locks low high eight place =
+    ap (λ (n : ℕ). record c { txns = slice_set c.txns n table; locks = locks }) place
+    ∙ ap (λ (tb : Transactions). with_working i tb locks c) (sym (table-set c i at table low high eight place))
+
+-- and once the table alone is
+pub turned-parts : (c : Parts) (i at : ℕ) (table : Transactions) → 1 ≤ i → i ≤ 8 → length c.txns ≡ 8 → at ≡ i - 1
+    → record c { txns = slice_set c.txns at table }
+    ≡ with_txns i (txns_at (record c { txns = slice_set c.txns at table }) i) c
+turned-parts c i at table low high eight place =
+    ap (λ (n : ℕ). record c { txns = slice_set c.txns n table }) place
+    ∙ ap (λ (tb : Transactions). with_txns i tb c) (sym (table-set c i at table low high eight place))

@@ -1,6 +1,6 @@
 -- A transaction begins: for `begin` of working.rt.
 use Rattle.std.proofs.Common.{◌≡◌, ◌≢◌, inl, inr, ⊎_elim, ℕ, ◌+◌, ◌-◌, ◌≤◌, Bool, true, false, cond, if◌then◌else◌, ◌==◌, List, [], ◌∷◌, ◌++◌, map, slice_set, refl, sym, ap, ◌∙◌, subst, arith, eq-eqb, ne_eqb}
-use Rattle.std.specs.Prelude.{Option, None, Some, is_some}
+use Rattle.std.specs.Prelude.{◌↔◌, ◌<◌, Option, None, Some, Result, Err, is_some, length}
 use Rattle.std.specs.List.{list_any}
 use Rattle.std.proofs.lemmas.Bool.{cases_Bool}
 use Rattle.std.proofs.lemmas.List.{length-set}
@@ -8,6 +8,8 @@ use Rattle.sd_base.specs.declared.ids.TxnId.{TxnId}
 use Rattle.sd_base.specs.declared.ids.Rid.{Rid}
 use Rattle.sd_base.specs.declared.place.Mode.{Mode}
 use Rattle.sd_base.specs.declared.place.Status.TheVariants as S
+use Rattle.sd_base.specs.declared.refusal.Refusal.{Refusal}
+use Rattle.sd_base.specs.declared.refusal.Refusal.TheVariants as R
 use Rattle.sd_base.specs.Ids.{same_txn}
 use Rattle.sd_base.proofs.SameIds.{each_txn, eq-same, ne-same}
 use Rattle.sd_logrec.specs.View.{Rec}
@@ -273,3 +275,21 @@ BeginsWell t i = (table : Transactions) (locks : LockTable) (seen : rig.DeviceIm
 
 pub begins-good : (i : ℕ) (t : TxnId) → home t ≡ i → BeginsWell t i
 begins-good i t own = subst (BeginsWell t) own (λ table locks seen leaves c m g b. begins-there t table locks seen leaves c m g b)
+
+-- ---- the table's refusals are the complex's
+
+-- there are too many, of the table that the instance has
+pub many-told : (r s : Result TxnId Refusal) (a b : Transactions) → r ≡ s → b ≡ a
+    → (r ≡ Err R.TooManyTxns) ↔ (64 ≤ length a.unresolved) → (s ≡ Err R.TooManyTxns) ↔ (64 ≤ length b.unresolved)
+many-told r s a b is same told =
+    subst (λ (tb : Transactions). (s ≡ Err R.TooManyTxns) ↔ (64 ≤ length tb.unresolved)) (sym same)
+    (subst (λ (x : Result TxnId Refusal). (x ≡ Err R.TooManyTxns) ↔ (64 ≤ length a.unresolved)) is told)
+
+-- no number of its epoch is left
+pub end-told : (r s : Result TxnId Refusal) (a b : Transactions) (d e : ℕ) → r ≡ s → b ≡ a → e ≡ d
+    → (r ≡ Err R.LsnEnd) ↔ ((length a.unresolved < 64) × (begins_in a d ≡ 4294967295))
+    → (s ≡ Err R.LsnEnd) ↔ ((length b.unresolved < 64) × (begins_in b e ≡ 4294967295))
+end-told r s a b d e is same of told =
+    subst (λ (tb : Transactions). (s ≡ Err R.LsnEnd) ↔ ((length tb.unresolved < 64) × (begins_in tb e ≡ 4294967295))) (sym same)
+    (subst (λ (n : ℕ). (s ≡ Err R.LsnEnd) ↔ ((length a.unresolved < 64) × (begins_in a n ≡ 4294967295))) (sym of)
+    (subst (λ (x : Result TxnId Refusal). (x ≡ Err R.LsnEnd) ↔ ((length a.unresolved < 64) × (begins_in a d ≡ 4294967295))) is told))

@@ -286,7 +286,9 @@ impl TxnTable {
         ensures others { OthersStay self.old self.new t.now }
         ensures order { SameOrder self.old self.new }
     {
-        let undo = self.owed.undo.checked_add(undo_len(&rec)).ok_or(Memory)?;
+        let Some(undo) = self.owed.undo.checked_add(undo_len(&rec)) else {
+            return Err(Memory);
+        };
         self.txns.get_mut(t).unwrap().push(rec)?;
         self.owed.undo = undo;
         self.owed.records += 1;

@@ -107,7 +107,9 @@ impl Txn {
         ensures ok { OnOk result (self.new ≡ pushed rec self.old) }
         ensures err { OnErr result (self.new ≡ self.old) }
     {
-        let undo = self.undo.checked_add(undo_len(&rec)).ok_or(Memory)?;
+        let Some(undo) = self.undo.checked_add(undo_len(&rec)) else {
+            return Err(Memory);
+        };
         self.stack.push(rec)?;
         self.undo = undo;
         Ok(())

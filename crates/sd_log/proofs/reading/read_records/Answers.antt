@@ -1,6 +1,8 @@
 use Rattle.std.proofs.Common.{◌+◌, ◌-◌, ◌∙◌, inl, inr, sym, ap, subst, arith}
 use Rattle.sd_base.specs.declared.refusal.Refusal.TheVariants as R
+use Rattle.sd_logrec.specs.Fronts.{front_at}
 use Rattle.sd_log.specs.JournalStates.{pushed}
+use Rattle.sd_log.specs.Readings.{AddsFront}
 use Rattle.sd_log.proofs.Bodies.{ReadsTo, reads_all, reads_bad, reads_front, reads_one}
 use Rattle.sd_log.proofs.reading.read_records.Goals as goal
 
@@ -19,7 +21,13 @@ returns-in-Err-BadRecord-clause-err c =
         ap (λ g. R.BadRecord (g + 5 + c.loop-at.at)) c.gate.ensures,
         reads_bad c.args.body.now c.loop-at.at c.args.journal.now c.loop-at.journal c.loop-at.invariant c.loop-at-test.true (λ i. omega (arith, c.type_inv.body i)) (c.in-Err-BadRecord.ensures.bad (cc)),
         omega arith,
-        reads_front c.args.body.now c.loop-at.at c.args.journal.now c.loop-at.journal c.loop-at.invariant c.loop-at-test.true (λ i. omega (arith, c.type_inv.body i)) (c.in-Err-BadRecord.ensures.bad (cc)),
+        (
+            let old = c.args.journal.now in
+            let front = reads_front c.args.body.now c.loop-at.at old c.loop-at.journal c.loop-at.invariant c.loop-at-test.true
+            (λ i. omega (arith, c.type_inv.body i)) (c.in-Err-BadRecord.ensures.bad (cc)) in
+            subst (AddsFront (front_at (old.gate + 5) c.args.body.now) old) (sym c.reserve.ensures.same)
+            (record { gate = front.gate; groups = front.groups; records = front.records })
+            ),
       )
       | inr lacks ↦ absurd (cc)
     ]

@@ -1,4 +1,4 @@
-use Rattle.std.proofs.Common.{◌≡◌, ◌≤◌, ℕ, true, List, length, sym, ap, ◌∙◌, subst, arith}
+use Rattle.std.proofs.Common.{◌≡◌, ◌≤◌, ℕ, true, List, length, sym, ap, ◌∙◌, refl, subst, arith}
 use Rattle.std.specs.Prelude.{None, Some, Err}
 use Rattle.std.proofs.lemmas.Result.{err_from_is_err_and}
 use Rattle.sd_base.specs.declared.ids.Rid.{Rid}
@@ -9,8 +9,8 @@ use Rattle.sd_model.specs.declared.event.Event.TheVariants as event
 use Rattle.sd_model.specs.declared.event.Reply.TheVariants as reply
 use Rattle.sd_pagelock.specs.Directory.{entry_at}
 use Rattle.sd_places.specs.Places.{holds_as}
-use Rattle.sd_reclock.specs.Answers.{IsFree}
-use Rattle.sd_reclock.specs.Locks.{LockTable, stands, wait_for}
+use Rattle.sd_reclock.specs.Answers.{IsFree, IsRefused}
+use Rattle.sd_reclock.specs.Locks.{LockTable, stands, wait_for, waits}
 use Rattle.sd_changes.specs.Changing.{FitsThere, LacksRoom, change_of, image_for}
 use Rattle.sd_state.specs.Complexes.{parts}
 use Rattle.sd_state.specs.Parts.{Parts, status_at, txns_at}
@@ -18,12 +18,13 @@ use Rattle.sd_txn.specs.Transactions.{state_at}
 use Rattle.sd_txn.specs.declared.state.TxnState.{TxnState}
 use Rattle.sd_world.specs.Serving.{refused}
 use Rattle.sd_fits.specs.Fits.{Fits}
-use Rattle.sd_work.specs.Halves.{HalfServed}
+use Rattle.sd_fits.proofs.Refused.{unlike}
+use Rattle.sd_work.specs.Halves.{HalfServed, IsOff}
 use Rattle.sd_ops.specs.Puts.{IsPutThere}
-use Rattle.sd_ops.specs.Vacancies.{IsFullFor, IsVacant}
-use Rattle.sd_ops.proofs.Filled.{filled-half, put-not-full, unfilled-half}
+use Rattle.sd_ops.specs.Vacancies.{IsFullFor, IsVacant, LacksPlace}
+use Rattle.sd_ops.proofs.Filled.{err-ok, filled-half, memory-not_page, ok-not_full, put-not-full, same-refusal, unfilled-half}
 use Rattle.sd_ops.proofs.Filling.{insert-asked, insert-away, insert-long, insert-work}
-use Rattle.sd_ops.proofs.Vacating.{not-long}
+use Rattle.sd_ops.proofs.Vacating.{asked-small, not-long}
 use Rattle.sd_work.proofs.Work.{err-half, off-half}
 use Rattle.sd_ops.proofs.inserting.fill.Goals as goal
 
@@ -63,7 +64,7 @@ returns-in_err-vacancy-clause-half g c =
           e.1 e.2
           (insert-away c.args.t.now c.args.p c.args.value.now c.args.capacity (g.G.Rig.seen rig) (g.G.Rig.leaves rig) x
           c.at_work.ensures.low c.at_work.ensures.high c.in_ok-at_work.ensures.up c.in_ok-at_work.ensures.runs
-          (λ long. let f = sym c.if-is_long.false ∙ c.is_long.ensures.1 long in absurd (cc)) n c.in_err-vacancy.ensures.lacks),
+          (λ long. unlike c.if-is_long.false (c.is_long.ensures.1 long)) n c.in_err-vacancy.ensures.lacks),
     )
 
 pub returns-in_err-ask-clause-half : goal.returns-in_err-ask-clause-half
@@ -80,7 +81,7 @@ returns-in_err-ask-clause-half g c =
           (parts c.ask.new.c) e.1 e.2
           (insert-asked c.args.t.now c.args.p c.args.value.now c.args.capacity (g.G.Rig.seen rig) (g.G.Rig.leaves rig) x
           c.at_work.ensures.low c.at_work.ensures.high c.in_ok-at_work.ensures.up c.in_ok-at_work.ensures.runs
-          (λ long. let f = sym c.if-is_long.false ∙ c.is_long.ensures.1 long in absurd (cc)) c.in_ok-vacancy.ensures.held
+          (λ long. unlike c.if-is_long.false (c.is_long.ensures.1 long)) c.in_ok-vacancy.ensures.held
           c.in_ok-vacancy.vacancy.slot c.in_ok-vacancy.vacancy.capacity c.in_ok-vacancy.ensures.vacant
           (parts c.ask.new.c) n c.in_err-ask.ensures.refused c.in_err-ask.ensures.noted),
     )
@@ -110,7 +111,7 @@ put-requires-clause-small g c = c.in_ok-vacancy.ensures.vacant.small
 pub put-requires-clause-takes : goal.put-requires-clause-takes
 put-requires-clause-takes g c =
     let short : length c.args.value.now ≤ c.args.capacity = not-long c.args.value.now c.args.capacity
-    (λ long. let f = sym c.if-is_long.false ∙ c.is_long.ensures.1 long in absurd (cc)) in
+    (λ long. unlike c.if-is_long.false (c.is_long.ensures.1 long)) in
     let len = ap (λ (b : List ℕ). length b) c.in_ok-bytes.ensures in
     subst (λ (x : Parts). FitsThere c.args.t.now (record { page = c.args.p; slot = c.in_ok-vacancy.vacancy.slot })
     c.in_ok-vacancy.vacancy.capacity (Some c.in_ok-bytes.bytes) x) (sym c.in_ok-ask.ensures.same)
@@ -138,7 +139,7 @@ returns-in_err-put-clause-half g c =
           c.at_work.ensures.low c.at_work.ensures.high
           (subst (λ (y : Parts). status_at y t.inst ≡ S.Up) (sym same) c.in_ok-at_work.ensures.up)
           (subst (λ (y : Parts). state_at (txns_at y t.inst) t ≡ Some TxnState.Running) (sym same) c.in_ok-at_work.ensures.runs)
-          (λ long. let f = sym c.if-is_long.false ∙ c.is_long.ensures.1 long in absurd (cc))
+          (λ long. unlike c.if-is_long.false (c.is_long.ensures.1 long))
           (subst (λ (y : Parts). holds_as Excl (entry_at y.directory c.args.p) t.inst ≡ true)
           (sym same) c.in_ok-vacancy.ensures.held)
           c.in_ok-vacancy.vacancy.slot c.in_ok-vacancy.vacancy.capacity
@@ -179,7 +180,7 @@ returns-clause-half g c =
           c.at_work.ensures.low c.at_work.ensures.high
           (subst (λ (y : Parts). status_at y t.inst ≡ S.Up) (sym same) c.in_ok-at_work.ensures.up)
           (subst (λ (y : Parts). state_at (txns_at y t.inst) t ≡ Some TxnState.Running) (sym same) c.in_ok-at_work.ensures.runs)
-          (λ long. let f = sym c.if-is_long.false ∙ c.is_long.ensures.1 long in absurd (cc))
+          (λ long. unlike c.if-is_long.false (c.is_long.ensures.1 long))
           (subst (λ (y : Parts). holds_as Excl (entry_at y.directory c.args.p) t.inst ≡ true)
           (sym same) c.in_ok-vacancy.ensures.held)
           c.in_ok-vacancy.vacancy.slot c.in_ok-vacancy.vacancy.capacity
@@ -190,3 +191,94 @@ returns-clause-half g c =
           (subst (λ (b : List ℕ). IsPutThere (g.G.Rig.seen c.ask.new.c.rig) (g.G.Rig.leaves c.ask.new.c.rig) t r
           c.in_ok-vacancy.vacancy.capacity (Some b) mid (parts c.put.new.c)) bytes c.in_ok-put.ensures.put))),
     )
+
+-- ---- what is asked of the calls
+
+pub at_work-requires : goal.at_work-requires
+at_work-requires g c = c.requires.fits.1.good.shape
+
+pub room_for-requires-clause-good : goal.room_for-requires-clause-good
+room_for-requires-clause-good g c = let fits = c.requires.fits in (fits.0.scene.state, fits.1.good)
+
+pub room_for-requires-clause-small : goal.room_for-requires-clause-small
+room_for-requires-clause-small g c = asked-small c.args.value.now c.args.capacity
+    (λ long. unlike c.if-is_long.false (c.is_long.ensures.1 long))
+
+pub put-requires-clause-up : goal.put-requires-clause-up
+put-requires-clause-up g c = subst (λ (y : Parts). status_at y c.args.t.now.inst ≡ S.Up) (sym c.in_ok-ask.ensures.same)
+    c.in_ok-at_work.ensures.up
+
+pub put-requires-clause-runs : goal.put-requires-clause-runs
+put-requires-clause-runs g c = let t = c.args.t.now in
+    subst (λ (y : Parts). state_at (txns_at y t.inst) t ≡ Some TxnState.Running) (sym c.in_ok-ask.ensures.same)
+    c.in_ok-at_work.ensures.runs
+
+pub put-requires-clause-held : goal.put-requires-clause-held
+put-requires-clause-held g c =
+    subst (λ (y : Parts). holds_as Excl (entry_at y.directory c.args.p) c.args.t.now.inst ≡ true) (sym c.in_ok-ask.ensures.same)
+    c.in_ok-vacancy.ensures.held
+
+-- ---- the slot that is chosen, and a full page
+
+pub returns-in_err-at_work-clause-chosen : goal.returns-in_err-at_work-clause-chosen
+returns-in_err-at_work-clause-chosen g c =
+    let e = err_from_is_err_and c.from_residual.result c.from_residual.ensures.1 in
+    err-ok c.from_residual.result e.0 _ e.1
+
+pub returns-in_err-at_work-clause-full : goal.returns-in_err-at_work-clause-full
+returns-in_err-at_work-clause-full g c full =
+    let e = err_from_is_err_and c.from_residual.result c.from_residual.ensures.1 in
+    absurd (subst (IsOff c.args.t.now (parts c.args.c.now))
+    (same-refusal c.from_residual.result e.0 c.in_err-at_work.field-0.0 R.PageFull e.1 e.2 full) c.in_err-at_work.ensures.off)
+
+pub returns-in_err-vacancy-clause-chosen : goal.returns-in_err-vacancy-clause-chosen
+returns-in_err-vacancy-clause-chosen g c =
+    let e = err_from_is_err_and c.from_residual-in_err-vacancy.result c.from_residual-in_err-vacancy.ensures.1 in
+    err-ok c.from_residual-in_err-vacancy.result e.0 _ e.1
+
+pub returns-in_err-vacancy-clause-full : goal.returns-in_err-vacancy-clause-full
+returns-in_err-vacancy-clause-full g c full =
+    let e = err_from_is_err_and c.from_residual-in_err-vacancy.result c.from_residual-in_err-vacancy.ensures.1 in
+    let lacks = subst (LacksPlace c.args.t.now c.args.p c.args.capacity (parts c.args.c.now))
+    (same-refusal c.from_residual-in_err-vacancy.result e.0 c.in_err-vacancy.field-0.0 R.PageFull e.1 e.2 full) c.in_err-vacancy.ensures.lacks in
+    lacks.1
+
+pub returns-in_err-ask-clause-chosen : goal.returns-in_err-ask-clause-chosen
+returns-in_err-ask-clause-chosen g c =
+    let e = err_from_is_err_and c.from_residual-in_err-ask.result c.from_residual-in_err-ask.ensures.1 in
+    err-ok c.from_residual-in_err-ask.result e.0 _ e.1
+
+pub returns-in_err-ask-clause-full : goal.returns-in_err-ask-clause-full
+returns-in_err-ask-clause-full g c full =
+    let e = err_from_is_err_and c.from_residual-in_err-ask.result c.from_residual-in_err-ask.ensures.1 in
+    let locks = (parts c.args.c.now).locks in
+    let wait = wait_for (record { page = c.args.p; slot = c.in_ok-vacancy.vacancy.slot }) Excl in
+    absurd (subst (IsRefused (stands locks) (waits locks) c.args.t.now wait)
+    (same-refusal c.from_residual-in_err-ask.result e.0 c.in_err-ask.field-0.0 R.PageFull e.1 e.2 full) c.in_err-ask.ensures.refused)
+
+pub returns-in_err-bytes-clause-chosen : goal.returns-in_err-bytes-clause-chosen
+returns-in_err-bytes-clause-chosen g c =
+    let e = err_from_is_err_and c.from_residual-in_err-bytes.result c.from_residual-in_err-bytes.ensures.1 in
+    err-ok c.from_residual-in_err-bytes.result e.0 _ e.1
+
+pub returns-in_err-bytes-clause-full : goal.returns-in_err-bytes-clause-full
+returns-in_err-bytes-clause-full g c full =
+    let e = err_from_is_err_and c.from_residual-in_err-bytes.result c.from_residual-in_err-bytes.ensures.1 in
+    memory-not_page (same-refusal c.from_residual-in_err-bytes.result e.0 R.Memory R.PageFull e.1 e.2 full)
+
+pub returns-in_err-put-clause-chosen : goal.returns-in_err-put-clause-chosen
+returns-in_err-put-clause-chosen g c =
+    let e = err_from_is_err_and c.from_residual-in_err-put.result c.from_residual-in_err-put.ensures.1 in
+    err-ok c.from_residual-in_err-put.result e.0 _ e.1
+
+pub returns-in_err-put-clause-rig : goal.returns-in_err-put-clause-rig
+returns-in_err-put-clause-rig g c = c.put.ensures.rig ∙ c.ask.ensures.rig
+
+pub returns-clause-chosen : goal.returns-clause-chosen
+returns-clause-chosen g c = (refl, c.in_ok-vacancy.ensures.vacant.chosen)
+
+pub returns-clause-full : goal.returns-clause-full
+returns-clause-full g c full = ok-not_full _ full
+
+pub returns-clause-rig : goal.returns-clause-rig
+returns-clause-rig g c = c.put.ensures.rig ∙ c.ask.ensures.rig

@@ -1,16 +1,25 @@
-use Rattle.std.proofs.Common.{◌≡◌, [], ◌&&◌, cond, sym, ap, ◌∙◌, subst}
+use Rattle.std.proofs.Common.{◌≡◌, ◌⊎◌, [], ◌&&◌, cond, inr, refl, sym, ap, ◌∙◌, subst}
+use Rattle.std.specs.Prelude.{OnErr}
+use Rattle.std.proofs.lemmas.Result.{err_from_is_err_and}
 use Rattle.sd_base.specs.Ids.{same_rid, same_txn}
 use Rattle.sd_base.specs.declared.place.Mode.TheVariants as modes
+use Rattle.sd_base.specs.declared.refusal.Refusal.TheVariants as R
 use Rattle.sd_model.specs.State.{took}
 use Rattle.sd_model.specs.Waits.{claim_of}
+use Rattle.sd_pagelock.specs.Directory.{entry_at}
+use Rattle.sd_places.specs.Places.{owns}
 use Rattle.sd_reclock.specs.Locks.{held}
-use Rattle.sd_changes.specs.Changing.{LacksLsns, LacksRoom, change_of, putting}
+use Rattle.sd_changes.specs.Changing.{FitsThere, LacksLsns, LacksRoom, change_of, putting}
 use Rattle.sd_state.specs.Complexes.{parts}
 use Rattle.sd_state.specs.Good.{Good}
-use Rattle.sd_state.specs.Parts.{Parts}
+use Rattle.sd_state.specs.Parts.{Parts, status_at, txns_at}
 use Rattle.sd_state.specs.Values.{Pending}
 use Rattle.sd_state.specs.Working.{with_locks}
+use Rattle.sd_txn.specs.Transactions.{state_at}
 use Rattle.sd_fits.proofs.Heads.{is-ready}
+use Rattle.sd_ops.specs.Puts.{IsLowered}
+use Rattle.sd_ops.proofs.Filled.{memory-not_full, memory-not_lsns, same-refusal}
+use Rattle.sd_ops.proofs.Vacating.{err-if}
 use Rattle.sd_ops.proofs.Setting.{frames-kept, given-excl, lowered-same, running-named, was-weaker}
 use Rattle.sd_ops.proofs.putting.put.Goals as goal
 
@@ -69,3 +78,64 @@ returns-in-Err-clause-full g c is = subst (λ (x : Parts). LacksRoom (change_of 
 
 pub returns-in-Err-clause-lsns : goal.returns-in-Err-clause-lsns
 returns-in-Err-clause-lsns g c is = subst (λ (x : Parts). LacksLsns c.args.t.now x) c.grant.ensures.parts (c.in-Err.ensures.lsns.0 is).1
+
+-- ---- what is asked of the calls
+
+pub grant-requires-clause-good : goal.grant-requires-clause-good
+grant-requires-clause-good g c = let fits = c.requires.fits in (fits.0.scene.state, fits.1.good)
+
+pub grant-requires-clause-idle : goal.grant-requires-clause-idle
+grant-requires-clause-idle g c = c.requires.fits.1.idle
+
+pub change-requires-clause-idle : goal.change-requires-clause-idle
+change-requires-clause-idle g c = ap (λ (x : Parts). x.due) c.grant.ensures.parts ∙ c.requires.fits.1.idle
+
+pub change-requires-clause-up : goal.change-requires-clause-up
+change-requires-clause-up g c = ap (λ (x : Parts). status_at x c.args.t.now.inst) c.grant.ensures.parts ∙ c.requires.up
+
+pub change-requires-clause-runs : goal.change-requires-clause-runs
+change-requires-clause-runs g c = let t = c.args.t.now in
+    ap (λ (x : Parts). state_at (txns_at x t.inst) t) c.grant.ensures.parts ∙ c.requires.runs
+
+pub change-requires-clause-owns : goal.change-requires-clause-owns
+change-requires-clause-owns g c =
+    ap (λ (x : Parts). owns (entry_at x.directory c.args.r.now.page) c.args.t.now.inst) c.grant.ensures.parts ∙ c.requires.held
+
+pub change-requires-clause-fits : goal.change-requires-clause-fits
+change-requires-clause-fits g c = subst (FitsThere c.args.t.now c.args.r.now c.args.capacity c.args.after)
+    (sym c.grant.ensures.parts) c.requires.takes
+
+-- ---- the way out where there is no memory for the lock, and the rig
+
+pub returns-in_err-grant-clause-lowered : goal.returns-in_err-grant-clause-lowered
+returns-in_err-grant-clause-lowered g c =
+    let e = err_from_is_err_and c.from_residual.result c.from_residual.ensures.1 in
+    subst (λ x. OnErr x (IsLowered (parts c.args.c.now) (parts c.grant.new.self))) (sym e.1) (record {
+      rest = c.grant.ensures.parts;
+      same = λ u q. ap (λ (x : Parts). held x.locks u q) c.in_err-grant.ensures.err;
+      waiting = c.grant.ensures.waits;
+    })
+
+pub returns-in_err-grant-clause-full : goal.returns-in_err-grant-clause-full
+returns-in_err-grant-clause-full g c full =
+    let e = err_from_is_err_and c.from_residual.result c.from_residual.ensures.1 in
+    memory-not_full (same-refusal c.from_residual.result e.0 R.Memory R.LogFull e.1 e.2 full)
+
+pub returns-in_err-grant-clause-lsns : goal.returns-in_err-grant-clause-lsns
+returns-in_err-grant-clause-lsns g c lsns =
+    let e = err_from_is_err_and c.from_residual.result c.from_residual.ensures.1 in
+    memory-not_lsns (same-refusal c.from_residual.result e.0 R.Memory R.LsnEnd e.1 e.2 lsns)
+
+pub returns-in_err-grant-clause-refusals : goal.returns-in_err-grant-clause-refusals
+returns-in_err-grant-clause-refusals g c =
+    let e = err_from_is_err_and c.from_residual.result c.from_residual.ensures.1 in
+    err-if c.from_residual.result e.0 R.Memory (λ n. (n ≡ R.LogFull) ⊎ ((n ≡ R.LsnEnd) ⊎ (n ≡ R.Memory))) e.1 e.2 (inr (inr refl))
+
+pub returns-in-Ok-clause-rig : goal.returns-in-Ok-clause-rig
+returns-in-Ok-clause-rig g c = c.change.ensures.rig ∙ c.grant.ensures.rig
+
+pub returns-in-Err-clause-rig : goal.returns-in-Err-clause-rig
+returns-in-Err-clause-rig g c = c.change.ensures.rig ∙ c.grant.ensures.rig
+
+pub returns-in-Err-clause-refusals : goal.returns-in-Err-clause-refusals
+returns-in-Err-clause-refusals g c = c.in-Err.ensures.refusals

@@ -3,15 +3,20 @@ use Rattle.std.specs.Prelude.{None, Some}
 use Rattle.std.proofs.lemmas.Result.{err_from_is_err_and}
 use Rattle.sd_base.specs.declared.place.Mode.TheVariants.{Excl}
 use Rattle.sd_base.specs.declared.place.Status.TheVariants as S
+use Rattle.sd_base.specs.declared.refusal.Refusal.TheVariants as R
 use Rattle.sd_model.specs.declared.event.Reply.TheVariants as reply
 use Rattle.sd_reclock.specs.Answers.{IsFree}
 use Rattle.sd_reclock.specs.Locks.{LockTable, stands, wait_for}
 use Rattle.sd_changes.specs.Changing.{image_for}
 use Rattle.sd_state.specs.Complexes.{parts}
+use Rattle.sd_state.specs.Good.{Good}
 use Rattle.sd_state.specs.Parts.{Parts, status_at, txns_at}
+use Rattle.sd_state.specs.Values.{Pending}
 use Rattle.sd_txn.specs.Transactions.{state_at}
 use Rattle.sd_txn.specs.declared.state.TxnState.{TxnState}
 use Rattle.sd_world.specs.Serving.{did, refused}
+use Rattle.sd_fits.specs.Fits.{Fits}
+use Rattle.sd_fits.proofs.Refused.{unlike}
 use Rattle.sd_ops.specs.Edits.{IsPlan, event_of}
 use Rattle.sd_work.specs.Halves.{HalfServed}
 use Rattle.sd_ops.specs.Copies.{LacksPage}
@@ -51,7 +56,7 @@ returns-in_err-ask-clause-half g c =
     let e = err_from_is_err_and c.from_residual-in_err-ask.result c.from_residual-in_err-ask.ensures.1 in
     err-half (λ v. reply.Did) c.from_residual-in_err-ask.result e.0 n (g.G.Rig.seen rig) (g.G.Rig.leaves rig) None ev p (parts c.ask.new.c) e.1 e.2
     (edit-asked t r (g.G.Rig.seen rig) (g.G.Rig.leaves rig) p c.at_work.ensures.low c.at_work.ensures.high c.in_ok-at_work.ensures.up
-    c.in_ok-at_work.ensures.runs c.args.edit.now (λ long. let f = sym c.if-is_long.false ∙ c.is_long.ensures.1 long in absurd (cc))
+    c.in_ok-at_work.ensures.runs c.args.edit.now (λ long. unlike c.if-is_long.false (c.is_long.ensures.1 long))
     (parts c.ask.new.c) n c.in_err-ask.ensures.refused c.in_err-ask.ensures.noted)
 
 pub returns-in_err-plan-clause-half : goal.returns-in_err-plan-clause-half
@@ -67,7 +72,7 @@ returns-in_err-plan-clause-half g c =
     err-half (λ v. reply.Did) c.from_residual-in_err-plan.result e.0 n (g.G.Rig.seen rig) (g.G.Rig.leaves rig) None ev p (parts c.ask.new.c) e.1 e.2
     (subst (λ (x : Parts). HalfServed (g.G.Rig.seen rig) (g.G.Rig.leaves rig) None ev (refused n) p x) (sym same)
     (edit-away t r (g.G.Rig.seen rig) (g.G.Rig.leaves rig) p c.at_work.ensures.low c.at_work.ensures.high c.in_ok-at_work.ensures.up
-    c.in_ok-at_work.ensures.runs c.args.edit.now (λ long. let f = sym c.if-is_long.false ∙ c.is_long.ensures.1 long in absurd (cc))
+    c.in_ok-at_work.ensures.runs c.args.edit.now (λ long. unlike c.if-is_long.false (c.is_long.ensures.1 long))
     c.in_ok-ask.ensures.free n (subst (λ (x : Parts). LacksPage Excl t.inst r.page x n) same c.in_err-plan.ensures.lacks)))
 
 pub put-requires-clause-free : goal.put-requires-clause-free
@@ -88,7 +93,7 @@ returns-in-Put-clause-half g c =
     subst (λ d. HalfServed (g.G.Rig.seen d) (g.G.Rig.leaves d) None ev (did c.put.result) (parts c.args.c.now) (parts c.put.new.c)) c.ask.ensures.rig
     (subst (λ (x : Parts). HalfServed (g.G.Rig.seen c.ask.new.c.rig) (g.G.Rig.leaves c.ask.new.c.rig) None ev (did c.put.result) x
     (parts c.put.new.c)) same
-    (put-served t r c.args.edit.now (λ long. let f = sym c.if-is_long.false ∙ c.is_long.ensures.1 long in absurd (cc))
+    (put-served t r c.args.edit.now (λ long. unlike c.if-is_long.false (c.is_long.ensures.1 long))
     (g.G.Rig.seen c.ask.new.c.rig) (g.G.Rig.leaves c.ask.new.c.rig) mid c.at_work.ensures.low c.at_work.ensures.high
     (subst (λ (x : Parts). status_at x t.inst ≡ S.Up) (sym same) c.in_ok-at_work.ensures.up)
     (subst (λ (x : Parts). state_at (txns_at x t.inst) t ≡ Some TxnState.Running) (sym same) c.in_ok-at_work.ensures.runs)
@@ -110,7 +115,98 @@ returns-in_ok-grant-in-Refuse-clause-half g c =
     (subst (λ (x : Parts). status_at x t.inst ≡ S.Up) (sym same) c.in_ok-at_work.ensures.up)
     (subst (λ (x : Parts). state_at (txns_at x t.inst) t ≡ Some TxnState.Running) (sym same) c.in_ok-at_work.ensures.runs)
     (subst (λ (x : Parts). IsFree (stands x.locks) t (wait_for r Excl)) (sym same) c.in_ok-ask.ensures.free)
-    c.in_ok-plan.ensures.held c.args.edit.now (λ long. let f = sym c.if-is_long.false ∙ c.is_long.ensures.1 long in absurd (cc))
+    c.in_ok-plan.ensures.held c.args.edit.now (λ long. unlike c.if-is_long.false (c.is_long.ensures.1 long))
     c.in-Refuse.refusal (subst (IsPlan (image_for t r.page mid) r.slot c.args.edit.now) c.in-Refuse.is c.in_ok-plan.ensures.plan)
     (parts c.grant.new.self)
     (record { rest = c.grant.ensures.parts; given = c.in_ok-grant-in-Refuse.ensures.given; waiting = c.grant.ensures.waits }))
+
+-- ---- what is asked of the calls
+
+pub at_work-requires : goal.at_work-requires
+at_work-requires g c = c.requires.fits.1.good.shape
+
+pub planned-requires : goal.planned-requires
+planned-requires g c =
+    let rig = c.args.c.now.rig in
+    let m = c.requires.fits.0.scene.state in record {
+      good = (
+        m,
+        subst (λ d. Good (g.G.Rig.seen d) (g.G.Rig.leaves d) Pending.Idle (parts c.ask.new.c) m) (sym c.ask.ensures.rig)
+            (subst (λ (x : Parts). Good (g.G.Rig.seen rig) (g.G.Rig.leaves rig) Pending.Idle x m) (sym c.in_ok-ask.ensures.same)
+            c.requires.fits.1.good),
+      );
+    }
+
+pub put-requires-clause-fits : goal.put-requires-clause-fits
+put-requires-clause-fits g c =
+    let rig = c.args.c.now.rig in
+    let w = c.requires.fits.0 in (
+      w,
+      subst (λ d. Fits (g.G.Rig.seen d) (g.G.Rig.leaves d) (parts c.ask.new.c) w) (sym c.ask.ensures.rig)
+          (subst (λ (x : Parts). Fits (g.G.Rig.seen rig) (g.G.Rig.leaves rig) x w) (sym c.in_ok-ask.ensures.same) c.requires.fits.1),
+    )
+
+pub put-requires-clause-up : goal.put-requires-clause-up
+put-requires-clause-up g c = subst (λ (x : Parts). status_at x c.args.t.now.inst ≡ S.Up) (sym c.in_ok-ask.ensures.same)
+    c.in_ok-at_work.ensures.up
+
+pub put-requires-clause-runs : goal.put-requires-clause-runs
+put-requires-clause-runs g c = let t = c.args.t.now in
+    subst (λ (x : Parts). state_at (txns_at x t.inst) t ≡ Some TxnState.Running) (sym c.in_ok-ask.ensures.same) c.in_ok-at_work.ensures.runs
+
+pub put-requires-clause-held : goal.put-requires-clause-held
+put-requires-clause-held g c = c.in_ok-plan.ensures.held
+
+pub put-requires-clause-small : goal.put-requires-clause-small
+put-requires-clause-small g c =
+    let r = c.args.r.now in
+    let plan = subst (IsPlan (image_for c.args.t.now r.page (parts c.ask.new.c)) r.slot c.args.edit.now) c.in-Put.is c.in_ok-plan.ensures.plan in
+    plan.small
+
+pub put-requires-clause-takes : goal.put-requires-clause-takes
+put-requires-clause-takes g c =
+    let r = c.args.r.now in
+    let plan = subst (IsPlan (image_for c.args.t.now r.page (parts c.ask.new.c)) r.slot c.args.edit.now) c.in-Put.is c.in_ok-plan.ensures.plan in
+    plan.fits
+
+pub grant-requires-clause-good : goal.grant-requires-clause-good
+grant-requires-clause-good g c =
+    let rig = c.args.c.now.rig in
+    let m = c.requires.fits.0.scene.state in (
+      m,
+      subst (λ d. Good (g.G.Rig.seen d) (g.G.Rig.leaves d) Pending.Idle (parts c.ask.new.c) m) (sym c.ask.ensures.rig)
+          (subst (λ (x : Parts). Good (g.G.Rig.seen rig) (g.G.Rig.leaves rig) Pending.Idle x m) (sym c.in_ok-ask.ensures.same)
+          c.requires.fits.1.good),
+    )
+
+pub grant-requires-clause-idle : goal.grant-requires-clause-idle
+grant-requires-clause-idle g c = ap (λ (x : Parts). x.due) c.in_ok-ask.ensures.same ∙ c.requires.fits.1.idle
+
+pub grant-requires-clause-up : goal.grant-requires-clause-up
+grant-requires-clause-up g c = subst (λ (x : Parts). status_at x c.args.t.now.inst ≡ S.Up) (sym c.in_ok-ask.ensures.same)
+    c.in_ok-at_work.ensures.up
+
+pub grant-requires-clause-runs : goal.grant-requires-clause-runs
+grant-requires-clause-runs g c = let t = c.args.t.now in
+    subst (λ (x : Parts). state_at (txns_at x t.inst) t ≡ Some TxnState.Running) (sym c.in_ok-ask.ensures.same) c.in_ok-at_work.ensures.runs
+
+-- ---- the way out where there is no memory for the lock, and the rig
+
+pub returns-in_err-grant-in-Refuse-clause-half : goal.returns-in_err-grant-in-Refuse-clause-half
+returns-in_err-grant-in-Refuse-clause-half g c =
+    let rig = c.args.c.now.rig in
+    let ev = event_of c.args.t.now c.args.r.now c.args.edit.now in
+    let e = err_from_is_err_and c.from_residual-in_err-grant-in-Refuse.result c.from_residual-in_err-grant-in-Refuse.ensures.1 in
+    err-half (λ v. reply.Did) c.from_residual-in_err-grant-in-Refuse.result e.0 R.Memory (g.G.Rig.seen rig) (g.G.Rig.leaves rig) None ev
+    (parts c.args.c.now) (parts c.grant.new.self) e.1 e.2
+    (λ w f. subst (λ (x : Parts). Fits (g.G.Rig.seen rig) (g.G.Rig.leaves rig) x w)
+    (sym (c.in_err-grant-in-Refuse.ensures.err ∙ c.in_ok-ask.ensures.same)) f)
+
+pub returns-in_err-grant-in-Refuse-clause-rig : goal.returns-in_err-grant-in-Refuse-clause-rig
+returns-in_err-grant-in-Refuse-clause-rig g c = c.grant.ensures.rig ∙ c.ask.ensures.rig
+
+pub returns-in_ok-grant-in-Refuse-clause-rig : goal.returns-in_ok-grant-in-Refuse-clause-rig
+returns-in_ok-grant-in-Refuse-clause-rig g c = c.grant.ensures.rig ∙ c.ask.ensures.rig
+
+pub returns-in-Put-clause-rig : goal.returns-in-Put-clause-rig
+returns-in-Put-clause-rig g c = c.put.ensures.rig ∙ c.ask.ensures.rig

@@ -10,7 +10,7 @@ use Rattle.sd_serve.specs.Served.{IsServed}
 use Rattle.sd_pull.specs.Standing.{Wants}
 use Rattle.sd_pull.proofs.Helps.{on-err-both, on-err-then, on-ok-then}
 use Rattle.sd_pull.proofs.Operating.{again-all, first-some, fits-mid, once-all, pull-in, pulled-some, somewhere, stays-some, then-some, wants-as}
-use Rattle.sd_pull.proofs.Steps.{Noted, stays-in}
+use Rattle.sd_pull.proofs.Steps.{Noted, noted-some, stays-in}
 use Rattle.sd_pull.proofs.events.operate.Goals as goal
 
 pub returns-in_err-call-clause-memory : goal.returns-in_err-call-clause-memory
@@ -154,3 +154,34 @@ returns-in_ok-_came-in-Some-clause-memory g c =
     c.in_ok-_came-in-Some._came c.in_ok-_came-in-Some.ensures.pulled c.call-in-Some.new.self
     (stays-in tell c.pull.new.hall c.call-in-Some.new.self c.in_ok-again-in-Some.again m.0 m.1 c.call-in-Some.ensures.keeps c.call-in-Some.ensures.opening (λ rig t u img le s. g.met.G.Rig.earlier rig t u img le s)))
     (on-err-both c.call-in-Some.result _ _ c.call-in-Some.ensures.same c.call-in-Some.ensures.spared)
+
+pub call-requires-clause-served : goal.call-requires-clause-served
+call-requires-clause-served g c = c.requires.served
+
+pub call-requires-clause-kept : goal.call-requires-clause-kept
+call-requires-clause-kept g c =
+    let at = c.requires.due in
+    (at.start.world.core, at.there.keeps)
+
+pub returns-in_err-call-clause-done : goal.returns-in_err-call-clause-done
+returns-in_err-call-clause-done g c =
+    let p = err_from_is_err_and c.from_residual.result c.from_residual.ensures.1 in
+    rw p.1 tt
+
+pub last_entry-last-requires : goal.last_entry-last-requires
+last_entry-last-requires g c =
+    let n = c.in_ok-call.ensures.noted in
+    noted-some c.args.hall.now.book.entries (record { session = c.args.session; line = c.args.line; event = c.args.e; reply = n.0 }) n.1
+
+pub returns-in-None-clause-memory : goal.returns-in-None-clause-memory
+returns-in-None-clause-memory g c = tt
+
+pub returns-in_err-again-in-Some-clause-done : goal.returns-in_err-again-in-Some-clause-done
+returns-in_err-again-in-Some-clause-done g c =
+    let p = err_from_is_err_and c.from_residual-in_err-again-in-Some.result c.from_residual-in_err-again-in-Some.ensures.1 in
+    rw p.1 tt
+
+pub returns-in_err-_came-in-Some-clause-done : goal.returns-in_err-_came-in-Some-clause-done
+returns-in_err-_came-in-Some-clause-done g c =
+    let p = err_from_is_err_and c.from_residual-in_err-_came-in-Some.result c.from_residual-in_err-_came-in-Some.ensures.1 in
+    rw p.1 tt

@@ -3,7 +3,7 @@ use Rattle.std.proofs.lemmas.Result.{err_from_is_err_and}
 use Rattle.sd_model.specs.declared.event.Entry.{Entry}
 use Rattle.sd_world.specs.Serving.{Telling, telling}
 use Rattle.sd_pull.specs.Driven.{answer_as}
-use Rattle.sd_pull.proofs.Steps.{helped-on, stays-in}
+use Rattle.sd_pull.proofs.Steps.{helped-on, noted-some, stays-in}
 use Rattle.sd_pull.proofs.pull.help.Goals as goal
 
 pub call-requires-clause-kept : goal.call-requires-clause-kept
@@ -26,3 +26,19 @@ returns-clause-helped g c =
       helped-on tell c.args.hall.now c.call.new.self c.args.e n.0
           (record { entries = n.1; serves = n.2; keeps = c.call.ensures.keeps; opening = c.call.ensures.opening; earlier = λ rig t u img le s. g.met.G.Rig.earlier rig t u img le s }),
     )
+
+pub call-requires-clause-served : goal.call-requires-clause-served
+call-requires-clause-served g c = c.requires.served
+
+pub returns-in_err-call-clause-helped : goal.returns-in_err-call-clause-helped
+returns-in_err-call-clause-helped g c =
+    let p = err_from_is_err_and c.from_residual.result c.from_residual.ensures.1 in
+    rw p.1 tt
+
+pub last-requires : goal.last-requires
+last-requires g c =
+    let n = c.in_ok-call.ensures.noted in
+    noted-some c.args.hall.now.book.entries (record { session = 0; line = 0; event = c.args.e; reply = n.0 }) n.1
+
+pub returns-clause-memory : goal.returns-clause-memory
+returns-clause-memory g c = tt

@@ -9,7 +9,7 @@ use Rattle.sd_pull.specs.Driven.{is_did}
 use Rattle.sd_pull.specs.Recoveries.{RecoversTo, refused_as}
 use Rattle.sd_pull.proofs.Helps.{if-ok-then, on-err-then}
 use Rattle.sd_pull.proofs.Recovered.{begin-ends, begun-due, begun-some, begun-to}
-use Rattle.sd_pull.proofs.Steps.{Noted, stays-in}
+use Rattle.sd_pull.proofs.Steps.{Noted, noted-some, stays-in}
 use Rattle.sd_pull.proofs.recovery.recover.Goals as goal
 
 pub call-requires-clause-served : goal.call-requires-clause-served
@@ -71,3 +71,21 @@ returns-clause-memory g c =
     let noted : Noted tell c.args.hall.now c.call.new.self entry = record { entries = n.1; serves = n.2; keeps = c.call.ensures.keeps; opening = c.call.ensures.opening; earlier = λ rig t u img le s. g.met.G.Rig.earlier rig t u img le s } in
     on-err-then c.step_all.result _ _ (λ some. begun-some tell c.args.of c.args.inst c.args.hall.now c.call.new.self n.0 noted
     (sym (ap is_did last) ∙ sym c.is_did.ensures ∙ c.if-not-is_did.false) c.step_all.new.hall some) c.step_all.ensures.memory
+
+pub returns-in_err-call-clause-recovered : goal.returns-in_err-call-clause-recovered
+returns-in_err-call-clause-recovered g c =
+    let p = err_from_is_err_and c.from_residual.result c.from_residual.ensures.1 in
+    rw p.1 tt
+
+pub last-requires : goal.last-requires
+last-requires g c =
+    let n = c.in_ok-call.ensures.noted in
+    noted-some c.args.hall.now.book.entries (record { session = c.args.of.session; line = c.args.of.line; event = event.RecoverBegin c.args.inst c.args.inst; reply = n.0 }) n.1
+
+pub last-requires-then-not-is_did : goal.last-requires-then-not-is_did
+last-requires-then-not-is_did g c =
+    let n = c.in_ok-call.ensures.noted in
+    noted-some c.args.hall.now.book.entries (record { session = c.args.of.session; line = c.args.of.line; event = event.RecoverBegin c.args.inst c.args.inst; reply = n.0 }) n.1
+
+pub returns-then-not-is_did-clause-memory : goal.returns-then-not-is_did-clause-memory
+returns-then-not-is_did-clause-memory g c = tt

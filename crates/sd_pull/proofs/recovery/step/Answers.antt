@@ -8,9 +8,10 @@ use Rattle.sd_world.specs.Serving.{Telling, telling}
 use Rattle.sd_pull.specs.declared.recovery.Outcome.{Outcome}
 use Rattle.sd_pull.specs.Recoveries.{StepsAs, Waits, ending_as}
 use Rattle.sd_pull.specs.Standing.{is_need}
+use Rattle.sd_pull.proofs.Bodies.{fits-now}
 use Rattle.sd_pull.proofs.Helps.{if-ok-then, on-err-then}
 use Rattle.sd_pull.proofs.Recovered.{never-unwanted, step-plain, wanted-as, wanted-some, wants-of}
-use Rattle.sd_pull.proofs.Steps.{Noted, stays-in}
+use Rattle.sd_pull.proofs.Steps.{Noted, noted-some, stays-in}
 use Rattle.sd_pull.proofs.recovery.step.Goals as goal
 
 pub call-requires-clause-served : goal.call-requires-clause-served
@@ -82,3 +83,27 @@ unreachable-requires g c =
     let noted : Noted tell c.args.hall.now c.call.new.self entry = record { entries = n.1; serves = n.2; keeps = c.call.ensures.keeps; opening = c.call.ensures.opening; earlier = λ rig t u img le s. g.met.G.Rig.earlier rig t u img le s } in
     let waits = subst (λ (o : Option (ℕ × ℕ)). Waits tell c.args.hall.now.body c.args.inst o) c.in-None.is c.awaited-waits.ensures in
     never-unwanted tell c.args.of c.args.inst c.args.hall.now c.call.new.self n.0 noted (sym (ap is_need last) ∙ sym c.is_need.ensures ∙ c.if-not-is_need.false) c.requires.at waits (c.in_ok-call.ensures.awaits n.0 n.1)
+
+pub awaited-waits-requires : goal.awaited-waits-requires
+awaited-waits-requires g c =
+    let tell : Telling _ = telling g.G.Rig.seen g.G.Rig.leaves g.G.Rig.moment g.G.Rig.since g.G.Rig.faults in
+    let at = c.requires.at in
+    record { fits = (at.world.core, fits-now tell at.start c.args.hall.now at.world at.there) }
+
+pub returns-in_err-call-clause-stepped : goal.returns-in_err-call-clause-stepped
+returns-in_err-call-clause-stepped g c =
+    let p = err_from_is_err_and c.from_residual.result c.from_residual.ensures.1 in
+    rw p.1 tt
+
+pub last-requires : goal.last-requires
+last-requires g c =
+    let n = c.in_ok-call.ensures.noted in
+    noted-some c.args.hall.now.book.entries (record { session = c.args.of.session; line = c.args.of.line; event = event.RecoverStep c.args.inst; reply = n.0 }) n.1
+
+pub last-requires-then-not-is_need : goal.last-requires-then-not-is_need
+last-requires-then-not-is_need g c =
+    let n = c.in_ok-call.ensures.noted in
+    noted-some c.args.hall.now.book.entries (record { session = c.args.of.session; line = c.args.of.line; event = event.RecoverStep c.args.inst; reply = n.0 }) n.1
+
+pub returns-then-not-is_need-clause-memory : goal.returns-then-not-is_need-clause-memory
+returns-then-not-is_need-clause-memory g c = tt

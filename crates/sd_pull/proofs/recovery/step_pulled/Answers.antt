@@ -10,7 +10,7 @@ use Rattle.sd_pull.specs.declared.recovery.Outcome.{Outcome}
 use Rattle.sd_pull.specs.Driven.{PullsAll, ends_failed}
 use Rattle.sd_pull.specs.Recoveries.{PulledAs, ending_as}
 use Rattle.sd_pull.proofs.Recovered.{pull-in, pulled-came, pulled-some, vain-again, vain-broken, vain-kept, vain-some}
-use Rattle.sd_pull.proofs.Steps.{Noted, stays-in}
+use Rattle.sd_pull.proofs.Steps.{Noted, noted-some, stays-in}
 use Rattle.sd_pull.proofs.recovery.step_pulled.Goals as goal
 use Rattle.sd_pull.proofs.recovery.step_pulled.Goals.{else-of-via-then-of+else-ends_failed, else-of-via-else-of}
 
@@ -71,3 +71,27 @@ returns-clause-stepped g c =
     subst (λ (how : Option Outcome). PulledAs tell c.args.hall.now c.call.new.self c.args.of c.args.inst c.args.by c.args.page how)
     (sym (c.ending.ensures ∙ ap (λ (r : Reply). ending_as r c.args.of.is_opening) last))
     (vain-again tell c.args.of c.args.inst c.args.by c.args.page c.args.hall.now c.pull.new.hall vain fine c.call.new.self n.0 noted)
+
+pub returns-in_err-pull-clause-stepped : goal.returns-in_err-pull-clause-stepped
+returns-in_err-pull-clause-stepped g c =
+    let p = err_from_is_err_and c.from_residual.result c.from_residual.ensures.1 in
+    rw p.1 tt
+
+pub returns-then-branch-clause-memory : goal.returns-then-branch-clause-memory
+returns-then-branch-clause-memory g c = tt
+
+pub returns-then-ends_failed-clause-memory : goal.returns-then-ends_failed-clause-memory
+returns-then-ends_failed-clause-memory g c = tt
+
+pub returns-in_err-call-clause-stepped : goal.returns-in_err-call-clause-stepped
+returns-in_err-call-clause-stepped g c =
+    let p = err_from_is_err_and c.from_residual-in_err-call.result c.from_residual-in_err-call.ensures.1 in
+    rw p.1 tt
+
+pub last-requires : goal.last-requires
+last-requires g c =
+    let n = c.in_ok-call.ensures.noted in
+    noted-some c.pull.new.hall.book.entries (record { session = c.args.of.session; line = c.args.of.line; event = event.RecoverStep c.args.inst; reply = n.0 }) n.1
+
+pub returns-clause-memory : goal.returns-clause-memory
+returns-clause-memory g c = tt

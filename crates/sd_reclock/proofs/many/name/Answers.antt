@@ -1,8 +1,9 @@
-use Rattle.std.proofs.Common.{Option, Some, ap, subst, ◌∙◌, refl, ◌++◌, ◌∷◌, [], List}
+use Rattle.std.proofs.Common.{◌≡◌, Option, Some, ap, subst, ◌∙◌, refl, ◌++◌, ◌∷◌, [], List}
 use Rattle.std.specs.Global.{Vec}
 use Rattle.std.specs.Option.{IsSome}
+use Rattle.sd_base.specs.declared.ids.TxnId.{TxnId}
 use Rattle.sd_base.specs.declared.ids.Rid.{Rid}
-use Rattle.sd_reclock.specs.Indexing.{rids_of}
+use Rattle.sd_reclock.specs.Indexing.{names, rids_of}
 use Rattle.sd_reclock.proofs.Writes.{gains, stay, on_err, named_already}
 use Rattle.sd_reclock.proofs.many.name.Goals as goal
 use Rattle.sd_base.proofs.Orders.{put-txn, look-txn}
@@ -31,3 +32,19 @@ returns-clause-named c =
 
 pub returns-then-had-clause-named : goal.returns-then-had-clause-named
 returns-then-had-clause-named c = named_already c.args.index.now.entries c.args.t.now c.args.r.now (c.requires.had c.if-had.true)
+
+pub returns-in_err-rids-clause-same : goal.returns-in_err-rids-clause-same
+returns-in_err-rids-clause-same c =
+    let same : (u : TxnId) (q : Rid) → names c.args.index.now.entries u q ≡ names c.args.index.now.entries u q = λ u q. refl in
+    rw c.get_mut.follows.holds-at-none (on_err _ _ same)
+
+pub returns-in_err-push-2-clause-same : goal.returns-in_err-push-2-clause-same
+returns-in_err-push-2-clause-same c =
+    let same : (u : TxnId) (q : Rid) → names c.args.index.now.entries u q ≡ names c.args.index.now.entries u q = λ u q. refl in
+    rw c.get_mut.follows.holds-at-none (on_err _ _ same)
+
+pub returns-in-Some-clause-same : goal.returns-in-Some-clause-same
+returns-in-Some-clause-same c = tt
+
+pub returns-clause-same : goal.returns-clause-same
+returns-clause-same c = tt

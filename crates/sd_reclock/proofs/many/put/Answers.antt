@@ -2,6 +2,7 @@ use Rattle.std.proofs.Common.{◌≡◌, Option, Some, ap, sym, subst, ◌∙◌
 use Rattle.std.specs.Option.{IsSome}
 use Rattle.std.specs.Ordering.{is_eq}
 use Rattle.std.specs.Map.{set_value}
+use Rattle.std.proofs.lemmas.Bool.{or_parts}
 use Rattle.std.proofs.lemmas.Map.Steps.{set_value_same}
 use Rattle.sd_base.specs.declared.ids.TxnId.{TxnId}
 use Rattle.sd_base.specs.declared.ids.Rid.{Rid}
@@ -61,3 +62,18 @@ returns-in-Some-clause-named c = ok_by _ _ c.in_ok-name.ensures.named
 
 pub returns-clause-named : goal.returns-clause-named
 returns-clause-named c = c.in_ok-name-2.ensures.named
+
+pub returns-in_err-name-clause-more : goal.returns-in_err-name-clause-more
+returns-in_err-name-clause-more c = λ u q none. sym (c.in_err-name.ensures.same u q) ∙ none
+
+pub returns-in-Some-clause-more : goal.returns-in-Some-clause-more
+returns-in-Some-clause-more c = λ u q none. (or_parts _ _ (sym (c.in_ok-name.ensures.named u q) ∙ none)).0
+
+pub returns-in_err-name-2-clause-more : goal.returns-in_err-name-2-clause-more
+returns-in_err-name-2-clause-more c = λ u q none. sym (c.in_err-name-2.ensures.same u q) ∙ none
+
+pub returns-in_err-insert-clause-more : goal.returns-in_err-insert-clause-more
+returns-in_err-insert-clause-more c = λ u q none. (or_parts _ _ (sym (c.in_ok-name-2.ensures.named u q) ∙ none)).0
+
+pub returns-clause-more : goal.returns-clause-more
+returns-clause-more c = λ u q none. (or_parts _ _ (sym (c.in_ok-name-2.ensures.named u q) ∙ none)).0

@@ -1,8 +1,9 @@
 use Rattle.std.proofs.Common.{◌≡◌, ◌≢◌, ⊎_elim, ℕ, ◌-◌, ◌≤◌, List, [], refl, sym, ap, ◌∙◌, subst, arith, slice_set}
-use Rattle.std.specs.Prelude.{None}
+use Rattle.std.specs.Prelude.{None, OnErr, OnOk}
+use Rattle.sd_base.specs.Streams.{Rises}
 use Rattle.sd_log.specs.Logs.{LogState, StandsOn, forced}
 use Rattle.sd_log.specs.Forces.{Forces, forced_at, forced_len}
-use Rattle.sd_rig.specs.Devices.{AgreesOutside, LeavesOnly, LeavesSame, Span}
+use Rattle.sd_rig.specs.Devices.{AgreesOutside, Elapses, LeavesOnly, LeavesSame, Span}
 use Rattle.sd_rig.specs.Spans.{span-weaker}
 use Rattle.sd_sound.specs.Laws.{MayForce}
 use Rattle.sd_sound.proofs.Kept.{forced-idle}
@@ -12,7 +13,7 @@ use Rattle.sd_state.specs.Forcing.{IsForced, IsHalfForced, KeepMasters, with_fai
 use Rattle.sd_state.specs.Good.{Good, IsSettledAt}
 use Rattle.sd_state.specs.Images.{Stands}
 use Rattle.sd_state.specs.Parts.{IsShape, Parts, actor, log_at}
-use Rattle.sd_state.proofs.Answered.{forced-parts, log-lent, nil-or, not-ok, on-ok, same-set, shape-log}
+use Rattle.sd_state.proofs.Answered.{err-no_ok, forced-parts, log-lent, nil-or, not-ok, ok-no_err, on-err, on-ok, same-set, shape-log}
 use Rattle.sd_state.proofs.Failed.{failed-good}
 use Rattle.sd_state.proofs.Forced.{forced-good, forced-inst}
 use Rattle.sd_state.proofs.Masters.{masters-outside}
@@ -289,3 +290,61 @@ returns-in-Err-clause-masters g c =
     subst (λ x. KeepMasters (r.leaves old) (r.leaves x)) (sym c.fails.ensures.rig)
     (masters-outside (forced_at log) (forced_len log) log.inst (r.seen old log.inst) (r.leaves old) (r.leaves new) (omega arith) there
     (λ bytes left. (may bytes left).0) (λ k ne. c.in-Err.ensures.others_leave k ne))
+
+pub returns-in-Ok-clause-time : goal.returns-in-Ok-clause-time
+returns-in-Ok-clause-time g c = c.force-done.ensures.time
+
+pub returns-in-Ok-clause-cause : goal.returns-in-Ok-clause-cause
+returns-in-Ok-clause-cause g c = c.force-done.ensures.cause
+
+pub returns-in-Ok-clause-quiet : goal.returns-in-Ok-clause-quiet
+returns-in-Ok-clause-quiet g c = c.force-done.ensures.quiet
+
+pub returns-in-Ok-clause-count : goal.returns-in-Ok-clause-count
+returns-in-Ok-clause-count g c = c.force-done.ensures.count
+
+pub returns-in-Ok-clause-failed : goal.returns-in-Ok-clause-failed
+returns-in-Ok-clause-failed g c = ok-no_err c.force-done.result tt _ c.in-Ok.is
+
+pub returns-in-Err-clause-time : goal.returns-in-Err-clause-time
+returns-in-Err-clause-time g c =
+    let r = g.G.Rig in
+    let old = c.args.self.now.rig in
+    subst (λ x. Elapses (r.moment old) (r.moment x) (r.since old) (r.since x)) (sym c.fails.ensures.rig) c.force-done.ensures.time
+
+pub returns-in-Err-clause-cause : goal.returns-in-Err-clause-cause
+returns-in-Err-clause-cause g c =
+    let faults = g.G.Rig.faults in
+    subst (λ x. OnErr c.force-done.result (Rises (faults c.args.self.now.rig) (faults x))) (sym c.fails.ensures.rig) c.force-done.ensures.cause
+
+pub returns-in-Err-clause-quiet : goal.returns-in-Err-clause-quiet
+returns-in-Err-clause-quiet g c =
+    let faults = g.G.Rig.faults in
+    subst (λ x. OnOk c.force-done.result (faults x ≡ faults c.args.self.now.rig)) (sym c.fails.ensures.rig) c.force-done.ensures.quiet
+
+pub returns-in-Err-clause-count : goal.returns-in-Err-clause-count
+returns-in-Err-clause-count g c =
+    let faults = g.G.Rig.faults in
+    subst (λ x. faults c.args.self.now.rig ≤ faults x) (sym c.fails.ensures.rig) c.force-done.ensures.count
+
+pub returns-in-Err-clause-forced : goal.returns-in-Err-clause-forced
+returns-in-Err-clause-forced g c = err-no_ok c.force-done.result c.in-Err.field-0 _ c.in-Err.is
+
+pub returns-in-Err-clause-failed : goal.returns-in-Err-clause-failed
+returns-in-Err-clause-failed g c =
+    let p : Parts = parts c.args.self.now in
+    let i : ℕ = c.args.i in
+    let self : LogState = c.force-done.new.self in
+    let same : record p { logs = slice_set p.logs (c.get.result - 1) self } ≡ p =
+    ap (λ (logs : List LogState). record p { logs = logs })
+    (same-set p.logs (c.get.result - 1) c.index_mut.result.now self c.index_mut.ensures.value c.in-Err.ensures.stays) in
+    on-err c.force-done.result _ (c.fails.ensures.parts ∙ ap (λ (q : Parts). with_failed (actor q i) i q) same)
+
+pub fails-requires : goal.fails-requires
+fails-requires g c =
+    let p : Parts = parts c.args.self.now in
+    let self : LogState = c.force-done.new.self in
+    let same : record p { logs = slice_set p.logs (c.get.result - 1) self } ≡ p =
+    ap (λ (logs : List LogState). record p { logs = logs })
+    (same-set p.logs (c.get.result - 1) c.index_mut.result.now self c.index_mut.ensures.value c.in-Err.ensures.stays) in
+    record { shape = subst IsShape (sym same) c.requires.good.2.shape }

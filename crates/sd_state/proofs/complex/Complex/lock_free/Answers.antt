@@ -1,4 +1,4 @@
-use Rattle.std.proofs.Common.{◌≡◌, ℕ, ◌-◌, ◌≤◌, ap, sym, ◌∙◌, subst, arith, slice_set}
+use Rattle.std.proofs.Common.{◌≡◌, ℕ, ◌-◌, ◌≤◌, List, refl, ap, sym, ◌∙◌, subst, arith, slice_set}
 use Rattle.std.specs.Prelude.{None}
 use Rattle.sd_places.specs.Moves.{IsMove}
 use Rattle.sd_places.specs.Places.{PageEntry, is_free}
@@ -11,6 +11,7 @@ use Rattle.sd_state.specs.Complexes.{parts, unboxed}
 use Rattle.sd_state.specs.Good.{Good}
 use Rattle.sd_state.specs.Locking.{IsSet, with_place}
 use Rattle.sd_state.specs.Parts.{Parts, pool_at}
+use Rattle.sd_state.proofs.Answered.{same-set}
 use Rattle.sd_state.proofs.Locks.{locked-good, pool-lent}
 use Rattle.sd_state.proofs.Unboxed.{image-unboxed}
 use Rattle.sd_state.proofs.complex.Complex.lock_free.Goals as goal
@@ -67,3 +68,36 @@ returns-clause-good g c pend m good =
     c.in-Ok.ensures.there (λ q ne. c.put.ensures.others q ne ∙ ap (λ (b : Buffers). buffers.image_at b q) (sym lent)) set
     (λ q. image-unboxed c.args.self.now.directory c.set.new.self q (moves.images q))
     c.requires.idle c.requires.free c.requires.active c.requires.newest)
+
+pub returns-clause-place : goal.returns-clause-place
+returns-clause-place g c =
+    let moves = c.set.ensures in
+    let old : DirectoryState Page = (parts c.args.self.now).directory in
+    subst (λ (e : PageEntry). IsSet c.args.p e None old (unboxed c.set.new.self)) c.locked.ensures
+    (record {
+      entry = moves.here;
+      rec_lsn = moves.rec_lsn;
+      asks = moves.asks;
+      others = moves.others;
+      other_rec_lsns = moves.other_rec_lsns;
+      other_asks = moves.other_asks;
+    })
+
+-- ---- there was no memory: the pool is as it was
+
+pub returns-in-Err-clause-good : goal.returns-in-Err-clause-good
+returns-in-Err-clause-good g c pend m good =
+    let p : Parts = parts c.args.self.now in
+    let rig = c.args.self.now.rig in
+    subst (λ (x : Parts). Good (g.G.Rig.seen rig) (g.G.Rig.leaves rig) pend x m)
+    (sym (ap (λ (pools : List Buffers). record p { pools = pools })
+    (same-set p.pools (c.get.result - 1) c.index_mut.result.now c.put.new.self c.index_mut.ensures.value c.in-Err.ensures.stays))) good
+
+pub returns-in-Err-clause-stays : goal.returns-in-Err-clause-stays
+returns-in-Err-clause-stays g c =
+    let p : Parts = parts c.args.self.now in
+    ap (λ (pools : List Buffers). record p { pools = pools })
+    (same-set p.pools (c.get.result - 1) c.index_mut.result.now c.put.new.self c.index_mut.ensures.value c.in-Err.ensures.stays)
+
+pub returns-in-Err-clause-moving : goal.returns-in-Err-clause-moving
+returns-in-Err-clause-moving g c q = refl

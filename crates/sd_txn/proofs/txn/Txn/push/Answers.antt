@@ -10,7 +10,7 @@ invariant_of-self-2 c =
     let marks = named vec_items c.self.inside.marks.entries in
     let stack = c.self.inside.stack.items in
     let items = c.in_ok-push.ensures.items in
-    let sum = rw c.in_ok-undo.ensures.ok_part at c.checked_add.ensures in
+    let sum = c.in-Some.ensures in
     let longer = ap length items ∙ length-append stack (c.args.rec ∷ []) in
     record {
       marked = AreMarks-more marks (length stack) (length c.push.new.self.items) (omega (arith, longer)) c.self.invariant.marked;
