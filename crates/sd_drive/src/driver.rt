@@ -23,8 +23,9 @@ ghost use Rattle.sd_pull.specs.Replies.{began_by, is_joined, is_rows, is_step};
 use crate::emptying::{Going, going_of};
 use crate::forms::{event_by, lone_event, ordinal};
 use sd_base::{InstNo, Memory, PageNo, Refusal, Status, TxnId};
+use sd_book::Book;
 use sd_hall::Hall;
-use sd_model::{Book, Event};
+use sd_model::Event;
 use sd_pull::{
     Outcome, Owner, began, is_did, is_failed, is_joined, is_rows, is_step, operate, recover,
 };

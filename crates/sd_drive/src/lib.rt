@@ -9,8 +9,8 @@
 //! looks at each instance, and goes on up to the first refusal.
 //! Refuses: `Memory`, after which what was noted was due; `Failed` in the opening alone, where the rig's count of faults rose.
 //! Knows nothing of: text, reports, what an event does, how a page comes.
-//! Stands on: sd_base, sd_model, sd_rig, sd_places, sd_pagelock, sd_world, sd_state, sd_fits, sd_serve, sd_forms, sd_script,
-//! sd_hall, sd_pull.
+//! Stands on: sd_base, sd_model, sd_book, sd_rig, sd_places, sd_pagelock, sd_world, sd_state, sd_fits, sd_serve, sd_forms,
+//! sd_script, sd_hall, sd_pull.
 //! Held by the caller: that the lines stand as the grammar of scripts has them (`AreDriven`).
 //!
 //! To change:

@@ -22,8 +22,9 @@ ghost use Rattle.sd_serve.specs.Served.{IsServed, told_in};
 ghost use Rattle.sd_hall.specs.Keeping.{HasPlace, Keeps};
 
 use sd_base::{Memory, Refusal};
+use sd_book::Book;
 use sd_fits::Body;
-use sd_model::{Book, Event, Reply};
+use sd_model::{Event, Reply};
 use sd_owed::{is_owed_in, more};
 use sd_restart::restart;
 use sd_rig::Rig;

@@ -29,4 +29,3 @@ pub mod Reopens
 pub mod WaitAnswers
 pub mod Scenes
 pub mod NumberTexts
-pub mod Booked

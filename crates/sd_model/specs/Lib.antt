@@ -1,7 +1,6 @@
 pub mod Words
 pub mod Tables
 pub mod History
-pub mod Booked
 pub mod Acts
 pub mod Claims
 pub mod State

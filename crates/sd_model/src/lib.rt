@@ -1,6 +1,6 @@
 //! The serial table: what each event and its reply mean, one after another.
 //!
-//! Meaning: a `Table` is a finite map (`specs/Tables.antt`); a `Book` is the opening table with the entries since
+//! Meaning: a `Table` is a finite map (`specs/Tables.antt`); a history is an opening table with the entries since
 //! (`specs/History.antt`); `Step` says which reply may follow in a state, and what it leaves (`specs/Step.antt`); a `Scene`
 //! is a state with who waits for what (`specs/Scenes.antt`).
 //! Keeps: `Kept`, `LivesAreSound`, `Listed`, `Marked` and `Recoverers`, which each step keeps (`specs/Kept.antt` and the files of
@@ -18,22 +18,18 @@
 #![tactic(auto)]
 
 mod act;
-mod book;
 mod cause;
 mod copies;
 mod event;
-mod help;
 pub mod laws;
 mod numbers;
 mod rows;
 mod table;
 
 pub use act::{Act, Claim, Cut, Done, Inst, Life};
-pub use book::Book;
 pub use cause::{Cause, causes_of, order};
 pub use copies::copy_refusal;
 pub use event::{Entry, Event, Reply};
-pub use help::{Answer, Deed, Noted};
 pub use numbers::{NoSum, number, number_text, sum, text_length};
 pub use rows::Rows;
 pub use table::Table;

@@ -10,7 +10,7 @@
 //! `specs/Measure.antt`).
 //! Refuses: `Memory`, after which what was noted was due.
 //! Knows nothing of: the order of lines, who recovers and joins, text, what an event does.
-//! Stands on: sd_base, sd_model, sd_page, sd_logrec, sd_rig, sd_pool, sd_txn, sd_places, sd_asks, sd_pagelock, sd_chain,
+//! Stands on: sd_base, sd_model, sd_book, sd_page, sd_logrec, sd_rig, sd_pool, sd_txn, sd_places, sd_asks, sd_pagelock, sd_chain,
 //! sd_sound, sd_coherent, sd_world, sd_state, sd_undos, sd_fits, sd_tasks, sd_serve, sd_forms, sd_script, sd_hall.
 //! Lends: in `proofs`, how a world goes on by an entry (Steps, Marks, Running, Telling), what bodies have (Bodies), and what a
 //! pull and a recovery come to (Pulled, Recovered).

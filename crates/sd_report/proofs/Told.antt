@@ -6,7 +6,7 @@ use Rattle.std.specs.Map.{update_all}
 use Rattle.std.proofs.lemmas.Bool.{cases_Bool, ltb-false}
 use Rattle.std.proofs.lemmas.List.Concat.{flat_map-cons}
 use Rattle.sd_base.specs.Ids.{same_txn}
-use Rattle.sd_model.specs.Booked.{of_lines}
+use Rattle.sd_book.specs.Booked.{of_lines}
 use Rattle.sd_model.specs.declared.event.Entry.{Entry}
 use Rattle.sd_forms.specs.declared.line.Line.{Line}
 use Rattle.sd_forms.specs.declared.line.Form.{Form}

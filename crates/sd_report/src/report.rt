@@ -22,7 +22,8 @@ use crate::replies::{
 use crate::txn_names::TxnNames;
 use crate::words::{push_digits, push_end, push_next, push_number, push_rid, push_word};
 use sd_base::{Bytes, InstNo, LineError, Memory, Pick, Refusal, Rid, Word};
-use sd_model::{Book, Entry, Reply};
+use sd_book::Book;
+use sd_model::{Entry, Reply};
 use sd_script::{Form, Line};
 use std::alloc::Global;
 

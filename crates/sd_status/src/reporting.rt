@@ -6,8 +6,8 @@ ghost use Rattle.sd_status.specs.Reporting.{Delivers, TellsBad, TellsDamaged, Te
 use crate::output::write_all;
 use crate::status::Status;
 use sd_base::{LineError, Memory, Refusal, Sink};
+use sd_book::Book;
 use sd_forms::Line;
-use sd_model::Book;
 use sd_report::{bad_line, damaged_line, render_book};
 use std::alloc::Global;
 

@@ -1,7 +1,8 @@
 //! A book, a table and a number text find memory where there is some.
 
 use sd_base::{Bytes, Duplicate, InstNo, Mode, PageNo, Refusal, Rid};
-use sd_model::{Answer, Book, Deed, Entry, Event, Noted, Reply, Table, number_text};
+use sd_book::{Answer, Book, Deed, Noted};
+use sd_model::{Entry, Event, Reply, Table, number_text};
 use std::test::Fail;
 
 #[test]

@@ -1,6 +1,6 @@
 //! Runs of words, events, pages and records: what no clause of their crates shows.
 //!
-//! Stands on: sd_base, sd_model, sd_page, sd_logrec.
+//! Stands on: sd_base, sd_model, sd_book, sd_page, sd_logrec.
 #![tactic(auto)]
 
 #[cfg(test)]

@@ -17,10 +17,10 @@ ghost use Rattle.sd_top.specs.Opening.{frames_of};
 ghost use Rattle.sd_top.specs.Outcome.{Answers, Outcome};
 
 use sd_base::{Gate, Memory, Refusal, Sink, Source};
+use sd_book::Book;
 use sd_command::is_command;
 use sd_drive::Driver;
 use sd_hall::Hall;
-use sd_model::Book;
 use sd_rig::Rig;
 use sd_script::{Form, Kind, Line, Script};
 use sd_state::Shape;

@@ -2,8 +2,8 @@ use Rattle.std.proofs.Common.{◌≡◌, Some, sym, ap, ◌∙◌}
 use Rattle.std.specs.Mem.{manually_drop_value}
 use Rattle.sd_model.specs.declared.event.Entry.{Entry}
 use Rattle.sd_model.specs.History.{History}
-use Rattle.sd_model.proofs.Booked.{last-newest, last-there, newest, newest-short, newest-whole, newest_how}
-use Rattle.sd_model.proofs.book.Book.last.Goals as goal
+use Rattle.sd_book.proofs.Booked.{last-newest, last-there, newest, newest-short, newest-whole, newest_how}
+use Rattle.sd_book.proofs.book.Book.last.Goals as goal
 
 pub returns-in-Some-Whole-clause-value : goal.returns-in-Some-Whole-clause-value
 returns-in-Some-Whole-clause-value c =

@@ -1,11 +1,11 @@
 use Rattle.std.proofs.Common.{◌≡◌, ◌++◌, ◌∷◌, [], ap, ◌∙◌, subst, sym}
 use Rattle.std.specs.Mem.{manually_drop_value}
 use Rattle.sd_model.specs.declared.event.Entry.{Entry}
-use Rattle.sd_model.specs.declared.help.Noted.TheVariants.{Whole}
+use Rattle.sd_book.specs.declared.help.Noted.TheVariants.{Whole}
 use Rattle.sd_model.specs.History.{History}
-use Rattle.sd_model.specs.Booked.{AreBooked}
-use Rattle.sd_model.proofs.Booked.{short-books, short-reads, whole-books, whole-reads}
-use Rattle.sd_model.proofs.book.Book.note.Goals as goal
+use Rattle.sd_book.specs.Booked.{AreBooked}
+use Rattle.sd_book.proofs.Booked.{short-books, short-reads, whole-books, whole-reads}
+use Rattle.sd_book.proofs.book.Book.note.Goals as goal
 
 pub invariant_of-self : goal.invariant_of-self
 invariant_of-self c =

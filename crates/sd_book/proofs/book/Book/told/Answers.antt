@@ -1,8 +1,8 @@
 use Rattle.std.proofs.Common.{ap, ◌∙◌}
 use Rattle.sd_model.specs.History.{History}
-use Rattle.sd_model.specs.Booked.{of_lines}
-use Rattle.sd_model.proofs.Booked.{lines-read}
-use Rattle.sd_model.proofs.book.Book.told.Goals as goal
+use Rattle.sd_book.specs.Booked.{of_lines}
+use Rattle.sd_book.proofs.Booked.{lines-read}
+use Rattle.sd_book.proofs.book.Book.told.Goals as goal
 
 pub returns : goal.returns
 returns c =

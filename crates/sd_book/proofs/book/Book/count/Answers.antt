@@ -1,7 +1,7 @@
 use Rattle.std.proofs.Common.{length, ap, arith}
 use Rattle.sd_model.specs.History.{History}
-use Rattle.sd_model.proofs.Booked.{count-read}
-use Rattle.sd_model.proofs.book.Book.count.Goals as goal
+use Rattle.sd_book.proofs.Booked.{count-read}
+use Rattle.sd_book.proofs.book.Book.count.Goals as goal
 
 pub returns : goal.returns
 returns c =

@@ -4,17 +4,16 @@ ghost use Rattle.std.specs.Prelude.{◌≡◌, ◌≢◌, ◌-◌, ◌+◌, ◌<
 ghost use Rattle.std.specs.Vec.{vec_len, vec_capacity};
 ghost use Rattle.std.specs.Mem.{manually_drop_value};
 ghost use Rattle.sd_model.specs.declared.event.Entry.{Entry};
-ghost use Rattle.sd_model.specs.Booked.{of_lines, unpacked};
+ghost use Rattle.sd_book.specs.Booked.{of_lines, unpacked};
 
-use crate::event::{Entry, Event, Reply};
 use crate::help::{Noted, keep, noted_of};
-use crate::table::Table;
 use sd_base::Memory;
+use sd_model::{Entry, Event, Reply, Table};
 use std::alloc::Global;
 use std::marker::Model;
 use std::mem::ManuallyDrop;
 
-/// The opening table, the entries since, and how many more there is room for (`specs/History.antt`). A short entry of no line is
+/// The opening table, the entries since, and how many more there is room for (`History` of `sd_model`). A short entry of no line is
 /// kept in few bytes, each other stands whole (`specs/Booked.antt`).
 #[derive(Drop)]
 pub struct Book {
@@ -32,7 +31,7 @@ impl Model for Book {
     ghost use Rattle.std.specs.Vec.{vec_len, vec_capacity};
     ghost use Rattle.std.specs.Mem.{manually_drop_value};
     ghost use Rattle.sd_model.specs.History.{History};
-    ghost use Rattle.sd_model.specs.Booked.{unpacked, AreBooked};
+    ghost use Rattle.sd_book.specs.Booked.{unpacked, AreBooked};
 
     ghost Value = { History };
 

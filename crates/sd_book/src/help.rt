@@ -2,10 +2,10 @@
 
 ghost use Rattle.std.specs.Prelude.{◌≡◌, ◌-◌, ◌+◌, ◌<◌, ◌≤◌, ◌++◌, ◌∷◌, [], IfSome};
 ghost use Rattle.std.specs.Vec.{vec_len, vec_capacity};
-ghost use Rattle.sd_model.specs.Booked.{event_of, reply_of, ReadsAs};
+ghost use Rattle.sd_book.specs.Booked.{event_of, reply_of, ReadsAs};
 
-use crate::event::{Event, Reply};
 use sd_base::{InstNo, Mode, PageNo, Refusal};
+use sd_model::{Event, Reply};
 
 /// What an instance does with a page.
 #[derive(Clone, Copy, PartialEq, Eq)]

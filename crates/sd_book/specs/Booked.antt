@@ -7,12 +7,12 @@ use Rattle.sd_model.specs.declared.event.Event.TheVariants as event
 use Rattle.sd_model.specs.declared.event.Reply.{Reply}
 use Rattle.sd_model.specs.declared.event.Reply.TheVariants as reply
 use Rattle.sd_model.specs.declared.event.Entry.{Entry}
-use Rattle.sd_model.specs.declared.help.Deed.{Deed}
-use Rattle.sd_model.specs.declared.help.Deed.TheVariants as deed
-use Rattle.sd_model.specs.declared.help.Answer.{Answer}
-use Rattle.sd_model.specs.declared.help.Answer.TheVariants as answer
-use Rattle.sd_model.specs.declared.help.Noted.{Noted}
-use Rattle.sd_model.specs.declared.help.Noted.TheVariants.{Short, Whole}
+use Rattle.sd_book.specs.declared.help.Deed.{Deed}
+use Rattle.sd_book.specs.declared.help.Deed.TheVariants as deed
+use Rattle.sd_book.specs.declared.help.Answer.{Answer}
+use Rattle.sd_book.specs.declared.help.Answer.TheVariants as answer
+use Rattle.sd_book.specs.declared.help.Noted.{Noted}
+use Rattle.sd_book.specs.declared.help.Noted.TheVariants.{Short, Whole}
 
 -- the event of an instance that does this with a page
 abbrev pub event_of : Deed → ℕ → ℕ → Event

@@ -1,15 +1,15 @@
 -- How a book's entries read when one more is noted. They serve the goals of `book`.
-use Rattle.std.proofs.Common.{◌≡◌, ℕ, ◌+◌, ◌-◌, suc, Bool, true, false, List, [], ◌∷◌, ◌++◌, length, refl, ap, sym, subst, arith, ◌∙◌}
+use Rattle.std.proofs.Common.{◌≡◌, ℕ, ◌-◌, suc, Bool, true, false, List, [], ◌∷◌, ◌++◌, length, refl, ap, sym, subst, arith, ◌∙◌}
 use Rattle.std.proofs.lemmas.List.{length_push}
 use Rattle.sd_base.proofs.Lists.{slice_get-push, stands_at}
 use Rattle.std.specs.Borrow.{Bor}
 use Rattle.std.specs.Prelude.{IsSome, option_copied, Option, None, Some, slice_get, ltb, cond}
 use Rattle.sd_model.specs.declared.event.Entry.{Entry}
-use Rattle.sd_model.specs.declared.help.Answer.{Answer}
-use Rattle.sd_model.specs.declared.help.Deed.{Deed}
-use Rattle.sd_model.specs.declared.help.Noted.{Noted}
-use Rattle.sd_model.specs.declared.help.Noted.TheVariants.{Short, Whole}
-use Rattle.sd_model.specs.Booked.{entry_of, of_lines, unpacked, AreBooked, IsNewest, NotesAll, ReadsAs}
+use Rattle.sd_book.specs.declared.help.Answer.{Answer}
+use Rattle.sd_book.specs.declared.help.Deed.{Deed}
+use Rattle.sd_book.specs.declared.help.Noted.{Noted}
+use Rattle.sd_book.specs.declared.help.Noted.TheVariants.{Short, Whole}
+use Rattle.sd_book.specs.Booked.{entry_of, of_lines, unpacked, AreBooked, IsNewest, NotesAll, ReadsAs}
 
 -- one entry more, which is kept so
 pub read-more : (noted : List Noted) (whole : List Entry) (s p i : ℕ) (d : Deed) (a : Answer) (n : ℕ) → NotesAll noted whole
