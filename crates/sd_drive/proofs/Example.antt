@@ -21,7 +21,7 @@ use Rattle.sd_world.specs.Pages.{Pages, page_placed}
 use Rattle.sd_world.specs.Serving.{Core}
 use Rattle.sd_pull.specs.Driving.{Cursor, IsTold, Progress, Tells, Work, done, followed, marked, stays, untold, works_of}
 use Rattle.sd_pull.specs.Pulls.{Pull}
-use Rattle.sd_drive.proofs.Pools.{idle-leavers}
+use Rattle.sd_rise.proofs.Pools.{idle-leavers}
 
 abbrev s : List ℕ
 s = 115 ∷ []

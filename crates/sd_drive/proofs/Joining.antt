@@ -24,7 +24,7 @@ use Rattle.sd_pull.specs.Replies.{is_joined}
 use Rattle.sd_pull.specs.Running.{Start}
 use Rattle.sd_pull.proofs.Bodies.{fits-now, status-is}
 use Rattle.sd_drive.proofs.Lines.{first-here, goes-there, knows-as, knows-more, passes-by}
-use Rattle.sd_drive.proofs.Tables.{first-behind, first-here as first-found, first-none}
+use Rattle.sd_rise.proofs.Finding.{first-behind, first-here as first-found, first-none}
 
 -- ---- who joins next
 

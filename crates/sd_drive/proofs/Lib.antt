@@ -7,8 +7,7 @@ pub mod Undoing
 pub mod Tables
 pub mod Joining
 pub mod Recovering
-pub mod Pools
-pub mod Opening
 pub mod Replays
+mod Risen
 mod Example
 mod Restarts

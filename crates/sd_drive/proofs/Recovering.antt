@@ -1,6 +1,6 @@
 -- A line lets the instances that are down recover themselves, one after another. It serves the goals of `recover_all` and
 -- `recover_down` in driver.rt.
-use Rattle.std.proofs.Common.{◌≡◌, inl, inr, ⊎_elim, ℕ, ◌+◌, ◌-◌, ◌≤◌, true, false, List, drop, refl, sym, ap, ◌∙◌, subst, arith}
+use Rattle.std.proofs.Common.{◌≡◌, inl, inr, ⊎_elim, ℕ, ◌+◌, ◌-◌, ◌≤◌, true, false, List, drop, refl, sym, ap, ◌∙◌, subst}
 use Rattle.std.specs.Prelude.{Option, None, Some, is_some, slice_get}
 use Rattle.sd_model.specs.declared.event.Event.TheVariants as event
 use Rattle.sd_model.specs.declared.event.Reply.{Reply}
@@ -26,17 +26,9 @@ use Rattle.sd_drive.specs.Recovering.{LineRecovers, RecoversNow, RecoversOn, Rec
 use Rattle.sd_pull.specs.Running.{Start}
 use Rattle.sd_pull.proofs.Bodies.{fits-now, status-is}
 use Rattle.sd_drive.proofs.Lines.{first-here, knows-as, knows-more, passes-by}
-use Rattle.sd_drive.proofs.Tables.{first-behind, first-here as first-found}
+use Rattle.sd_rise.proofs.Finding.{down-behind, down-here}
 
 -- ---- who recovers next
-
-pub down-here : (m : State) (i : ℕ) → i ≤ 8 → is_down (m.inst i).status ≡ true → next_down m i ≡ Some i
-down-here m i le down = first-found (λ j. is_down (m.inst j).status) i (9 - i) (omega (arith, le)) down
-
-pub down-behind : (m : State) (i : ℕ) → i ≤ 8 → is_down (m.inst i).status ≡ false → next_down m i ≡ next_down m (i + 1)
-down-behind m i le stands =
-    let count : 9 - i ≡ 9 - (i + 1) + 1 = omega (arith, le) in
-    first-behind (λ j. is_down (m.inst j).status) i (9 - i) (9 - (i + 1)) count stands
 
 down-none : (m : State) → next_down m 9 ≡ None
 down-none m = refl

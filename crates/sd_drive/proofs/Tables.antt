@@ -36,20 +36,6 @@ first-same f g i zero same = refl
 first-same f g i (suc n) same = ap₂ (λ (b : Bool) (o : Option ℕ). cond {A = Option ℕ} b (Some i) o) (same i (omega arith) (omega arith))
     (first-same f g (i + 1) n (λ j le lt. same j (omega (arith, le)) (omega (arith, lt))))
 
--- the first of them passes, or it is one behind it
-pub first-here : (f : ℕ → Bool) (i n : ℕ) → 1 ≤ n → f i ≡ true → first_from f i n ≡ Some i
-first-here f i zero some yes_ = absurd (omega (arith, some))
-first-here f i (suc n) some yes_ = ap (λ (b : Bool). cond {A = Option ℕ} b (Some i) (first_from f (i + 1) n)) yes_
-
-pub first-behind : (f : ℕ → Bool) (i n m : ℕ) → n ≡ m + 1 → f i ≡ false → first_from f i n ≡ first_from f (i + 1) m
-first-behind f i zero m is no_ = absurd (omega (arith, is))
-first-behind f i (suc n) m is no_ =
-    let same : n ≡ m = omega (arith, is) in
-    ap (λ (b : Bool). cond {A = Option ℕ} b (Some i) (first_from f (i + 1) n)) no_ ∙ ap (first_from f (i + 1)) same
-
-pub first-none : (f : ℕ → Bool) (i n : ℕ) → n ≡ 0 → first_from f i n ≡ None
-first-none f i n is = ap (first_from f i) is
-
 -- the instances stand as the world says, so the one that the code finds lists
 lister-same : (status : ℕ → Status) (m : State) (insts : ℕ) → insts ≤ 8 → ((j : ℕ) → 1 ≤ j → j ≤ 8 → status j ≡ (m.inst j).status)
     → lister_by status insts ≡ lister m insts

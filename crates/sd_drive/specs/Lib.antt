@@ -1,4 +1,2 @@
 pub mod Reaching
-pub mod Going
-pub mod Emptying
 pub mod Recovering

@@ -1,5 +1,5 @@
 -- How far a driver has come in its script.
-use Rattle.std.specs.Prelude.{◌≡◌, ◌⊎◌, ℕ, ◌+◌, ◌<◌, ◌≤◌, ◌^◌, Bool, true, false, List, [], ◌∷◌, Option, None, Some, length, take, drop, get_or, slice_get}
+use Rattle.std.specs.Prelude.{◌≡◌, ◌⊎◌, ℕ, ◌+◌, ◌<◌, ◌≤◌, ◌^◌, Bool, true, false, List, [], Option, None, Some, length, take, drop, get_or, slice_get}
 use Rattle.sd_base.specs.declared.ids.TxnId.{TxnId}
 use Rattle.sd_model.specs.declared.event.Event.TheVariants as event
 use Rattle.sd_forms.specs.declared.line.Form.{Form}
@@ -7,11 +7,11 @@ use Rattle.sd_forms.specs.declared.line.Form.TheVariants as form
 use Rattle.sd_forms.specs.declared.line.Line.{Line}
 use Rattle.sd_forms.specs.Forms.{IsForm}
 use Rattle.sd_script.specs.Order.{Follows, begun, insts_of, ordinal_of, pages_of}
-use Rattle.sd_world.specs.Serving.{Core, Telling}
+use Rattle.sd_world.specs.Serving.{Telling}
 use Rattle.sd_pull.specs.Bodies.{depth_in}
 use Rattle.sd_drive.specs.declared.driver.Driver.{Driver}
 use Rattle.sd_pull.specs.Driven.{IsIn}
-use Rattle.sd_pull.specs.Driving.{Cursor, Known, Work, World, ahead, cursor_in, leavers, next_absent, untold, works_of}
+use Rattle.sd_pull.specs.Driving.{Cursor, Known, World, ahead, next_absent, works_of}
 use Rattle.sd_pull.specs.Operating.{IsDueFor}
 use Rattle.sd_pull.specs.Lines.{Names}
 use Rattle.sd_pull.specs.Pulls.{Pull}
@@ -66,15 +66,6 @@ IsPlain (form.Back name o mark) = ⊥
 IsPlain (form.Rollback name o) = ⊥
 IsPlain f = Unit {0}
 
--- before the first entry
-abbrev pub before : ℕ → ℕ → List Line → Core → World
-before insts pages lines core = record { told = untold insts pages lines; core = core }
-
--- where a driver begins
-abbrev pub begin_of : {G : Type 0} → Driver G → List Line → Core → G → Start G
-begin_of driver lines core rig =
-    record { world = before driver.insts driver.pages lines core; rig = rig; table = driver.hall.book.opening }
-
 -- a value's length has two bytes
 abbrev pub IsShort : Form → Type 0
 IsShort (form.Insert name o p v n) = length v < 2 ^ 16
@@ -112,64 +103,6 @@ pub record Reached {G : Type 0} (tell : Telling G) (start : Start G) (lines : Li
   pub unfailed : w.told.failed ≡ false
   pub left : ahead w.core.scene.state w.told.known w.told.left ≡ ahead w.core.scene.state w.told.known (works_of (drop n lines))
   pub knows : KnowsAll lines n driver w.told.known
-
--- ---- the opening
-
--- The opening stands there, and no page is pulled.
-pub record Opens {G : Type 0} (tell : Telling G) (start : Start G) (lines : List Line) (driver : Driver G) (c : Cursor) (w : World) : Type 0 where
-  pub there : IsIn tell start driver.hall w
-  pub known : w.told.known ≡ (untold driver.insts driver.pages lines).known
-  pub left : w.told.left ≡ Work.Opening ∷ works_of lines
-  pub at : cursor_in w.core.scene.state w.told.known Work.Opening w.told.cursor ≡ Some c
-  pub idle : w.told.pull ≡ Pull.Idle
-  pub unfailed : w.told.failed ≡ false
-  pub none : driver.txns.items ≡ []
-
--- it stands there, or, where that is nowhere, it is done, and the lines are to come
-abbrev pub OpensOn : {G : Type 0} → Telling G → Start G → List Line → Driver G → Option Cursor → World → Type 0
-OpensOn tell start lines driver None w = Reached tell start lines 0 driver w
-OpensOn tell start lines driver (Some c) w = Opens tell start lines driver c w
-
--- Instance i joins next, after those below it.
-pub record JoinsNext {G : Type 0} (tell : Telling G) (start : Start G) (lines : List Line) (driver : Driver G) (i : ℕ) (w : World) : Type 0 where
-  pub opens : Opens tell start lines driver (Cursor.Joins i) w
-  pub most : i ≤ driver.insts
-
--- in some world it does
-pub record IsOpening {G : Type 0} (tell : Telling G) (driver : Driver G) (i : ℕ) : Type 0 where
-  pub start : Start G
-  pub world : World
-  pub lines : List Line
-  pub joins : JoinsNext tell start lines driver i world
-
--- all have joined, and pools are to be emptied
-abbrev pub AllJoined : {G : Type 0} → Telling G → Start G → List Line → Driver G → World → Type 0
-AllJoined tell start lines driver w = OpensOn tell start lines driver (leavers w.core 1 8) w
-
--- The instances below i have joined: i joins next, or, behind the last one, pools are to be emptied.
-abbrev pub HaveJoined : {G : Type 0} → Telling G → Start G → List Line → Driver G → ℕ → World → Type 0
-HaveJoined tell start lines driver i w =
-    JoinsNext tell start lines driver i w ⊎ ((driver.insts < i) × AllJoined tell start lines driver w)
-
--- from the join of instance i on, as much came as there was memory for
-abbrev pub OpensSome : {G : Type 0} → Telling G → Driver G → Driver G → ℕ → Type 0
-OpensSome {G} tell old new i = (start : Start G) (w : World) (lines : List Line) → JoinsNext tell start lines old i w
-    → (w' : World) × IsIn tell start new.hall w'
-
--- from there on all joined
-abbrev pub JoinsAll : {G : Type 0} → Telling G → Driver G → Driver G → ℕ → Type 0
-JoinsAll {G} tell old new i = (start : Start G) (w : World) (lines : List Line) → JoinsNext tell start lines old i w
-    → (w' : World) × AllJoined tell start lines new w'
-
--- instance i joined
-abbrev pub Joins : {G : Type 0} → Telling G → Driver G → Driver G → ℕ → Type 0
-Joins {G} tell old new i = (start : Start G) (w : World) (lines : List Line) → JoinsNext tell start lines old i w
-    → (w' : World) × HaveJoined tell start lines new (i + 1) w'
-
--- a device failed in a join from that of instance i on
-abbrev pub JoinBreaks : {G : Type 0} → Telling G → Driver G → Driver G → ℕ → Type 0
-JoinBreaks {G} tell old new i = (start : Start G) (w : World) (lines : List Line) → JoinsNext tell start lines old i w
-    → (w' : World) × IsIn tell start new.hall w' × (w'.told.failed ≡ true)
 
 -- how many instances and pages there are is as before
 abbrev pub IsSame : {G : Type 0} → Driver G → Driver G → Type 0

@@ -1,35 +1,28 @@
 //! The lines of a script, one after another, on a hall.
 
-ghost use Rattle.std.specs.Prelude.{◌≡◌, ◌+◌, ◌<◌, ◌≤◌, ◌⊎◌, ℕ, true, List, [], IfErr, IfOk, IsErrAnd, OnErr, OnOk, Some, length};
-ghost use Rattle.sd_base.specs.declared.refusal.Refusal.TheVariants as R;
-ghost use Rattle.sd_base.specs.Streams.{Rises};
+ghost use Rattle.std.specs.Prelude.{◌≡◌, ◌+◌, ◌<◌, ◌≤◌, ℕ, true, List, [], IfOk, OnErr, OnOk, Some, length};
 ghost use Rattle.sd_world.specs.Serving.{Core, telling};
 ghost use Rattle.sd_hall.specs.Keeping.{Keeps};
 ghost use Rattle.sd_forms.specs.declared.line.Line.{Line};
 ghost use Rattle.sd_serve.specs.Bodies.{IsRigIn, fits_in};
-ghost use Rattle.sd_serve.specs.Served.{IsServed};
-ghost use Rattle.sd_model.specs.declared.event.Reply.{Reply};
 ghost use Rattle.sd_pull.specs.Bodies.{status_in};
-ghost use Rattle.sd_pull.specs.Driven.{IsIn, IsSomewhere, StaysIn, is_did};
-ghost use Rattle.sd_drive.specs.Emptying.{BreaksBy, BreaksIn, IsAlone, OpensAt, OpensBy, OpensTo, StopsIn, copies_from, pools_from, stands_at};
-ghost use Rattle.sd_pull.specs.Running.{Breaks, Start};
-ghost use Rattle.sd_pull.specs.Driving.{Cursor, World, IsTold, is_down, is_up, lister_by};
+ghost use Rattle.sd_pull.specs.Driven.{IsIn};
+ghost use Rattle.sd_pull.specs.Running.{Start};
+ghost use Rattle.sd_pull.specs.Driving.{IsTold, World, lister_by};
 ghost use Rattle.sd_forms.specs.declared.line.Form.TheVariants as form;
 ghost use Rattle.sd_pull.specs.Lines.{Names, event_of, rolls_back};
-ghost use Rattle.sd_drive.specs.Recovering.{IsRestarting, LineRecovers, RecoversNow, RecoversSome, RestartBreaks, Restarts, RestartsSome};
-ghost use Rattle.sd_drive.specs.Reaching.{AreDriven, AtLine, DrivesLine, DrivesSome, IsJoining, IsOpening, IsPlain, IsRolledBack, IsSame, IsShort, JoinBreaks, Joins, JoinsAll, JoinsNow, JoinsSome, Knows, OpensSome, Reached, Undoes, UndoesAll, UndoesSome, at_ordinal, begin_of, ordinal_in};
-ghost use Rattle.sd_pull.specs.Replies.{began_by, is_joined, is_rows, is_step};
+ghost use Rattle.sd_rise.specs.Rising.{HasRisen};
+ghost use Rattle.sd_drive.specs.Recovering.{LineRecovers, RecoversNow, RecoversSome};
+ghost use Rattle.sd_drive.specs.Reaching.{AreDriven, AtLine, DrivesLine, DrivesSome, IsJoining, IsPlain, IsRolledBack, IsSame, IsShort, JoinsNow, JoinsSome, Knows, Reached, Undoes, UndoesAll, UndoesSome, at_ordinal, ordinal_in};
 
-use crate::emptying::{Going, going_of};
 use crate::forms::{event_by, lone_event, ordinal};
-use sd_base::{InstNo, Memory, PageNo, Refusal, Status, TxnId};
+use sd_base::{InstNo, Memory, TxnId};
 use sd_book::Book;
 use sd_hall::Hall;
 use sd_model::Event;
-use sd_pull::{
-    Outcome, Owner, began, is_did, is_failed, is_joined, is_rows, is_step, operate, recover,
-};
+use sd_pull::{Outcome, Owner, began, is_did, is_joined, is_rows, is_step, operate, recover};
 use sd_rig::Rig;
+use sd_rise::{Rise, inst_no, is_down, is_up, page_no, status_of};
 use sd_script::{Form, Line};
 use std::alloc::Global;
 
@@ -44,13 +37,17 @@ pub struct Driver<G> {
 }
 
 impl<G: Rig> Driver<G> {
-    /// A driver of scripts with so many instances and pages. It takes no memory.
-    pub fn new(alloc: Global, hall: Hall<G>, insts: u8, pages: u16) -> Driver<G>
-        ensures hall { result.hall ≡ hall }
-        ensures insts { result.insts ≡ insts }
-        ensures pages { result.pages ≡ pages }
+    /// A driver of the hall that rose, before the first line. It takes no memory.
+    pub fn new(alloc: Global, rise: Rise<G>) -> Driver<G>
+        ensures hall { result.hall ≡ rise.hall }
+        ensures insts { result.insts ≡ rise.insts }
+        ensures pages { result.pages ≡ rise.pages }
         ensures txns { result.txns.items ≡ [] }
+        ensures reached { (start : Start G) (lines : List Line) (w : World)
+            → HasRisen (telling G.seen G.leaves G.moment G.since G.faults) start lines rise w
+            → Reached (telling G.seen G.leaves G.moment G.since G.faults) start lines 0 result w }
     {
+        let (hall, insts, pages) = rise.into_parts();
         Driver {
             hall,
             insts,
@@ -73,239 +70,6 @@ impl<G: Rig> Driver<G> {
         ensures rig { IsRigIn result.1 self.hall.body }
     {
         self.hall.close()
-    }
-
-    /// Each instance that is down recovers itself, in rising order, with the pulls of the pages that this needs; then the
-    /// instances join, one after another; then each instance of the complex that isn't up lets its pages go, and writes one before
-    /// that it has changed. The entries have session 0 and line 0. A recovery or a join that is refused is noted, as one for want
-    /// of room or numbers, and the lines of its instance will be refused as Down.
-    ///
-    /// `Failed` comes where a device failed: that event is noted, no other is made, and nothing is to be driven. After `Memory`
-    /// what happened so far is noted, each entry the one that was due.
-    pub fn opening(&mut self) -> Result<(), Refusal>
-        requires kept { (start : Core) × Keeps (telling G.seen G.leaves G.moment G.since G.faults) start self.old.hall }
-        requires empty { self.old.hall.book.entries ≡ [] }
-        requires none { self.old.txns.items ≡ [] }
-        requires some { 1 ≤ self.old.insts }
-        requires most { self.old.insts ≤ 8 }
-        ensures opened { OnOk result ((start : Core) (lines : List Line) (rig : G) → IsRigIn rig self.old.hall.body
-            → Keeps (telling G.seen G.leaves G.moment G.since G.faults) start self.old.hall
-            → (w : World) × Reached (telling G.seen G.leaves G.moment G.since G.faults) (begin_of self.old lines start rig) lines 0 self.new w) }
-        ensures errors { IfErr result (λ n. (n ≡ R.Memory) ⊎ (n ≡ R.Failed)) }
-        ensures memory { IsErrAnd result (λ n. n ≡ R.Memory) → (start : Core) (lines : List Line) (rig : G)
-            → IsRigIn rig self.old.hall.body
-            → Keeps (telling G.seen G.leaves G.moment G.since G.faults) start self.old.hall
-            → (w : World) × IsIn (telling G.seen G.leaves G.moment G.since G.faults) (begin_of self.old lines start rig) self.new.hall w }
-        ensures breaks { IsErrAnd result (λ n. n ≡ R.Failed) → (start : Core) (lines : List Line) (rig : G)
-            → IsRigIn rig self.old.hall.body
-            → Keeps (telling G.seen G.leaves G.moment G.since G.faults) start self.old.hall → (left : G) → IsRigIn left self.new.hall.body
-            → Breaks (telling G.seen G.leaves G.moment G.since G.faults) (begin_of self.old lines start rig) left }
-        ensures kept { (start : Core) → Keeps (telling G.seen G.leaves G.moment G.since G.faults) start self.old.hall
-            → Keeps (telling G.seen G.leaves G.moment G.since G.faults) start self.new.hall }
-        ensures insts { self.new.insts ≡ self.old.insts }
-        ensures pages { self.new.pages ≡ self.old.pages }
-    {
-        self.restart_all()?;
-        self.join_each()?;
-        self.empty_pools()
-    }
-
-    // Each instance that is down recovers itself, in rising order.
-    fn restart_all(&mut self) -> Result<(), Refusal>
-        requires at { IsRestarting (telling G.seen G.leaves G.moment G.since G.faults) self.old 1 }
-        ensures restarted { OnOk result (Restarts (telling G.seen G.leaves G.moment G.since G.faults) self.old self.new 1 9) }
-        ensures errors { IfErr result (λ n. (n ≡ R.Memory) ⊎ (n ≡ R.Failed)) }
-        ensures memory { IsErrAnd result (λ n. n ≡ R.Memory) → RestartsSome (telling G.seen G.leaves G.moment G.since G.faults)
-            self.old self.new 1 }
-        ensures breaks { IsErrAnd result (λ n. n ≡ R.Failed)
-            → RestartBreaks (telling G.seen G.leaves G.moment G.since G.faults) self.old self.new 1 }
-        ensures same { IsSame self.old self.new }
-    {
-        for number in 0..8u8 {
-            self.restart(inst_no(number + 1))?;
-        }
-        Ok(())
-    }
-
-    // An instance recovers itself, where it is down. What refuses it is noted.
-    fn restart(&mut self, inst: InstNo) -> Result<(), Refusal>
-        requires at { IsRestarting (telling G.seen G.leaves G.moment G.since G.faults) self.old inst }
-        requires low { 1 ≤ inst }
-        requires high { inst ≤ 8 }
-        ensures restarted { OnOk result (Restarts (telling G.seen G.leaves G.moment G.since G.faults)
-            self.old self.new inst (inst + 1)) }
-        ensures errors { IfErr result (λ n. (n ≡ R.Memory) ⊎ (n ≡ R.Failed)) }
-        ensures memory { IsErrAnd result (λ n. n ≡ R.Memory) → RestartsSome (telling G.seen G.leaves G.moment G.since G.faults)
-            self.old self.new inst }
-        ensures breaks { IsErrAnd result (λ n. n ≡ R.Failed)
-            → RestartBreaks (telling G.seen G.leaves G.moment G.since G.faults) self.old self.new inst }
-        ensures same { IsSame self.old self.new }
-    {
-        if !is_down(status_of(&self.hall, inst)) {
-            return Ok(());
-        }
-        let of = Owner {
-            session: 0,
-            line: 0,
-            is_opening: true,
-        };
-        match recover(&mut self.hall, of, inst)? {
-            Outcome::Broken => Err(Refusal::Failed),
-            _ => Ok(()),
-        }
-    }
-
-    // The instances join, one after another.
-    fn join_each(&mut self) -> Result<(), Refusal>
-        requires at { IsOpening (telling G.seen G.leaves G.moment G.since G.faults) self.old 1 }
-        requires most { self.old.insts ≤ 8 }
-        ensures joined { OnOk result (JoinsAll (telling G.seen G.leaves G.moment G.since G.faults) self.old self.new 1) }
-        ensures errors { IfErr result (λ n. (n ≡ R.Memory) ⊎ (n ≡ R.Failed)) }
-        ensures memory { IsErrAnd result (λ n. n ≡ R.Memory) → OpensSome (telling G.seen G.leaves G.moment G.since G.faults)
-            self.old self.new 1 }
-        ensures breaks { IsErrAnd result (λ n. n ≡ R.Failed) → JoinBreaks (telling G.seen G.leaves G.moment G.since G.faults)
-            self.old self.new 1 }
-        ensures same { IsSame self.old self.new }
-    {
-        let insts = self.insts;
-        for number in 0..insts {
-            self.join(inst_no(number + 1))?;
-        }
-        Ok(())
-    }
-
-    // An instance joins.
-    fn join(&mut self, inst: InstNo) -> Result<(), Refusal>
-        requires at { IsOpening (telling G.seen G.leaves G.moment G.since G.faults) self.old inst }
-        ensures joined { OnOk result (Joins (telling G.seen G.leaves G.moment G.since G.faults) self.old self.new inst) }
-        ensures errors { IfErr result (λ n. (n ≡ R.Memory) ⊎ (n ≡ R.Failed)) }
-        ensures memory { IsErrAnd result (λ n. n ≡ R.Memory) → StaysIn (telling G.seen G.leaves G.moment G.since G.faults)
-            self.old.hall self.new.hall }
-        ensures breaks { IsErrAnd result (λ n. n ≡ R.Failed) → JoinBreaks (telling G.seen G.leaves G.moment G.since G.faults)
-            self.old self.new inst }
-        ensures same { IsSame self.old self.new }
-    {
-        self.open_by(Event::Join { inst })?;
-        Ok(())
-    }
-
-    // Does an event of the opening. Whether it was answered Did.
-    fn open_by(&mut self, e: Event) -> Result<bool, Refusal>
-        requires served { IsServed e }
-        requires at { IsSomewhere (telling G.seen G.leaves G.moment G.since G.faults) self.old.hall }
-        requires alone { IsAlone e }
-        ensures done { IfOk result (λ did. (r : Reply) × (is_did r ≡ did)
-            × OpensBy (telling G.seen G.leaves G.moment G.since G.faults) self.old self.new e r) }
-        ensures errors { IfErr result (λ n. (n ≡ R.Memory) ⊎ (n ≡ R.Failed)) }
-        ensures memory { IsErrAnd result (λ n. n ≡ R.Memory) → StaysIn (telling G.seen G.leaves G.moment G.since G.faults)
-            self.old.hall self.new.hall }
-        ensures breaks { IsErrAnd result (λ n. n ≡ R.Failed) → BreaksBy (telling G.seen G.leaves G.moment G.since G.faults)
-            self.old self.new e }
-        ensures same { IsSame self.old self.new }
-    {
-        self.hall.call(0, 0, e)?;
-        if is_failed(self.hall.last()) {
-            return Err(Refusal::Failed);
-        }
-        Ok(is_did(self.hall.last()))
-    }
-
-    // The pool of each instance that isn't up is emptied, in rising order.
-    fn empty_pools(&mut self) -> Result<(), Refusal>
-        requires at { OpensAt (telling G.seen G.leaves G.moment G.since G.faults) self.old (pools_from 1) }
-        ensures emptied { OnOk result (OpensTo (telling G.seen G.leaves G.moment G.since G.faults)
-            self.old self.new (pools_from 1) (pools_from 9)) }
-        ensures errors { IfErr result (λ n. (n ≡ R.Memory) ⊎ (n ≡ R.Failed)) }
-        ensures memory { IsErrAnd result (λ n. n ≡ R.Memory)
-            → StopsIn (telling G.seen G.leaves G.moment G.since G.faults) self.old self.new (pools_from 1) }
-        ensures breaks { IsErrAnd result (λ n. n ≡ R.Failed)
-            → BreaksIn (telling G.seen G.leaves G.moment G.since G.faults) self.old self.new (pools_from 1) }
-        ensures same { IsSame self.old self.new }
-    {
-        for number in 0..8u8 {
-            self.empty_pool(inst_no(number + 1))?;
-        }
-        Ok(())
-    }
-
-    // The pages of an instance that isn't up go from its pool, in rising order.
-    fn empty_pool(&mut self, inst: InstNo) -> Result<(), Refusal>
-        requires at { OpensAt (telling G.seen G.leaves G.moment G.since G.faults) self.old (pools_from inst) }
-        requires low { 1 ≤ inst }
-        requires high { inst ≤ 8 }
-        ensures emptied { OnOk result (OpensTo (telling G.seen G.leaves G.moment G.since G.faults)
-            self.old self.new (pools_from inst) (pools_from (inst + 1))) }
-        ensures errors { IfErr result (λ n. (n ≡ R.Memory) ⊎ (n ≡ R.Failed)) }
-        ensures memory { IsErrAnd result (λ n. n ≡ R.Memory)
-            → StopsIn (telling G.seen G.leaves G.moment G.since G.faults) self.old self.new (pools_from inst) }
-        ensures breaks { IsErrAnd result (λ n. n ≡ R.Failed)
-            → BreaksIn (telling G.seen G.leaves G.moment G.since G.faults) self.old self.new (pools_from inst) }
-        ensures same { IsSame self.old self.new }
-    {
-        let status = status_of(&self.hall, inst);
-        if is_up(status) {
-            return Ok(());
-        }
-        for number in 0..1024u16 {
-            self.let_go(inst, page_no(number))?;
-        }
-        Ok(())
-    }
-
-    // The page goes from the instance's pool, where it is there and the instance isn't up.
-    fn let_go(&mut self, inst: InstNo, page: PageNo) -> Result<(), Refusal>
-        requires at { OpensAt (telling G.seen G.leaves G.moment G.since G.faults) self.old (copies_from inst page) }
-        requires low { 1 ≤ inst }
-        requires high { inst ≤ 8 }
-        requires range { page < 1024 }
-        ensures gone { OnOk result (OpensTo (telling G.seen G.leaves G.moment G.since G.faults)
-            self.old self.new (copies_from inst page) (copies_from inst (page + 1))) }
-        ensures errors { IfErr result (λ n. (n ≡ R.Memory) ⊎ (n ≡ R.Failed)) }
-        ensures memory { IsErrAnd result (λ n. n ≡ R.Memory)
-            → StopsIn (telling G.seen G.leaves G.moment G.since G.faults) self.old self.new (copies_from inst page) }
-        ensures breaks { IsErrAnd result (λ n. n ≡ R.Failed)
-            → BreaksIn (telling G.seen G.leaves G.moment G.since G.faults) self.old self.new (copies_from inst page) }
-        ensures same { IsSame self.old self.new }
-    {
-        match going_of(&self.hall, inst, page) {
-            Going::Stays => Ok(()),
-            Going::Goes => self.evict(inst, page),
-            Going::IsWritten => self.write_out(inst, page),
-        }
-    }
-
-    // The page is written, and goes.
-    fn write_out(&mut self, inst: InstNo, page: PageNo) -> Result<(), Refusal>
-        requires at { OpensAt (telling G.seen G.leaves G.moment G.since G.faults) self.old (stands_at (Cursor.Flushes inst page)) }
-        ensures gone { OnOk result (OpensTo (telling G.seen G.leaves G.moment G.since G.faults)
-            self.old self.new (stands_at (Cursor.Flushes inst page)) (copies_from inst (page + 1))) }
-        ensures errors { IfErr result (λ n. (n ≡ R.Memory) ⊎ (n ≡ R.Failed)) }
-        ensures memory { IsErrAnd result (λ n. n ≡ R.Memory)
-            → StopsIn (telling G.seen G.leaves G.moment G.since G.faults) self.old self.new (stands_at (Cursor.Flushes inst page)) }
-        ensures breaks { IsErrAnd result (λ n. n ≡ R.Failed)
-            → BreaksIn (telling G.seen G.leaves G.moment G.since G.faults) self.old self.new (stands_at (Cursor.Flushes inst page)) }
-        ensures same { IsSame self.old self.new }
-    {
-        if !self.open_by(Event::Flush { inst, page })? {
-            return Ok(());
-        }
-        self.evict(inst, page)
-    }
-
-    // The copy goes.
-    fn evict(&mut self, inst: InstNo, page: PageNo) -> Result<(), Refusal>
-        requires at { OpensAt (telling G.seen G.leaves G.moment G.since G.faults) self.old (stands_at (Cursor.Evicts inst page)) }
-        ensures gone { OnOk result (OpensTo (telling G.seen G.leaves G.moment G.since G.faults)
-            self.old self.new (stands_at (Cursor.Evicts inst page)) (copies_from inst (page + 1))) }
-        ensures errors { IfErr result (λ n. (n ≡ R.Memory) ⊎ (n ≡ R.Failed)) }
-        ensures memory { IsErrAnd result (λ n. n ≡ R.Memory)
-            → StopsIn (telling G.seen G.leaves G.moment G.since G.faults) self.old self.new (stands_at (Cursor.Evicts inst page)) }
-        ensures breaks { IsErrAnd result (λ n. n ≡ R.Failed)
-            → BreaksIn (telling G.seen G.leaves G.moment G.since G.faults) self.old self.new (stands_at (Cursor.Evicts inst page)) }
-        ensures same { IsSame self.old self.new }
-    {
-        self.open_by(Event::Evict { inst, page })?;
-        Ok(())
     }
 
     /// Does what the lines say, one after another. After `Memory` the book has what happened so far, each entry the one that was
@@ -585,42 +349,4 @@ fn lister<G: Rig>(hall: &Hall<G>, insts: u8) -> InstNo
         }
     }
     inst_no(1)
-}
-
-// How the instance stands.
-fn status_of<G: Rig>(hall: &Hall<G>, inst: InstNo) -> Status
-    requires fits { (w : Core) × fits_in G.seen G.leaves hall.now.body w }
-    ensures { result ≡ status_in hall.now.body inst }
-{
-    match hall.complex() {
-        Some(c) => c.status(inst),
-        None => Status::Closed,
-    }
-}
-
-pub(crate) fn is_up(status: Status) -> bool
-    ensures { result ≡ is_up status }
-{
-    matches!(status, Status::Up)
-}
-
-fn is_down(status: Status) -> bool
-    ensures { result ≡ is_down status }
-{
-    matches!(status, Status::Down)
-}
-
-fn inst_no(n: u8) -> InstNo
-    requires some { 1 ≤ n }
-    requires most { n ≤ 8 }
-    ensures { result ≡ n }
-{
-    InstNo::new(n).unwrap()
-}
-
-fn page_no(n: u16) -> PageNo
-    requires { n < 1024 }
-    ensures { result ≡ n }
-{
-    PageNo::new(n).unwrap()
 }

@@ -4,23 +4,20 @@
 //! (`Drives` of sd_pull).
 //! Keeps: that the hall is in a world to which its entries drive (`IsIn` of sd_pull), whether its complex is open or closed.
 //! Promises: the entries are those that the lines are due, with the pulls of their pages and the undos of their rollbacks, and no
-//! others (`Driver::replay`, `told`, `memory`). Before the first line each instance that is down recovers itself, then the
-//! instances join, and then pools of instances that aren't up are emptied (`Driver::opening`). A line that joins or recovers all
-//! looks at each instance, and goes on up to the first refusal.
-//! Refuses: `Memory`, after which what was noted was due; `Failed` in the opening alone, where the rig's count of faults rose.
-//! Knows nothing of: text, reports, what an event does, how a page comes.
-//! Stands on: sd_base, sd_model, sd_book, sd_rig, sd_places, sd_pagelock, sd_world, sd_state, sd_fits, sd_serve, sd_forms,
-//! sd_script, sd_hall, sd_pull.
+//! others (`Driver::replay`, `told`, `memory`). A line that joins or recovers all looks at each instance, and goes on up to the
+//! first refusal.
+//! Refuses: `Memory`, after which what was noted was due.
+//! Knows nothing of: text, reports, what is done before the first line (sd_rise), what an event does, how a page comes.
+//! Stands on: sd_base, sd_model, sd_book, sd_rig, sd_places, sd_world, sd_serve, sd_forms, sd_script, sd_hall, sd_pull, sd_rise.
 //! Held by the caller: that the lines stand as the grammar of scripts has them (`AreDriven`).
 //!
 //! To change:
 //! - free: bodies, proofs
-//! - dear: the clauses of `replay` and `opening`
+//! - dear: the clauses of `replay`
 //! - frozen: nothing
 #![tactic(auto)]
 
 mod driver;
-mod emptying;
 mod forms;
 
 pub use driver::Driver;

@@ -29,7 +29,9 @@ use Rattle.sd_hall.specs.Keeping.{Keeps}
 use Rattle.sd_hall.specs.declared.hall.Hall.{Hall}
 use Rattle.sd_pull.specs.Driving.{IsTold, World}
 use Rattle.sd_pull.specs.Driven.{IsIn}
-use Rattle.sd_drive.specs.Reaching.{Reached, before, begin_of}
+use Rattle.sd_rise.specs.declared.rise.Rise.{Rise}
+use Rattle.sd_rise.specs.Rising.{before, begin_of}
+use Rattle.sd_drive.specs.Reaching.{Reached}
 use Rattle.sd_pull.specs.Running.{Breaks, Led, Start}
 use Rattle.sd_drive.specs.declared.driver.Driver.{Driver}
 use Rattle.sd_pull.proofs.Running.{drives-leads, ran-led}
@@ -41,7 +43,7 @@ use Rattle.sd_status.specs.Reporting.{Delivers, TellsDamaged, TellsUnopened}
 use Rattle.sd_top.specs.Opening.{AreRead, LedFrom, Opens, frames_of, opening, opening_world}
 use Rattle.sd_top.specs.declared.replaying.Ended.{Ended}
 use Rattle.sd_top.specs.Unopened.{IsEnded, IsOpened, IsUnopened}
-use Rattle.sd_top.specs.Outcome.{Ends, FailsAtOnce, FailsLater, Gave, Replayed, Answers, Outcome}
+use Rattle.sd_top.specs.Outcome.{Ends, FailsLater, Gave, Replayed, Answers, Outcome}
 use Rattle.sd_top.proofs.Scripts.{script_size}
 
 -- ---- the opening
@@ -53,7 +55,7 @@ has_rig {G} tell start hall keeps = go hall.body keeps.core keeps.fits where
   go None w f = absurd f
   go (Some body) w f = (rig_of body, refl)
 
--- the start that a driver of so many instances and pages has
+-- the start that a hall of so many instances and pages has
 pub opens_as : {G : Type 0} (insts pages : ℕ) (lines : List Line) (devices : DeviceImages) (now : G) (table : List (Rid × List ℕ))
     → insts ≡ insts_of lines → pages ≡ pages_of lines
     → record { world = before insts pages lines (opening_core (frames_of lines) devices); rig = now; table = table }
@@ -80,14 +82,14 @@ module _ {G : Type 0} (tell : Telling G) (lines : List Line) (rig : G) where
   same-opens : (table table' : List (Rid × List ℕ)) (now : G) → table' ≡ table → Opens tell rig now table → Opens tell rig now table'
   same-opens table table' now is opens = subst (λ (t : List (Rid × List ℕ)). Opens tell rig now t) (sym is) opens
 
-  -- a driver is made of a hall that was opened, and stands before the opening
-  pub before_opening : (first : Hall G) (driver : Driver G) → Keeps tell (opening_core (frames_of lines) (tell.seen rig)) first
+  -- a hall that was opened stands before the opening
+  pub before_opening : (first : Hall G) (rise : Rise G) → Keeps tell (opening_core (frames_of lines) (tell.seen rig)) first
       → DevicesAreSound (tell.seen rig) → IsRecovered (tell.seen rig) first.book.opening
       → ((now : G) → IsRigIn now first.body → AreRead tell rig now) → ((now : G) → IsRigIn now first.body → tell.faults now ≡ tell.faults rig)
-      → Keeps tell (opening_core (frames_of lines) (tell.seen rig)) driver.hall → driver.hall.body ≡ first.body
-      → driver.hall.book.opening ≡ first.book.opening → driver.hall.book.entries ≡ [] → driver.insts ≡ insts_of lines
-      → driver.pages ≡ pages_of lines → driver.txns.items ≡ [] → IsUnopened tell lines rig driver
-  before_opening first driver kept sound recovered read quiet keeps body table entries insts pages txns =
+      → Keeps tell (opening_core (frames_of lines) (tell.seen rig)) rise.hall → rise.hall.body ≡ first.body
+      → rise.hall.book.opening ≡ first.book.opening → rise.hall.book.entries ≡ [] → rise.insts ≡ insts_of lines
+      → rise.pages ≡ pages_of lines → IsUnopened tell lines rig rise
+  before_opening first rise kept sound recovered read quiet keeps body table entries insts pages =
       let (now, has) = has_rig tell (opening_core (frames_of lines) (tell.seen rig)) first kept in
       record {
         now = now;
@@ -102,11 +104,10 @@ module _ {G : Type 0} (tell : Telling G) (lines : List Line) (rig : G) where
         entries = entries;
         insts = insts;
         pages = pages;
-        txns = txns;
       }
 
   -- the opening is done
-  pub opened_by : (old new : Driver G) (w : World) (u : IsUnopened tell lines rig old)
+  pub opened_by : (old : Rise G) (new : Driver G) (w : World) (u : IsUnopened tell lines rig old)
       → Reached tell (begin_of old lines (opening_core (frames_of lines) (tell.seen rig)) u.now) lines 0 new w → IsOpened tell lines rig new w
   opened_by old new w u reached =
       let is = opens_as old.insts old.pages lines (tell.seen rig) u.now old.hall.book.opening u.insts u.pages in
@@ -312,6 +313,23 @@ no_bad : (source source' : SourceSide) (text : List ℕ) (lines : List Line) →
 no_bad source source' text lines is script got gave bad =
     let same : got ≡ text = gave_all source source' got text gave is (script_size text lines script) in
     no_bad_script text lines bad.0 script (subst (λ (t : List ℕ). IsBadAt t bad.0) same bad.1)
+
+-- nothing was begun, for want of memory
+pub answers_unbegun : {G : Type 0} (tell : Telling G) (s : Status) (source source' : SourceSide) (old new : Ends G) (book : Option History)
+    → s ≡ status.NoMemory → book ≡ None → new.sink.written ≡ old.sink.written → new.rig ≡ old.rig → Outcome tell s source source' old new book
+answers_unbegun tell s source source' old new book is none kept same =
+    subst (λ (x : Status). Outcome tell x source source' old new book) (sym is) (inl (none, kept, same))
+
+-- nothing was taken
+pub untaken : (left : Option (List ℕ)) → (text : List ℕ) × (length text ≤ 4194305) × Taken left text left
+untaken None = ([], omega arith, refl)
+untaken (Some left) = ([], omega arith, (left, refl, refl))
+
+-- the words of a command aren't told as faulty
+pub tells_no_usage : {G : Type 0} (tell : Telling G) (s : Status) (source source' : SourceSide) (old new : Ends G) (book : Option History)
+    → Outcome tell s source source' old new book → s ≡ status.Usage → ⊥
+tells_no_usage tell s source source' old new book outcome is =
+    subst (λ (x : Status). Outcome tell x source source' old new book) is outcome
 
 pub completes : {G : Type 0} (tell : Telling G) (s : Status) (source source' : SourceSide) (old new : Ends G) (book : Option History) (text : List ℕ)
     (lines : List Line) → Outcome tell s source source' old new book → source.left ≡ Some text → IsScript text lines → DevicesAreSound (tell.seen old.rig)

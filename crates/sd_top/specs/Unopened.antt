@@ -1,4 +1,4 @@
--- A driver before the opening and behind it, and what its lines leave.
+-- A hall before the opening, its driver behind it, and what the lines leave.
 use Rattle.std.specs.Prelude.{◌≡◌, List, [], OnOk}
 use Rattle.sd_forms.specs.declared.line.Line.{Line}
 use Rattle.sd_script.specs.Order.{insts_of, pages_of}
@@ -6,6 +6,7 @@ use Rattle.sd_world.specs.Serving.{Telling}
 use Rattle.sd_fits.specs.Opened.{opening_core}
 use Rattle.sd_serve.specs.Bodies.{IsRigIn}
 use Rattle.sd_hall.specs.Keeping.{Keeps}
+use Rattle.sd_rise.specs.declared.rise.Rise.{Rise}
 use Rattle.sd_drive.specs.declared.driver.Driver.{Driver}
 use Rattle.sd_pull.specs.Driving.{IsTold, World}
 use Rattle.sd_drive.specs.Reaching.{Reached}
@@ -13,15 +14,14 @@ use Rattle.sd_top.specs.declared.replaying.Ended.{Ended}
 use Rattle.sd_top.specs.Opening.{LedFrom, Opens, frames_of, opening}
 
 -- Nothing has happened in its hall, which was opened from the devices `rig` as the first line wants it, and has them as they are now.
-pub record IsUnopened {G : Type 0} (tell : Telling G) (lines : List Line) (rig : G) (driver : Driver G) : Type 0 where
+pub record IsUnopened {G : Type 0} (tell : Telling G) (lines : List Line) (rig : G) (rise : Rise G) : Type 0 where
   pub now : G
-  pub has : IsRigIn now driver.hall.body
-  pub opens : Opens tell rig now driver.hall.book.opening
-  pub keeps : Keeps tell (opening_core (frames_of lines) (tell.seen rig)) driver.hall
-  pub entries : driver.hall.book.entries ≡ []
-  pub insts : driver.insts ≡ insts_of lines
-  pub pages : driver.pages ≡ pages_of lines
-  pub txns : driver.txns.items ≡ []
+  pub has : IsRigIn now rise.hall.body
+  pub opens : Opens tell rig now rise.hall.book.opening
+  pub keeps : Keeps tell (opening_core (frames_of lines) (tell.seen rig)) rise.hall
+  pub entries : rise.hall.book.entries ≡ []
+  pub insts : rise.insts ≡ insts_of lines
+  pub pages : rise.pages ≡ pages_of lines
 
 -- The opening is done: it has led to this world, and the lines are to come.
 pub record IsOpened {G : Type 0} (tell : Telling G) (lines : List Line) (rig : G) (driver : Driver G) (w : World) : Type 0 where

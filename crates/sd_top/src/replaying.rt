@@ -22,6 +22,7 @@ use sd_command::is_command;
 use sd_drive::Driver;
 use sd_hall::Hall;
 use sd_rig::Rig;
+use sd_rise::Rise;
 use sd_script::{Form, Kind, Line, Script};
 use sd_state::Shape;
 use sd_status::{InputError, Status, read_all, report_bad_line, report_book, report_unopened};
@@ -148,32 +149,30 @@ fn replay_lines<K: Sink, G: Rig>(alloc: Global, lines: &[Line], sink: &mut K, ri
         Ok(mut hall) => {
             // An entry a line, with those of pulls and those that are owed.
             hall.expect(lines.len().saturating_mul(2));
-            let driver = Driver::new(alloc, hall, shape.insts, shape.pages);
-            run(alloc, lines, sink, driver)
+            let rise = Rise::new(hall, shape.insts, shape.pages);
+            run(alloc, lines, sink, rise)
         }
         Err((refusal, rig)) => without_book(report_unopened(alloc, &refusal, sink), rig),
     }
 }
 
 // Lets the complex, whose devices are read, recover and join, and then does what the lines say.
-fn run<K: Sink, G: Rig>(
-    alloc: Global,
-    lines: &[Line],
-    sink: &mut K,
-    mut driver: Driver<G>,
-) -> Done<G>
+fn run<K: Sink, G: Rig>(alloc: Global, lines: &[Line], sink: &mut K, mut rise: Rise<G>) -> Done<G>
     requires script { (text : List ℕ) × IsScript text lines.now }
-    requires unopened { (rig : G) × IsUnopened (telling G.seen G.leaves G.moment G.since G.faults) lines.now rig driver }
+    requires unopened { (rig : G) × IsUnopened (telling G.seen G.leaves G.moment G.since G.faults) lines.now rig rise }
     ensures { (text : List ℕ) (rig : G) → IsScript text lines.now
-        → IsUnopened (telling G.seen G.leaves G.moment G.since G.faults) lines.now rig driver
+        → IsUnopened (telling G.seen G.leaves G.moment G.since G.faults) lines.now rig rise
         → Answers (telling G.seen G.leaves G.moment G.since G.faults) result.status text
         (record { sink = record { written = K.written sink.old; faults = K.faults sink.old }; rig = rig })
         (record { sink = record { written = K.written sink.new; faults = K.faults sink.new }; rig = result.rig }) result.book }
 {
-    match driver.opening() {
-        Ok(()) => run_lines(alloc, lines, sink, driver),
+    match rise.opening() {
+        Ok(()) => {
+            let driver = Driver::new(alloc, rise);
+            run_lines(alloc, lines, sink, driver)
+        }
         Err(refusal) => {
-            let (_, rig) = driver.close();
+            let (_, rig) = rise.close();
             without_book(report_unopened(alloc, &refusal, sink), rig)
         }
     }

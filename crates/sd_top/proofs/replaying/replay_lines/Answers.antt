@@ -27,15 +27,14 @@ run-requires-clause-unopened g c =
     let tell : Telling g.row.G.Denot = telling g.G.Rig.seen g.G.Rig.leaves g.G.Rig.moment g.G.Rig.since g.G.Rig.faults in
     let start = opening_core (frames_of c.args.lines.now) (g.G.Rig.seen c.args.rig) in
     let kept = subst (λ (n : ℕ). Keeps tell (opening_core n (g.G.Rig.seen c.args.rig)) c.in-Ok.hall) c.shape-shape.ensures.frames c.in-Ok.ensures.keeps in
-    let is = c.«new-driver».ensures.hall in
-    let unopened = before_opening tell c.args.lines.now c.args.rig c.in-Ok.hall c.«new-driver».result kept c.in-Ok.ensures.sound
+    let is = c.«new-rise».ensures.hall in
+    let unopened = before_opening tell c.args.lines.now c.args.rig c.in-Ok.hall c.«new-rise».result kept c.in-Ok.ensures.sound
     c.in-Ok.ensures.recovered c.in-Ok.ensures.calms c.in-Ok.ensures.quiet
     (subst (λ (h : Hall g.row.G.Denot). Keeps tell start h) (sym is) (c.expect.ensures.keeps start kept))
     (ap (λ (h : Hall g.row.G.Denot). h.body) is ∙ c.expect.ensures.body)
     (ap (λ (h : Hall g.row.G.Denot). h.book.opening) is ∙ c.expect.ensures.opening)
     (ap (λ (h : Hall g.row.G.Denot). h.book.entries) is ∙ c.expect.ensures.entries ∙ c.in-Ok.ensures.entries)
-    (c.«new-driver».ensures.insts ∙ c.shape-shape.ensures.insts) (c.«new-driver».ensures.pages ∙ c.shape-shape.ensures.pages)
-    c.«new-driver».ensures.txns in
+    (c.«new-rise».ensures.insts ∙ c.shape-shape.ensures.insts) (c.«new-rise».ensures.pages ∙ c.shape-shape.ensures.pages) in
     (c.args.rig, unopened)
 
 pub returns-in-Ok : goal.returns-in-Ok
@@ -43,15 +42,14 @@ returns-in-Ok g c = λ text script.
     let tell : Telling g.row.G.Denot = telling g.G.Rig.seen g.G.Rig.leaves g.G.Rig.moment g.G.Rig.since g.G.Rig.faults in
     let start = opening_core (frames_of c.args.lines.now) (g.G.Rig.seen c.args.rig) in
     let kept = subst (λ (n : ℕ). Keeps tell (opening_core n (g.G.Rig.seen c.args.rig)) c.in-Ok.hall) c.shape-shape.ensures.frames c.in-Ok.ensures.keeps in
-    let is = c.«new-driver».ensures.hall in
-    let unopened = before_opening tell c.args.lines.now c.args.rig c.in-Ok.hall c.«new-driver».result kept c.in-Ok.ensures.sound
+    let is = c.«new-rise».ensures.hall in
+    let unopened = before_opening tell c.args.lines.now c.args.rig c.in-Ok.hall c.«new-rise».result kept c.in-Ok.ensures.sound
     c.in-Ok.ensures.recovered c.in-Ok.ensures.calms c.in-Ok.ensures.quiet
     (subst (λ (h : Hall g.row.G.Denot). Keeps tell start h) (sym is) (c.expect.ensures.keeps start kept))
     (ap (λ (h : Hall g.row.G.Denot). h.body) is ∙ c.expect.ensures.body)
     (ap (λ (h : Hall g.row.G.Denot). h.book.opening) is ∙ c.expect.ensures.opening)
     (ap (λ (h : Hall g.row.G.Denot). h.book.entries) is ∙ c.expect.ensures.entries ∙ c.in-Ok.ensures.entries)
-    (c.«new-driver».ensures.insts ∙ c.shape-shape.ensures.insts) (c.«new-driver».ensures.pages ∙ c.shape-shape.ensures.pages)
-    c.«new-driver».ensures.txns in
+    (c.«new-rise».ensures.insts ∙ c.shape-shape.ensures.insts) (c.«new-rise».ensures.pages ∙ c.shape-shape.ensures.pages) in
     c.run.ensures text c.args.rig script unopened
 
 pub returns-in-Err : goal.returns-in-Err

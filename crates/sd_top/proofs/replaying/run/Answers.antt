@@ -1,9 +1,10 @@
-use Rattle.std.proofs.Common.{arith, refl, subst}
+use Rattle.std.proofs.Common.{◌∙◌, arith, refl, subst}
 use Rattle.std.specs.Prelude.{None}
 use Rattle.sd_world.specs.Serving.{Core, Telling, telling}
 use Rattle.sd_fits.specs.Opened.{opening_core}
 use Rattle.sd_pull.specs.Running.{Breaks, Start}
 use Rattle.sd_pull.specs.Driven.{IsIn}
+use Rattle.sd_rise.specs.Rising.{begin_of}
 use Rattle.sd_status.specs.Sides.{SinkSide}
 use Rattle.sd_top.specs.Opening.{frames_of}
 use Rattle.sd_top.proofs.Answered.{answers_same, answers_unopened, fails_later, led_in, opened_by, opens_as}
@@ -28,8 +29,11 @@ opening-requires-clause-kept g c = let u = c.requires.unopened in (opening_core 
 pub opening-requires-clause-empty : goal.opening-requires-clause-empty
 opening-requires-clause-empty g c = c.requires.unopened.1.entries
 
-pub opening-requires-clause-none : goal.opening-requires-clause-none
-opening-requires-clause-none g c = c.requires.unopened.1.txns
+pub run_lines-requires-clause-insts : goal.run_lines-requires-clause-insts
+run_lines-requires-clause-insts g c = c.«new-driver».ensures.insts ∙ c.opening.ensures.insts ∙ c.requires.unopened.1.insts
+
+pub run_lines-requires-clause-pages : goal.run_lines-requires-clause-pages
+run_lines-requires-clause-pages g c = c.«new-driver».ensures.pages ∙ c.opening.ensures.pages ∙ c.requires.unopened.1.pages
 
 pub run_lines-requires-clause-opened : goal.run_lines-requires-clause-opened
 run_lines-requires-clause-opened g c =
@@ -37,14 +41,17 @@ run_lines-requires-clause-opened g c =
     let tell : Telling g.row.G.Denot = telling g.G.Rig.seen g.G.Rig.leaves g.G.Rig.moment g.G.Rig.since g.G.Rig.faults in
     let (rig, u) = c.requires.unopened in
     let h = c.in-Ok.ensures.opened (opening_core (frames_of lines) (g.G.Rig.seen rig)) lines u.now u.has u.keeps in
-    (rig, h.0, opened_by tell lines rig c.args.driver c.opening.new.self h.0 u h.1)
+    let start = begin_of c.args.rise lines (opening_core (frames_of lines) (g.G.Rig.seen rig)) u.now in
+    (rig, h.0, opened_by tell lines rig c.args.rise c.«new-driver».result h.0 u (c.«new-driver».ensures.reached start lines h.0 h.1))
 
 pub returns-in-Ok : goal.returns-in-Ok
 returns-in-Ok g c = λ text rig script u.
     let lines = c.args.lines.now in
     let tell : Telling g.row.G.Denot = telling g.G.Rig.seen g.G.Rig.leaves g.G.Rig.moment g.G.Rig.since g.G.Rig.faults in
     let h = c.in-Ok.ensures.opened (opening_core (frames_of lines) (g.G.Rig.seen rig)) lines u.now u.has u.keeps in
-    c.run_lines.ensures text rig h.0 script (opened_by tell lines rig c.args.driver c.opening.new.self h.0 u h.1)
+    let start = begin_of c.args.rise lines (opening_core (frames_of lines) (g.G.Rig.seen rig)) u.now in
+    c.run_lines.ensures text rig h.0 script
+    (opened_by tell lines rig c.args.rise c.«new-driver».result h.0 u (c.«new-driver».ensures.reached start lines h.0 h.1))
 
 pub close-rig-requires : goal.close-rig-requires
 close-rig-requires g c =
@@ -55,12 +62,12 @@ close-rig-requires g c =
 pub returns-in-Err : goal.returns-in-Err
 returns-in-Err g c = λ text rig script u.
     let lines = c.args.lines.now in
-    let driver = c.args.driver in
+    let rise = c.args.rise in
     let tell : Telling g.row.G.Denot = telling g.G.Rig.seen g.G.Rig.leaves g.G.Rig.moment g.G.Rig.since g.G.Rig.faults in
     let hall = c.opening.new.self.hall in
     let core : Core = opening_core (frames_of lines) (g.G.Rig.seen rig) in
     let rig' = c.close-rig.result.1 in
-    let is = opens_as driver.insts driver.pages lines (g.G.Rig.seen rig) u.now driver.hall.book.opening u.insts u.pages in
+    let is = opens_as rise.insts rise.pages lines (g.G.Rig.seen rig) u.now rise.hall.book.opening u.insts u.pages in
     let sink : SinkSide = record { written = g.K.Sink.written c.args.sink.now; faults = g.K.Sink.faults c.args.sink.now } in
     let after : SinkSide = record { written = g.K.Sink.written c.report_unopened.new.sink; faults = g.K.Sink.faults c.report_unopened.new.sink } in
     answers_same tell text (record { sink = sink; rig = rig }) c.report_unopened.result c.without_book.result.status after after rig'
@@ -73,9 +80,9 @@ returns-in-Err g c = λ text rig script u.
       hall.book.opening,
       hall.book.entries,
       there.0,
-      led_in tell lines rig u.now rig' driver.hall.book.opening hall there.0 (λ r dev le. g.met.G.Rig.leaves_seen r dev le) u.opens
+      led_in tell lines rig u.now rig' rise.hall.book.opening hall there.0 (λ r dev le. g.met.G.Rig.leaves_seen r dev le) u.opens
           (subst (λ (s : Start g.row.G.Denot). IsIn tell s hall there.0) is there.1) c.close-rig.ensures.rig,
     ))
-    (λ e. fails_later tell lines rig u.now rig' driver.hall.book.opening u.opens
+    (λ e. fails_later tell lines rig u.now rig' rise.hall.book.opening u.opens
     (subst (λ (s : Start g.row.G.Denot). Breaks tell s rig') is
     (c.in-Err.ensures.breaks e core lines u.now u.has u.keeps rig' c.close-rig.ensures.rig))))

@@ -1,0 +1,4 @@
+pub mod Finding
+pub mod Pools
+mod Opening
+pub mod Example

@@ -1,0 +1,4 @@
+pub mod Rising
+pub mod Going
+pub mod Emptying
+pub mod Restarting
