@@ -9,7 +9,7 @@
 //! bytes and the records that end them.
 //! Refuses: `Disorder` in `analyse`, and want of memory.
 //! Knows nothing of: devices, pages, other logs.
-//! Stands on: sd_base, sd_page, sd_logrec, sd_rig, sd_log, sd_chain.
+//! Stands on: sd_base, sd_logrec, sd_log, sd_chain.
 //!
 //! To change:
 //! - free: bodies, private helpers

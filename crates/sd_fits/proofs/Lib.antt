@@ -6,7 +6,6 @@ pub mod Worked
 pub mod Still
 pub mod Frames
 pub mod Places
-pub mod Passing
 pub mod Forcing
 pub mod Sealing
 pub mod Values
@@ -20,17 +19,13 @@ pub mod Undoing
 pub mod Turning
 pub mod Falling
 pub mod Refused
-pub mod Putting
-pub mod Room
 pub mod Disk
 pub mod Known
-pub mod Rebuilding
 pub mod Recovering
 pub mod Sums
 pub mod Closing
 pub mod Opening
 pub mod Reopening
 pub mod Opened
-pub mod Settling
 pub mod Framed
 pub mod Bodies

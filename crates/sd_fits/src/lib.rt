@@ -9,8 +9,7 @@
 //! Refuses: nothing.
 //! Knows nothing of: the calls of events.
 //! Stands on: sd_base, sd_model, sd_page, sd_logrec, sd_rig, sd_gate, sd_log, sd_pool, sd_txn, sd_reclock, sd_places, sd_asks,
-//! sd_pagelock, sd_chain, sd_sound, sd_coherent, sd_world, sd_state, sd_seals, sd_undos, sd_changes, sd_opened, sd_moves,
-//! sd_falls, sd_puts, sd_settle.
+//! sd_pagelock, sd_chain, sd_sound, sd_coherent, sd_world, sd_state, sd_undos, sd_changes, sd_opened, sd_falls.
 //! Lends: in `proofs` the lemma of each law (Fitting), and how a complex goes on fitting: where nothing or locks alone change
 //! (Served, Still), where transactions work, turn and end (Heads, Worked, Taking, Turning, Leaving), where pages move, are put or
 //! rebuilt (Places, Passing, Frames, Putting, Rebuilding), where a log grows, is forced (Recording, Changing, Undoing, Sealing,

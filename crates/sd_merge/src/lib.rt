@@ -8,7 +8,7 @@
 //! are its chain (`chains`, `chain`). Both gather the wanted ones log by log and sort once by LSN.
 //! Refuses: nothing but for want of memory.
 //! Knows nothing of: images of pages, which record fits.
-//! Stands on: sd_base, sd_logrec, sd_log, sd_rig, sd_chain.
+//! Stands on: sd_base, sd_logrec, sd_log, sd_chain.
 //! Held by the caller: each record is one of the grammar (`spelled`).
 //!
 //! To change:

@@ -7,8 +7,8 @@
 //! device call (`served`, `rig`).
 //! Refuses: in the order of the causes of sd_model; `Memory` comes wherever a call finds none, and changes nothing.
 //! Knows nothing of: scripts, sessions, how a page comes to an instance.
-//! Stands on: sd_base, sd_model, sd_page, sd_logrec, sd_rig, sd_log, sd_pool, sd_txn, sd_reclock, sd_places, sd_pagelock,
-//! sd_chain, sd_sound, sd_coherent, sd_world, sd_state, sd_changes, sd_fits, sd_moves, sd_work.
+//! Stands on: sd_base, sd_model, sd_page, sd_logrec, sd_rig, sd_pool, sd_txn, sd_reclock, sd_places, sd_pagelock, sd_chain,
+//! sd_sound, sd_world, sd_state, sd_changes, sd_fits, sd_moves, sd_work.
 //! Held by the caller: that the complex fits a world.
 //!
 //! To change:

@@ -1,3 +1,5 @@
+mod RereadFits
+mod FreedFits
 mod Left
 mod Rebuilt
 mod Settled

@@ -39,7 +39,7 @@ use Rattle.sd_fits.specs.Fits.{Fits}
 use Rattle.sd_fits.specs.Serving.{Serving, fits_by}
 use Rattle.sd_fits.proofs.Falling.{numbers_of}
 use Rattle.sd_fits.proofs.Places.{read-fits, read-spares, repaged, turns-repaged}
-use Rattle.sd_fits.proofs.Rebuilding.{freed, freed-fits, frees-lowest}
+use Rattle.sd_recover.proofs.FreedFits.{freed, freed-fits, frees-lowest}
 use Rattle.sd_fits.proofs.Served.{bounds-stay, none-ended}
 use Rattle.sd_recover.specs.Rebuilding.{LeavesLost}
 use Rattle.sd_writer.specs.Breaking.{BreaksBy}

@@ -28,11 +28,11 @@ use Rattle.sd_state.specs.declared.complex.Complex.{Complex}
 use Rattle.sd_fits.specs.Fits.{Fits}
 use Rattle.sd_fits.specs.Serving.{Serving, fits_by, stands_for}
 use Rattle.sd_fits.proofs.Falling.{numbers_of}
-use Rattle.sd_fits.proofs.Putting.{put-fits}
+use Rattle.sd_writer.proofs.PutFits.{put-fits}
 use Rattle.sd_fits.proofs.Recovering.{numbers-step, step-turns, step_core, step_sums}
 use Rattle.sd_fits.proofs.Refused.{IsFor, refused-turns}
 use Rattle.sd_fits.proofs.Served.{bounds-stay, nothing-fits, passed}
-use Rattle.sd_fits.proofs.Settling.{less-fits, reread-fits}
+use Rattle.sd_recover.proofs.RereadFits.{less-fits, reread-fits}
 use Rattle.sd_recover.specs.Recovering.{SettlesOne}
 use Rattle.sd_recover.proofs.Rebuilt.{step-breaks}
 use Rattle.sd_writer.specs.Breaking.{BreaksBy}

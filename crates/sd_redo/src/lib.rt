@@ -8,7 +8,7 @@
 //! the front (`front`, `specs/Replayed.antt`).
 //! Refuses: nothing but for want of memory.
 //! Knows nothing of: where an image is kept, which records a page has, places of records.
-//! Stands on: sd_base, sd_page, sd_logrec, sd_rig, sd_log, sd_chain.
+//! Stands on: sd_base, sd_page, sd_logrec, sd_log, sd_chain.
 //! Held by the caller: a record that is redone is of the page and fits it; the records of a chain change a page (`pages`),
 //! and those of `replay` fit one after another (`joins`).
 //!

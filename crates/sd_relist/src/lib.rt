@@ -8,7 +8,7 @@
 //! `reserves`).
 //! Refuses: want of memory.
 //! Knows nothing of: devices, pages, what a state means, where the log stands.
-//! Stands on: sd_base, sd_page, sd_logrec, sd_rig, sd_log, sd_chain, sd_analysis, sd_txn.
+//! Stands on: sd_base, sd_logrec, sd_log, sd_chain, sd_analysis, sd_txn.
 //!
 //! To change:
 //! - free: bodies, private helpers, `Walks`

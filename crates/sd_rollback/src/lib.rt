@@ -8,8 +8,8 @@
 //! Refuses: what the order of the event's causes says, the first that applies; `Failed` by the force of an End alone, and the instance
 //! has fallen then.
 //! Knows nothing of: scripts, whose turn it is, how a page comes to an instance.
-//! Stands on: sd_base, sd_model, sd_page, sd_logrec, sd_rig, sd_log, sd_txn, sd_reclock, sd_places, sd_pagelock, sd_chain,
-//! sd_sound, sd_world, sd_state, sd_seals, sd_undos, sd_falls, sd_fits.
+//! Stands on: sd_base, sd_model, sd_logrec, sd_rig, sd_log, sd_txn, sd_reclock, sd_places, sd_pagelock, sd_chain, sd_sound,
+//! sd_world, sd_state, sd_seals, sd_undos, sd_falls, sd_fits.
 //! Lends: nothing.
 //! Held by the caller: that the complex fits a world.
 //!

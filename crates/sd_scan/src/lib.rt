@@ -8,7 +8,7 @@
 //! sd_chain); `read_master` answers the master alone (`read`, `sound`).
 //! Refuses: `Damaged` in `scan`, and want of memory; `Unsound` in `read_master`.
 //! Knows nothing of: pages, other logs, what a transaction has open.
-//! Stands on: sd_base, sd_page, sd_logrec, sd_rig, sd_gate, sd_log, sd_chain.
+//! Stands on: sd_base, sd_logrec, sd_rig, sd_gate, sd_log, sd_chain.
 //!
 //! To change:
 //! - free: bodies, private helpers

@@ -12,7 +12,7 @@
 //! but by a force.
 //! Knows nothing of: scripts, replies; bytes, but through the crates below.
 //! Stands on: sd_base, sd_model, sd_page, sd_logrec, sd_rig, sd_gate, sd_twin, sd_log, sd_pool, sd_txn, sd_reclock, sd_places,
-//! sd_asks, sd_pagelock, sd_chain, sd_redo, sd_sound, sd_coherent.
+//! sd_asks, sd_pagelock, sd_chain, sd_sound, sd_coherent.
 //! Lends: in `proofs`, over what a crash may leave, the lemma of each law, and how `Good` goes through a force (Forced, Failed).
 //! Held by the caller: that no fall is due, and that the instance falls which is to fall after a failed force.
 //!

@@ -1,3 +1,4 @@
+mod NoRoom
 mod Armed
 pub mod Failed
 mod Fewer

@@ -32,7 +32,7 @@ use Rattle.sd_state.specs.declared.complex.Complex.{Complex}
 use Rattle.sd_fits.specs.Fits.{Fits}
 use Rattle.sd_fits.specs.Serving.{Serving, fits_by, stands_for}
 use Rattle.sd_fits.proofs.Frames.{frames-held, frames-left}
-use Rattle.sd_fits.proofs.Passing.{kept-spared}
+use Rattle.sd_transfer.proofs.PassFits.{kept-spared}
 use Rattle.sd_fits.proofs.Places.{asked-pages, frames-kept, moved-fits, placed-pages, read-fits, read-serves}
 use Rattle.sd_fits.proofs.Places.{read-spares, repaged}
 use Rattle.sd_fits.proofs.Served.{bounds-stay, nothing-fits, passed, still-serves}

@@ -26,7 +26,7 @@ use Rattle.sd_state.specs.Parts.{Parts, is_active, is_loose, log_at, pool_at}
 use Rattle.sd_state.specs.Values.{Pending}
 use Rattle.sd_state.specs.declared.complex.Complex.{Complex}
 use Rattle.sd_fits.specs.Serving.{Serving, fits_by, stands_for}
-use Rattle.sd_fits.proofs.Passing.{passed-served}
+use Rattle.sd_transfer.proofs.PassFits.{passed-served}
 use Rattle.sd_fits.proofs.Places.{turns-repaged}
 use Rattle.sd_fits.proofs.Refused.{IsFor, active-serves, idle-refuses, refused-serves, unlike}
 use Rattle.sd_fits.proofs.Served.{none-ended}

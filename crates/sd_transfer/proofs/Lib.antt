@@ -1,3 +1,4 @@
+mod PassFits
 pub mod Evicted
 pub mod Asked
 pub mod Dropped

@@ -30,7 +30,7 @@ use Rattle.sd_state.specs.Values.{Pending}
 use Rattle.sd_state.specs.declared.complex.Complex.{Complex}
 use Rattle.sd_fits.specs.Serving.{Serving, fits_by, stands_for}
 use Rattle.sd_fits.proofs.Frames.{frames-held, frames-left}
-use Rattle.sd_fits.proofs.Passing.{kept-spared, passed-served}
+use Rattle.sd_transfer.proofs.PassFits.{kept-spared, passed-served}
 use Rattle.sd_fits.proofs.Places.{frames-kept, turns-repaged}
 use Rattle.sd_fits.proofs.Refused.{IsFor, active-serves, idle-refuses, refused-serves, unlike}
 use Rattle.sd_fits.proofs.Served.{none-ended}

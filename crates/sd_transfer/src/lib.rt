@@ -9,8 +9,8 @@
 //! Refuses: what the order of the event's causes says, the first that applies; `Memory`, by `ask` and `take` alone, changes nothing
 //! that a world tells.
 //! Knows nothing of: whose turn it is, what is noted of an answer.
-//! Stands on: sd_base, sd_model, sd_page, sd_rig, sd_places, sd_asks, sd_pagelock, sd_pool, sd_chain, sd_coherent, sd_sound,
-//! sd_world, sd_state, sd_fits, sd_moves, sd_writer.
+//! Stands on: sd_base, sd_model, sd_page, sd_rig, sd_places, sd_asks, sd_pagelock, sd_pool, sd_chain, sd_sound, sd_world,
+//! sd_state, sd_fits, sd_moves, sd_writer.
 //! Lends: nothing.
 //! Held by the caller: that no fall is due, which `Fits` says.
 //!

@@ -8,7 +8,7 @@
 //! place of a stack that doesn't (`misfit`).
 //! Refuses: `Misfit` in `undone`, and want of memory.
 //! Knows nothing of: devices, twins, groups.
-//! Stands on: sd_base, sd_model, sd_page, sd_logrec, sd_rig, sd_log, sd_chain, sd_analysis.
+//! Stands on: sd_base, sd_model, sd_page, sd_logrec, sd_log, sd_chain, sd_analysis.
 //!
 //! To change:
 //! - free: bodies, private helpers

@@ -8,8 +8,8 @@
 //! Refuses: in the order of the causes of sd_model; `Memory` comes wherever a call but a commit finds none, and changes nothing. Where the
 //! force of a commit failed the instance has fallen (`CutCommit`).
 //! Knows nothing of: pages, records, scripts, sessions.
-//! Stands on: sd_base, sd_model, sd_page, sd_logrec, sd_rig, sd_log, sd_pool, sd_txn, sd_reclock, sd_pagelock, sd_chain,
-//! sd_sound, sd_coherent, sd_world, sd_state, sd_seals, sd_fits, sd_falls.
+//! Stands on: sd_base, sd_model, sd_logrec, sd_rig, sd_log, sd_txn, sd_reclock, sd_chain, sd_sound, sd_world, sd_state,
+//! sd_seals, sd_fits, sd_falls.
 //! Lends: in `proofs`, how a call on a record is refused (`Work`), and how one whose wait is ended is served (`Ending`).
 //! Held by the caller: that the complex fits a world.
 //!

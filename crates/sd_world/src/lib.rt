@@ -7,7 +7,7 @@
 //! Promises: laws, over any core (`laws.rt`): what a refusal tells, what each event keeps, and how runs are put together.
 //! Refuses: nothing.
 //! Knows nothing of: records of logs, images of pages, where a complex keeps what the core says.
-//! Stands on: sd_base, sd_model, sd_rig, sd_places, sd_asks, sd_pagelock.
+//! Stands on: sd_base, sd_model, sd_rig, sd_places, sd_asks.
 //! Lends: in `proofs` the lemma of each law, and in `Serving` that calls in a row are served as one.
 //!
 //! To change:

@@ -1,3 +1,4 @@
+pub mod PutFits
 pub mod Broken
 pub mod Unput
 pub mod Forced

@@ -27,7 +27,7 @@ use Rattle.sd_state.proofs.Masters.{masters-less}
 use Rattle.sd_fits.specs.Fits.{Fits, FitsBounds, FitsDoubts, FitsPages}
 use Rattle.sd_fits.specs.Serving.{Serving, fits_by, stands_for}
 use Rattle.sd_fits.proofs.Falling.{IsElsewhere}
-use Rattle.sd_fits.proofs.Putting.{put-bounds, put-doubts, put-fits, put-pages}
+use Rattle.sd_writer.proofs.PutFits.{put-bounds, put-doubts, put-fits, put-pages}
 use Rattle.sd_fits.proofs.Refused.{IsFor, refused-turns}
 use Rattle.sd_fits.proofs.Served.{bounds-stay, passed}
 use Rattle.sd_writer.specs.Breaking.{BreaksBy}

@@ -40,7 +40,7 @@ use Rattle.sd_fits.proofs.Served.{bounds-stay, none-ended, still-serves}
 use Rattle.sd_fits.proofs.Refused.{IsFor, active-serves, idle-refuses, refused-serves, unlike}
 use Rattle.sd_writer.specs.Breaking.{BreaksBy}
 use Rattle.sd_writer.specs.Writing.{IsWriters, IsWritten, StaysUnwritten}
-use Rattle.sd_fits.proofs.Putting.{put-fits}
+use Rattle.sd_writer.proofs.PutFits.{put-fits}
 use Rattle.sd_writer.proofs.Settled.{settled-page}
 
 -- ---- a page that isn't changed

@@ -8,8 +8,8 @@
 //! Refuses: what the order of the event's causes says, the first that applies; never `Memory`. Once the device of a log fails,
 //! or a write of the data device, the instance has fallen (`down`, `failed`).
 //! Knows nothing of: whose turn it is, what is noted of an answer.
-//! Stands on: sd_base, sd_model, sd_page, sd_logrec, sd_rig, sd_log, sd_pool, sd_txn, sd_reclock, sd_places, sd_asks,
-//! sd_pagelock, sd_chain, sd_coherent, sd_sound, sd_world, sd_state, sd_fits, sd_moves, sd_falls, sd_puts.
+//! Stands on: sd_base, sd_model, sd_page, sd_logrec, sd_rig, sd_log, sd_txn, sd_places, sd_asks, sd_pagelock, sd_chain,
+//! sd_coherent, sd_sound, sd_world, sd_state, sd_fits, sd_moves, sd_falls, sd_puts.
 //! Lends: in `proofs`, how an event by which a device failed and an instance fell is served (`Broken`), and one whose put failed
 //! (`Unput`).
 //! Held by the caller: that no fall is due, which `Fits` says.

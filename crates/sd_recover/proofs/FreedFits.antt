@@ -21,7 +21,7 @@ use Rattle.sd_state.specs.Values.{Pending}
 use Rattle.sd_fits.specs.Fits.{Fits, FitsBounds, FitsPages}
 use Rattle.sd_fits.proofs.Falling.{numbers_of}
 use Rattle.sd_fits.proofs.Places.{put-case}
-use Rattle.sd_fits.proofs.Putting.{put-fits}
+use Rattle.sd_writer.proofs.PutFits.{put-fits}
 
 -- page p is free, and pages have these numbers
 abbrev pub freed : ℕ → (ℕ → ℕ) → Pages → Pages
