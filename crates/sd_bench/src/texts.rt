@@ -5,7 +5,7 @@ ghost use Rattle.std.specs.Prelude.{◌<◌};
 use crate::books::noted;
 use itoa::Buffer;
 use sd_base::Memory;
-use sd_model::Entry;
+use sd_book::Told;
 use sd_report::{in_order, render};
 use sd_script::{Kind, Line, Script};
 use std::alloc::Global;
@@ -64,7 +64,7 @@ fn reports_of(alloc: Global, lines: &[Line], transfers: u32, renders: u32) -> bo
     }
 }
 
-fn are_rendered(alloc: Global, lines: &[Line], entries: &[Entry], renders: u32) -> bool {
+fn are_rendered(alloc: Global, lines: &[Line], entries: Told<'_>, renders: u32) -> bool {
     if !in_order(lines, entries) {
         return false;
     }

@@ -1,205 +1,238 @@
 -- How a book's entries read when one more is noted. They serve the goals of `book`.
-use Rattle.std.proofs.Common.{◌≡◌, ℕ, ◌-◌, suc, Bool, true, false, List, [], ◌∷◌, ◌++◌, length, refl, ap, sym, subst, arith, ◌∙◌}
-use Rattle.std.proofs.lemmas.List.{length_push}
+use Rattle.std.proofs.Common.{◌≡◌, ℕ, ◌+◌, ◌-◌, ◌≤◌, List, [], ◌∷◌, ◌++◌, length, refl, ap, sym, subst, arith, ◌∙◌}
+use Rattle.std.proofs.lemmas.List.{length_push, take_rest}
 use Rattle.sd_base.proofs.Lists.{slice_get-push, stands_at}
 use Rattle.std.specs.Borrow.{Bor}
-use Rattle.std.specs.Prelude.{IsSome, option_copied, Option, None, Some, slice_get, ltb, cond}
+use Rattle.std.specs.Prelude.{IfSome, IsSome, Option, None, Some, drop, false, get_or, min, option_copied, option_map, slice_get, take}
 use Rattle.sd_model.specs.declared.event.Entry.{Entry}
-use Rattle.sd_book.specs.declared.help.Answer.{Answer}
-use Rattle.sd_book.specs.declared.help.Deed.{Deed}
-use Rattle.sd_book.specs.declared.help.Noted.{Noted}
-use Rattle.sd_book.specs.declared.help.Noted.TheVariants.{Short, Whole}
-use Rattle.sd_book.specs.Booked.{entry_of, of_lines, unpacked, AreBooked, IsNewest, NotesAll, ReadsAs}
+use Rattle.sd_model.specs.declared.event.Reply.{Reply}
+use Rattle.sd_short.specs.declared.line.LineEntry.{LineEntry}
+use Rattle.sd_short.specs.declared.line.LineEntry.TheVariants as short
+use Rattle.sd_short.specs.declared.noted.Answer.{Answer}
+use Rattle.sd_short.specs.declared.noted.Answer.TheVariants as answer
+use Rattle.sd_short.specs.declared.noted.Deed.{Deed}
+use Rattle.sd_short.specs.declared.noted.Noted.{Noted}
+use Rattle.sd_short.specs.declared.noted.Noted.TheVariants.{Help, Line, Whole}
+use Rattle.sd_short.specs.Shorts.{entry_of, help_entry, line_entry, noted_entry, reply_of}
+use Rattle.sd_book.specs.declared.book.Newest.{Newest}
+use Rattle.sd_book.specs.declared.book.Newest.TheVariants as newest
+use Rattle.sd_book.specs.Booked.{last_of, reply_of_last, unpacked, wants_page, IsBook, IsNewest, NotesAll}
 
--- one entry more, which is kept so
-pub read-more : (noted : List Noted) (whole : List Entry) (s p i : ℕ) (d : Deed) (a : Answer) (n : ℕ) → NotesAll noted whole
-    → unpacked (noted ++ Short s p i d a n ∷ []) whole ≡ unpacked noted whole ++ entry_of s p i d a n ∷ []
-read-more [] [] s p i d a n all = refl
-read-more [] (x ∷ whole) s p i d a n all = absurd all
-read-more (Short t q j c b m ∷ noted) whole s p i d a n all =
-    ap (λ l. entry_of t q j c b m ∷ l) (read-more noted whole s p i d a n all)
-read-more (Whole ∷ noted) [] s p i d a n all = absurd all
-read-more (Whole ∷ noted) (x ∷ whole) s p i d a n all = ap (λ l. x ∷ l) (read-more noted whole s p i d a n all)
+-- one help more
+read-help : (noted : List Noted) (lines : List LineEntry) (whole : List Entry) (h : Noted) (e : Entry) → noted_entry h ≡ Some e
+    → NotesAll noted lines whole → unpacked (noted ++ h ∷ []) lines whole ≡ unpacked noted lines whole ++ e ∷ []
+read-help [] lines whole (Help s p i d a n) e is all =
+    let same : entry_of s p i d a n ≡ e = cc in
+    let none = all.1 in
+    ap (λ (l : List Entry). entry_of s p i d a n ∷ l) none ∙ ap (λ (x : Entry). x ∷ []) same
+    ∙ sym (ap (λ (l : List Entry). l ++ e ∷ []) none)
+read-help [] lines whole Line e is all = absurd (cc)
+read-help [] lines whole Whole e is all = absurd (cc)
+read-help (Help s p i d a n ∷ noted) lines whole h e is all =
+    ap (λ (l : List Entry). entry_of s p i d a n ∷ l) (read-help noted lines whole h e is all)
+read-help (Line ∷ noted) [] whole h e is all = absurd all
+read-help (Line ∷ noted) (x ∷ lines) whole h e is all =
+    ap (λ (l : List Entry). line_entry x ∷ l) (read-help noted lines whole h e is all)
+read-help (Whole ∷ noted) lines [] h e is all = absurd all
+read-help (Whole ∷ noted) lines (x ∷ whole) h e is all = ap (λ (l : List Entry). x ∷ l) (read-help noted lines whole h e is all)
 
-note-more : (noted : List Noted) (whole : List Entry) (s p i : ℕ) (d : Deed) (a : Answer) (n : ℕ) → NotesAll noted whole
-    → NotesAll (noted ++ Short s p i d a n ∷ []) whole
-note-more [] [] s p i d a n all = tt
-note-more [] (x ∷ whole) s p i d a n all = absurd all
-note-more (Short t q j c b m ∷ noted) whole s p i d a n all = note-more noted whole s p i d a n all
-note-more (Whole ∷ noted) [] s p i d a n all = absurd all
-note-more (Whole ∷ noted) (x ∷ whole) s p i d a n all = note-more noted whole s p i d a n all
+notes-help : (noted : List Noted) (lines : List LineEntry) (whole : List Entry) (h : Noted) (e : Entry) → noted_entry h ≡ Some e
+    → NotesAll noted lines whole → NotesAll (noted ++ h ∷ []) lines whole
+notes-help [] lines whole (Help s p i d a n) e is all = all
+notes-help [] lines whole Line e is all = absurd (cc)
+notes-help [] lines whole Whole e is all = absurd (cc)
+notes-help (Help s p i d a n ∷ noted) lines whole h e is all = notes-help noted lines whole h e is all
+notes-help (Line ∷ noted) [] whole h e is all = absurd all
+notes-help (Line ∷ noted) (x ∷ lines) whole h e is all = notes-help noted lines whole h e is all
+notes-help (Whole ∷ noted) lines [] h e is all = absurd all
+notes-help (Whole ∷ noted) lines (x ∷ whole) h e is all = notes-help noted lines whole h e is all
 
--- one entry more, which stands whole
-pub read-whole : (noted : List Noted) (whole : List Entry) (e : Entry) → NotesAll noted whole
-    → unpacked (noted ++ Whole ∷ []) (whole ++ e ∷ []) ≡ unpacked noted whole ++ e ∷ []
-read-whole [] [] e all = refl
-read-whole [] (x ∷ whole) e all = absurd all
-read-whole (Short t q j c b m ∷ noted) whole e all = ap (λ l. entry_of t q j c b m ∷ l) (read-whole noted whole e all)
-read-whole (Whole ∷ noted) [] e all = absurd all
-read-whole (Whole ∷ noted) (x ∷ whole) e all = ap (λ l. x ∷ l) (read-whole noted whole e all)
+-- one entry of a transaction more, in few bytes
+read-line : (noted : List Noted) (lines : List LineEntry) (whole : List Entry) (l : LineEntry) → NotesAll noted lines whole
+    → unpacked (noted ++ Line ∷ []) (lines ++ l ∷ []) whole ≡ unpacked noted lines whole ++ line_entry l ∷ []
+read-line [] [] [] l all = refl
+read-line [] [] (x ∷ whole) l all = let no = all.1 in absurd (cc)
+read-line [] (x ∷ lines) whole l all = let no = all.0 in absurd (cc)
+read-line (Help s p i d a n ∷ noted) lines whole l all =
+    ap (λ (k : List Entry). entry_of s p i d a n ∷ k) (read-line noted lines whole l all)
+read-line (Line ∷ noted) [] whole l all = absurd all
+read-line (Line ∷ noted) (x ∷ lines) whole l all = ap (λ (k : List Entry). line_entry x ∷ k) (read-line noted lines whole l all)
+read-line (Whole ∷ noted) lines [] l all = absurd all
+read-line (Whole ∷ noted) lines (x ∷ whole) l all = ap (λ (k : List Entry). x ∷ k) (read-line noted lines whole l all)
 
-note-whole : (noted : List Noted) (whole : List Entry) (e : Entry) → NotesAll noted whole
-    → NotesAll (noted ++ Whole ∷ []) (whole ++ e ∷ [])
-note-whole [] [] e all = tt
-note-whole [] (x ∷ whole) e all = absurd all
-note-whole (Short t q j c b m ∷ noted) whole e all = note-whole noted whole e all
-note-whole (Whole ∷ noted) [] e all = absurd all
-note-whole (Whole ∷ noted) (x ∷ whole) e all = note-whole noted whole e all
+notes-line : (noted : List Noted) (lines : List LineEntry) (whole : List Entry) (l : LineEntry) → NotesAll noted lines whole
+    → NotesAll (noted ++ Line ∷ []) (lines ++ l ∷ []) whole
+notes-line [] [] whole l all = (refl, all.1)
+notes-line [] (x ∷ lines) whole l all = let no = all.0 in absurd (cc)
+notes-line (Help s p i d a n ∷ noted) lines whole l all = notes-line noted lines whole l all
+notes-line (Line ∷ noted) [] whole l all = absurd all
+notes-line (Line ∷ noted) (x ∷ lines) whole l all = notes-line noted lines whole l all
+notes-line (Whole ∷ noted) lines [] l all = absurd all
+notes-line (Whole ∷ noted) lines (x ∷ whole) l all = notes-line noted lines whole l all
 
--- what is noted last is the newest
-last-one : (before : List Noted) (x : Noted) (noted : List Noted) (y : Noted) → noted ++ y ∷ [] ≡ before ++ x ∷ [] → y ≡ x
-last-one before x noted y is =
-    let one = newest-last noted y in
-    let other = newest-last before x in
-    cc where
-      newest-last : (l : List Noted) (z : Noted) → slice_get (l ++ z ∷ []) (length (l ++ z ∷ []) - 1) ≡ Some z
-      newest-last l z =
-          let count : length (l ++ z ∷ []) - 1 ≡ length l = (let k = length_push l z in omega (arith, k)) in
-          ap (slice_get (l ++ z ∷ [])) count ∙ slice_get-push l z
+-- one more that stands whole
+read-whole : (noted : List Noted) (lines : List LineEntry) (whole : List Entry) (e : Entry) → NotesAll noted lines whole
+    → unpacked (noted ++ Whole ∷ []) lines (whole ++ e ∷ []) ≡ unpacked noted lines whole ++ e ∷ []
+read-whole [] [] [] e all = refl
+read-whole [] [] (x ∷ whole) e all = let no = all.1 in absurd (cc)
+read-whole [] (x ∷ lines) whole e all = let no = all.0 in absurd (cc)
+read-whole (Help s p i d a n ∷ noted) lines whole e all =
+    ap (λ (k : List Entry). entry_of s p i d a n ∷ k) (read-whole noted lines whole e all)
+read-whole (Line ∷ noted) [] whole e all = absurd all
+read-whole (Line ∷ noted) (x ∷ lines) whole e all = ap (λ (k : List Entry). line_entry x ∷ k) (read-whole noted lines whole e all)
+read-whole (Whole ∷ noted) lines [] e all = absurd all
+read-whole (Whole ∷ noted) lines (x ∷ whole) e all = ap (λ (k : List Entry). x ∷ k) (read-whole noted lines whole e all)
 
-is-newest : (noted : List Noted) (how : Noted) (e : Entry) → ReadsAs how e → IsNewest (noted ++ how ∷ []) e
-is-newest noted how e reads before other is = subst (λ (h : Noted). ReadsAs h e) (last-one before other noted how is) reads
-
--- a book with one entry more, which is kept in few bytes
-module _ (noted after : List Noted) (whole : List Entry) (e : Entry) (all : NotesAll noted whole) where
-  pub short-books : (how : Noted) → after ≡ noted ++ how ∷ [] → ReadsAs how e → (how ≡ Whole → ⊥) → AreBooked after whole e
-  short-books Whole is reads short = absurd (short refl)
-  short-books (Short s p i d a n) is reads short = subst (λ (l : List Noted). AreBooked l whole e) (sym is)
-      (note-more noted whole s p i d a n all, is-newest noted (Short s p i d a n) e reads)
-
-  pub short-reads : (how : Noted) → after ≡ noted ++ how ∷ [] → ReadsAs how e → (how ≡ Whole → ⊥)
-      → unpacked after whole ≡ unpacked noted whole ++ e ∷ []
-  short-reads Whole is reads short = absurd (short refl)
-  short-reads (Short s p i d a n) is reads short = ap (λ (l : List Noted). unpacked l whole) is
-      ∙ read-more noted whole s p i d a n all ∙ ap (λ (x : Entry). unpacked noted whole ++ x ∷ []) reads
-
--- which stands whole
-module _ (noted after : List Noted) (whole new : List Entry) (e kept : Entry) (all : NotesAll noted whole)
-    (is : after ≡ noted ++ Whole ∷ []) (puts : new ≡ whole ++ e ∷ []) where
-  pub whole-books : AreBooked after new kept
-  whole-books = subst (λ (l : List Noted). AreBooked l new kept) (sym is)
-      (subst (λ (l : List Entry). AreBooked (noted ++ Whole ∷ []) l kept) (sym puts)
-      (note-whole noted whole e all, is-newest noted Whole kept tt))
-
-  pub whole-reads : unpacked after new ≡ unpacked noted whole ++ e ∷ []
-  whole-reads = ap (λ (l : List Noted). unpacked l new) is
-      ∙ ap (unpacked (noted ++ Whole ∷ [])) puts ∙ read-whole noted whole e all
+notes-whole : (noted : List Noted) (lines : List LineEntry) (whole : List Entry) (e : Entry) → NotesAll noted lines whole
+    → NotesAll (noted ++ Whole ∷ []) lines (whole ++ e ∷ [])
+notes-whole [] lines [] e all = (all.0, refl)
+notes-whole [] lines (x ∷ whole) e all = let no = all.1 in absurd (cc)
+notes-whole (Help s p i d a n ∷ noted) lines whole e all = notes-whole noted lines whole e all
+notes-whole (Line ∷ noted) [] whole e all = absurd all
+notes-whole (Line ∷ noted) (x ∷ lines) whole e all = notes-whole noted lines whole e all
+notes-whole (Whole ∷ noted) lines [] e all = absurd all
+notes-whole (Whole ∷ noted) lines (x ∷ whole) e all = notes-whole noted lines whole e all
 
 -- an entry is noted once
-pub count-read : (noted : List Noted) (whole : List Entry) → NotesAll noted whole
-    → length noted ≡ length (unpacked noted whole)
-count-read [] [] all = refl
-count-read [] (x ∷ whole) all = absurd all
-count-read (Short s p i d a n ∷ noted) whole all = let rest = count-read noted whole all in omega (arith, rest)
-count-read (Whole ∷ noted) [] all = absurd all
-count-read (Whole ∷ noted) (x ∷ whole) all = let rest = count-read noted whole all in omega (arith, rest)
+pub count-read : (noted : List Noted) (lines : List LineEntry) (whole : List Entry) → NotesAll noted lines whole
+    → length noted ≡ length (unpacked noted lines whole)
+count-read [] lines whole all = sym (ap (λ (l : List Entry). length l) all.1)
+count-read (Help s p i d a n ∷ noted) lines whole all = let rest = count-read noted lines whole all in omega (arith, rest)
+count-read (Line ∷ noted) [] whole all = absurd all
+count-read (Line ∷ noted) (x ∷ lines) whole all = let rest = count-read noted lines whole all in omega (arith, rest)
+count-read (Whole ∷ noted) lines [] all = absurd all
+count-read (Whole ∷ noted) lines (x ∷ whole) all = let rest = count-read noted lines whole all in omega (arith, rest)
 
--- what is kept in few bytes is of no line
-pub lines-read : (noted : List Noted) (whole : List Entry) → NotesAll noted whole
-    → of_lines whole ≡ of_lines (unpacked noted whole)
-lines-read [] whole all = refl
-lines-read (Short s p i d a n ∷ noted) whole all = lines-read noted whole all
-lines-read (Whole ∷ noted) [] all = absurd all
-lines-read (Whole ∷ noted) (x ∷ whole) all = both (ltb 0 x.line) (lines-read noted whole all) where
-  both : (b : Bool) → of_lines whole ≡ of_lines (unpacked noted whole)
-      → cond {A = List Entry} b (x ∷ of_lines whole) (of_lines whole)
-      ≡ cond {A = List Entry} b (x ∷ of_lines (unpacked noted whole)) (of_lines (unpacked noted whole))
-  both true same = ap (λ l. x ∷ l) same
-  both false same = same
-
--- the newest of a list
-abbrev pub newest : List Entry → Option Entry
-newest entries = slice_get entries (length entries - 1)
-
-abbrev pub newest_how : List Noted → Option Noted
-newest_how noted = slice_get noted (length noted - 1)
-
-more : {X : Type 0} (y x : X) (rest : List X)
-    → slice_get (y ∷ x ∷ rest) (length (y ∷ x ∷ rest) - 1) ≡ slice_get (x ∷ rest) (length (x ∷ rest) - 1)
-more y x rest =
-    let two : length (y ∷ x ∷ rest) - 1 ≡ suc (length rest) = omega arith in
-    let one : length (x ∷ rest) - 1 ≡ length rest = omega arith in
-    ap (slice_get (y ∷ x ∷ rest)) two ∙ sym (ap (slice_get (x ∷ rest)) one)
-
--- a list with a newest one ends with it
-pub ends-with : {X : Type 0} (xs : List X) (x : X) → slice_get xs (length xs - 1) ≡ Some x
-    → (before : List X) × (xs ≡ before ++ x ∷ [])
-ends-with [] x is = absurd (cc)
-ends-with (y ∷ []) x is = let same : y ≡ x = cc in ([], ap (λ z. z ∷ []) same)
-ends-with (y ∷ z ∷ xs) x is =
-    let rest = ends-with (z ∷ xs) x (sym (more y z xs) ∙ is) in
-    (y ∷ rest.0, ap (λ l. y ∷ l) rest.1)
-
-newest-last : (before : List Entry) (x : Entry) → newest (before ++ x ∷ []) ≡ Some x
-newest-last before x =
+-- the last of a list that grew
+last-push : (before : List Entry) (x : Entry) → last_of (before ++ x ∷ []) ≡ Some x
+last-push before x =
     let count : length (before ++ x ∷ []) - 1 ≡ length before = (let l = length_push before x in omega (arith, l)) in
     ap (slice_get (before ++ x ∷ [])) count ∙ slice_get-push before x
 
-pub last-newest : (es before : List Entry) (x : Entry) → es ≡ before ++ x ∷ [] → newest es ≡ Some x
-last-newest es before x is = ap newest is ∙ newest-last before x
+pub last-is : (es before : List Entry) (x : Entry) → es ≡ before ++ x ∷ [] → last_of es ≡ Some x
+last-is es before x is = ap last_of is ∙ last-push before x
 
--- what is before the newest is noted too
-before-short : (noted : List Noted) (whole : List Entry) (s p i : ℕ) (d : Deed) (a : Answer) (n : ℕ)
-    → NotesAll (noted ++ Short s p i d a n ∷ []) whole → NotesAll noted whole
-before-short [] whole s p i d a n all = all
-before-short (Short t q j c b m ∷ noted) whole s p i d a n all = before-short noted whole s p i d a n all
-before-short (Whole ∷ noted) [] s p i d a n all = absurd all
-before-short (Whole ∷ noted) (x ∷ whole) s p i d a n all = before-short noted whole s p i d a n all
+-- a list that isn't empty has a last
+pub last-there : (es : List Entry) → (es ≡ [] → ⊥) → (x : Entry) × (last_of es ≡ Some x)
+last-there [] some = absurd (some refl)
+last-there (e ∷ es) some = stands_at (e ∷ es) (length (e ∷ es) - 1) (omega arith)
 
-before-whole : (noted : List Noted) (whole : List Entry) → NotesAll (noted ++ Whole ∷ []) whole
-    → (before : List Entry) × (e : Entry) × (whole ≡ before ++ e ∷ []) × NotesAll noted before
-before-whole [] [] all = absurd all
-before-whole [] (x ∷ []) all = ([], x, refl, tt)
-before-whole [] (x ∷ y ∷ whole) all = absurd all
-before-whole (Short s p i d a n ∷ noted) whole all = before-whole noted whole all
-before-whole (Whole ∷ noted) [] all = absurd all
-before-whole (Whole ∷ noted) (x ∷ whole) all =
-    let rest = before-whole noted whole all in
-    (x ∷ rest.0, rest.1, ap (λ l. x ∷ l) rest.2, rest.3)
+-- ---- the reply of an entry in few bytes wants no page
 
--- the newest entry, where it is kept in few bytes
-module _ (noted : List Noted) (whole : List Entry) (kept : Entry) (booked : AreBooked noted whole kept) where
-  pub newest-short : (s p i : ℕ) (d : Deed) (a : Answer) (n : ℕ) → newest_how noted ≡ Some (Short s p i d a n)
-      → newest (unpacked noted whole) ≡ Some kept
-  newest-short s p i d a n is =
-      let ends = ends-with noted (Short s p i d a n) is in
-      let all : NotesAll (ends.0 ++ Short s p i d a n ∷ []) whole =
-      subst (λ (l : List Noted). NotesAll l whole) ends.1 booked.0 in
-      let reads : entry_of s p i d a n ≡ kept = booked.1 ends.0 (Short s p i d a n) ends.1 in
-      last-newest (unpacked noted whole) (unpacked ends.0 whole) kept
-      (ap (λ (l : List Noted). unpacked l whole) ends.1
-      ∙ read-more ends.0 whole s p i d a n (before-short ends.0 whole s p i d a n all)
-      ∙ ap (λ (x : Entry). unpacked ends.0 whole ++ x ∷ []) reads)
+answer-comes : (a : Answer) (n : ℕ) → wants_page (reply_of a n) ≡ false
+answer-comes answer.Did n = refl
+answer-comes answer.Have n = refl
+answer-comes answer.Asked n = refl
+answer-comes answer.Gave n = refl
+answer-comes answer.MovingTo n = refl
+answer-comes answer.PoolFull n = refl
 
-  -- where it stands whole
-  pub newest-whole : newest_how noted ≡ Some Whole → newest (unpacked noted whole) ≡ newest whole
-  newest-whole is =
-      let ends = ends-with noted Whole is in
-      let all : NotesAll (ends.0 ++ Whole ∷ []) whole = subst (λ (l : List Noted). NotesAll l whole) ends.1 booked.0 in
-      let rest = before-whole ends.0 whole all in
-      last-newest (unpacked noted whole) (unpacked ends.0 rest.0) rest.1
-      (ap (λ (l : List Noted). unpacked l whole) ends.1 ∙ ap (unpacked (ends.0 ++ Whole ∷ [])) rest.2
-      ∙ read-whole ends.0 rest.0 rest.1 rest.3)
-      ∙ sym (last-newest whole rest.0 rest.1 rest.2)
+help-comes : (h : Noted) (e : Entry) → noted_entry h ≡ Some e → wants_page e.reply ≡ false
+help-comes (Help s p i d a n) e is =
+    let same : e ≡ entry_of s p i d a n = cc in
+    ap (λ (x : Entry). wants_page x.reply) same ∙ answer-comes a n
+help-comes Line e is = absurd (cc)
+help-comes Whole e is = absurd (cc)
 
-  -- where there is none
-  pub newest-none : newest_how noted ≡ None → newest (unpacked noted whole) ≡ None
-  newest-none is = none noted whole booked.0 is where
-    none : (l : List Noted) (w : List Entry) → NotesAll l w → newest_how l ≡ None → newest (unpacked l w) ≡ None
-    none [] [] all is = refl
-    none [] (x ∷ w) all is = absurd all
-    none (h ∷ l) w all is =
-        let there = stands_at (h ∷ l) (length (h ∷ l) - 1) (omega arith) in
-        let some = there.1 in
-        absurd (cc)
+line-comes : (l : LineEntry) → wants_page (line_entry l).reply ≡ false
+line-comes (short.Begin session at line txn) = refl
+line-comes (short.Read session line txn rid count value) = refl
+line-comes (short.Miss session line txn rid) = refl
+line-comes (short.Write session line txn rid count value) = refl
+line-comes (short.Add session line txn rid by) = refl
+line-comes (short.Insert session capacity line txn rid count value) = refl
+line-comes (short.Delete session line txn rid) = refl
+line-comes (short.Commit session line txn) = refl
 
--- the newest entry, where there is one
-last-some : (r : Option (Bor Entry)) (x : Entry) → option_copied r ≡ Some x → IsSome r
-last-some None x is = absurd (cc)
-last-some (Some b) x is = search
+-- a book with one entry more
+module _ (noted after : List Noted) (lines : List LineEntry) (whole : List Entry) (e : Entry) (apart : Reply)
+    (all : NotesAll noted lines whole) where
+  -- which is a help
+  module _ (how : Noted) (grown : after ≡ noted ++ how ∷ []) (is : noted_entry how ≡ Some e) where
+    pub help-reads : unpacked after lines whole ≡ unpacked noted lines whole ++ e ∷ []
+    help-reads = ap (λ (k : List Noted). unpacked k lines whole) grown ∙ read-help noted lines whole how e is all
 
-pub last-there : (es : List Entry) (r : Option (Bor Entry)) → option_copied r ≡ newest es → (es ≡ [] → ⊥) → IsSome r
-last-there [] r is some = absurd (some refl)
-last-there (e ∷ es) r is some =
-    let there = stands_at (e ∷ es) (length (e ∷ es) - 1) (omega arith) in
-    last-some r there.0 (is ∙ there.1)
+    pub help-books : apart ≡ e.reply → IsBook after lines whole newest.Apart apart
+    help-books same = (
+      subst (λ (k : List Noted). NotesAll k lines whole) (sym grown) (notes-help noted lines whole how e is all),
+      (e, last-is (unpacked after lines whole) (unpacked noted lines whole) e help-reads, sym same, help-comes how e is),
+    )
+
+  -- which is kept in few bytes
+  module _ (grown : after ≡ noted ++ Line ∷ []) (more : List LineEntry) (l : LineEntry) (adds : more ≡ lines ++ l ∷ [])
+      (is : line_entry l ≡ e) where
+    pub short-reads : unpacked after more whole ≡ unpacked noted lines whole ++ e ∷ []
+    short-reads = (λ j. unpacked (grown j) (adds j) whole) ∙ read-line noted lines whole l all
+        ∙ ap (λ (x : Entry). unpacked noted lines whole ++ x ∷ []) is
+
+    pub short-books : apart ≡ e.reply → IsBook after more whole newest.Apart apart
+    short-books same = (
+      subst (λ (k : List Noted). NotesAll k more whole) (sym grown)
+          (subst (λ (k : List LineEntry). NotesAll (noted ++ Line ∷ []) k whole) (sym adds) (notes-line noted lines whole l all)),
+      (
+        e,
+        last-is (unpacked after more whole) (unpacked noted lines whole) e short-reads,
+        sym same,
+        ap (λ (x : Entry). wants_page x.reply) (sym is) ∙ line-comes l,
+      ),
+    )
+
+  -- which stands whole
+  module _ (grown : after ≡ noted ++ Whole ∷ []) (new : List Entry) (puts : new ≡ whole ++ e ∷ []) where
+    pub whole-reads : unpacked after lines new ≡ unpacked noted lines whole ++ e ∷ []
+    whole-reads = (λ j. unpacked (grown j) lines (puts j)) ∙ read-whole noted lines whole e all
+
+    pub whole-books : IsBook after lines new newest.Behind apart
+    whole-books = (
+      subst (λ (k : List Noted). NotesAll k lines new) (sym grown)
+          (subst (NotesAll (noted ++ Whole ∷ []) lines) (sym puts) (notes-whole noted lines whole e all)),
+      last-is (unpacked after lines new) (unpacked noted lines whole) e whole-reads ∙ sym (last-is new whole e puts),
+    )
+
+-- a reference to the reply of the last entry is there where an entry is, and is to its reply
+some-there : (r : Option (Bor Reply)) (x : Reply) → option_copied r ≡ Some x → IsSome r
+some-there None x is = absurd (cc)
+some-there (Some b) x is = search
+
+module _ (entries : List Entry) (r : Option (Bor Reply)) (is : option_copied r ≡ reply_of_last entries) where
+  pub reply-newest : (before : List Entry) (x : Entry) → entries ≡ before ++ x ∷ [] → option_copied r ≡ Some x.reply
+  reply-newest before x ends = is ∙ ap (option_map (λ (e : Entry). e.reply)) (last-is entries before x ends)
+
+  pub reply-there : (entries ≡ [] → ⊥) → IsSome r
+  reply-there some =
+      let last = last-there entries some in
+      some-there r last.0.reply (is ∙ ap (option_map (λ (e : Entry). e.reply)) last.1)
+
+-- the last that stands whole, where that is the newest entry
+pub behind-newest : (noted : List Noted) (lines : List LineEntry) (whole : List Entry) (at : Newest) (apart : Reply)
+    → IsBook noted lines whole at apart → at ≡ newest.Behind → last_of (unpacked noted lines whole) ≡ last_of whole
+behind-newest noted lines whole at apart book is =
+    subst (λ (a : Newest). IsNewest a (last_of (unpacked noted lines whole)) whole apart) is book.1
+
+pub whole-newest : (entries : List Entry) (r : Option (Bor Entry)) → option_copied r ≡ last_of entries
+    → (before : List Entry) (x : Entry) → entries ≡ before ++ x ∷ [] → IfSome r (λ (e : Bor Entry). e.now ≡ x)
+whole-newest entries None is before x ends = search
+whole-newest entries (Some b) is before x ends = let both = is ∙ last-is entries before x ends in cc
+
+-- the least of three spares falls by at most one
+pub spare-less : (a b c d e f n : ℕ) → a ≤ d + 1 → b ≤ e + 1 → c ≤ f + 1 → min a (min b c) ≡ n → n ≤ min d (min e f) + 1
+spare-less a b c d e f n one two three is = omega (arith, one, two, three, is)
+
+-- a slice that isn't empty is its first item and the rest
+pub parted : {X : Type 0} (xs : List X) (x : X) → 1 ≤ length xs → x ≡ get_or xs 0 x → xs ≡ x ∷ take (length xs - 1) (drop 1 xs)
+parted [] x some is = absurd (omega (arith, some))
+parted (y ∷ xs) x some is = ap (λ z. z ∷ xs) (sym is) ∙ ap (λ l. x ∷ l) (sym (take_rest (y ∷ xs) 1))
+
+-- the first entry, by how it is noted
+pub first-help : (noted rest : List Noted) (lines : List LineEntry) (whole : List Entry) (h : Noted) → noted ≡ h ∷ rest
+    → (s p i : ℕ) (d : Deed) (a : Answer) (n : ℕ) → h ≡ Help s p i d a n
+    → unpacked noted lines whole ≡ help_entry h ∷ unpacked rest lines whole
+first-help noted rest lines whole h is s p i d a n help = ap (λ (l : List Noted). unpacked l lines whole) is
+    ∙ subst (λ (x : Noted). unpacked (x ∷ rest) lines whole ≡ help_entry x ∷ unpacked rest lines whole) (sym help) refl
+
+pub first-line : (noted rest : List Noted) (lines behind : List LineEntry) (whole : List Entry) (h : Noted) (l : LineEntry)
+    → noted ≡ h ∷ rest → h ≡ Line → lines ≡ l ∷ behind
+    → unpacked noted lines whole ≡ line_entry l ∷ unpacked rest behind whole
+first-line noted rest lines behind whole h l is line stands =
+    ap (λ (k : List Noted). unpacked k lines whole) (is ∙ ap (λ (x : Noted). x ∷ rest) line)
+    ∙ ap (λ (k : List LineEntry). unpacked (Line ∷ rest) k whole) stands

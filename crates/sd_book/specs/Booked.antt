@@ -1,75 +1,79 @@
--- How a book keeps its entries: a short one of no line in few bytes, each other whole.
-use Rattle.std.specs.Prelude.{◌≡◌, ℕ, List, [], ◌∷◌, ◌++◌, filter, ltb}
-use Rattle.sd_base.specs.declared.place.Mode.TheVariants as mode
+-- How a book keeps its entries: a help in 8 bytes, a short entry of a transaction in 40 more, each other whole.
+use Rattle.std.specs.Prelude.{◌≡◌, ◌-◌, ◌+◌, ◌≤◌, ◌++◌, Bool, true, false, List, [], ◌∷◌, Option, Some, None, length, option_map, slice_get}
 use Rattle.sd_base.specs.declared.refusal.Refusal.TheVariants as refusal
-use Rattle.sd_model.specs.declared.event.Event.{Event}
-use Rattle.sd_model.specs.declared.event.Event.TheVariants as event
+use Rattle.sd_model.specs.declared.event.Entry.{Entry}
 use Rattle.sd_model.specs.declared.event.Reply.{Reply}
 use Rattle.sd_model.specs.declared.event.Reply.TheVariants as reply
-use Rattle.sd_model.specs.declared.event.Entry.{Entry}
-use Rattle.sd_book.specs.declared.help.Deed.{Deed}
-use Rattle.sd_book.specs.declared.help.Deed.TheVariants as deed
-use Rattle.sd_book.specs.declared.help.Answer.{Answer}
-use Rattle.sd_book.specs.declared.help.Answer.TheVariants as answer
-use Rattle.sd_book.specs.declared.help.Noted.{Noted}
-use Rattle.sd_book.specs.declared.help.Noted.TheVariants.{Short, Whole}
+use Rattle.sd_model.specs.History.{History}
+use Rattle.sd_short.specs.declared.noted.Noted.{Noted}
+use Rattle.sd_short.specs.declared.noted.Noted.TheVariants.{Help, Line, Whole}
+use Rattle.sd_short.specs.declared.line.LineEntry.{LineEntry}
+use Rattle.sd_short.specs.Shorts.{entry_of, help_entry, line_entry}
+use Rattle.sd_book.specs.declared.book.Newest.{Newest}
+use Rattle.sd_book.specs.declared.book.Newest.TheVariants as newest
+use Rattle.sd_book.specs.declared.told.Told.{Told}
+use Rattle.sd_book.specs.declared.told.Seen.{Seen}
+use Rattle.sd_book.specs.declared.told.Seen.TheVariants as seen
 
--- the event of an instance that does this with a page
-abbrev pub event_of : Deed → ℕ → ℕ → Event
-event_of deed.AskShared inst page = event.Ask inst page mode.Shared
-event_of deed.AskExcl inst page = event.Ask inst page mode.Excl
-event_of deed.Give inst page = event.Give inst page
-event_of deed.Take inst page = event.Take inst page
-event_of deed.Evict inst page = event.Evict inst page
-event_of deed.Flush inst page = event.Flush inst page
+-- all entries, the oldest first: each by how it is noted, and behind them those that still stand whole
+abbrev pub unpacked : List Noted → List LineEntry → List Entry → List Entry
+unpacked [] lines whole = whole
+unpacked (Help session page inst deed answer named ∷ noted) lines whole =
+    entry_of session page inst deed answer named ∷ unpacked noted lines whole
+unpacked (Line ∷ noted) [] whole = []
+unpacked (Line ∷ noted) (l ∷ lines) whole = line_entry l ∷ unpacked noted lines whole
+unpacked (Whole ∷ noted) lines [] = []
+unpacked (Whole ∷ noted) lines (e ∷ whole) = e ∷ unpacked noted lines whole
 
--- the reply, and the instance that it names, where it names one
-abbrev pub reply_of : Answer → ℕ → Reply
-reply_of answer.Did named = reply.Did
-reply_of answer.Have named = reply.Have
-reply_of answer.Asked named = reply.Asked named
-reply_of answer.Gave named = reply.Gave named
-reply_of answer.MovingTo named = reply.Refused (refusal.MovingTo named)
-reply_of answer.PoolFull named = reply.Refused refusal.PoolFull
+-- each entry is noted, and those that stand elsewhere are all that are noted so
+abbrev pub NotesAll : List Noted → List LineEntry → List Entry → Type 0
+NotesAll [] lines whole = (lines ≡ []) × (whole ≡ [])
+NotesAll (Help session page inst deed answer named ∷ noted) lines whole = NotesAll noted lines whole
+NotesAll (Line ∷ noted) [] whole = ⊥
+NotesAll (Line ∷ noted) (l ∷ lines) whole = NotesAll noted lines whole
+NotesAll (Whole ∷ noted) lines [] = ⊥
+NotesAll (Whole ∷ noted) lines (e ∷ whole) = NotesAll noted lines whole
 
--- the entry that is kept in few bytes: session, page, instance, what it did, how that was answered, and the instance that is named
-abbrev pub entry_of : ℕ → ℕ → ℕ → Deed → Answer → ℕ → Entry
-entry_of session page inst deed answer named = record {
-  session = session;
-  line = 0;
-  event = event_of deed inst page;
-  reply = reply_of answer named;
-}
+-- the last of a list of entries
+abbrev pub last_of : List Entry → Option Entry
+last_of entries = slice_get entries (length entries - 1)
 
--- what is kept in few bytes reads as this entry
-abbrev pub ReadsAs : Noted → Entry → Type 0
-ReadsAs Whole e = Unit {0}
-ReadsAs (Short session page inst deed answer named) e = entry_of session page inst deed answer named ≡ e
+-- the reply of the last of a list of entries
+abbrev pub reply_of_last : List Entry → Option Reply
+reply_of_last entries = option_map (λ (e : Entry). e.reply) (last_of entries)
 
--- all entries, the oldest first: those that are noted, and behind them those that still stand whole
-abbrev pub unpacked : List Noted → List Entry → List Entry
-unpacked [] whole = whole
-unpacked (Short session page inst deed answer named ∷ noted) whole =
-    entry_of session page inst deed answer named ∷ unpacked noted whole
-unpacked (Whole ∷ noted) [] = []
-unpacked (Whole ∷ noted) (e ∷ whole) = e ∷ unpacked noted whole
+-- whether an entry was refused for want of a page
+abbrev pub wants_page : Reply → Bool
+wants_page (reply.Refused (refusal.NeedPage place)) = true
+wants_page r = false
 
--- each entry is noted, and those that stand whole are the ones that are noted so
-abbrev pub NotesAll : List Noted → List Entry → Type 0
-NotesAll [] [] = Unit {0}
-NotesAll [] (e ∷ whole) = ⊥
-NotesAll (Short session page inst deed answer named ∷ noted) whole = NotesAll noted whole
-NotesAll (Whole ∷ noted) [] = ⊥
-NotesAll (Whole ∷ noted) (e ∷ whole) = NotesAll noted whole
+-- The newest entry, by where its reply stands: it is the last that stands whole, or its reply stands apart, and wants no page.
+abbrev pub IsNewest : Newest → Option Entry → List Entry → Reply → Type 0
+IsNewest newest.None last whole apart = last ≡ None
+IsNewest newest.Behind last whole apart = last ≡ last_of whole
+IsNewest newest.Apart last whole apart = (e : Entry) × (last ≡ Some e) × (e.reply ≡ apart) × (wants_page e.reply ≡ false)
 
--- where the newest entry is kept in few bytes, it reads as this one
-abbrev pub IsNewest : List Noted → Entry → Type 0
-IsNewest noted e = (before : List Noted) (how : Noted) → noted ≡ before ++ how ∷ [] → ReadsAs how e
+-- a book notes all its entries, and has the newest reply whole
+abbrev pub IsBook : List Noted → List LineEntry → List Entry → Newest → Reply → Type 0
+IsBook noted lines whole at apart =
+    NotesAll noted lines whole × IsNewest at (last_of (unpacked noted lines whole)) whole apart
 
--- a book notes all its entries, and has the newest whole
-abbrev pub AreBooked : List Noted → List Entry → Entry → Type 0
-AreBooked noted whole newest = NotesAll noted whole × IsNewest noted newest
+-- this entry more, and nothing else
+abbrev pub IsNoted : History → History → Entry → Type 0
+IsNoted before after e =
+    (after.entries ≡ before.entries ++ e ∷ []) × (after.opening ≡ before.opening) × (before.spare ≤ after.spare + 1)
 
--- the entries that serve a line
-abbrev pub of_lines : List Entry → List Entry
-of_lines entries = filter (λ entry. ltb 0 entry.line) entries
+-- the entries that are left to read
+abbrev pub entries_in : Told → List Entry
+entries_in told = unpacked told.noted.now told.lines.now told.whole.now
+
+-- an entry as it is kept
+abbrev pub seen_entry : Seen → Entry
+seen_entry (seen.Help h) = help_entry h.now
+seen_entry (seen.Short l) = line_entry l.now
+seen_entry (seen.Whole e) = e.now
+
+-- the first of these entries is this one, and those behind it are these; or there is none
+abbrev pub IsParted : List Entry → Option (Seen × Told) → Type 0
+IsParted entries None = entries ≡ []
+IsParted entries (Some found) = entries ≡ seen_entry found.0 ∷ entries_in found.1

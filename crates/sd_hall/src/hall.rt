@@ -223,7 +223,7 @@ impl<G: Rig> Hall<G> {
         requires { self.now.book.entries ≢ [] }
         ensures { (before : List Entry) (last : Entry) → self.now.book.entries ≡ before ++ last ∷ [] → result.now ≡ last.reply }
     {
-        &self.book.last().unwrap().reply
+        self.book.last_reply().unwrap()
     }
 
     /// The book of what happened.

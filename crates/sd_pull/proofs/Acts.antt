@@ -30,7 +30,8 @@ use Rattle.sd_world.specs.PageCauses.{last_page, page_of}
 use Rattle.sd_model.proofs.Acts.{live_from-append}
 use Rattle.sd_pull.specs.Pulls.{IsDue, Pull, Puller}
 use Rattle.sd_pull.specs.Standing.{GoesBack}
-use Rattle.sd_pull.specs.Standing.{NoneActs, is_failed, is_need}
+use Rattle.sd_book.specs.Booked.{wants_page}
+use Rattle.sd_pull.specs.Standing.{NoneActs, is_failed}
 
 -- ---- events that help
 
@@ -222,7 +223,7 @@ need-open m m' e place s shut = by s.0 s.1 s.3 (sym (ap (λ (k : State). (k.inst
     by c named first closed = unlike named refl
 
 -- so an answer that wants a page leaves all as it was
-pub wants-stays : (m : State) (e : Event) (r : Reply) (m' : State) → is_need r ≡ true → Step m e r m' → m' ≡ m
+pub wants-stays : (m : State) (e : Event) (r : Reply) (m' : State) → wants_page r ≡ true → Step m e r m' → m' ≡ m
 wants-stays m e (reply.Refused (R.NeedPage place)) m' need s = need-stays m m' e place s
 wants-stays m e r m' need s = unlike need refl
 

@@ -21,7 +21,8 @@ use Rattle.sd_world.specs.Answers.{Gets, Moves}
 use Rattle.sd_world.proofs.Causes.{cause-said}
 use Rattle.sd_pull.proofs.Measures.{unlike}
 use Rattle.sd_pull.specs.Pulls.{IsPulled, Puller, puller}
-use Rattle.sd_pull.specs.Standing.{is_need, need_of, wanted_of}
+use Rattle.sd_book.specs.Booked.{wants_page}
+use Rattle.sd_pull.specs.Standing.{need_of, wanted_of}
 
 abbrev reads : ℕ → Mode → Option Puller
 reads i m = Some (record { inst = i; mode = m })
@@ -50,7 +51,7 @@ away-not m w e for pulls has away = absurd (cc)
 
 -- it isn't refused for want of the page then
 pub no-need : (m : State) (w : Pages) (e : Event) (for : Puller) (r : Reply) (m' : State) (w' : Pages) → decided e Cause.Away ≡ true
-    → puller m e ≡ Some for → holds_as for.mode (w.entry (page_of m e)) for.inst ≡ true → Moves m w e r m' w' → is_need r ≡ false
+    → puller m e ≡ Some for → holds_as for.mode (w.entry (page_of m e)) for.inst ≡ true → Moves m w e r m' w' → wants_page r ≡ false
 no-need m w e for (reply.Refused (R.NeedPage place)) m' w' named pulls has moves =
     absurd (away-not m w e for pulls has (cause-said m w e (R.NeedPage place) m' w' Cause.Away moves refl named))
 no-need m w e for r m' w' named pulls has moves = refl
@@ -124,20 +125,20 @@ need-none m (event.RecoverStep i) names is s = absurd (cc)
 need-none m e names is s = refl
 
 pub wanted-none : (m : State) (e : Event) (r : Reply) → names_page e ≡ true → wanted_of m e r ≡ None
-    → (is_need r ≡ false) ⊎ ((s : State) → is_some (puller s e) ≡ false)
+    → (wants_page r ≡ false) ⊎ ((s : State) → is_some (puller s e) ≡ false)
 wanted-none m e (reply.Refused (R.NeedPage place)) names is = inr (need-none m e names is)
 wanted-none m e r names is = inl refl
 
 pub wanted-some : (m : State) (e : Event) (r : Reply) (x : ℕ × ℕ × Mode) → wanted_of m e r ≡ Some x
-    → (is_need r ≡ true) × (need_of m e ≡ Some x)
+    → (wants_page r ≡ true) × (need_of m e ≡ Some x)
 wanted-some m e (reply.Refused (R.NeedPage place)) x is = (refl, is)
 wanted-some m e r x is = absurd (cc)
 
-pub need-is : (r : Reply) → is_need r ≡ true → (place : Place) × (r ≡ reply.Refused (R.NeedPage place))
+pub need-is : (r : Reply) → wants_page r ≡ true → (place : Place) × (r ≡ reply.Refused (R.NeedPage place))
 need-is (reply.Refused (R.NeedPage place)) need = (place, refl)
 need-is r need = absurd (cc)
 
-pub needs-none : (m : State) (e : Event) (r : Reply) → is_need r ≡ false → None ≡ wanted_of m e r
+pub needs-none : (m : State) (e : Event) (r : Reply) → wants_page r ≡ false → None ≡ wanted_of m e r
 needs-none m e (reply.Refused (R.NeedPage place)) none = absurd (cc)
 needs-none m e r none = refl
 

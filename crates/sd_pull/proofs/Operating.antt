@@ -15,7 +15,8 @@ use Rattle.sd_pull.specs.Driven.{HasEnded, IsIn, IsSomewhere, PulledIn, PullsAll
 use Rattle.sd_pull.specs.Driving.{Cursor, Known, Work, World, stays}
 use Rattle.sd_pull.specs.Operating.{Came, DueIn, IsDueFor, Operates, OperatesSome}
 use Rattle.sd_pull.specs.Pulls.{Pull, Puller, is_pulling}
-use Rattle.sd_pull.specs.Standing.{Pulling, Wants, is_need, need_of, wanted_of}
+use Rattle.sd_book.specs.Booked.{wants_page}
+use Rattle.sd_pull.specs.Standing.{Pulling, Wants, need_of, wanted_of}
 use Rattle.sd_pull.proofs.Acts.{page-stays, wants-stays}
 use Rattle.sd_pull.proofs.Needs.{need-some, no-need, puller_in, wanted-none, wanted-some}
 use Rattle.sd_pull.proofs.Steps.{Noted, moved, noted-some}
@@ -76,7 +77,7 @@ module _ {G : Type 0} (tell : Telling G) (session number : ℕ) (e : Event) (nam
       let k = need-some w.core.scene.state e x need in
       let page = k.1 ∙ sym (page-stays w.core.scene.state w'.core.scene.state e s.acts) in
       let ended = has-ended (puller_in x) x.1 came next w'.core over in
-      let why : (is_need r ≡ false) ⊎ (next ≡ Pull.Ends) = ⊎_elim
+      let why : (wants_page r ≡ false) ⊎ (next ≡ Pull.Ends) = ⊎_elim
       (λ h. inl (no-need w'.core.scene.state w'.core.pages e (puller_in x) r m.core.scene.state m.core.pages k.3 (k.0 w'.core.scene.state)
       (subst (λ (p : ℕ). holds_as x.2 (w'.core.pages.entry p) x.0 ≡ true) page h.1) m.turns.moves))
       (λ h. inr h)

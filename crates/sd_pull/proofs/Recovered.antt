@@ -28,7 +28,8 @@ use Rattle.sd_pull.specs.Driving.{Cursor, Progress, Work, World, behind, fails, 
 use Rattle.sd_pull.specs.Pulls.{Pull, Puller, puller, recovers_for}
 use Rattle.sd_pull.specs.Recoveries.{DoesSome, DueOf, EndsAs, GoesAs, GoneOn, IsDueOf, IsWanted, PulledAs, PulledSome, RecoversTo, StepsAs, StepsTo, WantsOf, at_steps, ending_as, is_opening, refused_as}
 use Rattle.sd_pull.specs.Running.{Start}
-use Rattle.sd_pull.specs.Standing.{IsBorne, Pulling, is_need}
+use Rattle.sd_book.specs.Booked.{wants_page}
+use Rattle.sd_pull.specs.Standing.{IsBorne, Pulling}
 use Rattle.sd_pull.proofs.Acts.{wants-stays}
 use Rattle.sd_pull.proofs.Bodies.{fits-now}
 use Rattle.sd_pull.proofs.Marks.{followed-fine, marked-same}
@@ -149,7 +150,7 @@ module _ {G : Type 0} (tell : Telling G) (of : Owner) (new : Hall G) (start : St
 -- ---- an event of its own
 
 -- a begin wants no page
-begin-plain : (m m' : State) (i by : ℕ) (r : Reply) → Step m (event.RecoverBegin i by) r m' → is_need r ≡ false
+begin-plain : (m m' : State) (i by : ℕ) (r : Reply) → Step m (event.RecoverBegin i by) r m' → wants_page r ≡ false
 begin-plain m m' i by (reply.Refused (R.NeedPage place)) s = absurd (never s.0 s.1 s.3.0)
   where
     never : (c : Cause) → has_cause c (Cause.Away ∷ []) ≡ true → has_cause c (order (event.RecoverBegin i by)) ≡ true → ⊥
@@ -166,7 +167,7 @@ module _ {G : Type 0} (tell : Telling G) (of : Owner) (old new : Hall G) (c : Cu
     pub m : Moved tell old new start w entry
     m = moved tell old new entry n start w i
 
-    pub done-there : is_need r ≡ false
+    pub done-there : wants_page r ≡ false
         → IsIn tell start new (record { told = marked work r (followed w.told work rest r (goes_on m.core w.told.known work c r)); core = m.core })
     done-there plain = m.there _ (own-done w.told.known work rest c e w due.stands m.core entry due.session due.line refl (inl plain))
 
@@ -247,13 +248,13 @@ needs-recovering m m' i place s = go s.0 s.1 s.3
 
 module _ {G : Type 0} (tell : Telling G) (of : Owner) (i : ℕ) (old mid : Hall G) (r : Reply)
     (n : Noted tell old mid (record { session = of.session; line = of.line; event = event.RecoverStep i; reply = r })) where
-  pub step-plain : is_need r ≡ false → StepsAs tell old mid of i (ending_as r of.is_opening)
+  pub step-plain : wants_page r ≡ false → StepsAs tell old mid of i (ending_as r of.is_opening)
   step-plain plain start w work rest k due =
       let at = m tell of old mid (Cursor.Steps i) (event.RecoverStep i) r n start w work rest k due in
       step-goes tell of mid start w work rest i at.core due.stands.unfailed due.opening r
       (done-there tell of old mid (Cursor.Steps i) (event.RecoverStep i) r n start w work rest k due plain)
 
-  module _ (need : is_need r ≡ true) where
+  module _ (need : wants_page r ≡ true) where
     -- where an undo is next a page is there that it waits for
     pub never-unwanted : DueOf tell old of (Cursor.Steps i) (event.RecoverStep i)
         → ((w : Core) (by : ℕ) → fits_in tell.seen tell.leaves old.body w → AwaitsIn i old.body → (w.scene.state.inst i).status ≡ S.Recovering by → ⊥)

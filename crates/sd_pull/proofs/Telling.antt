@@ -13,7 +13,8 @@ use Rattle.sd_world.specs.Leading.{Leads}
 use Rattle.sd_world.specs.Serving.{Core}
 use Rattle.sd_pull.specs.Driving.{Advances, Cursor, Drives, Helps, Known, Own, Progress, Tells, TellsAt, TellsFirst, TellsWork, Work, World, cursor_in, due_works, event_at, fails, followed, goes_on, marked, number_of, puller_of, session_of, stays}
 use Rattle.sd_pull.specs.Pulls.{IsDue, IsPulled, Pull, Puller, helped, is_pulling, is_vain, puller}
-use Rattle.sd_pull.specs.Standing.{EventIsDue, IsBorne, Pulling, is_failed, is_need}
+use Rattle.sd_book.specs.Booked.{wants_page}
+use Rattle.sd_pull.specs.Standing.{EventIsDue, IsBorne, Pulling, is_failed}
 use Rattle.sd_pull.proofs.Acts.{IsHelp, helps-acts, helps-same, same-acts}
 
 -- ---- runs of worlds
@@ -39,7 +40,7 @@ tells-at w w' work rest c x then unfailed first at tells = (
 )
 
 -- the work's own event, with a reply that doesn't want a page, or wants it in vain
-own-plain : (m : State) (w' : Core) (at : Progress) (work : Work) (rest : List Work) (c : Cursor) (e : Event) (r : Reply) → is_need r ≡ false
+own-plain : (m : State) (w' : Core) (at : Progress) (work : Work) (rest : List Work) (c : Cursor) (e : Event) (r : Reply) → wants_page r ≡ false
     → Own m w' at work rest c e r (marked work r (followed at work rest r (goes_on w' at.known work c r)))
 own-plain m w' at work rest c e (reply.Refused (R.NeedPage place)) plain = absurd (cc)
 own-plain m w' at work rest c e r plain = refl
@@ -65,17 +66,17 @@ module _ (known : Known) (work : Work) (rest : List Work) (c : Cursor) (e : Even
       (session, number, subst (λ (k : Known). event_at k work c ≡ Some x.event) (sym s.known_is) (s.event ∙ ap (λ (y : Event). Some y) (sym is)), own))
 
   -- it is done, or goes on
-  pub own-done : is_need x.reply ≡ false ⊎ ((m : State) → is_some (puller m e) ≡ false)
+  pub own-done : wants_page x.reply ≡ false ⊎ ((m : State) → is_some (puller m e) ≡ false)
       → Tells w.core w' w.told x (marked work x.reply (followed w.told work rest x.reply (goes_on w' w.told.known work c x.reply)))
   own-done plain = tells-own _ (⊎_elim
-      (λ (h : is_need x.reply ≡ false). own-plain w.core.scene.state w' w.told work rest c x.event x.reply h)
+      (λ (h : wants_page x.reply ≡ false). own-plain w.core.scene.state w' w.told work rest c x.event x.reply h)
       (λ (h : (m : State) → is_some (puller m e) ≡ false). own-in-vain w.core.scene.state w' w.told work rest c x.event x.reply
       (inr (subst (λ (y : Event). is_some (puller w.core.scene.state y) ≡ false) (sym is) (h w.core.scene.state))))
       plain)
 
   module _ (for : Puller) (pulls : puller w.core.scene.state e ≡ Some for) (p : ℕ)
-      (page : IsPulled w.core.scene.state e p) (need : is_need x.reply ≡ true) where
-    own-asks : (r : Reply) → is_need r ≡ true
+      (page : IsPulled w.core.scene.state e p) (need : wants_page x.reply ≡ true) where
+    own-asks : (r : Reply) → wants_page r ≡ true
         → Own w.core.scene.state w' w.told work rest c e r (stays w.told work rest c (Pull.Asks p))
     own-asks (reply.Refused (R.NeedPage place)) needs =
         inl (s.idle, ap (λ (o : Option Puller). is_some o) pulls, (p, page, refl))
@@ -186,17 +187,17 @@ module _ (at : World) (work : Work) (rest : List Work) (c : Cursor) (e : Event) 
   abbrev there : Progress
   there = stays at.told work rest c pull
 
-  own-now : x.event ≡ e → (is_need x.reply ≡ false) ⊎ (pull ≡ Pull.Ends)
+  own-now : x.event ≡ e → (wants_page x.reply ≡ false) ⊎ (pull ≡ Pull.Ends)
       → Own w.core.scene.state w' there work rest c x.event x.reply again
   own-now is done_now = subst (Own w.core.scene.state w' there work rest c x.event x.reply)
       (ap (marked work x.reply) (followed-stays at.told work rest c pull x.reply (goes_on w' at.told.known work c x.reply)))
       (⊎_elim
-      (λ (h : is_need x.reply ≡ false). own-plain w.core.scene.state w' there work rest c x.event x.reply h)
+      (λ (h : wants_page x.reply ≡ false). own-plain w.core.scene.state w' there work rest c x.event x.reply h)
       (λ (h : pull ≡ Pull.Ends). own-in-vain w.core.scene.state w' there work rest c x.event x.reply (inl h))
       done_now)
 
   pub own-again : s.failed ≡ false → is_pulling pull ≡ false → x.session ≡ session_of work → x.line ≡ number_of work → x.event ≡ e
-      → (is_need x.reply ≡ false) ⊎ (pull ≡ Pull.Ends) → Tells w.core w' w.told x again
+      → (wants_page x.reply ≡ false) ⊎ (pull ≡ Pull.Ends) → Tells w.core w' w.told x again
   own-again unfailed rests session number is done_now =
       subst (λ (t : Progress). Tells w.core w' t x again)
       (sym (s.told ∙ ap (λ (b : Bool). record there { failed = b }) (unfailed ∙ sym s.before)))

@@ -49,11 +49,6 @@ pub record Pulling (at : World) (work : Work) (rest : List Work) (c : Cursor) (e
   pub borne : IsBorne work failed
   pub before : at.told.failed ≡ false
 
--- the reply wants a page
-abbrev pub is_need : Reply → Bool
-is_need (reply.Refused (R.NeedPage place)) = true
-is_need r = false
-
 -- the reply tells that a device failed
 abbrev pub is_failed : Reply → Bool
 is_failed (reply.Refused R.Failed) = true

@@ -1,6 +1,6 @@
 //! An event of a line done, with a pull of the page that it needs.
 
-ghost use Rattle.std.specs.Prelude.{◌≡◌, ◌≢◌, ◌++◌, ◌∷◌, [], List, OnErr, OnOk, Some, true};
+ghost use Rattle.std.specs.Prelude.{◌≡◌, ◌++◌, ◌∷◌, [], List, OnErr, OnOk, Some, true};
 ghost use Rattle.sd_base.specs.declared.place.Place.{Place};
 ghost use Rattle.sd_base.specs.declared.refusal.Refusal.TheVariants as R;
 ghost use Rattle.sd_model.specs.declared.event.Entry.{Entry};
@@ -10,6 +10,7 @@ ghost use Rattle.sd_world.specs.PageCauses.{names_page, undo_page};
 ghost use Rattle.sd_world.specs.Serving.{Core, Turns, telling};
 ghost use Rattle.sd_state.specs.Complexes.{parts};
 ghost use Rattle.sd_state.specs.Parts.{IsShape};
+ghost use Rattle.sd_book.specs.Booked.{wants_page};
 ghost use Rattle.sd_fits.specs.Fits.{Fits};
 ghost use Rattle.sd_serve.specs.Bodies.{fits_in};
 ghost use Rattle.sd_serve.specs.Served.{IsServed};
@@ -18,7 +19,7 @@ ghost use Rattle.sd_pull.specs.Operating.{DueIn, Operates, OperatesSome};
 ghost use Rattle.sd_pull.specs.Standing.{Wants};
 
 use crate::pull::pull;
-use crate::replies::is_need;
+use crate::replies::wants_page;
 use sd_base::{Duplicate, InstNo, Memory, Mode, PageNo, TxnId};
 use sd_hall::Hall;
 use sd_model::{Entry, Event};
@@ -35,6 +36,9 @@ pub fn operate<G: Rig>(hall: &mut Hall<G>, session: u8, line: u32, e: Event) -> 
     ensures memory { OnErr result (OperatesSome (telling G.seen G.leaves G.moment G.since G.faults) hall.old hall.new session line e) }
 {
     hall.call(session, line, e)?;
+    if !wants_page(hall.last()) {
+        return Ok(());
+    }
     let last = last_entry(hall);
     match wanted(hall, last) {
         Some(need) => {
@@ -46,22 +50,20 @@ pub fn operate<G: Rig>(hall: &mut Hall<G>, session: u8, line: u32, e: Event) -> 
     }
 }
 
-// The last entry.
+// The last entry, which wants a page.
 fn last_entry<G: Rig>(hall: &Hall<G>) -> &Entry
-    requires { hall.now.book.entries ≢ [] }
+    requires { (before : List Entry) × (last : Entry) × (hall.now.book.entries ≡ before ++ last ∷ []) × (wants_page last.reply ≡ true) }
     ensures { (before : List Entry) (last : Entry) → hall.now.book.entries ≡ before ++ last ∷ [] → result.now ≡ last }
 {
-    hall.book().last().unwrap()
+    hall.book().last_whole().unwrap()
 }
 
-// For whom the event of an entry still wants a page, which page, and how.
+// For whom the event of an entry that wants a page is to have it, which page, and how.
 fn wanted<G: Rig>(hall: &Hall<G>, entry: &Entry) -> Option<(InstNo, PageNo, Mode)>
     requires fits { (w : Core) × fits_in G.seen G.leaves hall.now.body w }
+    requires wants { wants_page entry.now.reply ≡ true }
     ensures { Wants (telling G.seen G.leaves G.moment G.since G.faults) hall.now.body entry.now.event entry.now.reply result }
 {
-    if !is_need(&entry.reply) {
-        return None;
-    }
     match hall.complex() {
         Some(c) => need(c, &entry.event),
         None => None,

@@ -12,7 +12,7 @@ ghost use Rattle.sd_pull.specs.Driving.{Cursor};
 ghost use Rattle.sd_pull.specs.Recoveries.{DoesSome, DueOf, PulledAs, PulledSome, RecoversTo, StepsAs, StepsTo, Waits, WantsOf, ending_as, refused_as};
 
 use crate::pull::pull;
-use crate::replies::{ends_failed, is_did, is_failed, is_need};
+use crate::replies::{ends_failed, is_did, is_failed, wants_page};
 use sd_base::{InstNo, Memory, Mode, PageNo, Status};
 use sd_hall::Hall;
 use sd_model::{Event, Reply};
@@ -86,7 +86,7 @@ fn step<G: Rig>(hall: &mut Hall<G>, of: Owner, inst: InstNo) -> Result<Option<Ou
 {
     let waits = awaited(hall, inst);
     hall.call(of.session, of.line, Event::RecoverStep { inst })?;
-    if !is_need(hall.last()) {
+    if !wants_page(hall.last()) {
         return Ok(ending(hall.last(), of.is_opening));
     }
     match waits {

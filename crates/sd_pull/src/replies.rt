@@ -3,7 +3,8 @@
 ghost use Rattle.std.specs.Prelude.{◌≡◌};
 ghost use Rattle.sd_pull.specs.Driven.{ends_failed, is_did};
 ghost use Rattle.sd_pull.specs.Replies.{began_by, is_joined, is_rows, is_step};
-ghost use Rattle.sd_pull.specs.Standing.{is_failed, is_need};
+ghost use Rattle.sd_book.specs.Booked.{wants_page};
+ghost use Rattle.sd_pull.specs.Standing.{is_failed};
 
 use sd_base::{Refusal, TxnId};
 use sd_hall::Hall;
@@ -49,8 +50,8 @@ pub fn is_step(reply: &Reply) -> bool
 }
 
 /// Whether the reply wants a page.
-pub(crate) fn is_need(reply: &Reply) -> bool
-    ensures { result ≡ is_need reply.now }
+pub(crate) fn wants_page(reply: &Reply) -> bool
+    ensures { result ≡ wants_page reply.now }
 {
     matches!(reply, Reply::Refused(Refusal::NeedPage { .. }))
 }
@@ -66,8 +67,8 @@ pub fn is_failed(reply: &Reply) -> bool
 pub fn ends_failed<G: Rig>(hall: &Hall<G>) -> bool
     ensures { result ≡ ends_failed hall.now.book.entries }
 {
-    match hall.book().last() {
-        Some(entry) => is_failed(&entry.reply),
+    match hall.book().last_reply() {
+        Some(reply) => is_failed(reply),
         None => false,
     }
 }

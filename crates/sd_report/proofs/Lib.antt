@@ -1,7 +1,9 @@
 mod Examples
+mod FewBytes
+mod Growing
 pub mod LineOrder
+mod Notes
 mod OneLine
 pub mod Scripts
 mod Sets
 mod Unnamed
-pub mod Told

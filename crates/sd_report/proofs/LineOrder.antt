@@ -4,14 +4,12 @@ use Rattle.std.proofs.Common.{◌≡◌, inl, inr, ⊎_elim, ℕ, ◌<◌, ◌�
 use Rattle.std.proofs.Common.{cond, eqb, ltb, ◌+◌, length, take, drop, get_or, refl, sym, ap, subst, ◌∙◌, arith}
 use Rattle.std.specs.Prelude.{◌⊎◌, max}
 use Rattle.std.proofs.lemmas.Bool.{cases_Bool, eqb-true, ltb-true, ltb-false}
-use Rattle.std.specs.List.{flat_map}
-use Rattle.std.proofs.lemmas.List.{take_more, drop_more, append-nil}
-use Rattle.std.proofs.lemmas.List.Concat.{flat_map-cons}
-use Rattle.std.proofs.lemmas.Grind.{flat_map-append}
+use Rattle.std.proofs.lemmas.List.{drop_more}
 use Rattle.sd_model.specs.declared.event.Entry.{Entry}
 use Rattle.sd_forms.specs.declared.line.Line.{Line}
 use Rattle.sd_forms.specs.declared.line.Form.{Form}
 use Rattle.sd_report.specs.Report.{gathered, AreAbove, entries_of, upto, behind, AreFrom}
+use Rattle.sd_report.proofs.Growing.{flat_map_more}
 
 -- of two numbers that differ the test is false
 apart : (a b : ℕ) → (a ≡ b → ⊥) → eqb a b ≡ false
@@ -92,12 +90,6 @@ pub upto_push : (high later : ℕ) (es : List Entry) (e : Entry) → AreUpTo hig
 upto_push high later [] e upto le within = (within, tt)
 upto_push high later (x ∷ xs) e upto le within = (omega (arith, upto.0, le), upto_push high later xs e upto.1 le within)
 
-flat_map_more : {X A : Type 0} (f : X → List A) (xs : List X) (i : ℕ) (x : X) → i < length xs → x ≡ get_or xs i x
-    → flat_map f (take (i + 1) xs) ≡ flat_map f (take i xs) ++ f x
-flat_map_more f xs i x lt is =
-    ap (flat_map f) (take_more xs i x lt ∙ ap (λ y. take i xs ++ y ∷ []) (sym is)) ∙ flat_map-append f (take i xs) (x ∷ [])
-    ∙ ap (λ l. flat_map f (take i xs) ++ l) (flat_map-cons f x [] ∙ append-nil (f x))
-
 -- the first i lines have had their entries, and the last of them is low; what is left of the entries
 pub record Parted (lines : List Line) (entries rest : List Entry) (i low : ℕ) : Type 0 where
   pub numbers : AreAbove low (drop i lines)
@@ -113,6 +105,9 @@ module _ (lines : List Line) (entries rest : List Entry) (i low : ℕ) (line : L
     (lt : i < length lines) (is : line ≡ get_or lines i line) where
   above : AreAbove low (line ∷ drop (i + 1) lines)
   above = subst (AreAbove low) (drop_more lines i line lt ∙ ap (λ (x : Line). x ∷ drop (i + 1) lines) (sym is)) so_far.numbers
+
+  pub some_number : 0 < line.number
+  some_number = omega (arith, above.0)
 
   pub parted_more : (others : List Entry) → others ≡ behind line.number rest → Parted lines entries others (i + 1) line.number
   parted_more others left = subst (λ (l : List Entry). Parted lines entries l (i + 1) line.number) (sym left) (record {

@@ -1,36 +1,136 @@
--- The entries of one line, one more at a time. It serves the goals of last_of and push_rows_of.
-use Rattle.std.proofs.Common.{◌≡◌, ℕ, ◌+◌, ◌-◌, ◌<◌, Bool, true, false, List, [], ◌∷◌}
-use Rattle.std.proofs.Common.{◌++◌, cond, eqb, length, take, get_or, sym, ap, ◌∙◌, arith, length-append}
-use Rattle.std.specs.Prelude.{Some, slice_get}
-use Rattle.std.proofs.lemmas.List.{take_more, append-nil}
-use Rattle.std.proofs.lemmas.List.Elements.{filter-append}
+-- The entries of one line, one more at a time. It serves the goals of part_at, push_own_rows, push_line and any_tells_txn.
+use Rattle.std.proofs.Common.{◌≡◌, ℕ, Bool, true, false, ◌||◌, List, [], ◌∷◌, ◌++◌, cond, eqb, ltb, length}
+use Rattle.std.proofs.Common.{◌<◌, ◌≤◌, ◌+◌, ◌-◌, zero, suc, arith, append_assoc, length-append, refl, sym, ap, ◌∙◌}
+use Rattle.std.specs.Prelude.{Option, None, Some, slice_get}
+use Rattle.std.specs.List.{flat_map}
+use Rattle.std.specs.Option.{option_or}
+use Rattle.std.proofs.lemmas.Bool.{eqb-true, eq-eqb, ne_eqb, lt-ltb, le-ltb}
+use Rattle.std.proofs.lemmas.List.{append-nil}
+use Rattle.std.proofs.lemmas.List.Concat.{flat_map-cons}
 use Rattle.std.proofs.lemmas.Grind.{flat_map-append}
 use Rattle.sd_base.specs.declared.ids.Rid.{Rid}
-use Rattle.sd_base.proofs.Lists.{slice_get-push}
 use Rattle.sd_model.specs.declared.event.Entry.{Entry}
-use Rattle.sd_report.specs.Report.{entries_of, last_entry, rows_in, table_rows}
+use Rattle.sd_short.specs.declared.noted.Noted.{Noted}
+use Rattle.sd_short.specs.declared.noted.Noted.TheVariants as noted
+use Rattle.sd_short.specs.Shorts.{help_entry}
+use Rattle.sd_report.specs.Report.{entries_of, last_entry, reply_tells_txn, tell_txns, row_line, rows_in, table_rows, upto}
 
--- one more, of the line or of another
-both : (n : ℕ) (es : List Entry) (i : ℕ) (e : Entry) → i < length es → e ≡ get_or es i e
-    → entries_of n (take (i + 1) es) ≡ entries_of n (take i es) ++ entries_of n (e ∷ [])
-both n es i e lt is =
-    ap (entries_of n) (take_more es i e lt ∙ ap (λ (x : Entry). take i es ++ x ∷ []) (sym is))
-    ∙ filter-append (λ (x : Entry). eqb x.line n) (take i es) (e ∷ [])
+-- the last entry of the line, where this one was the last before these
+abbrev pub last_upto : ℕ → Option Entry → List Entry → Option Entry
+last_upto n last [] = last
+last_upto n last (e ∷ es) =
+    cond {A = Option Entry} (ltb n e.line) last (last_upto n (cond {A = Option Entry} (eqb e.line n) (Some e) last) es)
 
-module _ (n : ℕ) (es : List Entry) (i : ℕ) (e : Entry) (lt : i < length es) (is : e ≡ get_or es i e) where
-  pub entry_more : eqb e.line n ≡ true → entries_of n (take (i + 1) es) ≡ entries_of n (take i es) ++ e ∷ []
-  entry_more own = both n es i e lt is ∙ ap (λ (b : Bool). entries_of n (take i es) ++ cond {A = List Entry} b (e ∷ []) []) own
+abbrev last_or : Option Entry → List Entry → Option Entry
+last_or last [] = last
+last_or last (e ∷ es) = last_or (Some e) es
 
-  pub entry_other : eqb e.line n ≡ false → entries_of n (take (i + 1) es) ≡ entries_of n (take i es)
-  entry_other other =
-      both n es i e lt is ∙ ap (λ (b : Bool). entries_of n (take i es) ++ cond {A = List Entry} b (e ∷ []) []) other
-      ∙ append-nil (entries_of n (take i es))
+last_here : (x : Entry) (es : List Entry) → last_or (Some x) es ≡ last_entry (x ∷ es)
+last_here x [] = refl
+last_here x (e ∷ es) =
+    let count : length (x ∷ e ∷ es) - 1 ≡ suc (length (e ∷ es) - 1) = omega arith in
+    last_here e es ∙ sym (ap (slice_get (x ∷ e ∷ es)) count)
 
-pub last-push : (es : List Entry) (e : Entry) → last_entry (es ++ e ∷ []) ≡ Some e
-last-push es e =
-    let last : length (es ++ e ∷ []) - 1 ≡ length es = omega (arith, length-append es (e ∷ [])) in
-    ap (slice_get (es ++ e ∷ [])) last ∙ slice_get-push es e
+one_of_line : (n : ℕ) (e : Entry) (es : List Entry) (own : Bool) → eqb e.line n ≡ own
+    → entries_of n (e ∷ es) ≡ cond {A = List Entry} own (e ∷ entries_of n es) (entries_of n es)
+one_of_line n e es own is = ap (λ (b : Bool). cond {A = List Entry} b (e ∷ entries_of n es) (entries_of n es)) is
 
-pub rows-push : (es : List Entry) (e : Entry) → table_rows (es ++ e ∷ []) ≡ table_rows es ++ rows_in e.reply
-rows-push es e = flat_map-append (λ (x : Entry). rows_in x.reply) es (e ∷ [])
-    ∙ ap (λ (l : List (Rid × List ℕ)). table_rows es ++ l) (append-nil (rows_in e.reply))
+last_of_line : (n : ℕ) (last : Option Entry) (es : List Entry) → last_upto n last es ≡ last_or last (entries_of n (upto n es))
+last_of_line n last [] = refl
+last_of_line n last (e ∷ es) = go (λ l. last_of_line n l es) (ltb n e.line) (eqb e.line n) refl where
+  go : ((l : Option Entry) → last_upto n l es ≡ last_or l (entries_of n (upto n es))) → (later own : Bool) → eqb e.line n ≡ own
+      → cond {A = Option Entry} later last (last_upto n (cond {A = Option Entry} own (Some e) last) es)
+      ≡ last_or last (entries_of n (cond {A = List Entry} later [] (e ∷ upto n es)))
+  go others true own is = refl
+  go others false true is = others (Some e)
+      ∙ sym (ap (last_or last) (one_of_line n e (upto n es) true is))
+  go others false false is = others last
+      ∙ sym (ap (last_or last) (one_of_line n e (upto n es) false is))
+
+pub last_none : (n : ℕ) (es : List Entry) → last_upto n None es ≡ last_entry (entries_of n (upto n es))
+last_none n es = last_of_line n None es ∙ at (entries_of n (upto n es)) where
+  at : (own : List Entry) → last_or None own ≡ last_entry own
+  at [] = refl
+  at (e ∷ own) = last_here e own
+
+-- the same, where there was a last before these
+pub last_or_before : (n : ℕ) (last : Option Entry) (es : List Entry)
+    → last_upto n last es ≡ option_or (last_entry (entries_of n (upto n es))) last
+last_or_before n last es = last_of_line n last es ∙ at (entries_of n (upto n es)) where
+  one : (x : Entry) (own : List Entry) → last_or (Some x) own ≡ option_or (last_or (Some x) own) last
+  one x [] = refl
+  one x (e ∷ own) = one e own
+
+  at : (own : List Entry) → last_or last own ≡ option_or (last_entry own) last
+  at [] = refl
+  at (e ∷ own) = one e own ∙ ap (λ (l : Option Entry). option_or l last) (last_here e own)
+
+-- behind the last of the line, where the first of some entries is of a later line
+pub later_last : (n : ℕ) (es rest : List Entry) (e : Entry) → es ≡ e ∷ rest → ltb n e.line ≡ true → (last : Option Entry)
+    → last_upto n last es ≡ last
+later_last n es rest e is later last = ap (last_upto n last) is ∙ ap (λ (b : Bool). cond {A = Option Entry} b last
+    (last_upto n (cond {A = Option Entry} (eqb e.line n) (Some e) last) rest)) later
+
+-- the rows of the line, by the first of some entries
+module _ (n : ℕ) (es rest : List Entry) (e : Entry) (is : es ≡ e ∷ rest) where
+  pub later_rows : n < e.line → table_rows (entries_of n (upto n es)) ≡ []
+  later_rows later = ap (λ (l : List Entry). table_rows (entries_of n (upto n l))) is
+      ∙ ap (λ (b : Bool). table_rows (entries_of n (cond {A = List Entry} b [] (e ∷ upto n rest)))) (lt-ltb n e.line later)
+
+  early_own : e.line ≤ n → (own : Bool) → eqb e.line n ≡ own
+      → entries_of n (upto n es) ≡ cond {A = List Entry} own (e ∷ entries_of n (upto n rest)) (entries_of n (upto n rest))
+  early_own early own of = ap (λ (l : List Entry). entries_of n (upto n l)) is
+      ∙ ap (λ (b : Bool). entries_of n (cond {A = List Entry} b [] (e ∷ upto n rest))) (le-ltb n e.line early)
+      ∙ one_of_line n e (upto n rest) own of
+
+  pub own_rows : e.line ≡ n → table_rows (entries_of n (upto n es)) ≡ rows_in e.reply ++ table_rows (entries_of n (upto n rest))
+  own_rows own = ap table_rows (early_own (omega (arith, own)) true (eq-eqb e.line n own))
+      ∙ flat_map-cons (λ (x : Entry). rows_in x.reply) e (entries_of n (upto n rest))
+
+  pub other_rows : e.line ≤ n → (e.line ≡ n → ⊥)
+      → table_rows (entries_of n (upto n es)) ≡ table_rows (entries_of n (upto n rest))
+  other_rows early other = ap table_rows (early_own early false (ne_eqb e.line n other))
+
+-- some rows, and those behind them
+module _ (rows after all : List (Rid × List ℕ)) (parts : all ≡ rows ++ after) where
+  pub rows_text : (out new : List ℕ) → new ≡ out ++ flat_map row_line rows
+      → new ++ flat_map row_line after ≡ out ++ flat_map row_line all
+  rows_text out new is =
+      ap (λ (l : List ℕ). l ++ flat_map row_line after) is
+      ∙ append_assoc out (flat_map row_line rows) (flat_map row_line after)
+      ∙ ap (λ (l : List ℕ). out ++ l) (sym (flat_map-append row_line rows after) ∙ ap (flat_map row_line) (sym parts))
+
+  pub rows_count : length all ≡ length rows + length after
+  rows_count = ap length parts ∙ length-append rows after
+
+-- no rows are left
+pub rows_end : (left all : List (Rid × List ℕ)) → left ≡ [] → (out old : List ℕ)
+    → out ++ flat_map row_line left ≡ old ++ flat_map row_line all → out ≡ old ++ flat_map row_line all
+rows_end left all none out old so_far = sym (append-nil out) ∙ ap (λ (l : List (Rid × List ℕ)). out ++ flat_map row_line l) (sym none)
+    ∙ so_far
+
+-- whether some entries tell a transaction, by the first of them
+pub first_tells : (es rest : List Entry) (e : Entry) (tells : Bool) → es ≡ e ∷ rest → tells ≡ reply_tells_txn e.reply
+    → tell_txns es ≡ (tells || tell_txns rest)
+first_tells es rest e tells is same = ap tell_txns is ∙ ap (λ (b : Bool). b || tell_txns rest) (sym same)
+
+-- an entry of a line carries its number
+of_line : (n : ℕ) (es : List Entry) (k : ℕ) (e : Entry) → slice_get (entries_of n es) k ≡ Some e → e.line ≡ n
+of_line n [] k e is = absurd (cc)
+of_line n (x ∷ xs) k e is = go (λ k. of_line n xs k e) (eqb x.line n) refl k is where
+  go : ((k : ℕ) → slice_get (entries_of n xs) k ≡ Some e → e.line ≡ n) → (own : Bool) → eqb x.line n ≡ own → (k : ℕ)
+      → slice_get (cond {A = List Entry} own (x ∷ entries_of n xs) (entries_of n xs)) k ≡ Some e → e.line ≡ n
+  go others true own zero is = let same : x ≡ e = cc in ap (λ (y : Entry). y.line) (sym same) ∙ eqb-true x.line n own
+  go others true own (suc k) is = others k is
+  go others false own k is = others k is
+
+help_line : (h : Noted) → (help_entry h).line ≡ 0
+help_line noted.Whole = refl
+help_line noted.Line = refl
+help_line (noted.Help s p i d a n) = refl
+
+-- so a help isn't one
+pub no_help : (n : ℕ) (es : List Entry) (h : Noted) → 0 < n → Some (help_entry h) ≡ last_entry (entries_of n es) → ⊥
+no_help n es h some is =
+    let own : (help_entry h).line ≡ n = of_line n es (length (entries_of n es) - 1) (help_entry h) (sym is) in
+    omega (arith, own, help_line h, some)

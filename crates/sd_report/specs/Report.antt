@@ -114,9 +114,13 @@ abbrev pub given_at : List ℕ → Option Entry → List (TxnId × List ℕ)
 given_at name None = []
 given_at name (Some entry) = given_by name entry.reply
 
+-- the same by the last entry of a line, and by all of them
+abbrev pub given_last : Form → Option Entry → List (TxnId × List ℕ)
+given_last (form.Begin inst name) last = given_at name last
+given_last f last = []
+
 abbrev pub given : Form → List Entry → List (TxnId × List ℕ)
-given (form.Begin inst name) entries = given_at name (last_entry entries)
-given f entries = []
+given f entries = given_last f (last_entry entries)
 
 -- the names that the begin lines of a script gave their transactions
 abbrev pub names_of : List Line → List Entry → NamesOf

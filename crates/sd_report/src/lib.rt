@@ -6,7 +6,7 @@
 //! a bad line, `damaged_line` that of devices that aren't sound.
 //! Refuses: nothing but for want of memory.
 //! Knows nothing of: how a line is served, what a reply means, where the text goes.
-//! Stands on: sd_base, sd_model, sd_book, sd_forms, sd_script.
+//! Stands on: sd_base, sd_model, sd_short, sd_book, sd_forms, sd_script.
 //! Asked of the caller: the lines of the entries don't fall, but for those of line 0 (`in_order` tells).
 //!
 //! To change:
@@ -21,6 +21,7 @@ mod places;
 mod refusals;
 mod replies;
 mod report;
+mod shorts;
 mod txn_names;
 mod words;
 

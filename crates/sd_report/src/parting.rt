@@ -1,45 +1,92 @@
 //! The entries of one line after another, where the lines of the entries don't fall.
 
-ghost use Rattle.std.specs.Prelude.{◌≡◌, ◌≤◌, length, take, drop, option_copied};
+ghost use Rattle.std.specs.Prelude.{◌≡◌, ◌<◌, option_map};
+ghost use Rattle.std.specs.Option.{option_or};
+ghost use Rattle.sd_book.specs.Booked.{entries_in, seen_entry};
 ghost use Rattle.sd_report.specs.Report.{entries_of, last_entry, upto, behind};
 
+use sd_book::{Seen, Told};
 use sd_model::Entry;
+use sd_short::Noted;
 
-// How many entries stand before the first of a later line.
-fn count_upto(number: u32, entries: &[Entry]) -> usize
-    ensures own { take result entries.now ≡ upto number entries.now }
-    ensures others { drop result entries.now ≡ behind number entries.now }
-    ensures bound { result ≤ length entries.now }
+/// The last entry of the line before the first of a later line, and the entries from there on.
+pub fn part_at<'a>(number: u32, entries: Told<'a>) -> (Option<Seen<'a>>, Told<'a>)
+    requires number { 0 < number }
+    ensures last { option_map seen_entry result.0 ≡ last_entry (entries_of number (upto number (entries_in entries.entry))) }
+    ensures others { entries_in result.1 ≡ behind number (entries_in entries.entry) }
 {
-    let mut n = 0;
+    let Told {
+        mut noted,
+        mut lines,
+        mut whole,
+    } = entries;
+    let mut last = None;
+    while let [first, rest @ ..] = noted {
+        match first {
+            // A help is of no line.
+            Noted::Help { .. } => {}
+            Noted::Line => match lines {
+                [] => break,
+                [short, behind @ ..] => {
+                    let line = short.line();
+                    if line > number {
+                        break;
+                    }
+                    if line == number {
+                        last = Some(Seen::Short(short));
+                    }
+                    lines = behind;
+                }
+            },
+            Noted::Whole => match whole {
+                [] => break,
+                [entry, behind @ ..] => {
+                    if entry.line > number {
+                        break;
+                    }
+                    if entry.line == number {
+                        last = Some(Seen::Whole(entry));
+                    }
+                    whole = behind;
+                }
+            },
+        }
+        noted = rest;
+    }
+    match noted {
+        // What isn't noted stands behind.
+        [] => part_unnoted(number, last, whole),
+        _ => {
+            let left = Told {
+                noted,
+                lines,
+                whole,
+            };
+            (last, left)
+        }
+    }
+}
+
+// Behind what is noted stand entries that aren't: the last of the line is among those, or it is this one.
+fn part_unnoted<'a>(
+    number: u32,
+    last: Option<Seen<'a>>,
+    entries: &'a [Entry],
+) -> (Option<Seen<'a>>, Told<'a>)
+    ensures last { option_map seen_entry result.0 ≡ option_or
+        (last_entry (entries_of number (upto number entries.now))) (option_map seen_entry last.entry) }
+    ensures others { entries_in result.1 ≡ behind number entries.now }
+{
+    let mut last = last;
     let mut rest = entries;
-    while let [first, after @ ..] = rest {
-        if first.line > number {
+    while let [entry, after @ ..] = rest {
+        if entry.line > number {
             break;
         }
-        n += 1;
+        if entry.line == number {
+            last = Some(Seen::Whole(entry));
+        }
         rest = after;
     }
-    n
-}
-
-/// The entries up to those of the line, and those behind them.
-pub fn part_at(number: u32, entries: &[Entry]) -> (&[Entry], &[Entry])
-    ensures own { result.0.now ≡ upto number entries.now }
-    ensures others { result.1.now ≡ behind number entries.now }
-{
-    entries.split_at(count_upto(number, entries))
-}
-
-/// The last entry of the line.
-pub fn last_of(number: u32, entries: &[Entry]) -> Option<&Entry>
-    ensures { option_copied result ≡ last_entry (entries_of number entries.now) }
-{
-    let mut last = None;
-    for entry in entries {
-        if entry.line == number {
-            last = Some(entry);
-        }
-    }
-    last
+    (last, Told::of(rest))
 }

@@ -1,6 +1,6 @@
 //! The words of each reply, put behind the name, the instance or the page of its line.
 
-ghost use Rattle.std.specs.Prelude.{◌≡◌, ◌∷◌, ◌++◌, codes, OnOk};
+ghost use Rattle.std.specs.Prelude.{◌≡◌, ◌++◌, codes, OnOk};
 ghost use Rattle.std.specs.Fmt.{decimal};
 ghost use Rattle.std.specs.Option.{option_copied};
 ghost use Rattle.sd_forms.specs.Forms.{rid_word};
@@ -181,8 +181,8 @@ fn push_shown(out: &mut Vec<u8>, reply: &Reply) -> Result<(), Memory>
     }
 }
 
-// The words of a reply that is no refusal.
-fn push_words(out: &mut Vec<u8>, form: &Form, reply: &Reply) -> Result<(), Memory>
+/// Appends the words of a reply that is no refusal.
+pub fn push_words(out: &mut Vec<u8>, form: &Form, reply: &Reply) -> Result<(), Memory>
     ensures { OnOk result (out.new.items ≡ out.old.items ++ words_of form.now reply.now) }
 {
     match form {

@@ -1,30 +1,36 @@
 //! The text of the report, from the script's lines and the entries of the book.
 
-ghost use Rattle.std.specs.Prelude.{◌≡◌, ◌+◌, ◌<◌, ◌≤◌, [], ◌∷◌, ◌++◌, length, codes, vec_len, IfOk, OnOk};
+ghost use Rattle.std.specs.Prelude.{◌≡◌, ◌+◌, ◌<◌, ◌≤◌, [], ◌∷◌, ◌++◌, length, codes, vec_len, IfOk, OnOk, Some};
 ghost use Rattle.std.specs.List.{flat_map};
-ghost use Rattle.std.specs.Option.{option_copied};
+ghost use Rattle.std.specs.Option.{option_copied, option_map};
 ghost use Rattle.std.specs.Fmt.{decimal};
 ghost use Rattle.sd_forms.specs.declared.line.Form.TheVariants as form;
 ghost use Rattle.sd_forms.specs.Forms.{pick_word, rid_word};
+ghost use Rattle.sd_short.specs.Shorts.{line_entry};
 ghost use Rattle.sd_report.specs.Names.{name_in};
 ghost use Rattle.sd_report.specs.Words.{line_of, no_names};
 ghost use Rattle.sd_report.specs.Refusals.{refusal_text};
 ghost use Rattle.sd_report.specs.Replies.{no_reply, pulled_text, last_text, words_of, last_behind_all, last_behind_words};
 ghost use Rattle.sd_report.specs.Report.{entries_of, last_entry, reported, report, bad_text, damaged_text};
-ghost use Rattle.sd_report.specs.Report.{gathered, reply_tells_txn, tell_txns, AreFrom, AreAbove};
+ghost use Rattle.sd_book.specs.Booked.{entries_in, seen_entry};
+ghost use Rattle.sd_report.specs.Report.{gathered, reply_tells_txn, tell_txns, upto, AreFrom, AreAbove};
 ghost use Rattle.sd_report.specs.Report.{row_line, rows_in, table_text, table_rows};
 
-use crate::parting::{last_of, part_at};
-use crate::refusals::{cause_name, push_refusal};
+use crate::parting::part_at;
+use crate::refusals::cause_name;
 use crate::replies::{
     push_behind_all, push_behind_words, push_page_reply, push_pulled, push_txn_reply,
 };
+use crate::shorts::push_short_words;
 use crate::txn_names::TxnNames;
-use crate::words::{push_digits, push_end, push_next, push_number, push_rid, push_word};
+use crate::words::{
+    push_digits, push_end, push_next, push_number, push_rid, push_space, push_word,
+};
 use sd_base::{Bytes, InstNo, LineError, Memory, Pick, Refusal, Rid, Word};
-use sd_book::Book;
+use sd_book::{Book, Seen, Told};
 use sd_model::{Entry, Reply};
 use sd_script::{Form, Line};
+use sd_short::LineEntry;
 use std::alloc::Global;
 
 fn push_complex(out: &mut Vec<u8>, insts: InstNo, pages: u16, frames: u16) -> Result<(), Memory>
@@ -166,32 +172,64 @@ fn push_entry(out: &mut Vec<u8>, entry: &Entry) -> Result<usize, Memory>
     }
 }
 
-// The rows of the line's entries, one page after another, and their number.
-fn push_rows_of(out: &mut Vec<u8>, number: u32, entries: &[Entry]) -> Result<(), Memory>
-    ensures { OnOk result (out.new.items ≡ out.old.items ++ table_text (table_rows (entries_of number entries.now))) }
+// The same of an entry as it is kept: one in few bytes has no rows.
+fn push_seen(out: &mut Vec<u8>, seen: Seen<'_>) -> Result<usize, Memory>
+    ensures text { OnOk result (out.new.items ≡ out.old.items ++ flat_map row_line (rows_in (seen_entry seen.entry).reply)) }
+    ensures count { IfOk result (λ n. n ≡ length (rows_in (seen_entry seen.entry).reply)) }
+    ensures bytes { IfOk result (λ n. vec_len out.old + n ≤ vec_len out.new) }
+{
+    match seen {
+        Seen::Help(_) => Ok(0),
+        Seen::Short(_) => Ok(0),
+        Seen::Whole(entry) => push_entry(out, entry),
+    }
+}
+
+// The rows of the line's entries before the first of a later line, one page after another, and how many they are.
+fn push_own_rows(out: &mut Vec<u8>, number: u32, entries: Told<'_>) -> Result<usize, Memory>
+    ensures text { OnOk result (out.new.items ≡ out.old.items
+        ++ flat_map row_line (table_rows (entries_of number (upto number (entries_in entries.entry))))) }
+    ensures count { IfOk result (λ n. n ≡ length (table_rows (entries_of number (upto number (entries_in entries.entry))))) }
 {
     let mut count = 0;
-    for entry in entries {
-        if entry.line == number {
-            count += push_entry(out, entry)?;
+    let mut rest = entries;
+    while let Some((seen, after)) = rest.first() {
+        let line = seen.line();
+        if line > number {
+            break;
         }
+        if line == number {
+            count += push_seen(out, seen)?;
+        }
+        rest = after;
     }
+    Ok(count)
+}
+
+// The same rows, and a line with their number.
+fn push_rows_of(out: &mut Vec<u8>, number: u32, entries: Told<'_>) -> Result<(), Memory>
+    ensures { OnOk result (out.new.items
+        ≡ out.old.items ++ table_text (table_rows (entries_of number (upto number (entries_in entries.entry))))) }
+{
+    let count = push_own_rows(out, number, entries)?;
     push_word(out, b"table")?;
     push_number(out, count as u64)?;
     push_end(out)
 }
 
-// What a table line reports: its refusal, or all its rows.
+// What a table line reports by the last of its entries: its refusal, or all its rows.
 fn push_table(
     out: &mut Vec<u8>,
     names: &TxnNames,
     number: u32,
-    entries: &[Entry],
+    last: Option<&Entry>,
+    entries: Told<'_>,
 ) -> Result<(), Memory>
+    requires last { option_copied last ≡ last_entry (entries_of number (upto number (entries_in entries))) }
     ensures { OnOk result (out.new.items ≡ out.old.items
-        ++ reported (name_in names.now) form.Table (entries_of number entries.now)) }
+        ++ reported (name_in names.now) form.Table (entries_of number (upto number (entries_in entries.entry)))) }
 {
-    let Some(entry) = last_of(number, entries) else {
+    let Some(entry) = last else {
         push_word(out, b"no reply")?;
         return push_end(out);
     };
@@ -204,31 +242,107 @@ fn push_table(
     }
 }
 
-// What is reported of a line, whose entries are among these.
+// What is reported of a line by the last of its entries, which are the first of these.
 fn push_line(
+    alloc: Global,
     out: &mut Vec<u8>,
     names: &TxnNames,
     line: &Line,
-    entries: &[Entry],
+    last: Option<Seen<'_>>,
+    entries: Told<'_>,
 ) -> Result<(), Memory>
-    ensures { OnOk result (out.new.items ≡ out.old.items
-        ++ reported (name_in names.now) line.now.form (entries_of line.now.number entries.now)) }
+    requires number { 0 < line.now.number }
+    requires last { option_map seen_entry last
+        ≡ last_entry (entries_of line.now.number (upto line.now.number (entries_in entries))) }
+    ensures { OnOk result (out.new.items ≡ out.old.items ++ reported (name_in names.now) line.now.form
+        (entries_of line.now.number (upto line.now.number (entries_in entries.entry)))) }
 {
-    let last = last_of(line.number, entries);
-    push_form(out, names, line, last, entries)
+    match last {
+        None => push_form(out, names, line, None, entries),
+        // A help is of no line, so it isn't the last entry of one.
+        Some(Seen::Help(_)) => Ok(()),
+        Some(Seen::Short(short)) => push_short(alloc, out, names, line, short, entries),
+        Some(Seen::Whole(entry)) => push_form(out, names, line, Some(entry), entries),
+    }
 }
 
-// The same by the last of the line's entries.
+// The same by the last entry in few bytes.
+fn push_short(
+    alloc: Global,
+    out: &mut Vec<u8>,
+    names: &TxnNames,
+    line: &Line,
+    short: &LineEntry,
+    entries: Told<'_>,
+) -> Result<(), Memory>
+    requires last { Some (line_entry short.now)
+        ≡ last_entry (entries_of line.now.number (upto line.now.number (entries_in entries))) }
+    ensures { OnOk result (out.new.items ≡ out.old.items ++ reported (name_in names.now) line.now.form
+        (entries_of line.now.number (upto line.now.number (entries_in entries.entry)))) }
+{
+    let form = &line.form;
+    match form {
+        Form::Begin { name, .. }
+        | Form::Read { name, .. }
+        | Form::Write { name, .. }
+        | Form::Add { name, .. }
+        | Form::Insert { name, .. }
+        | Form::Delete { name, .. }
+        | Form::Commit { name, .. } => push_short_line(alloc, out, name, form, short),
+        _ => push_widened(alloc, out, names, line, short, entries),
+    }
+}
+
+// A line of the transaction of this name, whose last entry is in few bytes, and so no refusal.
+fn push_short_line(
+    alloc: Global,
+    out: &mut Vec<u8>,
+    name: &Word,
+    form: &Form,
+    short: &LineEntry,
+) -> Result<(), Memory>
+    ensures { OnOk result (out.new.items
+        ≡ out.old.items ++ line_of (name.now ∷ words_of form.now (line_entry short.now).reply ∷ [])) }
+{
+    push_word(out, name.items())?;
+    push_space(out)?;
+    push_short_words(alloc, out, form, short)?;
+    push_end(out)
+}
+
+// The same as `push_short` by the entry made whole.
+#[inline(never)]
+fn push_widened(
+    alloc: Global,
+    out: &mut Vec<u8>,
+    names: &TxnNames,
+    line: &Line,
+    short: &LineEntry,
+    entries: Told<'_>,
+) -> Result<(), Memory>
+    requires last { Some (line_entry short.now)
+        ≡ last_entry (entries_of line.now.number (upto line.now.number (entries_in entries))) }
+    ensures { OnOk result (out.new.items ≡ out.old.items ++ reported (name_in names.now) line.now.form
+        (entries_of line.now.number (upto line.now.number (entries_in entries.entry)))) }
+{
+    match short.entry(alloc) {
+        Ok(entry) => push_form(out, names, line, Some(&entry), entries),
+        Err(cause) => Err(cause),
+    }
+}
+
+// The same by the last entry whole.
 fn push_form(
     out: &mut Vec<u8>,
     names: &TxnNames,
     line: &Line,
     last: Option<&Entry>,
-    entries: &[Entry],
+    entries: Told<'_>,
 ) -> Result<(), Memory>
-    requires last { option_copied last ≡ last_entry (entries_of line.now.number entries.now) }
-    ensures { OnOk result (out.new.items ≡ out.old.items
-        ++ reported (name_in names.now) line.now.form (entries_of line.now.number entries.now)) }
+    requires last { option_copied last
+        ≡ last_entry (entries_of line.now.number (upto line.now.number (entries_in entries))) }
+    ensures { OnOk result (out.new.items ≡ out.old.items ++ reported (name_in names.now) line.now.form
+        (entries_of line.now.number (upto line.now.number (entries_in entries.entry)))) }
 {
     let form = &line.form;
     match form {
@@ -261,7 +375,7 @@ fn push_form(
         Form::RecoverAll => push_all_line(out, names, b"recover all", last),
         Form::JoinAll => push_all_line(out, names, b"join all", last),
         Form::Where { page } => push_page_line(out, names, u64::from(page.get()), form, last),
-        Form::Table => push_table(out, names, line.number, entries),
+        Form::Table => push_table(out, names, line.number, last, entries),
     }
 }
 
@@ -276,17 +390,54 @@ fn tells_txn(reply: &Reply) -> bool
     }
 }
 
-fn any_tells_txn(entries: &[Entry]) -> bool
+// The same of an entry as it is kept: the reply of one in few bytes is no such refusal.
+fn seen_tells_txn(seen: Seen<'_>) -> bool
+    ensures { result ≡ reply_tells_txn (seen_entry seen.entry).reply }
+{
+    match seen {
+        Seen::Help(_) => false,
+        Seen::Short(_) => false,
+        Seen::Whole(entry) => tells_txn(&entry.reply),
+    }
+}
+
+// Whether any of those that stand whole tells a transaction.
+fn any_whole_tells(entries: &[Entry]) -> bool
     ensures { result ≡ tell_txns entries.now }
 {
-    entries.iter().any(|entry| tells_txn(&entry.reply))
+    let mut rest = entries;
+    while let [entry, after @ ..] = rest {
+        if tells_txn(&entry.reply) {
+            return true;
+        }
+        rest = after;
+    }
+    false
+}
+
+fn any_tells_txn(entries: Told<'_>) -> bool
+    ensures { result ≡ tell_txns (entries_in entries.entry) }
+{
+    // What is kept in few bytes tells none.
+    if !any_whole_tells(entries.whole) {
+        return false;
+    }
+    let mut rest = entries;
+    while let Some((seen, after)) = rest.first() {
+        if seen_tells_txn(seen) {
+            return true;
+        }
+        rest = after;
+    }
+    false
 }
 
 // The names that the report may need: none where no refusal tells a transaction.
-fn names_for(alloc: Global, lines: &[Line], entries: &[Entry]) -> Result<TxnNames, Memory>
+fn names_for(alloc: Global, lines: &[Line], entries: Told<'_>) -> Result<TxnNames, Memory>
     requires lines { AreAbove 0 lines.now }
-    requires entries { AreFrom 0 entries.now }
-    ensures { IfOk result (λ names. gathered (reported (name_in names)) lines.now entries.now ≡ report lines.now entries.now) }
+    requires entries { AreFrom 0 (entries_in entries) }
+    ensures { IfOk result (λ names. gathered (reported (name_in names)) lines.now (entries_in entries.entry)
+        ≡ report lines.now (entries_in entries.entry)) }
 {
     if any_tells_txn(entries) {
         TxnNames::of(alloc, lines, entries)
@@ -297,17 +448,17 @@ fn names_for(alloc: Global, lines: &[Line], entries: &[Entry]) -> Result<TxnName
 
 /// The report of the script's lines by these entries: each line prints the last reply of the entries that carry
 /// its number, a table line the rows of all of them. `Memory` comes where there is none.
-pub fn render(alloc: Global, lines: &[Line], entries: &[Entry]) -> Result<Vec<u8>, Memory>
+pub fn render(alloc: Global, lines: &[Line], entries: Told<'_>) -> Result<Vec<u8>, Memory>
     requires lines { AreAbove 0 lines.now }
-    requires entries { AreFrom 0 entries.now }
-    ensures { IfOk result (λ text. text.items ≡ report lines.now entries.now) }
+    requires entries { AreFrom 0 (entries_in entries) }
+    ensures { IfOk result (λ text. text.items ≡ report lines.now (entries_in entries.entry)) }
 {
     let names = names_for(alloc, lines, entries)?;
     let mut out = Vec::new(alloc);
     let mut rest = entries;
     for line in lines {
-        let (own, others) = part_at(line.number, rest);
-        push_line(&mut out, &names, line, own)?;
+        let (last, others) = part_at(line.number, rest);
+        push_line(alloc, &mut out, &names, line, last, rest)?;
         rest = others;
     }
     Ok(out)

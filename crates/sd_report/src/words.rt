@@ -53,11 +53,19 @@ fn push_long(out: &mut Vec<u8>, n: u64) -> Result<(), Memory>
     push_word(out, digits.format(n).as_bytes())
 }
 
+/// Appends a space.
+pub fn push_space(out: &mut Vec<u8>) -> Result<(), Memory>
+    ensures { OnOk result (out.new.items ≡ out.old.items ++ 32 ∷ []) }
+{
+    out.push(b' ')?;
+    Ok(())
+}
+
 /// Appends a number, behind a space.
 pub fn push_number(out: &mut Vec<u8>, n: u64) -> Result<(), Memory>
     ensures { OnOk result (out.new.items ≡ out.old.items ++ 32 ∷ decimal n) }
 {
-    push_word(out, b" ")?;
+    push_space(out)?;
     push_digits(out, n)
 }
 
@@ -74,7 +82,8 @@ fn push_dotted(out: &mut Vec<u8>, n: u64) -> Result<(), Memory>
     ensures { OnOk result (out.new.items ≡ out.old.items ++ decimal n ++ 46 ∷ []) }
 {
     push_digits(out, n)?;
-    push_word(out, b".")
+    out.push(b'.')?;
+    Ok(())
 }
 
 /// Appends a record: page, dot, slot.

@@ -545,10 +545,10 @@ fn agreeing<G: Rig + Drop>(
     for n in 0..lines.len() {
         let (who, ask, say) = lines[n];
         serve(alloc, &mut hall, pick, who, ask)?;
-        let Some(entry) = hall.book().last() else {
+        let Some(reply) = hall.book().last_reply() else {
             return Ok(n);
         };
-        if !is_said(&entry.reply, say) {
+        if !is_said(reply, say) {
             return Ok(n);
         }
     }

@@ -12,6 +12,7 @@ use crate::entries::Why::{
 };
 use crate::entries::{FAR, MAKER, NEAR, ONE, Say, TWO, Who, reply, txn};
 use sd_base::{Duplicate, LineError, Memory, PageNo, Trouble};
+use sd_book::Told;
 use sd_model::{Entry, Event};
 use sd_report::{bad_line, in_order, render};
 use sd_script::{Form, Kind, Line, Script};
@@ -462,8 +463,8 @@ fn tells(
     for (line, (_, steps, _)) in lines.iter().zip(first.iter().chain(rest)) {
         note(rt, &mut entries, line, steps)?;
     }
-    assert!(rt; in_order(lines, &entries));
-    let report = render(rt.alloc(), lines, &entries)?;
+    assert!(rt; in_order(lines, Told::of(&entries)));
+    let report = render(rt.alloc(), lines, Told::of(&entries))?;
     assert_eq!(rt; report.as_slice(), due.as_slice());
     Ok(())
 }

@@ -1,7 +1,7 @@
 //! A book, a table and a number text find memory where there is some.
 
-use sd_base::{Bytes, Duplicate, InstNo, Mode, PageNo, Refusal, Rid};
-use sd_book::{Answer, Book, Deed, Noted};
+use sd_base::{Bytes, Duplicate, InstNo, Mode, PageNo, Refusal, Rid, TxnId};
+use sd_book::{Book, Seen};
 use sd_model::{Entry, Event, Reply, Table, number_text};
 use std::test::Fail;
 
@@ -17,92 +17,182 @@ fn a_book_and_its_opening_find_memory(rt: HostRuntime) -> Result<(), Fail> {
     let value = Reply::Value(Some(number_text(alloc, -20)?));
     book.note(0, 1, Event::Show { page }, value.copy()?);
     assert!(rt;
-        matches!(book.told(), [Entry { reply: Reply::Value(Some(text)), .. }] if text.items() == b"-20".as_slice())
+        matches!(
+            book.told().first(),
+            Some((Seen::Whole(Entry { reply: Reply::Value(Some(text)), .. }), _)) if text.items() == b"-20".as_slice()
+        )
     );
     assert!(rt; book.opening().get(rid) == Some(b"red".as_slice()));
     Ok(())
 }
 
-#[test]
-fn a_short_entry_of_no_line_is_kept_in_few_bytes(rt: HostRuntime) -> Result<(), Fail> {
-    let mut book = Book::new(rt.alloc(), Table::new(rt.alloc()));
-    let page = PageNo::new(7).ok_or("a page")?;
-    let inst = InstNo::new(1).ok_or("an instance")?;
-    let other = InstNo::new(2).ok_or("an instance")?;
-    book.reserve(6)?;
-    let mode = Mode::Excl;
-    book.note(
-        3,
-        0,
-        Event::Ask { inst, page, mode },
-        Reply::Asked { of: other },
-    );
-    let moving = Reply::Refused(Refusal::MovingTo { to: other });
-    let mode = Mode::Shared;
-    book.note(0, 0, Event::Ask { inst, page, mode }, moving);
-    book.note(0, 4, Event::Take { inst, page }, Reply::Did);
-    book.note(0, 0, Event::Give { inst, page }, Reply::Gave { to: other });
-    book.note(
-        0,
-        0,
-        Event::Evict { inst, page },
-        Reply::Refused(Refusal::Dirty),
-    );
-    book.note(0, 0, Event::Flush { inst, page }, Reply::Did);
-    let (noted, whole) = book.kept();
-    let [first, second, Noted::Whole, fourth, Noted::Whole, sixth] = noted else {
-        return Err("another order".into());
-    };
-    assert!(rt; is_short(first, 3, Deed::AskExcl, Answer::Asked));
-    assert!(rt; is_short(second, 0, Deed::AskShared, Answer::MovingTo));
-    assert!(rt; is_short(fourth, 0, Deed::Give, Answer::Gave));
-    assert!(rt;
-        matches!(
-            sixth,
-            Noted::Short {
-                deed: Deed::Flush,
-                answer: Answer::Did,
-                ..
-            }
-        )
-    );
-    let [of_a_line, evicted] = whole else {
-        return Err("others stand whole".into());
-    };
-    assert!(rt; of_a_line.line == 4);
-    assert!(rt; matches!(&evicted.event, Event::Evict { .. }));
-    assert!(rt;
-        matches!(
-            book.last(),
-            Some(Entry {
-                event: Event::Flush { .. },
-                reply: Reply::Did,
-                ..
-            })
-        )
-    );
-    assert!(rt; book.count() == 6);
-    Ok(())
+// How an entry is kept.
+#[derive(Clone, Copy, PartialEq, Eq)]
+enum How {
+    Help,
+    Short,
+    Whole,
 }
 
-// Whether instance 1 did this with page 7, and was told so of instance 2.
-fn is_short(how: &Noted, by: u8, does: Deed, told: Answer) -> bool {
-    match how {
-        Noted::Whole => false,
-        Noted::Short {
-            session,
-            page,
-            inst,
-            deed,
-            answer,
-            named,
-        } => {
-            *session == by
-                && *deed == does
-                && *answer == told
-                && inst.get() == 1
-                && page.get() == 7
-                && named.get() == 2
-        }
+// An entry under this line, and how it is kept.
+type Row = (How, u32, Event, Reply);
+
+fn helps(inst: InstNo, page: PageNo, other: InstNo) -> [Row; 7] {
+    let shared = Mode::Shared;
+    let excl = Mode::Excl;
+    [
+        (
+            How::Help,
+            0,
+            Event::Ask {
+                inst,
+                page,
+                mode: excl,
+            },
+            Reply::Asked { of: other },
+        ),
+        (
+            How::Help,
+            0,
+            Event::Ask {
+                inst,
+                page,
+                mode: shared,
+            },
+            Reply::Refused(Refusal::MovingTo { to: other }),
+        ),
+        (
+            How::Help,
+            0,
+            Event::Give { inst, page },
+            Reply::Gave { to: other },
+        ),
+        (
+            How::Help,
+            0,
+            Event::Take { inst, page },
+            Reply::Refused(Refusal::PoolFull),
+        ),
+        (How::Help, 0, Event::Flush { inst, page }, Reply::Did),
+        (
+            How::Whole,
+            0,
+            Event::Evict { inst, page },
+            Reply::Refused(Refusal::Dirty),
+        ),
+        (How::Whole, 4, Event::Take { inst, page }, Reply::Did),
+    ]
+}
+
+fn of_transactions(txn: TxnId, rid: Rid, few: &Bytes, many: &Bytes) -> Result<[Row; 12], Fail> {
+    let page = rid.page;
+    let capacity = 16;
+    Ok([
+        (
+            How::Short,
+            9,
+            Event::Begin { inst: txn.inst },
+            Reply::Began(txn),
+        ),
+        (How::Short, 9, Event::Add { txn, rid, by: -4 }, Reply::Did),
+        (
+            How::Short,
+            9,
+            Event::Write {
+                txn,
+                rid,
+                value: few.copy()?,
+            },
+            Reply::Did,
+        ),
+        (
+            How::Whole,
+            9,
+            Event::Write {
+                txn,
+                rid,
+                value: many.copy()?,
+            },
+            Reply::Did,
+        ),
+        (
+            How::Short,
+            9,
+            Event::Read { txn, rid },
+            Reply::Value(Some(few.copy()?)),
+        ),
+        (
+            How::Whole,
+            9,
+            Event::Read { txn, rid },
+            Reply::Value(Some(many.copy()?)),
+        ),
+        (How::Short, 9, Event::Read { txn, rid }, Reply::Value(None)),
+        (
+            How::Short,
+            9,
+            Event::Insert {
+                txn,
+                page,
+                value: few.copy()?,
+                capacity,
+            },
+            Reply::At(rid),
+        ),
+        (
+            How::Whole,
+            9,
+            Event::Insert {
+                txn,
+                page,
+                value: many.copy()?,
+                capacity,
+            },
+            Reply::At(rid),
+        ),
+        (How::Short, 9, Event::Delete { txn, rid }, Reply::Did),
+        (How::Short, 9, Event::Commit { txn }, Reply::Did),
+        (
+            How::Whole,
+            9,
+            Event::Commit { txn },
+            Reply::Refused(Refusal::NoTxn),
+        ),
+    ])
+}
+
+fn kept(seen: Seen<'_>) -> How {
+    match seen {
+        Seen::Help(_) => How::Help,
+        Seen::Short(_) => How::Short,
+        Seen::Whole(_) => How::Whole,
     }
+}
+
+#[test]
+fn a_help_and_what_a_transaction_did_are_kept_in_few_bytes(rt: HostRuntime) -> Result<(), Fail> {
+    let alloc = rt.alloc();
+    let inst = InstNo::new(1).ok_or("an instance")?;
+    let other = InstNo::new(2).ok_or("an instance")?;
+    let page = PageNo::new(7).ok_or("a page")?;
+    let (epoch, seq) = (3, 5);
+    let txn = TxnId { inst, epoch, seq };
+    let few = Bytes::copy_of(alloc, b"of 14 bytes is")?;
+    let many = Bytes::copy_of(alloc, b"one of 15 bytes")?;
+    let rows = of_transactions(txn, Rid { page, slot: 2 }, &few, &many)?;
+    let mut book = Book::new(alloc, Table::new(alloc));
+    let mut hows = Vec::new(alloc);
+    for (how, line, event, reply) in helps(inst, page, other).into_iter().chain(rows) {
+        hows.push(how)?;
+        book.reserve(1)?;
+        book.note(0, line, event, reply);
+    }
+    let mut rest = book.told();
+    for how in hows.iter() {
+        let (seen, after) = rest.first().ok_or("an entry")?;
+        assert!(rt; kept(seen) == *how);
+        rest = after;
+    }
+    assert!(rt; rest.first().is_none());
+    Ok(())
 }

@@ -1,4 +1,4 @@
-use Rattle.std.proofs.Common.{◌≡◌, ℕ, sym, ap, ◌∙◌, subst}
+use Rattle.std.proofs.Common.{◌≡◌, ℕ, List, true, false, sym, ap, ◌∙◌, subst}
 use Rattle.std.specs.Prelude.{None, Some}
 use Rattle.std.proofs.lemmas.Result.{err_from_is_err_and}
 use Rattle.sd_base.specs.declared.place.Mode.{Mode}
@@ -9,6 +9,8 @@ use Rattle.sd_world.specs.Serving.{Telling, telling}
 use Rattle.sd_serve.specs.Served.{IsServed}
 use Rattle.sd_pull.specs.Standing.{Wants}
 use Rattle.sd_pull.proofs.Helps.{on-err-both, on-err-then, on-ok-then}
+use Rattle.sd_book.specs.Booked.{wants_page}
+use Rattle.sd_pull.proofs.Needs.{needs-none}
 use Rattle.sd_pull.proofs.Operating.{again-all, first-some, fits-mid, once-all, pull-in, pulled-some, somewhere, stays-some, then-some, wants-as}
 use Rattle.sd_pull.proofs.Steps.{Noted, noted-some, stays-in}
 use Rattle.sd_pull.proofs.events.operate.Goals as goal
@@ -41,8 +43,12 @@ wanted-requires g c =
     let n = c.in_ok-call.ensures.noted in
     let entry : Entry = record { session = c.args.session; line = c.args.line; event = c.args.e; reply = n.0 } in
     let noted : Noted tell old mid entry = record { entries = n.1; serves = n.2; keeps = c.call.ensures.keeps; opening = c.call.ensures.opening; earlier = λ rig t u img le s. g.met.G.Rig.earlier rig t u img le s } in
+    let last : c.last_entry-last.result.now ≡ entry = c.last_entry-last.ensures old.book.entries entry n.1 in
+    let told : wants_page n.0 ≡ true =
+    sym (ap wants_page (c.last.ensures old.book.entries entry n.1)) ∙ sym c.wants_page.ensures ∙ c.if-not-wants_page.false in
     record {
       fits = fits-mid tell c.args.session c.args.line c.args.e c.requires.names old mid n.0 noted c.requires.due;
+      wants = ap (λ (y : Entry). wants_page y.reply) last ∙ told;
     }
 
 pub returns-in_err-again-in-Some-clause-memory : goal.returns-in_err-again-in-Some-clause-memory
@@ -168,13 +174,38 @@ returns-in_err-call-clause-done g c =
     let p = err_from_is_err_and c.from_residual.result c.from_residual.ensures.1 in
     rw p.1 tt
 
-pub last_entry-last-requires : goal.last_entry-last-requires
-last_entry-last-requires g c =
+pub last-requires : goal.last-requires
+last-requires g c =
     let n = c.in_ok-call.ensures.noted in
     noted-some c.args.hall.now.book.entries (record { session = c.args.session; line = c.args.line; event = c.args.e; reply = n.0 }) n.1
 
+pub returns-then-not-wants_page-clause-done : goal.returns-then-not-wants_page-clause-done
+returns-then-not-wants_page-clause-done g c =
+    let tell : Telling _ = telling g.G.Rig.seen g.G.Rig.leaves g.G.Rig.moment g.G.Rig.since g.G.Rig.faults in
+    let old = c.args.hall.now in
+    let mid = c.call.new.self in
+    let n = c.in_ok-call.ensures.noted in
+    let entry : Entry = record { session = c.args.session; line = c.args.line; event = c.args.e; reply = n.0 } in
+    let noted : Noted tell old mid entry = record { entries = n.1; serves = n.2; keeps = c.call.ensures.keeps; opening = c.call.ensures.opening; earlier = λ rig t u img le s. g.met.G.Rig.earlier rig t u img le s } in
+    let plain : wants_page n.0 ≡ false =
+    sym (ap wants_page (c.last.ensures old.book.entries entry n.1)) ∙ sym c.wants_page.ensures ∙ c.if-not-wants_page.true in
+    once-all tell c.args.session c.args.line c.args.e c.requires.names old mid n.0 noted
+    (λ w w' turns fits. needs-none w.scene.state c.args.e n.0 plain)
+
+pub last_entry-last-requires : goal.last_entry-last-requires
+last_entry-last-requires g c =
+    let n = c.in_ok-call.ensures.noted in
+    let before : List Entry = c.args.hall.now.book.entries in
+    let entry : Entry = record { session = c.args.session; line = c.args.line; event = c.args.e; reply = n.0 } in
+    let told : wants_page n.0 ≡ true =
+    sym (ap wants_page (c.last.ensures before entry n.1)) ∙ sym c.wants_page.ensures ∙ c.if-not-wants_page.false in
+    (before, entry, n.1, told)
+
 pub returns-in-None-clause-memory : goal.returns-in-None-clause-memory
 returns-in-None-clause-memory g c = tt
+
+pub returns-then-not-wants_page-clause-memory : goal.returns-then-not-wants_page-clause-memory
+returns-then-not-wants_page-clause-memory g c = tt
 
 pub returns-in_err-again-in-Some-clause-done : goal.returns-in_err-again-in-Some-clause-done
 returns-in_err-again-in-Some-clause-done g c =

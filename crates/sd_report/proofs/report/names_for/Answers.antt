@@ -5,6 +5,7 @@ use Rattle.sd_base.specs.declared.refusal.Memory.{Memory}
 use Rattle.sd_model.specs.declared.event.Entry.{Entry}
 use Rattle.sd_forms.specs.declared.line.Line.{Line}
 use Rattle.sd_report.specs.declared.txn_names.TxnNames.{TxnNames}
+use Rattle.sd_book.specs.Booked.{entries_in}
 use Rattle.sd_report.specs.Names.{name_in}
 use Rattle.sd_report.specs.Report.{gathered, report, reported, names_of}
 use Rattle.sd_report.proofs.Unnamed.{same_report}
@@ -12,7 +13,8 @@ use Rattle.sd_report.proofs.report.names_for.Goals as goal
 
 pub returns-else-any_tells_txn : goal.returns-else-any_tells_txn
 returns-else-any_tells_txn c =
-    same_report (name_in c.new.result) (names_of c.args.lines.now c.args.entries.now) c.args.lines.now c.args.entries.now
+    same_report (name_in c.new.result) (names_of c.args.lines.now (entries_in c.args.entries)) c.args.lines.now
+    (entries_in c.args.entries)
     (sym c.any_tells_txn.ensures ∙ c.if-any_tells_txn.false)
 
 named_report : (lines : List Line) (entries : List Entry) (r : Result TxnNames Memory)
@@ -22,4 +24,4 @@ named_report lines entries (Ok names) same = λ i. gathered (reported (λ t. sam
 named_report lines entries (Err e) same = tt
 
 pub returns-then-any_tells_txn : goal.returns-then-any_tells_txn
-returns-then-any_tells_txn c = named_report c.args.lines.now c.args.entries.now c.of.result c.of.ensures
+returns-then-any_tells_txn c = named_report c.args.lines.now (entries_in c.args.entries) c.of.result c.of.ensures

@@ -1,4 +1,5 @@
 use Rattle.std.proofs.Common.{◌≡◌, ℕ, take}
+use Rattle.sd_book.specs.Booked.{entries_in}
 use Rattle.sd_report.specs.Names.{name_in}
 use Rattle.sd_report.specs.Report.{gathered, reported}
 use Rattle.sd_report.proofs.LineOrder.{Parted}
@@ -7,6 +8,6 @@ use Rattle.sd_report.proofs.report.render.Given as goal
 abbrev pub invariant-loop-line : goal.invariant-loop-line
 invariant-loop-line l =
     record {
-      parted : (low : ℕ) × Parted l.lines l.entries l.rest l.line-index low;
-      text : l.out.items ≡ gathered (reported (name_in l.names)) (take l.line-index l.lines) l.entries;
+      parted : (low : ℕ) × Parted l.lines (entries_in l.entries) (entries_in l.rest) l.line-index low;
+      text : l.out.items ≡ gathered (reported (name_in l.names)) (take l.line-index l.lines) (entries_in l.entries);
     }
