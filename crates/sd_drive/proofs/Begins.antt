@@ -14,14 +14,14 @@ use Rattle.sd_forms.specs.declared.line.Line.{Line}
 use Rattle.sd_script.specs.Order.{begun, begun_by, has_name}
 use Rattle.sd_world.specs.Serving.{Telling}
 use Rattle.sd_drive.specs.declared.driver.Driver.{Driver}
-use Rattle.sd_pull.specs.Driving.{Cursor, Work, World, done, works_of}
-use Rattle.sd_pull.specs.Lines.{Names, named_by, rolls_back}
-use Rattle.sd_pull.specs.Operating.{Came}
+use Rattle.sd_rise.specs.Passed.Driving.{Cursor, Work, World, done, works_of}
+use Rattle.sd_rise.specs.Passed.Lines.{Names, named_by, rolls_back}
+use Rattle.sd_rise.specs.Passed.Operating.{Came}
 use Rattle.sd_drive.specs.Reaching.{IsSame, Reached, named}
-use Rattle.sd_pull.specs.Replies.{began_by}
+use Rattle.sd_rise.specs.Passed.Replies.{began_by}
 use Rattle.sd_drive.proofs.Lines.{goes-there, once-ends}
 use Rattle.sd_drive.proofs.Naming.{begun-more, named-none, named-push}
-use Rattle.sd_pull.specs.Running.{Start}
+use Rattle.sd_rise.specs.Passed.Running.{Start}
 
 -- where the begin is refused the name has no transaction, as before
 none-now : (names : List (List ℕ)) (txns : List (Option TxnId)) (name q : List ℕ) → has_name names name ≡ false

@@ -19,8 +19,8 @@ use Rattle.sd_forms.specs.declared.line.Line.{Line}
 use Rattle.sd_places.specs.Places.{PageEntry}
 use Rattle.sd_world.specs.Pages.{Pages, page_placed}
 use Rattle.sd_world.specs.Serving.{Core}
-use Rattle.sd_pull.specs.Driving.{Cursor, IsTold, Progress, Tells, Work, done, followed, marked, stays, untold, works_of}
-use Rattle.sd_pull.specs.Pulls.{Pull}
+use Rattle.sd_rise.specs.Passed.Driving.{Cursor, IsTold, Progress, Tells, Work, done, followed, marked, stays, untold, works_of}
+use Rattle.sd_rise.specs.Passed.Pulls.{Pull}
 use Rattle.sd_rise.proofs.Pools.{idle-leavers}
 
 abbrev s : List ℕ

@@ -11,3 +11,4 @@ pub mod Replays
 mod Risen
 mod Example
 mod Restarts
+pub mod Passed

@@ -15,8 +15,8 @@ use Rattle.sd_model.specs.declared.event.Reply.TheVariants as reply
 use Rattle.sd_forms.specs.declared.line.Form.{Form}
 use Rattle.sd_forms.specs.declared.line.Form.TheVariants as form
 use Rattle.sd_forms.specs.declared.line.Line.{Line}
-use Rattle.sd_pull.specs.Driving.{Cursor, IsTold, Progress, Tells, Work, done, stays}
-use Rattle.sd_pull.specs.Pulls.{Pull}
+use Rattle.sd_rise.specs.Passed.Driving.{Cursor, IsTold, Progress, Tells, Work, done, stays}
+use Rattle.sd_rise.specs.Passed.Pulls.{Pull}
 use Rattle.sd_rise.proofs.Example.{core, helps, needed, none, page, state}
 
 abbrev line : ℕ → Form → Line

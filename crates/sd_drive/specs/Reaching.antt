@@ -8,15 +8,15 @@ use Rattle.sd_forms.specs.declared.line.Line.{Line}
 use Rattle.sd_forms.specs.Forms.{IsForm}
 use Rattle.sd_script.specs.Order.{Follows, begun, insts_of, ordinal_of, pages_of}
 use Rattle.sd_world.specs.Serving.{Telling}
-use Rattle.sd_pull.specs.Bodies.{depth_in}
+use Rattle.sd_rise.specs.Passed.Bodies.{depth_in}
 use Rattle.sd_drive.specs.declared.driver.Driver.{Driver}
-use Rattle.sd_pull.specs.Driven.{IsIn}
-use Rattle.sd_pull.specs.Driving.{Cursor, Known, World, ahead, next_absent, works_of}
-use Rattle.sd_pull.specs.Operating.{IsDueFor}
-use Rattle.sd_pull.specs.Lines.{Names}
-use Rattle.sd_pull.specs.Pulls.{Pull}
-use Rattle.sd_pull.specs.Running.{Start}
-use Rattle.sd_pull.specs.Standing.{GoesBack}
+use Rattle.sd_rise.specs.Passed.Driven.{IsIn}
+use Rattle.sd_rise.specs.Passed.Driving.{Cursor, Known, World, ahead, next_absent, works_of}
+use Rattle.sd_rise.specs.Passed.Operating.{IsDueFor}
+use Rattle.sd_rise.specs.Passed.Lines.{Names}
+use Rattle.sd_rise.specs.Passed.Pulls.{Pull}
+use Rattle.sd_rise.specs.Passed.Running.{Start}
+use Rattle.sd_rise.specs.Passed.Standing.{GoesBack}
 
 -- the name and the ordinal that a line tells of its transaction, where it has one
 abbrev pub name_in : Form → List ℕ

@@ -2,15 +2,14 @@
 
 ghost use Rattle.std.specs.Prelude.{◌≡◌, ◌+◌, ◌<◌, ◌≤◌, ℕ, true, List, [], IfOk, OnErr, OnOk, Some, length};
 ghost use Rattle.sd_world.specs.Serving.{Core, telling};
-ghost use Rattle.sd_hall.specs.Keeping.{Keeps};
+ghost use Rattle.sd_rise.specs.Passed.{IsRigIn, Keeps, fits_in};
 ghost use Rattle.sd_forms.specs.declared.line.Line.{Line};
-ghost use Rattle.sd_serve.specs.Bodies.{IsRigIn, fits_in};
-ghost use Rattle.sd_pull.specs.Bodies.{status_in};
-ghost use Rattle.sd_pull.specs.Driven.{IsIn};
-ghost use Rattle.sd_pull.specs.Running.{Start};
-ghost use Rattle.sd_pull.specs.Driving.{IsTold, World, lister_by};
+ghost use Rattle.sd_rise.specs.Passed.Bodies.{status_in};
+ghost use Rattle.sd_rise.specs.Passed.Driven.{IsIn};
+ghost use Rattle.sd_rise.specs.Passed.Running.{Start};
+ghost use Rattle.sd_rise.specs.Passed.Driving.{IsTold, World, lister_by};
 ghost use Rattle.sd_forms.specs.declared.line.Form.TheVariants as form;
-ghost use Rattle.sd_pull.specs.Lines.{Names, event_of, rolls_back};
+ghost use Rattle.sd_rise.specs.Passed.Lines.{Names, event_of, rolls_back};
 ghost use Rattle.sd_rise.specs.Rising.{HasRisen};
 ghost use Rattle.sd_drive.specs.Recovering.{LineRecovers, RecoversNow, RecoversSome};
 ghost use Rattle.sd_drive.specs.Reaching.{AreDriven, AtLine, DrivesLine, DrivesSome, IsJoining, IsPlain, IsRolledBack, IsSame, IsShort, JoinsNow, JoinsSome, Knows, Reached, Undoes, UndoesAll, UndoesSome, at_ordinal, ordinal_in};
@@ -18,11 +17,12 @@ ghost use Rattle.sd_drive.specs.Reaching.{AreDriven, AtLine, DrivesLine, DrivesS
 use crate::forms::{event_by, lone_event, ordinal};
 use sd_base::{InstNo, Memory, TxnId};
 use sd_book::Book;
-use sd_hall::Hall;
 use sd_model::Event;
-use sd_pull::{Outcome, Owner, began, is_did, is_joined, is_rows, is_step, operate, recover};
 use sd_rig::Rig;
-use sd_rise::{Rise, inst_no, is_down, is_up, page_no, status_of};
+use sd_rise::{
+    Hall, Outcome, Owner, Rise, began, inst_no, is_did, is_down, is_joined, is_rows, is_step,
+    is_up, operate, page_no, recover, status_of,
+};
 use sd_script::{Form, Line};
 use std::alloc::Global;
 

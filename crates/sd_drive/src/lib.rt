@@ -8,7 +8,7 @@
 //! first refusal.
 //! Refuses: `Memory`, after which what was noted was due.
 //! Knows nothing of: text, reports, what is done before the first line (sd_rise), what an event does, how a page comes.
-//! Stands on: sd_base, sd_model, sd_book, sd_rig, sd_places, sd_world, sd_serve, sd_forms, sd_script, sd_hall, sd_pull, sd_rise.
+//! Stands on: sd_base, sd_model, sd_book, sd_rig, sd_places, sd_world, sd_forms, sd_script, sd_rise.
 //! Held by the caller: that the lines stand as the grammar of scripts has them (`AreDriven`).
 //!
 //! To change:
@@ -21,3 +21,4 @@ mod driver;
 mod forms;
 
 pub use driver::Driver;
+pub use sd_rise::{Hall, Rise};

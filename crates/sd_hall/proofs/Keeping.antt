@@ -17,9 +17,9 @@ use Rattle.sd_state.specs.declared.complex.Shape.{Shape}
 use Rattle.sd_fits.specs.declared.body.Body.{Body}
 use Rattle.sd_fits.proofs.Framed.{turns-frames}
 use Rattle.sd_hall.specs.declared.hall.Hall.{Hall}
-use Rattle.sd_serve.specs.Bodies.{IsAwaited, IsAwaitedIn, IsDownAt, IsWorked, IsWorkedIn, ServesIn}
-use Rattle.sd_serve.specs.Owed.{IsOwed}
-use Rattle.sd_serve.specs.Served.{IsServed}
+use Rattle.sd_owed.specs.Passed.Bodies.{IsAwaited, IsAwaitedIn, IsDownAt, IsWorked, IsWorkedIn, ServesIn}
+use Rattle.sd_owed.specs.Passed.Owed.{IsOwed}
+use Rattle.sd_owed.specs.Passed.Served.{IsServed}
 use Rattle.sd_hall.specs.Keeping.{HasPlace, Keeps, MakesPlace}
 use Rattle.sd_owed.specs.Ledger.{entries_owed, owed_more}
 use Rattle.sd_owed.proofs.Owes.{step-owed}

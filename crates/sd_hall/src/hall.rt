@@ -15,20 +15,19 @@ ghost use Rattle.sd_world.specs.Serving.{Core, telling};
 ghost use Rattle.sd_fits.specs.Bodies.{rig_of};
 ghost use Rattle.sd_fits.specs.Opened.{opening_core};
 ghost use Rattle.sd_shut.specs.Closing.{NeitherClosesNorOpens};
-ghost use Rattle.sd_serve.specs.Bodies.{IsAwaited, IsAwaitedIn, IsDownAt, IsRigIn, IsWorked, IsWorkedIn, ServesIn};
-ghost use Rattle.sd_serve.specs.Bodies.{fits_in, open_in};
-ghost use Rattle.sd_serve.specs.Owed.{IsOwed};
-ghost use Rattle.sd_serve.specs.Served.{IsServed, told_in};
+ghost use Rattle.sd_owed.specs.Passed.Bodies.{IsAwaited, IsAwaitedIn, IsDownAt, IsRigIn, IsWorked, IsWorkedIn, ServesIn};
+ghost use Rattle.sd_owed.specs.Passed.Bodies.{fits_in, open_in};
+ghost use Rattle.sd_owed.specs.Passed.Owed.{IsOwed};
+ghost use Rattle.sd_owed.specs.Passed.Served.{IsServed, told_in};
 ghost use Rattle.sd_hall.specs.Keeping.{HasPlace, Keeps};
 
 use sd_base::{Memory, Refusal};
 use sd_book::Book;
 use sd_fits::Body;
 use sd_model::{Event, Reply};
-use sd_owed::{is_owed_in, more};
+use sd_owed::{is_owed_in, more, put_told, serve_body, turned};
 use sd_restart::restart;
 use sd_rig::Rig;
-use sd_serve::{put_told, serve_body, turned};
 use sd_state::{Complex, Shape};
 use std::alloc::Global;
 

@@ -12,7 +12,7 @@ ghost use Rattle.sd_state.specs.Laws.{newest_of};
 ghost use Rattle.sd_state.specs.Parts.{pool_at};
 ghost use Rattle.sd_world.specs.Serving.{Core, telling};
 ghost use Rattle.sd_state.specs.declared.complex.Complex.{Complex};
-ghost use Rattle.sd_serve.specs.Bodies.{open_in};
+ghost use Rattle.sd_owed.specs.Passed.Bodies.{open_in};
 ghost use Rattle.sd_hall.specs.Keeping.{Keeps};
 
 use crate::hall::Hall;

@@ -11,7 +11,7 @@
 //! Refuses: `Memory`, which notes nothing, and after which the complex fits the same core; as it opens, also `Failed`, `Damaged`.
 //! Knows nothing of: sessions, scripts, how a line is driven, by which call an event is served.
 //! Stands on: sd_base, sd_model, sd_book, sd_page, sd_rig, sd_pool, sd_places, sd_pagelock, sd_chain, sd_recovered,
-//! sd_coherent, sd_world, sd_state, sd_fits, sd_restart, sd_shut, sd_serve, sd_owed.
+//! sd_coherent, sd_world, sd_state, sd_fits, sd_restart, sd_shut, sd_owed.
 //! Held by the caller: that the event is one of those that are served (`IsServed`); that a pool has a frame, and at most 1,024.
 //!
 //! To change:

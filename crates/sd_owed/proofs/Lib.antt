@@ -5,3 +5,4 @@ mod Owing
 mod Fallen
 pub mod Opening
 pub mod Bodies
+pub mod Passed

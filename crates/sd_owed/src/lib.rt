@@ -21,3 +21,4 @@
 mod ledger;
 
 pub use ledger::{is_owed_in, more};
+pub use sd_serve::{put_told, serve_body, turned};

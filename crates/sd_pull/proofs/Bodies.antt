@@ -13,7 +13,7 @@ use Rattle.sd_world.specs.Serving.{Core, Telling}
 use Rattle.sd_fits.specs.Bodies.{ServingHall, fits_body}
 use Rattle.sd_fits.specs.Serving.{fits_by}
 use Rattle.sd_fits.specs.declared.body.Body.{Body}
-use Rattle.sd_serve.specs.Bodies.{ServesIn, fits_in, open_in}
+use Rattle.sd_hall.specs.Passed.{ServesIn, fits_in, open_in}
 use Rattle.sd_hall.specs.declared.hall.Hall.{Hall}
 use Rattle.sd_pull.specs.Bodies.{asks_in, depth_in, entry_in, status_in}
 use Rattle.sd_pull.specs.Driven.{IsIn}

@@ -13,7 +13,7 @@ use Rattle.sd_forms.specs.declared.line.Line.{Line}
 use Rattle.sd_world.specs.Serving.{Core, FaultsAre, Telling}
 use Rattle.sd_fits.specs.Bodies.{rig_of}
 use Rattle.sd_fits.specs.declared.body.Body.{Body}
-use Rattle.sd_serve.specs.Bodies.{IsRigIn}
+use Rattle.sd_hall.specs.Passed.{IsRigIn}
 use Rattle.sd_hall.specs.declared.hall.Hall.{Hall}
 use Rattle.sd_pull.specs.Driven.{IsIn, MarksLast, ends_failed, tells_fault}
 use Rattle.sd_pull.specs.Driving.{Cursor, Helps, Own, Progress, Tells, TellsAt, TellsFirst, TellsWork, Work, World, cursor_in, due_works, event_at, fails, followed, goes_on, marked, puller_of, stays}

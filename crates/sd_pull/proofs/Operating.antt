@@ -8,7 +8,7 @@ use Rattle.sd_model.specs.declared.event.Reply.{Reply}
 use Rattle.sd_places.specs.Places.{holds_as}
 use Rattle.sd_forms.specs.declared.line.Line.{Line}
 use Rattle.sd_world.specs.Serving.{Core, Telling}
-use Rattle.sd_serve.specs.Bodies.{fits_in}
+use Rattle.sd_hall.specs.Passed.{fits_in}
 use Rattle.sd_hall.specs.declared.hall.Hall.{Hall}
 use Rattle.sd_world.specs.PageCauses.{names_page}
 use Rattle.sd_pull.specs.Driven.{HasEnded, IsIn, IsSomewhere, PulledIn, PullsAll, PullsSome, StaysIn}

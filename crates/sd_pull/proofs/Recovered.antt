@@ -18,7 +18,7 @@ use Rattle.sd_model.specs.State.{State}
 use Rattle.sd_model.specs.Step.{Step}
 use Rattle.sd_world.specs.PageCauses.{IsNeededPage}
 use Rattle.sd_world.specs.Serving.{Core, Telling}
-use Rattle.sd_serve.specs.Bodies.{AwaitsIn, IsAwaited, fits_in}
+use Rattle.sd_hall.specs.Passed.{AwaitsIn, IsAwaited, fits_in}
 use Rattle.sd_hall.specs.declared.hall.Hall.{Hall}
 use Rattle.sd_pull.specs.declared.recovery.Outcome.{Outcome}
 use Rattle.sd_pull.specs.declared.recovery.Outcome.TheVariants as outcomes

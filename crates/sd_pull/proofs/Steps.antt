@@ -7,7 +7,7 @@ use Rattle.sd_model.specs.declared.event.Reply.{Reply}
 use Rattle.sd_world.specs.Serving.{Core, KeepsEarlier, Telling, Turns}
 use Rattle.sd_fits.specs.Bodies.{ServingHall, rig_of}
 use Rattle.sd_fits.specs.declared.body.Body.{Body}
-use Rattle.sd_serve.specs.Bodies.{ServesIn, fits_in}
+use Rattle.sd_hall.specs.Passed.{ServesIn, fits_in}
 use Rattle.sd_hall.specs.Keeping.{Keeps}
 use Rattle.sd_hall.specs.declared.hall.Hall.{Hall}
 use Rattle.sd_pull.specs.Driven.{Helped, IsIn, MarksLast, StaysIn}

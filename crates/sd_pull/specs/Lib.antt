@@ -9,3 +9,4 @@ pub mod Running
 pub mod Driven
 pub mod Operating
 pub mod Recoveries
+pub mod Passed

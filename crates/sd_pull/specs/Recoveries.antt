@@ -10,7 +10,7 @@ use Rattle.sd_model.specs.declared.event.Reply.TheVariants as reply
 use Rattle.sd_world.specs.PageCauses.{IsNeededPage}
 use Rattle.sd_world.specs.Serving.{Core, Telling}
 use Rattle.sd_fits.specs.declared.body.Body.{Body}
-use Rattle.sd_serve.specs.Bodies.{AwaitsIn, fits_in}
+use Rattle.sd_hall.specs.Passed.{AwaitsIn, fits_in}
 use Rattle.sd_hall.specs.declared.hall.Hall.{Hall}
 use Rattle.sd_pull.specs.declared.recovery.Outcome.{Outcome}
 use Rattle.sd_pull.specs.declared.recovery.Outcome.TheVariants as outcomes

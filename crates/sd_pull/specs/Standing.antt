@@ -14,7 +14,7 @@ use Rattle.sd_model.specs.State.{State}
 use Rattle.sd_world.specs.PageCauses.{undo_page}
 use Rattle.sd_world.specs.Serving.{Core, Telling, Turns}
 use Rattle.sd_fits.specs.declared.body.Body.{Body}
-use Rattle.sd_serve.specs.Bodies.{fits_in}
+use Rattle.sd_hall.specs.Passed.{fits_in}
 use Rattle.sd_pull.specs.Driving.{Cursor, Known, Work, World, cursor_in, due_works, event_at, stays}
 use Rattle.sd_pull.specs.Pulls.{Pull, Puller, is_pulling, is_vain, puller}
 

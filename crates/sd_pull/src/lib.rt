@@ -10,8 +10,8 @@
 //! `specs/Measure.antt`).
 //! Refuses: `Memory`, after which what was noted was due.
 //! Knows nothing of: the order of lines, who recovers and joins, text, what an event does.
-//! Stands on: sd_base, sd_model, sd_book, sd_page, sd_logrec, sd_rig, sd_pool, sd_txn, sd_places, sd_asks, sd_pagelock, sd_chain,
-//! sd_sound, sd_coherent, sd_world, sd_state, sd_undos, sd_fits, sd_tasks, sd_serve, sd_forms, sd_script, sd_hall.
+//! Stands on: sd_base, sd_model, sd_book, sd_page, sd_logrec, sd_rig, sd_pool, sd_txn, sd_places, sd_asks, sd_pagelock,
+//! sd_chain, sd_sound, sd_coherent, sd_world, sd_state, sd_undos, sd_fits, sd_tasks, sd_forms, sd_hall.
 //! Lends: in `proofs`, how a world goes on by an entry (Steps, Marks, Running, Telling), what bodies have (Bodies), and what a
 //! pull and a recovery come to (Pulled, Recovered).
 //! Held by the caller: that the event is the one that is due.
@@ -31,3 +31,4 @@ pub use events::operate;
 pub use pull::must_write;
 pub use recovery::{Outcome, Owner, recover};
 pub use replies::{began, is_did, is_failed, is_joined, is_rows, is_step};
+pub use sd_hall::Hall;

@@ -3,7 +3,7 @@
 
 ghost use Rattle.std.specs.Prelude.{◌≡◌, IfOk, OnErr, Some};
 ghost use Rattle.sd_fits.specs.declared.body.Body.{Body};
-ghost use Rattle.sd_serve.specs.Bodies.{fits_in};
+ghost use Rattle.sd_hall.specs.Passed.{fits_in};
 ghost use Rattle.sd_model.specs.declared.event.Event.TheVariants as event;
 ghost use Rattle.sd_state.specs.Complexes.{parts};
 ghost use Rattle.sd_state.specs.Parts.{IsShape};

@@ -6,7 +6,7 @@
 //! that is told as up is up (`is_up`).
 //! Refuses: what sd_one refuses; want of memory by `begun` and `written` only where it comes twice.
 //! Knows nothing of: commits, rollbacks, forces, crashes.
-//! Stands on: sd_base, sd_rig, sd_log, sd_state, sd_one.
+//! Stands on: sd_base, sd_rig, sd_state, sd_one.
 //! Beside the house: tests hold it, and no part of the program is to stand on it.
 //!
 //! To change:

@@ -16,8 +16,7 @@ use Rattle.sd_world.specs.Leading.{Leads}
 use Rattle.sd_world.specs.Serving.{Core, Telling}
 use Rattle.sd_fits.specs.Bodies.{fits_body, rig_of}
 use Rattle.sd_fits.specs.declared.body.Body.{Body}
-use Rattle.sd_serve.specs.Bodies.{IsRigIn, fits_in}
-use Rattle.sd_hall.specs.Keeping.{Keeps}
+use Rattle.sd_pull.specs.Passed.{IsRigIn, Keeps, fits_in}
 use Rattle.sd_rise.specs.declared.rise.Rise.{Rise}
 use Rattle.sd_pull.specs.declared.recovery.Outcome.{Outcome}
 use Rattle.sd_pull.specs.declared.recovery.Outcome.TheVariants as outcomes

@@ -11,7 +11,7 @@ use Rattle.sd_forms.specs.declared.line.Line.{Line}
 use Rattle.sd_world.specs.Pages.{Pages, is_duty}
 use Rattle.sd_world.specs.Serving.{Core, Telling}
 use Rattle.sd_fits.specs.declared.body.Body.{Body}
-use Rattle.sd_serve.specs.Bodies.{fits_in, open_in}
+use Rattle.sd_pull.specs.Passed.{fits_in, open_in}
 use Rattle.sd_rise.specs.declared.rise.Rise.{Rise}
 use Rattle.sd_rise.specs.declared.emptying.Going.{Going}
 use Rattle.sd_rise.specs.declared.emptying.Going.TheVariants as goings

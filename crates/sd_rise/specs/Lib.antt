@@ -2,3 +2,4 @@ pub mod Rising
 pub mod Going
 pub mod Emptying
 pub mod Restarting
+pub mod Passed

@@ -4,16 +4,15 @@ ghost use Rattle.std.specs.Prelude.{◌≡◌};
 ghost use Rattle.sd_pagelock.specs.Directory.{entry_at};
 ghost use Rattle.sd_state.specs.Complexes.{parts};
 ghost use Rattle.sd_state.specs.Parts.{IsShape, status_at};
-ghost use Rattle.sd_serve.specs.Bodies.{fits_in};
+ghost use Rattle.sd_pull.specs.Passed.{fits_in};
 ghost use Rattle.sd_world.specs.Serving.{Core};
 ghost use Rattle.sd_pull.specs.Bodies.{entry_in, status_in};
 ghost use Rattle.sd_rise.specs.Going.{going_as};
 
 use crate::standing::is_up;
 use sd_base::{InstNo, PageNo};
-use sd_hall::Hall;
 use sd_pagelock::rows;
-use sd_pull::must_write;
+use sd_pull::{Hall, must_write};
 use sd_rig::Rig;
 use sd_state::Complex;
 

@@ -8,8 +8,7 @@
 //! (`Rise::opening`, `opened`, `memory`). What is refused is noted, and the next one has its turn.
 //! Refuses: `Memory`, after which what was noted was due; `Failed`, where the rig's count of faults rose (`breaks`).
 //! Knows nothing of: text, what lines say, what an event does, how a page comes.
-//! Stands on: sd_base, sd_model, sd_book, sd_rig, sd_places, sd_pagelock, sd_world, sd_state, sd_fits, sd_serve, sd_forms, sd_hall,
-//! sd_pull.
+//! Stands on: sd_base, sd_model, sd_book, sd_rig, sd_places, sd_pagelock, sd_world, sd_state, sd_fits, sd_forms, sd_pull.
 //! Lends: how an instance stands (`status_of`), and in `proofs` the first number that passes a test (Finding), and copies (Pools).
 //! Held by the caller: that nothing has happened in the hall.
 //!
@@ -24,4 +23,7 @@ mod rise;
 mod standing;
 
 pub use rise::Rise;
+pub use sd_pull::{
+    Hall, Outcome, Owner, began, is_did, is_joined, is_rows, is_step, operate, recover,
+};
 pub use standing::{inst_no, is_down, is_up, page_no, status_of};

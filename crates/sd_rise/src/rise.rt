@@ -5,9 +5,7 @@ ghost use Rattle.sd_base.specs.declared.refusal.Refusal.TheVariants as R;
 ghost use Rattle.sd_model.specs.declared.event.Reply.{Reply};
 ghost use Rattle.sd_forms.specs.declared.line.Line.{Line};
 ghost use Rattle.sd_world.specs.Serving.{Core, telling};
-ghost use Rattle.sd_serve.specs.Bodies.{IsRigIn};
-ghost use Rattle.sd_serve.specs.Served.{IsServed};
-ghost use Rattle.sd_hall.specs.Keeping.{Keeps};
+ghost use Rattle.sd_pull.specs.Passed.{IsRigIn, IsServed, Keeps};
 ghost use Rattle.sd_pull.specs.Driven.{IsIn, IsSomewhere, StaysIn, is_did};
 ghost use Rattle.sd_pull.specs.Driving.{Cursor, World};
 ghost use Rattle.sd_pull.specs.Running.{Breaks};
@@ -19,9 +17,8 @@ use crate::emptying::{Going, going_of};
 use crate::standing::{inst_no, is_down, is_up, page_no, status_of};
 use sd_base::{InstNo, PageNo, Refusal};
 use sd_book::Book;
-use sd_hall::Hall;
 use sd_model::Event;
-use sd_pull::{Outcome, Owner, is_did, is_failed, recover};
+use sd_pull::{Hall, Outcome, Owner, is_did, is_failed, recover};
 use sd_rig::Rig;
 
 /// A hall that rises, and how many instances and pages its scripts have.

@@ -2,12 +2,12 @@
 
 ghost use Rattle.std.specs.Prelude.{◌≡◌, ◌<◌, ◌≤◌};
 ghost use Rattle.sd_world.specs.Serving.{Core};
-ghost use Rattle.sd_serve.specs.Bodies.{fits_in};
+ghost use Rattle.sd_pull.specs.Passed.{fits_in};
 ghost use Rattle.sd_pull.specs.Bodies.{status_in};
 ghost use Rattle.sd_pull.specs.Driving.{is_down, is_up};
 
 use sd_base::{InstNo, PageNo, Status};
-use sd_hall::Hall;
+use sd_pull::Hall;
 use sd_rig::Rig;
 
 /// How the instance stands; closed, where no complex is open.

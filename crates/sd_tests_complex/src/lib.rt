@@ -1,7 +1,6 @@
 //! Runs of the complex: what no clause of its crates shows.
 //!
-//! Stands on: sd_base, sd_logrec, sd_rig, sd_log, sd_page, sd_pool, sd_txn, sd_sound, sd_state, sd_restart, sd_world, sd_seals,
-//! sd_opened, sd_fits, sd_one, sd_ready.
+//! Stands on: sd_base, sd_logrec, sd_rig, sd_log, sd_state, sd_restart, sd_seals, sd_opened, sd_fits, sd_one, sd_ready.
 #![tactic(auto)]
 
 #[cfg(test)]

@@ -1,6 +1,6 @@
 //! Runs of events through the hall: what no clause of its crates shows.
 //!
-//! Stands on: sd_base, sd_model, sd_book, sd_rig, sd_world, sd_state, sd_serve, sd_hall.
+//! Stands on: sd_base, sd_model, sd_rig, sd_world, sd_state, sd_hall.
 #![tactic(auto)]
 
 #[cfg(test)]

@@ -24,17 +24,14 @@ use Rattle.sd_fits.specs.declared.body.Body.{Body}
 use Rattle.sd_fits.specs.Bodies.{rig_of}
 use Rattle.sd_fits.specs.Opened.{opening_core}
 use Rattle.sd_fits.proofs.Opened.{is-opened}
-use Rattle.sd_serve.specs.Bodies.{IsRigIn, fits_in}
-use Rattle.sd_hall.specs.Keeping.{Keeps}
-use Rattle.sd_hall.specs.declared.hall.Hall.{Hall}
-use Rattle.sd_pull.specs.Driving.{IsTold, World}
-use Rattle.sd_pull.specs.Driven.{IsIn}
-use Rattle.sd_rise.specs.declared.rise.Rise.{Rise}
-use Rattle.sd_rise.specs.Rising.{before, begin_of}
+use Rattle.sd_drive.specs.Passed.{Hall, IsRigIn, Keeps, fits_in}
+use Rattle.sd_drive.specs.Passed.Driving.{IsTold, World}
+use Rattle.sd_drive.specs.Passed.Driven.{IsIn}
+use Rattle.sd_drive.specs.Passed.{Rise, before, begin_of}
 use Rattle.sd_drive.specs.Reaching.{Reached}
-use Rattle.sd_pull.specs.Running.{Breaks, Led, Start}
+use Rattle.sd_drive.specs.Passed.Running.{Breaks, Led, Start}
 use Rattle.sd_drive.specs.declared.driver.Driver.{Driver}
-use Rattle.sd_pull.proofs.Running.{drives-leads, ran-led}
+use Rattle.sd_drive.proofs.Passed.Running.{drives-leads, ran-led}
 use Rattle.sd_status.specs.declared.status.Status.{Status}
 use Rattle.sd_status.specs.declared.status.Status.TheVariants as status
 use Rattle.sd_status.specs.Sides.{SourceSide, SinkSide}

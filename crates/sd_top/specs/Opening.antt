@@ -12,9 +12,9 @@ use Rattle.sd_forms.specs.declared.line.Line.{Line}
 use Rattle.sd_script.specs.Order.{insts_of, pages_of}
 use Rattle.sd_world.specs.Serving.{Telling}
 use Rattle.sd_fits.specs.Opened.{opening_core}
-use Rattle.sd_pull.specs.Driving.{World}
-use Rattle.sd_rise.specs.Rising.{before}
-use Rattle.sd_pull.specs.Running.{Led, StandsOnWay, Start}
+use Rattle.sd_drive.specs.Passed.Driving.{World}
+use Rattle.sd_drive.specs.Passed.{before}
+use Rattle.sd_drive.specs.Passed.Running.{Led, StandsOnWay, Start}
 
 -- the frames of each pool
 abbrev pub frames_in : Form → ℕ

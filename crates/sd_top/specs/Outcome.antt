@@ -18,7 +18,7 @@ use Rattle.sd_status.specs.Sides.{SourceSide, SinkSide}
 use Rattle.sd_status.specs.Input.{Taken, IsAtEnd}
 use Rattle.sd_status.specs.Output.{AppendsFront}
 use Rattle.sd_status.specs.Reporting.{WrittenUnless, device_text}
-use Rattle.sd_pull.specs.Driving.{IsTold, World}
+use Rattle.sd_drive.specs.Passed.Driving.{IsTold, World}
 use Rattle.sd_top.specs.Opening.{AreRead, LedFrom}
 
 -- What a script that was read may change: the sink, and the devices.

@@ -12,8 +12,8 @@
 //! have their own status.
 //! Knows nothing of: how words are read, how a line is driven, how an event is served, how a text is written, which files or streams
 //! there are.
-//! Stands on: sd_base, sd_model, sd_book, sd_rig, sd_chain, sd_recovered, sd_world, sd_state, sd_fits, sd_restart, sd_serve,
-//! sd_forms, sd_script, sd_report, sd_hall, sd_pull, sd_rise, sd_drive, sd_command, sd_status.
+//! Stands on: sd_base, sd_model, sd_book, sd_rig, sd_chain, sd_recovered, sd_world, sd_state, sd_fits, sd_restart, sd_forms,
+//! sd_script, sd_report, sd_drive, sd_command, sd_status.
 //!
 //! To change:
 //! - free: bodies, proofs

@@ -6,7 +6,7 @@ use Rattle.sd_model.specs.declared.event.Entry.{Entry}
 use Rattle.sd_model.specs.declared.event.Event.{Event}
 use Rattle.sd_model.specs.declared.event.Reply.{Reply}
 use Rattle.sd_world.specs.Serving.{Telling, telling}
-use Rattle.sd_serve.specs.Served.{IsServed}
+use Rattle.sd_hall.specs.Passed.{IsServed}
 use Rattle.sd_pull.specs.Standing.{Wants}
 use Rattle.sd_pull.proofs.Helps.{on-err-both, on-err-then, on-ok-then}
 use Rattle.sd_book.specs.Booked.{wants_page}

@@ -2,8 +2,8 @@ use Rattle.std.proofs.Common.{ℕ, ◌≤◌, refl, sym, ap, ◌∙◌, subst}
 use Rattle.std.proofs.lemmas.Result.{err_from_is_err_and}
 use Rattle.sd_model.specs.declared.event.Event.TheVariants as event
 use Rattle.sd_world.specs.Serving.{Telling, telling}
-use Rattle.sd_pull.specs.Replies.{is_step}
-use Rattle.sd_pull.proofs.Operating.{came-some}
+use Rattle.sd_rise.specs.Passed.Replies.{is_step}
+use Rattle.sd_rise.proofs.Passed.Operating.{came-some}
 use Rattle.sd_drive.proofs.Undoing.{undo-due, undo-some, undone}
 use Rattle.sd_drive.proofs.driver.Driver.undo.Goals as goal
 

@@ -5,7 +5,7 @@ use Rattle.sd_state.specs.Complexes.{parts}
 use Rattle.sd_world.specs.Leading.{Leads}
 use Rattle.sd_world.specs.Serving.{Telling, telling}
 use Rattle.sd_fits.specs.Opened.{opening_core}
-use Rattle.sd_serve.proofs.Opening.{opened-on, opening-fits}
+use Rattle.sd_owed.proofs.Passed.Opening.{opened-on, opening-fits}
 use Rattle.sd_owed.proofs.Opening.{opening-owes}
 use Rattle.sd_hall.proofs.hall.Hall.open.Goals as goal
 
