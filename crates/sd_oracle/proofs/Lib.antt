@@ -1,3 +1,4 @@
+pub mod Answered
 pub mod Sums
 pub mod RowsWhole
 pub mod Outcomes

@@ -79,6 +79,10 @@ lower-all parts k old new end h = record {
   losers = λ i l. h.losers i (subst (AnyOf (Loses parts i)) (sym (take_all k parts end)) (part-any (λ t. (t.inst ≡ i) × ((part_in parts t).life ≡ Retained)) parts l.0 (λ e. let is = l.2 in let free = ap (λ (q : Part). q.life) e in cc) (l.1, l.2)));
 }
 
+pub left-free : (b : Bool) → Free ≡ left_claim b Free
+left-free true = refl
+left-free false = refl
+
 -- exclusive claims stay, but those that a transaction was freed of
 pub claims-kept : (F : Rid → Bool) (xs all new : List (Rid × Claim)) (k : ℕ) (x : Rid × Claim) → k < length xs → x ≡ get_or xs k x → x.1 ≡ Excl → F x.0 ≡ false → new ≡ all ++ x ∷ []
     → ((r : Rid) → claims_in all r ≡ left_claim (F r) (claims_in (take k xs) r)) → (r : Rid) → claims_in new r ≡ left_claim (F r) (claims_in (take (k + 1) xs) r)

@@ -1,16 +1,25 @@
--- What is told of an outcome, and what a recovery finds. It serves the goals of recoveries.rt and reopenings.rt.
-use Rattle.std.proofs.Common.{◌≡◌, Bool, true, false, List, [], ◌∷◌, ◌++◌, refl, sym, ap, ◌∙◌, subst, ℕ, append_assoc}
+-- What is told of an outcome, and what a recovery finds. It serves the goals of recoveries.rt, reopenings.rt and refusals.rt.
+use Rattle.std.proofs.Common.{◌≡◌, Bool, true, false, true≢false, List, [], ◌∷◌, ◌++◌, refl, sym, ap, ◌∙◌, subst, ℕ, append_assoc}
 use Rattle.std.specs.Bool.{if◌then◌else◌}
+use Rattle.std.specs.Prelude.{Result, Ok, Err, IfOk}
 use Rattle.sd_base.specs.declared.ids.TxnId.{TxnId}
+use Rattle.sd_base.specs.declared.refusal.Refusal.{Refusal}
+use Rattle.sd_base.specs.declared.refusal.Refusal.TheVariants as R
+use Rattle.sd_causes.specs.Firsts.{IsFirstOf}
+use Rattle.sd_model.specs.Causes.{has_cause}
+use Rattle.sd_model.specs.Refusing.{causes_of, Tells, Refuses}
 use Rattle.sd_model.specs.declared.act.Done.{Done}
+use Rattle.sd_model.specs.declared.cause.Cause.{Cause}
+use Rattle.sd_model.specs.declared.event.Event.{Event}
 use Rattle.sd_model.specs.declared.event.Event.TheVariants.{RecoverStep, Reopen}
-use Rattle.sd_model.specs.declared.event.Reply.TheVariants.{Did, Finished}
+use Rattle.sd_model.specs.declared.event.Reply.TheVariants.{Did, Finished, Refused}
 use Rattle.sd_model.specs.State.{State, committed}
 use Rattle.sd_model.specs.Changes.{commit_all, swept, AreInDoubt}
 use Rattle.sd_oracle.specs.declared.outcome.Outcome.{Outcome}
-use Rattle.sd_oracle.specs.declared.verdict.Verdict.TheVariants.{Follows, Differs}
-use Rattle.sd_oracle.specs.Outcomes.{IsFound, Finishes, Reopens}
-use Rattle.sd_oracle.specs.Judging.{JudgesTold}
+use Rattle.sd_oracle.specs.declared.verdict.Verdict.{Verdict}
+use Rattle.sd_oracle.specs.declared.verdict.Verdict.TheVariants.{Follows, Differs, Unjudged}
+use Rattle.sd_oracle.specs.Outcomes.{IsFound, Finishes, Reopens, Told}
+use Rattle.sd_oracle.specs.Judging.{JudgesTold, JudgesCause, Judges, IsToldOf, Hinders}
 
 -- the transactions of a list of committed ones
 txns : List Done → List TxnId
@@ -55,3 +64,30 @@ judged-reopened false o m m' h = (
   λ m1 row told. h.0 (subst (AreInDoubt m) (same-found m row.0 o.found (sym row.2.done ∙ told.0)) row.1),
   h.1,
 )
+
+off : {A : Type 0} → false ≡ true → A
+off e = absurd (true≢false (sym e))
+
+-- the cause of a failed device alone is told by the outcome
+told-cause : (o : Outcome) (m : State) (e : Event) (n : Refusal) (c : Cause) (m' : State) → has_cause c (causes_of n) ≡ true → IsToldOf o m e c m' → Told o m e (Refused n) m'
+told-cause o m e R.Failed Cause.Rig m' named h = h
+told-cause o m e R.Failed c m' named h = off named
+told-cause o m e n c m' named h = tt
+
+never-hindered : (o : Outcome) (m : State) (e : Event) (n : Refusal) (c d : Cause) (m' : State) → has_cause c (causes_of n) ≡ true → has_cause d (causes_of n) ≡ true → Hinders o m e c → Refuses m e d m' → Told o m e (Refused n) m' → ⊥
+never-hindered o m e R.Failed Cause.Rig d m' first named hinders left told = hinders told.0
+never-hindered o m e R.CutCommit Cause.Cut Cause.Cut m' first named hinders left told = hinders left.0
+never-hindered o m e R.CutCommit Cause.Cut d m' first named hinders left told = off named
+never-hindered o m e n Cause.Rig d m' first named hinders left told = off first
+never-hindered o m e n Cause.Cut d m' first named hinders left told = off first
+never-hindered o m e n c d m' first named hinders left told = absurd hinders
+
+judged-cause : (v : Verdict) (o : Outcome) (m : State) (e : Event) (n : Refusal) (c : Cause) (m' : State) → Tells m e n → IsFirstOf m e c (causes_of n) → JudgesCause v o m e c m' → Judges v o m e (Refused n) m'
+judged-cause Follows o m e n c m' tells first h = ((c, first.0, tells, first.1, h.0), told-cause o m e n c m' first.0 h.1)
+judged-cause Differs o m e n c m' tells first h = (λ m1 step told. never-hindered o m e n c step.0 m1 first.0 step.1 h.0 step.4 told, h.1)
+judged-cause Unjudged o m e n c m' tells first h = h
+
+-- what is judged of the first cause that applies is judged of its refusal
+pub judged-refusal : {M : Type 0} (r : Result Verdict M) (o : Outcome) (m : State) (e : Event) (n : Refusal) (c : Cause) (m' : State) → Tells m e n → IsFirstOf m e c (causes_of n) → IfOk r (λ v. JudgesCause v o m e c m') → IfOk r (λ v. Judges v o m e (Refused n) m')
+judged-refusal (Ok v) o m e n c m' tells first h = judged-cause v o m e n c m' tells first h
+judged-refusal (Err x) o m e n c m' tells first h = h

@@ -94,10 +94,20 @@ abbrev pub Finishes : Bool → ℕ → List TxnId → State → State → Type 0
 Finishes true i found m m' = IsFound m i found × (m' ≡ swept i (commit_all found m))
 Finishes false i found m m' = (IsFound m i found → ⊥) × (m' ≡ m)
 
+-- whether those that were found may commit, and what a sweep of the instance leaves then
+abbrev pub Sweeps : Bool → ℕ → List TxnId → State → State → Type 0
+Sweeps true i found m m' = AreInDoubt m found × (m' ≡ swept i (commit_all found m))
+Sweeps false i found m m' = AreInDoubt m found → ⊥
+
 -- whether a reopening may find these committed, and what it leaves
 abbrev pub Reopens : Bool → Outcome → State → State → Type 0
 Reopens true o m m' = AreInDoubt m o.found × Left (commit_all o.found m) m' × IsLeftBy o (commit_all o.found m) m'
 Reopens false o m m' = (AreInDoubt m o.found → ⊥) × (m' ≡ m)
+
+-- the same, whatever it leaves where they may not commit
+abbrev pub Leaves : Bool → Outcome → State → State → Type 0
+Leaves true o m m' = Reopens true o m m'
+Leaves false o m m' = AreInDoubt m o.found → ⊥
 
 -- a loser of the instance is among the standings
 abbrev pub HasLoserIn : List (TxnId × Standing) → ℕ → Type 0

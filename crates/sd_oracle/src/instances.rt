@@ -6,7 +6,7 @@ ghost use Rattle.sd_lists.specs.Lists.{meaning};
 ghost use Rattle.sd_oracle.specs.Judging.{IsOpenEnded, IsOfRecords, IsOfRollbacks, JudgesRow};
 
 use crate::pages::answer_page;
-use crate::replies::verdict;
+use crate::replies::{follows, said};
 use crate::rows::are_rows;
 use crate::verdict::Verdict;
 use sd_base::Memory;
@@ -24,32 +24,23 @@ pub fn answer_instance(lists: &mut Lists, event: &Event, reply: &Reply) -> Resul
 {
     match event {
         Event::List { page, .. } => match reply {
-            Reply::Rows(rows) => Ok(verdict(are_rows(lists, *page, rows.items()))),
+            Reply::Rows(rows) => said(Ok(are_rows(lists, *page, rows.items()))),
             _ => Ok(Verdict::Differs),
         },
         Event::Join { inst } => match reply {
-            Reply::Joined { epoch } => Ok(verdict(lists.answer_join(*inst, *epoch)?)),
+            Reply::Joined { epoch } => said(lists.answer_join(*inst, *epoch)),
             _ => Ok(Verdict::Differs),
         },
         Event::RecoverBegin { inst, by } => match reply {
-            Reply::Did => {
-                lists.recover(*inst, *by)?;
-                Ok(Verdict::Follows)
-            }
+            Reply::Did => follows(lists.recover(*inst, *by)),
             _ => Ok(Verdict::Differs),
         },
         Event::Fail { inst } => match reply {
-            Reply::Did => {
-                lists.fall(*inst)?;
-                Ok(Verdict::Follows)
-            }
+            Reply::Did => follows(lists.fall(*inst)),
             _ => Ok(Verdict::Differs),
         },
         Event::FailAll { .. } => match reply {
-            Reply::Did => {
-                lists.close()?;
-                Ok(Verdict::Follows)
-            }
+            Reply::Did => follows(lists.close()),
             _ => Ok(Verdict::Differs),
         },
         other => Ok(answer_page(other, reply)),

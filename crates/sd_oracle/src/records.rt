@@ -12,12 +12,10 @@ ghost use Rattle.sd_model.specs.declared.event.Event.TheVariants as E;
 ghost use Rattle.sd_model.specs.declared.event.Reply.TheVariants as R;
 ghost use Rattle.sd_model.specs.declared.act.Act.TheVariants as Act;
 
-use crate::replies::verdict;
+use crate::replies::said;
 use crate::rollbacks::answer_rollback;
 use crate::verdict::Verdict;
-use sd_base::{
-    Bytes, Duplicate, InstNo, Memory, PageNo, Rid, TxnId, copy_value, lent_value, same_value,
-};
+use sd_base::{Bytes, Duplicate, InstNo, Memory, PageNo, Rid, TxnId, lent_value, same_value};
 use sd_causes::locked;
 use sd_lists::Lists;
 use sd_model::{Act, Claim, Event, Reply, number_text, sum};
@@ -32,23 +30,23 @@ pub fn answer(lists: &mut Lists, event: &Event, reply: &Reply) -> Result<Verdict
 {
     match event {
         Event::Begin { inst } => match reply {
-            Reply::Began(txn) => Ok(verdict(answer_begin(lists, *inst, txn)?)),
+            Reply::Began(txn) => said(answer_begin(lists, *inst, txn)),
             _ => Ok(Verdict::Differs),
         },
         Event::Read { txn, rid } => match reply {
-            Reply::Value(value) => Ok(verdict(answer_read(lists, txn, rid, value)?)),
+            Reply::Value(value) => said(answer_read(lists, txn, rid, value)),
             _ => Ok(Verdict::Differs),
         },
         Event::Write { txn, rid, value } => match reply {
-            Reply::Did => Ok(verdict(answer_write(lists, txn, rid, value)?)),
+            Reply::Did => said(answer_write(lists, txn, rid, value)),
             _ => Ok(Verdict::Differs),
         },
         Event::Add { txn, rid, by } => match reply {
-            Reply::Did => Ok(verdict(answer_add(lists, txn, rid, *by)?)),
+            Reply::Did => said(answer_add(lists, txn, rid, *by)),
             _ => Ok(Verdict::Differs),
         },
         Event::Delete { txn, rid } => match reply {
-            Reply::Did => Ok(verdict(answer_put(lists, txn, rid, &None)?)),
+            Reply::Did => said(answer_put(lists, txn, rid, &None)),
             _ => Ok(Verdict::Differs),
         },
         Event::Insert {
@@ -57,13 +55,11 @@ pub fn answer(lists: &mut Lists, event: &Event, reply: &Reply) -> Result<Verdict
             value,
             capacity,
         } => match reply {
-            Reply::At(rid) => {
-                Ok(verdict(answer_insert(lists, txn, *page, value, *capacity, rid)?))
-            }
+            Reply::At(rid) => { said(answer_insert(lists, txn, *page, value, *capacity, rid)) }
             _ => Ok(Verdict::Differs),
         },
         Event::Commit { txn } => match reply {
-            Reply::Did => Ok(verdict(answer_commit(lists, txn)?)),
+            Reply::Did => said(answer_commit(lists, txn)),
             _ => Ok(Verdict::Differs),
         },
         other => answer_rollback(lists, other, reply),
@@ -111,7 +107,7 @@ fn answer_read(
     if !same_value(lists.view(txn, rid), lent_value(value)) {
         return Ok(false);
     }
-    let acts = read_alone(lists.alloc(), rid, value)?;
+    let acts = read_alone(lists.alloc(), rid, lent_value(value))?;
     lists.take(txn, rid, Claim::Shared, &acts)?;
     Ok(true)
 }
@@ -142,17 +138,9 @@ fn answer_put(
     let Some(old) = lists.view(txn, rid) else {
         return Ok(false);
     };
-    let acts = acts_over(alloc, rid, old, new)?;
+    let acts = read_and_put(alloc, rid, Some(old), lent_value(new))?;
     lists.take(txn, rid, Claim::Excl, &acts)?;
     Ok(true)
-}
-
-// The acts of a change of a record that has a value.
-fn acts_over(alloc: Global, rid: &Rid, old: &[u8], new: &Option<Bytes>) -> Result<Vec<Act>, Memory>
-    ensures { IfOk result (λ acts. acts.items ≡ Act.Read rid.now (Some old.now) ∷ Act.Put rid.now new.now ∷ []) }
-{
-    let old = Some(Bytes::copy_of(alloc, old)?);
-    read_and_put(alloc, rid, &old, new)
 }
 
 // An add that was done.
@@ -205,16 +193,9 @@ fn answer_insert(
         return Ok(false);
     }
     let _ = capacity;
-    let acts = acts_of_insert(lists.alloc(), rid, value)?;
+    let acts = read_and_put(lists.alloc(), rid, None, Some(value.items()))?;
     lists.take(txn, rid, Claim::Excl, &acts)?;
     Ok(true)
-}
-
-fn acts_of_insert(alloc: Global, rid: &Rid, value: &Bytes) -> Result<Vec<Act>, Memory>
-    ensures { IfOk result (λ acts. acts.items ≡ Act.Read rid.now None ∷ Act.Put rid.now (Some value.now) ∷ []) }
-{
-    let new = Some(value.copy()?);
-    read_and_put(alloc, rid, &None, &new)
 }
 
 // A commit that was done.
@@ -229,8 +210,8 @@ fn answer_commit(lists: &mut Lists, txn: &TxnId) -> Result<bool, Memory>
     Ok(true)
 }
 
-/// A copy of what was found.
-pub fn owned(alloc: Global, found: Option<&[u8]>) -> Result<Option<Bytes>, Memory>
+// A copy of what was found.
+fn owned(alloc: Global, found: Option<&[u8]>) -> Result<Option<Bytes>, Memory>
     ensures { IfOk result (λ value. value ≡ option_copied found.entry) }
 {
     match found {
@@ -240,13 +221,13 @@ pub fn owned(alloc: Global, found: Option<&[u8]>) -> Result<Option<Bytes>, Memor
 }
 
 /// The one act of finding this at the record.
-pub fn read_alone(alloc: Global, rid: &Rid, value: &Option<Bytes>) -> Result<Vec<Act>, Memory>
-    ensures { IfOk result (λ acts. acts.items ≡ Act.Read rid.now value.now ∷ []) }
+pub fn read_alone(alloc: Global, rid: &Rid, value: Option<&[u8]>) -> Result<Vec<Act>, Memory>
+    ensures { IfOk result (λ acts. acts.items ≡ Act.Read rid.now (option_copied value.entry) ∷ []) }
 {
     let mut acts = Vec::with_capacity(alloc, 1)?;
     acts.push(Act::Read {
         rid: *rid,
-        value: copy_value(value)?,
+        value: owned(alloc, value)?,
     })?;
     Ok(acts)
 }
@@ -254,15 +235,15 @@ pub fn read_alone(alloc: Global, rid: &Rid, value: &Option<Bytes>) -> Result<Vec
 fn read_and_put(
     alloc: Global,
     rid: &Rid,
-    old: &Option<Bytes>,
-    new: &Option<Bytes>,
+    old: Option<&[u8]>,
+    new: Option<&[u8]>,
 ) -> Result<Vec<Act>, Memory>
-    ensures { IfOk result (λ acts. acts.items ≡ Act.Read rid.now old.now ∷ Act.Put rid.now new.now ∷ []) }
+    ensures { IfOk result (λ acts. acts.items ≡ Act.Read rid.now (option_copied old.entry) ∷ Act.Put rid.now (option_copied new.entry) ∷ []) }
 {
     let mut acts = read_alone(alloc, rid, old)?;
     acts.push(Act::Put {
         rid: *rid,
-        value: copy_value(new)?,
+        value: owned(alloc, new)?,
     })?;
     Ok(acts)
 }

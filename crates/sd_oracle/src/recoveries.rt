@@ -4,17 +4,18 @@ ghost use Rattle.std.specs.Prelude.{◌≡◌, ◌↔◌, IsTrue, IfOk, OnErr};
 ghost use Rattle.sd_lists.specs.Lists.{meaning};
 ghost use Rattle.sd_oracle.specs.Judging.{JudgesTold};
 ghost use Rattle.sd_model.specs.Changes.{AreOf};
-ghost use Rattle.sd_oracle.specs.Outcomes.{Finishes, Commits};
+ghost use Rattle.sd_oracle.specs.Outcomes.{Finishes, Commits, Sweeps};
 ghost use Rattle.sd_model.specs.declared.act.Cut.TheVariants.{Committing};
 ghost use Rattle.sd_model.specs.declared.act.Life.TheVariants.{Doubt};
 ghost use Rattle.sd_model.specs.declared.event.Event.TheVariants as E;
 
 use crate::outcome::Outcome;
-use crate::replies::verdict;
+use crate::replies::said;
 use crate::verdict::Verdict;
 use sd_base::{InstNo, Memory, TxnId};
 use sd_lists::Lists;
 use sd_model::{Cut, Life, Reply};
+use std::mem::swap;
 
 /// An answer of a step of a recovery.
 pub fn answer_recovery(
@@ -28,7 +29,7 @@ pub fn answer_recovery(
 {
     match reply {
         Reply::Step => Ok(Verdict::Follows),
-        Reply::Finished => { Ok(verdict(answer_recovered(lists, inst, outcome.found.items())?)) }
+        Reply::Finished => said(answer_recovered(lists, inst, outcome.found.items())),
         _ => Ok(Verdict::Differs),
     }
 }
@@ -42,11 +43,21 @@ fn answer_recovered(lists: &mut Lists, inst: InstNo, found: &[TxnId]) -> Result<
         return Ok(false);
     }
     let mut next = lists.draft()?;
-    if !commit_found(&mut next, found)? {
+    let finished = sweep_found(&mut next, inst, found);
+    if let Ok(true) = finished {
+        swap(lists, &mut next);
+    }
+    finished
+}
+
+// Those that were found commit, and the instance is swept; false where one of them isn't in doubt.
+fn sweep_found(lists: &mut Lists, inst: InstNo, found: &[TxnId]) -> Result<bool, Memory>
+    ensures { IfOk result (λ b. Sweeps b inst found.now (meaning lists.old) (meaning lists.new)) }
+{
+    if !commit_found(lists, found)? {
         return Ok(false);
     }
-    next.sweep(inst)?;
-    *lists = next;
+    lists.sweep(inst)?;
     Ok(true)
 }
 

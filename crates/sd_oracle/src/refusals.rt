@@ -2,18 +2,22 @@
 
 ghost use Rattle.std.specs.Prelude.{◌≡◌, IfOk, OnOk, OnErr};
 ghost use Rattle.sd_model.specs.declared.cause.Cause.TheVariants.{Rig};
-ghost use Rattle.sd_model.specs.Refusing.{found};
+ghost use Rattle.sd_model.specs.State.{fall};
+ghost use Rattle.sd_model.specs.Refusing.{counted, found};
+ghost use Rattle.sd_lists.specs.Joins.{IsCountable};
 ghost use Rattle.sd_lists.specs.Lists.{meaning};
 ghost use Rattle.sd_oracle.specs.Judging.{Judges, JudgesCause};
 ghost use Rattle.sd_model.specs.declared.event.Reply.TheVariants as R;
 
 use crate::outcome::Outcome;
-use crate::records::{owned, read_alone};
+use crate::records::read_alone;
+use crate::replies::follows;
 use crate::verdict::Verdict;
-use sd_base::{Memory, Refusal};
+use sd_base::{InstNo, Memory, Refusal};
 use sd_causes::{first_of, may_fall, rid_of, tells, txn_of};
 use sd_lists::Lists;
 use sd_model::{Cause, Claim, Event, causes_of};
+use std::mem::swap;
 
 /// A refusal: it is the first that applies, with the arguments that the state decides.
 pub fn refuse(
@@ -46,16 +50,14 @@ fn suffer(
 {
     match cause {
         Cause::NoRecord | Cause::NotNumber | Cause::Digits | Cause::Over => {
-            look(lists, event)?;
-            Ok(Verdict::Follows)
+            follows(look(lists, event))
         }
         Cause::Rig => fail(lists, event, outcome),
         Cause::Cut => {
             if !lists.runs(&txn_of(event)) {
                 return Ok(Verdict::Differs);
             }
-            lists.cut(&txn_of(event))?;
-            Ok(Verdict::Follows)
+            follows(lists.cut(&txn_of(event)))
         }
         _ => Ok(Verdict::Follows),
     }
@@ -68,8 +70,7 @@ fn look(lists: &mut Lists, event: &Event) -> Result<(), Memory>
 {
     let txn = txn_of(event);
     let rid = rid_of(event);
-    let value = owned(lists.alloc(), lists.view(&txn, &rid))?;
-    let acts = read_alone(lists.alloc(), &rid, &value)?;
+    let acts = read_alone(lists.alloc(), &rid, lists.view(&txn, &rid))?;
     lists.take(&txn, &rid, Claim::Excl, &acts)
 }
 
@@ -82,19 +83,34 @@ fn fail(lists: &mut Lists, event: &Event, outcome: &Outcome) -> Result<Verdict, 
         return Ok(Verdict::Unjudged);
     }
     match outcome.fell {
-        None => {
-            lists.count_join(event)?;
-            Ok(Verdict::Follows)
-        }
+        None => follows(lists.count_join(event)),
         Some(inst) => {
             if !may_fall(lists, event, inst) {
                 return Ok(Verdict::Differs);
             }
-            let mut next = lists.draft()?;
-            next.count_join(event)?;
-            next.fall(inst)?;
-            *lists = next;
-            Ok(Verdict::Follows)
+            follows(count_and_fall(lists, event, inst))
         }
     }
+}
+
+// The join is counted, and the instance falls.
+fn count_and_fall(lists: &mut Lists, event: &Event, inst: InstNo) -> Result<(), Memory>
+    requires countable { IsCountable (meaning lists.old) event.now }
+    ensures fell { OnOk result (meaning lists.new ≡ fall inst (counted event.now (meaning lists.old))) }
+    ensures same { OnErr result (meaning lists.new ≡ meaning lists.old) }
+{
+    let mut next = lists.draft()?;
+    let fallen = fall_counted(&mut next, event, inst);
+    if fallen.is_ok() {
+        swap(lists, &mut next);
+    }
+    fallen
+}
+
+fn fall_counted(lists: &mut Lists, event: &Event, inst: InstNo) -> Result<(), Memory>
+    requires countable { IsCountable (meaning lists.old) event.now }
+    ensures { OnOk result (meaning lists.new ≡ fall inst (counted event.now (meaning lists.old))) }
+{
+    lists.count_join(event)?;
+    lists.fall(inst)
 }

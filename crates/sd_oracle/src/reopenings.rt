@@ -8,17 +8,18 @@ ghost use Rattle.sd_base.specs.declared.ids.Rid.{Rid};
 ghost use Rattle.sd_model.specs.declared.act.Claim.TheVariants.{Excl};
 ghost use Rattle.sd_model.specs.declared.act.Life.TheVariants.{Retained};
 ghost use Rattle.sd_model.specs.Changes.{Left};
-ghost use Rattle.sd_oracle.specs.Outcomes.{among, among_claims, left_claim, left_part, is_lost, rest_after, IsLeftBy, Reopens, Lowers};
+ghost use Rattle.sd_oracle.specs.Outcomes.{among, among_claims, left_claim, left_part, is_lost, rest_after, IsLeftBy, Reopens, Leaves, Lowers};
 ghost use Rattle.sd_model.specs.declared.event.Event.TheVariants as E;
 
 use crate::outcome::Outcome;
 use crate::recoveries::commit_found;
-use crate::replies::verdict;
+use crate::replies::said;
 use crate::verdict::Verdict;
 use sd_base::{Duplicate, InstNo, Memory, Rid, Sequence, Status, TxnId};
 use sd_lists::{Lists, Standing, Turn, instance, last_standing, turned_insts, with_status};
 use sd_model::{Claim, Inst, Life, Reply};
 use std::alloc::Global;
+use std::mem::swap;
 
 /// An answer of a reopening.
 pub fn answer_reopening(
@@ -30,7 +31,7 @@ pub fn answer_reopening(
     ensures same { OnErr result (meaning lists.new ≡ meaning lists.old) }
 {
     match reply {
-        Reply::Did => Ok(verdict(answer_reopened(lists, outcome)?)),
+        Reply::Did => said(answer_reopened(lists, outcome)),
         _ => Ok(Verdict::Differs),
     }
 }
@@ -42,11 +43,21 @@ fn answer_reopened(lists: &mut Lists, outcome: &Outcome) -> Result<bool, Memory>
     ensures same { OnErr result (meaning lists.new ≡ meaning lists.old) }
 {
     let mut next = lists.draft()?;
-    if !commit_found(&mut next, outcome.found.items())? {
+    let reopened = leave_found(&mut next, outcome);
+    if let Ok(true) = reopened {
+        swap(lists, &mut next);
+    }
+    reopened
+}
+
+// Those that were found commit, and of the others what is told is left; false where one of them isn't in doubt.
+fn leave_found(lists: &mut Lists, outcome: &Outcome) -> Result<bool, Memory>
+    ensures { IfOk result (λ b. Leaves b outcome.now (meaning lists.old) (meaning lists.new)) }
+{
+    if !commit_found(lists, outcome.found.items())? {
         return Ok(false);
     }
-    leave(&mut next, outcome)?;
-    *lists = next;
+    leave(lists, outcome)?;
     Ok(true)
 }
 
@@ -122,13 +133,7 @@ fn left_claims(
 fn is_kept(claim: &(Rid, Claim), txn: &TxnId, freed: &[(TxnId, Rid)]) -> bool
     ensures { IsTrue result ↔ ((claim.now.1 ≡ Excl) × (among_claims txn.now claim.now.0 freed.now ≡ false)) }
 {
-    is_excl(claim.1) && !is_freed(txn, &claim.0, freed)
-}
-
-fn is_excl(claim: Claim) -> bool
-    ensures { IsTrue result ↔ (claim ≡ Excl) }
-{
-    claim == Claim::Excl
+    claim.1 == Claim::Excl && !is_freed(txn, &claim.0, freed)
 }
 
 // The instances, with those that have losers down.
@@ -187,5 +192,5 @@ fn is_among(txn: &TxnId, txns: &[TxnId]) -> bool
 fn is_freed(txn: &TxnId, rid: &Rid, freed: &[(TxnId, Rid)]) -> bool
     ensures { result ≡ among_claims txn.now rid.now freed.now }
 {
-    freed.iter().any(|claim| claim.0 == *txn && claim.1 == *rid)
+    freed.contains(&(*txn, *rid))
 }

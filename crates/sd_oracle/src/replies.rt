@@ -1,6 +1,7 @@
 //! One event with its reply, judged and done.
 
 ghost use Rattle.std.specs.Prelude.{◌≡◌, IfOk, OnErr, if◌then◌else◌};
+ghost use Rattle.std.specs.Result.{result_map_both};
 ghost use Rattle.sd_oracle.specs.declared.verdict.Verdict.TheVariants.{Follows, Differs};
 ghost use Rattle.sd_lists.specs.Lists.{meaning};
 ghost use Rattle.sd_oracle.specs.Judging.{IsRefusal, Judges};
@@ -55,12 +56,20 @@ fn accept(
 }
 
 /// What is said of an answer that may follow, or not.
-pub fn verdict(follows: bool) -> Verdict
-    ensures { result ≡ (if follows then Follows else Differs) }
+pub fn said(follows: Result<bool, Memory>) -> Result<Verdict, Memory>
+    ensures { result ≡ result_map_both (λ b. if b then Follows else Differs) (λ e. e) follows }
 {
-    if follows {
-        Verdict::Follows
+    if follows? {
+        Ok(Verdict::Follows)
     } else {
-        Verdict::Differs
+        Ok(Verdict::Differs)
     }
+}
+
+/// What is said of an answer that follows where there is memory for what it leaves.
+pub fn follows(left: Result<(), Memory>) -> Result<Verdict, Memory>
+    ensures { result ≡ result_map_both (λ u. Follows) (λ e. e) left }
+{
+    left?;
+    Ok(Verdict::Follows)
 }

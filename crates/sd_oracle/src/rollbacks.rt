@@ -9,7 +9,7 @@ ghost use Rattle.sd_model.specs.declared.event.Event.TheVariants as E;
 ghost use Rattle.sd_model.specs.declared.event.Reply.TheVariants as R;
 
 use crate::instances::answer_instance;
-use crate::replies::verdict;
+use crate::replies::said;
 use crate::verdict::Verdict;
 use sd_base::{Memory, TxnId, Word};
 use sd_lists::Lists;
@@ -25,16 +25,16 @@ pub fn answer_rollback(lists: &mut Lists, event: &Event, reply: &Reply) -> Resul
 {
     match event {
         Event::Save { txn, mark } => match reply {
-            Reply::Did => Ok(verdict(answer_save(lists, txn, mark)?)),
+            Reply::Did => said(answer_save(lists, txn, mark)),
             _ => Ok(Verdict::Differs),
         },
         Event::Back { txn, mark } => match reply {
-            Reply::Did => Ok(verdict(answer_back(lists, txn, mark)?)),
+            Reply::Did => said(answer_back(lists, txn, mark)),
             _ => Ok(Verdict::Differs),
         },
         Event::Undo { txn } => match reply {
-            Reply::Step => Ok(verdict(answer_undo(lists, txn)?)),
-            Reply::Finished => Ok(verdict(answer_undone(lists, txn)?)),
+            Reply::Step => said(answer_undo(lists, txn)),
+            Reply::Finished => said(answer_undone(lists, txn)),
             _ => Ok(Verdict::Differs),
         },
         other => answer_instance(lists, other, reply),

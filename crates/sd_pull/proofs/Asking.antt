@@ -63,6 +63,13 @@ due-as tell old start w there i v b is =
     ap (λ (c : Bool). cond {A = Event} c (event.Flush i v) (event.Evict i v))
     (ap (λ (e : PageEntry). changed e && is_duty i e) (entry-is tell old.body w.core (fits-now tell start old w there) v) ∙ is)
 
+-- The copy of v may leave the pool of i: so far the pull came, and this the reply to the evict makes of it.
+pub record Cleared {G : Type 0} (tell : Telling G) (old mid : Hall G) (i v : ℕ) : Type 0 where
+  pub next : ℕ → Pull
+  pub so_far : (for : Puller) (p : ℕ) → PullsOn tell old mid for (Pull.Room p i) (next p) (λ a b. Unit {0})
+  pub goes : (new : Hall G) (r : Reply) → Helped tell mid new (event.Evict i v) r
+      → (for : Puller) (p : ℕ) → PullsOn tell old new for (Pull.Room p i) (next_if (is_did r) p) (MakesRoom (is_did r) i)
+
 module _ {G : Type 0} (tell : Telling G) (old : Hall G) (i v : ℕ) (lt : v < 1024)
     (has : holds (entry_in old.body v) i ≡ true) (rests : receives (entry_in old.body v) i ≡ false) where
   has-now : (start : Start G) (w : World) → IsIn tell start old w → holds (w.core.pages.entry v) i ≡ true
@@ -117,3 +124,20 @@ module _ {G : Type 0} (tell : Telling G) (old : Hall G) (i v : ℕ) (lt : v < 10
           subst (λ (next : Pull). Pulling at work rest c e for next k.0) (gone-behind i p v q) k.2,
           freed q i v w.core h.0.core k.0.core lt (rests-now start w there) h.3 k.3,
         )
+
+  -- a copy that needn't be written may go at once,
+  pub cleared-clean : (changed (entry_in old.body v) && is_duty i (entry_in old.body v)) ≡ false → Cleared tell old old i v
+  cleared-clean clean = record {
+    next = λ p. Pull.Room p i;
+    so_far = λ for p start w at work rest c e there s. (w, there, s, tt);
+    goes = λ new r on for p. room-evicted new r clean on for p;
+  }
+
+  -- another once it was written
+  pub cleared-written : (mid : Hall G) (r : Reply) → (changed (entry_in old.body v) && is_duty i (entry_in old.body v)) ≡ true
+      → Helped tell old mid (event.Flush i v) r → is_did r ≡ true → Cleared tell old mid i v
+  cleared-written mid r duty on done = record {
+    next = λ p. Pull.Evicts p i v;
+    so_far = λ for p start w at work rest c e there s. let h = room-written mid r duty on for p done start w at work rest c e there s in (h.0, h.1, h.2, tt);
+    goes = λ new q on2 for p. room-gone mid r duty on for p done new q on2;
+  }

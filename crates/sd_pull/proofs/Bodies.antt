@@ -44,7 +44,11 @@ module _ {G : Type 0} (tell : Telling G) where
 
   pub open-is : (body : Option (Body G)) (c : Complex G) → Some c ≡ open_in body → body ≡ Some (Body.Open c)
   open-is None c is = absurd (cc)
-  open-is (Some (Body.Open d)) c is = let same : d ≡ c = cc in ap (λ (x : Complex G). Some (Body.Open x)) same
+  open-is (Some (Body.Open d)) c is = ap (λ (o : Option (Complex G)). Some (Body.Open (got o))) (sym is)
+    where
+      got : Option (Complex G) → Complex G
+      got None = d
+      got (Some x) = x
   open-is (Some (Body.Closed rig shape)) c is = absurd (cc)
 
   pub open-fits : (body : Option (Body G)) (c : Complex G) → Some c ≡ open_in body → (w : Core) → fits_in tell.seen tell.leaves body w

@@ -1,15 +1,9 @@
--- Results of helping events, carried over. It serves the goals of pull.rt.
-use Rattle.std.proofs.Common.{◌≡◌, ◌⊎◌, ⊎_elim, ℕ, Bool, subst}
+-- Results of calls, carried over. It serves the goals of pull.rt, events.rt and recovery.rt.
+use Rattle.std.proofs.Common.{◌≡◌, ◌⊎◌, ⊎_elim}
 use Rattle.std.specs.Prelude.{Result, Ok, Err, IfErr, IfOk, IsErrAnd, OnErr, OnOk}
 use Rattle.sd_base.specs.declared.refusal.Memory.{Memory}
 use Rattle.sd_base.specs.declared.refusal.Refusal.{Refusal}
 use Rattle.sd_base.specs.declared.refusal.Refusal.TheVariants as R
-use Rattle.sd_model.specs.declared.event.Event.{Event}
-use Rattle.sd_model.specs.declared.event.Reply.{Reply}
-use Rattle.sd_world.specs.Serving.{Telling}
-use Rattle.sd_hall.specs.declared.hall.Hall.{Hall}
-use Rattle.sd_pull.specs.Driven.{Helped, MakesRoom, PullsOn, is_did, next_if}
-use Rattle.sd_pull.specs.Pulls.{Pull, Puller}
 
 -- what holds of each value, where there is one
 pub if-ok-then : {X : Type 0} (r : Result X Memory) (P Q : X → Type 0) → ((x : X) → P x → Q x) → IfOk r P → IfOk r Q
@@ -38,12 +32,3 @@ pub each-way : {X : Type 0} (r : Result X Refusal) (P Q V W : Type 0) → IfErr 
 each-way (Ok x) P Q V W errors ok memory failed on_ok on_memory on_failed = on_ok ok
 each-way (Err e) P Q V W errors ok memory failed on_ok on_memory on_failed =
     ⊎_elim (λ is. on_memory (memory is)) (λ is. on_failed (failed is)) errors
-
-module _ {G : Type 0} (tell : Telling G) where
-  -- a helping event that was done or not, as each reply says
-  pub room-done : (old new : Hall G) (i : ℕ) (e : Event) (done : Bool)
-      → ((r : Reply) → Helped tell old new e r → (for : Puller) (p : ℕ) → PullsOn tell old new for (Pull.Room p i) (next_if (is_did r) p) (MakesRoom (is_did r) i))
-      → (r : Reply) × (is_did r ≡ done) × Helped tell old new e r
-      → (for : Puller) (p : ℕ) → PullsOn tell old new for (Pull.Room p i) (next_if done p) (MakesRoom done i)
-  room-done old new i e done on h for p =
-      subst (λ (b : Bool). PullsOn tell old new for (Pull.Room p i) (next_if b p) (MakesRoom b i)) h.1 (on h.0 h.2 for p)

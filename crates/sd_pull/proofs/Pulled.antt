@@ -1,6 +1,8 @@
 -- A pull goes round: an ask, what it is answered to, an ask again. It serves the goals of pull.rt.
 use Rattle.std.proofs.Common.{◌≡◌, inl, inr, ⊎_elim, ℕ, ◌<◌, ◌≤◌, Bool, true, false, refl, sym, subst}
+use Rattle.std.specs.Prelude.{Result, Ok, Err, IfOk, OnErr}
 use Rattle.sd_base.specs.declared.place.Mode.{Mode}
+use Rattle.sd_base.specs.declared.refusal.Memory.{Memory}
 use Rattle.sd_base.specs.declared.refusal.Refusal.TheVariants as R
 use Rattle.sd_model.specs.declared.cause.Cause.{Cause}
 use Rattle.sd_model.specs.declared.event.Event.{Event}
@@ -21,6 +23,7 @@ use Rattle.sd_pull.specs.Standing.{Pulling}
 use Rattle.sd_pull.proofs.Acts.{ask-open, take-open}
 use Rattle.sd_pull.proofs.Answering.{ask-ends, asked-is, did-is, full-is, gave-is, give-ends, had-is, moving-is, take-ends}
 use Rattle.sd_pull.proofs.Bodies.{asks-are, entry-is, fits-now}
+use Rattle.sd_pull.proofs.Helps.{if-ok-then, on-err-then}
 use Rattle.sd_pull.proofs.Measures.{same-distance}
 use Rattle.sd_pull.proofs.Nearing.{free-nearer, give-nearer, moving-nearer, take-nearer}
 use Rattle.sd_pull.proofs.Needs.{gets-holds}
@@ -179,6 +182,54 @@ module _ {G : Type 0} (tell : Telling G) (i p : ℕ) (mode : Mode) (old mid new 
       (λ a b c h room. room-both i p mode a b c h room)
   room-round false on more = ends-all tell (record { inst = i; mode = mode }) old new p (λ a b. Unit {0})
       (then-on tell (record { inst = i; mode = mode }) old mid new (Pull.Asks p) (Pull.Room p i) _ on Pull.Ends _ (λ a b. Unit {0}) more (λ a b c h room. tt))
+
+-- What the events that fell due came to, done or not: the page is asked for again, or the pull has ended.
+abbrev pub Went : {G : Type 0} → Telling G → Hall G → Hall G → Puller → ℕ → Result Bool Memory → Type 0
+Went tell old new for p r = IfOk r (λ done. Rounds tell old new for p (again_if done)) × OnErr r (PullsSome tell old new for (Pull.Asks p))
+
+module _ {G : Type 0} (tell : Telling G) (i p : ℕ) (mode : Mode) (old mid new : Hall G) (r : Result Bool Memory) where
+  pub gave-went : (of : ℕ)
+      → PullsOn tell old mid (record { inst = i; mode = mode }) (Pull.Asks p) (Pull.Gives p of) (Happens (event.Ask i p mode) (reply.Asked of))
+      → IfOk r (λ given. (for : Puller) → PullsOn tell mid new for (Pull.Gives p of) (next_if given p) (IsGiven given of p))
+      → OnErr r (StaysIn tell mid new) → Went tell old new (record { inst = i; mode = mode }) p r
+  gave-went of on more some = (
+    if-ok-then r _ _ (λ given goes. gave-round tell i p mode old mid new of given on (goes (record { inst = i; mode = mode }))) more,
+    on-err-then r _ _ (λ stays. then-stays tell (record { inst = i; mode = mode }) old mid new (Pull.Asks p) (Pull.Gives p of) _ on stays) some,
+  )
+
+  pub took-went : (to : ℕ)
+      → PullsOn tell old mid (record { inst = i; mode = mode }) (Pull.Asks p) (Pull.Takes p to) (Happens (event.Ask i p mode) (reply.Refused (R.MovingTo to)))
+      → IfOk r (λ taken. (for : Puller) → PullsOn tell mid new for (Pull.Takes p to) (next_if taken p) (IsTaken taken to p))
+      → OnErr r ((for : Puller) → PullsSome tell mid new for (Pull.Takes p to)) → Went tell old new (record { inst = i; mode = mode }) p r
+  took-went to on more some = (
+    if-ok-then r _ _ (λ taken goes. took-round tell i p mode old mid new to taken on (goes (record { inst = i; mode = mode }))) more,
+    on-err-then r _ _ (λ goes. then-some tell (record { inst = i; mode = mode }) old mid new (Pull.Asks p) (Pull.Takes p to) _ on
+        (goes (record { inst = i; mode = mode }))) some,
+  )
+
+  pub room-went :
+      PullsOn tell old mid (record { inst = i; mode = mode }) (Pull.Asks p) (Pull.Room p i) (Happens (event.Ask i p mode) (reply.Refused R.PoolFull))
+      → IfOk r (λ room. (for : Puller) (q : ℕ) → PullsOn tell mid new for (Pull.Room q i) (next_if room q) (MakesRoom room i))
+      → OnErr r ((for : Puller) (q : ℕ) → PullsSome tell mid new for (Pull.Room q i)) → Went tell old new (record { inst = i; mode = mode }) p r
+  room-went on more some = (
+    if-ok-then r _ _ (λ room goes. room-round tell i p mode old mid new room on (goes (record { inst = i; mode = mode }) p)) more,
+    on-err-then r _ _ (λ goes. then-some tell (record { inst = i; mode = mode }) old mid new (Pull.Asks p) (Pull.Room p i) _ on
+        (goes (record { inst = i; mode = mode }) p)) some,
+  )
+
+-- as it went at another hall and another result that are these
+pub went-as : {G : Type 0} (tell : Telling G) (old new here : Hall G) (for : Puller) (p : ℕ) (r there : Result Bool Memory) → here ≡ new → there ≡ r
+    → Went tell old new for p r → Went tell old here for p there
+went-as tell old new here for p r there h e went =
+    subst (λ (hall : Hall _). Went tell old hall for p there) (sym h) (subst (λ (x : Result Bool Memory). Went tell old new for p x) (sym e) went)
+
+module _ {G : Type 0} (tell : Telling G) (old new : Hall G) (for : Puller) (p : ℕ) (r : Result Bool Memory) (went : Went tell old new for p r) where
+  pub went-on : (done said : Bool) → r ≡ Ok done → done ≡ said → Rounds tell old new for p (again_if said)
+  went-on done said is says = subst (λ (b : Bool). Rounds tell old new for p (again_if b)) says
+      (subst (λ (x : Result Bool Memory). IfOk x (λ b. Rounds tell old new for p (again_if b))) is went.0)
+
+  pub went-some : (e : Memory) → r ≡ Err e → PullsSome tell old new for (Pull.Asks p)
+  went-some e is = subst (λ (x : Result Bool Memory). OnErr x (PullsSome tell old new for (Pull.Asks p))) is went.1
 
 -- ---- a give, and a take
 

@@ -1,10 +1,10 @@
 -- A pool without a free frame has a page to give up. It serves the goals of pull.rt.
-use Rattle.std.proofs.Common.{◌≡◌, ℕ, zero, suc, ◌≤◌, Bool, true, false, cond, List, [], refl, sym, ap, ◌∙◌, subst, arith}
-use Rattle.std.specs.Prelude.{Option, None, Some, IsNone, IsSome, is_some}
+use Rattle.std.proofs.Common.{◌≡◌, ℕ, zero, suc, ◌-◌, ◌≤◌, Bool, true, false, cond, List, [], get_or, refl, sym, ap, ◌∙◌, subst, arith}
+use Rattle.std.specs.Prelude.{Option, None, Some, IfSome, IsNone, IsSome, is_some}
 use Rattle.sd_page.specs.Page.{Page}
 use Rattle.sd_pagelock.specs.Directory.{entry_at}
 use Rattle.sd_places.specs.Places.{PageEntry, holds}
-use Rattle.sd_pool.specs.Buffers.{IsPool, image_at}
+use Rattle.sd_pool.specs.Buffers.{Buffers, IsPool, image_at}
 use Rattle.sd_rig.specs.Devices.{DeviceImages}
 use Rattle.sd_coherent.specs.World.{newest_version}
 use Rattle.sd_sound.specs.Logs.{Outcomes}
@@ -12,7 +12,8 @@ use Rattle.sd_world.specs.Pages.{held_count}
 use Rattle.sd_world.specs.Serving.{Core}
 use Rattle.sd_state.specs.Good.{base_of}
 use Rattle.sd_state.specs.Images.{leaves_by, log_by}
-use Rattle.sd_state.specs.Parts.{Parts, pool_at}
+use Rattle.sd_state.specs.Parts.{Parts, no_pool, pool_at}
+use Rattle.sd_state.proofs.Items.{item-is}
 use Rattle.sd_fits.specs.Fits.{Fits}
 use Rattle.sd_pull.specs.Driven.{IsFull}
 use Rattle.sd_pull.specs.Measure.{copies_of}
@@ -54,3 +55,16 @@ module _ (seen : DeviceImages) (leaves : Outcomes) (c : Parts) (w : Core) (f : F
   pub some-held : 1 ≤ i → i ≤ 8 → IsPool (pool_at c i) → IsFull i w → (pool_at c i).held ≡ [] → ⊥
   some-held low high pool full empty = over w.pages.frames (copies_of w.pages.entry i)
       (subst (λ (n : ℕ). 1 ≤ n) (f.pages.frames i low high) pool.least) full.1 (none-copied empty)
+
+  -- the pool that is lent at the instance's place
+  module _ (low : 1 ≤ i) (high : i ≤ 8) (pool : Buffers) (lent : pool ≡ get_or c.pools (i - 1) pool) where
+    same-pool : pool_at c i ≡ pool
+    same-pool = item-is no_pool c.pools i pool low high f.good.shape.pools lent
+
+    pub lent-some : IsPool pool → IsFull i w → (o : Option ℕ) → (IsNone o → pool.held ≡ []) → IsSome o
+    lent-some is full o empty = not-none o (λ none.
+        some-held low high (subst IsPool (sym same-pool) is) full (ap (λ (b : Buffers). b.held) same-pool ∙ empty none))
+
+    pub lent-holds : (o : Option ℕ) → IfSome o (λ p. IsSome (image_at pool p)) → (v : ℕ) → o ≡ Some v → holds (entry_at c.directory v) i ≡ true
+    lent-holds o held v is = pool-holds v (subst (λ (b : Buffers). IsSome (image_at b v)) (sym same-pool)
+        (subst (λ (x : Option ℕ). IfSome x (λ p. IsSome (image_at pool p))) is held))

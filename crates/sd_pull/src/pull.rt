@@ -13,7 +13,7 @@ ghost use Rattle.sd_world.specs.Pages.{is_duty};
 ghost use Rattle.sd_world.specs.Serving.{Core, telling};
 ghost use Rattle.sd_hall.specs.Passed.{IsServed, fits_in};
 ghost use Rattle.sd_pull.specs.Bodies.{entry_in};
-ghost use Rattle.sd_pull.specs.Driven.{Helped, IsFull, IsGiven, IsSomewhere, IsTaken, MakesRoom, PulledIn, PullsAll, PullsOn, PullsSome, Rounds, StaysIn, again_if, answer_as, is_did, next_if};
+ghost use Rattle.sd_pull.specs.Driven.{Helped, IsFull, IsGiven, IsSomewhere, IsTaken, MakesRoom, PulledIn, PullsAll, PullsOn, PullsSome, Rounds, StaysIn, answer_as, is_did, next_if};
 ghost use Rattle.sd_pull.specs.Pulls.{Pull, Puller};
 
 use sd_base::{InstNo, Memory, Mode, PageNo, Place, Refusal};
@@ -24,7 +24,7 @@ use sd_rig::Rig;
 use sd_state::Complex;
 
 /// What the reply to a helping event tells.
-#[derive(Clone, Copy, PartialEq, Eq)]
+#[derive(Clone, Copy)]
 pub(crate) enum Answer {
     /// The instance has the page as it asked.
     Had,
@@ -43,7 +43,7 @@ pub(crate) enum Answer {
 }
 
 // What a round of a pull came to.
-#[derive(Clone, Copy, PartialEq, Eq)]
+#[derive(Clone, Copy)]
 enum Course {
     // The page came nearer, and is to be asked for again.
     Again,
@@ -92,21 +92,14 @@ fn round<G: Rig>(
     ensures memory { OnErr result (PullsSome (telling G.seen G.leaves G.moment G.since G.faults) hall.old hall.new
         (record { inst = inst; mode = mode }) (Pull.Asks page)) }
 {
-    let answer = help(hall, Event::Ask { inst, page, mode })?;
-    match answer {
-        Answer::Had => Ok(Course::Came),
-        Answer::Asked(of) => Ok(again_if(give(hall, of, page)?)),
-        Answer::MovingTo(to) => Ok(again_if(take(hall, to, page)?)),
-        Answer::NoFrame => Ok(again_if(make_room(hall, inst)?)),
-        _ => Ok(Course::InVain),
-    }
-}
-
-// The page is to be asked for again, where what fell due was done.
-fn again_if(done: bool) -> Course
-    ensures { result ≡ again_if done }
-{
-    if done { Course::Again } else { Course::InVain }
+    let done = match help(hall, Event::Ask { inst, page, mode })? {
+        Answer::Had => return Ok(Course::Came),
+        Answer::Asked(of) => give(hall, of, page),
+        Answer::MovingTo(to) => take(hall, to, page),
+        Answer::NoFrame => make_room(hall, inst),
+        _ => return Ok(Course::InVain),
+    }?;
+    Ok(if done { Course::Again } else { Course::InVain })
 }
 
 // The page is given to its oldest asker. Whether it was.
@@ -155,28 +148,7 @@ fn make_room<G: Rig>(hall: &mut Hall<G>, inst: InstNo) -> Result<bool, Memory>
 {
     let leaver = leaving(hall, inst);
     let page = leaver.page;
-    if leaver.is_duty {
-        return write_out(hall, inst, page);
-    }
-    done(hall, Event::Evict { inst, page })
-}
-
-// A changed page is written, and its copy leaves the pool. Whether it did.
-fn write_out<G: Rig>(hall: &mut Hall<G>, inst: InstNo, page: PageNo) -> Result<bool, Memory>
-    requires at { (for : Puller) × (p : ℕ) × PulledIn (telling G.seen G.leaves G.moment G.since G.faults)
-        hall.old for (Pull.Room p inst) }
-    requires range { page < 1024 }
-    requires held { holds (entry_in hall.old.body page) inst ≡ true }
-    requires still { receives (entry_in hall.old.body page) inst ≡ false }
-    requires duty { (changed (entry_in hall.old.body page) && is_duty inst (entry_in hall.old.body page)) ≡ true }
-    ensures room { IfOk result (λ room. (for : Puller) (p : ℕ) → PullsOn (telling G.seen G.leaves G.moment G.since G.faults)
-        hall.old hall.new
-        for (Pull.Room p inst) (next_if room p) (MakesRoom room inst)) }
-    ensures memory { OnErr result ((for : Puller) (p : ℕ) → PullsSome (telling G.seen G.leaves G.moment G.since G.faults)
-        hall.old hall.new
-        for (Pull.Room p inst)) }
-{
-    if !done(hall, Event::Flush { inst, page })? {
+    if leaver.is_duty && !done(hall, Event::Flush { inst, page })? {
         return Ok(false);
     }
     done(hall, Event::Evict { inst, page })
@@ -251,35 +223,13 @@ fn leaver_of<G: Rig>(c: &Complex<G>, inst: InstNo) -> Leaver
         && is_duty inst (entry_at (parts c.now).directory result.page)) }
     ensures range { result.page < 1024 }
 {
-    let page = victim(c, inst);
-    let is_duty = must_write(&c.entry(page), inst);
-    Leaver { page, is_duty }
-}
-
-// That page.
-fn victim<G: Rig>(c: &Complex<G>, inst: InstNo) -> PageNo
-    requires full { (w : Core) × Fits (G.seen c.now.rig) (G.leaves c.now.rig) (parts c.now) w × IsFull inst w }
-    ensures held { holds (entry_at (parts c.now).directory result) inst ≡ true }
-    ensures still { receives (entry_at (parts c.now).directory result) inst ≡ false }
-    ensures range { result < 1024 }
-{
     c.directory.keeps();
-    let _inst = inst.get();
-    let page = least_recent(c, inst).unwrap();
-    let _number = page.get();
-    page
-}
-
-// It, where its pool has a page.
-fn least_recent<G: Rig>(c: &Complex<G>, inst: InstNo) -> Option<PageNo>
-    requires { IsShape (parts c.now) }
-    ensures held { IfSome result (λ p. IsSome (image_at (pool_at (parts c.now) inst) p)) }
-    ensures none { IsNone result → (pool_at (parts c.now) inst).held ≡ [] }
-    ensures pool { IsPool (pool_at (parts c.now) inst) }
-{
     let pool = &c.pools[inst.get() as usize - 1];
     let _held = pool.count();
-    pool.victim()
+    let page = pool.victim().unwrap();
+    let _number = page.get();
+    let is_duty = must_write(&c.entry(page), inst);
+    Leaver { page, is_duty }
 }
 
 /// Whether the instance has to write the page before its copy goes.

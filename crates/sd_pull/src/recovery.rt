@@ -29,7 +29,7 @@ pub struct Owner {
 }
 
 /// How the recovery of an instance ended.
-#[derive(Clone, Copy, PartialEq, Eq)]
+#[derive(Clone, Copy)]
 pub enum Outcome {
     /// It came to its end.
     Ended,

@@ -1,4 +1,4 @@
--- What is kept in few bytes tells no transaction. It serves a goal of any_tells_txn.
+-- What is kept in few bytes tells no transaction. It serves a goal of names_for.
 use Rattle.std.proofs.Common.{◌≡◌, ℕ, Bool, true, false, ◌||◌, List, [], ◌∷◌, refl, ap, ◌∙◌}
 use Rattle.sd_model.specs.declared.event.Entry.{Entry}
 use Rattle.sd_short.specs.declared.line.LineEntry.{LineEntry}

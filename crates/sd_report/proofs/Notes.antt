@@ -1,11 +1,13 @@
 -- The entries of one line, by how the first of them is noted. It serves the goals of part_at and part_unnoted.
-use Rattle.std.proofs.Common.{◌≡◌, ◌<◌, ◌≤◌, ◌-◌, List, [], ◌∷◌, length, take, drop, get_or, arith, refl, sym, ap, ◌∙◌}
+use Rattle.std.proofs.Common.{◌≡◌, ℕ, ◌<◌, ◌≤◌, ◌-◌, List, [], ◌∷◌, length, take, drop, get_or, arith, refl, sym, ap, ◌∙◌}
 use Rattle.std.proofs.lemmas.List.{drop_more, take_rest}
 use Rattle.sd_model.specs.declared.event.Entry.{Entry}
 use Rattle.sd_short.specs.declared.line.LineEntry.{LineEntry}
+use Rattle.sd_short.specs.declared.noted.Answer.{Answer}
+use Rattle.sd_short.specs.declared.noted.Deed.{Deed}
 use Rattle.sd_short.specs.declared.noted.Noted.{Noted}
 use Rattle.sd_short.specs.declared.noted.Noted.TheVariants as noted
-use Rattle.sd_short.specs.Shorts.{line_entry}
+use Rattle.sd_short.specs.Shorts.{entry_of, line_entry}
 use Rattle.sd_book.specs.Booked.{unpacked}
 
 -- a slice of less than one item has none
@@ -25,6 +27,12 @@ module _ (notes : List Noted) (first : Noted) (some : 1 ≤ length notes) (is : 
 
   noted_first : (how : Noted) → first ≡ how → notes ≡ how ∷ later_notes
   noted_first how same = by_first notes first some is ∙ ap (λ (x : Noted). x ∷ later_notes) same
+
+  pub reads_help : (lines : List LineEntry) (whole : List Entry) {s p i n : ℕ} {d : Deed} {a : Answer}
+      → first ≡ noted.Help s p i d a n
+      → unpacked notes lines whole ≡ entry_of s p i d a n ∷ unpacked later_notes lines whole
+  reads_help lines whole {s} {p} {i} {n} {d} {a} kept =
+      ap (λ (k : List Noted). unpacked k lines whole) (noted_first (noted.Help s p i d a n) kept)
 
   pub reads_line : (lines : List LineEntry) (whole : List Entry) (l : LineEntry) → first ≡ noted.Line → 1 ≤ length lines
       → l ≡ get_or lines 0 l

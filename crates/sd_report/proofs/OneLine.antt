@@ -1,5 +1,6 @@
--- The entries of one line, one more at a time. It serves the goals of part_at, push_own_rows, push_line and any_tells_txn.
-use Rattle.std.proofs.Common.{◌≡◌, ℕ, Bool, true, false, ◌||◌, List, [], ◌∷◌, ◌++◌, cond, eqb, ltb, length}
+-- The entries of one line, one more at a time. It serves the goals of part_at, part_unnoted, push_own_rows
+-- and push_line.
+use Rattle.std.proofs.Common.{◌≡◌, ℕ, Bool, true, false, List, [], ◌∷◌, ◌++◌, cond, eqb, ltb, length}
 use Rattle.std.proofs.Common.{◌<◌, ◌≤◌, ◌+◌, ◌-◌, zero, suc, arith, append_assoc, length-append, refl, sym, ap, ◌∙◌}
 use Rattle.std.specs.Prelude.{Option, None, Some, slice_get}
 use Rattle.std.specs.List.{flat_map}
@@ -13,7 +14,7 @@ use Rattle.sd_model.specs.declared.event.Entry.{Entry}
 use Rattle.sd_short.specs.declared.noted.Noted.{Noted}
 use Rattle.sd_short.specs.declared.noted.Noted.TheVariants as noted
 use Rattle.sd_short.specs.Shorts.{help_entry}
-use Rattle.sd_report.specs.Report.{entries_of, last_entry, reply_tells_txn, tell_txns, row_line, rows_in, table_rows, upto}
+use Rattle.sd_report.specs.Report.{entries_of, last_entry, row_line, rows_in, table_rows, upto, behind}
 
 -- the last entry of the line, where this one was the last before these
 abbrev pub last_upto : ℕ → Option Entry → List Entry → Option Entry
@@ -71,6 +72,30 @@ pub later_last : (n : ℕ) (es rest : List Entry) (e : Entry) → es ≡ e ∷ r
 later_last n es rest e is later last = ap (last_upto n last) is ∙ ap (λ (b : Bool). cond {A = Option Entry} b last
     (last_upto n (cond {A = Option Entry} (eqb e.line n) (Some e) last) rest)) later
 
+-- the same of the entries from the first of a later line on
+pub later_behind : (n : ℕ) (es rest : List Entry) (e : Entry) → es ≡ e ∷ rest → n < e.line → behind n es ≡ es
+later_behind n es rest e is later = ap (behind n) is
+    ∙ ap (λ (b : Bool). cond {A = List Entry} b (e ∷ rest) (behind n rest)) (lt-ltb n e.line later) ∙ sym is
+
+-- where the first of some entries is of this line or an earlier one
+module _ (n : ℕ) (es rest : List Entry) (e : Entry) (is : es ≡ e ∷ rest) (early : e.line ≤ n) where
+  pub early_behind : behind n rest ≡ behind n es
+  early_behind = sym (ap (behind n) is
+      ∙ ap (λ (b : Bool). cond {A = List Entry} b (e ∷ rest) (behind n rest)) (le-ltb n e.line early))
+
+  early_last : (own : Bool) → eqb e.line n ≡ own → (last : Option Entry)
+      → last_upto n (cond {A = Option Entry} own (Some e) last) rest ≡ last_upto n last es
+  early_last own of last = sym (ap (last_upto n last) is
+      ∙ ap (λ (b : Bool). cond {A = Option Entry} b last
+      (last_upto n (cond {A = Option Entry} (eqb e.line n) (Some e) last) rest)) (le-ltb n e.line early)
+      ∙ ap (λ (b : Bool). last_upto n (cond {A = Option Entry} b (Some e) last) rest) of)
+
+  pub own_last : e.line ≡ n → (last : Option Entry) → last_upto n (Some e) rest ≡ last_upto n last es
+  own_last own last = early_last true (eq-eqb e.line n own) last
+
+  pub other_last : (e.line ≡ n → ⊥) → (last : Option Entry) → last_upto n last rest ≡ last_upto n last es
+  other_last other last = early_last false (ne_eqb e.line n other) last
+
 -- the rows of the line, by the first of some entries
 module _ (n : ℕ) (es rest : List Entry) (e : Entry) (is : es ≡ e ∷ rest) where
   pub later_rows : n < e.line → table_rows (entries_of n (upto n es)) ≡ []
@@ -108,11 +133,6 @@ pub rows_end : (left all : List (Rid × List ℕ)) → left ≡ [] → (out old 
     → out ++ flat_map row_line left ≡ old ++ flat_map row_line all → out ≡ old ++ flat_map row_line all
 rows_end left all none out old so_far = sym (append-nil out) ∙ ap (λ (l : List (Rid × List ℕ)). out ++ flat_map row_line l) (sym none)
     ∙ so_far
-
--- whether some entries tell a transaction, by the first of them
-pub first_tells : (es rest : List Entry) (e : Entry) (tells : Bool) → es ≡ e ∷ rest → tells ≡ reply_tells_txn e.reply
-    → tell_txns es ≡ (tells || tell_txns rest)
-first_tells es rest e tells is same = ap tell_txns is ∙ ap (λ (b : Bool). b || tell_txns rest) (sym same)
 
 -- an entry of a line carries its number
 of_line : (n : ℕ) (es : List Entry) (k : ℕ) (e : Entry) → slice_get (entries_of n es) k ≡ Some e → e.line ≡ n

@@ -5,7 +5,7 @@ ghost use Rattle.std.specs.Fmt.{decimal};
 ghost use Rattle.sd_base.specs.Sets.{members};
 ghost use Rattle.sd_report.specs.Places.{insts_text, lsn_text, dirty_text, writer_text, place_text};
 
-use crate::words::{push_digits, push_word};
+use crate::words::{push_counted, push_digits, push_word};
 use sd_base::{InstNo, InstSet, Lsn, Memory, Place};
 
 // Appends the instances of a set, with a comma between each two.
@@ -18,18 +18,10 @@ fn push_insts(out: &mut Vec<u8>, set: InstSet) -> Result<(), Memory>
     push_digits(out, u64::from(first.get()))?;
     let mut rest = set.without(first);
     while let Some(next) = rest.first() {
-        push_word(out, b",")?;
-        push_digits(out, u64::from(next.get()))?;
+        push_counted(out, b",", u64::from(next.get()))?;
         rest = rest.without(next);
     }
     Ok(())
-}
-
-fn push_lsn(out: &mut Vec<u8>, lsn: Lsn) -> Result<(), Memory>
-    ensures { OnOk result (out.new.items ≡ out.old.items ++ lsn_text lsn) }
-{
-    push_word(out, b" lsn ")?;
-    push_digits(out, lsn)
 }
 
 fn push_dirty(out: &mut Vec<u8>, dirty: bool) -> Result<(), Memory>
@@ -47,10 +39,7 @@ fn push_writer(out: &mut Vec<u8>, writer: Option<InstNo>) -> Result<(), Memory>
 {
     match writer {
         None => push_word(out, b" clean"),
-        Some(writer) => {
-            push_word(out, b" dirty by ")?;
-            push_digits(out, u64::from(writer.get()))
-        }
+        Some(writer) => push_counted(out, b" dirty by ", u64::from(writer.get())),
     }
 }
 
@@ -64,10 +53,10 @@ fn push_shared(
     ensures { OnOk result (out.new.items
         ≡ out.old.items ++ codes "shared " ++ insts_text (members set.bits) ++ lsn_text lsn ++ writer_text writer) }
 {
-    push_word(out, b"shared ")?;
-    push_insts(out, set)?;
-    push_lsn(out, lsn)?;
-    push_writer(out, writer)
+    push_word(out, b"shared ")
+        .and(push_insts(out, set))
+        .and(push_counted(out, b" lsn ", lsn))
+        .and(push_writer(out, writer))
 }
 
 // The place of a page that one instance has, or that moves to it: a word with its space.
@@ -80,10 +69,9 @@ fn push_alone(
 ) -> Result<(), Memory>
     ensures { OnOk result (out.new.items ≡ out.old.items ++ word.now ++ decimal inst ++ lsn_text lsn ++ dirty_text dirty) }
 {
-    push_word(out, word)?;
-    push_digits(out, u64::from(inst.get()))?;
-    push_lsn(out, lsn)?;
-    push_dirty(out, dirty)
+    push_counted(out, word, u64::from(inst.get()))
+        .and(push_counted(out, b" lsn ", lsn))
+        .and(push_dirty(out, dirty))
 }
 
 /// Appends where a page is, with the LSN of its newest version.

@@ -1,15 +1,14 @@
 //! The text of each refusal.
 
-ghost use Rattle.std.specs.Prelude.{◌≡◌, ◌-◌, ◌∷◌, ◌++◌, length, take, codes, OnOk};
-ghost use Rattle.std.specs.Fmt.{decimal};
+ghost use Rattle.std.specs.Prelude.{◌≡◌, ◌-◌, ◌∷◌, ◌++◌, length, take, OnOk};
 ghost use Rattle.std.specs.List.{flat_map};
 ghost use Rattle.sd_report.specs.Names.{name_in};
 ghost use Rattle.sd_report.specs.Words.{spelled};
 ghost use Rattle.sd_report.specs.Refusals.{cause_word, refusal_words, page_of, page_text, arguments, refusal_text};
 
 use crate::txn_names::TxnNames;
-use crate::words::{push_next, push_number, push_txn_numbers, push_word};
-use sd_base::{Cycle, InstNo, LineError, Memory, PageNo, Refusal, TxnId};
+use crate::words::{push_counted, push_next, push_number, push_txn_numbers, push_word};
+use sd_base::{Cycle, LineError, Memory, PageNo, Refusal, TxnId};
 use sd_model::Event;
 
 /// The word of what is wrong with a line.
@@ -103,10 +102,7 @@ fn push_txn(out: &mut Vec<u8>, names: &TxnNames, txn: &TxnId) -> Result<(), Memo
 {
     match names.get(txn) {
         Some(name) => push_next(out, name),
-        None => {
-            push_word(out, b" ")?;
-            push_txn_numbers(out, *txn)
-        }
+        None => push_word(out, b" ").and(push_txn_numbers(out, *txn)),
     }
 }
 
@@ -120,31 +116,6 @@ fn push_cycle(out: &mut Vec<u8>, names: &TxnNames, cycle: &Cycle) -> Result<(), 
         push_txn(out, names, txn)?;
     }
     Ok(())
-}
-
-// Appends the page that the event names, and to whom it moves.
-fn push_moving(out: &mut Vec<u8>, event: &Event, to: InstNo) -> Result<(), Memory>
-    ensures { OnOk result (out.new.items ≡ out.old.items ++ page_text (page_of event.now) ++ codes " to" ++ 32 ∷ decimal to) }
-{
-    push_page(out, event)?;
-    push_next(out, b"to")?;
-    push_number(out, u64::from(to.get()))
-}
-
-// Appends where a device is damaged.
-fn push_damage(out: &mut Vec<u8>, dev: u8, at: u64) -> Result<(), Memory>
-    ensures { OnOk result (out.new.items ≡ out.old.items ++ 32 ∷ decimal dev ++ 32 ∷ decimal at) }
-{
-    push_number(out, u64::from(dev))?;
-    push_number(out, at)
-}
-
-// Appends which line is bad, and why.
-fn push_bad_line(out: &mut Vec<u8>, line: u32, cause: LineError) -> Result<(), Memory>
-    ensures { OnOk result (out.new.items ≡ out.old.items ++ 32 ∷ decimal line ++ 32 ∷ cause_word cause) }
-{
-    push_number(out, u64::from(line))?;
-    push_next(out, cause_name(cause))
 }
 
 // Appends what stands behind the words of a refusal of the event.
@@ -163,9 +134,15 @@ fn push_arguments(
         Refusal::NeedPage { .. } | Refusal::Lost | Refusal::NotAsked | Refusal::Dirty => {
             push_page(out, event)
         }
-        Refusal::MovingTo { to } => push_moving(out, event, *to),
-        Refusal::Damaged { dev, at } => push_damage(out, *dev, *at),
-        Refusal::BadLine { line, cause } => push_bad_line(out, *line, *cause),
+        Refusal::MovingTo { to } => {
+            push_page(out, event).and(push_counted(out, b" to ", u64::from(to.get())))
+        }
+        Refusal::Damaged { dev, at } => {
+            push_number(out, u64::from(*dev)).and(push_number(out, *at))
+        }
+        Refusal::BadLine { line, cause } => {
+            push_number(out, u64::from(*line)).and(push_next(out, cause_name(*cause)))
+        }
         _ => Ok(()),
     }
 }
@@ -179,6 +156,5 @@ pub fn push_refusal(
 ) -> Result<(), Memory>
     ensures { OnOk result (out.new.items ≡ out.old.items ++ refusal_text (name_in names.now) event.now refusal.now) }
 {
-    push_word(out, words_of(refusal))?;
-    push_arguments(out, names, event, refusal)
+    push_word(out, words_of(refusal)).and(push_arguments(out, names, event, refusal))
 }

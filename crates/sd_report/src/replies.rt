@@ -6,14 +6,14 @@ ghost use Rattle.std.specs.Option.{option_copied};
 ghost use Rattle.sd_forms.specs.Forms.{rid_word};
 ghost use Rattle.sd_report.specs.Names.{name_in};
 ghost use Rattle.sd_report.specs.Refusals.{refusal_text};
-ghost use Rattle.sd_report.specs.Replies.{no_reply, began, value_text, found, placed, done, rolled_back, asked, gave, shown, words_of};
+ghost use Rattle.sd_report.specs.Replies.{no_reply, began, found, placed, done, rolled_back, asked, gave, shown, words_of};
 ghost use Rattle.sd_report.specs.Replies.{pulled_text, last_text, last_behind_all, last_behind_words};
 
 use crate::places::push_place;
 use crate::refusals::push_refusal;
 use crate::txn_names::TxnNames;
-use crate::words::{push_digits, push_next, push_number, push_rid, push_txn_numbers, push_word};
-use sd_base::{Bytes, Memory, PageNo, Refusal, Rid, Word};
+use crate::words::{push_begun, push_both, push_counted, push_next, push_record, push_word};
+use sd_base::{Memory, PageNo, Refusal, Rid, Word};
 use sd_model::{Entry, Event, Reply};
 use sd_script::Form;
 
@@ -27,23 +27,8 @@ fn push_began(out: &mut Vec<u8>, reply: &Reply) -> Result<(), Memory>
     ensures { OnOk result (out.new.items ≡ out.old.items ++ began reply.now) }
 {
     match reply {
-        Reply::Began(txn) => {
-            push_word(out, b"begin ")?;
-            push_txn_numbers(out, *txn)
-        }
+        Reply::Began(txn) => push_begun(out, *txn),
         _ => push_no_reply(out),
-    }
-}
-
-fn push_value(out: &mut Vec<u8>, value: &Option<Bytes>) -> Result<(), Memory>
-    ensures { OnOk result (out.new.items ≡ out.old.items ++ value_text value.now) }
-{
-    match value {
-        None => push_word(out, b" absent"),
-        Some(value) => {
-            push_word(out, b" = ")?;
-            push_word(out, value.items())
-        }
     }
 }
 
@@ -51,10 +36,9 @@ fn push_found(out: &mut Vec<u8>, rid: Rid, reply: &Reply) -> Result<(), Memory>
     ensures { OnOk result (out.new.items ≡ out.old.items ++ found rid reply.now) }
 {
     match reply {
-        Reply::Value(value) => {
-            push_word(out, b"read ")?;
-            push_rid(out, rid)?;
-            push_value(out, value)
+        Reply::Value(None) => push_record(out, b"read ", rid).and(push_word(out, b" absent")),
+        Reply::Value(Some(value)) => {
+            push_record(out, b"read ", rid).and(push_both(out, b" = ", value.items()))
         }
         _ => push_no_reply(out),
     }
@@ -64,10 +48,7 @@ fn push_placed(out: &mut Vec<u8>, reply: &Reply) -> Result<(), Memory>
     ensures { OnOk result (out.new.items ≡ out.old.items ++ placed reply.now) }
 {
     match reply {
-        Reply::At(rid) => {
-            push_word(out, b"insert ")?;
-            push_rid(out, *rid)
-        }
+        Reply::At(rid) => push_record(out, b"insert ", *rid),
         _ => push_no_reply(out),
     }
 }
@@ -77,10 +58,7 @@ fn push_on_record(out: &mut Vec<u8>, word: &[u8], rid: Rid, reply: &Reply) -> Re
     ensures { OnOk result (out.new.items ≡ out.old.items ++ done (word.now ++ rid_word rid) reply.now) }
 {
     match reply {
-        Reply::Did => {
-            push_word(out, word)?;
-            push_rid(out, rid)
-        }
+        Reply::Did => push_record(out, word, rid),
         _ => push_no_reply(out),
     }
 }
@@ -90,10 +68,7 @@ fn push_on_page(out: &mut Vec<u8>, word: &[u8], page: PageNo, reply: &Reply) -> 
     ensures { OnOk result (out.new.items ≡ out.old.items ++ done (word.now ++ decimal page) reply.now) }
 {
     match reply {
-        Reply::Did => {
-            push_word(out, word)?;
-            push_digits(out, u64::from(page.get()))
-        }
+        Reply::Did => push_counted(out, word, u64::from(page.get())),
         _ => push_no_reply(out),
     }
 }
@@ -111,10 +86,7 @@ fn push_saved(out: &mut Vec<u8>, mark: &Word, reply: &Reply) -> Result<(), Memor
     ensures { OnOk result (out.new.items ≡ out.old.items ++ done (codes "save " ++ mark.now) reply.now) }
 {
     match reply {
-        Reply::Did => {
-            push_word(out, b"save ")?;
-            push_word(out, mark.items())
-        }
+        Reply::Did => push_both(out, b"save ", mark.items()),
         _ => push_no_reply(out),
     }
 }
@@ -123,10 +95,7 @@ fn push_back(out: &mut Vec<u8>, mark: &Word, reply: &Reply) -> Result<(), Memory
     ensures { OnOk result (out.new.items ≡ out.old.items ++ rolled_back (codes "back " ++ mark.now) reply.now) }
 {
     match reply {
-        Reply::Finished => {
-            push_word(out, b"back ")?;
-            push_word(out, mark.items())
-        }
+        Reply::Finished => push_both(out, b"back ", mark.items()),
         _ => push_no_reply(out),
     }
 }
@@ -144,16 +113,12 @@ fn push_asked(out: &mut Vec<u8>, page: PageNo, reply: &Reply) -> Result<(), Memo
     ensures { OnOk result (out.new.items ≡ out.old.items ++ asked page reply.now) }
 {
     match reply {
-        Reply::Have => {
-            push_word(out, b"have")?;
-            push_number(out, u64::from(page.get()))
-        }
-        Reply::Asked { of } => {
-            push_word(out, b"asked")?;
-            push_number(out, u64::from(page.get()))?;
-            push_word(out, b" of")?;
-            push_number(out, u64::from(of.get()))
-        }
+        Reply::Have => push_counted(out, b"have ", u64::from(page.get())),
+        Reply::Asked { of } => push_counted(out, b"asked ", u64::from(page.get())).and(push_counted(
+            out,
+            b" of ",
+            u64::from(of.get()),
+        )),
         _ => push_no_reply(out),
     }
 }
@@ -162,12 +127,11 @@ fn push_gave(out: &mut Vec<u8>, page: PageNo, reply: &Reply) -> Result<(), Memor
     ensures { OnOk result (out.new.items ≡ out.old.items ++ gave page reply.now) }
 {
     match reply {
-        Reply::Gave { to } => {
-            push_word(out, b"gave")?;
-            push_number(out, u64::from(page.get()))?;
-            push_word(out, b" to")?;
-            push_number(out, u64::from(to.get()))
-        }
+        Reply::Gave { to } => push_counted(out, b"gave ", u64::from(page.get())).and(push_counted(
+            out,
+            b" to ",
+            u64::from(to.get()),
+        )),
         _ => push_no_reply(out),
     }
 }
@@ -283,8 +247,7 @@ pub fn push_behind_words(
     match &entry.reply {
         Reply::Did => Ok(()),
         Reply::Refused(refusal) => {
-            push_word(out, b" ")?;
-            push_refusal(out, names, &entry.event, refusal)
+            push_word(out, b" ").and(push_refusal(out, names, &entry.event, refusal))
         }
         _ => push_next(out, b"no reply"),
     }
@@ -306,8 +269,7 @@ pub fn push_behind_all(
     match &entry.reply {
         Reply::Finished | Reply::Joined { .. } => Ok(()),
         Reply::Refused(refusal) => {
-            push_word(out, b" ")?;
-            push_pulled(out, names, &entry.event, refusal)
+            push_word(out, b" ").and(push_pulled(out, names, &entry.event, refusal))
         }
         _ => push_next(out, b"no reply"),
     }

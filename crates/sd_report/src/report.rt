@@ -14,7 +14,7 @@ ghost use Rattle.sd_report.specs.Replies.{no_reply, pulled_text, last_text, word
 ghost use Rattle.sd_report.specs.Report.{entries_of, last_entry, reported, report, bad_text, damaged_text};
 ghost use Rattle.sd_book.specs.Booked.{entries_in, seen_entry};
 ghost use Rattle.sd_report.specs.Report.{gathered, reply_tells_txn, tell_txns, upto, AreFrom, AreAbove};
-ghost use Rattle.sd_report.specs.Report.{row_line, rows_in, table_text, table_rows};
+ghost use Rattle.sd_report.specs.Report.{row_line, rows_in, table_rows};
 
 use crate::parting::part_at;
 use crate::refusals::cause_name;
@@ -24,7 +24,7 @@ use crate::replies::{
 use crate::shorts::push_short_words;
 use crate::txn_names::TxnNames;
 use crate::words::{
-    push_digits, push_end, push_next, push_number, push_rid, push_space, push_word,
+    push_before, push_counted, push_end, push_first, push_next, push_number, push_rid, push_word,
 };
 use sd_base::{Bytes, InstNo, LineError, Memory, Pick, Refusal, Rid, Word};
 use sd_book::{Book, Seen, Told};
@@ -36,11 +36,10 @@ use std::alloc::Global;
 fn push_complex(out: &mut Vec<u8>, insts: InstNo, pages: u16, frames: u16) -> Result<(), Memory>
     ensures { OnOk result (out.new.items ≡ out.old.items ++ reported no_names (form.Complex insts pages frames) []) }
 {
-    push_word(out, b"complex")?;
-    push_number(out, u64::from(insts.get()))?;
-    push_number(out, u64::from(pages))?;
-    push_number(out, u64::from(frames))?;
-    push_end(out)
+    push_counted(out, b"complex ", u64::from(insts.get()))
+        .and(push_number(out, u64::from(pages)))
+        .and(push_number(out, u64::from(frames)))
+        .and(push_end(out))
 }
 
 // A line of the transaction of this name.
@@ -54,10 +53,9 @@ fn push_txn_line(
     ensures { OnOk result (out.new.items ≡ out.old.items ++ line_of (name.now
         ∷ last_text (pulled_text (name_in names.now)) (words_of form.now) (codes "ended") (option_copied last.entry) ∷ [])) }
 {
-    push_word(out, name.items())?;
-    push_word(out, b" ")?;
-    push_txn_reply(out, names, form, last)?;
-    push_end(out)
+    push_first(out, name.items())
+        .and(push_txn_reply(out, names, form, last))
+        .and(push_end(out))
 }
 
 // A line of the instance or the page of this number.
@@ -71,10 +69,9 @@ fn push_page_line(
     ensures { OnOk result (out.new.items ≡ out.old.items ++ line_of (decimal number
         ∷ last_text (refusal_text (name_in names.now)) (words_of form.now) no_reply (option_copied last.entry) ∷ [])) }
 {
-    push_digits(out, number)?;
-    push_word(out, b" ")?;
-    push_page_reply(out, names, form, last)?;
-    push_end(out)
+    push_before(out, number, b' ')
+        .and(push_page_reply(out, names, form, last))
+        .and(push_end(out))
 }
 
 // A line that is echoed: a word with its space, and a number.
@@ -88,10 +85,9 @@ fn push_echo_line(
     ensures { OnOk result (out.new.items ≡ out.old.items ++ line_of ((word.now ++ decimal number
         ++ last_behind_words (name_in names.now) (option_copied last.entry)) ∷ [])) }
 {
-    push_word(out, word)?;
-    push_digits(out, number)?;
-    push_behind_words(out, names, last)?;
-    push_end(out)
+    push_counted(out, word, number)
+        .and(push_behind_words(out, names, last))
+        .and(push_end(out))
 }
 
 // A line that is echoed: these words.
@@ -104,9 +100,9 @@ fn push_echo(
     ensures { OnOk result (out.new.items ≡ out.old.items ++ line_of ((words.now
         ++ last_behind_words (name_in names.now) (option_copied last.entry)) ∷ [])) }
 {
-    push_word(out, words)?;
-    push_behind_words(out, names, last)?;
-    push_end(out)
+    push_word(out, words)
+        .and(push_behind_words(out, names, last))
+        .and(push_end(out))
 }
 
 // A line of all instances: these words.
@@ -119,9 +115,9 @@ fn push_all_line(
     ensures { OnOk result (out.new.items ≡ out.old.items ++ line_of ((words.now
         ++ last_behind_all (name_in names.now) (option_copied last.entry)) ∷ [])) }
 {
-    push_word(out, words)?;
-    push_behind_all(out, names, last)?;
-    push_end(out)
+    push_word(out, words)
+        .and(push_behind_all(out, names, last))
+        .and(push_end(out))
 }
 
 // The words of a line that fails all.
@@ -141,9 +137,9 @@ fn push_row(out: &mut Vec<u8>, rid: Rid, value: &Bytes) -> Result<(), Memory>
     ensures text { OnOk result (out.new.items ≡ out.old.items ++ line_of (rid_word rid ∷ value.now ∷ [])) }
     ensures bytes { OnOk result (vec_len out.old < vec_len out.new) }
 {
-    push_rid(out, rid)?;
-    push_next(out, value.items())?;
-    push_end(out)
+    push_rid(out, rid)
+        .and(push_next(out, value.items()))
+        .and(push_end(out))
 }
 
 // Each row takes a byte at least.
@@ -157,22 +153,7 @@ fn push_rows(out: &mut Vec<u8>, rows: &[(Rid, Bytes)]) -> Result<(), Memory>
     Ok(())
 }
 
-// The rows of an entry, and how many they are.
-fn push_entry(out: &mut Vec<u8>, entry: &Entry) -> Result<usize, Memory>
-    ensures text { OnOk result (out.new.items ≡ out.old.items ++ flat_map row_line (rows_in entry.now.reply)) }
-    ensures count { IfOk result (λ n. n ≡ length (rows_in entry.now.reply)) }
-    ensures bytes { IfOk result (λ n. vec_len out.old + n ≤ vec_len out.new) }
-{
-    match &entry.reply {
-        Reply::Rows(rows) => {
-            push_rows(out, rows.items())?;
-            Ok(rows.items().len())
-        }
-        _ => Ok(0),
-    }
-}
-
-// The same of an entry as it is kept: one in few bytes has no rows.
+// The rows of an entry, and how many they are: one that is kept in few bytes has none.
 fn push_seen(out: &mut Vec<u8>, seen: Seen<'_>) -> Result<usize, Memory>
     ensures text { OnOk result (out.new.items ≡ out.old.items ++ flat_map row_line (rows_in (seen_entry seen.entry).reply)) }
     ensures count { IfOk result (λ n. n ≡ length (rows_in (seen_entry seen.entry).reply)) }
@@ -181,7 +162,13 @@ fn push_seen(out: &mut Vec<u8>, seen: Seen<'_>) -> Result<usize, Memory>
     match seen {
         Seen::Help(_) => Ok(0),
         Seen::Short(_) => Ok(0),
-        Seen::Whole(entry) => push_entry(out, entry),
+        Seen::Whole(entry) => match &entry.reply {
+            Reply::Rows(rows) => {
+                push_rows(out, rows.items())?;
+                Ok(rows.items().len())
+            }
+            _ => Ok(0),
+        },
     }
 }
 
@@ -206,17 +193,6 @@ fn push_own_rows(out: &mut Vec<u8>, number: u32, entries: Told<'_>) -> Result<us
     Ok(count)
 }
 
-// The same rows, and a line with their number.
-fn push_rows_of(out: &mut Vec<u8>, number: u32, entries: Told<'_>) -> Result<(), Memory>
-    ensures { OnOk result (out.new.items
-        ≡ out.old.items ++ table_text (table_rows (entries_of number (upto number (entries_in entries.entry))))) }
-{
-    let count = push_own_rows(out, number, entries)?;
-    push_word(out, b"table")?;
-    push_number(out, count as u64)?;
-    push_end(out)
-}
-
 // What a table line reports by the last of its entries: its refusal, or all its rows.
 fn push_table(
     out: &mut Vec<u8>,
@@ -230,15 +206,16 @@ fn push_table(
         ++ reported (name_in names.now) form.Table (entries_of number (upto number (entries_in entries.entry)))) }
 {
     let Some(entry) = last else {
-        push_word(out, b"no reply")?;
-        return push_end(out);
+        return push_word(out, b"no reply\n");
     };
     match &entry.reply {
         Reply::Refused(refusal) => {
-            push_pulled(out, names, &entry.event, refusal)?;
-            push_end(out)
+            push_pulled(out, names, &entry.event, refusal).and(push_end(out))
         }
-        _ => push_rows_of(out, number, entries),
+        _ => {
+            let count = push_own_rows(out, number, entries)?;
+            push_counted(out, b"table ", count as u64).and(push_end(out))
+        }
     }
 }
 
@@ -304,10 +281,9 @@ fn push_short_line(
     ensures { OnOk result (out.new.items
         ≡ out.old.items ++ line_of (name.now ∷ words_of form.now (line_entry short.now).reply ∷ [])) }
 {
-    push_word(out, name.items())?;
-    push_space(out)?;
-    push_short_words(alloc, out, form, short)?;
-    push_end(out)
+    push_first(out, name.items())
+        .and(push_short_words(alloc, out, form, short))
+        .and(push_end(out))
 }
 
 // The same as `push_short` by the entry made whole.
@@ -390,17 +366,6 @@ fn tells_txn(reply: &Reply) -> bool
     }
 }
 
-// The same of an entry as it is kept: the reply of one in few bytes is no such refusal.
-fn seen_tells_txn(seen: Seen<'_>) -> bool
-    ensures { result ≡ reply_tells_txn (seen_entry seen.entry).reply }
-{
-    match seen {
-        Seen::Help(_) => false,
-        Seen::Short(_) => false,
-        Seen::Whole(entry) => tells_txn(&entry.reply),
-    }
-}
-
 // Whether any of those that stand whole tells a transaction.
 fn any_whole_tells(entries: &[Entry]) -> bool
     ensures { result ≡ tell_txns entries.now }
@@ -415,23 +380,6 @@ fn any_whole_tells(entries: &[Entry]) -> bool
     false
 }
 
-fn any_tells_txn(entries: Told<'_>) -> bool
-    ensures { result ≡ tell_txns (entries_in entries.entry) }
-{
-    // What is kept in few bytes tells none.
-    if !any_whole_tells(entries.whole) {
-        return false;
-    }
-    let mut rest = entries;
-    while let Some((seen, after)) = rest.first() {
-        if seen_tells_txn(seen) {
-            return true;
-        }
-        rest = after;
-    }
-    false
-}
-
 // The names that the report may need: none where no refusal tells a transaction.
 fn names_for(alloc: Global, lines: &[Line], entries: Told<'_>) -> Result<TxnNames, Memory>
     requires lines { AreAbove 0 lines.now }
@@ -439,7 +387,8 @@ fn names_for(alloc: Global, lines: &[Line], entries: Told<'_>) -> Result<TxnName
     ensures { IfOk result (λ names. gathered (reported (name_in names)) lines.now (entries_in entries.entry)
         ≡ report lines.now (entries_in entries.entry)) }
 {
-    if any_tells_txn(entries) {
+    // What is kept in few bytes tells none.
+    if any_whole_tells(entries.whole) {
         TxnNames::of(alloc, lines, entries)
     } else {
         Ok(TxnNames::new(alloc))
@@ -478,17 +427,10 @@ pub fn bad_line(alloc: Global, line: u32, cause: LineError) -> Result<Vec<u8>, M
     ensures { IfOk result (λ text. text.items ≡ bad_text line cause) }
 {
     let mut out = Vec::new(alloc);
-    push_bad(&mut out, line, cause)?;
+    push_counted(&mut out, b"bad line ", u64::from(line))
+        .and(push_next(&mut out, cause_name(cause)))
+        .and(push_end(&mut out))?;
     Ok(out)
-}
-
-fn push_bad(out: &mut Vec<u8>, line: u32, cause: LineError) -> Result<(), Memory>
-    ensures { OnOk result (out.new.items ≡ out.old.items ++ bad_text line cause) }
-{
-    push_word(out, b"bad line")?;
-    push_number(out, u64::from(line))?;
-    push_next(out, cause_name(cause))?;
-    push_end(out)
 }
 
 /// The text that tells where devices that aren't sound fail first. `Memory` comes where there is none.
@@ -496,15 +438,8 @@ pub fn damaged_line(alloc: Global, dev: u8, at: u64) -> Result<Vec<u8>, Memory>
     ensures { IfOk result (λ text. text.items ≡ damaged_text dev at) }
 {
     let mut out = Vec::new(alloc);
-    push_damaged(&mut out, dev, at)?;
+    push_counted(&mut out, b"damaged ", u64::from(dev))
+        .and(push_number(&mut out, at))
+        .and(push_end(&mut out))?;
     Ok(out)
-}
-
-fn push_damaged(out: &mut Vec<u8>, dev: u8, at: u64) -> Result<(), Memory>
-    ensures { OnOk result (out.new.items ≡ out.old.items ++ damaged_text dev at) }
-{
-    push_word(out, b"damaged")?;
-    push_number(out, u64::from(dev))?;
-    push_number(out, at)?;
-    push_end(out)
 }

@@ -4,38 +4,24 @@ ghost use Rattle.std.specs.Prelude.{◌≡◌, ◌++◌, OnOk, Some, codes, take
 ghost use Rattle.sd_forms.specs.Forms.{rid_word};
 ghost use Rattle.sd_short.specs.Shorts.{line_entry};
 ghost use Rattle.sd_report.specs.Replies.{value_text, words_of};
-ghost use Rattle.sd_report.specs.Words.{txn_text};
 
 use crate::replies::push_words;
-use crate::words::{push_rid, push_txn_numbers, push_word};
-use sd_base::{Memory, Rid, TxnId};
+use crate::words::{push_begun, push_both, push_record, push_word};
+use sd_base::{Memory, Rid};
 use sd_script::Form;
 use sd_short::LineEntry;
 use std::alloc::Global;
-
-fn push_begun(out: &mut Vec<u8>, txn: TxnId) -> Result<(), Memory>
-    ensures { OnOk result (out.new.items ≡ out.old.items ++ codes "begin " ++ txn_text txn) }
-{
-    push_word(out, b"begin ")?;
-    push_txn_numbers(out, txn)
-}
-
-// A word with its space, and the record.
-fn push_record(out: &mut Vec<u8>, word: &[u8], rid: Rid) -> Result<(), Memory>
-    ensures { OnOk result (out.new.items ≡ out.old.items ++ word.now ++ rid_word rid) }
-{
-    push_word(out, word)?;
-    push_rid(out, rid)
-}
 
 // What was read: the first so many of these bytes.
 fn push_read(out: &mut Vec<u8>, rid: Rid, count: u8, value: &[u8]) -> Result<(), Memory>
     ensures { OnOk result (out.new.items
         ≡ out.old.items ++ codes "read " ++ rid_word rid ++ value_text (Some (take count value.now))) }
 {
-    push_record(out, b"read ", rid)?;
-    push_word(out, b" = ")?;
-    push_word(out, &value[..value.len().min(usize::from(count))])
+    push_record(out, b"read ", rid).and(push_both(
+        out,
+        b" = ",
+        &value[..value.len().min(usize::from(count))],
+    ))
 }
 
 // The same as `push_short_words` by the reply itself.

@@ -1,11 +1,11 @@
-use Rattle.std.proofs.Common.{◌≡◌, List, arith, ap, sym, ◌∙◌}
+use Rattle.std.proofs.Common.{◌≡◌, ◌≤◌, List, arith, ap, sym, ◌∙◌}
 use Rattle.std.specs.Prelude.{option_map}
 use Rattle.std.proofs.lemmas.Bool.{lt-ltb}
 use Rattle.sd_short.specs.declared.noted.Noted.{Noted}
 use Rattle.sd_short.specs.Shorts.{line_entry}
 use Rattle.sd_book.specs.Booked.{entries_in, seen_entry, unpacked}
-use Rattle.sd_report.proofs.Notes.{no_items, reads_line, reads_no_line, reads_no_whole, reads_whole}
-use Rattle.sd_report.proofs.OneLine.{last_none, last_or_before, last_upto, later_last}
+use Rattle.sd_report.proofs.Notes.{no_items, reads_help, reads_line, reads_no_line, reads_no_whole, reads_whole}
+use Rattle.sd_report.proofs.OneLine.{early_behind, last_none, last_or_before, last_upto, later_last, other_last, own_last}
 use Rattle.sd_report.proofs.parting.part_at.Goals.{in_default, in-len1-up+in-Line+in-empty}
 use Rattle.sd_report.proofs.parting.part_at.Goals.{in-len1-up+in-Line+in-len1-up-lines+then-line-number}
 use Rattle.sd_report.proofs.parting.part_at.Goals.{in-len1-up+in-Whole+in-empty-whole}
@@ -54,3 +54,76 @@ returns-in_default-noted-clause-last c =
     ] in
     end ∙ c.loop-noted.invariant.last
     ∙ last_none n (entries_in c.args.entries)
+
+-- a help is of no line
+pub loop-noted-preserved-in-Help : goal.loop-noted-preserved-in-Help
+loop-noted-preserved-in-Help c =
+    let n = c.args.number in
+    let notes = c.loop-noted.noted.now in
+    let es = unpacked notes c.loop-noted.lines.now c.loop-noted.whole.now in
+    let is = reads_help notes c.first-item.result c.in-len1-up.len_at_least c.first-item.is c.loop-noted.lines.now
+    c.loop-noted.whole.now c.in-Help.is in
+    record {
+      last = other_last n es _ _ is (omega arith) (λ own. omega (arith, own, c.requires))
+          (option_map seen_entry c.loop-noted.last) ∙ c.loop-noted.invariant.last;
+      others = early_behind n es _ _ is (omega arith) ∙ c.loop-noted.invariant.others;
+    }
+
+pub loop-noted-preserved-then-line-number-2 : goal.loop-noted-preserved-then-line-number-2
+loop-noted-preserved-then-line-number-2 c =
+    let n = c.args.number in
+    let e = line_entry c.short-item.result in
+    let lines = c.loop-noted.lines.now in
+    let es = unpacked c.loop-noted.noted.now lines c.loop-noted.whole.now in
+    let is = reads_line c.loop-noted.noted.now c.first-item.result c.in-len1-up.len_at_least c.first-item.is lines
+    c.loop-noted.whole.now c.short-item.result c.in-Line.is c.in-len1-up-lines.len_at_least c.short-item.is in
+    let own : e.line ≡ n = sym c.line-line.ensures ∙ c.if-line-number-2.true in
+    record {
+      last = own_last n es _ e is (omega (arith, own)) own (option_map seen_entry c.loop-noted.last)
+          ∙ c.loop-noted.invariant.last;
+      others = early_behind n es _ e is (omega (arith, own)) ∙ c.loop-noted.invariant.others;
+    }
+
+pub loop-noted-preserved-else-line-number-2 : goal.loop-noted-preserved-else-line-number-2
+loop-noted-preserved-else-line-number-2 c =
+    let n = c.args.number in
+    let e = line_entry c.short-item.result in
+    let lines = c.loop-noted.lines.now in
+    let es = unpacked c.loop-noted.noted.now lines c.loop-noted.whole.now in
+    let is = reads_line c.loop-noted.noted.now c.first-item.result c.in-len1-up.len_at_least c.first-item.is lines
+    c.loop-noted.whole.now c.short-item.result c.in-Line.is c.in-len1-up-lines.len_at_least c.short-item.is in
+    let early : e.line ≤ n = omega (arith, c.line-line.ensures, c.if-line-number.false) in
+    record {
+      last = other_last n es _ e is early (λ own. c.if-line-number-2.false (c.line-line.ensures ∙ own))
+          (option_map seen_entry c.loop-noted.last) ∙ c.loop-noted.invariant.last;
+      others = early_behind n es _ e is early ∙ c.loop-noted.invariant.others;
+    }
+
+pub loop-noted-preserved-then-entry-number-2 : goal.loop-noted-preserved-then-entry-number-2
+loop-noted-preserved-then-entry-number-2 c =
+    let n = c.args.number in
+    let e = c.entry-item.result in
+    let whole = c.loop-noted.whole.now in
+    let es = unpacked c.loop-noted.noted.now c.loop-noted.lines.now whole in
+    let is = reads_whole c.loop-noted.noted.now c.first-item.result c.in-len1-up.len_at_least c.first-item.is
+    c.loop-noted.lines.now whole e c.in-Whole.is c.in-len1-up-whole.len_at_least c.entry-item.is in
+    let own : e.line ≡ n = c.if-entry-number-2.true in
+    record {
+      last = own_last n es _ e is (omega (arith, own)) own (option_map seen_entry c.loop-noted.last)
+          ∙ c.loop-noted.invariant.last;
+      others = early_behind n es _ e is (omega (arith, own)) ∙ c.loop-noted.invariant.others;
+    }
+
+pub loop-noted-preserved : goal.loop-noted-preserved
+loop-noted-preserved c =
+    let n = c.args.number in
+    let e = c.entry-item.result in
+    let whole = c.loop-noted.whole.now in
+    let es = unpacked c.loop-noted.noted.now c.loop-noted.lines.now whole in
+    let is = reads_whole c.loop-noted.noted.now c.first-item.result c.in-len1-up.len_at_least c.first-item.is
+    c.loop-noted.lines.now whole e c.in-Whole.is c.in-len1-up-whole.len_at_least c.entry-item.is in
+    record {
+      last = other_last n es _ e is c.if-entry-number.false c.if-entry-number-2.false (option_map seen_entry c.loop-noted.last)
+          ∙ c.loop-noted.invariant.last;
+      others = early_behind n es _ e is c.if-entry-number.false ∙ c.loop-noted.invariant.others;
+    }

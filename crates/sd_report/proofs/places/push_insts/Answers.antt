@@ -1,4 +1,4 @@
-use Rattle.std.proofs.Common.{◌++◌, ℕ, List, ap, ◌∙◌}
+use Rattle.std.proofs.Common.{[], ◌∷◌, ◌++◌, ℕ, ap, ◌∙◌}
 use Rattle.std.specs.Fmt.{decimal}
 use Rattle.sd_base.specs.Sets.{members}
 use Rattle.sd_report.specs.Places.{insts_text}
@@ -19,8 +19,7 @@ pub loop-next-preserved : goal.loop-next-preserved
 loop-next-preserved c =
     next_text c.loop-next.rest.bits c.in-Some-first.next c.without-rest-in-Some-first.result.bits c.in-Some-first.ensures
     c.without-rest-in-Some-first.ensures
-    c.loop-next.out.items c.push_digits-in-Some-first.new.out.items (c.args.out.now.items ++ insts_text
+    c.loop-next.out.items c.push_counted.new.out.items (c.args.out.now.items ++ insts_text
     (members c.args.set.bits)) c.loop-next.invariant
-    (c.in_ok-push_digits-2.ensures ∙ ap (λ (n : ℕ). c.push_word.new.out.items ++ decimal n) (c.from-in-Some-first.ensures
-    ∙ c.get-in-Some-first.ensures.value)
-    ∙ ap (λ (l : List ℕ). l ++ decimal c.in-Some-first.next) c.in_ok-push_word.ensures)
+    (c.in_ok-push_counted.ensures ∙ ap (λ (n : ℕ). (c.loop-next.out.items ++ 44 ∷ []) ++ decimal n) (c.from-in-Some-first.ensures
+    ∙ c.get-in-Some-first.ensures.value))

@@ -8,14 +8,17 @@ use Rattle.sd_report.specs.declared.txn_names.TxnNames.{TxnNames}
 use Rattle.sd_book.specs.Booked.{entries_in}
 use Rattle.sd_report.specs.Names.{name_in}
 use Rattle.sd_report.specs.Report.{gathered, report, reported, names_of}
+use Rattle.sd_report.proofs.FewBytes.{none_tells}
 use Rattle.sd_report.proofs.Unnamed.{same_report}
 use Rattle.sd_report.proofs.report.names_for.Goals as goal
 
-pub returns-else-any_tells_txn : goal.returns-else-any_tells_txn
-returns-else-any_tells_txn c =
-    same_report (name_in c.new.result) (names_of c.args.lines.now (entries_in c.args.entries)) c.args.lines.now
-    (entries_in c.args.entries)
-    (sym c.any_tells_txn.ensures ∙ c.if-any_tells_txn.false)
+-- none that stands whole tells a transaction
+pub returns-else-any_whole_tells : goal.returns-else-any_whole_tells
+returns-else-any_whole_tells c =
+    let entries = c.args.entries in
+    same_report (name_in c.new.result) (names_of c.args.lines.now (entries_in entries)) c.args.lines.now (entries_in entries)
+    (none_tells entries.noted.now entries.lines.now entries.whole.now
+    (sym c.any_whole_tells.ensures ∙ c.if-any_whole_tells.false))
 
 named_report : (lines : List Line) (entries : List Entry) (r : Result TxnNames Memory)
     → IfOk r (λ names. (t : TxnId) → name_in names t ≡ names_of lines entries t)
@@ -23,5 +26,5 @@ named_report : (lines : List Line) (entries : List Entry) (r : Result TxnNames M
 named_report lines entries (Ok names) same = λ i. gathered (reported (λ t. same t i)) lines entries
 named_report lines entries (Err e) same = tt
 
-pub returns-then-any_tells_txn : goal.returns-then-any_tells_txn
-returns-then-any_tells_txn c = named_report c.args.lines.now (entries_in c.args.entries) c.of.result c.of.ensures
+pub returns-then-any_whole_tells : goal.returns-then-any_whole_tells
+returns-then-any_whole_tells c = named_report c.args.lines.now (entries_in c.args.entries) c.of.result c.of.ensures
