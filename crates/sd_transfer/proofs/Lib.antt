@@ -1,4 +1,5 @@
 mod PassFits
+mod Told
 pub mod Evicted
 pub mod Asked
 pub mod Dropped

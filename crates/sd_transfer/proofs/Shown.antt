@@ -1,6 +1,7 @@
 -- A page is shown with the LSN of its newest version: for the goals of showing.rt.
-use Rattle.std.proofs.Common.{◌≡◌, ℕ, false, refl, sym, ap, ◌∙◌}
-use Rattle.std.specs.Prelude.{Some}
+use Rattle.std.proofs.Common.{◌≡◌, ℕ, Bool, true, false, cond, List, [], ◌∷◌, refl, sym, ap, ◌∙◌, subst, eq-eqb}
+use Rattle.std.specs.Prelude.{Option, Some, IsSome}
+use Rattle.sd_base.specs.Sets.{first, has}
 use Rattle.sd_base.specs.declared.place.Place.{Place}
 use Rattle.sd_rig.specs.Devices.{DeviceImages, Leaves}
 use Rattle.sd_model.specs.declared.event.Event.{Event}
@@ -16,6 +17,16 @@ use Rattle.sd_state.specs.Laws.{newest_of}
 use Rattle.sd_state.specs.declared.complex.Complex.{Complex}
 use Rattle.sd_fits.specs.Serving.{Serving, fits_by}
 use Rattle.sd_fits.proofs.Served.{none-ended, nothing-fits, passed, still-serves, turns-on}
+
+-- ---- the lowest of a set that holds a page
+
+pub first-there : (xs : List ℕ) (o : Option ℕ) → o ≡ first xs → (xs ≡ [] → ⊥) → IsSome o
+first-there [] o is some = absurd (some refl)
+first-there (x ∷ xs) o is some = subst IsSome (sym is) refl
+
+pub first-has : (xs : List ℕ) (i : ℕ) → first xs ≡ Some i → has i xs ≡ true
+first-has [] i is = absurd (cc)
+first-has (x ∷ xs) i is = ap (λ (b : Bool). cond b true (has i xs)) (eq-eqb x i cc)
 
 -- ---- what the world says of it
 

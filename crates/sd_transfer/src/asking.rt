@@ -59,7 +59,7 @@ pub fn ask<G: Rig>(
         raise(c, p, i);
         return Ok(None);
     }
-    c.directory().keeps();
+    c.directory.keeps();
     let of = answerer(i, &place);
     queue_ask(c, i, p, mode)?;
     Ok(Some(of))

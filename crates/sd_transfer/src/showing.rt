@@ -37,7 +37,7 @@ fn newest_lsn<G: Rig>(c: &Complex<G>, p: PageNo, place: &Place) -> Lsn
     requires there { seen place.now ≡ entry_at (parts c.now).directory p }
     ensures { result ≡ number_shown (seen place.now) (newest_of (G.seen c.now.rig) (G.leaves c.now.rig) (parts c.now) p).lsn }
 {
-    c.directory().keeps();
+    c.directory.keeps();
     match *place {
         Place::Free | Place::Lost => 0,
         Place::Shared { set, .. } => pooled_lsn(c, p, set.first().unwrap()),

@@ -29,7 +29,7 @@ pub fn take<G: Rig>(c: &mut Complex<G>, i: InstNo, p: PageNo) -> Result<(), Refu
 {
     laws::instances(i);
     may_take(c, i, p)?;
-    c.directory().keeps();
+    c.directory.keeps();
     if lacks_frame(c, i, p) {
         return Err(Refusal::PoolFull);
     }

@@ -1,5 +1,5 @@
 use Rattle.std.proofs.Common.{◌≡◌, ◌||◌, ℕ, ◌∙◌, Bool, ap, ap₂, subst, sym}
-use Rattle.std.specs.Prelude.{Option, Result, Err, not}
+use Rattle.std.specs.Prelude.{Option, Result, Err, None, Some, not}
 use Rattle.std.proofs.lemmas.Result.{err_from_is_err_and}
 use Rattle.sd_base.specs.declared.refusal.Refusal.{Refusal}
 use Rattle.sd_base.specs.declared.refusal.Refusal.TheVariants as R
@@ -8,7 +8,6 @@ use Rattle.sd_state.specs.Values.{Pending}
 use Rattle.sd_transfer.specs.Asking.{IsUnserved}
 use Rattle.sd_fits.specs.Serving.{Serving}
 use Rattle.sd_model.specs.declared.event.Event.TheVariants.{Ask}
-use Rattle.sd_pagelock.specs.Directory.{DirectoryState, entry_at}
 use Rattle.sd_places.specs.Places.{Formed, PageEntry, holds_as, is_free, is_lost, passes}
 use Rattle.sd_places.specs.Rows.{may_raise}
 use Rattle.sd_places.proofs.Uses.{free-is}
@@ -17,10 +16,8 @@ use Rattle.sd_world.specs.Serving.{answered, had_or_asked, telling}
 use Rattle.sd_transfer.proofs.Asked.{had-lacks, had-pool, stays-there}
 use Rattle.sd_transfer.proofs.Fetched.{ask-refused, ask-spared, has-served, queued-served, raised-served, unchanged-here}
 use Rattle.sd_transfer.proofs.Fetched.{unchanged-to}
+use Rattle.sd_transfer.proofs.Told.{err-same, not-refused}
 use Rattle.sd_transfer.proofs.asking.ask.Goals as goal
-
-err-same : (r : Result (Option ℕ) Refusal) (a b : Refusal) → r ≡ Err a → r ≡ Err b → a ≡ b
-err-same r a b is so = cc
 
 pub returns-in_err-place-clause-served : goal.returns-in_err-place-clause-served
 returns-in_err-place-clause-served g c =
@@ -66,7 +63,7 @@ returns-then-may_raise-clause-still g c =
 
 pub answerer-of-requires-clause-formed : goal.answerer-of-requires-clause-formed
 answerer-of-requires-clause-formed g c = subst Formed (sym c.in_ok-place.ensures.place)
-    (subst (λ (d : DirectoryState _). Formed (entry_at d c.args.p)) c.directory.ensures (c.keeps.ensures.formed c.args.p))
+    (c.keeps.ensures.formed c.args.p)
 
 pub answerer-of-requires-clause-rests : goal.answerer-of-requires-clause-rests
 answerer-of-requires-clause-rests g c =
@@ -159,3 +156,46 @@ pub queue_ask-requires-clause-wanted : goal.queue_ask-requires-clause-wanted
 queue_ask-requires-clause-wanted g c = ap₂ (λ (lost had : Bool). not (lost || had)) c.in_ok-place.ensures.may.found
     (ap (λ (e : PageEntry). holds_as c.args.mode e c.args.i) (sym c.in_ok-place.ensures.place)
     ∙ sym c.holds_as.ensures ∙ c.if-holds_as.false)
+
+pub may_ask-requires : goal.may_ask-requires
+may_ask-requires g c = c.requires.fits.1.good.shape
+
+pub returns-in_err-place-clause-still : goal.returns-in_err-place-clause-still
+returns-in_err-place-clause-still g c =
+    unchanged-here (telling g.G.Rig.seen g.G.Rig.leaves g.G.Rig.moment g.G.Rig.since g.G.Rig.faults) c.args.c.now.rig
+
+pub returns-then-holds_as-clause-there : goal.returns-then-holds_as-clause-there
+returns-then-holds_as-clause-there g c had is = not-refused {T = Option ℕ} None R.Memory is
+
+pub returns-then-holds_as-clause-still : goal.returns-then-holds_as-clause-still
+returns-then-holds_as-clause-still g c =
+    unchanged-here (telling g.G.Rig.seen g.G.Rig.leaves g.G.Rig.moment g.G.Rig.since g.G.Rig.faults) c.args.c.now.rig
+
+pub returns-in_err-fetch-clause-still : goal.returns-in_err-fetch-clause-still
+returns-in_err-fetch-clause-still g c = c.fetch.ensures.still
+
+pub returns-then-is_free-clause-there : goal.returns-then-is_free-clause-there
+returns-then-is_free-clause-there g c had is = not-refused {T = Option ℕ} None R.Memory is
+
+pub returns-then-is_free-clause-still : goal.returns-then-is_free-clause-still
+returns-then-is_free-clause-still g c = c.fetch.ensures.still
+
+pub returns-then-is_free-clause-served : goal.returns-then-is_free-clause-served
+returns-then-is_free-clause-served g c = c.in_ok-fetch.ensures.served
+
+pub returns-then-may_raise-clause-there : goal.returns-then-may_raise-clause-there
+returns-then-may_raise-clause-there g c had is = not-refused {T = Option ℕ} None R.Memory is
+
+pub answerer-of-requires-clause-others : goal.answerer-of-requires-clause-others
+answerer-of-requires-clause-others g c = sym c.may_raise.ensures ∙ c.if-may_raise.false
+
+pub returns-clause-there : goal.returns-clause-there
+returns-clause-there g c had is = not-refused {T = Option ℕ} (Some c.answerer-of.result) R.Memory is
+
+pub returns-in_err-fetch-clause-served : goal.returns-in_err-fetch-clause-served
+returns-in_err-fetch-clause-served g c =
+    let tell = telling g.G.Rig.seen g.G.Rig.leaves g.G.Rig.moment g.G.Rig.since g.G.Rig.faults in
+    let p = err_from_is_err_and c.from_residual-in_err-fetch.result c.from_residual-in_err-fetch.ensures.1 in
+    subst (λ (r : Result (Option ℕ) Refusal). Serving tell (Ask c.args.i c.args.p c.args.mode) (answered had_or_asked r) c.args.c.now
+    c.fetch.new.c)
+    (sym (p.1 ∙ ap (λ (n : Refusal). Err n) p.2)) c.in_err-fetch.ensures.served

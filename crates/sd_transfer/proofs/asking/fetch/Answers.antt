@@ -11,7 +11,7 @@ use Rattle.sd_pool.specs.Buffers.{LacksFrame}
 use Rattle.sd_state.specs.Parts.{Parts, is_active, pool_at}
 use Rattle.sd_state.specs.Values.{Pending}
 use Rattle.sd_world.specs.Serving.{answered, telling}
-use Rattle.sd_transfer.proofs.Fetched.{fetched, full-served, read-refused, read-spared, unchanged-to}
+use Rattle.sd_transfer.proofs.Fetched.{fetched, full-served, read-refused, read-spared, unchanged-here, unchanged-to}
 use Rattle.sd_fits.proofs.Refused.{unlike}
 use Rattle.sd_transfer.proofs.asking.fetch.Goals as goal
 
@@ -103,3 +103,13 @@ pub returns-clause-still : goal.returns-clause-still
 returns-clause-still g c =
     let tell = telling g.G.Rig.seen g.G.Rig.leaves g.G.Rig.moment g.G.Rig.since g.G.Rig.faults in
     unchanged-to tell c.args.c.now.rig c.read_disk.new.self.rig c.lock_free.new.self.rig c.lock_free.ensures.rig c.read_disk.ensures.stays
+
+pub lacks_frame-requires : goal.lacks_frame-requires
+lacks_frame-requires g c = c.requires.fits.1.good.shape
+
+pub returns-then-lacks_frame-clause-still : goal.returns-then-lacks_frame-clause-still
+returns-then-lacks_frame-clause-still g c =
+    unchanged-here (telling g.G.Rig.seen g.G.Rig.leaves g.G.Rig.moment g.G.Rig.since g.G.Rig.faults) c.args.c.now.rig
+
+pub read_disk-requires : goal.read_disk-requires
+read_disk-requires g c = record { good = (Pending.Idle, c.requires.fits.0.scene.state, c.requires.fits.1.good) }

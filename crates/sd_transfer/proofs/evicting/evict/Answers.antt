@@ -1,11 +1,16 @@
-use Rattle.std.proofs.Common.{◌∙◌, ap, subst, sym}
+use Rattle.std.proofs.Common.{◌∙◌, ap, refl, subst, sym}
 use Rattle.std.specs.Prelude.{Result, Err}
 use Rattle.std.proofs.lemmas.Result.{err_from_is_err_and}
 use Rattle.sd_base.specs.declared.refusal.Refusal.{Refusal}
+use Rattle.sd_base.specs.declared.refusal.Refusal.TheVariants as R
 use Rattle.sd_fits.specs.Serving.{Serving}
 use Rattle.sd_model.specs.declared.event.Event.TheVariants.{Evict}
+use Rattle.sd_state.specs.Complexes.{parts}
+use Rattle.sd_state.specs.Values.{Pending}
+use Rattle.sd_transfer.specs.Evicting.{StaysFor}
 use Rattle.sd_world.specs.Serving.{did, telling}
 use Rattle.sd_transfer.proofs.Evicted.{evict-refused, evicted}
+use Rattle.sd_transfer.proofs.Told.{err-same, not-refused}
 use Rattle.sd_transfer.proofs.evicting.evict.Goals as goal
 
 pub returns-in_err-may_go-clause-served : goal.returns-in_err-may_go-clause-served
@@ -26,3 +31,30 @@ returns-clause-served g c =
     evicted tell old c.args.i c.args.p c.instances.ensures.low c.instances.ensures.high
     (λ img since. g.met.G.Rig.only_now old.rig img since) c.drop_copy.new.c drop.rig drop.parts drop.place drop.good
     c.in_ok-may_go.ensures.active c.in_ok-may_go.ensures.spare
+
+pub may_go-requires : goal.may_go-requires
+may_go-requires g c = c.requires.fits.1.good.shape
+
+pub returns-in_err-may_go-clause-there : goal.returns-in_err-may_go-clause-there
+returns-in_err-may_go-clause-there g c is =
+    let p = err_from_is_err_and c.from_residual.result c.from_residual.ensures.1 in
+    subst (StaysFor (parts c.args.c.now) c.args.i c.args.p) (sym p.2 ∙ err-same c.from_residual.result p.0 R.Memory p.1 is)
+    c.in_err-may_go.ensures.refused
+
+pub returns-in_err-may_go-clause-rig : goal.returns-in_err-may_go-clause-rig
+returns-in_err-may_go-clause-rig g c = refl
+
+pub drop_copy-requires-clause-good : goal.drop_copy-requires-clause-good
+drop_copy-requires-clause-good g c = (Pending.Idle, c.requires.fits.0.scene.state, c.requires.fits.1.good)
+
+pub drop_copy-requires-clause-idle : goal.drop_copy-requires-clause-idle
+drop_copy-requires-clause-idle g c = c.requires.fits.1.idle
+
+pub drop_copy-requires-clause-spare : goal.drop_copy-requires-clause-spare
+drop_copy-requires-clause-spare g c = c.in_ok-may_go.ensures.spare
+
+pub returns-clause-there : goal.returns-clause-there
+returns-clause-there g c is = not-refused tt R.Memory is
+
+pub returns-clause-rig : goal.returns-clause-rig
+returns-clause-rig g c = c.drop_copy.ensures.rig

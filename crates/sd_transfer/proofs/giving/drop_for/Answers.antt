@@ -62,3 +62,12 @@ returns-clause-good g c pend m good = c.raise.ensures.good pend m (c.drop_copy.e
 pub returns-clause-pages : goal.returns-clause-pages
 returns-clause-pages g c = subst (OnlyPages (parts c.args.c.now))
     (sym (c.raise.ensures.parts ∙ ap (with_directory (parts c.raise.new.c).directory) c.drop_copy.ensures.parts)) refl
+
+pub returns-then-not-may_raise-clause-good : goal.returns-then-not-may_raise-clause-good
+returns-then-not-may_raise-clause-good g c = c.drop_copy.ensures.good
+
+pub returns-then-not-may_raise-clause-rig : goal.returns-then-not-may_raise-clause-rig
+returns-then-not-may_raise-clause-rig g c = c.drop_copy.ensures.rig
+
+pub returns-clause-rig : goal.returns-clause-rig
+returns-clause-rig g c = c.raise.ensures.rig ∙ c.drop_copy.ensures.rig

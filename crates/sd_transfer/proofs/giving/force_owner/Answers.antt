@@ -12,3 +12,27 @@ returns-then-not-owns-clause-spared g c e =
 
 pub returns-clause-forced : goal.returns-clause-forced
 returns-clause-forced g c = on_ok c.force_or_fall.result _ _ (λ forced own settled. forced settled) c.force_or_fall.ensures.forced
+
+pub returns-then-not-owns-clause-stays : goal.returns-then-not-owns-clause-stays
+returns-then-not-owns-clause-stays g c = refl
+
+pub returns-then-not-owns-clause-failed : goal.returns-then-not-owns-clause-failed
+returns-then-not-owns-clause-failed g c = tt
+
+pub returns-then-not-owns-clause-only : goal.returns-then-not-owns-clause-only
+returns-then-not-owns-clause-only g c = tt
+
+pub returns-then-not-owns-clause-down : goal.returns-then-not-owns-clause-down
+returns-then-not-owns-clause-down g c = tt
+
+pub returns-then-not-owns-clause-disk : goal.returns-then-not-owns-clause-disk
+returns-then-not-owns-clause-disk g c = refl
+
+pub returns-then-not-owns-clause-disk_leaves : goal.returns-then-not-owns-clause-disk_leaves
+returns-then-not-owns-clause-disk_leaves g c n = ((λ left. left), (λ left. left))
+
+pub force_or_fall-requires-clause-fits : goal.force_or_fall-requires-clause-fits
+force_or_fall-requires-clause-fits g c = c.requires.fits
+
+pub force_or_fall-requires-clause-active : goal.force_or_fall-requires-clause-active
+force_or_fall-requires-clause-active g c = c.requires.active

@@ -1,5 +1,5 @@
-use Rattle.std.proofs.Common.{◌≡◌, ℕ, ◌∙◌, ap, subst, sym}
-use Rattle.std.specs.Prelude.{Result, Err, Some}
+use Rattle.std.proofs.Common.{ℕ, ◌∙◌, ap, refl, subst, sym}
+use Rattle.std.specs.Prelude.{Result, Err, OnOk, Some}
 use Rattle.std.proofs.lemmas.Result.{err_from_is_err_and}
 use Rattle.sd_base.specs.declared.refusal.Refusal.{Refusal}
 use Rattle.sd_base.specs.declared.refusal.Refusal.TheVariants as R
@@ -7,12 +7,14 @@ use Rattle.sd_model.specs.declared.event.Event.TheVariants.{Give}
 use Rattle.sd_model.specs.declared.event.Reply.TheVariants as reply
 use Rattle.sd_rig.specs.Devices.{LeavesSame}
 use Rattle.sd_state.specs.Complexes.{parts}
+use Rattle.sd_state.specs.Parts.{Parts}
 use Rattle.sd_state.specs.Values.{Pending}
 use Rattle.sd_fits.specs.Serving.{Serving, fits_by, stands_for}
 use Rattle.sd_world.specs.Serving.{gave, telling}
 use Rattle.sd_world.proofs.Serving.{served-again}
-use Rattle.sd_transfer.specs.Giving.{IsUngiven}
-use Rattle.sd_transfer.proofs.Given.{forced-still, give-breaks, give-refused, given-served, may-still}
+use Rattle.sd_transfer.specs.Giving.{IsForcedFor, IsUngiven}
+use Rattle.sd_transfer.proofs.Given.{forced-still, forced-then, give-breaks, give-refused, given-served, may-still}
+use Rattle.sd_transfer.proofs.Told.{err-same, had-memory, not-refused}
 use Rattle.sd_transfer.proofs.giving.give.Goals as goal
 
 pub returns-in_err-to-clause-served : goal.returns-in_err-to-clause-served
@@ -73,8 +75,75 @@ returns-clause-disk_leaves g c =
 pub returns-in_err-to-clause-down : goal.returns-in_err-to-clause-down
 returns-in_err-to-clause-down g c = λ e.
     let p = err_from_is_err_and c.from_residual.result c.from_residual.ensures.1 in
-    let same : c.in_err-to.field-0.0 ≡ R.Failed = cc (p.1, p.2) in
-    absurd (subst (IsUngiven (parts c.args.c.now) c.args.j c.args.p) same c.in_err-to.ensures.refused)
+    absurd (subst (IsUngiven (parts c.args.c.now) c.args.j c.args.p) (sym p.2 ∙ err-same c.from_residual.result p.0 R.Failed p.1 e)
+    c.in_err-to.ensures.refused)
 
 pub returns-in_err-force_owner-clause-down : goal.returns-in_err-force_owner-clause-down
 returns-in_err-force_owner-clause-down g c = λ e. c.in_err-force_owner.ensures.down
+
+pub may_give-requires : goal.may_give-requires
+may_give-requires g c = c.requires.fits.1.good.shape
+
+pub returns-in_err-to-clause-there : goal.returns-in_err-to-clause-there
+returns-in_err-to-clause-there g c is =
+    let p = err_from_is_err_and c.from_residual.result c.from_residual.ensures.1 in
+    subst (IsUngiven (parts c.args.c.now) c.args.j c.args.p) (sym p.2 ∙ err-same c.from_residual.result p.0 R.Memory p.1 is)
+    c.in_err-to.ensures.refused
+
+pub returns-in_err-to-clause-disk : goal.returns-in_err-to-clause-disk
+returns-in_err-to-clause-disk g c = refl
+
+pub returns-in_err-to-clause-disk_leaves : goal.returns-in_err-to-clause-disk_leaves
+returns-in_err-to-clause-disk_leaves g c n = ((λ left. left), (λ left. left))
+
+pub returns-in_err-to-clause-forced : goal.returns-in_err-to-clause-forced
+returns-in_err-to-clause-forced g c =
+    let old : Parts = parts c.args.c.now in
+    subst (λ (r : Result ℕ Refusal). OnOk r (IsForcedFor old c.args.j c.args.p old))
+    (sym (err_from_is_err_and c.from_residual.result c.from_residual.ensures.1).1) tt
+
+pub returns-in_err-force_owner-clause-forced : goal.returns-in_err-force_owner-clause-forced
+returns-in_err-force_owner-clause-forced g c =
+    let p = err_from_is_err_and c.from_residual-in_err-force_owner.result c.from_residual-in_err-force_owner.ensures.1 in
+    subst (λ (r : Result ℕ Refusal). OnOk r (IsForcedFor (parts c.args.c.now) c.args.j c.args.p (parts c.force_owner.new.c)))
+    (sym p.1) tt
+
+pub force_owner-requires-clause-fits : goal.force_owner-requires-clause-fits
+force_owner-requires-clause-fits g c = c.requires.fits
+
+pub force_owner-requires-clause-active : goal.force_owner-requires-clause-active
+force_owner-requires-clause-active g c = c.in_ok-to.ensures.may.active
+
+pub returns-in_err-force_owner-clause-there : goal.returns-in_err-force_owner-clause-there
+returns-in_err-force_owner-clause-there g c is =
+    let p = err_from_is_err_and c.from_residual-in_err-force_owner.result c.from_residual-in_err-force_owner.ensures.1 in
+    had-memory (sym (p.2 ∙ c.in_err-force_owner.ensures.only)
+    ∙ err-same c.from_residual-in_err-force_owner.result p.0 R.Memory p.1 is)
+
+pub returns-in_err-force_owner-clause-disk : goal.returns-in_err-force_owner-clause-disk
+returns-in_err-force_owner-clause-disk g c = c.force_owner.ensures.disk
+
+pub returns-in_err-force_owner-clause-disk_leaves : goal.returns-in_err-force_owner-clause-disk_leaves
+returns-in_err-force_owner-clause-disk_leaves g c = c.force_owner.ensures.disk_leaves
+
+pub hand_over-requires-clause-idle : goal.hand_over-requires-clause-idle
+hand_over-requires-clause-idle g c =
+    let fits = c.requires.fits in
+    ((c.in_ok-force_owner.ensures.spared (Give c.args.j c.args.p)).0 fits.0 fits.1).fits_still.idle
+
+pub hand_over-requires-clause-may : goal.hand_over-requires-clause-may
+hand_over-requires-clause-may g c = may-still (parts c.args.c.now) (parts c.force_owner.new.c) c.args.j c.args.p c.in_ok-to.to
+    c.in_ok-to.mode c.in_ok-force_owner.ensures.stays c.in_ok-to.ensures.may
+
+pub returns-clause-there : goal.returns-clause-there
+returns-clause-there g c is = not-refused c.in_ok-to.to R.Memory is
+
+pub returns-clause-disk : goal.returns-clause-disk
+returns-clause-disk g c = ap (λ (d : g.row.G.Denot). g.G.Rig.seen d 0) c.hand_over.ensures.rig ∙ c.force_owner.ensures.disk
+
+pub returns-clause-forced : goal.returns-clause-forced
+returns-clause-forced g c = forced-then (parts c.args.c.now) (parts c.force_owner.new.c) (parts c.hand_over.new.c) c.args.j c.args.p
+    c.hand_over.ensures.pages c.in_ok-force_owner.ensures.forced
+
+pub returns-clause-down : goal.returns-clause-down
+returns-clause-down g c is = absurd (not-refused c.in_ok-to.to R.Failed is)

@@ -84,3 +84,21 @@ returns-then-may_set_out-clause-place g c =
     let row = ap (may_set_out c.args.mode c.args.to) (sym c.entry.ensures) ∙ sym c.may_set_out.ensures ∙ c.if-may_set_out.true in
     subst (λ (e : PageEntry). IsSet c.args.p e None old.directory (parts c.move_copy.new.c).directory)
     (given-sent c.args.j c.args.to c.args.mode (entry_at old.directory c.args.p) row) c.move_copy.ensures.place
+
+pub returns-then-may_set_out-clause-good : goal.returns-then-may_set_out-clause-good
+returns-then-may_set_out-clause-good g c = c.move_copy.ensures.good
+
+pub returns-then-may_set_out-clause-rig : goal.returns-then-may_set_out-clause-rig
+returns-then-may_set_out-clause-rig g c = c.move_copy.ensures.rig
+
+pub returns-else-may_set_out-clause-good : goal.returns-else-may_set_out-clause-good
+returns-else-may_set_out-clause-good g c = c.drop_for.ensures.good
+
+pub returns-else-may_set_out-clause-pages : goal.returns-else-may_set_out-clause-pages
+returns-else-may_set_out-clause-pages g c = c.drop_for.ensures.pages
+
+pub returns-else-may_set_out-clause-frames : goal.returns-else-may_set_out-clause-frames
+returns-else-may_set_out-clause-frames g c = c.drop_for.ensures.frames
+
+pub returns-else-may_set_out-clause-rig : goal.returns-else-may_set_out-clause-rig
+returns-else-may_set_out-clause-rig g c = c.drop_for.ensures.rig

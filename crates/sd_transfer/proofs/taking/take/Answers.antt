@@ -1,10 +1,8 @@
-use Rattle.std.proofs.Common.{◌∙◌, ap, subst, sym}
+use Rattle.std.proofs.Common.{◌∙◌, ap, refl, subst, sym}
 use Rattle.std.specs.Prelude.{Result, Err}
 use Rattle.std.proofs.lemmas.Result.{err_from_is_err_and}
 use Rattle.sd_base.specs.declared.refusal.Refusal.{Refusal}
 use Rattle.sd_model.specs.declared.event.Event.TheVariants.{Take}
-use Rattle.sd_pagelock.specs.Directory.{DirectoryState, entry_at}
-use Rattle.sd_places.specs.Places.{Formed}
 use Rattle.sd_state.specs.Values.{Pending}
 use Rattle.sd_fits.specs.Serving.{Serving}
 use Rattle.sd_world.specs.Serving.{did, telling}
@@ -58,6 +56,30 @@ returns-clause-served g c =
     taken-served tell old c.args.i c.args.p c.instances.ensures.low c.instances.ensures.high
     (λ img since. g.met.G.Rig.only_now old.rig img since) c.in_ok-may_take.ensures.may c.lacks_frame.ensures.pool
     c.lacks_frame.ensures.past
-    (subst (λ (d : DirectoryState _). Formed (entry_at d c.args.p)) c.directory.ensures (c.keeps.ensures.formed c.args.p))
+    (c.keeps.ensures.formed c.args.p)
     (λ lacks. unlike c.if-lacks_frame.false (c.lacks_frame.ensures.full.1 lacks))
     c.take_copy.new.c took.rig took.good _ done.parts done.place fits.0 fits.1
+
+pub may_take-requires : goal.may_take-requires
+may_take-requires g c = c.requires.fits.1.good.shape
+
+pub returns-in_err-may_take-clause-rig : goal.returns-in_err-may_take-clause-rig
+returns-in_err-may_take-clause-rig g c = refl
+
+pub lacks_frame-requires : goal.lacks_frame-requires
+lacks_frame-requires g c = c.requires.fits.1.good.shape
+
+pub returns-then-lacks_frame-clause-rig : goal.returns-then-lacks_frame-clause-rig
+returns-then-lacks_frame-clause-rig g c = refl
+
+pub take_copy-requires-clause-idle : goal.take_copy-requires-clause-idle
+take_copy-requires-clause-idle g c = c.requires.fits.1.idle
+
+pub take_copy-requires-clause-receiver : goal.take_copy-requires-clause-receiver
+take_copy-requires-clause-receiver g c = c.in_ok-may_take.ensures.may.receiver
+
+pub returns-in_err-take_copy-clause-rig : goal.returns-in_err-take_copy-clause-rig
+returns-in_err-take_copy-clause-rig g c = c.take_copy.ensures.rig
+
+pub returns-clause-rig : goal.returns-clause-rig
+returns-clause-rig g c = c.take_copy.ensures.rig
