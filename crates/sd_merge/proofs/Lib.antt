@@ -1,6 +1,7 @@
 pub mod Filters
 pub mod Turns
 pub mod Ordered
+pub mod OfPage
 pub mod Gathered
 pub mod Merges
 pub mod Flats

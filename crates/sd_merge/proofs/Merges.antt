@@ -1,16 +1,18 @@
--- The changes of all logs by LSN, and then by page, seen page by page. It serves the goals of change.rt.
-use Rattle.std.proofs.Common.{◌≡◌, ℕ, zero, suc, Bool, true, false, cond, eqb, List, [], ◌∷◌, ◌++◌, map, refl, sym, ap, ap₂, ◌∙◌, subst, arith}
-use Rattle.std.specs.Prelude.{All, filter, IsPermutation, ◌&&◌}
-use Rattle.std.specs.List.Sorted.{IsNonDecreasingBy, IsStableByKey, ties}
-use Rattle.std.specs.Ordering.{is_lt, nat_cmp}
-use Rattle.std.proofs.lemmas.Bool.{eqb-true}
-use Rattle.std.proofs.lemmas.List.Elements.{All-head, All-map, All-tail, All-weaker, filter_agree, filter_passes}
-use Rattle.std.proofs.lemmas.List.Kept.{IsNonDecreasingBy-filter}
-use Rattle.std.proofs.lemmas.List.Sorted.{All-permutation, IsPermutation-append_comm, IsPermutation-append_left, IsPermutation-map, IsPermutation-refl, IsPermutation-trans, length_permutation}
+-- The changes of a page by LSN, and those of all pages. It serves the goals of change.rt.
+use Rattle.std.proofs.Common.{◌≡◌, ◌≢◌, ⊎_elim, ℕ, zero, suc, ◌+◌, ◌-◌, ◌<◌, ◌≤◌, Bool, true, false, cond, eqb, List, [], ◌∷◌, ◌++◌, length, map, get_or, refl, sym, ap, ap₂, ◌∙◌, subst, arith, eq-eqb, ne_eqb}
+use Rattle.std.specs.Prelude.{All, filter, IsPermutation, slice_get, ◌&&◌}
+use Rattle.std.specs.List.Sorted.{IsNonDecreasingBy}
+use Rattle.std.specs.Option.{option_map_or}
+use Rattle.std.proofs.lemmas.Bool.{cases_lt, eqb-true}
+use Rattle.std.proofs.lemmas.List.{append-nil, get_or-append-add, get_or_append_left, length-append, map-append}
+use Rattle.std.proofs.lemmas.List.Elements.{All-append, All-cons, All-get_or, All-head, All-map, All-nil, All-tail, All-weaker, filter-append, filter_passes}
+use Rattle.std.proofs.lemmas.List.Sorted.{All-permutation, IsNonDecreasingBy-short, IsPermutation-append_comm, IsPermutation-append_left, IsPermutation-map, IsPermutation-refl, IsPermutation-trans, length_permutation}
+use Rattle.sd_logrec.specs.declared.record.Record.{Record}
+use Rattle.sd_logrec.specs.declared.record.Record.TheVariants as records
 use Rattle.sd_logrec.specs.Spelling.{HasSpelling}
 use Rattle.sd_logrec.specs.View.{Rec, flat}
 use Rattle.sd_log.specs.declared.placed.Placed.{Placed}
-use Rattle.sd_log.specs.Logs.{AreSpelled, LogState, flats, forced_in, log_in, without_tail}
+use Rattle.sd_log.specs.Logs.{AreSpelled, LogState, flats, forced_in, log_in, scanned, without_tail}
 use Rattle.sd_chain.specs.Storage.{all_of, sorted}
 use Rattle.sd_chain.specs.Records.{changes, of_page}
 use Rattle.sd_chain.proofs.Newest.{and_true}
@@ -18,55 +20,10 @@ use Rattle.sd_chain.proofs.Ties.{slow_of}
 use Rattle.sd_merge.specs.declared.change.Change.{Change}
 use Rattle.sd_merge.specs.declared.change.Wanted.{Wanted}
 use Rattle.sd_merge.specs.declared.change.Wanted.TheVariants as W
-use Rattle.sd_merge.specs.Changes.{AreChanges, ChangesPage, IsChange, IsMerged, LsnsRise, chain_of, found_of, in_turn, is_change, is_forced_of, is_wanted, of_lsn, placed_in, redone_of}
-use Rattle.sd_merge.proofs.Filters.{IsNonDecreasingBy-map, IsPermutation-filter, filter_all, filter_within, ties_nat}
+use Rattle.sd_merge.specs.Changes.{AllStand, AreChanges, ChangesPage, IsChange, IsMerged, LsnsRise, Rises, StandsIn, chain_of, found_of, in_turn, is_taken, is_wanted, of_lsn, page_of, placed_in, redone_of}
+use Rattle.sd_merge.proofs.Filters.{IsNonDecreasingBy-map, IsPermutation-filter, filter_all, filter_within}
 use Rattle.sd_merge.proofs.Ordered.{at_lsn, ordered, recs_at}
 use Rattle.sd_merge.proofs.Turns.{every_flat, flats-filter, flats-found, forced_flat}
-
--- the changes of a page
-abbrev of : ℕ → List Change → List Change
-of p cs = filter (λ c. eqb c.page p) cs
-
-of_page_is : (p : ℕ) (c : Change) → IsChange c → of_page p (redone_of c) ≡ eqb c.page p
-of_page_is p c is = ap₂ (λ k n. k && eqb n p) is.page.kind is.page.here
-
-chain_of_page : (p : ℕ) (cs : List Change) → AreChanges cs → chain_of p cs ≡ map redone_of (of p cs)
-chain_of_page p [] all = refl
-chain_of_page p (c ∷ cs) all =
-    ap (λ b. cond b (redone_of c ∷ chain_of p cs) (chain_of p cs)) (of_page_is p c (All-head IsChange c cs all))
-    ∙ ap (λ l. cond (eqb c.page p) (redone_of c ∷ l) l) (chain_of_page p cs (All-tail IsChange c cs all))
-    ∙ go (eqb c.page p)
-  where
-    go : (b : Bool) → cond b (redone_of c ∷ map redone_of (of p cs)) (map redone_of (of p cs)) ≡ map redone_of
-        (cond b (c ∷ of p cs) (of p cs))
-    go true = refl
-    go false = refl
-
-abbrev lt_page : Change → Change → Bool
-lt_page a b = is_lt (nat_cmp a.page b.page)
-
-tie : (x : Change) (c : Change) → ties lt_page x c ≡ eqb c.page x.page
-tie x c = ties_nat x.page c.page
-
-stays_of : (x : Change) (cs ds : List Change) → IsStableByKey (λ c. c.page) nat_cmp cs ds → of x.page ds ≡ of x.page cs
-stays_of x cs ds stable =
-    filter_agree (λ c. eqb c.page x.page) (ties lt_page x) (λ c. sym (tie x c)) ds
-    ∙ stable x
-    ∙ filter_agree (ties lt_page x) (λ c. eqb c.page x.page) (tie x) cs
-
-stays : (p : ℕ) (cs ds : List Change) → IsPermutation cs ds → IsStableByKey (λ c. c.page) nat_cmp cs ds → of p ds ≡ of p cs
-stays p [] [] same stable = refl
-stays p [] (d ∷ ds) same stable = absurd (let len = length_permutation [] (d ∷ ds) same in omega arith)
-stays p (c ∷ cs) ds same stable = stays_of (record c { page = p }) (c ∷ cs) ds stable
-
-chain_stays : (p : ℕ) (cs ds : List Change) → AreChanges cs → IsPermutation cs ds → IsStableByKey (λ c. c.page) nat_cmp cs ds
-    → chain_of p ds ≡ chain_of p cs
-chain_stays p cs ds all same stable =
-    chain_of_page p ds (All-permutation IsChange cs ds same all) ∙ ap (map redone_of) (stays p cs ds same stable)
-    ∙ sym (chain_of_page p cs all)
-
-changes_page : (p : ℕ) (x : Rec) → of_page p x ≡ true → is_change x ≡ true
-changes_page p x e = (and_true (changes x.kind) (eqb x.page p) e).0
 
 -- the records of all logs, the last one first or the first one first
 turned : (logs : ℕ → List Rec) (n : ℕ) → IsPermutation (all_of logs n) (in_turn logs n)
@@ -77,7 +34,7 @@ turned logs (suc n) =
     (IsPermutation-append_comm (logs n) (all_of logs n))
     (IsPermutation-append_left (logs n) (all_of logs n) (in_turn logs n) (turned logs n))
 
--- what `changes_by_lsn` answers of every change
+-- what `changes_by_lsn` answers
 pub record ByLsn (logs : List LogState) (n : ℕ) (w : Wanted) (cs : List Change) : Type 0 where
   pub are : AreChanges cs
   pub rises : IsNonDecreasingBy (λ c. (redone_of c).lsn) cs
@@ -100,82 +57,241 @@ module _ (logs : List LogState) (n : ℕ) (w : Wanted) (cs : List Change) (by : 
       ap (recs_at m) (sym (flats-found cs)) ∙ sym (flats-filter (at_lsn m) (map found_of cs)) ∙ ap flats (by.turns m)
       ∙ flats-filter (at_lsn m) (filter (is_wanted w) (in_turn (placed_in logs) n)) ∙ ap (recs_at m) e
 
--- every change, and then by page
-module _ (logs : List LogState) (n : ℕ) (by_lsn by_page : List Change) (by : ByLsn logs n W.Every by_lsn)
-    (moved : IsPermutation by_lsn by_page) (stable : IsStableByKey (λ c. c.page) nat_cmp by_lsn by_page) (p : ℕ) where
-  kept : chain_of p by_page ≡ chain_of p by_lsn
-  kept = chain_stays p by_lsn by_page by.are moved stable
+  of_page_true : (x : Placed) → is_wanted w x ≡ true → of_page (page_of w) (flat x.rec) ≡ true
+  of_page_true x e = (and_true (is_taken w x) (of_page (page_of w) (flat x.rec)) e).1
 
-  through : filter (of_page p) (filter is_change (in_turn (log_in logs) n)) ≡ filter (of_page p) (in_turn (log_in logs) n)
-  through = filter_within (of_page p) is_change (changes_page p) (in_turn (log_in logs) n)
-
-  pub merges : IsMerged p (log_in logs) n (chain_of p by_page)
-  merges = record {
-    same = IsPermutation-trans (filter (of_page p) (all_of (log_in logs) n)) (filter (of_page p) (in_turn (log_in logs) n))
-        (chain_of p by_page) (IsPermutation-filter (of_page p) (all_of (log_in logs) n) (in_turn (log_in logs) n) (turned (log_in logs) n))
-        (subst (λ l. IsPermutation l (chain_of p by_page)) through
-        (subst (IsPermutation (filter (of_page p) (filter is_change (in_turn (log_in logs) n)))) (sym kept)
-        (IsPermutation-filter (of_page p) (filter is_change (in_turn (log_in logs) n)) (map redone_of by_lsn)
-        (same_flat logs n W.Every by_lsn by (filter is_change (in_turn (log_in logs) n)) (every_flat logs n)))));
-    rises = subst (IsNonDecreasingBy (λ x. x.lsn)) (sym kept)
-        (IsNonDecreasingBy-filter (λ x. x.lsn) (of_page p) (map redone_of by_lsn) (rises_flat logs n W.Every by_lsn by));
-  }
-
-  -- and where LSNs rise in each log
-  pub ordered_chain : LsnsRise logs → chain_of p by_page ≡ sorted (filter (of_page p) (all_of (log_in logs) n))
-  ordered_chain rise =
-      kept ∙ ordered (of_page p) n (log_in logs) (map redone_of by_lsn) (filter is_change (in_turn (log_in logs) n)) rise through
-      (slow_of (chain_of p by_lsn)
-      (IsNonDecreasingBy-filter (λ x. x.lsn) (of_page p) (map redone_of by_lsn) (rises_flat logs n W.Every by_lsn by)))
-      (turns_flat logs n W.Every by_lsn by (filter is_change (in_turn (log_in logs) n)) (every_flat logs n))
-
--- the forced ones of a page
-module _ (logs : List LogState) (n p : ℕ) (cs : List Change) (by : ByLsn logs n (W.Forced p) cs) where
-  page_passes : All (λ x. is_forced_of p x ≡ true) (map found_of cs)
-  page_passes =
+  wanted : All (λ x. is_wanted w x ≡ true) (map found_of cs)
+  wanted =
       let all : List Placed = in_turn (placed_in logs) n in
-      All-permutation (λ x. is_forced_of p x ≡ true) (filter (is_forced_of p) all) (map found_of cs) by.same (filter_passes (is_forced_of p) all)
+      All-permutation (λ x. is_wanted w x ≡ true) (filter (is_wanted w) all) (map found_of cs) by.same (filter_passes (is_wanted w) all)
 
   pub page_spelled : AreSpelled (map found_of cs)
   page_spelled = All-map (λ (x : Placed). HasSpelling x.rec) found_of cs
       (All-weaker IsChange (λ c. HasSpelling (found_of c).rec) (λ c is. is.spelled) cs by.are)
 
-  pub page_forced : All (λ x. x.forced ≡ true) (map found_of cs)
-  page_forced = All-weaker (λ x. is_forced_of p x ≡ true) (λ x. x.forced ≡ true)
-      (λ x e. (and_true x.forced (of_page p (flat x.rec)) e).0) (map found_of cs) page_passes
-
-  of_page_true : (x : Placed) → is_forced_of p x ≡ true → of_page p (flat x.rec) ≡ true
-  of_page_true x e = (and_true x.forced (of_page p (flat x.rec)) e).1
-
-  pub page_changes : All (λ x. ChangesPage x.rec p) (map found_of cs)
-  page_changes = All-weaker (λ x. is_forced_of p x ≡ true) (λ x. ChangesPage x.rec p)
+  pub page_changes : All (λ x. ChangesPage x.rec (page_of w)) (map found_of cs)
+  page_changes = All-weaker (λ x. is_wanted w x ≡ true) (λ x. ChangesPage x.rec (page_of w))
       (λ x e.
-      let both = and_true (changes (flat x.rec).kind) (eqb (flat x.rec).page p) (of_page_true x e) in record {
+      let both = and_true (changes (flat x.rec).kind) (eqb (flat x.rec).page (page_of w)) (of_page_true x e) in record {
         kind = both.0;
-        here = eqb-true (flat x.rec).page p both.1;
-      }) (map found_of cs) page_passes
+        here = eqb-true (flat x.rec).page (page_of w) both.1;
+      }) (map found_of cs) wanted
+
+  -- where the wanted ones are those of the page in other lists
+  module _ (recs : ℕ → List Rec)
+      (is : flats (filter (is_wanted w) (in_turn (placed_in logs) n)) ≡ filter (of_page (page_of w)) (in_turn recs n)) where
+    pub merges : IsMerged (page_of w) recs n (map redone_of cs)
+    merges = record {
+      same = IsPermutation-trans (filter (of_page (page_of w)) (all_of recs n)) (filter (of_page (page_of w)) (in_turn recs n))
+          (map redone_of cs)
+          (IsPermutation-filter (of_page (page_of w)) (all_of recs n) (in_turn recs n) (turned recs n))
+          (same_flat (filter (of_page (page_of w)) (in_turn recs n)) is);
+      rises = rises_flat;
+    }
+
+    own : filter (of_page (page_of w)) (map redone_of cs) ≡ map redone_of cs
+    own = filter_all (of_page (page_of w)) (map redone_of cs)
+        (subst (All (λ x. of_page (page_of w) x ≡ true)) (flats-found cs)
+        (All-map (λ x. of_page (page_of w) x ≡ true) (λ (x : Placed). flat x.rec) (map found_of cs)
+        (All-weaker (λ x. is_wanted w x ≡ true) (λ x. of_page (page_of w) (flat x.rec) ≡ true) of_page_true (map found_of cs) wanted)))
+
+    pub ordered_chain : ((j : ℕ) → Rises (recs j)) → map redone_of cs ≡ sorted (filter (of_page (page_of w)) (all_of recs n))
+    ordered_chain rise =
+        let all : List Rec = filter (of_page (page_of w)) (in_turn recs n) in
+        sym own ∙ ordered (of_page (page_of w)) n recs (map redone_of cs) all rise
+        (filter_within (of_page (page_of w)) (of_page (page_of w)) (λ x e. e) (in_turn recs n))
+        (slow_of (filter (of_page (page_of w)) (map redone_of cs))
+        (subst (IsNonDecreasingBy (λ x. x.lsn)) (sym own) rises_flat))
+        (turns_flat all is)
+
+-- the forced ones of a page
+module _ (logs : List LogState) (n p : ℕ) (cs : List Change) (by : ByLsn logs n (W.Forced p) cs) where
+  pub page_forced : All (λ x. x.forced ≡ true) (map found_of cs)
+  page_forced = All-weaker (λ x. is_wanted (W.Forced p) x ≡ true) (λ x. x.forced ≡ true)
+      (λ x e. (and_true x.forced (of_page p (flat x.rec)) e).0) (map found_of cs) (wanted logs n (W.Forced p) cs by)
 
   pub page_merged : IsMerged p (forced_in logs) n (flats (map found_of cs))
-  page_merged = record {
-    same = IsPermutation-trans (filter (of_page p) (all_of (forced_in logs) n)) (filter (of_page p) (in_turn (forced_in logs) n))
-        (flats (map found_of cs))
-        (IsPermutation-filter (of_page p) (all_of (forced_in logs) n) (in_turn (forced_in logs) n) (turned (forced_in logs) n))
-        (subst (IsPermutation (filter (of_page p) (in_turn (forced_in logs) n))) (sym (flats-found cs))
-        (same_flat logs n (W.Forced p) cs by (filter (of_page p) (in_turn (forced_in logs) n)) (forced_flat p n logs)));
-    rises = subst (IsNonDecreasingBy (λ x. x.lsn)) (sym (flats-found cs)) (rises_flat logs n (W.Forced p) cs by);
-  }
+  page_merged = subst (IsMerged p (forced_in logs) n) (sym (flats-found cs))
+      (merges logs n (W.Forced p) cs by (forced_in logs) (forced_flat p n logs))
 
   pub page_chain : LsnsRise (map without_tail logs)
       → flats (map found_of cs) ≡ sorted (filter (of_page p) (all_of (forced_in logs) n))
-  page_chain rise =
-      let recs : List Rec = filter (of_page p) (in_turn (forced_in logs) n) in
-      let own : filter (of_page p) (map redone_of cs) ≡ map redone_of cs = filter_all (of_page p) (map redone_of cs)
-      (subst (All (λ x. of_page p x ≡ true)) (flats-found cs)
-      (All-map (λ x. of_page p x ≡ true) (λ (x : Placed). flat x.rec) (map found_of cs)
-      (All-weaker (λ x. is_forced_of p x ≡ true) (λ x. of_page p (flat x.rec) ≡ true) of_page_true (map found_of cs) page_passes))) in
-      flats-found cs ∙ sym own
-      ∙ ordered (of_page p) n (forced_in logs) (map redone_of cs) recs rise
-      (filter_within (of_page p) (of_page p) (λ x e. e) (in_turn (forced_in logs) n))
-      (slow_of (filter (of_page p) (map redone_of cs))
-      (IsNonDecreasingBy-filter (λ x. x.lsn) (of_page p) (map redone_of cs) (rises_flat logs n (W.Forced p) cs by)))
-      (turns_flat logs n (W.Forced p) cs by recs (forced_flat p n logs))
+  page_chain rise = flats-found cs ∙ ordered_chain logs n (W.Forced p) cs by (forced_in logs) (forced_flat p n logs) rise
+
+-- ---- page by page
+
+of_page_is : (p : ℕ) (c : Change) → IsChange c → of_page p (redone_of c) ≡ eqb c.page p
+of_page_is p c is = ap₂ (λ k n. k && eqb n p) is.page.kind is.page.here
+
+chain_of-append : (p : ℕ) (cs ds : List Change) → chain_of p (cs ++ ds) ≡ chain_of p cs ++ chain_of p ds
+chain_of-append p cs ds = ap (filter (of_page p)) (map-append redone_of cs ds) ∙ filter-append (of_page p) (map redone_of cs) (map redone_of ds)
+
+-- changes of other pages
+chain_of-others : (p : ℕ) (cs : List Change) → AreChanges cs → All (λ c. c.page ≢ p) cs → chain_of p cs ≡ []
+chain_of-others p [] are others = refl
+chain_of-others p (c ∷ cs) are others =
+    ap (λ b. cond b (redone_of c ∷ chain_of p cs) (chain_of p cs))
+    (of_page_is p c (All-head IsChange c cs are) ∙ ne_eqb c.page p (All-head (λ d. d.page ≢ p) c cs others))
+    ∙ chain_of-others p cs (All-tail IsChange c cs are) (All-tail (λ d. d.page ≢ p) c cs others)
+
+-- changes of this page
+chain_of-own : (p : ℕ) (cs : List Change) → AreChanges cs → All (λ c. c.page ≡ p) cs → chain_of p cs ≡ map redone_of cs
+chain_of-own p [] are same = refl
+chain_of-own p (c ∷ cs) are same =
+    ap (λ b. cond b (redone_of c ∷ chain_of p cs) (chain_of p cs))
+    (of_page_is p c (All-head IsChange c cs are) ∙ eq-eqb c.page p (All-head (λ d. d.page ≡ p) c cs same))
+    ∙ ap (λ l. redone_of c ∷ l) (chain_of-own p cs (All-tail IsChange c cs are) (All-tail (λ d. d.page ≡ p) c cs same))
+
+paged : (p : ℕ) (cs : List Change) → AreChanges cs → All (λ x. ChangesPage x.rec p) (map found_of cs) → All (λ c. c.page ≡ p) cs
+paged p [] are change = All-nil (λ (c : Change). c.page ≡ p)
+paged p (c ∷ cs) are change =
+    All-cons (λ d. d.page ≡ p) c cs
+    (sym (All-head IsChange c cs are).page.here ∙ (All-head (λ x. ChangesPage x.rec p) (found_of c) (map found_of cs) change).here)
+    (paged p cs (All-tail IsChange c cs are) (All-tail (λ x. ChangesPage x.rec p) (found_of c) (map found_of cs) change))
+
+-- the changes of the pages below p
+pub record Pages (logs : List LogState) (n p : ℕ) (cs : List Change) : Type 0 where
+  pub changes : AreChanges cs
+  pub stand : AllStand logs cs
+  pub below : All (λ c. c.page < p) cs
+  pub rises : IsNonDecreasingBy (λ c. c.page) cs
+  pub merged : (q : ℕ) → q < p → IsMerged q (log_in logs) n (chain_of q cs)
+  pub chains : LsnsRise logs → (q : ℕ) → q < p → chain_of q cs ≡ sorted (filter (of_page q) (all_of (log_in logs) n))
+
+pub no_pages : (logs : List LogState) (n : ℕ) → Pages logs n 0 []
+no_pages logs n = record {
+  changes = All-nil IsChange;
+  stand = All-nil (λ c. StandsIn logs c.dev c.found.now);
+  below = All-nil (λ (c : Change). c.page < 0);
+  rises = IsNonDecreasingBy-short (λ (c : Change). c.page) [] (omega arith);
+  merged = λ q lt. absurd (omega arith);
+  chains = λ rise q lt. absurd (omega arith);
+}
+
+-- one page more
+module _ (logs : List LogState) (n p : ℕ) (cs ds : List Change) (s : Pages logs n p cs) (by : ByLsn logs n (W.Every p) ds) where
+  own_page : All (λ c. c.page ≡ p) ds
+  own_page = paged p ds by.are (page_changes logs n (W.Every p) ds by)
+
+  low : All (λ c. c.page ≤ p) (cs ++ ds)
+  low = All-append (λ c. c.page ≤ p) cs ds (All-weaker (λ c. c.page < p) (λ c. c.page ≤ p) (λ c lt. omega arith) cs s.below)
+      (All-weaker (λ c. c.page ≡ p) (λ c. c.page ≤ p) (λ c e. omega (arith, e)) ds own_page)
+
+  rises_more : IsNonDecreasingBy (λ c. c.page) (cs ++ ds)
+  rises_more i j d le lt = ⊎_elim
+      (λ (inside : j < length cs).
+      let a : get_or (cs ++ ds) i d ≡ get_or cs i d = get_or_append_left cs ds d i (omega arith) in
+      let b : get_or (cs ++ ds) j d ≡ get_or cs j d = get_or_append_left cs ds d j inside in
+      let known = s.rises i j d le inside in
+      omega (arith, ap (λ (c : Change). c.page) a, ap (λ (c : Change). c.page) b, known))
+      (λ (past : length cs ≤ j).
+      let at : length cs + (j - length cs) ≡ j = omega arith in
+      let within : j - length cs < length ds = omega (arith, length-append cs ds) in
+      let b : get_or (cs ++ ds) j d ≡ get_or ds (j - length cs) d =
+      ap (λ k. get_or (cs ++ ds) k d) (sym at) ∙ get_or-append-add cs ds (j - length cs) d in
+      let high = All-get_or (λ (c : Change). c.page ≡ p) ds (j - length cs) d within own_page in
+      let first = All-get_or (λ (c : Change). c.page ≤ p) (cs ++ ds) i d (omega arith) low in
+      omega (arith, ap (λ (c : Change). c.page) b, high, first))
+      (cases_lt j (length cs))
+
+  lower : (q : ℕ) → q < p → chain_of q (cs ++ ds) ≡ chain_of q cs
+  lower q lt =
+      chain_of-append q cs ds
+      ∙ ap (λ l. chain_of q cs ++ l) (chain_of-others q ds by.are
+      (All-weaker (λ c. c.page ≡ p) (λ c. c.page ≢ q) (λ c e f. absurd (omega (arith, e, f))) ds own_page))
+      ∙ append-nil (chain_of q cs)
+
+  here : chain_of p (cs ++ ds) ≡ map redone_of ds
+  here =
+      chain_of-append p cs ds
+      ∙ ap (λ l. l ++ chain_of p ds) (chain_of-others p cs s.changes
+      (All-weaker (λ c. c.page < p) (λ c. c.page ≢ p) (λ c lt e. absurd (omega (arith, e))) cs s.below))
+      ∙ chain_of-own p ds by.are own_page
+
+  -- a page up to this one
+  up_to : (q : ℕ) (P : ℕ → List Rec → Type 0) → (q < p → P q (chain_of q cs)) → P p (map redone_of ds) → q < p + 1 → P q (chain_of q (cs ++ ds))
+  up_to q P before this lt = ⊎_elim
+      (λ (less : q < p). subst (P q) (sym (lower q less)) (before less))
+      (λ (le : p ≤ q).
+      let is : p ≡ q = omega arith in
+      subst (λ (r : ℕ). P r (chain_of r (cs ++ ds))) is (subst (P p) (sym here) this))
+      (cases_lt q p)
+
+  pub one_page : (new : List Change) → AllStand logs ds → new ≡ cs ++ ds → Pages logs n (p + 1) new
+  one_page new stand e = subst (Pages logs n (p + 1)) (sym e) (record {
+    changes = All-append IsChange cs ds s.changes by.are;
+    stand = All-append (λ c. StandsIn logs c.dev c.found.now) cs ds s.stand stand;
+    below = All-weaker (λ c. c.page ≤ p) (λ c. c.page < p + 1) (λ c le. omega arith) (cs ++ ds) low;
+    rises = rises_more;
+    merged = λ q. up_to q (λ r xs. IsMerged r (log_in logs) n xs) (s.merged q)
+        (merges logs n (W.Every p) ds by (log_in logs) (every_flat p n logs));
+    chains = λ rise q. up_to q (λ r xs. xs ≡ sorted (filter (of_page r) (all_of (log_in logs) n))) (s.chains rise q)
+        (ordered_chain logs n (W.Every p) ds by (log_in logs) (every_flat p n logs) rise);
+  })
+
+-- ---- no record changes a page behind the last
+
+past_pages : (q : ℕ) → 1024 ≤ q → (x : Placed) → HasSpelling x.rec → of_page q (flat x.rec) ≡ false
+past_pages q le x = go x.rec
+  where
+    go : (r : Record) → HasSpelling r → of_page q (flat r) ≡ false
+    go (records.Start lsn epoch) h = refl
+    go (records.Update lsn txn prev page slot capacity before after) (_, _, _, lt, _, _, _, _) =
+        ne_eqb page q (λ e. absurd (omega (arith, e)))
+    go (records.Clr lsn txn prev undo_next page slot after) (_, _, _, _, lt, _, _) =
+        ne_eqb page q (λ e. absurd (omega (arith, e)))
+    go (records.Commit lsn txn prev) h = refl
+    go (records.End lsn txn prev) h = refl
+    go (records.BeginCheck lsn) h = refl
+    go (records.EndCheck lsn begin spans recs) h = refl
+
+spelled_in : (logs : List LogState) (j : ℕ) → All (λ log. AreSpelled (scanned log)) logs → AreSpelled (placed_in logs j)
+spelled_in logs zero all = All-nil (λ (x : Placed). HasSpelling x.rec)
+spelled_in logs (suc j) all = go logs j all
+  where
+    go : (ls : List LogState) (i : ℕ) → All (λ log. AreSpelled (scanned log)) ls → AreSpelled (option_map_or scanned (slice_get ls i) [])
+    go [] i h = All-nil (λ (x : Placed). HasSpelling x.rec)
+    go (l ∷ ls) zero h = All-head (λ log. AreSpelled (scanned log)) l ls h
+    go (l ∷ ls) (suc i) h = go ls i (All-tail (λ log. AreSpelled (scanned log)) l ls h)
+
+spelled_turn : (logs : List LogState) (n : ℕ) → All (λ log. AreSpelled (scanned log)) logs → AreSpelled (in_turn (placed_in logs) n)
+spelled_turn logs zero all = All-nil (λ (x : Placed). HasSpelling x.rec)
+spelled_turn logs (suc n) all =
+    All-append (λ (x : Placed). HasSpelling x.rec) (in_turn (placed_in logs) n) (placed_in logs n) (spelled_turn logs n all) (spelled_in logs n all)
+
+filter_none : (t : Placed → Bool) (xs : List Placed) → All (λ x. t x ≡ false) xs → filter t xs ≡ []
+filter_none t [] none = refl
+filter_none t (x ∷ xs) none =
+    ap (λ b. cond b (x ∷ filter t xs) (filter t xs)) (All-head (λ y. t y ≡ false) x xs none)
+    ∙ filter_none t xs (All-tail (λ y. t y ≡ false) x xs none)
+
+no_change : (xs : List Rec) → IsPermutation xs [] → xs ≡ []
+no_change [] same = refl
+no_change (x ∷ xs) same = absurd (let len = length_permutation (x ∷ xs) [] same in omega arith)
+
+-- the changes of all pages
+module _ (logs : List LogState) (n : ℕ) (cs : List Change) (s : Pages logs n 1024 cs)
+    (spelled : All (λ log. AreSpelled (scanned log)) logs) (q : ℕ) where
+  none_past : 1024 ≤ q → IsPermutation (filter (of_page q) (all_of (log_in logs) n)) []
+  none_past le =
+      let all : List Placed = in_turn (placed_in logs) n in
+      let none : filter (λ (x : Placed). of_page q (flat x.rec)) all ≡ [] = filter_none (λ (x : Placed). of_page q (flat x.rec)) all
+      (All-weaker (λ (x : Placed). HasSpelling x.rec) (λ x. of_page q (flat x.rec) ≡ false) (past_pages q le) all (spelled_turn logs n spelled)) in
+      subst (IsPermutation (filter (of_page q) (all_of (log_in logs) n))) (sym (every_flat q n logs) ∙ ap flats none)
+      (IsPermutation-filter (of_page q) (all_of (log_in logs) n) (in_turn (log_in logs) n) (turned (log_in logs) n))
+
+  no_chain : 1024 ≤ q → chain_of q cs ≡ []
+  no_chain le = chain_of-others q cs s.changes (All-weaker (λ c. c.page < 1024) (λ c. c.page ≢ q) (λ c lt e. absurd (omega (arith, e))) cs s.below)
+
+  pub all_merged : IsMerged q (log_in logs) n (chain_of q cs)
+  all_merged = ⊎_elim (s.merged q)
+      (λ (le : 1024 ≤ q). subst (IsMerged q (log_in logs) n) (sym (no_chain le)) (record {
+        same = none_past le;
+        rises = IsNonDecreasingBy-short (λ (x : Rec). x.lsn) [] (omega arith);
+      }))
+      (cases_lt q 1024)
+
+  pub all_chains : LsnsRise logs → chain_of q cs ≡ sorted (filter (of_page q) (all_of (log_in logs) n))
+  all_chains rise = ⊎_elim (s.chains rise q)
+      (λ (le : 1024 ≤ q). no_chain le ∙ ap sorted (sym (no_change (filter (of_page q) (all_of (log_in logs) n)) (none_past le))))
+      (cases_lt q 1024)

@@ -16,7 +16,7 @@ use Rattle.sd_chain.specs.Records.{Each, of_page}
 use Rattle.sd_chain.proofs.Lists.{cond_both}
 use Rattle.sd_merge.specs.declared.change.Change.{Change}
 use Rattle.sd_merge.specs.declared.change.Wanted.TheVariants as W
-use Rattle.sd_merge.specs.Changes.{found_of, in_turn, is_change, is_forced_of, is_wanted, of_lsn, placed_in, redone_of}
+use Rattle.sd_merge.specs.Changes.{found_of, in_turn, is_forced_of, is_wanted, of_lsn, placed_in, redone_of}
 use Rattle.sd_merge.proofs.Filters.{filter-map, filter_both, ties_nat}
 
 -- ---- seen flat
@@ -42,9 +42,9 @@ flats_in_turn logs (suc n) =
     map-append (λ (p : Placed). flat p.rec) (in_turn (placed_in logs) n) (placed_in logs n)
     ∙ ap₂ (λ (k l : List Rec). k ++ l) (flats_in_turn logs n) (flats_in logs n)
 
-pub every_flat : (logs : List LogState) (n : ℕ)
-    → flats (filter (is_wanted W.Every) (in_turn (placed_in logs) n)) ≡ filter is_change (in_turn (log_in logs) n)
-every_flat logs n = flats-filter is_change (in_turn (placed_in logs) n) ∙ ap (filter is_change) (flats_in_turn logs n)
+pub every_flat : (p n : ℕ) (logs : List LogState)
+    → flats (filter (is_wanted (W.Every p)) (in_turn (placed_in logs) n)) ≡ filter (of_page p) (in_turn (log_in logs) n)
+every_flat p n logs = flats-filter (of_page p) (in_turn (placed_in logs) n) ∙ ap (filter (of_page p)) (flats_in_turn logs n)
 
 -- ---- the forced ones
 

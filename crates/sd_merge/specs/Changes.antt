@@ -1,5 +1,5 @@
 -- The changes of pages that logs keep, in the order in which they are redone.
-use Rattle.std.specs.Prelude.{◌≡◌, ℕ, zero, suc, ◌-◌, ◌<◌, ◌≤◌, Bool, List, [], ◌∷◌, ◌++◌, Some, map, filter, slice_get, All, IsPermutation, ◌==◌, ◌&&◌}
+use Rattle.std.specs.Prelude.{◌≡◌, ℕ, zero, suc, ◌-◌, ◌<◌, ◌≤◌, Bool, true, List, [], ◌∷◌, ◌++◌, Some, map, filter, slice_get, All, IsPermutation, ◌==◌, ◌&&◌}
 use Rattle.std.specs.List.Sorted.{IsNonDecreasingBy}
 use Rattle.std.specs.Option.{option_map_or}
 use Rattle.sd_logrec.specs.declared.record.Record.{Record}
@@ -8,7 +8,7 @@ use Rattle.sd_logrec.specs.View.{Rec, flat}
 use Rattle.sd_log.specs.declared.placed.Placed.{Placed}
 use Rattle.sd_log.specs.Logs.{LogState, log_in, lsn_of, scanned}
 use Rattle.sd_chain.specs.Storage.{all_of}
-use Rattle.sd_chain.specs.Records.{Each, IsPageRecord, changes, of_page}
+use Rattle.sd_chain.specs.Records.{Each, IsPageRecord, of_page}
 use Rattle.sd_merge.specs.declared.change.Change.{Change}
 use Rattle.sd_merge.specs.declared.change.Wanted.{Wanted}
 use Rattle.sd_merge.specs.declared.change.Wanted.TheVariants as W
@@ -33,10 +33,6 @@ pub record IsChange (c : Change) : Type 0 where
 
 abbrev pub AreChanges : List Change → Type 0
 AreChanges cs = All IsChange cs
-
--- the record is a change of some page
-abbrev pub is_change : Rec → Bool
-is_change x = changes x.kind
 
 -- what is redone of a page
 abbrev pub chain_of : ℕ → List Change → List Rec
@@ -65,10 +61,19 @@ of_lsn n ps = filter (λ p. lsn_of p == n) ps
 abbrev pub is_forced_of : ℕ → Placed → Bool
 is_forced_of page p = p.forced && of_page page (flat p.rec)
 
+-- whose changes are gathered
+abbrev pub page_of : Wanted → ℕ
+page_of (W.Every page) = page
+page_of (W.Forced page) = page
+
+-- and which of them
+abbrev pub is_taken : Wanted → Placed → Bool
+is_taken (W.Every page) p = true
+is_taken (W.Forced page) p = p.forced
+
 -- a record that is gathered
 abbrev pub is_wanted : Wanted → Placed → Bool
-is_wanted W.Every p = is_change (flat p.rec)
-is_wanted (W.Forced page) p = is_forced_of page p
+is_wanted w p = is_taken w p && of_page (page_of w) (flat p.rec)
 
 -- each LSN is above those before it
 abbrev pub Rises : List Rec → Type 0

@@ -7,11 +7,11 @@ ghost use Rattle.sd_logrec.specs.View.{flat};
 ghost use Rattle.sd_log.specs.Logs.{AreSpelled, flats, forced_in, log_in, scanned, without_tail};
 ghost use Rattle.sd_chain.specs.Storage.{all_of, sorted};
 ghost use Rattle.sd_chain.specs.Records.{of_page};
-ghost use Rattle.sd_merge.specs.Changes.{AllStand, AreChanges, ChangesPage, IsMerged, LsnsRise, chain_of, in_turn, is_change, is_forced_of, is_wanted, of_lsn, placed_in, found_of, redone_of};
+ghost use Rattle.sd_merge.specs.Changes.{AllStand, AreChanges, ChangesPage, IsMerged, LsnsRise, chain_of, in_turn, found_of, is_forced_of, is_taken, is_wanted, of_lsn, page_of, placed_in, redone_of};
 
-use sd_base::{Duplicate, Lsn, Memory, PageNo, Refusal};
+use sd_base::{Duplicate, Lsn, Memory, PAGES, PageNo, Refusal};
 use sd_log::{Log, Placed};
-use sd_logrec::{AREA, Record};
+use sd_logrec::AREA;
 use std::alloc::Global;
 
 /// A record that changes the page of this number, and the device of its log.
@@ -23,23 +23,6 @@ pub struct Change<'a> {
 }
 
 impl<'a> Change<'a> {
-    // The record as a change; `None` where it changes no page.
-    fn of(dev: u8, found: &'a Placed) -> Option<Change<'a>>
-        ensures none { result ≡ None → is_change (flat found.now.rec) ≡ false }
-        ensures found { IfSome result (λ change. change.found.now ≡ found.now) }
-        ensures page { IfSome result (λ change. ChangesPage change.found.now.rec change.page) }
-        ensures dev { IfSome result (λ change. change.dev ≡ dev) }
-    {
-        match found.rec {
-            Record::Update { page, .. } | Record::Clr { page, .. } => Some(Change {
-                dev,
-                page: page.get(),
-                found,
-            }),
-            _ => None,
-        }
-    }
-
     /// The LSN of the record.
     pub fn lsn(&self) -> Lsn
         ensures { result ≡ (redone_of self.now).lsn }
@@ -68,20 +51,30 @@ pub fn damaged(dev: u8, place: u32) -> Refusal
 /// Which changes are gathered.
 #[derive(Drop)]
 pub(crate) enum Wanted {
-    /// Each of every page.
-    Every,
-    /// The forced ones of the page of this number.
-    Forced { page: u16 },
+    /// Each of this page.
+    Every { page: PageNo },
+    /// The forced ones of this page.
+    Forced { page: PageNo },
 }
 
 impl Wanted {
-    fn takes(&self, change: &Change) -> bool
-        requires { ChangesPage change.now.found.now.rec change.now.page }
-        ensures { result ≡ is_wanted self.now change.now.found.now }
+    // The page.
+    fn page(&self) -> PageNo
+        ensures { result ≡ page_of self.now }
     {
         match self {
-            Wanted::Every => true,
-            Wanted::Forced { page } => change.found.forced && change.page == *page,
+            Wanted::Every { page } => *page,
+            Wanted::Forced { page } => *page,
+        }
+    }
+
+    // Whether a record of the page is wanted.
+    fn takes(&self, found: &Placed) -> bool
+        ensures { result ≡ is_taken self.now found.now }
+    {
+        match self {
+            Wanted::Every { .. } => true,
+            Wanted::Forced { .. } => found.forced,
         }
     }
 }
@@ -98,8 +91,12 @@ pub fn merged_changes(alloc: Global, logs: &[Log]) -> Result<Vec<Change>, Memory
     ensures chains { IfOk result (λ changes. LsnsRise logs.now → (p : ℕ) → chain_of p changes.items
         ≡ sorted (filter (of_page p) (all_of (log_in logs.now) (length logs.now + 1)))) }
 {
-    let mut changes = changes_by_lsn(alloc, logs, &Wanted::Every)?;
-    changes.sort_by_key(|change| change.page)?;
+    let mut changes = Vec::new(alloc);
+    for p in 0..PAGES {
+        let page = PageNo::new(p).unwrap();
+        let mut of_page = changes_by_lsn(alloc, logs, &Wanted::Every { page })?;
+        changes.append(&mut of_page)?;
+    }
     Ok(changes)
 }
 
@@ -118,8 +115,7 @@ pub fn merge_page(alloc: Global, logs: &[Log], p: PageNo) -> Result<Vec<Placed>,
     ensures chain { IfOk result (λ found. LsnsRise (map without_tail logs.now) → flats found.items
         ≡ sorted (filter (of_page p) (all_of (forced_in logs.now) (length logs.now + 1)))) }
 {
-    let page = p.get();
-    let changes = changes_by_lsn(alloc, logs, &Wanted::Forced { page })?;
+    let changes = changes_by_lsn(alloc, logs, &Wanted::Forced { page: p })?;
     copies(alloc, &changes)
 }
 
@@ -134,7 +130,7 @@ fn copies(alloc: Global, changes: &[Change]) -> Result<Vec<Placed>, Memory>
     Ok(copies)
 }
 
-// The wanted changes of all logs by LSN, and those of each LSN in the order of the logs.
+// The wanted changes of a page by LSN, and those of each LSN in the order of the logs.
 fn changes_by_lsn<'a>(
     alloc: Global,
     logs: &'a [Log],
@@ -155,7 +151,7 @@ fn changes_by_lsn<'a>(
     Ok(changes)
 }
 
-// The wanted changes of all logs, log by log.
+// The wanted changes of a page, log by log.
 fn gathered_changes<'a>(
     alloc: Global,
     logs: &'a [Log],
@@ -170,13 +166,14 @@ fn gathered_changes<'a>(
 {
     let mut changes = Vec::new(alloc);
     for index in 0..logs.len() {
-        gather(&mut changes, logs, index, wanted)?;
+        gather(alloc, &mut changes, logs, index, wanted)?;
     }
     Ok(changes)
 }
 
 // Puts the wanted changes of the log of this index behind the others.
 fn gather<'a>(
+    alloc: Global,
     changes: &mut Vec<Change<'a>>,
     logs: &'a [Log],
     index: usize,
@@ -192,25 +189,17 @@ fn gather<'a>(
     ensures gathered { OnOk result (map found_of changes.new.items
         ≡ map found_of changes.old.items ++ filter (is_wanted wanted.now) (placed_in logs.now (index + 1))) }
 {
-    for found in logs[index].scan() {
-        if let Some(change) = wanted_change(index as u8 + 1, found, wanted) {
-            changes.push(change)?;
+    let log = &logs[index];
+    let records = log.scan();
+    let dev = index as u8 + 1;
+    let page_no = wanted.page();
+    let page = page_no.get();
+    let places = log.of_page(alloc, page_no)?;
+    for at in &places {
+        let found = &records[*at as usize];
+        if wanted.takes(found) {
+            changes.push(Change { dev, page, found })?;
         }
     }
     Ok(())
-}
-
-// The record as a change; `None` where it isn't wanted.
-fn wanted_change<'a>(dev: u8, found: &'a Placed, wanted: &Wanted) -> Option<Change<'a>>
-    ensures none { result ≡ None → is_wanted wanted.now found.now ≡ false }
-    ensures wanted { IfSome result (λ change. is_wanted wanted.now found.now ≡ true) }
-    ensures found { IfSome result (λ change. change.found.now ≡ found.now) }
-    ensures page { IfSome result (λ change. ChangesPage change.found.now.rec change.page) }
-    ensures dev { IfSome result (λ change. change.dev ≡ dev) }
-{
-    let change = Change::of(dev, found)?;
-    if !wanted.takes(&change) {
-        return None;
-    }
-    Some(change)
 }

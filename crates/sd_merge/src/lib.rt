@@ -5,7 +5,8 @@
 //! Keeps: nothing.
 //! Promises: `merged_changes` has each change of all logs, tails too, by page and then by LSN; `merge_page` has the forced
 //! ones of one page by LSN; those of one LSN come in the order of the logs (`turns`). Where LSNs rise in each log a page's
-//! are its chain (`chains`, `chain`). Both gather the wanted ones log by log and sort once by LSN.
+//! are its chain (`chains`, `chain`). Both look up a page's records by the index that each log keeps of them, log by log,
+//! and sort them once by LSN; so a page costs what its own records cost.
 //! Refuses: nothing but for want of memory.
 //! Knows nothing of: images of pages, which record fits.
 //! Stands on: sd_base, sd_logrec, sd_log, sd_chain.

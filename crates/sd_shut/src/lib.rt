@@ -6,7 +6,7 @@
 //! (`fail_all`); a closed complex is armed, and refuses each other event but its reopening (`on_closed`).
 //! Refuses: `Down`, each event of an instance or a transaction.
 //! Knows nothing of: the calls of events on a complex that is open.
-//! Stands on: sd_base, sd_model, sd_rig, sd_pool, sd_world, sd_state, sd_fits.
+//! Stands on: sd_base, sd_model, sd_rig, sd_world, sd_state, sd_fits.
 //! Held by the caller: the shape in which the complex opens again.
 //!
 //! To change:

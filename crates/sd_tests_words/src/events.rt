@@ -169,6 +169,26 @@ fn kept(seen: Seen<'_>) -> How {
     }
 }
 
+fn note(book: &mut Book, hows: &mut Vec<How>, row: Row) -> Result<(), Fail> {
+    let (how, line, event, reply) = row;
+    hows.push(how)?;
+    book.reserve(1)?;
+    book.note(0, line, event, reply);
+    Ok(())
+}
+
+// Whether the book's entries are kept so, one after another, and there are no more.
+fn are_kept(book: &Book, hows: &[How]) -> bool {
+    let mut rest = book.told();
+    for how in hows {
+        match rest.first() {
+            Some((seen, after)) if kept(seen) == *how => rest = after,
+            _ => return false,
+        }
+    }
+    rest.first().is_none()
+}
+
 #[test]
 fn a_help_and_what_a_transaction_did_are_kept_in_few_bytes(rt: HostRuntime) -> Result<(), Fail> {
     let alloc = rt.alloc();
@@ -182,17 +202,9 @@ fn a_help_and_what_a_transaction_did_are_kept_in_few_bytes(rt: HostRuntime) -> R
     let rows = of_transactions(txn, Rid { page, slot: 2 }, &few, &many)?;
     let mut book = Book::new(alloc, Table::new(alloc));
     let mut hows = Vec::new(alloc);
-    for (how, line, event, reply) in helps(inst, page, other).into_iter().chain(rows) {
-        hows.push(how)?;
-        book.reserve(1)?;
-        book.note(0, line, event, reply);
+    for row in helps(inst, page, other).into_iter().chain(rows) {
+        note(&mut book, &mut hows, row)?;
     }
-    let mut rest = book.told();
-    for how in hows.iter() {
-        let (seen, after) = rest.first().ok_or("an entry")?;
-        assert!(rt; kept(seen) == *how);
-        rest = after;
-    }
-    assert!(rt; rest.first().is_none());
+    assert!(rt; are_kept(&book, &hows));
     Ok(())
 }

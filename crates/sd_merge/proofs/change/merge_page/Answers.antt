@@ -1,4 +1,4 @@
-use Rattle.std.proofs.Common.{◌≡◌, ◌+◌, ◌∙◌, ℕ, List, ap, length, map, subst, sym, true}
+use Rattle.std.proofs.Common.{◌≡◌, ◌+◌, ◌∙◌, List, ap, length, map, subst, sym, true}
 use Rattle.std.specs.Prelude.{All, IfOk, filter}
 use Rattle.std.proofs.lemmas.Result.{IfOk-weaker}
 use Rattle.sd_log.specs.declared.placed.Placed.{Placed}
@@ -13,14 +13,12 @@ use Rattle.sd_merge.proofs.change.merge_page.Goals as goal
 by_lsn : (c : goal.After-drop-changes)
     → ByLsn c.args.logs.now (length c.args.logs.now + 1) (W.Forced c.args.p) c.in_ok-changes.changes.items
 by_lsn c =
-    let all = c.in_ok-changes.ensures in
-    let by : ByLsn c.args.logs.now (length c.args.logs.now + 1) (W.Forced c.get-page.result) c.in_ok-changes.changes.items = record {
+    let all = c.in_ok-changes.ensures in record {
       are = all.changes;
       rises = all.rises;
       same = all.same;
       turns = all.turns;
-    } in
-    subst (λ (q : ℕ). ByLsn c.args.logs.now (length c.args.logs.now + 1) (W.Forced q) c.in_ok-changes.changes.items) c.get-page.ensures.value by
+    }
 
 -- what holds of their records holds of the copies
 of_copies : (c : goal.After-drop-changes) (P : List Placed → Type 0) → P (map found_of c.in_ok-changes.changes.items)
@@ -30,11 +28,11 @@ of_copies c P holds = IfOk-weaker c.copies.result (λ found. found.items ≡ map
 
 pub returns-clause-spelled : goal.returns-clause-spelled
 returns-clause-spelled c = of_copies c AreSpelled
-    (page_spelled c.args.logs.now (length c.args.logs.now + 1) c.args.p c.in_ok-changes.changes.items (by_lsn c))
+    (page_spelled c.args.logs.now (length c.args.logs.now + 1) (W.Forced c.args.p) c.in_ok-changes.changes.items (by_lsn c))
 
 pub returns-clause-pages : goal.returns-clause-pages
 returns-clause-pages c = of_copies c (All (λ x. ChangesPage x.rec c.args.p))
-    (page_changes c.args.logs.now (length c.args.logs.now + 1) c.args.p c.in_ok-changes.changes.items (by_lsn c))
+    (page_changes c.args.logs.now (length c.args.logs.now + 1) (W.Forced c.args.p) c.in_ok-changes.changes.items (by_lsn c))
 
 pub returns-clause-forced : goal.returns-clause-forced
 returns-clause-forced c = of_copies c (All (λ x. x.forced ≡ true))

@@ -1,44 +1,38 @@
-use Rattle.std.proofs.Common.{◌≡◌, ◌+◌, List, length, rules}
-use Rattle.std.specs.List.Sorted.{IsStableByKey}
-use Rattle.std.specs.Ordering.{nat_cmp}
-use Rattle.std.proofs.lemmas.List.Sorted.{IsNonDecreasingBy-from_sort_by_key, answers_always}
-use Rattle.sd_merge.specs.declared.change.Change.{Change}
+use Rattle.std.proofs.Common.{◌≡◌, ℕ, ◌+◌, arith, length, rules, subst, sym}
 use Rattle.sd_merge.specs.declared.change.Wanted.TheVariants as W
-use Rattle.sd_merge.proofs.Merges.{ByLsn, merges, ordered_chain}
+use Rattle.sd_merge.proofs.Merges.{ByLsn, Pages, all_chains, all_merged, no_pages, one_page}
 use Rattle.sd_merge.proofs.change.merged_changes.Goals as goal
 
-pub returns-clause-rises : goal.returns-clause-rises
-returns-clause-rises c = IsNonDecreasingBy-from_sort_by_key (λ (change : Change). change.page) c.sort_by_key.new.self.items
-    c.in_ok-sort_by_key.ensures.sorted (λ a r q k. search rules)
+pub loop-p-init : goal.loop-p-init
+loop-p-init c = record {
+  pages = subst (Pages c.args.logs.now (length c.args.logs.now + 1) 0) (sym c.new-changes.ensures.items) (no_pages c.args.logs.now (length c.args.logs.now + 1));
+}
+
+pub loop-p-preserved : goal.loop-p-preserved
+loop-p-preserved c =
+    let all = c.in_ok-of_page.ensures in
+    let by : ByLsn c.args.logs.now (length c.args.logs.now + 1) (W.Every c.unwrap-page.result) c.in_ok-of_page.of_page.items = record {
+      are = all.changes;
+      rises = all.rises;
+      same = all.same;
+      turns = all.turns;
+    } in
+    let page : c.unwrap-page.result ≡ c.loop-p.p = search rules in record {
+      pages = one_page c.args.logs.now (length c.args.logs.now + 1) c.loop-p.p c.loop-p.changes.items c.in_ok-of_page.of_page.items
+          c.loop-p.invariant.pages
+          (subst (λ (p : ℕ). ByLsn c.args.logs.now (length c.args.logs.now + 1) (W.Every p) c.in_ok-of_page.of_page.items) page by) c.append.new.self.items all.stand c.in_ok-append.ensures.items;
+    }
 
 pub returns-clause-merged : goal.returns-clause-merged
-returns-clause-merged c p =
-    let all = c.in_ok-changes.ensures in
-    let by_lsn : List Change = c.in_ok-changes.changes.items in
-    let by_page : List Change = c.sort_by_key.new.self.items in
-    let by : ByLsn c.args.logs.now (length c.args.logs.now + 1) W.Every by_lsn = record {
-      are = all.changes;
-      rises = all.rises;
-      same = all.same;
-      turns = all.turns;
-    } in
-    let stable : IsStableByKey (λ change. change.page) nat_cmp by_lsn by_page =
-    c.in_ok-sort_by_key.ensures.stable (λ (change : Change). change.page)
-    (answers_always _ (λ a r. r ≡ a.0.now.page) _ (λ f a r q k. search rules)) in
-    merges c.args.logs.now (length c.args.logs.now + 1) by_lsn by_page by c.in_ok-sort_by_key.ensures.permutation stable p
+returns-clause-merged c q =
+    let all : c.loop-p.p ≡ 1024 = omega (arith, c.loop-p.auto.p-end, c.loop-p-test.false) in
+    all_merged c.args.logs.now (length c.args.logs.now + 1) c.loop-p.changes.items
+    (subst (λ (p : ℕ). Pages c.args.logs.now (length c.args.logs.now + 1) p c.loop-p.changes.items) all c.loop-p.invariant.pages)
+    c.requires.spelled q
 
 pub returns-clause-chains : goal.returns-clause-chains
-returns-clause-chains c rise p =
-    let all = c.in_ok-changes.ensures in
-    let by_lsn : List Change = c.in_ok-changes.changes.items in
-    let by_page : List Change = c.sort_by_key.new.self.items in
-    let by : ByLsn c.args.logs.now (length c.args.logs.now + 1) W.Every by_lsn = record {
-      are = all.changes;
-      rises = all.rises;
-      same = all.same;
-      turns = all.turns;
-    } in
-    let stable : IsStableByKey (λ change. change.page) nat_cmp by_lsn by_page =
-    c.in_ok-sort_by_key.ensures.stable (λ (change : Change). change.page)
-    (answers_always _ (λ a r. r ≡ a.0.now.page) _ (λ f a r q k. search rules)) in
-    ordered_chain c.args.logs.now (length c.args.logs.now + 1) by_lsn by_page by c.in_ok-sort_by_key.ensures.permutation stable p rise
+returns-clause-chains c rise q =
+    let all : c.loop-p.p ≡ 1024 = omega (arith, c.loop-p.auto.p-end, c.loop-p-test.false) in
+    all_chains c.args.logs.now (length c.args.logs.now + 1) c.loop-p.changes.items
+    (subst (λ (p : ℕ). Pages c.args.logs.now (length c.args.logs.now + 1) p c.loop-p.changes.items) all c.loop-p.invariant.pages)
+    c.requires.spelled q rise
