@@ -34,8 +34,8 @@ use Rattle.sd_ops.specs.declared.edits.Edit.{Edit}
 use Rattle.sd_ops.specs.declared.edits.Edit.TheVariants.{To, By, Gone}
 use Rattle.sd_ops.specs.Edits.{IsLongEdit, event_of}
 use Rattle.sd_work.specs.Halves.{HalfServed, NotesWait}
-use Rattle.sd_ops.specs.Copies.{LacksPage}
-use Rattle.sd_ops.proofs.Asking.{MayBlock, asked-half}
+use Rattle.sd_reads.specs.Copies.{LacksPage}
+use Rattle.sd_reads.proofs.Asking.{MayBlock, asked-half}
 use Rattle.sd_work.proofs.Work.{IsFor, IsWork, ready-passes, refused-half}
 
 -- each is of a transaction that must run

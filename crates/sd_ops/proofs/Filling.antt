@@ -42,11 +42,11 @@ use Rattle.sd_fits.specs.Fits.{AreWithin, Fits, capacities}
 use Rattle.sd_fits.proofs.Heads.{is-ready}
 use Rattle.sd_fits.proofs.Values.{beyond-absent, copy-newest}
 use Rattle.sd_work.specs.Halves.{HalfServed, NotesWait}
-use Rattle.sd_ops.specs.Copies.{LacksPage}
+use Rattle.sd_reads.specs.Copies.{LacksPage}
 use Rattle.sd_ops.specs.Vacancies.{IsLongFor, IsUnheld, IsVacant, LacksPlace}
-use Rattle.sd_ops.proofs.Asking.{MayBlock, asked-half}
+use Rattle.sd_reads.proofs.Asking.{MayBlock, asked-half}
 use Rattle.sd_ops.proofs.Editing.{head_causes, passes-both}
-use Rattle.sd_ops.proofs.Held.{as-held}
+use Rattle.sd_reads.proofs.Held.{as-held}
 use Rattle.sd_work.proofs.Work.{IsFor, IsWork, ready-passes, refused-half}
 
 -- an insert is of a transaction that must run

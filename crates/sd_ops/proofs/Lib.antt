@@ -1,11 +1,5 @@
-pub mod Held
-pub mod Rows
-pub mod Lists
-pub mod Used
 pub mod Planning
 pub mod Setting
-pub mod Asking
-pub mod Reading
 pub mod Editing
 pub mod Owning
 pub mod Spoiling

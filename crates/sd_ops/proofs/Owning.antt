@@ -25,7 +25,7 @@ use Rattle.sd_fits.specs.Fits.{Fits, FitsBounds}
 use Rattle.sd_fits.proofs.Taking.{noted-good, taken-fits, took-on}
 use Rattle.sd_fits.proofs.Values.{copy-seen}
 use Rattle.sd_ops.specs.Puts.{IsGranted}
-use Rattle.sd_ops.proofs.Held.{as-held}
+use Rattle.sd_reads.proofs.Held.{as-held}
 
 module _ (t : TxnId) (r : Rid) (seen_by : DeviceImages) (leaves : Outcomes) (c : Parts) (up : status_at c (home t) ≡ S.Up)
     (free : IsFree (stands c.locks) t (wait_for r modes.Excl)) (mine : holds_as modes.Excl (entry_at c.directory r.page) (home t) ≡ true)

@@ -40,7 +40,7 @@ use Rattle.sd_fits.proofs.Served.{relocked-good}
 use Rattle.sd_fits.proofs.Taking.{GoesOnAs, same-on, taken-fits, took-lives, took-on, took-twice, turned_to}
 use Rattle.sd_fits.proofs.Values.{copy-newest}
 use Rattle.sd_ops.specs.Puts.{IsLowered, IsPutThere}
-use Rattle.sd_ops.proofs.Held.{as-held}
+use Rattle.sd_reads.proofs.Held.{as-held}
 use Rattle.sd_ops.proofs.Owning.{looked-fits, not-lost}
 
 -- one who puts something last has put something

@@ -17,7 +17,7 @@ use Rattle.sd_page.proofs.Opened.{slot_at}
 use Rattle.sd_pool.specs.Buffers.{image_at}
 use Rattle.sd_changes.specs.Changing.{image_for}
 use Rattle.sd_state.specs.Parts.{Parts, pool_at}
-use Rattle.sd_ops.specs.Copies.{LacksPage}
+use Rattle.sd_reads.specs.Copies.{LacksPage}
 use Rattle.sd_ops.specs.Vacancies.{IsDead, IsLongFor, IsVacant, LacksPlace, NoneUsable}
 use Rattle.sd_ops.proofs.Planning.{slot-fits}
 

@@ -1,5 +1,3 @@
-pub mod Copies
-pub mod Listing
 pub mod Edits
 pub mod Puts
 pub mod Vacancies

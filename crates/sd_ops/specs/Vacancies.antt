@@ -14,7 +14,7 @@ use Rattle.sd_places.specs.Places.{holds_as}
 use Rattle.sd_reclock.specs.Locks.{held}
 use Rattle.sd_changes.specs.Changing.{image_for}
 use Rattle.sd_state.specs.Parts.{Parts}
-use Rattle.sd_ops.specs.Copies.{LacksPage}
+use Rattle.sd_reads.specs.Copies.{LacksPage}
 
 -- the value or the capacity is over 256 bytes, or the value is longer than the capacity
 abbrev pub IsLongFor : List ℕ → ℕ → Type 0

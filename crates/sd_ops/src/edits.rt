@@ -13,13 +13,13 @@ ghost use Rattle.sd_state.specs.Complexes.{parts};
 ghost use Rattle.sd_state.specs.Good.{Good};
 ghost use Rattle.sd_state.specs.Values.{Pending};
 ghost use Rattle.sd_ops.specs.Edits.{IsFitted, IsLongEdit, IsPlan, IsSumFitted};
-ghost use Rattle.sd_ops.specs.Copies.{LacksPage};
+ghost use Rattle.sd_reads.specs.Copies.{LacksPage};
 
-use crate::copies;
 use itoa::Buffer;
 use sd_base::{Bytes, MAX_CAPACITY, Memory, Mode, Refusal, Rid, TxnId};
 use sd_model::{NoSum, sum};
 use sd_page::Image;
+use sd_reads::copy;
 use sd_rig::Rig;
 use sd_state::Complex;
 use std::alloc::Global;
@@ -64,7 +64,7 @@ pub fn planned<G: Rig>(c: &Complex<G>, t: &TxnId, r: &Rid, edit: &Edit) -> Resul
     ensures held { OnOk result (holds_as Excl (entry_at (parts c.now).directory r.now.page) t.now.inst ≡ true) }
     ensures lacks { IfErr result (LacksPage Excl t.now.inst r.now.page (parts c.now)) }
 {
-    let image = copies::copy(c, t.inst, r.page, Mode::Excl)?;
+    let image = copy(c, t.inst, r.page, Mode::Excl)?;
     Ok(plan_in(*c.logs.allocator(), image, r.slot, edit)?)
 }
 

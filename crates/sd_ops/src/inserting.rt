@@ -20,10 +20,10 @@ ghost use Rattle.sd_fits.specs.Serving.{Serving};
 ghost use Rattle.sd_work.specs.Halves.{HalfServed};
 ghost use Rattle.sd_ops.specs.Vacancies.{IsChosen, IsDead, IsFullFor, IsLongFor, IsUsable, IsVacant, LacksPlace, NoneUsable};
 
-use crate::copies::copy;
 use crate::putting::put;
 use sd_base::{Bytes, Mode, NO_VALUE, PageNo, Refusal, Rid, TxnId};
 use sd_page::{Image, PAGE_BYTES};
+use sd_reads::copy;
 use sd_rig::Rig;
 use sd_state::Complex;
 use sd_work::{ask, at_work, end_wait};

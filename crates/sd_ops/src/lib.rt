@@ -1,4 +1,4 @@
-//! The records of transactions: read, changed, inserted, deleted, listed.
+//! The records of transactions: changed, inserted, deleted.
 //!
 //! Meaning: a call of an event promises `Serving` of sd_fits: from each world that the complex fits, it turns to one that it fits then,
 //! as the reply says.
@@ -8,7 +8,7 @@
 //! Refuses: in the order of the causes of sd_model; `Memory` comes wherever a call finds none, and changes nothing.
 //! Knows nothing of: scripts, sessions, how a page comes to an instance.
 //! Stands on: sd_base, sd_model, sd_page, sd_logrec, sd_rig, sd_pool, sd_txn, sd_reclock, sd_places, sd_pagelock, sd_chain,
-//! sd_sound, sd_world, sd_state, sd_changes, sd_fits, sd_moves, sd_work.
+//! sd_sound, sd_world, sd_state, sd_changes, sd_fits, sd_work, sd_reads.
 //! Held by the caller: that the complex fits a world.
 //!
 //! To change:
@@ -17,13 +17,10 @@
 //! - frozen: nothing
 #![tactic(auto)]
 
-mod copies;
 mod edits;
 mod inserting;
-mod listing;
 mod putting;
 mod records;
 
 pub use inserting::insert;
-pub use listing::list_page;
-pub use records::{add, delete, read, write};
+pub use records::{add, delete, write};

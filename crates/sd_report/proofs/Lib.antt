@@ -1,9 +1,7 @@
 mod Examples
 mod FewBytes
-mod Growing
 pub mod LineOrder
 mod Notes
 mod OneLine
 pub mod Scripts
-mod Sets
 mod Unnamed

@@ -9,7 +9,7 @@ use Rattle.sd_model.specs.declared.event.Entry.{Entry}
 use Rattle.sd_forms.specs.declared.line.Line.{Line}
 use Rattle.sd_forms.specs.declared.line.Form.{Form}
 use Rattle.sd_report.specs.Report.{gathered, AreAbove, entries_of, upto, behind, AreFrom}
-use Rattle.sd_report.proofs.Growing.{flat_map_more}
+use Rattle.sd_replies.proofs.Growing.{flat_map_more}
 
 -- of two numbers that differ the test is false
 apart : (a b : ℕ) → (a ≡ b → ⊥) → eqb a b ≡ false

@@ -13,9 +13,9 @@ use Rattle.sd_forms.specs.declared.line.Form.{Form}
 use Rattle.sd_forms.specs.declared.line.Form.TheVariants as form
 use Rattle.sd_forms.specs.declared.line.Line.{Line}
 use Rattle.sd_forms.specs.Forms.{pick_word}
-use Rattle.sd_report.specs.Words.{line_of, NamesOf}
-use Rattle.sd_report.specs.Refusals.{refusal_text, tells_txn}
-use Rattle.sd_report.specs.Replies.{no_reply, pulled_text, reply_text, last_text, words_of, behind_words, last_behind_words, behind_all, last_behind_all}
+use Rattle.sd_replies.specs.Words.{line_of, NamesOf}
+use Rattle.sd_replies.specs.Refusals.{refusal_text, tells_txn}
+use Rattle.sd_replies.specs.Replies.{no_reply, pulled_text, reply_text, last_text, words_of, behind_words, last_behind_words, behind_all, last_behind_all}
 use Rattle.sd_report.specs.Report.{last_entry, txn_line, page_line, echo_line, all_line, listed, table_lines}
 use Rattle.sd_report.specs.Report.{reported, gathered, entries_of, reply_tells_txn, tell_txns}
 

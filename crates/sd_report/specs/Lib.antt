@@ -1,6 +1,1 @@
-pub mod Words
-pub mod Refusals
-pub mod Places
-pub mod Replies
 pub mod Report
-pub mod Names

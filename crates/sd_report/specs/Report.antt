@@ -16,9 +16,9 @@ use Rattle.sd_forms.specs.declared.line.Form.{Form}
 use Rattle.sd_forms.specs.declared.line.Form.TheVariants as form
 use Rattle.sd_forms.specs.declared.line.Line.{Line}
 use Rattle.sd_forms.specs.Forms.{form_words, pick_word, rid_word}
-use Rattle.sd_report.specs.Words.{line_of, NamesOf, no_names}
-use Rattle.sd_report.specs.Refusals.{refusal_text, cause_word, tells_txn}
-use Rattle.sd_report.specs.Replies.{no_reply, pulled_text, last_text, words_of, last_behind_words, last_behind_all}
+use Rattle.sd_replies.specs.Words.{line_of, NamesOf, no_names}
+use Rattle.sd_replies.specs.Refusals.{refusal_text, cause_word, tells_txn}
+use Rattle.sd_replies.specs.Replies.{no_reply, pulled_text, last_text, words_of, last_behind_words, last_behind_all}
 
 -- the entries of a line are those that carry its number; those of line 0 are of no line
 abbrev pub entries_of : ℕ → List Entry → List Entry

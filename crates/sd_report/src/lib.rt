@@ -6,24 +6,19 @@
 //! a bad line, `damaged_line` that of devices that aren't sound.
 //! Refuses: nothing but for want of memory.
 //! Knows nothing of: how a line is served, what a reply means, where the text goes.
-//! Stands on: sd_base, sd_model, sd_short, sd_book, sd_forms, sd_script.
+//! Stands on: sd_base, sd_model, sd_short, sd_book, sd_forms, sd_script, sd_replies.
 //! Asked of the caller: the lines of the entries don't fall, but for those of line 0 (`in_order` tells).
 //!
 //! To change:
 //! - free: bodies, proofs
 //! - dear: the clauses of `render`, `render_book` and `bad_line`
-//! - frozen: the words of the report (`specs/Replies.antt`, `specs/Refusals.antt`, `specs/Places.antt`)
+//! - frozen: the lines of the report (`specs/Report.antt`)
 #![tactic(auto)]
 
+mod naming;
 mod order;
 mod parting;
-mod places;
-mod refusals;
-mod replies;
 mod report;
-mod shorts;
-mod txn_names;
-mod words;
 
 pub use order::in_order;
 pub use report::{bad_line, damaged_line, render, render_book};

@@ -8,8 +8,8 @@
 //! (`awaits`), and one that is told is made (`works`). An undo that a device fails has taken its instance down (`down`).
 //! Refuses: what the call refuses; a closed complex each event but its reopening, and to arm the devices. `Memory` spares the world.
 //! Knows nothing of: books, entries, sessions, scripts.
-//! Stands on: sd_base, sd_model, sd_rig, sd_places, sd_chain, sd_world, sd_state, sd_opened, sd_fits, sd_work, sd_ops,
-//! sd_transfer, sd_writer, sd_rollback, sd_recover, sd_survive, sd_restart, sd_shut.
+//! Stands on: sd_base, sd_model, sd_rig, sd_places, sd_chain, sd_world, sd_state, sd_opened, sd_fits, sd_work, sd_reads,
+//! sd_ops, sd_writer, sd_transfer, sd_give, sd_rollback, sd_recover, sd_survive, sd_restart, sd_shut.
 //! Lends: in `proofs`, what a complex that opens fits (`Opening`).
 //! Held by the caller: that the event has a call, and that a pool has a frame, and at most 1,024.
 //!

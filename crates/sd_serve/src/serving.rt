@@ -56,7 +56,7 @@ fn serve_plain<G: Rig>(c: &mut Complex<G>, e: &Event, answer: &mut Reply) -> Res
 {
     match e {
         Event::Begin { inst } => as_began(sd_work::begin(c, *inst), answer),
-        Event::Read { txn, rid } => as_found(sd_ops::read(c, txn, rid), answer),
+        Event::Read { txn, rid } => as_found(sd_reads::read(c, txn, rid), answer),
         Event::Write { txn, rid, value } => as_did(
             sd_ops::write(c, txn, rid, value.items()),
             answer,
@@ -74,7 +74,7 @@ fn serve_plain<G: Rig>(c: &mut Complex<G>, e: &Event, answer: &mut Reply) -> Res
         Event::Delete { txn, rid } => as_did(sd_ops::delete(c, txn, rid), answer),
         Event::Save { txn, mark } => as_did(sd_work::save(c, txn, mark), answer),
         Event::Back { txn, mark } => as_did(sd_rollback::back_to(c, txn, mark), answer),
-        Event::List { inst, page } => as_listed(sd_ops::list_page(c, *inst, *page), answer),
+        Event::List { inst, page } => as_listed(sd_reads::list_page(c, *inst, *page), answer),
         _ => serve_place(c, e, answer),
     }
 }
@@ -91,7 +91,7 @@ fn serve_place<G: Rig>(c: &mut Complex<G>, e: &Event, answer: &mut Reply) -> Res
             sd_transfer::ask(c, *inst, *page, *mode),
             answer,
         ),
-        Event::Give { inst, page } => as_gave(sd_transfer::give(c, *inst, *page), answer),
+        Event::Give { inst, page } => as_gave(sd_give::give(c, *inst, *page), answer),
         Event::Take { inst, page } => as_did(sd_transfer::take(c, *inst, *page), answer),
         Event::Evict { inst, page } => as_did(sd_transfer::evict(c, *inst, *page), answer),
         Event::Flush { inst, page } => as_did(sd_writer::write_page(c, *inst, *page), answer),

@@ -4,7 +4,7 @@ use Rattle.sd_base.specs.Streams.{Appends, Rises}
 use Rattle.sd_base.specs.declared.refusal.LineError.{LineError}
 use Rattle.sd_base.specs.declared.refusal.Refusal.{Refusal}
 use Rattle.sd_base.specs.declared.refusal.Refusal.TheVariants as R
-use Rattle.sd_report.specs.Words.{line_of}
+use Rattle.sd_replies.specs.Words.{line_of}
 use Rattle.sd_report.specs.Report.{bad_text, damaged_text}
 use Rattle.sd_status.specs.declared.status.Status.{Status}
 use Rattle.sd_status.specs.declared.status.Status.TheVariants as status

@@ -8,7 +8,7 @@
 //! says which it was (`report_book`, `report_bad_line`, `report_unopened`).
 //! Refuses: a source that fails, and want of memory (`read_all`); what is written has a status for each.
 //! Knows nothing of: words of a command, what a line does, complexes, devices, which streams there are.
-//! Stands on: sd_base, sd_book, sd_forms, sd_report.
+//! Stands on: sd_base, sd_book, sd_forms, sd_replies, sd_report.
 //!
 //! To change:
 //! - free: bodies, proofs

@@ -1,9 +1,7 @@
-mod PassFits
-mod Told
+pub mod PassFits
+pub mod Told
 pub mod Evicted
 pub mod Asked
-pub mod Dropped
 pub mod Fetched
-pub mod Given
 pub mod Shown
 pub mod Taken

@@ -35,7 +35,7 @@ use Rattle.sd_fits.proofs.Places.{frames-kept, turns-repaged}
 use Rattle.sd_fits.proofs.Refused.{IsFor, active-serves, idle-refuses, refused-serves, unlike}
 use Rattle.sd_fits.proofs.Served.{none-ended}
 use Rattle.sd_moves.specs.Places.{IsAsked, with_directory}
-use Rattle.sd_transfer.specs.Giving.{OnlyPages}
+use Rattle.sd_transfer.specs.Paging.{OnlyPages}
 use Rattle.sd_transfer.specs.Taking.{IsUntaken, MayTake}
 use Rattle.sd_transfer.proofs.Fetched.{not-copied}
 

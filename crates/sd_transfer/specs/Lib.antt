@@ -1,4 +1,4 @@
 pub mod Asking
 pub mod Evicting
-pub mod Giving
+pub mod Paging
 pub mod Taking

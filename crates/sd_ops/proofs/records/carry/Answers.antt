@@ -19,7 +19,7 @@ use Rattle.sd_fits.specs.Fits.{Fits}
 use Rattle.sd_fits.proofs.Refused.{unlike}
 use Rattle.sd_ops.specs.Edits.{IsPlan, event_of}
 use Rattle.sd_work.specs.Halves.{HalfServed}
-use Rattle.sd_ops.specs.Copies.{LacksPage}
+use Rattle.sd_reads.specs.Copies.{LacksPage}
 use Rattle.sd_ops.proofs.Edited.{put-served}
 use Rattle.sd_ops.proofs.Editing.{edit-asked, edit-away, edit-long, edit-work}
 use Rattle.sd_ops.proofs.Spoiling.{vain-half}

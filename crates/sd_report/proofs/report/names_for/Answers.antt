@@ -4,9 +4,9 @@ use Rattle.sd_base.specs.declared.ids.TxnId.{TxnId}
 use Rattle.sd_base.specs.declared.refusal.Memory.{Memory}
 use Rattle.sd_model.specs.declared.event.Entry.{Entry}
 use Rattle.sd_forms.specs.declared.line.Line.{Line}
-use Rattle.sd_report.specs.declared.txn_names.TxnNames.{TxnNames}
+use Rattle.sd_replies.specs.declared.txn_names.TxnNames.{TxnNames}
 use Rattle.sd_book.specs.Booked.{entries_in}
-use Rattle.sd_report.specs.Names.{name_in}
+use Rattle.sd_replies.specs.Names.{name_in}
 use Rattle.sd_report.specs.Report.{gathered, report, reported, names_of}
 use Rattle.sd_report.proofs.FewBytes.{none_tells}
 use Rattle.sd_report.proofs.Unnamed.{same_report}
@@ -27,4 +27,4 @@ named_report lines entries (Ok names) same = λ i. gathered (reported (λ t. sam
 named_report lines entries (Err e) same = tt
 
 pub returns-then-any_whole_tells : goal.returns-then-any_whole_tells
-returns-then-any_whole_tells c = named_report c.args.lines.now (entries_in c.args.entries) c.of.result c.of.ensures
+returns-then-any_whole_tells c = named_report c.args.lines.now (entries_in c.args.entries) c.known_names.result c.known_names.ensures

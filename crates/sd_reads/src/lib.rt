@@ -1,0 +1,27 @@
+//! The records of transactions: read and listed.
+//!
+//! Meaning: a call of an event promises `Serving` of sd_fits: from each world that the complex fits, it turns to one that it fits then,
+//! as the reply says.
+//! Keeps: nothing.
+//! Promises: each call answers as the serial table and the pages allow, names exactly who stands in the way of a lock, and makes no
+//! device call (`served`, `rig`). `copy` lends the copy that an instance has of a page (`image`, `held`, `lacks`).
+//! Refuses: in the order of the causes of sd_model; `Memory` comes wherever a call finds none, and changes nothing.
+//! Knows nothing of: scripts, sessions, how a page comes to an instance.
+//! Stands on: sd_base, sd_model, sd_page, sd_rig, sd_pool, sd_txn, sd_reclock, sd_places, sd_pagelock, sd_chain, sd_sound,
+//! sd_world, sd_state, sd_changes, sd_fits, sd_moves, sd_work.
+//! Lends: in `proofs`, what holds of a page that an instance has (`Held`) and of a request that is granted (`Asking`).
+//! Held by the caller: that the complex fits a world.
+//!
+//! To change:
+//! - free: bodies, proofs
+//! - dear: `LacksPage`, the clauses of `copy`
+//! - frozen: nothing
+#![tactic(auto)]
+
+mod copies;
+mod listing;
+mod records;
+
+pub use copies::copy;
+pub use listing::list_page;
+pub use records::read;

@@ -1,0 +1,5 @@
+pub mod Words
+pub mod Refusals
+pub mod Places
+pub mod Replies
+pub mod Names
