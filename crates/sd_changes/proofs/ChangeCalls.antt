@@ -1,7 +1,7 @@
 -- What the calls of a change find and leave: tables, images, sums. For `change`.
-use Rattle.std.proofs.Common.{◌≡◌, ◌≢◌, ◌⊎◌, inl, inr, ⊎_elim, ℕ, zero, suc, ◌+◌, ◌-◌, ◌^◌, ◌≤◌, ◌↔◌, Bool, true, false, List, [], ◌∷◌, cond, eqb, eq-eqb, get_or, length, max, min, nat_lt, refl, sym, ap, ◌∙◌, subst, arith}
-use Rattle.std.specs.Prelude.{Option, None, Some, Result, Ok, Err, IfErr, IsSome, IsTrue, is_some, if◌then◌else◌, option_map, unwrap_or}
-use Rattle.std.proofs.lemmas.Bool.{cases_eq, le-leb, leb-true, ne_eqb}
+use Rattle.std.proofs.Common.{◌≡◌, ◌≢◌, ◌⊎◌, inl, inr, ⊎_elim, ℕ, zero, suc, ◌+◌, ◌-◌, ◌≤◌, Bool, true, false, List, [], ◌∷◌, cond, eqb, eq-eqb, get_or, length, max, refl, sym, ap, ◌∙◌, subst, arith}
+use Rattle.std.specs.Prelude.{Option, None, Some, Result, Ok, Err, IfErr, IsSome, is_some, if◌then◌else◌, option_map, unwrap_or}
+use Rattle.std.proofs.lemmas.Bool.{ne_eqb}
 use Rattle.std.proofs.lemmas.List.{length_push}
 use Rattle.std.proofs.lemmas.List.Sums.{sum_by_push}
 use Rattle.sd_base.specs.declared.ids.Rid.{Rid}
@@ -18,18 +18,15 @@ use Rattle.sd_txn.specs.Owing.{bytes_owed, owed_of, records_owed, undo_len}
 use Rattle.sd_txn.specs.declared.state.TxnState.{TxnState}
 use Rattle.sd_redo.proofs.Written.{write-written}
 use Rattle.sd_changes.specs.Changing.{Change, changed_row, flat_of, opened, owed_then, row_for}
-use Rattle.sd_state.specs.Sums.{most_to, owed_above, owed_where, owes_above, owes_most, sum_to}
+use Rattle.sd_state.specs.Sums.{owed_above, owed_where, owes_above, owes_most}
 use Rattle.sd_state.specs.Tables.{tells_log}
-use Rattle.std.specs.List.{AllByRecursion, IsDistinct}
-use Rattle.sd_base.specs.Ids.{same_txn}
+use Rattle.std.specs.List.{AllByRecursion}
 use Rattle.sd_base.specs.Values.{size}
 use Rattle.sd_base.specs.declared.ids.TxnId.{TxnId}
-use Rattle.sd_base.proofs.SameIds.{cases_txn}
-use Rattle.sd_page.specs.Page.{Page, PageFits, Slot, SlotFits, applied, written}
+use Rattle.sd_page.specs.Page.{Page, PageFits, Slot, SlotFits, after_of, applied, written}
 use Rattle.sd_txn.specs.Marked.{AreMarks}
-use Rattle.sd_txn.specs.Transactions.{OthersStay, SameOrder, Transaction, Transactions, depth, ids, popped, pushed, txn_at}
+use Rattle.sd_txn.specs.Transactions.{Transaction, depth, popped, pushed}
 use Rattle.sd_txn.specs.declared.state.OpenRec.{OpenRec}
-use Rattle.sd_txn.proofs.Alike.{alike}
 use Rattle.sd_txn.proofs.Stacks.{popped-pushed}
 use Rattle.sd_chain.specs.Pages.{redo, value, write}
 use Rattle.sd_chain.specs.Records.{Each, home}
@@ -137,11 +134,11 @@ all-open place P (ask ∷ asks) each =
 
 -- ---- the image with a change
 
-pub applied-redone : (k : Change) (op : Op) (image : Page) → op.slot ≡ k.rid.slot → op.capacity ≡ k.capacity → op.after ≡ k.after
+pub applied-redone : (k : Change) (op : Op) (image : Page) → op.slot ≡ k.rid.slot → op.capacity ≡ k.capacity → after_of op ≡ k.after
     → k.rid.slot ≤ length image.slots → applied op k.lsn image ≡ redo image (flat_of k)
 applied-redone k op image slot capacity after le =
-    let slots : written image.slots op.slot op.capacity op.after ≡ write image.slots k.rid.slot k.capacity k.after =
-    ap (λ s. written image.slots s op.capacity op.after) slot ∙ ap (λ n. written image.slots k.rid.slot n op.after) capacity
+    let slots : written image.slots op.slot op.capacity (after_of op) ≡ write image.slots k.rid.slot k.capacity k.after =
+    ap (λ s. written image.slots s op.capacity (after_of op)) slot ∙ ap (λ n. written image.slots k.rid.slot n (after_of op)) capacity
     ∙ ap (λ v. written image.slots k.rid.slot k.capacity v) after ∙ sym (write-written image.slots k.rid.slot k.capacity k.after le) in
     λ n. record { lsn = k.lsn; number = image.number; slots = slots n }
 

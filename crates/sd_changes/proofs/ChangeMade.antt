@@ -9,7 +9,6 @@ use Rattle.sd_base.specs.declared.place.Status.TheVariants as S
 use Rattle.sd_base.specs.Values.{size}
 use Rattle.sd_logrec.specs.View.{Rec}
 use Rattle.sd_logrec.specs.declared.record.Record.{Record}
-use Rattle.sd_page.specs.declared.op.Op.{Op}
 use Rattle.sd_txn.specs.declared.state.OpenRec.{OpenRec}
 use Rattle.sd_redo.proofs.Written.{takes-update}
 use Rattle.sd_logrec.specs.Spelling.{spelled_length, spelling}
@@ -179,10 +178,9 @@ room-there k c rec reserve is same room =
     (λ fits. omega (arith, len, same, fits))
     (cases_lt 1048576 (needed (log_at c (home k.txn)) (spelled_length (update k)) (reserve_then k c)))
 
-pub takes-there : (t : TxnId) (r : Rid) (capacity : ℕ) (after : Content) (c : Parts) (top : OpenRec) (op : Op)
-    → change_in t top op ≡ change_of t r capacity after c → op.slot ≡ top.rid.slot → capacity ≤ 256 → FitsThere t r capacity after c
-    → CanTake (image_for t top.rid.page c).slots op.slot op.capacity (size op.after)
-takes-there t r capacity after c top op is slot small fits =
-    subst (λ (n : ℕ). CanTake (image_for t top.rid.page c).slots n op.capacity (size op.after)) (sym slot)
-    (subst (λ (z : Change). CanTake (image_for t z.rid.page c).slots z.rid.slot z.capacity (size z.after)) (sym is)
-    (takes-update (image_for t r.page c).slots r.slot capacity (change_of t r capacity after c).before after small fits))
+pub takes-there : (t : TxnId) (r : Rid) (capacity : ℕ) (after : Content) (c : Parts) (top : OpenRec) (own_capacity : ℕ) (put : Content)
+    → change_in t top own_capacity put ≡ change_of t r capacity after c → capacity ≤ 256 → FitsThere t r capacity after c
+    → CanTake (image_for t top.rid.page c).slots top.rid.slot own_capacity (size put)
+takes-there t r capacity after c top own_capacity put is small fits =
+    subst (λ (z : Change). CanTake (image_for t z.rid.page c).slots z.rid.slot z.capacity (size z.after)) (sym is)
+    (takes-update (image_for t r.page c).slots r.slot capacity (change_of t r capacity after c).before after small fits)

@@ -8,7 +8,6 @@ use Rattle.sd_base.specs.declared.ids.Rid.{Rid}
 use Rattle.sd_base.specs.declared.place.Mode.TheVariants as modes
 use Rattle.sd_base.specs.declared.place.Status.TheVariants as S
 use Rattle.sd_page.specs.Page.{Page, empty_page}
-use Rattle.sd_page.specs.declared.op.Op.{Op}
 use Rattle.sd_logrec.specs.Spelling.{spelled_length, spelling}
 use Rattle.sd_logrec.specs.View.{Rec, flat}
 use Rattle.sd_logrec.specs.declared.record.Record.{Record}
@@ -179,16 +178,16 @@ LacksRoom k c = 1048576 < needed (log_at c (home k.txn)) (spelled_length (update
 abbrev pub LacksLsns : TxnId → Parts → Type 0
 LacksLsns t c = 2 ^ 62 ≤ great_of c + 1 + owed_where (home t) (max (owed_at c (home t)) (owed_then t c)) c
 
--- the change whose undo wants this, and that writes so into the page; its log record has what both have
-abbrev pub change_in : TxnId → OpenRec → Op → Change
-change_in t top op = record {
+-- the change whose undo wants this, and that sets this value, a new slot having this capacity
+abbrev pub change_in : TxnId → OpenRec → ℕ → Content → Change
+change_in t top capacity after = record {
   txn = t;
   rid = top.rid;
   lsn = top.lsn;
   prev = top.prev;
-  capacity = op.capacity;
+  capacity = capacity;
   before = top.before;
-  after = op.after;
+  after = after;
 }
 
 -- The table has a further open record of the transaction, and is else as it was.

@@ -7,10 +7,10 @@ ghost use Rattle.sd_base.specs.declared.place.Mode.TheVariants as modes;
 ghost use Rattle.sd_base.specs.declared.place.Status.TheVariants as S;
 ghost use Rattle.sd_base.specs.declared.refusal.Refusal.TheVariants as R;
 ghost use Rattle.sd_chain.specs.Pages.{value};
-ghost use Rattle.sd_log.specs.Logs.{needed, with_record};
+ghost use Rattle.sd_log.specs.Logs.{is_reserved, needed, with_record};
 ghost use Rattle.sd_logrec.specs.Spelling.{HasSpelling, IsTxn, spelling};
 ghost use Rattle.sd_model.specs.State.{State};
-ghost use Rattle.sd_page.specs.Page.{CanTake, PageFits, applied};
+ghost use Rattle.sd_page.specs.Page.{CanTake, PageFits, after_of, applied};
 ghost use Rattle.sd_asks.specs.Asks.{open_asks};
 ghost use Rattle.sd_pagelock.specs.Directory.{asks_at, entry_at, kept_rec, moving_image_at, rec_lsn_at};
 ghost use Rattle.sd_places.specs.Places.{changed, owns};
@@ -28,7 +28,8 @@ ghost use Rattle.sd_txn.specs.Transactions.{IsUnresolved, state_at};
 ghost use Rattle.sd_txn.specs.declared.state.TxnState.TheVariants.{Running};
 
 use sd_base::{
-    Bytes, InstNo, Lsn, Memory, PageNo, Place, Refusal, Rid, TxnId, copy_value, value_len,
+    Bytes, InstNo, Lsn, Memory, PageNo, Place, Refusal, Rid, TxnId, copy_value, lent_value,
+    value_len,
 };
 use sd_log::Log;
 use sd_logrec::{AREA_LEN, CLR_LEN, END_LEN, GROUP_HEAD, MAX_LSN, Record};
@@ -41,11 +42,12 @@ use sd_txn::{OpenRec, TxnTable};
 use std::alloc::Global;
 use std::cmp;
 
-// A change before anything has it: what its undo wants, and what is written into the page.
+// A change before anything has it: what its undo wants, the capacity of a new slot, and the value.
 #[derive(Drop)]
 struct Ready {
     top: OpenRec,
-    op: Op,
+    capacity: u16,
+    after: Option<Bytes>,
 }
 
 /// A transaction that runs sets the value of a record, of which it has the exclusive lock, on a page that its instance has
@@ -87,8 +89,8 @@ pub fn change<G: Rig>(
     let image = image(c, t, r.page);
     let span = span(c, t);
     let reserve = reserved_for(c, t, &r, image, span, &after)?;
-    let Ready { top, op } = prepared(c, t, &r, image, span, capacity, after)?;
-    put_change(c, t, top, op, reserve)
+    let ready = prepared(c, t, &r, image, span, capacity, after)?;
+    put_change(c, t, ready, reserve)
 }
 
 // What is to be reserved behind a change, in bytes. The capacity has no part in it.
@@ -234,9 +236,9 @@ fn prepared<G>(
     requires numbered { IsTxn t.now }
     requires small { capacity ≤ 256 }
     requires fits { FitsThere t.now r.now capacity after (parts c.now) }
-    ensures change { IfOk result (λ p. change_in t.now p.top p.op ≡ change_of t.now r.now capacity after (parts c.now)) }
-    ensures slot { IfOk result (λ p. p.op.slot ≡ p.top.rid.slot) }
-    ensures spelled { IfOk result (λ p. HasSpelling (update (change_in t.now p.top p.op))) }
+    ensures change { IfOk result (λ p. change_in t.now p.top p.capacity p.after
+        ≡ change_of t.now r.now capacity after (parts c.now)) }
+    ensures spelled { IfOk result (λ p. HasSpelling (update (change_in t.now p.top p.capacity p.after))) }
 {
     let alloc = *c.logs.allocator();
     let _number = r.page.get();
@@ -249,44 +251,48 @@ fn prepared<G>(
         rid: *r,
         before: owned(alloc, image.value(r.slot))?,
     };
-    let op = Op {
-        slot: r.slot,
+    Ok(Ready {
+        top,
         capacity,
         after,
-    };
-    Ok(Ready { top, op })
+    })
 }
 
 // Puts a change into the log, the table, the page's image and the directory. Memory changes nothing.
-fn put_change<G>(
-    c: &mut Complex<G>,
-    t: &TxnId,
-    top: OpenRec,
-    op: Op,
-    reserve: u32,
-) -> Result<(), Refusal>
+fn put_change<G>(c: &mut Complex<G>, t: &TxnId, ready: Ready, reserve: u32) -> Result<(), Refusal>
     requires shape { IsShape (parts c.old) }
-    requires slot { op.slot ≡ top.rid.slot }
     requires known { IsUnresolved (txns_at (parts c.old) t.now.inst) t.now }
-    requires spelled { HasSpelling (update (change_in t.now top op)) }
-    requires room { needed (log_at (parts c.old) t.now.inst) (length (spelling (update (change_in t.now top op)))) reserve
-        ≤ 1048576 }
-    requires held { IsSome (image_at (pool_at (parts c.old) t.now.inst) top.rid.page) }
-    requires takes { CanTake (image_for t.now top.rid.page (parts c.old)).slots op.slot op.capacity
-        (size op.after) }
-    requires owns { owns (entry_at (parts c.old).directory top.rid.page) t.now.inst ≡ true }
-    requires open { open_asks (entry_at (parts c.old).directory top.rid.page) (asks_at (parts c.old).directory top.rid.page)
-        ≡ asks_at (parts c.old).directory top.rid.page }
-    ensures put { OnOk result (IsPut (change_in t.now top op) reserve (parts c.old) (parts c.new)) }
+    requires spelled { HasSpelling (update (change_in t.now ready.top ready.capacity ready.after)) }
+    requires room { needed (log_at (parts c.old) t.now.inst)
+        (length (spelling (update (change_in t.now ready.top ready.capacity ready.after)))) reserve ≤ 1048576 }
+    requires held { IsSome (image_at (pool_at (parts c.old) t.now.inst) ready.top.rid.page) }
+    requires takes { CanTake (image_for t.now ready.top.rid.page (parts c.old)).slots ready.top.rid.slot ready.capacity
+        (size ready.after) }
+    requires owns { owns (entry_at (parts c.old).directory ready.top.rid.page) t.now.inst ≡ true }
+    requires open { open_asks (entry_at (parts c.old).directory ready.top.rid.page)
+        (asks_at (parts c.old).directory ready.top.rid.page) ≡ asks_at (parts c.old).directory ready.top.rid.page }
+    ensures put { OnOk result (IsPut (change_in t.now ready.top ready.capacity ready.after) reserve (parts c.old) (parts c.new)) }
     ensures refused { OnErr result (parts c.new ≡ parts c.old) }
     ensures only { IfErr result (λ e. e ≡ R.Memory) }
     ensures rig { c.new.rig ≡ c.old.rig }
 {
     sd_txn::laws::owed_by_change();
     let at = t.inst.get() as usize - 1;
-    let lsn = top.lsn;
+    let Ready {
+        top,
+        capacity,
+        after,
+    } = ready;
+    let rec = record_of(t, &top, capacity, &after)?;
     let page = page_of(&top);
-    log_within(&mut c.logs[at], &mut c.txns, at, t, top, &op, reserve)?;
+    let slot = top.rid.slot;
+    let lsn = top.lsn;
+    log_within(&mut c.logs[at], &mut c.txns, at, t, top, rec, reserve)?;
+    let op = Op {
+        slot,
+        capacity,
+        after: lent_value(&after),
+    };
     rewrite(&mut c.pools[at], page, &op, lsn);
     mark(&mut c.directory, t.inst, page, lsn);
     Ok(())
@@ -332,18 +338,23 @@ fn owned(alloc: Global, found: Option<&[u8]>) -> Result<Option<Bytes>, Memory>
 }
 
 // The log record of a change.
-fn record_of(t: &TxnId, top: &OpenRec, op: &Op) -> Result<Record, Memory>
-    ensures { IfOk result (λ rec. rec ≡ update (change_in t.now top.now op.now)) }
+fn record_of(
+    t: &TxnId,
+    top: &OpenRec,
+    capacity: u16,
+    after: &Option<Bytes>,
+) -> Result<Record, Memory>
+    ensures { IfOk result (λ rec. rec ≡ update (change_in t.now top.now capacity after.now)) }
 {
     let before = copy_value(&top.before)?;
-    let after = copy_value(&op.after)?;
+    let after = copy_value(after)?;
     Ok(Record::Update {
         lsn: top.lsn,
         txn: *t,
         prev: top.prev,
         page: top.rid.page,
         slot: top.rid.slot,
-        capacity: op.capacity,
+        capacity,
         before,
         after,
     })
@@ -356,20 +367,19 @@ fn log_change(
     table: &mut TxnTable,
     t: &TxnId,
     top: OpenRec,
-    op: &Op,
+    rec: Record,
     reserve: u32,
 ) -> Result<(), Refusal>
     requires known { IsUnresolved table.old t.now }
-    requires spelled { HasSpelling (update (change_in t.now top op.now)) }
-    requires room { needed log.old (length (spelling (update (change_in t.now top op.now)))) reserve ≤ 1048576 }
-    ensures log { OnOk result (log.new ≡ with_record (update (change_in t.now top op.now)) log.new.spare log.old) }
-    ensures memory { OnOk result (reserve ≤ log.new.spare) }
+    requires spelled { HasSpelling rec }
+    requires room { needed log.old (length (spelling rec)) reserve ≤ 1048576 }
+    ensures log { OnOk result (log.new ≡ with_record rec log.new.spare log.old) }
+    ensures memory { OnOk result (is_reserved rec ≡ false → reserve ≤ log.new.spare) }
     ensures row { OnOk result (IsRowPut t.now top table.old table.new) }
     ensures log_stays { OnErr result (log.new ≡ log.old) }
     ensures table_stays { OnErr result (table.new ≡ table.old) }
     ensures only { IfErr result (λ e. e ≡ R.Memory) }
 {
-    let rec = record_of(t, &top, op)?;
     let lsn = top.lsn;
     table.keeps();
     table.push(t, top)?;
@@ -391,27 +401,28 @@ fn log_within(
     at: usize,
     t: &TxnId,
     top: OpenRec,
-    op: &Op,
+    rec: Record,
     reserve: u32,
 ) -> Result<(), Refusal>
     requires place { at < length txns.old.items }
     requires known { IsUnresolved (get_or txns.old.items at no_txns) t.now }
-    requires spelled { HasSpelling (update (change_in t.now top op.now)) }
-    requires room { needed log.old (length (spelling (update (change_in t.now top op.now)))) reserve ≤ 1048576 }
-    ensures log { OnOk result (log.new ≡ with_record (update (change_in t.now top op.now)) log.new.spare log.old) }
-    ensures memory { OnOk result (reserve ≤ log.new.spare) }
+    requires spelled { HasSpelling rec }
+    requires room { needed log.old (length (spelling rec)) reserve ≤ 1048576 }
+    ensures log { OnOk result (log.new ≡ with_record rec log.new.spare log.old) }
+    ensures memory { OnOk result (is_reserved rec ≡ false → reserve ≤ log.new.spare) }
     ensures row { OnOk result (IsRowPut t.now top (get_or txns.old.items at no_txns) (get_or txns.new.items at no_txns)) }
     ensures table { OnOk result (txns.new.items ≡ slice_set txns.old.items at (get_or txns.new.items at no_txns)) }
     ensures log_stays { OnErr result (log.new ≡ log.old) }
     ensures tables_stay { OnErr result (txns.new.items ≡ txns.old.items) }
     ensures only { IfErr result (λ e. e ≡ R.Memory) }
 {
-    log_change(log, &mut txns[at], t, top, op, reserve)
+    log_change(log, &mut txns[at], t, top, rec, reserve)
 }
 
 // Sets a value in the image that a pool has of a page.
 fn rewrite(pool: &mut Pool, p: PageNo, op: &Op, lsn: Lsn)
-    requires takes { IfSome (image_at pool.old p) (λ image. CanTake image.slots op.now.slot op.now.capacity (size op.now.after)) }
+    requires takes { IfSome (image_at pool.old p)
+        (λ image. CanTake image.slots op.now.slot op.now.capacity (size (after_of op.now))) }
     requires held { IsSome (image_at pool.old p) }
     ensures here { image_at pool.new p ≡ option_map (applied op.now lsn) (image_at pool.old p) }
     ensures others { (q : ℕ) → q ≢ p → image_at pool.new q ≡ image_at pool.old q }

@@ -70,8 +70,8 @@ fn redo_change(
     ensures redone { OnOk result (image.new
         ≡ cond (ltb disk_lsn (redone_of change.now).lsn) (pages.redo image.old (redone_of change.now)) image.old) }
     ensures noted { OnOk result (first.new ≡ noted disk_lsn first.old (redone_of change.now)) }
-    ensures refusals { IfErr result (λ e. (e ≡ R.Memory)
-        ⊎ ((e ≡ R.Damaged change.now.dev (AREA + change.now.found.now.place)) × (FitsAbove disk_lsn image.old (redone_of change.now) → ⊥))) }
+    ensures refusals { IfErr result (λ e. (e ≡ R.Damaged change.now.dev (AREA + change.now.found.now.place))
+        × (FitsAbove disk_lsn image.old (redone_of change.now) → ⊥)) }
 {
     let record = &change.found.rec;
     if record.lsn() <= disk_lsn {
@@ -80,7 +80,7 @@ fn redo_change(
     if !fits(image, record) {
         return Err(change.damaged());
     }
-    redo(image, record)?;
+    redo(image, record);
     if first.is_none() {
         *first = Some(record.lsn());
     }

@@ -8,7 +8,7 @@ use Rattle.std.proofs.lemmas.Option.{slice_get_past}
 use Rattle.std.proofs.lemmas.Bool.{cases_lt}
 use Rattle.sd_page.specs.declared.op.Op.{Op}
 use Rattle.sd_base.specs.Values.{size}
-use Rattle.sd_page.specs.Page.{Slot, Page, applied, CanTake, empty_page, heap_end, capacity_for, HasRoom, SlotFits, PageFits, written}
+use Rattle.sd_page.specs.Page.{Slot, Page, after_of, applied, CanTake, empty_page, heap_end, capacity_for, HasRoom, SlotFits, PageFits, written}
 use Rattle.sd_page.specs.Spelling.{two, four, eight, zeros, value_bytes, length_word, cell, entry, entries, page_spelling}
 use Rattle.sd_page.specs.Reading.{entry_place, two_at}
 use Rattle.sd_page.specs.Writing.{pasted}
@@ -265,8 +265,8 @@ kept_end page k capacity value fits e can are_bytes =
     subst (λ (l : List Slot). PageFits (with_slots page l)) (sym (ap (λ n. written page.slots n capacity value) e ∙ written-end page.slots capacity value))
     (fits-pushed page (capacity, value) fits (record { capacity = can.small e; value = own; bytes = are_bytes }) (can.room e)).fits
 
-pub change_fits : (op : Op) (lsn : ℕ) (page : Page) → PageFits page → lsn < 2 ^ 64 → IfSome op.after (All (λ b. b < 256)) → CanTake page.slots op.slot op.capacity (size op.after) → PageFits (applied op lsn page)
+pub change_fits : (op : Op) (lsn : ℕ) (page : Page) → PageFits page → lsn < 2 ^ 64 → IfSome (after_of op) (All (λ b. b < 256)) → CanTake page.slots op.slot op.capacity (size (after_of op)) → PageFits (applied op lsn page)
 change_fits op lsn page fits lt are_bytes can =
-    ⊎_elim (λ below. fits_with_lsn _ lsn (kept_place page op.slot op.capacity op.after fits below can.within are_bytes) lt)
-    (λ le. fits_with_lsn _ lsn (kept_end page op.slot op.capacity op.after fits (omega (arith, le, can.place)) can are_bytes) lt)
+    ⊎_elim (λ below. fits_with_lsn _ lsn (kept_place page op.slot op.capacity (after_of op) fits below can.within are_bytes) lt)
+    (λ le. fits_with_lsn _ lsn (kept_end page op.slot op.capacity (after_of op) fits (omega (arith, le, can.place)) can are_bytes) lt)
     (cases_lt op.slot (length page.slots))

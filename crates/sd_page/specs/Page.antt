@@ -1,5 +1,5 @@
 -- A slotted page as a value: its slots in order, which of them have a value, and what an operation makes of it.
-use Rattle.std.specs.Prelude.{◌≡◌, ◌⊎◌, unwrap_or, ◌<◌, ◌≤◌, ℕ, zero, suc, ◌+◌, ◌*◌, ◌^◌, List, [], ◌∷◌, length, All, Option, None, Some, IfSome, option_and_then, option_map, slice_get, sum_by}
+use Rattle.std.specs.Prelude.{◌≡◌, ◌⊎◌, unwrap_or, ◌<◌, ◌≤◌, ℕ, zero, suc, ◌+◌, ◌*◌, ◌^◌, List, [], ◌∷◌, length, All, Option, IfSome, option_and_then, option_copied, option_map, slice_get, sum_by}
 use Rattle.std.specs.List.{AllByRecursion}
 use Rattle.sd_base.specs.Values.{size}
 use Rattle.sd_page.specs.declared.op.Op.{Op}
@@ -41,9 +41,13 @@ written [] (suc s) capacity value = []
 written (slot ∷ slots) zero capacity value = (slot.0, value) ∷ slots
 written (slot ∷ slots) (suc s) capacity value = slot ∷ written slots s capacity value
 
+-- the value that an operation leaves in its slot
+abbrev pub after_of : Op → Option (List ℕ)
+after_of op = option_copied op.after
+
 -- the page after an operation of this LSN
 abbrev pub applied : Op → ℕ → Page → Page
-applied op lsn page = record { lsn = lsn; number = page.number; slots = written page.slots op.slot op.capacity op.after }
+applied op lsn page = record { lsn = lsn; number = page.number; slots = written page.slots op.slot op.capacity (after_of op) }
 
 -- a new slot is asked for, and the page has no room for it
 abbrev pub LacksRoom : List Slot → ℕ → ℕ → Type 0

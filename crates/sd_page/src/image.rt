@@ -3,7 +3,7 @@
 ghost use Rattle.std.specs.Prelude.{◌≡◌, ◌+◌, ◌<◌, ◌≤◌, ◌↔◌, ◌⊎◌, ◌++◌, ◌∷◌, [], length, take, option_map, IsTrue, IsOk, IsSome, IsSomeAnd, IfSome, OnOk, IfErr, OnErr, Err, Some};
 ghost use Rattle.sd_base.specs.declared.refusal.Refusal.TheVariants as R;
 ghost use Rattle.sd_base.specs.Values.{size};
-ghost use Rattle.sd_page.specs.Page.{Page, PageFits, CanTake, HasRoom, IsTooLong, LacksRoom, LacksSlot, applied, capacity_at, capacity_for, empty_page, heap_end, value_at, written};
+ghost use Rattle.sd_page.specs.Page.{Page, PageFits, CanTake, HasRoom, IsTooLong, LacksRoom, LacksSlot, after_of, applied, capacity_at, capacity_for, empty_page, heap_end, value_at, written};
 ghost use Rattle.sd_page.specs.Spelling.{page_spelling, WellFormed};
 
 use crate::Op;
@@ -12,7 +12,7 @@ use crate::layout::{
     COUNT, ENTRY_BYTES, HEADER_BYTES, HEAP_END, LSN, NUMBER, PAGE_BYTES, bytes_of, entry_place,
     length_word, slot_in,
 };
-use sd_base::{Lsn, MAX_CAPACITY, PageNo, Refusal, lent_value};
+use sd_base::{Lsn, MAX_CAPACITY, PageNo, Refusal};
 use std::marker::Model;
 
 /// The image of a page: its 1,024 bytes. Contracts see the page that they spell.
@@ -141,19 +141,18 @@ impl Image {
     /// and `TooLong` where neither holds and the value is longer than its capacity, or a new slot's
     /// capacity is over 256 bytes. A refusal leaves the image as it was.
     pub fn apply(&mut self, op: &Op, lsn: Lsn) -> Result<(), Refusal>
-        ensures ok { IsOk result ↔ CanTake self.old.slots op.now.slot op.now.capacity (size op.now.after) }
+        ensures ok { IsOk result ↔ CanTake self.old.slots op.now.slot op.now.capacity (size (after_of op.now)) }
         ensures applied { OnOk result (self.new ≡ applied op.now lsn self.old) }
         ensures stays { OnErr result (self.new ≡ self.old) }
 
         ensures full { (result ≡ Err R.PageFull) ↔ LacksRoom self.old.slots op.now.slot op.now.capacity }
         ensures absent { (result ≡ Err R.NoRecord) ↔ LacksSlot self.old.slots op.now.slot }
         ensures long { (result ≡ Err R.TooLong)
-            ↔ IsTooLong self.old.slots op.now.slot op.now.capacity (size op.now.after) }
+            ↔ IsTooLong self.old.slots op.now.slot op.now.capacity (size (after_of op.now)) }
         ensures only { IfErr result (λ e. (e ≡ R.PageFull) ⊎ ((e ≡ R.NoRecord) ⊎ (e ≡ R.TooLong))) }
     {
-        let value = lent_value(&op.after);
-        self.accepts(op.slot, op.capacity, bytes_of(value).len())?;
-        self.set(op.slot, op.capacity, value);
+        self.accepts(op.slot, op.capacity, bytes_of(op.after).len())?;
+        self.set(op.slot, op.capacity, op.after);
         self.stamp(lsn);
         Ok(())
     }

@@ -4,7 +4,7 @@ ghost use Rattle.std.specs.Prelude.{◌≡◌, ◌≢◌, ◌<◌, ◌≤◌, �
 ghost use Rattle.std.specs.Int.{w64, from_be_bytes};
 ghost use Rattle.sd_page.specs.declared.op.Op.{Op};
 ghost use Rattle.sd_base.specs.Values.{size};
-ghost use Rattle.sd_page.specs.Page.{Slot, Page, PageFits, CanTake, applied, capacity_at, value_at, written};
+ghost use Rattle.sd_page.specs.Page.{Slot, Page, PageFits, CanTake, after_of, applied, capacity_at, value_at, written};
 ghost use Rattle.sd_page.specs.Spelling.{page_spelling};
 
 /// An image is determined by its LSN, its page number and its slots.
@@ -21,8 +21,8 @@ pub fn image_shape()
 /// What an operation that the page can take makes of it has an image too.
 pub fn change_fits()
     ensures { (op : Op) (lsn : ℕ) (page : Page) → PageFits page → lsn < 2 ^ 64
-        → IfSome op.after (All (λ b. b < 256))
-        → CanTake page.slots op.slot op.capacity (size op.after)
+        → IfSome (after_of op) (All (λ b. b < 256))
+        → CanTake page.slots op.slot op.capacity (size (after_of op))
         → PageFits (applied op lsn page) }
 {}
 

@@ -103,7 +103,8 @@ fn redo_all(logs: &Vec<Log>, p: PageNo, image: &mut Image) -> Result<(), Memory>
     laws::merging();
     spelled(logs);
     let chain = merge_page(*logs.allocator(), logs, p)?;
-    replay(image, &chain)
+    replay(image, &chain);
+    Ok(())
 }
 
 // The records of each log are of the grammar.

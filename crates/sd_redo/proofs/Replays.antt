@@ -7,7 +7,7 @@ use Rattle.sd_log.specs.declared.placed.Placed.{Placed}
 use Rattle.sd_log.specs.Logs.{flats, lsn_of}
 use Rattle.sd_chain.specs.Pages.{FitAll, FitsPage, redo, replay}
 use Rattle.sd_chain.proofs.Chains.{FitAll-append, FitAll-back, replay-append}
-use Rattle.sd_redo.specs.Replayed.{HasFront, IsStopped}
+use Rattle.sd_redo.specs.Replayed.{IsStopped}
 
 -- the page after so many records of a chain, all of which fit
 pub record Replayed (first now : Page) (chain : List Placed) (i : ℕ) : Type 0 where
@@ -15,18 +15,6 @@ pub record Replayed (first now : Page) (chain : List Placed) (i : ℕ) : Type 0 
   pub is : now ≡ replay first.lsn first (flats (take i chain))
 
 module _ (first now : Page) (chain : List Placed) (i : ℕ) (so_far : Replayed first now chain i) where
-  parts : flats chain ≡ flats (take i chain) ++ flats (drop i chain)
-  parts = ap flats (sym (take-append-drop i chain)) ∙ map-append (λ (p : Placed). flat p.rec) (take i chain) (drop i chain)
-
-  pub has_front : HasFront first now (flats chain)
-  has_front = record {
-    before = flats (take i chain);
-    behind = flats (drop i chain);
-    parts = parts;
-    fits = so_far.fits;
-    is = so_far.is;
-  }
-
   pub all_fit : length chain ≤ i → FitAll first.lsn first (flats chain)
   all_fit le = subst (λ (l : List Placed). FitAll first.lsn first (flats l)) (take_all i chain le) so_far.fits
 

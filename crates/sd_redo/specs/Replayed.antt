@@ -4,14 +4,6 @@ use Rattle.sd_logrec.specs.View.{Rec}
 use Rattle.sd_page.specs.Page.{Page}
 use Rattle.sd_chain.specs.Pages.{FitAll, FitsPage, replay}
 
--- The page has some of the front of the chain, which fits it.
-pub record HasFront (old new : Page) (chain : List Rec) : Type 0 where
-  pub before : List Rec
-  pub behind : List Rec
-  pub parts : chain ≡ before ++ behind
-  pub fits : FitAll old.lsn old before
-  pub is : new ≡ replay old.lsn old before
-
 -- The page has what stands in front of the first record that doesn't fit.
 pub record IsStopped (old new : Page) (chain : List Rec) : Type 0 where
   pub before : List Rec

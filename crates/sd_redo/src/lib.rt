@@ -4,9 +4,9 @@
 //! (`specs/Pages.antt` of sd_chain).
 //! Keeps: nothing.
 //! Promises: `fits` tells whether a page is as a record found it, `redo` does what the record says, `try_replay` redoes a
-//! chain of placed records as far as it fits (`fit`, `stopped`), and `replay` one that fits; want of memory leaves some of
-//! the front (`front`, `specs/Replayed.antt`).
-//! Refuses: nothing but for want of memory.
+//! chain of placed records as far as it fits (`fit`, `stopped`; `specs/Replayed.antt`), and `replay` one that fits. None of
+//! them takes memory.
+//! Refuses: nothing.
 //! Knows nothing of: where an image is kept, which records a page has, places of records.
 //! Stands on: sd_base, sd_page, sd_logrec, sd_log, sd_chain.
 //! Held by the caller: a record that is redone is of the page and fits it; the records of a chain change a page (`pages`),

@@ -1,6 +1,6 @@
 //! A log record redone on the image of its page (ARIES, section 5.2). It doesn't know where the image is kept.
 
-ghost use Rattle.std.specs.Prelude.{◌≡◌, ◌<◌, ◌≤◌, ◌↔◌, true, length, IsTrue, OnOk, OnErr};
+ghost use Rattle.std.specs.Prelude.{◌≡◌, ◌<◌, ◌≤◌, ◌↔◌, true, length, option_copied, IsTrue};
 ghost use Rattle.sd_logrec.specs.Spelling.{HasSpelling};
 ghost use Rattle.sd_logrec.specs.View.{flat};
 ghost use Rattle.sd_base.specs.Values.{size};
@@ -9,7 +9,7 @@ ghost use Rattle.sd_chain.specs.Records.{changes};
 ghost use Rattle.sd_chain.specs.Pages.{FitsKind, FitsPage, FitsUndo, FitsUpdate};
 ghost use Rattle.sd_chain.specs.Pages as pages;
 
-use sd_base::{Bytes, Lsn, Memory, copy_value, lent_value, same_value, value_len};
+use sd_base::{Bytes, Lsn, lent_value, same_value, value_len};
 use sd_logrec::Record;
 use sd_page::{Image, Op};
 
@@ -80,14 +80,12 @@ fn is_place(image: &Image, slot: u16, capacity: u16) -> bool
     }
 }
 
-/// Does to the image what the record says, whose change fits it, and takes the record's LSN. `Memory` leaves the image
-/// as it was.
-pub fn redo(image: &mut Image, change: &Record) -> Result<(), Memory>
+/// Does to the image what the record says, whose change fits it, and takes the record's LSN. It takes no memory.
+pub fn redo(image: &mut Image, change: &Record)
     requires spelled { HasSpelling change.now }
     requires page { changes (flat change.now).kind ≡ true }
     requires fits { FitsPage image.old (flat change.now) }
-    ensures redone { OnOk result (image.new ≡ pages.redo image.old (flat change.now)) }
-    ensures stays { OnErr result (image.new ≡ image.old) }
+    ensures { image.new ≡ pages.redo image.old (flat change.now) }
 {
     match change {
         Record::Update {
@@ -95,17 +93,17 @@ pub fn redo(image: &mut Image, change: &Record) -> Result<(), Memory>
             capacity,
             after,
             ..
-        } => set(image, *slot, *capacity, copy_value(after)?, change.lsn()),
-        Record::Clr { slot, after, .. } => set(image, *slot, 0, copy_value(after)?, change.lsn()),
+        } => set(image, *slot, *capacity, lent_value(after), change.lsn()),
+        Record::Clr { slot, after, .. } => set(image, *slot, 0, lent_value(after), change.lsn()),
         _ => {}
     }
-    Ok(())
 }
 
 // Sets the value of a slot, or makes the slot at the end, and sets the LSN.
-fn set(image: &mut Image, slot: u16, capacity: u16, after: Option<Bytes>, lsn: Lsn)
-    requires { CanTake image.old.slots slot capacity (size after) }
-    ensures { image.new ≡ record { lsn = lsn; number = image.old.number; slots = pages.write image.old.slots slot capacity after } }
+fn set(image: &mut Image, slot: u16, capacity: u16, after: Option<&[u8]>, lsn: Lsn)
+    requires { CanTake image.old.slots slot capacity (size (option_copied after)) }
+    ensures { let slots = pages.write image.old.slots slot capacity (option_copied after.entry) in
+        image.new ≡ record { lsn = lsn; number = image.old.number; slots = slots } }
 {
     let op = Op {
         slot,

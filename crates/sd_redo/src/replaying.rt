@@ -1,26 +1,24 @@
 //! A chain of placed records replayed on the image of their page.
 
-ghost use Rattle.std.specs.Prelude.{◌≡◌, ◌↔◌, false, true, All, IfOk, IsTrue, Ok, OnErr, OnOk};
+ghost use Rattle.std.specs.Prelude.{◌≡◌, ◌↔◌, false, true, All, IsTrue};
 ghost use Rattle.sd_log.specs.Logs.{AreSpelled, flats};
 ghost use Rattle.sd_chain.specs.Pages as pages;
 ghost use Rattle.sd_chain.specs.Pages.{FitAll};
 ghost use Rattle.sd_chain.specs.Records.{IsPageRecord};
-ghost use Rattle.sd_redo.specs.Replayed.{HasFront, IsStopped};
+ghost use Rattle.sd_redo.specs.Replayed.{IsStopped};
 
 use crate::redoing::{fits, redo};
-use sd_base::Memory;
 use sd_log::Placed;
 use sd_page::Image;
 
 /// Redoes those records of a chain that are above the image's LSN, one after another, while they fit. `true` where all of
-/// them fit; else the image has those in front of the first one that doesn't. `Memory` leaves it with some of the front.
-pub fn try_replay(image: &mut Image, chain: &[Placed]) -> Result<bool, Memory>
+/// them fit; else the image has those in front of the first one that doesn't. It takes no memory.
+pub fn try_replay(image: &mut Image, chain: &[Placed]) -> bool
     requires spelled { AreSpelled chain.now }
     requires pages { All (λ x. IsPageRecord x.rec) chain.now }
-    ensures fit { IfOk result (λ all. IsTrue all ↔ FitAll image.old.lsn image.old (flats chain.now)) }
-    ensures replayed { result ≡ Ok true → image.new ≡ pages.replay image.old.lsn image.old (flats chain.now) }
-    ensures stopped { result ≡ Ok false → IsStopped image.old image.new (flats chain.now) }
-    ensures front { OnErr result (HasFront image.old image.new (flats chain.now)) }
+    ensures fit { IsTrue result ↔ FitAll image.old.lsn image.old (flats chain.now) }
+    ensures replayed { result ≡ true → image.new ≡ pages.replay image.old.lsn image.old (flats chain.now) }
+    ensures stopped { result ≡ false → IsStopped image.old image.new (flats chain.now) }
 {
     let floor = image.lsn();
     for found in chain {
@@ -29,23 +27,20 @@ pub fn try_replay(image: &mut Image, chain: &[Placed]) -> Result<bool, Memory>
             continue;
         }
         if !fits(image, change) {
-            return Ok(false);
+            return false;
         }
-        redo(image, change)?;
+        redo(image, change);
     }
-    Ok(true)
+    true
 }
 
-/// Redoes those records of a chain that are above the image's LSN, which fit it one after another. `Memory` leaves the
-/// image with some of the front.
-pub fn replay(image: &mut Image, chain: &[Placed]) -> Result<(), Memory>
+/// Redoes those records of a chain that are above the image's LSN, which fit it one after another. It takes no memory.
+pub fn replay(image: &mut Image, chain: &[Placed])
     requires spelled { AreSpelled chain.now }
     requires pages { All (λ x. IsPageRecord x.rec) chain.now }
     requires joins { FitAll image.old.lsn image.old (flats chain.now) }
-    ensures replayed { OnOk result (image.new ≡ pages.replay image.old.lsn image.old (flats chain.now)) }
-    ensures front { OnErr result (HasFront image.old image.new (flats chain.now)) }
+    ensures { image.new ≡ pages.replay image.old.lsn image.old (flats chain.now) }
 {
-    let all = try_replay(image, chain)?;
+    let all = try_replay(image, chain);
     prove!(all);
-    Ok(())
 }

@@ -1,6 +1,6 @@
 //! An image by hand, byte for byte, and bytes from outside.
 
-use sd_base::{Bytes, PageNo};
+use sd_base::PageNo;
 use sd_page::{Image, Op};
 use std::test::Fail;
 
@@ -12,7 +12,7 @@ fn these_bytes_are_an_image_and_their_neighbours_are_not(rt: HostRuntime) -> Res
     let insert = Op {
         slot: 0,
         capacity: 4,
-        after: Some(Bytes::copy_of(alloc, b"red")?),
+        after: Some(b"red".as_slice()),
     };
     assert!(rt; image.apply(&insert, 2).is_ok());
     let front = [

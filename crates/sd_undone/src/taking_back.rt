@@ -1,6 +1,6 @@
 //! What losers have open, taken back in the pages, each stack from the top down.
 
-ghost use Rattle.std.specs.Prelude.{◌≡◌, ◌↔◌, ℕ, [], ◌∷◌, false, true, length, reverse, option_map, Err, IfOk, IsTrue, Ok, OnOk};
+ghost use Rattle.std.specs.Prelude.{◌≡◌, ◌↔◌, ℕ, [], ◌∷◌, false, true, length, reverse, option_map, Err, IfOk, IsTrue, OnOk};
 ghost use Rattle.sd_logrec.specs.View.{flat};
 ghost use Rattle.sd_base.specs.Values.{size};
 ghost use Rattle.sd_chain.specs.Pages.{write};
@@ -12,7 +12,7 @@ ghost use Rattle.sd_undone.specs.declared.undoing.UndoError.TheVariants as F;
 use crate::last_changes::LastChanges;
 use crate::undoing::UndoError;
 use sd_analysis::{Loser, Losers};
-use sd_base::{Bytes, Memory, Rid, copy_value, lent_value, same_value, value_len};
+use sd_base::{Bytes, Rid, lent_value, same_value, value_len};
 use sd_log::{Log, Placed};
 use sd_logrec::Record;
 use sd_page::{Image, Op};
@@ -52,7 +52,7 @@ fn take_back_log(
     ensures first { (inst place : ℕ) → result ≡ Err (F.Misfit inst place) → StopsIn pages.old (seen_in last.now) log.now losers.now inst place }
 {
     for loser in losers {
-        if !take_back_stack(pages, last, log, loser.open.items())? {
+        if !take_back_stack(pages, last, log, loser.open.items()) {
             return Err(misfit(log, loser));
         }
     }
@@ -72,50 +72,40 @@ fn misfit(log: &[Placed], loser: &Loser) -> UndoError
 }
 
 // Takes back the records of a stack; `false` where one of them may not be.
-fn take_back_stack(
-    pages: &mut [Image],
-    last: &LastChanges,
-    log: &[Placed],
-    stack: &[usize],
-) -> Result<bool, Memory>
+fn take_back_stack(pages: &mut [Image], last: &LastChanges, log: &[Placed], stack: &[usize]) -> bool
     requires { length pages.old ≡ 1024 }
-    ensures fits { result ≡ Ok true → MayTake pages.old (seen_in last.now) (picked log.now (reverse stack.now)) }
-    ensures taken { result ≡ Ok true → Taken pages.old pages.new (picked log.now (reverse stack.now)) }
-    ensures misfit { result ≡ Ok false → MayTake pages.old (seen_in last.now) (picked log.now (reverse stack.now)) → ⊥ }
+    ensures fits { result ≡ true → MayTake pages.old (seen_in last.now) (picked log.now (reverse stack.now)) }
+    ensures taken { result ≡ true → Taken pages.old pages.new (picked log.now (reverse stack.now)) }
+    ensures misfit { result ≡ false → MayTake pages.old (seen_in last.now) (picked log.now (reverse stack.now)) → ⊥ }
 {
     for k in 0..stack.len() {
         let at = stack[stack.len() - 1 - k];
-        if !take_back_at(pages, last, log, at)? {
-            return Ok(false);
+        if !take_back_at(pages, last, log, at) {
+            return false;
         }
     }
-    Ok(true)
+    true
 }
 
 // Takes back the record of this index, if there is one; `false` where it may not be.
-fn take_back_at(
-    pages: &mut [Image],
-    last: &LastChanges,
-    log: &[Placed],
-    at: usize,
-) -> Result<bool, Memory>
+fn take_back_at(pages: &mut [Image], last: &LastChanges, log: &[Placed], at: usize) -> bool
     requires { length pages.old ≡ 1024 }
-    ensures fits { result ≡ Ok true → MayTake pages.old (seen_in last.now) (picked log.now (at ∷ [])) }
-    ensures taken { result ≡ Ok true → Taken pages.old pages.new (picked log.now (at ∷ [])) }
-    ensures misfit { result ≡ Ok false → MayTake pages.old (seen_in last.now) (picked log.now (at ∷ [])) → ⊥ }
+    ensures fits { result ≡ true → MayTake pages.old (seen_in last.now) (picked log.now (at ∷ [])) }
+    ensures taken { result ≡ true → Taken pages.old pages.new (picked log.now (at ∷ [])) }
+    ensures misfit { result ≡ false → MayTake pages.old (seen_in last.now) (picked log.now (at ∷ [])) → ⊥ }
 {
     match log.get(at) {
         Some(placed) => take_back(pages, last, &placed.rec),
-        None => Ok(true),
+        None => true,
     }
 }
 
 // Takes back a record; `false` where it may not be.
-fn take_back(pages: &mut [Image], last: &LastChanges, change: &Record) -> Result<bool, Memory>
+fn take_back(pages: &mut [Image], last: &LastChanges, change: &Record) -> bool
     requires { length pages.old ≡ 1024 }
-    ensures fits { result ≡ Ok true → MayTake pages.old (seen_in last.now) (flat change.now ∷ []) }
-    ensures taken { result ≡ Ok true → Taken pages.old pages.new (flat change.now ∷ []) }
-    ensures misfit { result ≡ Ok false → MayTake pages.old (seen_in last.now) (flat change.now ∷ []) → ⊥ }
+    ensures fits { result ≡ true → MayTake pages.old (seen_in last.now) (flat change.now ∷ []) }
+    ensures taken { result ≡ true → Taken pages.old pages.new (flat change.now ∷ []) }
+    ensures misfit { result ≡ false → MayTake pages.old (seen_in last.now) (flat change.now ∷ []) → ⊥ }
 {
     match change {
         Record::Update {
@@ -129,40 +119,35 @@ fn take_back(pages: &mut [Image], last: &LastChanges, change: &Record) -> Result
         } => {
             let (page, slot) = (*page, *slot);
             if last.by_others(Rid { page, slot }, *txn) >= *lsn {
-                return Ok(false);
+                return false;
             }
             put_back(&mut pages[page.get() as usize], slot, before, after)
         }
-        _ => Ok(false),
+        _ => false,
     }
 }
 
 // Puts back the value before a change; `false` where the slot doesn't have the value after it, or no place.
-fn put_back(
-    image: &mut Image,
-    slot: u16,
-    before: &Option<Bytes>,
-    after: &Option<Bytes>,
-) -> Result<bool, Memory>
-    ensures fits { result ≡ Ok true → Holds image.old.slots slot before.now after.now }
-    ensures put { result ≡ Ok true → image.new.slots ≡ write image.old.slots slot 0 before.now }
-    ensures misfit { result ≡ Ok false → Holds image.old.slots slot before.now after.now → ⊥ }
+fn put_back(image: &mut Image, slot: u16, before: &Option<Bytes>, after: &Option<Bytes>) -> bool
+    ensures fits { result ≡ true → Holds image.old.slots slot before.now after.now }
+    ensures put { result ≡ true → image.new.slots ≡ write image.old.slots slot 0 before.now }
+    ensures misfit { result ≡ false → Holds image.old.slots slot before.now after.now → ⊥ }
 {
     let Some(capacity) = image.capacity(slot) else {
-        return Ok(false);
+        return false;
     };
     if value_len(before) > capacity as usize {
-        return Ok(false);
+        return false;
     }
     if !same_value(image.value(slot), lent_value(after)) {
-        return Ok(false);
+        return false;
     }
     let op = Op {
         slot,
         capacity,
-        after: copy_value(before)?,
+        after: lent_value(before),
     };
     let lsn = image.lsn();
     image.apply(&op, lsn).unwrap();
-    Ok(true)
+    true
 }

@@ -10,7 +10,7 @@ ghost use Rattle.sd_logrec.specs.declared.record.Record.TheVariants as records;
 ghost use Rattle.sd_log.specs.Logs.{is_reserved, needed, with_record};
 ghost use Rattle.sd_model.specs.Changes.{undid};
 ghost use Rattle.sd_model.specs.State.{State};
-ghost use Rattle.sd_page.specs.Page.{CanTake, Page, applied};
+ghost use Rattle.sd_page.specs.Page.{CanTake, Page, after_of, applied};
 ghost use Rattle.sd_pagelock.specs.Directory.{entry_at};
 ghost use Rattle.sd_places.specs.Places.{owns};
 ghost use Rattle.sd_pool.specs.Buffers.{image_at};
@@ -23,7 +23,7 @@ ghost use Rattle.sd_state.specs.Parts.{log_at, status_at, txns_at};
 ghost use Rattle.sd_undos.specs.Undoing.{CanUndo, HasUndone, RollsTo, clr_at, lsn_for};
 ghost use Rattle.sd_state.specs.Values.{Pending};
 
-use sd_base::{InstNo, Lsn, PageNo, Place, TxnId};
+use sd_base::{InstNo, Lsn, PageNo, Place, TxnId, lent_value};
 use sd_log::Log;
 use sd_logrec::Record;
 use sd_page::Op;
@@ -143,7 +143,7 @@ fn put_before(last: OpenRec, prev: Lsn, t: &TxnId, lsn: Lsn, pool: &mut Pool) ->
     let op = Op {
         slot: rid.slot,
         capacity: 0,
-        after: last.before,
+        after: lent_value(&last.before),
     };
     rewrite(pool, rid.page, &op, lsn);
     Record::Clr {
@@ -153,14 +153,14 @@ fn put_before(last: OpenRec, prev: Lsn, t: &TxnId, lsn: Lsn, pool: &mut Pool) ->
         undo_next,
         page: rid.page,
         slot: rid.slot,
-        after: op.after,
+        after: last.before,
     }
 }
 
 // Sets the value of a slot in the page that the pool has.
 fn rewrite(pool: &mut Pool, page: PageNo, op: &Op, lsn: Lsn)
     requires takes { (image : Page) × ((image_at pool.old page ≡ Some image)
-        × CanTake image.slots op.now.slot op.now.capacity (size op.now.after)) }
+        × CanTake image.slots op.now.slot op.now.capacity (size (after_of op.now))) }
     ensures page { (image : Page) → image_at pool.old page ≡ Some image → image_at pool.new page ≡ Some (applied op.now lsn image) }
     ensures others { (q : ℕ) → q ≢ page → image_at pool.new q ≡ image_at pool.old q }
     ensures frames { pool.new.frames ≡ pool.old.frames }

@@ -89,8 +89,8 @@ put_change-requires-clause-room g c =
     let k : Change = change_of c.args.t.now c.args.r c.args.capacity c.args.after p in
     let room : LacksRoom k p → ⊥ = λ over. not-ok _ _ (sym (c.reserved_for.ensures.full.1 over) ∙ c.in_ok-reserve.was) in
     let left : LacksLsns c.args.t.now p → ⊥ = λ over. not-ok _ _ (sym (c.reserved_for.ensures.lsns.1 (room, over)) ∙ c.in_ok-reserve.was) in
-    room-there k p (update (change_in c.args.t.now c.in_ok-top.field-0.top c.in_ok-top.field-0.op)) c.in_ok-reserve.reserve
-    (ap update c.in_ok-top.ensures.change) c.in_ok-reserve.ensures.ok room
+    room-there k p (update (change_in c.args.t.now c.in_ok-ready.ready.top c.in_ok-ready.ready.capacity c.in_ok-ready.ready.after)) c.in_ok-reserve.reserve
+    (ap update c.in_ok-ready.ensures.change) c.in_ok-reserve.ensures.ok room
 
 pub put_change-requires-clause-held : goal.put_change-requires-clause-held
 put_change-requires-clause-held g c =
@@ -109,20 +109,20 @@ put_change-requires-clause-held g c =
     let seen = g.G.Rig.seen c.args.c.now.rig in
     let leaves = g.G.Rig.leaves c.args.c.now.rig in
     let there = copy c.args.t.now c.args.r c.args.capacity c.args.after seen leaves p c.requires.good.0 c.requires.good.1 asks in
-    subst (λ (z : Change). IsSome (image_at (pool_at p c.args.t.now.inst) z.rid.page)) (sym c.in_ok-top.ensures.change) (ap is_some there)
+    subst (λ (z : Change). IsSome (image_at (pool_at p c.args.t.now.inst) z.rid.page)) (sym c.in_ok-ready.ensures.change) (ap is_some there)
 
 pub put_change-requires-clause-open : goal.put_change-requires-clause-open
 put_change-requires-clause-open g c =
     let p : Parts = parts c.args.c.now in
     subst (λ (z : Change). open_asks (entry_at p.directory z.rid.page) (asks_at p.directory z.rid.page) ≡ asks_at p.directory z.rid.page)
-    (sym c.in_ok-top.ensures.change)
+    (sym c.in_ok-ready.ensures.change)
     (all-open (entry_at p.directory c.args.r.page) (λ ask. is_active p ask.by ≡ true) (asks_at p.directory c.args.r.page)
     (c.requires.good.1.asks c.args.r.page))
 
 pub put_change-requires-clause-takes : goal.put_change-requires-clause-takes
 put_change-requires-clause-takes g c =
-    takes-there c.args.t.now c.args.r c.args.capacity c.args.after (parts c.args.c.now) c.in_ok-top.field-0.top c.in_ok-top.field-0.op
-    c.in_ok-top.ensures.change c.in_ok-top.ensures.slot c.requires.small c.requires.fits
+    takes-there c.args.t.now c.args.r c.args.capacity c.args.after (parts c.args.c.now) c.in_ok-ready.ready.top
+    c.in_ok-ready.ready.capacity c.in_ok-ready.ready.after c.in_ok-ready.ensures.change c.requires.small c.requires.fits
 
 pub returns-clause-good : goal.returns-clause-good
 returns-clause-good g c m good =
@@ -143,9 +143,10 @@ returns-clause-good g c m good =
     let k : Change = change_of c.args.t.now c.args.r c.args.capacity c.args.after p in
     let room : LacksRoom k p → ⊥ = λ over. not-ok _ _ (sym (c.reserved_for.ensures.full.1 over) ∙ c.in_ok-reserve.was) in
     let left : LacksLsns c.args.t.now p → ⊥ = λ over. not-ok _ _ (sym (c.reserved_for.ensures.lsns.1 (room, over)) ∙ c.in_ok-reserve.was) in
-    let put = λ (q : IsPut (change_in c.args.t.now c.in_ok-top.field-0.top c.in_ok-top.field-0.op) c.in_ok-reserve.reserve p (parts c.put_change.new.c)).
+    let put = λ (q : IsPut (change_in c.args.t.now c.in_ok-ready.ready.top c.in_ok-ready.ready.capacity c.in_ok-ready.ready.after)
+    c.in_ok-reserve.reserve p (parts c.put_change.new.c)).
     subst (λ (n : ℕ). IsPut k n p (parts c.put_change.new.c)) c.in_ok-reserve.ensures.ok
-    (subst (λ (z : Change). IsPut z c.in_ok-reserve.reserve p (parts c.put_change.new.c)) c.in_ok-top.ensures.change q) in
+    (subst (λ (z : Change). IsPut z c.in_ok-reserve.reserve p (parts c.put_change.new.c)) c.in_ok-ready.ensures.change q) in
     on_ok c.put_change.result _ _ (λ q. subst (λ x. Good (g.G.Rig.seen x) (g.G.Rig.leaves x) Pending.Idle (parts c.put_change.new.c)
     (putting c.args.t.now c.args.r c.args.after m)) (sym c.put_change.ensures.rig)
     (made-good c.args.t.now c.args.r c.args.capacity c.args.after seen leaves p m good asks (parts c.put_change.new.c) (put q) room left))
@@ -170,9 +171,10 @@ returns-clause-made g c =
     let k : Change = change_of c.args.t.now c.args.r c.args.capacity c.args.after p in
     let room : LacksRoom k p → ⊥ = λ over. not-ok _ _ (sym (c.reserved_for.ensures.full.1 over) ∙ c.in_ok-reserve.was) in
     let left : LacksLsns c.args.t.now p → ⊥ = λ over. not-ok _ _ (sym (c.reserved_for.ensures.lsns.1 (room, over)) ∙ c.in_ok-reserve.was) in
-    let put = λ (q : IsPut (change_in c.args.t.now c.in_ok-top.field-0.top c.in_ok-top.field-0.op) c.in_ok-reserve.reserve p (parts c.put_change.new.c)).
+    let put = λ (q : IsPut (change_in c.args.t.now c.in_ok-ready.ready.top c.in_ok-ready.ready.capacity c.in_ok-ready.ready.after)
+    c.in_ok-reserve.reserve p (parts c.put_change.new.c)).
     subst (λ (n : ℕ). IsPut k n p (parts c.put_change.new.c)) c.in_ok-reserve.ensures.ok
-    (subst (λ (z : Change). IsPut z c.in_ok-reserve.reserve p (parts c.put_change.new.c)) c.in_ok-top.ensures.change q) in
+    (subst (λ (z : Change). IsPut z c.in_ok-reserve.reserve p (parts c.put_change.new.c)) c.in_ok-ready.ensures.change q) in
     on_ok c.put_change.result _ _ (λ q. made c.args.t.now c.args.r c.args.capacity c.args.after seen leaves p c.requires.good.0
     c.requires.good.1 asks (parts c.put_change.new.c) (put q) room left)
     c.put_change.ensures.put

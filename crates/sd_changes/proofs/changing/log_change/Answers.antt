@@ -7,7 +7,7 @@ use Rattle.sd_state.proofs.SameTables.{table-same}
 use Rattle.sd_changes.proofs.changing.log_change.Goals as goal
 
 pub returns-in_err-push-clause-table_stays : goal.returns-in_err-push-clause-table_stays
-returns-in_err-push-clause-table_stays c = on-err c.from_residual-in_err-push.result _
+returns-in_err-push-clause-table_stays c = on-err c.from_residual.result _
     (table-same c.args.table.now c.push.new.self c.args.t.now c.keeps.ensures.once c.in_err-push.ensures.err c.push.ensures.others c.push.ensures.order)
 
 pub returns-in-Err-clause-table_stays : goal.returns-in-Err-clause-table_stays

@@ -1,6 +1,8 @@
-use Rattle.std.proofs.Common.{◌≡◌, ℕ, ◌-◌, ◌≤◌, Some, get_or, length, slice_set, true, refl, sym, ap, ◌∙◌, subst, arith}
+use Rattle.std.proofs.Common.{◌≡◌, ℕ, ◌-◌, ◌≤◌, Some, get_or, slice_set, true, refl, sym, ap, ◌∙◌, subst, arith}
 use Rattle.std.specs.Prelude.{option_map}
-use Rattle.sd_log.specs.Logs.{LogState, with_record}
+use Rattle.sd_log.specs.Logs.{LogState, is_reserved, with_record}
+use Rattle.sd_logrec.specs.declared.record.Record.{Record}
+use Rattle.sd_page.specs.declared.op.Op.{Op}
 use Rattle.sd_page.specs.Page.{Page, applied, empty_page}
 use Rattle.sd_asks.specs.Asks.{open_asks}
 use Rattle.sd_pagelock.specs.Directory.{asks_at, entry_at, kept_rec, rec_lsn_at}
@@ -33,7 +35,7 @@ pub returns-clause-put : goal.returns-clause-put
 returns-clause-put g c =
     let p : Parts = parts c.args.c.now in
     let i : ℕ = c.args.t.now.inst in
-    let k : Change = change_in c.args.t.now c.args.top c.args.op in
+    let k : Change = change_in c.args.t.now c.args.ready.top c.args.ready.capacity c.args.ready.after in
     let low : 1 ≤ i = omega (arith, c.get.ensures.value, c.get.ensures.low) in
     let high : i ≤ 8 = omega (arith, c.get.ensures.value, c.get.ensures.high) in
     let at : ℕ = c.get.result - 1 in
@@ -43,18 +45,19 @@ returns-clause-put g c =
     let log : LogState = c.log_within.new.log in
     let log_is : log_at p i ≡ old_log = log-lent p i at old_log low high c.requires.shape.logs place c.index_mut.ensures.value in
     let grown : log ≡ with_record (update k) log.spare (log_at p i) =
-    c.in_ok-log_within.ensures.log ∙ ap (with_record (update k) log.spare) (sym log_is) in
+    c.in_ok-log_within.ensures.log ∙ ap (λ (r : Record). with_record r log.spare old_log) c.in_ok-rec.ensures
+    ∙ ap (with_record (update k) log.spare) (sym log_is) in
     let table : Transactions = get_or c.log_within.new.txns.items at no_txns in
     let tables : c.log_within.new.txns.items ≡ slice_set p.txns at table = c.in_ok-log_within.ensures.table in
     let old_table : get_or p.txns at no_txns ≡ txns_at p i =
     ap (λ (n : ℕ). get_or p.txns n no_txns) place ∙ sym (among-at no_txns p.txns i low) in
-    let put : IsRowPut c.args.t.now c.args.top (txns_at p i) table =
-    subst (λ (z : Transactions). IsRowPut c.args.t.now c.args.top z table) old_table c.in_ok-log_within.ensures.row in
+    let put : IsRowPut c.args.t.now c.args.ready.top (txns_at p i) table =
+    subst (λ (z : Transactions). IsRowPut c.args.t.now c.args.ready.top z table) old_table c.in_ok-log_within.ensures.row in
     let x : Transaction = row_for c.args.t.now p in
     let was : txn_at (txns_at p i) c.args.t.now ≡ Some x = some-as (txn_at (txns_at p i) c.args.t.now) (started TxnState.Running) c.requires.known in
     let row : Replaces (txns_at p i) table c.args.t.now x (changed_row k x) = record {
       was = was;
-      now = put.row ∙ ap (option_map (λ (z : Transaction). noted k.lsn (pushed c.args.top z))) was;
+      now = put.row ∙ ap (option_map (λ (z : Transaction). noted k.lsn (pushed c.args.ready.top z))) was;
       others = put.others;
       order = put.order;
     } in
@@ -67,20 +70,20 @@ returns-clause-put g c =
     some-as (buffers.image_at (pool_at p i) k.rid.page) (empty_page k.rid.page) c.requires.held in
     let lent : buffers.image_at old_pool c.page_of-page.result ≡ Some image =
     ap (buffers.image_at old_pool) page ∙ ap (λ (b : Buffers). buffers.image_at b k.rid.page) (sym pool_is) ∙ copy in
-    let redone : applied c.args.op k.lsn image ≡ redo image (flat_of k) =
-    applied-redone k c.args.op image c.requires.slot refl refl
-    (subst (λ (n : ℕ). n ≤ length image.slots) c.requires.slot c.requires.takes.place) in
+    let op : Op = record { slot = k.rid.slot; capacity = k.capacity; after = c.lent_value.result } in
+    let redone : applied op k.lsn image ≡ redo image (flat_of k) =
+    applied-redone k op image refl refl c.lent_value.ensures c.requires.takes.place in
     record {
       spare = log.spare;
       table = table;
       pool = pool;
       places = unboxed c.mark.new.directory;
-      memory = c.in_ok-log_within.ensures.memory;
+      memory = c.in_ok-log_within.ensures.memory (ap is_reserved c.in_ok-rec.ensures);
       changed = record {
         row = row;
         bytes = c.owed_by_change.ensures.reserve (txns_at p i) table c.args.t.now x (changed_row k x) put.once row;
         records = c.owed_by_change.ensures.owed (txns_at p i) table c.args.t.now x (changed_row k x) put.once row;
-        page = ap (buffers.image_at pool) (sym page) ∙ c.rewrite.ensures.here ∙ ap (option_map (applied c.args.op k.lsn)) lent
+        page = ap (buffers.image_at pool) (sym page) ∙ c.rewrite.ensures.here ∙ ap (option_map (applied op k.lsn)) lent
             ∙ ap (λ (z : Page). Some z) redone;
         other_pages = λ q ne. c.rewrite.ensures.others q (λ e. ne (e ∙ page)) ∙ ap (λ (b : Buffers). buffers.image_at b q) (sym pool_is);
         frames = c.rewrite.ensures.frames ∙ ap (λ (b : Buffers). b.frames) (sym pool_is);

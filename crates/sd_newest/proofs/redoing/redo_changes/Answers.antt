@@ -1,4 +1,4 @@
-use Rattle.std.proofs.Common.{◌∙◌, ◌+◌, ◌<◌, ap, get_or, inl, inr, length, sym, subst, arith}
+use Rattle.std.proofs.Common.{◌∙◌, ◌+◌, ◌<◌, ap, get_or, inr, length, sym, subst, arith}
 use Rattle.std.specs.Prelude.{slice_get}
 use Rattle.std.proofs.lemmas.List.{length-map, length-set, take_all}
 use Rattle.std.proofs.lemmas.List.Elements.{All-get_or}
@@ -62,17 +62,15 @@ returns-in_err-redo_change-clause-refusals c =
       lsns_are = c.requires.lsns;
       image_is = ap (get_or c.loop-change.pages c.change-item.result.page) c.index-pages-place.is;
     } in
-    rw (p.1, p.2) (elim c.in_err-redo_change.ensures.refusals [
-      | inl memory ↦ inl memory
-      | inr bad ↦ inr (
-        c.change-item.result.dev,
-        130 + c.change-item.result.found.now.place,
-        bad.0,
-        misfits c.args.changes.now c.loop-change.change-index
-            c.change-item.result c.args.pages.now c.loop-change.pages c.args.disk_lsns.now image
-            (omega arith) c.change-item.is small finds bad.1 c.loop-change.invariant.redone,
-      )
-    ])
+    let bad = c.in_err-redo_change.ensures.refusals in
+    rw (p.1, p.2) (inr (
+      c.change-item.result.dev,
+      130 + c.change-item.result.found.now.place,
+      bad.0,
+      misfits c.args.changes.now c.loop-change.change-index
+          c.change-item.result c.args.pages.now c.loop-change.pages c.args.disk_lsns.now image
+          (omega arith) c.change-item.is small finds bad.1 c.loop-change.invariant.redone,
+    ))
 
 pub returns-clause-redone : goal.returns-clause-redone
 returns-clause-redone c p lt = subst (λ l. IsRedone p l c.args.pages.now c.loop-change.pages)

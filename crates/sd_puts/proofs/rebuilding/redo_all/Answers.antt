@@ -1,6 +1,5 @@
 use Rattle.std.proofs.Common.{ℕ, ◌+◌, List, length, sym, ap, ◌∙◌, subst}
 use Rattle.std.specs.Prelude.{filter}
-use Rattle.sd_base.proofs.Results.{on_ok}
 use Rattle.sd_logrec.specs.View.{Rec}
 use Rattle.sd_log.specs.declared.placed.Placed.{Placed}
 use Rattle.sd_log.specs.Logs.{LogState, flats, forced_in}
@@ -36,5 +35,5 @@ returns c =
     let recs : List Rec = filter (of_page c.args.p) (all_of (forced_in logs) 9) in
     let fit : FitAll im.lsn im found =
     (c.merging.ensures.fit im.lsn im recs found merged.same merged.rises).1 c.requires.joins in
-    on_ok c.replay.result _ _ (λ is. is ∙ ap (λ (ps : List Placed). replay im.lsn im (flats ps)) c.deref-3.ensures.value
-    ∙ c.merging.ensures.replay im.lsn im recs found merged.same merged.rises fit) c.replay.ensures.replayed
+    c.replay.ensures ∙ ap (λ (ps : List Placed). replay im.lsn im (flats ps)) c.deref-3.ensures.value
+    ∙ c.merging.ensures.replay im.lsn im recs found merged.same merged.rises fit

@@ -1,9 +1,7 @@
-use Rattle.std.proofs.Common.{arith, subst, sym, ◌<◌}
-use Rattle.std.specs.Prelude.{Err, Ok, OnErr, Result}
-use Rattle.sd_page.specs.Page.{Page}
+use Rattle.std.proofs.Common.{arith, ◌<◌}
 use Rattle.sd_log.specs.Logs.{flats, lsn_of}
-use Rattle.sd_redo.specs.Replayed.{HasFront, IsStopped}
-use Rattle.sd_redo.proofs.Replays.{has_front, passed_over, redone, stopped_misfit, stops}
+use Rattle.sd_redo.specs.Replayed.{IsStopped}
+use Rattle.sd_redo.proofs.Replays.{passed_over, redone, stopped_misfit, stops}
 use Rattle.sd_redo.proofs.replaying.try_replay.Goals as goal
 
 pub loop-found-preserved-then-lsn-floor : goal.loop-found-preserved-then-lsn-floor
@@ -31,22 +29,11 @@ returns-then-not-fits-clause-fit c = (
 pub returns-then-not-fits-clause-stopped : goal.returns-then-not-fits-clause-stopped
 returns-then-not-fits-clause-stopped c is = stopped c
 
--- what holds whatever comes
-on_any_err : {T E : Type 0} (r : Result T E) (P : Type 0) → P → OnErr r P
-on_any_err (Ok x) P holds = tt
-on_any_err (Err e) P holds = holds
-
-pub returns-in_err-redo-clause-front : goal.returns-in_err-redo-clause-front
-returns-in_err-redo-clause-front c =
-    on_any_err c.from_residual.result (HasFront c.args.image.now c.redo.new.image (flats c.args.chain.now))
-    (subst (λ (q : Page). HasFront c.args.image.now q (flats c.args.chain.now)) (sym c.in_err-redo.ensures.stays)
-    (has_front c.args.image.now c.loop-found.image c.args.chain.now c.loop-found.found-index c.loop-found.invariant.1))
-
 pub loop-found-preserved : goal.loop-found-preserved
 loop-found-preserved c = (
   c.loop-found.invariant.0,
   redone c.args.image.now c.loop-found.image c.args.chain.now c.loop-found.found-index c.loop-found.invariant.1
       c.found-item.result c.loop-found-test.true c.found-item.is c.redo.new.image
       (omega (arith, c.lsn.ensures, c.loop-found.invariant.0, c.if-lsn-floor.false))
-      (c.fits.ensures.0 c.if-not-fits.false) c.in_ok-redo.ensures.redone,
+      (c.fits.ensures.0 c.if-not-fits.false) c.redo.ensures,
 )

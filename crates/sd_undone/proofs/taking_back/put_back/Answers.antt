@@ -25,7 +25,7 @@ unwrap-requires c =
     let here = has-slot slots c.args.slot c.in-Some.capacity (sym c.capacity.ensures.value ∙ c.in-Some.is) in
     let own = here.1 in let size_is = c.value_len.ensures.value in let below = c.if-value_len-capacity.false in
     c.apply.ensures.ok.1
-    (subst (λ (v : Val). CanTake slots c.args.slot c.in-Some.capacity (size v)) (sym c.in_ok-copy_value.ensures)
+    (subst (λ (v : Val). CanTake slots c.args.slot c.in-Some.capacity (size v)) (sym c.lent_value-2.ensures)
     (takes slots c.args.slot c.in-Some.capacity c.args.before.now here.0 (omega (arith, own, size_is, below))))
 
 pub returns-clause-fits : goal.returns-clause-fits
@@ -44,4 +44,4 @@ returns-clause-put c = λ _.
     let here = has-slot slots c.args.slot c.in-Some.capacity (sym c.capacity.ensures.value ∙ c.in-Some.is) in
     ap (λ (page : Page). page.slots) (when_ok _ _ _ c.unwrap.ensures c.apply.ensures.applied)
     ∙ write-written slots c.args.slot c.in-Some.capacity _ here.0
-    ∙ ap (λ (v : Val). write slots c.args.slot 0 v) c.in_ok-copy_value.ensures
+    ∙ ap (λ (v : Val). write slots c.args.slot 0 v) c.lent_value-2.ensures

@@ -1,4 +1,4 @@
-use Rattle.std.proofs.Common.{◌≡◌, ◌<◌, ◌+◌, ℕ, List, ◌++◌, Ok, Err, Result, length, reverse, take, drop, subst, ap, ◌∙◌, arith}
+use Rattle.std.proofs.Common.{◌≡◌, ◌<◌, ◌+◌, ℕ, List, ◌++◌, Err, Result, length, reverse, take, drop, subst, ap, ◌∙◌, arith}
 use Rattle.sd_logrec.specs.View.{Rec}
 use Rattle.sd_undone.specs.Others.{seen_in}
 use Rattle.sd_undone.specs.Taking.{MayTake, Taken, lowest_place, picked, stacks_in}
@@ -12,21 +12,21 @@ pub loop-loser-preserved : goal.loop-loser-preserved
 loop-loser-preserved c =
     let log = c.args.log.now in let losers = c.args.losers.now in let i = c.loop-loser.loser-index in
     let x = c.loser-item.result in let lt : i < length losers = omega arith in
-    let done = ap Ok c.if-not-branch.false in let top = seen_in c.args.last.now in
+    let done = c.if-not-take_back_stack.false in let top = seen_in c.args.last.now in
     let b = c.loop-loser.pages in let n = c.take_back_stack.new.pages in
     walk-more top c.args.pages.now b n (stacks_in log (take i losers)) (picked log (reverse x.open)) _ c.loop-loser.invariant
-    (subst (λ (o : List ℕ). MayTake b top (picked log (reverse o))) c.items.ensures (c.in_ok-take_back_stack.ensures.fits done))
-    (subst (λ (o : List ℕ). Taken b n (picked log (reverse o))) c.items.ensures (c.in_ok-take_back_stack.ensures.taken done))
+    (subst (λ (o : List ℕ). MayTake b top (picked log (reverse o))) c.items.ensures (c.take_back_stack.ensures.fits done))
+    (subst (λ (o : List ℕ). Taken b n (picked log (reverse o))) c.items.ensures (c.take_back_stack.ensures.taken done))
     (stacks-more log losers i x lt c.loser-item.is)
 
-pub returns-then-not-branch-clause-misfit : goal.returns-then-not-branch-clause-misfit
-returns-then-not-branch-clause-misfit c = λ inst place _ may.
+pub returns-then-not-take_back_stack-clause-misfit : goal.returns-then-not-take_back_stack-clause-misfit
+returns-then-not-take_back_stack-clause-misfit c = λ inst place _ may.
     let log = c.args.log.now in let losers = c.args.losers.now in let i = c.loop-loser.loser-index in
     let x = c.loser-item.result in let lt : i < length losers = omega arith in let top = seen_in c.args.last.now in
     walk-stops top c.args.pages.now c.loop-loser.pages (stacks_in log (take i losers)) (picked log (reverse x.open))
     (stacks_in log (drop (i + 1) losers)) _ c.loop-loser.invariant.1
     (subst (λ (o : List ℕ). MayTake c.loop-loser.pages top (picked log (reverse o)) → ⊥) c.items.ensures
-    (c.in_ok-take_back_stack.ensures.misfit (ap Ok c.if-not-branch.true)))
+    (c.take_back_stack.ensures.misfit c.if-not-take_back_stack.true))
     (stacks-parts log losers (i + 1)
     ∙ ap (λ (l : List Rec). l ++ stacks_in log (drop (i + 1) losers)) (stacks-more log losers i x lt c.loser-item.is)) may
 
@@ -35,12 +35,12 @@ named : {T : Type 0} (e : UndoError) (inst place inst' place' : ℕ) → e ≡ F
     → (inst ≡ inst') × (place ≡ place')
 named e inst place inst' place' f is = (cc, cc)
 
-pub returns-then-not-branch-clause-first : goal.returns-then-not-branch-clause-first
-returns-then-not-branch-clause-first c = λ inst place is.
+pub returns-then-not-take_back_stack-clause-first : goal.returns-then-not-take_back_stack-clause-first
+returns-then-not-take_back_stack-clause-first c = λ inst place is.
     let log = c.args.log.now in let losers = c.args.losers.now in let i = c.loop-loser.loser-index in
     let x = c.loser-item.result in let lt : i < length losers = omega arith in let top = seen_in c.args.last.now in
     let names = named {T = Unit {0}} c.misfit.result inst place x.txn.inst (lowest_place log x.open) c.misfit.ensures is in
     stops_in top c.args.pages.now c.loop-loser.pages log losers i x inst place (listed losers i x lt c.loser-item.is) names.0 names.1
     c.loop-loser.invariant
     (subst (λ (o : List ℕ). MayTake c.loop-loser.pages top (picked log (reverse o)) → ⊥) c.items.ensures
-    (c.in_ok-take_back_stack.ensures.misfit (ap Ok c.if-not-branch.true)))
+    (c.take_back_stack.ensures.misfit c.if-not-take_back_stack.true))

@@ -1,4 +1,4 @@
-use Rattle.std.proofs.Common.{◌<◌, ◌+◌, List, ◌++◌, Ok, length, reverse, take, drop, ap, ◌∙◌, arith}
+use Rattle.std.proofs.Common.{◌<◌, ◌+◌, List, ◌++◌, length, reverse, take, drop, ap, ◌∙◌, arith}
 use Rattle.sd_logrec.specs.View.{Rec}
 use Rattle.sd_undone.specs.Others.{seen_in}
 use Rattle.sd_undone.specs.Taking.{picked}
@@ -9,17 +9,17 @@ pub loop-k-preserved : goal.loop-k-preserved
 loop-k-preserved c =
     let log = c.args.log.now in let open_ones = c.args.stack.now in let k = c.loop-k.k in
     let lt : k < length open_ones = omega arith in
-    let done = ap Ok c.if-not-branch.false in
+    let done = c.if-not-take_back_at.false in
     walk-more (seen_in c.args.last.now) c.args.pages.now c.loop-k.pages c.take_back_at.new.pages
     (picked log (take k (reverse open_ones))) _ _ c.loop-k.invariant
-    (c.in_ok-take_back_at.ensures.fits done) (c.in_ok-take_back_at.ensures.taken done) (picked-more log open_ones k lt)
+    (c.take_back_at.ensures.fits done) (c.take_back_at.ensures.taken done) (picked-more log open_ones k lt)
 
-pub returns-then-not-branch-clause-misfit : goal.returns-then-not-branch-clause-misfit
-returns-then-not-branch-clause-misfit c = λ _ may.
+pub returns-then-not-take_back_at-clause-misfit : goal.returns-then-not-take_back_at-clause-misfit
+returns-then-not-take_back_at-clause-misfit c = λ _ may.
     let log = c.args.log.now in let open_ones = c.args.stack.now in let k = c.loop-k.k in
     let lt : k < length open_ones = omega arith in
     walk-stops (seen_in c.args.last.now) c.args.pages.now c.loop-k.pages (picked log (take k (reverse open_ones))) _
     (picked log (drop (k + 1) (reverse open_ones))) _ c.loop-k.invariant.1
-    (c.in_ok-take_back_at.ensures.misfit (ap Ok c.if-not-branch.true))
+    (c.take_back_at.ensures.misfit c.if-not-take_back_at.true)
     (picked-parts log (reverse open_ones) (k + 1)
     ∙ ap (λ (l : List Rec). l ++ picked log (drop (k + 1) (reverse open_ones))) (picked-more log open_ones k lt)) may
