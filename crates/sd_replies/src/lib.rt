@@ -4,7 +4,7 @@
 //! `specs/Replies.antt`), and how they are put into a line (`specs/Words.antt`).
 //! Keeps: nothing behind a call, but for the names that a `TxnNames` was given.
 //! Promises: each call puts the words that its definition says behind a text, and nothing else (the one clause of each).
-//! Refuses: nothing but for want of memory; what was put before it stays then.
+//! Refuses: nothing but for want of memory; a `TxnNames` stays as it was then, a text has some of the words.
 //! Knows nothing of: which reply is a line's, which name a transaction has, where the text goes.
 //! Stands on: sd_base, sd_model, sd_short, sd_forms, sd_script.
 //! Lends: in `proofs`, what a list's elements give one after another (`Growing`).

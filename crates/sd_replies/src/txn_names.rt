@@ -1,6 +1,6 @@
 //! Names of transactions.
 
-ghost use Rattle.std.specs.Prelude.{◌≡◌, None, Some, option_map, OnOk};
+ghost use Rattle.std.specs.Prelude.{◌≡◌, None, Some, option_map, OnErr, OnOk};
 ghost use Rattle.std.specs.Map.{update};
 ghost use Rattle.sd_base.specs.Ids.{same_txn};
 ghost use Rattle.sd_base.specs.declared.ids.TxnId.{TxnId};
@@ -27,10 +27,11 @@ impl TxnNames {
         }
     }
 
-    /// Gives the transaction this name. `Memory` comes where there is none.
+    /// Gives the transaction this name. `Memory` comes where there is none, and all have the names that they had.
     pub fn insert(&mut self, txn: TxnId, name: Vec<u8>) -> Result<(), Memory>
-        ensures { OnOk result ((t : TxnId) → name_in self.new t
+        ensures named { OnOk result ((t : TxnId) → name_in self.new t
             ≡ update same_txn (name_in self.old) txn (Some name.items) t) }
+        ensures stays { OnErr result ((t : TxnId) → name_in self.new t ≡ name_in self.old t) }
     {
         self.map.insert(txn, name)?;
         Ok(())

@@ -12,8 +12,8 @@ map_cond : (b : Bool) (name : Vec ℕ) (old : Option (Vec ℕ))
 map_cond true name old = refl
 map_cond false name old = refl
 
-pub returns : goal.returns
-returns c = λ t.
+pub returns-clause-named : goal.returns-clause-named
+returns-clause-named c = λ t.
     let old = c.args.self.now.map.entries in
     ap (option_map (λ (v : Vec ℕ). v.items)) (put-txn c.args.txn t (Some c.args.name) old c.insert.new.self.entries
     (c.in_ok-insert.ensures.updates.0 t))
