@@ -27,10 +27,7 @@ ghost use Rattle.sd_txn.specs.Owing.{reserve_of};
 ghost use Rattle.sd_txn.specs.Transactions.{IsUnresolved, state_at};
 ghost use Rattle.sd_txn.specs.declared.state.TxnState.TheVariants.{Running};
 
-use sd_base::{
-    Bytes, InstNo, Lsn, Memory, PageNo, Place, Refusal, Rid, TxnId, copy_value, lent_value,
-    value_len,
-};
+use sd_base::{Bytes, InstNo, Lsn, Memory, PageNo, Place, Refusal, Rid, TxnId, copy_value};
 use sd_log::Log;
 use sd_logrec::{AREA_LEN, CLR_LEN, END_LEN, GROUP_HEAD, MAX_LSN, Record};
 use sd_page::{Image, Op};
@@ -44,10 +41,10 @@ use std::cmp;
 
 // A change before anything has it: what its undo wants, the capacity of a new slot, and the value.
 #[derive(Drop)]
-struct Ready {
+struct Ready<'a> {
     top: OpenRec,
     capacity: u16,
-    after: Option<Bytes>,
+    after: Option<&'a [u8]>,
 }
 
 /// A transaction that runs sets the value of a record, of which it has the exclusive lock, on a page that its instance has
@@ -61,7 +58,7 @@ pub fn change<G: Rig>(
     t: &TxnId,
     r: Rid,
     capacity: u16,
-    after: Option<Bytes>,
+    after: Option<&[u8]>,
 ) -> Result<(), Refusal>
     requires good { (m : State) × Good (G.seen c.old.rig) (G.leaves c.old.rig) Pending.Idle (parts c.old) m }
     requires idle { (parts c.old).due ≡ None }
@@ -71,24 +68,24 @@ pub fn change<G: Rig>(
     requires lock { held (parts c.old).locks t.now r ≡ Some modes.Excl }
     requires owns { owns (entry_at (parts c.old).directory r.page) t.now.inst ≡ true }
     requires small { capacity ≤ 256 }
-    requires fits { FitsThere t.now r capacity after (parts c.old) }
+    requires fits { FitsThere t.now r capacity (option_copied after) (parts c.old) }
 
     ensures good { (m : State) → Good (G.seen c.old.rig) (G.leaves c.old.rig) Pending.Idle (parts c.old) m
-        → OnOk result (Good (G.seen c.new.rig) (G.leaves c.new.rig) Pending.Idle (parts c.new) (putting t.now r after m)) }
-    ensures made { OnOk result (IsMade (change_of t.now r capacity after (parts c.old)) (parts c.old) (parts c.new)) }
+        → OnOk result (Good (G.seen c.new.rig) (G.leaves c.new.rig) Pending.Idle (parts c.new) (putting t.now r (option_copied after.entry) m)) }
+    ensures made { OnOk result (IsMade (change_of t.now r capacity (option_copied after.entry) (parts c.old)) (parts c.old) (parts c.new)) }
     ensures refused { OnErr result (parts c.new ≡ parts c.old) }
     ensures rig { c.new.rig ≡ c.old.rig }
 
-    ensures full { (result ≡ Err R.LogFull) ↔ LacksRoom (change_of t.now r capacity after (parts c.old)) (parts c.old) }
+    ensures full { (result ≡ Err R.LogFull) ↔ LacksRoom (change_of t.now r capacity (option_copied after.entry) (parts c.old)) (parts c.old) }
     ensures lsns { (result ≡ Err R.LsnEnd)
-        ↔ ((LacksRoom (change_of t.now r capacity after (parts c.old)) (parts c.old) → ⊥) × LacksLsns t.now (parts c.old)) }
+        ↔ ((LacksRoom (change_of t.now r capacity (option_copied after.entry) (parts c.old)) (parts c.old) → ⊥) × LacksLsns t.now (parts c.old)) }
     ensures refusals { IfErr result (λ e. (e ≡ R.LogFull) ⊎ ((e ≡ R.LsnEnd) ⊎ (e ≡ R.Memory))) }
 {
     // No two locks on a record conflict, so nobody else has one.
     c.locks.keeps();
     let image = image(c, t, r.page);
     let span = span(c, t);
-    let reserve = reserved_for(c, t, &r, image, span, &after)?;
+    let reserve = reserved_for(c, t, &r, image, span, after)?;
     let ready = prepared(c, t, &r, image, span, capacity, after)?;
     put_change(c, t, ready, reserve)
 }
@@ -100,20 +97,20 @@ fn reserved_for<G>(
     r: &Rid,
     image: &Image,
     span: Option<(Lsn, Lsn)>,
-    after: &Option<Bytes>,
+    after: Option<&[u8]>,
 ) -> Result<u32, Refusal>
     requires shape { IsShape (parts c.now) }
     requires image { image.now ≡ image_for t.now r.now.page (parts c.now) }
     requires span { span ≡ (row_for t.now (parts c.now)).span }
-    ensures ok { IfOk result (λ n. n ≡ reserve_then (change_of t.now r.now 0 after.now (parts c.now)) (parts c.now)) }
-    ensures full { (result ≡ Err R.LogFull) ↔ LacksRoom (change_of t.now r.now 0 after.now (parts c.now)) (parts c.now) }
+    ensures ok { IfOk result (λ n. n ≡ reserve_then (change_of t.now r.now 0 (option_copied after.entry) (parts c.now)) (parts c.now)) }
+    ensures full { (result ≡ Err R.LogFull) ↔ LacksRoom (change_of t.now r.now 0 (option_copied after.entry) (parts c.now)) (parts c.now) }
     ensures lsns { (result ≡ Err R.LsnEnd)
-        ↔ ((LacksRoom (change_of t.now r.now 0 after.now (parts c.now)) (parts c.now) → ⊥) × LacksLsns t.now (parts c.now)) }
+        ↔ ((LacksRoom (change_of t.now r.now 0 (option_copied after.entry) (parts c.now)) (parts c.now) → ⊥) × LacksLsns t.now (parts c.now)) }
     ensures refusals { IfErr result (λ e. (e ≡ R.LogFull) ⊎ (e ≡ R.LsnEnd)) }
 {
     let before = before_len(image, r.slot);
     let reserve = reserve_then(c, t, span, before);
-    if lacks_bytes(c, t.inst, 38 + before + value_len(after), reserve) {
+    if lacks_bytes(c, t.inst, 38 + before + len_of(after), reserve) {
         return Err(Refusal::LogFull);
     }
     if lacks_lsns(c, t, span) {
@@ -220,25 +217,25 @@ fn has_few_lsns<G>(c: &Complex<G>) -> bool
 }
 
 // Makes what a change puts into the table and the page.
-fn prepared<G>(
+fn prepared<'a, G>(
     c: &Complex<G>,
     t: &TxnId,
     r: &Rid,
     image: &Image,
     span: Option<(Lsn, Lsn)>,
     capacity: u16,
-    after: Option<Bytes>,
-) -> Result<Ready, Memory>
+    after: Option<&'a [u8]>,
+) -> Result<Ready<'a>, Memory>
     requires shape { IsShape (parts c.now) }
     requires image { image.now ≡ image_for t.now r.now.page (parts c.now) }
     requires span { span ≡ (row_for t.now (parts c.now)).span }
-    requires left { (change_of t.now r.now capacity after (parts c.now)).lsn < 2 ^ 62 }
+    requires left { (change_of t.now r.now capacity (option_copied after) (parts c.now)).lsn < 2 ^ 62 }
     requires numbered { IsTxn t.now }
     requires small { capacity ≤ 256 }
-    requires fits { FitsThere t.now r.now capacity after (parts c.now) }
-    ensures change { IfOk result (λ p. change_in t.now p.top p.capacity p.after
-        ≡ change_of t.now r.now capacity after (parts c.now)) }
-    ensures spelled { IfOk result (λ p. HasSpelling (update (change_in t.now p.top p.capacity p.after))) }
+    requires fits { FitsThere t.now r.now capacity (option_copied after) (parts c.now) }
+    ensures change { IfOk result (λ p. change_in t.now p.top p.capacity (option_copied p.after)
+        ≡ change_of t.now r.now capacity (option_copied after.entry) (parts c.now)) }
+    ensures spelled { IfOk result (λ p. HasSpelling (update (change_in t.now p.top p.capacity (option_copied p.after)))) }
 {
     let alloc = *c.logs.allocator();
     let _number = r.page.get();
@@ -262,16 +259,16 @@ fn prepared<G>(
 fn put_change<G>(c: &mut Complex<G>, t: &TxnId, ready: Ready, reserve: u32) -> Result<(), Refusal>
     requires shape { IsShape (parts c.old) }
     requires known { IsUnresolved (txns_at (parts c.old) t.now.inst) t.now }
-    requires spelled { HasSpelling (update (change_in t.now ready.top ready.capacity ready.after)) }
+    requires spelled { HasSpelling (update (change_in t.now ready.top ready.capacity (option_copied ready.after))) }
     requires room { needed (log_at (parts c.old) t.now.inst)
-        (length (spelling (update (change_in t.now ready.top ready.capacity ready.after)))) reserve ≤ 1048576 }
+        (length (spelling (update (change_in t.now ready.top ready.capacity (option_copied ready.after))))) reserve ≤ 1048576 }
     requires held { IsSome (image_at (pool_at (parts c.old) t.now.inst) ready.top.rid.page) }
     requires takes { CanTake (image_for t.now ready.top.rid.page (parts c.old)).slots ready.top.rid.slot ready.capacity
-        (size ready.after) }
+        (size (option_copied ready.after)) }
     requires owns { owns (entry_at (parts c.old).directory ready.top.rid.page) t.now.inst ≡ true }
     requires open { open_asks (entry_at (parts c.old).directory ready.top.rid.page)
         (asks_at (parts c.old).directory ready.top.rid.page) ≡ asks_at (parts c.old).directory ready.top.rid.page }
-    ensures put { OnOk result (IsPut (change_in t.now ready.top ready.capacity ready.after) reserve (parts c.old) (parts c.new)) }
+    ensures put { OnOk result (IsPut (change_in t.now ready.entry.top ready.entry.capacity (option_copied ready.entry.after)) reserve (parts c.old) (parts c.new)) }
     ensures refused { OnErr result (parts c.new ≡ parts c.old) }
     ensures only { IfErr result (λ e. e ≡ R.Memory) }
     ensures rig { c.new.rig ≡ c.old.rig }
@@ -283,7 +280,7 @@ fn put_change<G>(c: &mut Complex<G>, t: &TxnId, ready: Ready, reserve: u32) -> R
         capacity,
         after,
     } = ready;
-    let rec = record_of(t, &top, capacity, &after)?;
+    let rec = record_of(*c.logs.allocator(), t, &top, capacity, after)?;
     let page = page_of(&top);
     let slot = top.rid.slot;
     let lsn = top.lsn;
@@ -291,7 +288,7 @@ fn put_change<G>(c: &mut Complex<G>, t: &TxnId, ready: Ready, reserve: u32) -> R
     let op = Op {
         slot,
         capacity,
-        after: lent_value(&after),
+        after,
     };
     rewrite(&mut c.pools[at], page, &op, lsn);
     mark(&mut c.directory, t.inst, page, lsn);
@@ -304,8 +301,15 @@ fn before_len(image: &Image, slot: u16) -> usize
     ensures small { result ≤ 256 }
 {
     let _image = image.bytes();
-    match image.value(slot) {
-        Some(before) => before.len(),
+    len_of(image.value(slot))
+}
+
+// The bytes of a value, 0 of none.
+fn len_of(value: Option<&[u8]>) -> usize
+    ensures { result ≡ size (option_copied value.entry) }
+{
+    match value {
+        Some(bytes) => bytes.len(),
         None => 0,
     }
 }
@@ -339,15 +343,16 @@ fn owned(alloc: Global, found: Option<&[u8]>) -> Result<Option<Bytes>, Memory>
 
 // The log record of a change.
 fn record_of(
+    alloc: Global,
     t: &TxnId,
     top: &OpenRec,
     capacity: u16,
-    after: &Option<Bytes>,
+    after: Option<&[u8]>,
 ) -> Result<Record, Memory>
-    ensures { IfOk result (λ rec. rec ≡ update (change_in t.now top.now capacity after.now)) }
+    ensures { IfOk result (λ rec. rec ≡ update (change_in t.now top.now capacity (option_copied after.entry))) }
 {
     let before = copy_value(&top.before)?;
-    let after = copy_value(after)?;
+    let after = owned(alloc, after)?;
     Ok(Record::Update {
         lsn: top.lsn,
         txn: *t,

@@ -7,7 +7,7 @@ ghost use Rattle.sd_one.specs.Ready.{IsReady};
 use crate::standing::may_put;
 use crate::starting::first;
 use crate::stop::Stop;
-use sd_base::{Bytes, Mode, Rid, Status, TxnId};
+use sd_base::{Bytes, Mode, Rid, Status, TxnId, lent_value};
 use sd_changes::change;
 use sd_rig::Rig;
 use sd_state::Complex;
@@ -42,6 +42,6 @@ pub fn put<G: Rig>(
     }
     c.locks.look(t, r, Mode::Excl)?;
     c.grant(t, r, Mode::Excl)?;
-    change(c, t, *r, capacity, after)?;
+    change(c, t, *r, capacity, lent_value(&after))?;
     Ok(())
 }

@@ -270,10 +270,7 @@ err-ok r k P is = subst (λ x. IfOk x P) (sym is) tt
 pub ok-not_full : {A P : Type 0} (x : A) → Ok x ≡ Err R.PageFull → P
 ok-not_full x full = absurd (cc)
 
--- Want of memory is neither that nor want of room in a log, or of LSNs.
-pub memory-not_page : {P : Type 0} → R.Memory ≡ R.PageFull → P
-memory-not_page full = absurd (cc)
-
+-- Want of memory is neither want of room in a log nor of LSNs.
 pub memory-not_full : {P : Type 0} → R.Memory ≡ R.LogFull → P
 memory-not_full full = absurd (cc)
 

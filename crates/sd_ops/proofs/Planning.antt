@@ -1,6 +1,6 @@
 -- What an edit comes to in a slot of a page. For `plan_in` and `plan_sum`.
 use Rattle.std.proofs.Common.{◌≡◌, ℕ, zero, suc, ◌<◌, ◌≤◌, List, [], ◌∷◌, length, refl, sym, ap, ◌∙◌, arith, Bor, inr}
-use Rattle.std.specs.Prelude.{Option, None, Some, IsSome, Result, Ok, Err, IfOk, ℤ}
+use Rattle.std.specs.Prelude.{Option, None, Some, IsSome, option_copied, ℤ}
 use Rattle.std.specs.List.{AllByRecursion}
 use Rattle.sd_base.specs.Values.{size}
 use Rattle.sd_base.specs.declared.refusal.Refusal.{Refusal}
@@ -29,15 +29,10 @@ slot-fits (x ∷ xs) zero all lt = (all.0.capacity, all.0.value)
 slot-fits (x ∷ xs) (suc s) all lt = slot-fits xs s all.1 (omega (arith, lt))
 
 -- a sum's text in a slot
-fitted-sum : (own : ℕ) (u v : List ℕ) (by : ℤ) → Sums u by v → (plan : Plan) → IsFitted own v plan → IsSumFitted own u by plan
-fitted-sum own u v by sums (Put new after) f = (v, f.0, f.1, f.2, sums)
-fitted-sum own u v by sums (Refuse R.TooLong) f = inr (v, f, sums)
-fitted-sum own u v by sums (Refuse n) f = elim f [ ]
-
-pub sum-fitted : {X : Type 0} (own : ℕ) (u v : List ℕ) (by : ℤ) (result : Result Plan X) → Sums u by v → IfOk result (IsFitted own v)
-    → IfOk result (IsSumFitted own u by)
-sum-fitted own u v by (Ok plan) sums f = fitted-sum own u v by sums plan f
-sum-fitted own u v by (Err e) sums f = tt
+pub sum-fitted : (own : ℕ) (u v : List ℕ) (by : ℤ) → Sums u by v → (plan : Plan) → IsFitted own v plan → IsSumFitted own u by plan
+sum-fitted own u v by sums (Put new after) f = (v, f.0, f.1, f.2, sums)
+sum-fitted own u v by sums (Refuse R.TooLong) f = inr (v, f, sums)
+sum-fitted own u v by sums (Refuse n) f = elim f [ ]
 
 module _ (page : Page) (s own : ℕ) (u : List ℕ) (fits : PageFits page) (found : value_at page.slots s ≡ Some u)
     (has : capacity_at page.slots s ≡ Some own) where
@@ -76,24 +71,18 @@ module _ (page : Page) (s own : ℕ) (u : List ℕ) (fits : PageFits page) (foun
   spoiled : (edit : Edit) (n : Refusal) → Spoils edit u own n → IsSpoiled page s edit n
   spoiled edit n why = record { u = u; capacity = own; found = value-is; room = room; why = why }
 
-  to-plan : (v : Bor (List ℕ)) (plan : Plan) → IsFitted own v.now plan → IsPlan page s (To v) plan
-  to-plan v (Put new after) f = sets (To v) new after f.0 f.1 (let le = f.2 in let e = ap size f.1 in omega (arith, le, e))
-  to-plan v (Refuse R.TooLong) f = spoiled (To v) R.TooLong f
-  to-plan v (Refuse n) f = elim f [ ]
+  pub to-planned : (v : Bor (List ℕ)) (plan : Plan) → IsFitted own v.now plan → IsPlan page s (To v) plan
+  to-planned v (Put new after) f =
+      sets (To v) new (option_copied after) f.0 f.1 (let le = f.2 in let e = ap size f.1 in omega (arith, le, e))
+  to-planned v (Refuse R.TooLong) f = spoiled (To v) R.TooLong f
+  to-planned v (Refuse n) f = elim f [ ]
 
-  sum-plan : (by : ℤ) (plan : Plan) → IsSumFitted own u by plan → IsPlan page s (By by) plan
-  sum-plan by (Put new after) f = sets (By by) new after f.1 (f.0, f.2, f.4) (let le = f.3 in let e = ap size f.2 in omega (arith, le, e))
-  sum-plan by (Refuse R.NotNumber) f = spoiled (By by) R.NotNumber f
-  sum-plan by (Refuse R.TooLong) f = spoiled (By by) R.TooLong f
-  sum-plan by (Refuse n) f = elim f [ ]
-
-  pub to-planned : {X : Type 0} (v : Bor (List ℕ)) (result : Result Plan X) → IfOk result (IsFitted own v.now) → IfOk result (IsPlan page s (To v))
-  to-planned v (Ok plan) f = to-plan v plan f
-  to-planned v (Err e) f = tt
-
-  pub sum-planned : {X : Type 0} (by : ℤ) (result : Result Plan X) → IfOk result (IsSumFitted own u by) → IfOk result (IsPlan page s (By by))
-  sum-planned by (Ok plan) f = sum-plan by plan f
-  sum-planned by (Err e) f = tt
+  pub sum-planned : (by : ℤ) (plan : Plan) → IsSumFitted own u by plan → IsPlan page s (By by) plan
+  sum-planned by (Put new after) f =
+      sets (By by) new (option_copied after) f.1 (f.0, f.2, f.4) (let le = f.3 in let e = ap size f.2 in omega (arith, le, e))
+  sum-planned by (Refuse R.NotNumber) f = spoiled (By by) R.NotNumber f
+  sum-planned by (Refuse R.TooLong) f = spoiled (By by) R.TooLong f
+  sum-planned by (Refuse n) f = elim f [ ]
 
   pub gone-planned : Sets page s Gone own None
   gone-planned = sets Gone own None refl refl (omega arith)

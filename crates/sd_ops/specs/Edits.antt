@@ -1,5 +1,5 @@
 -- What is to become of a record, and what its page says of that.
-use Rattle.std.specs.Prelude.{◌≡◌, ◌⊎◌, ◌<◌, ◌≤◌, ℕ, ℤ, List, Option, None, Some, length}
+use Rattle.std.specs.Prelude.{◌≡◌, ◌⊎◌, ◌<◌, ◌≤◌, ℕ, ℤ, List, Option, None, Some, length, option_copied}
 use Rattle.sd_base.specs.declared.ids.Rid.{Rid}
 use Rattle.sd_base.specs.declared.ids.TxnId.{TxnId}
 use Rattle.sd_base.specs.declared.refusal.Refusal.{Refusal}
@@ -22,13 +22,13 @@ IsLongEdit Gone = ⊥
 
 -- a value that is put in a slot of this capacity, or is too long for it
 abbrev pub IsFitted : ℕ → List ℕ → Plan → Type 0
-IsFitted own v (Put capacity after) = (capacity ≡ own) × (after ≡ Some v) × (length v ≤ own)
+IsFitted own v (Put capacity after) = (capacity ≡ own) × (option_copied after ≡ Some v) × (length v ≤ own)
 IsFitted own v (Refuse R.TooLong) = own < length v
 IsFitted own v (Refuse n) = ⊥
 
 -- the sum's text is put in a slot of this capacity, or there is none, or it is too long for it
 abbrev pub IsSumFitted : ℕ → List ℕ → ℤ → Plan → Type 0
-IsSumFitted own u by (Put capacity after) = (w : List ℕ) × (capacity ≡ own) × (after ≡ Some w) × (length w ≤ own) × Sums u by w
+IsSumFitted own u by (Put capacity after) = (w : List ℕ) × (capacity ≡ own) × (option_copied after ≡ Some w) × (length w ≤ own) × Sums u by w
 IsSumFitted own u by (Refuse R.NotNumber) = IsNumber u → ⊥
 IsSumFitted own u by (Refuse R.TooLong) = HasLongSum u by ⊎ ((w : List ℕ) × (own < length w) × Sums u by w)
 IsSumFitted own u by (Refuse n) = ⊥
@@ -70,7 +70,7 @@ IsVain page s edit R.NoRecord = value page.slots s ≡ None
 IsVain page s edit n = IsSpoiled page s edit n
 
 abbrev pub IsPlan : Page → ℕ → Edit → Plan → Type 0
-IsPlan page s edit (Put capacity after) = Sets page s edit capacity after
+IsPlan page s edit (Put capacity after) = Sets page s edit capacity (option_copied after)
 IsPlan page s edit (Refuse n) = IsVain page s edit n
 
 -- the event that asks for the edit

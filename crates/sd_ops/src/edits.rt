@@ -16,13 +16,12 @@ ghost use Rattle.sd_ops.specs.Edits.{IsFitted, IsLongEdit, IsPlan, IsSumFitted};
 ghost use Rattle.sd_reads.specs.Copies.{LacksPage};
 
 use itoa::Buffer;
-use sd_base::{Bytes, MAX_CAPACITY, Memory, Mode, Refusal, Rid, TxnId};
+use sd_base::{MAX_CAPACITY, Mode, Refusal, Rid, TxnId};
 use sd_model::{NoSum, sum};
 use sd_page::Image;
 use sd_reads::copy;
 use sd_rig::Rig;
 use sd_state::Complex;
-use std::alloc::Global;
 
 /// What is to become of a record that is there.
 #[derive(Clone, Copy)]
@@ -37,14 +36,28 @@ pub enum Edit<'a> {
 
 /// What an edit comes to, once the record's lock is given.
 #[derive(Drop)]
-pub enum Plan {
+pub enum Plan<'a> {
     /// The record gets this value, in its slot of this capacity.
-    Put { capacity: u16, after: Option<Bytes> },
+    Put {
+        capacity: u16,
+        after: Option<&'a [u8]>,
+    },
     /// It is refused, by what was found.
     Refuse(Refusal),
 }
 
 impl Edit<'_> {
+    /// The same edit, lent by this one: for as short a while as the text of a sum is.
+    pub fn lent(&self) -> Edit
+        ensures { result ≡ self.now }
+    {
+        match self {
+            Edit::To(value) => Edit::To(value),
+            Edit::By(by) => Edit::By(*by),
+            Edit::Gone => Edit::Gone,
+        }
+    }
+
     /// Whether a value of over 256 bytes is asked for.
     pub fn is_long(&self) -> bool
         ensures { IsTrue result ↔ IsLongEdit self.now }
@@ -57,59 +70,62 @@ impl Edit<'_> {
 }
 
 /// What an edit comes to, by the copy of the record's page that the transaction's instance has alone: `Lost` where the page is lost,
-/// else `NeedPage` where it hasn't. `Memory` where there is none for the new value.
-pub fn planned<G: Rig>(c: &Complex<G>, t: &TxnId, r: &Rid, edit: &Edit) -> Result<Plan, Refusal>
+/// else `NeedPage` where it hasn't. The value is lent by the edit, or by `text`, where a sum is put.
+pub fn planned<'a, G: Rig>(
+    c: &Complex<G>,
+    t: &TxnId,
+    r: &Rid,
+    edit: &Edit<'a>,
+    text: &'a mut Buffer,
+) -> Result<Plan<'a>, Refusal>
     requires good { (m : State) × Good (G.seen c.now.rig) (G.leaves c.now.rig) Pending.Idle (parts c.now) m }
     ensures plan { IfOk result (IsPlan (image_for t.now r.now.page (parts c.now)) r.now.slot edit.now) }
     ensures held { OnOk result (holds_as Excl (entry_at (parts c.now).directory r.now.page) t.now.inst ≡ true) }
     ensures lacks { IfErr result (LacksPage Excl t.now.inst r.now.page (parts c.now)) }
 {
     let image = copy(c, t.inst, r.page, Mode::Excl)?;
-    Ok(plan_in(*c.logs.allocator(), image, r.slot, edit)?)
+    Ok(plan_in(image, r.slot, edit, text))
 }
 
 // The same, by the page's image.
-fn plan_in(alloc: Global, image: &Image, slot: u16, edit: &Edit) -> Result<Plan, Memory>
-    ensures { IfOk result (IsPlan image.now slot edit.now) }
+fn plan_in<'a>(image: &Image, slot: u16, edit: &Edit<'a>, text: &'a mut Buffer) -> Plan<'a>
+    ensures { IsPlan image.now slot edit.now result }
 {
     let _bytes = image.bytes();
     let Some(old) = image.value(slot) else {
-        return Ok(Plan::Refuse(Refusal::NoRecord));
+        return Plan::Refuse(Refusal::NoRecord);
     };
     let capacity = image.capacity(slot).unwrap();
     match edit {
-        Edit::To(value) => put(alloc, capacity, value),
-        Edit::By(by) => plan_sum(alloc, capacity, old, *by),
-        Edit::Gone => Ok(Plan::Put {
+        Edit::To(value) => put(capacity, value),
+        Edit::By(by) => plan_sum(capacity, old, *by, text),
+        Edit::Gone => Plan::Put {
             capacity,
             after: None,
-        }),
+        },
     }
 }
 
 // A value in place of another, in a slot of this capacity.
-fn put(alloc: Global, capacity: u16, value: &[u8]) -> Result<Plan, Memory>
-    ensures { IfOk result (IsFitted capacity value.now) }
+fn put(capacity: u16, value: &[u8]) -> Plan
+    ensures { IsFitted capacity value.now result }
 {
     if value.len() > capacity as usize {
-        return Ok(Plan::Refuse(Refusal::TooLong));
+        return Plan::Refuse(Refusal::TooLong);
     }
-    Ok(Plan::Put {
+    Plan::Put {
         capacity,
-        after: Some(Bytes::copy_of(alloc, value)?),
-    })
+        after: Some(value),
+    }
 }
 
 // The number text of the sum in place of a number text, in a slot of this capacity.
-fn plan_sum(alloc: Global, capacity: u16, old: &[u8], by: i64) -> Result<Plan, Memory>
-    ensures { IfOk result (IsSumFitted capacity old.now by) }
+fn plan_sum<'a>(capacity: u16, old: &[u8], by: i64, text: &'a mut Buffer) -> Plan<'a>
+    ensures { IsSumFitted capacity old.now by result }
 {
     match sum(old, by) {
-        Err(NoSum::NotNumber) => Ok(Plan::Refuse(Refusal::NotNumber)),
-        Err(NoSum::TooLong) => Ok(Plan::Refuse(Refusal::TooLong)),
-        Ok(sum) => {
-            let mut text = Buffer::new();
-            put(alloc, capacity, text.format(sum).as_bytes())
-        }
+        Err(NoSum::NotNumber) => Plan::Refuse(Refusal::NotNumber),
+        Err(NoSum::TooLong) => Plan::Refuse(Refusal::TooLong),
+        Ok(sum) => put(capacity, text.format(sum).as_bytes()),
     }
 }

@@ -21,7 +21,7 @@ ghost use Rattle.sd_work.specs.Halves.{HalfServed};
 ghost use Rattle.sd_ops.specs.Vacancies.{IsChosen, IsDead, IsFullFor, IsLongFor, IsUsable, IsVacant, LacksPlace, NoneUsable};
 
 use crate::putting::put;
-use sd_base::{Bytes, Mode, NO_VALUE, PageNo, Refusal, Rid, TxnId};
+use sd_base::{Mode, NO_VALUE, PageNo, Refusal, Rid, TxnId};
 use sd_page::{Image, PAGE_BYTES};
 use sd_reads::copy;
 use sd_rig::Rig;
@@ -90,8 +90,7 @@ fn fill<G: Rig>(
         slot: vacancy.slot,
     };
     ask(c, t, &r, Mode::Excl)?;
-    let bytes = Bytes::copy_of(*c.logs.allocator(), value)?;
-    put(c, t, &r, vacancy.capacity, Some(bytes))?;
+    put(c, t, &r, vacancy.capacity, Some(value))?;
     Ok(r)
 }
 

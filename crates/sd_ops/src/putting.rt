@@ -1,6 +1,6 @@
 //! A record's lock is given, and its value set.
 
-ghost use Rattle.std.specs.Prelude.{◌≡◌, ◌⊎◌, ◌^◌, ◌<◌, ◌≤◌, true, Err, IfErr, OnErr, OnOk, Some};
+ghost use Rattle.std.specs.Prelude.{◌≡◌, ◌⊎◌, ◌^◌, ◌<◌, ◌≤◌, true, option_copied, Err, IfErr, OnErr, OnOk, Some};
 ghost use Rattle.sd_base.specs.declared.place.Mode.TheVariants.{Excl};
 ghost use Rattle.sd_base.specs.declared.place.Status.TheVariants as S;
 ghost use Rattle.sd_base.specs.declared.refusal.Refusal.TheVariants as R;
@@ -17,7 +17,7 @@ ghost use Rattle.sd_world.specs.Serving.{Core};
 ghost use Rattle.sd_fits.specs.Fits.{Fits};
 ghost use Rattle.sd_ops.specs.Puts.{IsLowered, IsPutThere};
 
-use sd_base::{Bytes, Mode, Refusal, Rid, TxnId};
+use sd_base::{Mode, Refusal, Rid, TxnId};
 use sd_changes::change;
 use sd_rig::Rig;
 use sd_state::Complex;
@@ -31,7 +31,7 @@ pub fn put<G: Rig>(
     t: &TxnId,
     r: &Rid,
     capacity: u16,
-    after: Option<Bytes>,
+    after: Option<&[u8]>,
 ) -> Result<(), Refusal>
     requires fits { (w : Core) × Fits (G.seen c.old.rig) (G.leaves c.old.rig) (parts c.old) w }
     requires up { status_at (parts c.old) t.now.inst ≡ S.Up }
@@ -39,12 +39,12 @@ pub fn put<G: Rig>(
     requires free { IsFree (stands (parts c.old).locks) t.now (wait_for r.now Excl) }
     requires held { holds_as Excl (entry_at (parts c.old).directory r.now.page) t.now.inst ≡ true }
     requires small { capacity ≤ 256 }
-    requires takes { FitsThere t.now r.now capacity after (parts c.old) }
-    ensures put { OnOk result (IsPutThere (G.seen c.old.rig) (G.leaves c.old.rig) t.now r.now capacity after (parts c.old) (parts c.new)) }
+    requires takes { FitsThere t.now r.now capacity (option_copied after) (parts c.old) }
+    ensures put { OnOk result (IsPutThere (G.seen c.old.rig) (G.leaves c.old.rig) t.now r.now capacity (option_copied after.entry) (parts c.old) (parts c.new)) }
     ensures lowered { OnErr result (IsLowered (parts c.old) (parts c.new)) }
     ensures rig { c.new.rig ≡ c.old.rig }
 
-    ensures full { (result ≡ Err R.LogFull) → LacksRoom (change_of t.now r.now capacity after (parts c.old)) (parts c.old) }
+    ensures full { (result ≡ Err R.LogFull) → LacksRoom (change_of t.now r.now capacity (option_copied after.entry) (parts c.old)) (parts c.old) }
     ensures lsns { (result ≡ Err R.LsnEnd) → LacksLsns t.now (parts c.old) }
     ensures refusals { IfErr result (λ e. (e ≡ R.LogFull) ⊎ ((e ≡ R.LsnEnd) ⊎ (e ≡ R.Memory))) }
 {

@@ -11,6 +11,7 @@ ghost use Rattle.sd_work.specs.Halves.{HalfServed};
 
 use crate::edits::{Edit, Plan, planned};
 use crate::putting::put;
+use itoa::Buffer;
 use sd_base::{Mode, Refusal, Rid, TxnId};
 use sd_rig::Rig;
 use sd_state::Complex;
@@ -71,7 +72,8 @@ fn carry<G: Rig>(c: &mut Complex<G>, t: &TxnId, r: &Rid, edit: &Edit) -> Result<
         return Err(Refusal::TooLong);
     }
     ask(c, t, r, Mode::Excl)?;
-    let plan = planned(c, t, r, edit)?;
+    let mut text = Buffer::new();
+    let plan = planned(c, t, r, &edit.lent(), &mut text)?;
     match plan {
         Plan::Put { capacity, after } => put(c, t, r, capacity, after),
         Plan::Refuse(refusal) => {

@@ -1,5 +1,5 @@
 use Rattle.std.proofs.Common.{◌≡◌, ℕ, true, is_some, sym, ap, ◌∙◌, subst}
-use Rattle.std.specs.Prelude.{IsSome}
+use Rattle.std.specs.Prelude.{IsSome, option_copied}
 use Rattle.std.proofs.lemmas.Result.{err_from_is_err_and}
 use Rattle.sd_base.specs.declared.refusal.Refusal.TheVariants as refusals
 use Rattle.sd_base.proofs.Results.{on_ok}
@@ -19,7 +19,7 @@ use Rattle.sd_changes.proofs.changing.change.Goals as goal
 pub image-image-requires-clause-held : goal.image-image-requires-clause-held
 image-image-requires-clause-held g c =
     let p : Parts = parts c.args.c.now in
-    let asks : Asks c.args.t.now c.args.r c.args.capacity c.args.after p = record {
+    let asks : Asks c.args.t.now c.args.r c.args.capacity (option_copied c.args.after) p = record {
       low = c.requires.numbered.low;
       high = c.requires.numbered.high;
       idle = c.requires.idle;
@@ -32,7 +32,7 @@ image-image-requires-clause-held g c =
     } in
     let seen = g.G.Rig.seen c.args.c.now.rig in
     let leaves = g.G.Rig.leaves c.args.c.now.rig in
-    let there = copy c.args.t.now c.args.r c.args.capacity c.args.after seen leaves p c.requires.good.0 c.requires.good.1 asks in
+    let there = copy c.args.t.now c.args.r c.args.capacity (option_copied c.args.after) seen leaves p c.requires.good.0 c.requires.good.1 asks in
     ap is_some there
 
 pub returns-in_err-reserve-clause-lsns : goal.returns-in_err-reserve-clause-lsns
@@ -47,7 +47,7 @@ returns-in_err-reserve-clause-lsns g c =
 pub prepared-requires-clause-left : goal.prepared-requires-clause-left
 prepared-requires-clause-left g c =
     let p : Parts = parts c.args.c.now in
-    let asks : Asks c.args.t.now c.args.r c.args.capacity c.args.after p = record {
+    let asks : Asks c.args.t.now c.args.r c.args.capacity (option_copied c.args.after) p = record {
       low = c.requires.numbered.low;
       high = c.requires.numbered.high;
       idle = c.requires.idle;
@@ -60,15 +60,15 @@ prepared-requires-clause-left g c =
     } in
     let seen = g.G.Rig.seen c.args.c.now.rig in
     let leaves = g.G.Rig.leaves c.args.c.now.rig in
-    let k : Change = change_of c.args.t.now c.args.r c.args.capacity c.args.after p in
+    let k : Change = change_of c.args.t.now c.args.r c.args.capacity (option_copied c.args.after) p in
     let room : LacksRoom k p → ⊥ = λ over. not-ok _ _ (sym (c.reserved_for.ensures.full.1 over) ∙ c.in_ok-reserve.was) in
     let left : LacksLsns c.args.t.now p → ⊥ = λ over. not-ok _ _ (sym (c.reserved_for.ensures.lsns.1 (room, over)) ∙ c.in_ok-reserve.was) in
-    lsn-left c.args.t.now c.args.r c.args.capacity c.args.after seen leaves p c.requires.good.0 c.requires.good.1 asks left
+    lsn-left c.args.t.now c.args.r c.args.capacity (option_copied c.args.after) seen leaves p c.requires.good.0 c.requires.good.1 asks left
 
 pub put_change-requires-clause-known : goal.put_change-requires-clause-known
 put_change-requires-clause-known g c =
     let p : Parts = parts c.args.c.now in
-    let asks : Asks c.args.t.now c.args.r c.args.capacity c.args.after p = record {
+    let asks : Asks c.args.t.now c.args.r c.args.capacity (option_copied c.args.after) p = record {
       low = c.requires.numbered.low;
       high = c.requires.numbered.high;
       idle = c.requires.idle;
@@ -81,21 +81,21 @@ put_change-requires-clause-known g c =
     } in
     let seen = g.G.Rig.seen c.args.c.now.rig in
     let leaves = g.G.Rig.leaves c.args.c.now.rig in
-    ap is_some (row c.args.t.now c.args.r c.args.capacity c.args.after seen leaves p c.requires.good.0 c.requires.good.1 asks)
+    ap is_some (row c.args.t.now c.args.r c.args.capacity (option_copied c.args.after) seen leaves p c.requires.good.0 c.requires.good.1 asks)
 
 pub put_change-requires-clause-room : goal.put_change-requires-clause-room
 put_change-requires-clause-room g c =
     let p : Parts = parts c.args.c.now in
-    let k : Change = change_of c.args.t.now c.args.r c.args.capacity c.args.after p in
+    let k : Change = change_of c.args.t.now c.args.r c.args.capacity (option_copied c.args.after) p in
     let room : LacksRoom k p → ⊥ = λ over. not-ok _ _ (sym (c.reserved_for.ensures.full.1 over) ∙ c.in_ok-reserve.was) in
     let left : LacksLsns c.args.t.now p → ⊥ = λ over. not-ok _ _ (sym (c.reserved_for.ensures.lsns.1 (room, over)) ∙ c.in_ok-reserve.was) in
-    room-there k p (update (change_in c.args.t.now c.in_ok-ready.ready.top c.in_ok-ready.ready.capacity c.in_ok-ready.ready.after)) c.in_ok-reserve.reserve
+    room-there k p (update (change_in c.args.t.now c.in_ok-ready.ready.top c.in_ok-ready.ready.capacity (option_copied c.in_ok-ready.ready.after))) c.in_ok-reserve.reserve
     (ap update c.in_ok-ready.ensures.change) c.in_ok-reserve.ensures.ok room
 
 pub put_change-requires-clause-held : goal.put_change-requires-clause-held
 put_change-requires-clause-held g c =
     let p : Parts = parts c.args.c.now in
-    let asks : Asks c.args.t.now c.args.r c.args.capacity c.args.after p = record {
+    let asks : Asks c.args.t.now c.args.r c.args.capacity (option_copied c.args.after) p = record {
       low = c.requires.numbered.low;
       high = c.requires.numbered.high;
       idle = c.requires.idle;
@@ -108,7 +108,7 @@ put_change-requires-clause-held g c =
     } in
     let seen = g.G.Rig.seen c.args.c.now.rig in
     let leaves = g.G.Rig.leaves c.args.c.now.rig in
-    let there = copy c.args.t.now c.args.r c.args.capacity c.args.after seen leaves p c.requires.good.0 c.requires.good.1 asks in
+    let there = copy c.args.t.now c.args.r c.args.capacity (option_copied c.args.after) seen leaves p c.requires.good.0 c.requires.good.1 asks in
     subst (λ (z : Change). IsSome (image_at (pool_at p c.args.t.now.inst) z.rid.page)) (sym c.in_ok-ready.ensures.change) (ap is_some there)
 
 pub put_change-requires-clause-open : goal.put_change-requires-clause-open
@@ -121,13 +121,13 @@ put_change-requires-clause-open g c =
 
 pub put_change-requires-clause-takes : goal.put_change-requires-clause-takes
 put_change-requires-clause-takes g c =
-    takes-there c.args.t.now c.args.r c.args.capacity c.args.after (parts c.args.c.now) c.in_ok-ready.ready.top
-    c.in_ok-ready.ready.capacity c.in_ok-ready.ready.after c.in_ok-ready.ensures.change c.requires.small c.requires.fits
+    takes-there c.args.t.now c.args.r c.args.capacity (option_copied c.args.after) (parts c.args.c.now) c.in_ok-ready.ready.top
+    c.in_ok-ready.ready.capacity (option_copied c.in_ok-ready.ready.after) c.in_ok-ready.ensures.change c.requires.small c.requires.fits
 
 pub returns-clause-good : goal.returns-clause-good
 returns-clause-good g c m good =
     let p : Parts = parts c.args.c.now in
-    let asks : Asks c.args.t.now c.args.r c.args.capacity c.args.after p = record {
+    let asks : Asks c.args.t.now c.args.r c.args.capacity (option_copied c.args.after) p = record {
       low = c.requires.numbered.low;
       high = c.requires.numbered.high;
       idle = c.requires.idle;
@@ -140,22 +140,22 @@ returns-clause-good g c m good =
     } in
     let seen = g.G.Rig.seen c.args.c.now.rig in
     let leaves = g.G.Rig.leaves c.args.c.now.rig in
-    let k : Change = change_of c.args.t.now c.args.r c.args.capacity c.args.after p in
+    let k : Change = change_of c.args.t.now c.args.r c.args.capacity (option_copied c.args.after) p in
     let room : LacksRoom k p → ⊥ = λ over. not-ok _ _ (sym (c.reserved_for.ensures.full.1 over) ∙ c.in_ok-reserve.was) in
     let left : LacksLsns c.args.t.now p → ⊥ = λ over. not-ok _ _ (sym (c.reserved_for.ensures.lsns.1 (room, over)) ∙ c.in_ok-reserve.was) in
-    let put = λ (q : IsPut (change_in c.args.t.now c.in_ok-ready.ready.top c.in_ok-ready.ready.capacity c.in_ok-ready.ready.after)
+    let put = λ (q : IsPut (change_in c.args.t.now c.in_ok-ready.ready.top c.in_ok-ready.ready.capacity (option_copied c.in_ok-ready.ready.after))
     c.in_ok-reserve.reserve p (parts c.put_change.new.c)).
     subst (λ (n : ℕ). IsPut k n p (parts c.put_change.new.c)) c.in_ok-reserve.ensures.ok
     (subst (λ (z : Change). IsPut z c.in_ok-reserve.reserve p (parts c.put_change.new.c)) c.in_ok-ready.ensures.change q) in
     on_ok c.put_change.result _ _ (λ q. subst (λ x. Good (g.G.Rig.seen x) (g.G.Rig.leaves x) Pending.Idle (parts c.put_change.new.c)
-    (putting c.args.t.now c.args.r c.args.after m)) (sym c.put_change.ensures.rig)
-    (made-good c.args.t.now c.args.r c.args.capacity c.args.after seen leaves p m good asks (parts c.put_change.new.c) (put q) room left))
+    (putting c.args.t.now c.args.r (option_copied c.args.after) m)) (sym c.put_change.ensures.rig)
+    (made-good c.args.t.now c.args.r c.args.capacity (option_copied c.args.after) seen leaves p m good asks (parts c.put_change.new.c) (put q) room left))
     c.put_change.ensures.put
 
 pub returns-clause-made : goal.returns-clause-made
 returns-clause-made g c =
     let p : Parts = parts c.args.c.now in
-    let asks : Asks c.args.t.now c.args.r c.args.capacity c.args.after p = record {
+    let asks : Asks c.args.t.now c.args.r c.args.capacity (option_copied c.args.after) p = record {
       low = c.requires.numbered.low;
       high = c.requires.numbered.high;
       idle = c.requires.idle;
@@ -168,14 +168,14 @@ returns-clause-made g c =
     } in
     let seen = g.G.Rig.seen c.args.c.now.rig in
     let leaves = g.G.Rig.leaves c.args.c.now.rig in
-    let k : Change = change_of c.args.t.now c.args.r c.args.capacity c.args.after p in
+    let k : Change = change_of c.args.t.now c.args.r c.args.capacity (option_copied c.args.after) p in
     let room : LacksRoom k p → ⊥ = λ over. not-ok _ _ (sym (c.reserved_for.ensures.full.1 over) ∙ c.in_ok-reserve.was) in
     let left : LacksLsns c.args.t.now p → ⊥ = λ over. not-ok _ _ (sym (c.reserved_for.ensures.lsns.1 (room, over)) ∙ c.in_ok-reserve.was) in
-    let put = λ (q : IsPut (change_in c.args.t.now c.in_ok-ready.ready.top c.in_ok-ready.ready.capacity c.in_ok-ready.ready.after)
+    let put = λ (q : IsPut (change_in c.args.t.now c.in_ok-ready.ready.top c.in_ok-ready.ready.capacity (option_copied c.in_ok-ready.ready.after))
     c.in_ok-reserve.reserve p (parts c.put_change.new.c)).
     subst (λ (n : ℕ). IsPut k n p (parts c.put_change.new.c)) c.in_ok-reserve.ensures.ok
     (subst (λ (z : Change). IsPut z c.in_ok-reserve.reserve p (parts c.put_change.new.c)) c.in_ok-ready.ensures.change q) in
-    on_ok c.put_change.result _ _ (λ q. made c.args.t.now c.args.r c.args.capacity c.args.after seen leaves p c.requires.good.0
+    on_ok c.put_change.result _ _ (λ q. made c.args.t.now c.args.r c.args.capacity (option_copied c.args.after) seen leaves p c.requires.good.0
     c.requires.good.1 asks (parts c.put_change.new.c) (put q) room left)
     c.put_change.ensures.put
 

@@ -1,6 +1,6 @@
 use Rattle.std.proofs.Common.{◌≡◌, ap, ap₂, ◌∙◌, arith, ℕ}
 use Rattle.std.specs.Option.{option_map_or}
-use Rattle.std.specs.Prelude.{Option}
+use Rattle.std.specs.Prelude.{Option, option_copied}
 use Rattle.sd_log.specs.Logs.{LogState}
 use Rattle.sd_page.specs.Page.{Page}
 use Rattle.sd_chain.specs.Pages.{value}
@@ -12,7 +12,7 @@ use Rattle.sd_changes.proofs.changing.prepared.Goals as goal
 
 pub returns-clause-change : goal.returns-clause-change
 returns-clause-change g c =
-    let k = change_of c.args.t.now c.args.r.now c.args.capacity c.args.after (parts c.args.c.now) in
+    let k = change_of c.args.t.now c.args.r.now c.args.capacity (option_copied c.args.after) (parts c.args.c.now) in
     let next : next_lsn c.log.result.now c.lsn.result ≡ k.lsn =
     ap₂ (λ (l : LogState) (n : ℕ). next_lsn l n) c.log.ensures (c.lsn.ensures ∙ ap (λ (z : Page). z.lsn) c.requires.image) in
     let left = c.requires.left in
@@ -28,5 +28,5 @@ returns-clause-change g c =
       prev = (c.last_in-prev.ensures ∙ ap (λ (o : Option (ℕ × ℕ)). option_map_or (λ (span : ℕ × ℕ). span.1) o 0) c.requires.span) n;
       capacity = c.args.capacity;
       before = before n;
-      after = c.args.after;
+      after = (option_copied c.args.after);
     }

@@ -1,5 +1,5 @@
 use Rattle.std.proofs.Common.{◌≡◌, ℕ, ◌-◌, ◌≤◌, Some, get_or, slice_set, true, refl, sym, ap, ◌∙◌, subst, arith}
-use Rattle.std.specs.Prelude.{option_map}
+use Rattle.std.specs.Prelude.{option_copied, option_map}
 use Rattle.sd_log.specs.Logs.{LogState, is_reserved, with_record}
 use Rattle.sd_logrec.specs.declared.record.Record.{Record}
 use Rattle.sd_page.specs.declared.op.Op.{Op}
@@ -35,7 +35,7 @@ pub returns-clause-put : goal.returns-clause-put
 returns-clause-put g c =
     let p : Parts = parts c.args.c.now in
     let i : ℕ = c.args.t.now.inst in
-    let k : Change = change_in c.args.t.now c.args.ready.top c.args.ready.capacity c.args.ready.after in
+    let k : Change = change_in c.args.t.now c.args.ready.top c.args.ready.capacity (option_copied c.args.ready.after) in
     let low : 1 ≤ i = omega (arith, c.get.ensures.value, c.get.ensures.low) in
     let high : i ≤ 8 = omega (arith, c.get.ensures.value, c.get.ensures.high) in
     let at : ℕ = c.get.result - 1 in
@@ -70,9 +70,9 @@ returns-clause-put g c =
     some-as (buffers.image_at (pool_at p i) k.rid.page) (empty_page k.rid.page) c.requires.held in
     let lent : buffers.image_at old_pool c.page_of-page.result ≡ Some image =
     ap (buffers.image_at old_pool) page ∙ ap (λ (b : Buffers). buffers.image_at b k.rid.page) (sym pool_is) ∙ copy in
-    let op : Op = record { slot = k.rid.slot; capacity = k.capacity; after = c.lent_value.result } in
+    let op : Op = record { slot = k.rid.slot; capacity = k.capacity; after = c.args.ready.after } in
     let redone : applied op k.lsn image ≡ redo image (flat_of k) =
-    applied-redone k op image refl refl c.lent_value.ensures c.requires.takes.place in
+    applied-redone k op image refl refl refl c.requires.takes.place in
     record {
       spare = log.spare;
       table = table;

@@ -1,5 +1,5 @@
-use Rattle.std.proofs.Common.{◌≡◌, ◌≤◌, ℕ, true, List, length, sym, ap, ◌∙◌, refl, subst, arith}
-use Rattle.std.specs.Prelude.{None, Some, Err}
+use Rattle.std.proofs.Common.{◌≡◌, ◌≤◌, true, length, sym, ap, ◌∙◌, refl, subst, arith}
+use Rattle.std.specs.Prelude.{None, Some}
 use Rattle.std.proofs.lemmas.Result.{err_from_is_err_and}
 use Rattle.sd_base.specs.declared.ids.Rid.{Rid}
 use Rattle.sd_base.specs.declared.place.Mode.TheVariants.{Excl}
@@ -11,18 +11,16 @@ use Rattle.sd_pagelock.specs.Directory.{entry_at}
 use Rattle.sd_places.specs.Places.{holds_as}
 use Rattle.sd_reclock.specs.Answers.{IsFree, IsRefused}
 use Rattle.sd_reclock.specs.Locks.{LockTable, stands, wait_for, waits}
-use Rattle.sd_changes.specs.Changing.{FitsThere, LacksRoom, change_of, image_for}
+use Rattle.sd_changes.specs.Changing.{FitsThere, image_for}
 use Rattle.sd_state.specs.Complexes.{parts}
 use Rattle.sd_state.specs.Parts.{Parts, status_at, txns_at}
 use Rattle.sd_txn.specs.Transactions.{state_at}
 use Rattle.sd_txn.specs.declared.state.TxnState.{TxnState}
 use Rattle.sd_world.specs.Serving.{refused}
-use Rattle.sd_fits.specs.Fits.{Fits}
 use Rattle.sd_fits.proofs.Refused.{unlike}
 use Rattle.sd_work.specs.Halves.{HalfServed, IsOff}
-use Rattle.sd_ops.specs.Puts.{IsPutThere}
 use Rattle.sd_ops.specs.Vacancies.{IsFullFor, IsVacant, LacksPlace}
-use Rattle.sd_ops.proofs.Filled.{err-ok, filled-half, memory-not_page, ok-not_full, put-not-full, same-refusal, unfilled-half}
+use Rattle.sd_ops.proofs.Filled.{err-ok, filled-half, ok-not_full, put-not-full, same-refusal, unfilled-half}
 use Rattle.sd_ops.proofs.Filling.{insert-asked, insert-away, insert-long, insert-work}
 use Rattle.sd_ops.proofs.Vacating.{asked-small, not-long}
 use Rattle.sd_work.proofs.Work.{err-half, off-half}
@@ -86,19 +84,6 @@ returns-in_err-ask-clause-half g c =
           (parts c.ask.new.c) n c.in_err-ask.ensures.refused c.in_err-ask.ensures.noted),
     )
 
-pub returns-in_err-bytes-clause-half : goal.returns-in_err-bytes-clause-half
-returns-in_err-bytes-clause-half g c =
-    let rig = c.args.c.now.rig in
-    let ev = event.Insert c.args.t.now c.args.p c.args.value.now c.args.capacity in
-    let x : Parts = parts c.args.c.now in
-    let e = err_from_is_err_and c.from_residual-in_err-bytes.result c.from_residual-in_err-bytes.ensures.1 in (
-      None,
-      err-half (λ (r : Rid). reply.At r) c.from_residual-in_err-bytes.result e.0 R.Memory (g.G.Rig.seen rig)
-          (g.G.Rig.leaves rig) None ev x
-          (parts c.ask.new.c) e.1 e.2
-          (λ w f. subst (λ (y : Parts). Fits (g.G.Rig.seen rig) (g.G.Rig.leaves rig) y w) (sym c.in_ok-ask.ensures.same) f),
-    )
-
 pub put-requires-clause-free : goal.put-requires-clause-free
 put-requires-clause-free g c = subst
     (λ (l : LockTable). IsFree (stands l) c.args.t.now (wait_for
@@ -112,10 +97,9 @@ pub put-requires-clause-takes : goal.put-requires-clause-takes
 put-requires-clause-takes g c =
     let short : length c.args.value.now ≤ c.args.capacity = not-long c.args.value.now c.args.capacity
     (λ long. unlike c.if-is_long.false (c.is_long.ensures.1 long)) in
-    let len = ap (λ (b : List ℕ). length b) c.in_ok-bytes.ensures in
     subst (λ (x : Parts). FitsThere c.args.t.now (record { page = c.args.p; slot = c.in_ok-vacancy.vacancy.slot })
-    c.in_ok-vacancy.vacancy.capacity (Some c.in_ok-bytes.bytes) x) (sym c.in_ok-ask.ensures.same)
-    (c.in_ok-vacancy.ensures.vacant.takes (Some c.in_ok-bytes.bytes) (omega (arith, short, len)))
+    c.in_ok-vacancy.vacancy.capacity (Some c.args.value.now) x) (sym c.in_ok-ask.ensures.same)
+    (c.in_ok-vacancy.ensures.vacant.takes (Some c.args.value.now) (omega (arith, short)))
 
 pub returns-in_err-put-clause-half : goal.returns-in_err-put-clause-half
 returns-in_err-put-clause-half g c =
@@ -125,7 +109,6 @@ returns-in_err-put-clause-half g c =
     let x : Parts = parts c.args.c.now in
     let mid : Parts = parts c.ask.new.c in
     let same = c.in_ok-ask.ensures.same in
-    let bytes = c.in_ok-bytes.ensures in
     let n = c.in_err-put.field-0.0 in
     let e = err_from_is_err_and c.from_residual-in_err-put.result c.from_residual-in_err-put.ensures.1 in (
       None,
@@ -148,9 +131,7 @@ returns-in_err-put-clause-half g c =
           (subst (λ (y : Parts). IsFree (stands y.locks) t
           (wait_for (record { page = c.args.p; slot = c.in_ok-vacancy.vacancy.slot }) Excl)) (sym same) c.in_ok-ask.ensures.free)
           (parts c.put.new.c) c.put.result n c.in_err-put.was c.put.ensures.lowered
-          (subst (λ (b : List ℕ). c.put.result ≡ Err R.LogFull → LacksRoom (change_of t
-          (record { page = c.args.p; slot = c.in_ok-vacancy.vacancy.slot }) c.in_ok-vacancy.vacancy.capacity (Some b) mid) mid)
-          bytes c.put.ensures.full)
+          c.put.ensures.full
           c.put.ensures.lsns c.put.ensures.refusals))),
     )
 
@@ -168,8 +149,7 @@ returns-clause-half g c =
     let ev = event.Insert t c.args.p c.args.value.now c.args.capacity in
     let x : Parts = parts c.args.c.now in
     let mid : Parts = parts c.ask.new.c in
-    let same = c.in_ok-ask.ensures.same in
-    let bytes = c.in_ok-bytes.ensures in (
+    let same = c.in_ok-ask.ensures.same in (
       Some r,
       subst (λ d. HalfServed (g.G.Rig.seen d) (g.G.Rig.leaves d) (Some r) ev (Some (reply.At r)) x (parts c.put.new.c))
           c.ask.ensures.rig
@@ -188,8 +168,7 @@ returns-clause-half g c =
           c.in_ok-vacancy.vacancy.capacity) (sym same) c.in_ok-vacancy.ensures.vacant)
           (subst (λ (y : Parts). IsFree (stands y.locks) t (wait_for r Excl)) (sym same) c.in_ok-ask.ensures.free)
           (parts c.put.new.c)
-          (subst (λ (b : List ℕ). IsPutThere (g.G.Rig.seen c.ask.new.c.rig) (g.G.Rig.leaves c.ask.new.c.rig) t r
-          c.in_ok-vacancy.vacancy.capacity (Some b) mid (parts c.put.new.c)) bytes c.in_ok-put.ensures.put))),
+          c.in_ok-put.ensures.put)),
     )
 
 -- ---- what is asked of the calls
@@ -255,16 +234,6 @@ returns-in_err-ask-clause-full g c full =
     let wait = wait_for (record { page = c.args.p; slot = c.in_ok-vacancy.vacancy.slot }) Excl in
     absurd (subst (IsRefused (stands locks) (waits locks) c.args.t.now wait)
     (same-refusal c.from_residual-in_err-ask.result e.0 c.in_err-ask.field-0.0 R.PageFull e.1 e.2 full) c.in_err-ask.ensures.refused)
-
-pub returns-in_err-bytes-clause-chosen : goal.returns-in_err-bytes-clause-chosen
-returns-in_err-bytes-clause-chosen g c =
-    let e = err_from_is_err_and c.from_residual-in_err-bytes.result c.from_residual-in_err-bytes.ensures.1 in
-    err-ok c.from_residual-in_err-bytes.result e.0 _ e.1
-
-pub returns-in_err-bytes-clause-full : goal.returns-in_err-bytes-clause-full
-returns-in_err-bytes-clause-full g c full =
-    let e = err_from_is_err_and c.from_residual-in_err-bytes.result c.from_residual-in_err-bytes.ensures.1 in
-    memory-not_page (same-refusal c.from_residual-in_err-bytes.result e.0 R.Memory R.PageFull e.1 e.2 full)
 
 pub returns-in_err-put-clause-chosen : goal.returns-in_err-put-clause-chosen
 returns-in_err-put-clause-chosen g c =

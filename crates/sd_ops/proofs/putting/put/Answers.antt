@@ -1,5 +1,5 @@
 use Rattle.std.proofs.Common.{◌≡◌, ◌⊎◌, [], ◌&&◌, cond, inr, refl, sym, ap, ◌∙◌, subst}
-use Rattle.std.specs.Prelude.{OnErr}
+use Rattle.std.specs.Prelude.{OnErr, option_copied}
 use Rattle.std.proofs.lemmas.Result.{err_from_is_err_and}
 use Rattle.sd_base.specs.Ids.{same_rid, same_txn}
 use Rattle.sd_base.specs.declared.place.Mode.TheVariants as modes
@@ -53,10 +53,10 @@ returns-in-Ok-clause-put g c = record {
   granted = record { rest = c.grant.ensures.parts; given = c.in_ok-grant.ensures.given; waiting = c.grant.ensures.waits };
   made = c.in-Ok.ensures.made;
   keeps = λ m good. subst (λ d. Good (g.G.Rig.seen d) (g.G.Rig.leaves d) Pending.Idle (parts c.change.new.c)
-      (putting c.args.t.now c.args.r.now c.args.after m)) (c.change.ensures.rig ∙ c.grant.ensures.rig)
+      (putting c.args.t.now c.args.r.now (option_copied c.args.after) m)) (c.change.ensures.rig ∙ c.grant.ensures.rig)
       (c.in-Ok.ensures.good m (subst (λ d. Good (g.G.Rig.seen d) (g.G.Rig.leaves d) Pending.Idle (parts c.grant.new.self) m)
       (sym c.grant.ensures.rig) good));
-  frames = frames-kept c.args.t.now c.args.r.now c.args.capacity c.args.after (parts c.args.c.now) (parts c.grant.new.self)
+  frames = frames-kept c.args.t.now c.args.r.now c.args.capacity (option_copied c.args.after) (parts c.args.c.now) (parts c.grant.new.self)
       (parts c.change.new.c) c.name.ensures.low c.name.ensures.high c.requires.fits.1.good.shape.pools c.grant.ensures.parts
       c.in-Ok.ensures.made;
 }
@@ -73,7 +73,7 @@ returns-in-Err-clause-lowered g c = record {
 }
 
 pub returns-in-Err-clause-full : goal.returns-in-Err-clause-full
-returns-in-Err-clause-full g c is = subst (λ (x : Parts). LacksRoom (change_of c.args.t.now c.args.r.now c.args.capacity c.args.after x) x)
+returns-in-Err-clause-full g c is = subst (λ (x : Parts). LacksRoom (change_of c.args.t.now c.args.r.now c.args.capacity (option_copied c.args.after) x) x)
     c.grant.ensures.parts (c.in-Err.ensures.full.0 is)
 
 pub returns-in-Err-clause-lsns : goal.returns-in-Err-clause-lsns
@@ -102,7 +102,7 @@ change-requires-clause-owns g c =
     ap (λ (x : Parts). owns (entry_at x.directory c.args.r.now.page) c.args.t.now.inst) c.grant.ensures.parts ∙ c.requires.held
 
 pub change-requires-clause-fits : goal.change-requires-clause-fits
-change-requires-clause-fits g c = subst (FitsThere c.args.t.now c.args.r.now c.args.capacity c.args.after)
+change-requires-clause-fits g c = subst (FitsThere c.args.t.now c.args.r.now c.args.capacity (option_copied c.args.after))
     (sym c.grant.ensures.parts) c.requires.takes
 
 -- ---- the way out where there is no memory for the lock, and the rig

@@ -1,5 +1,5 @@
 use Rattle.std.proofs.Common.{◌≡◌, sym, ap, ◌∙◌, subst}
-use Rattle.std.specs.Prelude.{None, Some}
+use Rattle.std.specs.Prelude.{None, Some, option_copied}
 use Rattle.std.proofs.lemmas.Result.{err_from_is_err_and}
 use Rattle.sd_base.specs.declared.place.Mode.TheVariants.{Excl}
 use Rattle.sd_base.specs.declared.place.Status.TheVariants as S
@@ -17,6 +17,7 @@ use Rattle.sd_txn.specs.declared.state.TxnState.{TxnState}
 use Rattle.sd_world.specs.Serving.{did, refused}
 use Rattle.sd_fits.specs.Fits.{Fits}
 use Rattle.sd_fits.proofs.Refused.{unlike}
+use Rattle.sd_ops.specs.declared.edits.Edit.{Edit}
 use Rattle.sd_ops.specs.Edits.{IsPlan, event_of}
 use Rattle.sd_work.specs.Halves.{HalfServed}
 use Rattle.sd_reads.specs.Copies.{LacksPage}
@@ -98,8 +99,9 @@ returns-in-Put-clause-half g c =
     (subst (λ (x : Parts). status_at x t.inst ≡ S.Up) (sym same) c.in_ok-at_work.ensures.up)
     (subst (λ (x : Parts). state_at (txns_at x t.inst) t ≡ Some TxnState.Running) (sym same) c.in_ok-at_work.ensures.runs)
     (subst (λ (x : Parts). IsFree (stands x.locks) t (wait_for r Excl)) (sym same) c.in_ok-ask.ensures.free)
-    c.in_ok-plan.ensures.held c.in-Put.capacity c.in-Put.after
-    (subst (IsPlan (image_for t r.page mid) r.slot c.args.edit.now) c.in-Put.is c.in_ok-plan.ensures.plan)
+    c.in_ok-plan.ensures.held c.in-Put.capacity (option_copied c.in-Put.after)
+    (subst (IsPlan (image_for t r.page mid) r.slot c.args.edit.now) c.in-Put.is
+    (subst (λ (e : Edit). IsPlan (image_for t r.page mid) r.slot e c.in_ok-plan.plan) c.lent.ensures c.in_ok-plan.ensures.plan))
     c.put.result (parts c.put.new.c) c.put.ensures.put c.put.ensures.lowered c.put.ensures.full c.put.ensures.lsns c.put.ensures.refusals))
 
 pub returns-in_ok-grant-in-Refuse-clause-half : goal.returns-in_ok-grant-in-Refuse-clause-half
@@ -116,7 +118,8 @@ returns-in_ok-grant-in-Refuse-clause-half g c =
     (subst (λ (x : Parts). state_at (txns_at x t.inst) t ≡ Some TxnState.Running) (sym same) c.in_ok-at_work.ensures.runs)
     (subst (λ (x : Parts). IsFree (stands x.locks) t (wait_for r Excl)) (sym same) c.in_ok-ask.ensures.free)
     c.in_ok-plan.ensures.held c.args.edit.now (λ long. unlike c.if-is_long.false (c.is_long.ensures.1 long))
-    c.in-Refuse.refusal (subst (IsPlan (image_for t r.page mid) r.slot c.args.edit.now) c.in-Refuse.is c.in_ok-plan.ensures.plan)
+    c.in-Refuse.refusal (subst (IsPlan (image_for t r.page mid) r.slot c.args.edit.now) c.in-Refuse.is
+    (subst (λ (e : Edit). IsPlan (image_for t r.page mid) r.slot e c.in_ok-plan.plan) c.lent.ensures c.in_ok-plan.ensures.plan))
     (parts c.grant.new.self)
     (record { rest = c.grant.ensures.parts; given = c.in_ok-grant-in-Refuse.ensures.given; waiting = c.grant.ensures.waits }))
 
@@ -160,13 +163,17 @@ put-requires-clause-held g c = c.in_ok-plan.ensures.held
 pub put-requires-clause-small : goal.put-requires-clause-small
 put-requires-clause-small g c =
     let r = c.args.r.now in
-    let plan = subst (IsPlan (image_for c.args.t.now r.page (parts c.ask.new.c)) r.slot c.args.edit.now) c.in-Put.is c.in_ok-plan.ensures.plan in
+    let image = image_for c.args.t.now r.page (parts c.ask.new.c) in
+    let plan = subst (IsPlan image r.slot c.args.edit.now) c.in-Put.is
+    (subst (λ (e : Edit). IsPlan image r.slot e c.in_ok-plan.plan) c.lent.ensures c.in_ok-plan.ensures.plan) in
     plan.small
 
 pub put-requires-clause-takes : goal.put-requires-clause-takes
 put-requires-clause-takes g c =
     let r = c.args.r.now in
-    let plan = subst (IsPlan (image_for c.args.t.now r.page (parts c.ask.new.c)) r.slot c.args.edit.now) c.in-Put.is c.in_ok-plan.ensures.plan in
+    let image = image_for c.args.t.now r.page (parts c.ask.new.c) in
+    let plan = subst (IsPlan image r.slot c.args.edit.now) c.in-Put.is
+    (subst (λ (e : Edit). IsPlan image r.slot e c.in_ok-plan.plan) c.lent.ensures c.in_ok-plan.ensures.plan) in
     plan.fits
 
 pub grant-requires-clause-good : goal.grant-requires-clause-good
