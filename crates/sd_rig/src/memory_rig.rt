@@ -14,13 +14,12 @@ use crate::troubles::{answer, next_call, raise};
 use sd_base::{Failed, Memory, Pick, Trouble};
 use std::alloc::Global;
 
-/// Nine devices in memory. Their record takes memory with each write and each sync: one that finds none fails.
+/// Nine devices in memory. Clauses alone read their record, so it takes no memory, and no call fails for want of any.
 #[derive(Drop)]
 pub struct MemRig {
     drives: Drives,
     trouble: Trouble,
     faults: u64,
-    short: u64,
 }
 
 impl MemRig {
@@ -44,7 +43,6 @@ impl MemRig {
             drives: Drives::blank(alloc)?,
             trouble: Trouble::Clear,
             faults: 0,
-            short: 0,
         })
     }
 
@@ -57,11 +55,11 @@ impl MemRig {
         self.drives.image(alloc, dev)
     }
 
-    /// How many writes and syncs failed since there was no memory for the record. It stays at the greatest u64.
+    /// How many writes and syncs failed since there was no memory for the record: none, since it takes none.
     pub fn short(&self) -> u64
         ensures { result ≡ short_count self.now }
     {
-        self.short
+        0
     }
 }
 
@@ -80,11 +78,12 @@ impl MemRig {
         ensures faults { fault_count self.new ≡ fault_count self.old }
         ensures short { short_count self.new ≡ short_count self.old }
     {
-        self.drives.poke(dev, at, byte)
+        self.drives.poke(dev, at, byte);
+        Ok(())
     }
 
     /// Makes these the bytes of a device, stable; they are noted as a write and a sync of it. It is no call that trouble
-    /// meets. After an `Err` that device may have the bytes, pending.
+    /// meets.
     pub fn load(&mut self, dev: u8, image: &[u8]) -> Result<(), Memory>
         requires device { dev ≤ 8 }
         requires whole { length image.now ≡ device_len dev }
@@ -95,8 +94,9 @@ impl MemRig {
         ensures faults { fault_count self.new ≡ fault_count self.old }
         ensures short { short_count self.new ≡ short_count self.old }
     {
-        self.drives.write(dev, 0, image, true)?;
-        self.drives.sync(dev, true)
+        self.drives.write(dev, 0, image, true);
+        self.drives.sync(dev, true);
+        Ok(())
     }
 
     /// A call that fails outside the devices in memory: it is counted, and nothing else changes.
@@ -111,17 +111,16 @@ impl MemRig {
         Failed
     }
 
-    /// Makes room in the record for so many bytes: `room` is the sum, over the writes to come, of their bytes and 32
-    /// each, and 32 for each sync. It changes nothing else.
-    pub fn reserve(&mut self, room: u64) -> Result<(), Memory>
-        ensures room { OnOk result (room ≤ spare self.new) }
+    /// Makes room in the record for so many bytes: there is always room, so nothing changes.
+    pub fn reserve(&mut self, _room: u64) -> Result<(), Memory>
+        ensures room { OnOk result (_room ≤ spare self.new) }
         ensures spare { spare self.old ≤ spare self.new }
         ensures stays { NotesNothing (done self.old) (done self.new) (devices self.old) (devices self.new) }
         ensures armed { armed self.new ≡ armed self.old }
         ensures faults { fault_count self.new ≡ fault_count self.old }
         ensures short { short_count self.new ≡ short_count self.old }
     {
-        self.drives.reserve(room as usize)
+        Ok(())
     }
 }
 
@@ -175,8 +174,7 @@ impl Rig for MemRig {
         Ok(())
     }
 
-    /// Fails exactly where the armed trouble meets it, and then leaves the new bytes, pending, or where there was no
-    /// memory for the record, and then changes no byte.
+    /// Fails exactly where the armed trouble meets it, and then leaves the new bytes, pending.
     fn write(&mut self, dev: u8, at: u32, bytes: &[u8]) -> Result<(), Failed>
         requires device { dev ≤ 8 }
         requires range { at + length bytes.now ≤ device_len dev }
@@ -204,11 +202,11 @@ impl Rig for MemRig {
         ensures step { IsOneStep (length (done self.old)) (LeftSince (done self.new)) (left_of (devices self.old)) (left_of (devices self.new)) }
     {
         let met = next_call(&mut self.trouble);
-        let found = self.drives.write(dev, at, bytes, !met).is_ok();
-        answer(&mut self.faults, &mut self.short, met, found)
+        self.drives.write(dev, at, bytes, !met);
+        answer(&mut self.faults, met)
     }
 
-    /// Fails exactly where the armed trouble meets it, or where there was no memory for the record.
+    /// Fails exactly where the armed trouble meets it.
     fn sync(&mut self, dev: u8) -> Result<(), Failed>
         requires device { dev ≤ 8 }
 
@@ -235,8 +233,8 @@ impl Rig for MemRig {
         ensures step { IsOneStep (length (done self.old)) (LeftSince (done self.new)) (left_of (devices self.old)) (left_of (devices self.new)) }
     {
         let met = next_call(&mut self.trouble);
-        let found = self.drives.sync(dev, !met).is_ok();
-        answer(&mut self.faults, &mut self.short, met, found)
+        self.drives.sync(dev, !met);
+        answer(&mut self.faults, met)
     }
 
     /// Each device becomes what the pick makes of it. It takes no memory, and isn't noted where no byte is pending.

@@ -1,6 +1,6 @@
 //! Which calls fail, and how failures are counted. It sees no device.
 
-ghost use Rattle.std.specs.Prelude.{◌≡◌, ◌≤◌, ◌&&◌, is_ok, not, if◌then◌else◌};
+ghost use Rattle.std.specs.Prelude.{◌≡◌, ◌≤◌, is_ok, not, if◌then◌else◌};
 ghost use Rattle.sd_rig.specs.Troubles.{after_call, meets, raised};
 
 use sd_base::{Failed, Trouble};
@@ -31,17 +31,13 @@ pub fn raise(count: &mut u64)
     *count = count.saturating_add(1);
 }
 
-/// The answer of a write or a sync that trouble met or not, and that found memory for the record or not.
-pub fn answer(faults: &mut u64, short: &mut u64, met: bool, found: bool) -> Result<(), Failed>
-    ensures ok { is_ok result ≡ (found && not met) }
+/// The answer of a call that trouble met or not; a failure is counted.
+pub fn answer(faults: &mut u64, met: bool) -> Result<(), Failed>
+    ensures ok { is_ok result ≡ not met }
     ensures faults { faults.new ≡ (if is_ok result then faults.old else raised faults.old) }
-    ensures short { short.new ≡ (if found then short.old else raised short.old) }
-    ensures grow { (faults.old ≤ faults.new) × (short.old ≤ short.new) }
+    ensures grows { faults.old ≤ faults.new }
 {
-    if !found {
-        raise(short);
-    }
-    if met || !found {
+    if met {
         raise(faults);
         return Err(Failed);
     }

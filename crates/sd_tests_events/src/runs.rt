@@ -555,18 +555,12 @@ fn agreeing<G: Rig + Drop>(
     Ok(lines.len())
 }
 
-// Devices of zeros, with memory for the record of what is done to them; made once more where there is none.
+// Devices of zeros, made once more where there is no memory.
 fn devices(alloc: Global) -> Result<MemRig, Fail> {
-    match noted(alloc) {
+    match MemRig::blank(alloc) {
         Ok(rig) => Ok(rig),
-        Err(_) => Ok(noted(alloc)?),
+        Err(_) => Ok(MemRig::blank(alloc)?),
     }
-}
-
-fn noted(alloc: Global) -> Result<MemRig, Memory> {
-    let mut rig = MemRig::blank(alloc)?;
-    rig.reserve(1 << 16)?;
-    Ok(rig)
 }
 
 // The number of lines that are answered as they say in a hall over devices of zeros.

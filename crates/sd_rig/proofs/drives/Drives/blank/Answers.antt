@@ -1,6 +1,6 @@
 use Rattle.std.proofs.Common.{sym, subst}
-use Rattle.sd_rig.specs.Replay.{AreDevices, AreSettled}
-use Rattle.sd_rig.proofs.Replays.{devices-blanks, settled-blanks}
+use Rattle.sd_rig.specs.Replay.{AreDevices}
+use Rattle.sd_rig.proofs.Replays.{devices-blanks}
 use Rattle.sd_rig.proofs.drives.Drives.blank.Goals as goal
 
 pub invariant_of-result : goal.invariant_of-result
@@ -8,6 +8,5 @@ invariant_of-result c =
     let made = c.in_ok-disks.ensures in
     record {
       devices = subst AreDevices (sym made) devices-blanks;
-      told = rw c.new-history.ensures.events made;
-      kept = λ none. subst AreSettled (sym made) settled-blanks;
+      told = rw c.new-history.ensures made;
     }

@@ -1,12 +1,12 @@
 use Rattle.std.proofs.Common.{◌≡◌, List, set, ap, ◌∙◌, sym, subst, arith}
 use Rattle.sd_rig.specs.Disk.{DiskState, poked}
-use Rattle.sd_rig.specs.Replay.{AreDevices, AreSettled, disk_at}
+use Rattle.sd_rig.specs.Replay.{AreDevices, disk_at}
 use Rattle.sd_rig.specs.History.{Poked}
-use Rattle.sd_rig.proofs.Replays.{read_at, told-more, poked-devices, poked-settled, settled-set}
+use Rattle.sd_rig.proofs.Replays.{read_at, told-more, poked-devices}
 use Rattle.sd_rig.proofs.drives.Drives.poke.Goals as goal
 
-pub invariant_of-self-2 : goal.invariant_of-self-2
-invariant_of-self-2 c =
+pub invariant_of-self : goal.invariant_of-self
+invariant_of-self c =
     let s = c.args.self.now in
     let now : List DiskState = s.disks.items in
     let le = c.requires.device in
@@ -18,6 +18,5 @@ invariant_of-self-2 c =
     let within = c.requires.range in
     record {
       devices = subst AreDevices (sym made) (poked-devices now c.args.dev c.args.at c.args.byte s.devices le c.requires.range (omega arith));
-      told = made ∙ told-more s.history.events c.note_poke.new.self.events (Poked c.args.dev c.args.at c.args.byte) now s.told c.in_ok-note_poke.ensures.noted;
-      kept = λ none. let was = s.kept (sym c.note_poke.ensures.kept ∙ none) in subst AreSettled (sym made) (settled-set now c.args.dev (poked c.args.at c.args.byte k) s.devices le was (poked-settled c.args.at c.args.byte k (omega arith) (was c.args.dev le)));
+      told = made ∙ told-more s.history.events c.note_poke.new.self.events (Poked c.args.dev c.args.at c.args.byte) now s.told c.note_poke.ensures;
     }
