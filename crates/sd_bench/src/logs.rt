@@ -7,7 +7,8 @@ ghost use Rattle.sd_bench.specs.Same.{AreSame};
 
 use crate::transfers::Transfer;
 use sd_base::{Failed, InstNo, PageNo, Refusal};
-use sd_log::Log;
+use sd_log::{Log, ReadLog};
+use sd_logrec::Lent;
 use sd_rig::{MemRig, Rig};
 use std::alloc::Global;
 
@@ -36,7 +37,7 @@ fn open<G: Rig>(alloc: Global, rig: &mut G, inst: InstNo) -> Result<Log, Refusal
     ensures stable { IfOk result (λ log. LeavesOnly (G.seen rig.new log.inst) (G.leaves rig.new log.inst)) }
 {
     rig.sync(inst.get())?;
-    Log::read_in(alloc, rig, inst, 0)
+    Ok(ReadLog::read_in(alloc, rig, inst, 0)?.into_log(alloc)?)
 }
 
 // Fills the log of this number.
@@ -56,32 +57,21 @@ fn filled<G: Rig>(
 ) -> Result<(), Refusal> {
     let mut log = open(alloc, rig, inst)?;
     for n in 0..transfers {
-        append_transfer(alloc, &mut log, inst, page, n)?;
+        append_transfer(&mut log, inst, page, n)?;
         force(rig, &mut log)?;
     }
     Ok(())
 }
 
 // The records of transfer n of this log. The groups stay.
-fn append_transfer(
-    alloc: Global,
-    log: &mut Log,
-    inst: InstNo,
-    page: PageNo,
-    n: u32,
-) -> Result<(), Refusal>
+fn append_transfer(log: &mut Log, inst: InstNo, page: PageNo, n: u32) -> Result<(), Refusal>
     ensures { AreSame log.old log.new }
 {
-    let transfer = Transfer {
-        inst,
-        number: n,
-        first: 3 * u64::from(n) + 1,
-        page,
-        before: n.checked_sub(1),
-    };
-    log.append(transfer.first_change(alloc)?, ONE_UNDONE)?;
-    log.append(transfer.second_change(alloc)?, TWO_UNDONE)?;
-    log.append(transfer.commit(), 0)
+    let first = 3 * u64::from(n) + 1;
+    let transfer = Transfer::new(inst, n, first, page, n.checked_sub(1));
+    log.append(&Lent::update(&transfer.first_change()), ONE_UNDONE)?;
+    log.append(&Lent::update(&transfer.second_change()), TWO_UNDONE)?;
+    log.append(&Lent::whole(&transfer.commit()), 0)
 }
 
 // A force after which the log stands on its device.
@@ -99,7 +89,7 @@ fn is_read(alloc: Global, rig: &mut MemRig, reads: u32) -> bool {
         return false;
     };
     for _ in 0..reads {
-        if Log::read_in(alloc, rig, inst, 0).is_err() {
+        if ReadLog::read_in(alloc, rig, inst, 0).is_err() {
             return false;
         }
     }

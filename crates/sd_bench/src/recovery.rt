@@ -8,7 +8,7 @@ ghost use Rattle.sd_recovered.specs.Devices.{AreDevices};
 use crate::transfers::Transfer;
 use sd_base::{Bytes, InstNo, Memory, PageNo};
 use sd_gate::OPEN;
-use sd_logrec::{AREA, Record};
+use sd_logrec::{AREA, Lent, Record};
 use sd_recovered::recovered;
 use sd_rig::{DATA_LEN, LOG_LEN};
 use std::alloc::Global;
@@ -117,7 +117,8 @@ fn put_groups(
 // The record that starts epoch 1.
 fn start(alloc: Global) -> Result<Vec<u8>, Memory> {
     let mut body = Vec::new(alloc);
-    put_record(Record::Start { lsn: 1, epoch: 1 }, &mut body)?;
+    let start = Record::Start { lsn: 1, epoch: 1 };
+    put_record(&Lent::whole(&start), &mut body)?;
     Ok(body)
 }
 
@@ -134,33 +135,31 @@ fn transfer(alloc: Global, inst: InstNo, logs: u32, n: u32) -> Result<Vec<u8>, M
     requires least { 1 ≤ logs }
     requires most { logs ≤ 8 }
 {
-    let transfer = Transfer {
-        inst,
-        number: n,
-        first: 2 + 3 * u64::from(n),
-        page: PageNo::new((n / logs % PAGES) as u16).unwrap(),
-        before: before(logs, n),
-    };
+    let first = 2 + 3 * u64::from(n);
+    let page = PageNo::new((n / logs % PAGES) as u16).unwrap();
+    let transfer = Transfer::new(inst, n, first, page, before(logs, n));
     let mut body = Vec::new(alloc);
-    put_records(alloc, &transfer, &mut body)?;
+    put_records(&transfer, &mut body)?;
     Ok(body)
 }
 
 // Appends the spellings of a transfer's three records.
-fn put_records(alloc: Global, transfer: &Transfer, body: &mut Vec<u8>) -> Result<(), Memory>
+fn put_records(transfer: &Transfer, body: &mut Vec<u8>) -> Result<(), Memory>
     requires low { 1 ≤ transfer.now.first }
     requires high { transfer.now.first < 2 ^ 61 }
 {
-    put_record(transfer.first_change(alloc)?, body)?;
-    put_record(transfer.second_change(alloc)?, body)?;
-    put_record(transfer.commit(), body)
+    put_record(&Lent::update(&transfer.first_change()), body)?;
+    put_record(&Lent::update(&transfer.second_change()), body)?;
+    put_record(&Lent::whole(&transfer.commit()), body)
 }
 
 // Appends the spelling of a record.
-fn put_record(made: Record, body: &mut Vec<u8>) -> Result<(), Memory>
-    requires { HasSpelling made }
+fn put_record(made: &Lent, body: &mut Vec<u8>) -> Result<(), Memory>
+    requires { HasSpelling made.now }
 {
-    made.put(body)
+    body.reserve(made.len())?;
+    made.write(body);
+    Ok(())
 }
 
 // The transfer that changed the page of transfer n before it.

@@ -1,58 +1,77 @@
 //! The records that a transfer logs: the changes of two records of a page, and a commit.
 
-ghost use Rattle.std.specs.Prelude.{◌<◌, ◌≤◌, ◌^◌, IfOk};
+ghost use Rattle.std.specs.Prelude.{◌≡◌, ◌<◌, ◌≤◌, ◌^◌, option_copied};
+ghost use Rattle.sd_logrec.specs.Lent.{update_record};
 ghost use Rattle.sd_logrec.specs.Spelling.{HasSpelling, IsValue};
 
-use sd_base::{Bytes, InstNo, Lsn, Memory, PageNo, TxnId};
-use sd_logrec::Record;
-use std::alloc::Global;
+use sd_base::{InstNo, Lsn, PageNo, TxnId};
+use sd_logrec::{Record, Update};
 
-/// A transfer: whose it is, its number, the LSN of its first record, its page, and the number of the one that changed the page
-/// before it.
+// The last three digits of a number.
+type Digits = [u8; 3];
+
+/// A transfer: whose it is, its number, the LSN of its first record, its page, and the values before and behind it, which its
+/// records lend.
 #[derive(Drop)]
 pub struct Transfer {
-    pub inst: InstNo,
-    pub number: u32,
-    pub first: Lsn,
-    pub page: PageNo,
-    pub before: Option<u32>,
+    inst: InstNo,
+    number: u32,
+    first: Lsn,
+    page: PageNo,
+    before: Option<Digits>,
+    after: Digits,
 }
 
 impl Transfer {
+    /// The transfer of this number, behind the one that changed the page before it. A transfer leaves the digits of its number.
+    pub fn new(inst: InstNo, number: u32, first: Lsn, page: PageNo, before: Option<u32>) -> Self
+        ensures { result.first ≡ first }
+    {
+        Transfer {
+            inst,
+            number,
+            first,
+            page,
+            before: before.map(digits),
+            after: digits(number),
+        }
+    }
+
     /// The change of the record in slot 0: what the one before it left, or none, becomes its own number.
-    pub fn first_change(&self, alloc: Global) -> Result<Record, Memory>
+    pub fn first_change(&self) -> Update<'_>
         requires low { 1 ≤ self.now.first }
         requires high { self.now.first < 2 ^ 61 }
-        ensures { IfOk result HasSpelling }
+        ensures { HasSpelling (update_record result) }
     {
-        self.change(alloc, self.first, 0, 0)
+        self.change(self.first, 0, 0)
     }
 
     /// The same of the record in slot 1.
-    pub fn second_change(&self, alloc: Global) -> Result<Record, Memory>
+    pub fn second_change(&self) -> Update<'_>
         requires low { 1 ≤ self.now.first }
         requires high { self.now.first < 2 ^ 61 }
-        ensures { IfOk result HasSpelling }
+        ensures { HasSpelling (update_record result) }
     {
-        self.change(alloc, self.first + 1, self.first, 1)
+        self.change(self.first + 1, self.first, 1)
     }
 
-    fn change(&self, alloc: Global, lsn: Lsn, prev: Lsn, slot: u16) -> Result<Record, Memory>
+    fn change(&self, lsn: Lsn, prev: Lsn, slot: u16) -> Update<'_>
         requires low { 1 ≤ lsn }
         requires high { lsn < 2 ^ 62 }
+        requires prev { prev < 2 ^ 64 }
         requires slot { slot < 2 }
-        ensures { IfOk result HasSpelling }
+        ensures { HasSpelling (update_record result) }
     {
-        Ok(Record::Update {
+        Update {
             lsn,
             txn: self.txn(),
             prev,
             page: self.page(),
             slot,
             capacity: 3,
-            before: value(alloc, self.before)?,
-            after: digits(alloc, self.number)?,
-        })
+            before: lent(&self.before),
+            after: Some(self.after.as_slice()),
+        }
     }
 
     /// The commit behind both changes.
@@ -84,22 +103,24 @@ impl Transfer {
     }
 }
 
-// What the transfer of this number left, or none.
-fn value(alloc: Global, number: Option<u32>) -> Result<Option<Bytes>, Memory>
-    ensures { IfOk result IsValue }
+// What a transfer left, or none.
+fn lent(value: &Option<Digits>) -> Option<&[u8]>
+    ensures { IsValue (option_copied result) }
 {
-    match number {
-        Some(number) => digits(alloc, number),
-        None => Ok(None),
+    match value {
+        Some(digits) => all(digits),
+        None => None,
     }
 }
 
-// The last three digits of a number.
-fn digits(alloc: Global, n: u32) -> Result<Option<Bytes>, Memory>
-    ensures { IfOk result IsValue }
+fn all(digits: &Digits) -> Option<&[u8]>
+    ensures { IsValue (option_copied result) }
 {
-    let digits = [digit(n / 100), digit(n / 10), digit(n)];
-    Ok(Some(Bytes::copy_of(alloc, &digits)?))
+    Some(digits.as_slice())
+}
+
+fn digits(n: u32) -> Digits {
+    [digit(n / 100), digit(n / 10), digit(n)]
 }
 
 fn digit(n: u32) -> u8 {

@@ -1,9 +1,10 @@
 -- What the calls of a change find and leave: tables, images, sums. For `change`.
-use Rattle.std.proofs.Common.{◌≡◌, ◌≢◌, ◌⊎◌, inl, inr, ⊎_elim, ℕ, zero, suc, ◌+◌, ◌-◌, ◌≤◌, Bool, true, false, List, [], ◌∷◌, cond, eqb, eq-eqb, get_or, length, max, refl, sym, ap, ◌∙◌, subst, arith}
-use Rattle.std.specs.Prelude.{Option, None, Some, Result, Ok, Err, IfErr, IsSome, is_some, if◌then◌else◌, option_map, unwrap_or}
+use Rattle.std.proofs.Common.{◌≡◌, ◌≢◌, ◌⊎◌, inl, inr, ⊎_elim, ℕ, zero, suc, ◌+◌, ◌-◌, ◌≤◌, Bool, true, false, List, [], ◌∷◌, ◌++◌, cond, eqb, eq-eqb, get_or, length, max, refl, sym, ap, ◌∙◌, subst, arith}
+use Rattle.std.specs.Prelude.{Option, None, Some, Result, Ok, Err, IfErr, IsSome, is_some, if◌then◌else◌, option_and_then, option_map, slice_get, unwrap_or}
 use Rattle.std.proofs.lemmas.Bool.{ne_eqb}
 use Rattle.std.proofs.lemmas.List.{length_push}
 use Rattle.std.proofs.lemmas.List.Sums.{sum_by_push}
+use Rattle.sd_base.proofs.Lists.{slice_get-push}
 use Rattle.sd_base.specs.declared.ids.Rid.{Rid}
 use Rattle.sd_base.specs.declared.place.Mode.{Mode}
 use Rattle.sd_base.specs.declared.refusal.Refusal.{Refusal}
@@ -25,6 +26,7 @@ use Rattle.sd_base.specs.Values.{size}
 use Rattle.sd_base.specs.declared.ids.TxnId.{TxnId}
 use Rattle.sd_page.specs.Page.{Page, PageFits, Slot, SlotFits, after_of, applied, written}
 use Rattle.sd_txn.specs.Marked.{AreMarks}
+use Rattle.sd_txn.specs.Transactions as txns
 use Rattle.sd_txn.specs.Transactions.{Transaction, depth, popped, pushed}
 use Rattle.sd_txn.specs.declared.state.OpenRec.{OpenRec}
 use Rattle.sd_txn.proofs.Stacks.{popped-pushed}
@@ -39,6 +41,14 @@ pub pop-pushed : (o : Option Transaction) (top : OpenRec) → ((x : Transaction)
     → option_map popped (option_map (pushed top) o) ≡ o
 pop-pushed None top marks = refl
 pop-pushed (Some x) top marks = ap (λ (y : Transaction). Some y) (popped-pushed x top (marks x refl))
+
+-- what was pushed is on top
+pub pushed-top : (o : Option Transaction) (o' : Option Transaction) (top : OpenRec) → IsSome o → o' ≡ option_map (pushed top) o → option_and_then txns.top o' ≡ Some top
+pushed-top None o' top some e = absurd (cc)
+pushed-top (Some x) o' top some e = ap (option_and_then txns.top) e ∙ last_behind x.stack top
+  where
+    last_behind : (os : List OpenRec) (o : OpenRec) → slice_get (os ++ o ∷ []) (length (os ++ o ∷ []) - 1) ≡ Some o
+    last_behind os o = ap (slice_get (os ++ o ∷ [])) (omega (arith, length_push os o)) ∙ slice_get-push os o
 
 -- a value of a page has 256 bytes at most
 small-in : (slots : List Slot) (s : ℕ) → AllByRecursion SlotFits slots → size (value slots s) ≤ 256

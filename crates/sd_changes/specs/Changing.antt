@@ -1,5 +1,5 @@
 -- A change of a record: what the complex is after it, and when it may come.
-use Rattle.std.specs.Prelude.{◌≡◌, ◌≢◌, ℕ, ◌+◌, ◌-◌, ◌^◌, ◌<◌, ◌≤◌, true, [], ◌∷◌, length, is_some, max, option_map, slice_set, unwrap_or, if◌then◌else◌, None, Some}
+use Rattle.std.specs.Prelude.{◌≡◌, ◌≢◌, ℕ, ◌+◌, ◌-◌, ◌^◌, ◌<◌, ◌≤◌, true, [], ◌∷◌, length, is_some, max, option_copied, option_map, slice_set, unwrap_or, if◌then◌else◌, None, Some}
 use Rattle.std.specs.List.{IsDistinct}
 use Rattle.std.specs.Option.{option_map_or}
 use Rattle.sd_base.specs.Ids.{same_txn}
@@ -33,6 +33,7 @@ use Rattle.sd_txn.specs.declared.state.TxnState.{TxnState}
 use Rattle.sd_chain.specs.Pages.{FitsUpdate, redo, value}
 use Rattle.sd_chain.specs.Records.{Each, home}
 use Rattle.sd_sound.specs.Logs.{Outcomes, all_at, next_lsn}
+use Rattle.sd_changes.specs.declared.changing.Ready.{Ready}
 use Rattle.sd_state.specs.Good.{Good}
 use Rattle.sd_state.specs.Parts.{Parts, log_at, owed_at, pool_at, status_at, txns_at}
 use Rattle.sd_state.specs.Sums.{great_of, owed_in_all, owed_where}
@@ -189,6 +190,10 @@ change_in t top capacity after = record {
   before = top.before;
   after = after;
 }
+
+-- the record of a change that is ready
+abbrev pub record_for : TxnId → Ready → Record
+record_for t ready = update (change_in t ready.top ready.capacity (option_copied ready.after))
 
 -- The table has a further open record of the transaction, and is else as it was.
 pub record IsRowPut (t : TxnId) (top : OpenRec) (old new : Transactions) : Type 0 where

@@ -7,7 +7,8 @@ ghost use Rattle.sd_base.specs.declared.place.Mode.TheVariants as modes;
 ghost use Rattle.sd_base.specs.declared.place.Status.TheVariants as S;
 ghost use Rattle.sd_base.specs.declared.refusal.Refusal.TheVariants as R;
 ghost use Rattle.sd_chain.specs.Pages.{value};
-ghost use Rattle.sd_log.specs.Logs.{is_reserved, needed, with_record};
+ghost use Rattle.sd_log.specs.Logs.{needed, with_record};
+ghost use Rattle.sd_logrec.specs.Lent.{update_record};
 ghost use Rattle.sd_logrec.specs.Spelling.{HasSpelling, IsTxn, spelling};
 ghost use Rattle.sd_model.specs.State.{State};
 ghost use Rattle.sd_page.specs.Page.{CanTake, PageFits, after_of, applied};
@@ -17,19 +18,19 @@ ghost use Rattle.sd_places.specs.Places.{changed, owns};
 ghost use Rattle.sd_places.specs.Rows.{dirtied};
 ghost use Rattle.sd_pool.specs.Buffers.{image_at};
 ghost use Rattle.sd_reclock.specs.Locks.{held};
-ghost use Rattle.sd_changes.specs.Changing.{FitsThere, IsMade, IsPut, IsRowPut, LacksLsns, LacksRoom, change_in, change_of, image_for, owed_then, putting, reserve_then, row_for, update};
+ghost use Rattle.sd_changes.specs.Changing.{FitsThere, IsMade, IsPut, IsRowPut, LacksLsns, LacksRoom, change_in, change_of, image_for, owed_then, putting, record_for, reserve_then, row_for, update};
 ghost use Rattle.sd_state.specs.Complexes.{parts};
 ghost use Rattle.sd_state.specs.Good.{Good};
 ghost use Rattle.sd_state.specs.Parts.{IsShape, log_at, no_txns, owed_at, pool_at, status_at, txns_at};
 ghost use Rattle.sd_state.specs.Sums.{great_of, owed_above};
 ghost use Rattle.sd_state.specs.Values.{Pending};
 ghost use Rattle.sd_txn.specs.Owing.{reserve_of};
-ghost use Rattle.sd_txn.specs.Transactions.{IsUnresolved, state_at};
+ghost use Rattle.sd_txn.specs.Transactions.{IsUnresolved, state_at, top_at};
 ghost use Rattle.sd_txn.specs.declared.state.TxnState.TheVariants.{Running};
 
-use sd_base::{Bytes, InstNo, Lsn, Memory, PageNo, Place, Refusal, Rid, TxnId, copy_value};
+use sd_base::{Bytes, InstNo, Lsn, Memory, PageNo, Place, Refusal, Rid, TxnId, lent_value};
 use sd_log::Log;
-use sd_logrec::{AREA_LEN, CLR_LEN, END_LEN, GROUP_HEAD, MAX_LSN, Record};
+use sd_logrec::{AREA_LEN, CLR_LEN, END_LEN, GROUP_HEAD, Lent, MAX_LSN, Update};
 use sd_page::{Image, Op};
 use sd_pagelock::Directory;
 use sd_pool::Pool;
@@ -275,21 +276,14 @@ fn put_change<G>(c: &mut Complex<G>, t: &TxnId, ready: Ready, reserve: u32) -> R
 {
     sd_txn::laws::owed_by_change();
     let at = t.inst.get() as usize - 1;
-    let Ready {
-        top,
-        capacity,
-        after,
-    } = ready;
-    let rec = record_of(*c.logs.allocator(), t, &top, capacity, after)?;
-    let page = page_of(&top);
-    let slot = top.rid.slot;
-    let lsn = top.lsn;
-    log_within(&mut c.logs[at], &mut c.txns, at, t, top, rec, reserve)?;
+    let page = page_of(&ready.top);
+    let lsn = ready.top.lsn;
     let op = Op {
-        slot,
-        capacity,
-        after,
+        slot: ready.top.rid.slot,
+        capacity: ready.capacity,
+        after: ready.after,
     };
+    log_within(&mut c.logs[at], &mut c.txns, at, t, ready, reserve)?;
     rewrite(&mut c.pools[at], page, &op, lsn);
     mark(&mut c.directory, t.inst, page, lsn);
     Ok(())
@@ -341,28 +335,20 @@ fn owned(alloc: Global, found: Option<&[u8]>) -> Result<Option<Bytes>, Memory>
     }
 }
 
-// The log record of a change.
-fn record_of(
-    alloc: Global,
-    t: &TxnId,
-    top: &OpenRec,
-    capacity: u16,
-    after: Option<&[u8]>,
-) -> Result<Record, Memory>
-    ensures { IfOk result (λ rec. rec ≡ update (change_in t.now top.now capacity (option_copied after.entry))) }
+// The Update of a change, which lends its values.
+fn update_of<'a>(t: &TxnId, top: &'a OpenRec, capacity: u16, after: Option<&'a [u8]>) -> Update<'a>
+    ensures { update_record result ≡ update (change_in t.now top.now capacity (option_copied after.entry)) }
 {
-    let before = copy_value(&top.before)?;
-    let after = owned(alloc, after)?;
-    Ok(Record::Update {
+    Update {
         lsn: top.lsn,
         txn: *t,
         prev: top.prev,
         page: top.rid.page,
         slot: top.rid.slot,
         capacity,
-        before,
+        before: lent_value(&top.before),
         after,
-    })
+    }
 }
 
 // Puts the record of a change at the end of a log, and its transaction's row into the table. Memory changes neither.
@@ -371,24 +357,28 @@ fn log_change(
     log: &mut Log,
     table: &mut TxnTable,
     t: &TxnId,
-    top: OpenRec,
-    rec: Record,
+    ready: Ready,
     reserve: u32,
 ) -> Result<(), Refusal>
     requires known { IsUnresolved table.old t.now }
-    requires spelled { HasSpelling rec }
-    requires room { needed log.old (length (spelling rec)) reserve ≤ 1048576 }
-    ensures log { OnOk result (log.new ≡ with_record rec log.new.spare log.old) }
-    ensures memory { OnOk result (is_reserved rec ≡ false → reserve ≤ log.new.spare) }
-    ensures row { OnOk result (IsRowPut t.now top table.old table.new) }
+    requires spelled { HasSpelling (record_for t.now ready) }
+    requires room { needed log.old (length (spelling (record_for t.now ready))) reserve ≤ 1048576 }
+    ensures log { OnOk result (log.new ≡ with_record (record_for t.now ready.entry) log.new.spare log.old) }
+    ensures memory { OnOk result (reserve ≤ log.new.spare) }
+    ensures row { OnOk result (IsRowPut t.now ready.entry.top table.old table.new) }
     ensures log_stays { OnErr result (log.new ≡ log.old) }
     ensures table_stays { OnErr result (table.new ≡ table.old) }
     ensures only { IfErr result (λ e. e ≡ R.Memory) }
 {
+    let Ready {
+        top,
+        capacity,
+        after,
+    } = ready;
     let lsn = top.lsn;
     table.keeps();
     table.push(t, top)?;
-    let done = log.append(rec, reserve);
+    let done = append_top(log, table, t, capacity, after, reserve);
     match done {
         Ok(()) => table.note(t, lsn),
         Err(_) => {
@@ -398,6 +388,31 @@ fn log_change(
     done
 }
 
+// Puts the record of the change that a transaction has open last at the end of a log.
+#[inline(always)]
+fn append_top(
+    log: &mut Log,
+    table: &TxnTable,
+    t: &TxnId,
+    capacity: u16,
+    after: Option<&[u8]>,
+    reserve: u32,
+) -> Result<(), Refusal>
+    requires there { IsSome (top_at table.now t.now) }
+    requires spelled { IfSome (top_at table.now t.now) (λ top. HasSpelling (update (change_in t.now top capacity (option_copied after)))) }
+    requires room { IfSome (top_at table.now t.now) (λ top.
+        needed log.old (length (spelling (update (change_in t.now top capacity (option_copied after))))) reserve ≤ 1048576) }
+    ensures log { OnOk result (IfSome (top_at table.now t.now) (λ top.
+        log.new ≡ with_record (update (change_in t.now top capacity (option_copied after.entry))) log.new.spare log.old)) }
+    ensures memory { OnOk result (reserve ≤ log.new.spare) }
+    ensures stays { OnErr result (log.new ≡ log.old) }
+    ensures only { IfErr result (λ e. e ≡ R.Memory) }
+{
+    let top = table.top(t).unwrap();
+    let update = update_of(t, top, capacity, after);
+    log.append(&Lent::update(&update), reserve)
+}
+
 // The same in the table that stands at a place.
 #[inline(always)]
 fn log_within(
@@ -405,23 +420,22 @@ fn log_within(
     txns: &mut Vec<TxnTable>,
     at: usize,
     t: &TxnId,
-    top: OpenRec,
-    rec: Record,
+    ready: Ready,
     reserve: u32,
 ) -> Result<(), Refusal>
     requires place { at < length txns.old.items }
     requires known { IsUnresolved (get_or txns.old.items at no_txns) t.now }
-    requires spelled { HasSpelling rec }
-    requires room { needed log.old (length (spelling rec)) reserve ≤ 1048576 }
-    ensures log { OnOk result (log.new ≡ with_record rec log.new.spare log.old) }
-    ensures memory { OnOk result (is_reserved rec ≡ false → reserve ≤ log.new.spare) }
-    ensures row { OnOk result (IsRowPut t.now top (get_or txns.old.items at no_txns) (get_or txns.new.items at no_txns)) }
+    requires spelled { HasSpelling (record_for t.now ready) }
+    requires room { needed log.old (length (spelling (record_for t.now ready))) reserve ≤ 1048576 }
+    ensures log { OnOk result (log.new ≡ with_record (record_for t.now ready.entry) log.new.spare log.old) }
+    ensures memory { OnOk result (reserve ≤ log.new.spare) }
+    ensures row { OnOk result (IsRowPut t.now ready.entry.top (get_or txns.old.items at no_txns) (get_or txns.new.items at no_txns)) }
     ensures table { OnOk result (txns.new.items ≡ slice_set txns.old.items at (get_or txns.new.items at no_txns)) }
     ensures log_stays { OnErr result (log.new ≡ log.old) }
     ensures tables_stay { OnErr result (txns.new.items ≡ txns.old.items) }
     ensures only { IfErr result (λ e. e ≡ R.Memory) }
 {
-    log_change(log, &mut txns[at], t, top, rec, reserve)
+    log_change(log, &mut txns[at], t, ready, reserve)
 }
 
 // Sets a value in the image that a pool has of a page.

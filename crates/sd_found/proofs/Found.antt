@@ -208,7 +208,7 @@ module _ (images : List (List ℕ)) (o : Opened) (found : Found) (frames : ℕ) 
   -- ---- instances
 
   log-found : (k : ℕ) (log : LogState) → slice_get o.logs.items k ≡ Some log → log_at c (suc k) ≡ log
-  log-found k log at_k = ap (λ (l : List LogState). get_or l k no_log) (ap (λ v. v.items) m.logs)
+  log-found k log at_k = ap (λ (l : List LogState). get_or l k no_log) m.logs
       ∙ get_or_from_slice_get o.logs.items k log no_log at_k
 
   records : (k : ℕ) (log : LogState) → slice_get o.logs.items k ≡ Some log → flats (scanned log) ≡ log_of devices (suc k)
@@ -335,7 +335,7 @@ module _ (images : List (List ℕ)) (o : Opened) (found : Found) (frames : ℕ) 
       let e = eight images o r in
       let losers = losers-length 1 o.logs.items o.losers.items (of-losers images o r) in
       record {
-        logs = ap length (ap (λ v. v.items) m.logs) ∙ e;
+        logs = ap length m.logs ∙ e;
         pools = refl;
         txns = m.tables.many ∙ e;
         statuses = ap length m.statuses ∙ length-map o.losers.items (status_for (some_rec o.rec_lsns.items)) ∙ losers ∙ e;

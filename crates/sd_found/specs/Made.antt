@@ -13,7 +13,7 @@ use Rattle.sd_found.specs.Reading.{AreEpochs, AreOwed, AreTables, count_of, lost
 
 -- What was found is made of what was read.
 pub record IsMade (o : Opened) (found : Found) : Type 0 where
-  pub logs : found.logs ≡ o.logs
+  pub logs : found.logs.items ≡ o.logs.items
   pub tables : AreTables o.logs.items found.txns.items
   -- an exclusive lock of each loser on each record that it has open, and no wait
   pub claims : (t : TxnId) (r : Rid) → held found.locks t r ≡ claimed (has_in o.logs.items t r) None

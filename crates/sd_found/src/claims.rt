@@ -15,13 +15,13 @@ ghost use Rattle.sd_found.specs.Claims.{AreApart, LosersAreApart, claimed, has_i
 
 use sd_analysis::{Loser, Losers};
 use sd_base::{Memory, Mode, Rid};
-use sd_log::{Log, Placed};
+use sd_log::{Placed, ReadLog};
 use sd_logrec::Record;
 use sd_reclock::RecordLocks;
 use std::alloc::Global;
 
 /// An exclusive lock of each loser on each record that it has open; nobody waits.
-pub fn claims_of(alloc: Global, logs: &[Log], losers: &[Losers]) -> Result<RecordLocks, Memory>
+pub fn claims_of(alloc: Global, logs: &[ReadLog], losers: &[Losers]) -> Result<RecordLocks, Memory>
     requires losers { AreLosersOf logs.now losers.now }
     requires apart { AreApart logs.now }
     ensures held { IfOk result (λ locks. (t : TxnId) (r : Rid) → held locks t r ≡ claimed (has_in logs.now t r) None) }

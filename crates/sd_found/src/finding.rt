@@ -13,7 +13,9 @@ ghost use Rattle.sd_found.specs.Made.{IsMade};
 ghost use Rattle.sd_found.specs.Reading.{AreEpochs, AreOwed, AreTables, count_of, lost_by, rec_at, some_rec, status_for};
 
 use crate::claims::claims_of;
-use crate::parts::{counts_of, epochs_of, greatest, owed_of, places_of, statuses_of, tables_of};
+use crate::parts::{
+    counts_of, epochs_of, greatest, logs_of, owed_of, places_of, statuses_of, tables_of,
+};
 use sd_base::{Memory, Status};
 use sd_model::Table;
 use sd_opened::Found;
@@ -44,6 +46,7 @@ pub fn found_of(alloc: Global, opened: Opened) -> Result<(Found, Table), Memory>
         table,
         ..
     } = opened;
+    let logs = logs_of(alloc, logs)?;
     let found = Found {
         logs,
         txns: left.txns,

@@ -14,7 +14,7 @@ ghost use Rattle.sd_found.specs.Reading.{AreEpochs, AreOwed, AreTables, IsTableO
 
 use sd_analysis::{Losers, owed};
 use sd_base::{InstNo, Lsn, Memory, PageNo, Status};
-use sd_log::Log;
+use sd_log::{Log, ReadLog};
 use sd_logrec::Record;
 use sd_page::Image;
 use sd_pagelock::Directory;
@@ -23,8 +23,23 @@ use sd_scan::MasterRecord;
 use sd_txn::{TxnState, TxnTable};
 use std::alloc::Global;
 
+/// The logs that go on behind what was read.
+pub fn logs_of(alloc: Global, read: Vec<ReadLog>) -> Result<Vec<Log>, Memory>
+    ensures { IfOk result (λ logs. logs.items ≡ read.items) }
+{
+    let mut logs = Vec::with_capacity(alloc, read.len())?;
+    for log in read {
+        logs.push(log.into_log(alloc)?)?;
+    }
+    Ok(logs)
+}
+
 /// The transaction table of each instance: those whom its log leaves open, each to be undone.
-pub fn tables_of(alloc: Global, logs: &[Log], losers: &[Losers]) -> Result<Vec<TxnTable>, Memory>
+pub fn tables_of(
+    alloc: Global,
+    logs: &[ReadLog],
+    losers: &[Losers],
+) -> Result<Vec<TxnTable>, Memory>
     requires eight { length logs.now ≡ 8 }
     requires losers { AreLosersOf logs.now losers.now }
     ensures { IfOk result (λ tables. AreTables logs.now tables.items) }
@@ -38,7 +53,7 @@ pub fn tables_of(alloc: Global, logs: &[Log], losers: &[Losers]) -> Result<Vec<T
 }
 
 // The same of an instance.
-fn table_of(alloc: Global, inst: InstNo, log: &Log, losers: &Losers) -> Result<TxnTable, Memory>
+fn table_of(alloc: Global, inst: InstNo, log: &ReadLog, losers: &Losers) -> Result<TxnTable, Memory>
     requires { AreLosers (scanned log.now) losers.now }
     ensures { IfOk result (IsTableOf inst log.now) }
 {
@@ -119,7 +134,7 @@ fn status_of(losers: &Losers, lost: bool) -> Status
 pub fn epochs_of(
     alloc: Global,
     masters: &[Option<MasterRecord>],
-    logs: &[Log],
+    logs: &[ReadLog],
 ) -> Result<Vec<u32>, Memory>
     requires { length masters.now ≡ length logs.now }
     ensures { IfOk result (λ epochs. AreEpochs masters.now logs.now epochs.items) }
@@ -132,7 +147,7 @@ pub fn epochs_of(
 }
 
 // The epoch of a log.
-fn epoch_of(master: &Option<MasterRecord>, log: &Log) -> u32
+fn epoch_of(master: &Option<MasterRecord>, log: &ReadLog) -> u32
     ensures { result ≡ epoch_for master.now log.now }
 {
     let mut epoch = epoch_in(master);

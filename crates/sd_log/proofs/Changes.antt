@@ -7,7 +7,7 @@ use Rattle.sd_logrec.specs.declared.record.Record.{Record}
 use Rattle.sd_logrec.specs.Kept.{Group, Records, placed_from, spelled}
 use Rattle.sd_log.specs.declared.placed.Placed.{Placed}
 use Rattle.sd_log.specs.ByPage.{changed_page, changed_pages}
-use Rattle.sd_log.specs.JournalStates.{JournalState, settled}
+use Rattle.sd_log.specs.WrittenStates.{WrittenState, all_in, closed}
 use Rattle.sd_log.specs.Logs.{placed, placed_groups, placed_tail}
 use Rattle.sd_log.proofs.Parted.{placed_groups-more, placed_tail-more}
 
@@ -28,12 +28,12 @@ same_pages : (b c : Bool) (rs : Records) → changed_pages (map (placed b) rs) �
 same_pages b c [] = refl
 same_pages b c (r ∷ rs) = ap (λ (l : List ℕ). changed_page r.1 ∷ l) (same_pages b c rs)
 
-pub pages-settled : (len : ℕ) (j : JournalState) → changed_pages (placed_groups j.groups ++ placed_tail j.gate j.tail) ≡ changed_pages (placed_groups (settled len j).groups ++ placed_tail (settled len j).gate [])
-pages-settled len j =
-    let all : List Placed = placed_groups j.groups in
-    let rs : Records = placed_from (j.gate + 5) j.tail in
+pub pages-closed : (len : ℕ) (w : WrittenState) → changed_pages (all_in w) ≡ changed_pages (all_in (closed len w))
+pages-closed len w =
+    let all : List Placed = placed_groups w.groups in
+    let rs : Records = placed_from (w.gate + 5) w.tail in
     pages-append all (map (placed false) rs) ∙ ap (λ (l : List ℕ). changed_pages all ++ l) (same_pages false true rs) ∙ sym (pages-append all (map (placed true) rs))
-    ∙ ap changed_pages (sym (placed_groups-more j.groups (record { at = j.gate; records = rs }))) ∙ ap changed_pages (sym (append-nil (placed_groups (settled len j).groups)))
+    ∙ ap changed_pages (sym (placed_groups-more w.groups (record { at = w.gate; records = rs }))) ∙ ap changed_pages (sym (append-nil (placed_groups (closed len w).groups)))
 
 -- those of the groups stand in front
 pub pages-dropped : (gate : ℕ) (groups : List Group) (tail : List Record) → take (length (placed_groups groups)) (changed_pages (placed_groups groups ++ placed_tail gate tail)) ≡ changed_pages (placed_groups groups ++ placed_tail gate [])

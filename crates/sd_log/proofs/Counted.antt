@@ -6,21 +6,23 @@ use Rattle.std.proofs.lemmas.List.{append-nil, length-map, length-take}
 use Rattle.std.proofs.lemmas.List.Elements.{All-append, All-from_recursion, All-nil}
 use Rattle.sd_base.specs.Twin.{is_open}
 use Rattle.sd_logrec.specs.declared.record.Record.{Record}
-use Rattle.sd_logrec.specs.Kept.{Group, Whole, fits_area, group_len, groups_within, placed_from, records_at, spelled}
+use Rattle.sd_logrec.specs.Kept.{Group, Records, Whole, fits_area, group_len, groups_within, placed_from, records_at, spelled}
 use Rattle.sd_logrec.specs.Spelling.{HasSpelling, spelling}
 use Rattle.sd_logrec.proofs.Formats.{IsBytes, IsBytes-drop, IsBytes-take}
 use Rattle.sd_logrec.proofs.Groups.{step_of}
 use Rattle.sd_log.specs.declared.log.Log.TheInside.{Inside}
 use Rattle.sd_log.specs.declared.placed.Placed.{Placed}
 use Rattle.sd_log.specs.Buffers.{BufferState}
-use Rattle.sd_log.specs.JournalStates.{JournalState, settled}
+use Rattle.sd_log.specs.WrittenStates.{WrittenState, all_in, closed}
 use Rattle.sd_log.specs.LogInside.{AreForced, IsLog, log_view}
 use Rattle.sd_log.specs.Logs.{AreSpelled, placed, placed_groups, placed_tail, scanned}
 use Rattle.sd_log.specs.ByPage.{changed_pages}
-use Rattle.sd_log.proofs.Changes.{pages-settled}
+use Rattle.sd_log.proofs.Changes.{pages-closed}
 use Rattle.sd_log.proofs.Parted.{placed_groups-more}
-use Rattle.sd_log.proofs.Spelled.{within_bytes}
-use Rattle.sd_log.proofs.Tails.{least_spelling, no_text}
+use Rattle.sd_log.specs.Parts.{record_of}
+use Rattle.sd_log.specs.Spellings.{record_in}
+use Rattle.sd_log.proofs.Spelled.{within_bytes, within_text}
+use Rattle.sd_log.proofs.Tails.{least_spelling, least_text, no_text}
 
 -- ---- records of a tail
 
@@ -57,36 +59,39 @@ forced_more start gate len groups tail h fits size =
     }
 
 -- what forcing makes of the parts
-pub record Settles (l : Inside) (len : ℕ) (journal : JournalState) (tail : BufferState) : Type 0 where
-  pub journal_is : journal ≡ settled len l.journal
-  pub len_is : len ≡ length l.tail.text
+pub record Closes (l : Inside) (len : ℕ) (written : WrittenState) (buffer : BufferState) : Type 0 where
+  pub written_is : written ≡ closed len l.written
+  pub len_is : len ≡ length (spelled l.written.tail)
   pub some : 0 < len
-  pub text_is : tail.text ≡ []
-  pub room : l.tail.room ≤ tail.room
+  pub room : l.buffer.room ≤ buffer.room
 
-pub settled_log : (l : Inside) (len : ℕ) (journal : JournalState) (tail : BufferState) → IsLog l → Settles l len journal tail → IsLog (record { inst = l.inst; journal = journal; pages = l.pages; tail = tail; spare = l.spare })
-settled_log l len journal tail h p =
+pub closed_log : (l : Inside) (len : ℕ) (written : WrittenState) (buffer : BufferState)
+    → IsLog l → Closes l len written buffer
+    → IsLog (record { inst = l.inst; written = written; pages = l.pages; buffer = buffer; spare = l.spare })
+closed_log l len written buffer h p =
     let some = p.some in
     let size = p.len_is in
     let fits = h.fits (omega arith) in
     let room = p.room in
-    let gate : journal.gate ≡ l.journal.gate + 5 + len = ap (λ (j : JournalState). j.gate) p.journal_is in
-    let records : journal.room ≡ l.journal.room = ap (λ (j : JournalState). j.room) p.journal_is in
-    let none : length tail.text ≡ 0 = ap length p.text_is in
+    let gate : written.gate ≡ l.written.gate + 5 + len = ap (λ (w : WrittenState). w.gate) p.written_is in
+    let records : written.room ≡ l.written.room = ap (λ (w : WrittenState). w.room) p.written_is in
+    let text : written.text ≡ l.written.text = ap (λ (w : WrittenState). w.text) p.written_is in
+    let none : length (spelled written.tail) ≡ 0 = ap (λ (w : WrittenState). length (spelled w.tail)) p.written_is in
     let spare_text = h.spare_text in
+    let spare_buffer = h.spare_buffer in
     let spare_records = h.spare_records in
     record {
-      text_is = p.text_is ∙ sym (ap (λ (j : JournalState). spelled j.tail) p.journal_is);
-      spelled_ones = subst (λ (j : JournalState). AllByRecursion HasSpelling j.tail) (sym p.journal_is) tt;
-      forced_are = subst (λ (j : JournalState). AreForced j.start j.gate j.groups) (sym p.journal_is) (forced_more l.journal.start l.journal.gate len l.journal.groups l.journal.tail h.forced_are h.spelled_ones (size ∙ ap length h.text_is));
+      spelled_ones = subst (λ (w : WrittenState). AllByRecursion HasSpelling w.tail) (sym p.written_is) tt;
+      forced_are = subst (λ (w : WrittenState). AreForced w.start w.gate w.groups) (sym p.written_is)
+          (forced_more l.written.start l.written.gate len l.written.groups l.written.tail h.forced_are h.spelled_ones size);
       gate_within = omega arith;
       fits = λ more. absurd (omega arith);
-      least = λ more. absurd (omega arith);
       spare_small = h.spare_small;
       spare_text = omega arith;
+      spare_buffer = omega arith;
       spare_records = omega arith;
       spare_pages = h.spare_pages;
-      chains_are = h.chains_are ∙ pages-settled len l.journal ∙ ap (λ (j : JournalState). changed_pages (placed_groups j.groups ++ placed_tail j.gate j.tail)) (sym p.journal_is);
+      chains_are = h.chains_are ∙ pages-closed len l.written ∙ ap (λ (w : WrittenState). changed_pages (all_in w)) (sym p.written_is);
     }
 
 -- ---- groups that are read
@@ -108,6 +113,35 @@ read_bytes (suc n) at bytes groups gate are e =
           omega (arith, more, first, length-take len (drop 5 bytes), ap (λ (gs : List Group). length (placed_groups gs)) h.6, length-append (map (placed true) h.0) (placed_groups h.1), length-map h.0 (placed true))
     ]
 
+-- the bytes of all records lie between them
+pub read_within : (n at : ℕ) (bytes : List ℕ) (groups : List Group) (gate : ℕ) → IsBytes bytes → groups_within n at bytes ≡ Whole groups gate
+    → at + length (spelled (map record_of (placed_groups groups))) ≤ gate
+unfolding groups_within
+read_within zero at bytes groups gate are e =
+    let none : groups ≡ [] = cc in
+    let here : gate ≡ at = cc in
+    omega (arith, ap (λ (gs : List Group). length (spelled (map record_of (placed_groups gs)))) none)
+read_within (suc n) at bytes groups gate are e =
+    let len : ℕ = group_len bytes in
+    let body : List ℕ = take len (drop 5 bytes) in
+    elim (step_of (is_open 0 bytes) (fits_area at len) at (records_at (at + 5) body) (groups_within n (at + 5 + len) (drop (5 + len) bytes)) groups gate e) [
+      | inl h ↦ omega (arith, h.2, ap (λ (gs : List Group). length (spelled (map record_of (placed_groups gs)))) h.1)
+      | inr h ↦
+          let more = read_within n (at + 5 + len) (drop (5 + len) bytes) h.1 gate (IsBytes-drop (5 + len) bytes are) h.5 in
+          let first : length (spelled (map record_in h.0)) ≡ length body =
+          within_text (length body) (at + 5) body h.0 (IsBytes-take len (drop 5 bytes) (IsBytes-drop 5 bytes are)) h.4 in
+          let all : length (spelled (map record_of (placed_groups groups))) ≡ length (spelled (map record_in h.0)) + length (spelled (map record_of (placed_groups h.1))) =
+          ap (λ (gs : List Group). length (spelled (map record_of (placed_groups gs)))) h.6 ∙ spelled_both h.0 (placed_groups h.1) in
+          omega (arith, more, first, all, length-take len (drop 5 bytes))
+    ]
+  where
+    -- forced records in front of others
+    spelled_both : (rs : Records) (ps : List Placed)
+        → length (spelled (map record_of (map (placed true) rs ++ ps))) ≡ length (spelled (map record_in rs)) + length (spelled (map record_of ps))
+    spelled_both [] ps = omega arith
+    spelled_both (r ∷ rs) ps =
+        omega (arith, spelled_both rs ps, length-append (spelling r.1) (spelled (map record_of (map (placed true) rs ++ ps))), length-append (spelling r.1) (spelled (map record_in rs)))
+
 pub read_forced : (start gate : ℕ) (bytes : List ℕ) (groups : List Group) (tail : List Record) → IsBytes bytes → groups_within (length bytes) start bytes ≡ Whole groups gate → tail ≡ []
     → AreSpelled (placed_groups groups ++ placed_tail gate tail) → AreForced start gate groups
 read_forced start gate bytes groups tail are e none spelled_ones = record {
@@ -117,19 +151,14 @@ read_forced start gate bytes groups tail are e none spelled_ones = record {
 
 -- ---- what every log keeps
 
-pub tail_fits : (l : Inside) → IsLog l → (l.journal.tail ≡ [] → ⊥) → l.journal.gate + 5 + length (spelled l.journal.tail) + 1 ≤ 1048576
+pub tail_fits : (l : Inside) → IsLog l → (l.written.tail ≡ [] → ⊥) → l.written.gate + 5 + length (spelled l.written.tail) + 1 ≤ 1048576
 tail_fits l h some =
-    let size : length l.tail.text ≡ length (spelled l.journal.tail) = ap length h.text_is in
-    let positive : 0 < length l.tail.text = above (length l.tail.text) (λ none. some (no_text l.journal.tail (sym size ∙ none))) in
-    let fits = h.fits positive in
+    let least = least_text l.written.tail (λ none. some (no_text l.written.tail none)) in
+    let fits = h.fits (omega arith) in
     omega arith
-  where
-    above : (n : ℕ) → (n ≡ 0 → ⊥) → 0 < n
-    above zero none = absurd (none refl)
-    above (suc n) none = omega arith
 
 pub all_spelled : (l : Inside) → IsLog l → AreSpelled (scanned (log_view l))
-all_spelled l h = All-append (λ (p : Placed). HasSpelling p.rec) (placed_groups l.journal.groups) (placed_tail l.journal.gate l.journal.tail) h.forced_are.spelled (placed_spelled false (l.journal.gate + 5) l.journal.tail h.spelled_ones)
+all_spelled l h = All-append (λ (p : Placed). HasSpelling p.rec) (placed_groups l.written.groups) (placed_tail l.written.gate l.written.tail) h.forced_are.spelled (placed_spelled false (l.written.gate + 5) l.written.tail h.spelled_ones)
 
 few_of : (start gate : ℕ) (groups : List Group) (tail : List Record) → AreForced start gate groups → gate < 1048576 → ((tail ≡ [] → ⊥) → gate + 5 + length (spelled tail) + 1 ≤ 1048576)
     → length (placed_groups groups ++ placed_tail gate tail) ≤ 116508
@@ -140,7 +169,7 @@ few_of start gate groups (r ∷ rs) h within fits =
     omega (arith, room, length-append (placed_groups groups) (placed_tail gate (r ∷ rs)), length-placed false (gate + 5) (r ∷ rs), least_bytes (r ∷ rs))
 
 pub few_records : (l : Inside) → IsLog l → length (scanned (log_view l)) ≤ 116508
-few_records l h = few_of l.journal.start l.journal.gate l.journal.groups l.journal.tail h.forced_are h.gate_within (tail_fits l h)
+few_records l h = few_of l.written.start l.written.gate l.written.groups l.written.tail h.forced_are h.gate_within (tail_fits l h)
 
 pub few_read : (start gate : ℕ) (bytes : List ℕ) (groups : List Group) (tail : List Record) → IsBytes bytes → groups_within (length bytes) start bytes ≡ Whole groups gate → tail ≡ [] → gate < 1048576
     → AreSpelled (placed_groups groups ++ placed_tail gate tail) → length (placed_groups groups ++ placed_tail gate tail) ≤ 116508

@@ -16,9 +16,10 @@ use Rattle.sd_log.specs.Buffers.{BufferState, framed}
 use Rattle.sd_gate.specs.Gates.{Fills}
 use Rattle.sd_log.specs.Forces.{Forces, StandsEither, forced_at, forced_len}
 use Rattle.sd_log.specs.declared.log.Log.TheInside.{Inside}
-use Rattle.sd_log.specs.JournalStates.{JournalState, settled}
+use Rattle.sd_log.specs.WrittenStates.{WrittenState, closed}
 use Rattle.sd_log.specs.LogInside.{IsLog, log_view}
 use Rattle.sd_log.specs.Logs.{LogState, StandsOn, forced, forced_with, tail_group, tail_len}
+use Rattle.sd_log.proofs.Tails.{least_text}
 
 -- ---- an area on its device
 
@@ -51,13 +52,13 @@ forced_some log [] some = absurd (some refl)
 forced_some log (t ∷ ts) some = refl
 
 -- the log of which the tail became a group
-pub settled_forced : (l : Inside) (journal : JournalState) (tail : BufferState) (len : ℕ)
-    → journal ≡ settled len l.journal → len ≡ tail_len (log_view l) → l.journal.tail ≢ []
-    → log_view (record { inst = l.inst; journal = journal; pages = l.pages; tail = tail; spare = l.spare }) ≡ forced (log_view l)
-settled_forced l journal tail len same size some =
-    ap (λ (j : JournalState). log_view (record { inst = l.inst; journal = j; pages = l.pages; tail = tail; spare = l.spare }))
-    (same ∙ ap (λ n. settled n l.journal) size)
-    ∙ sym (forced_some (log_view l) l.journal.tail some)
+pub closed_forced : (l : Inside) (written : WrittenState) (buffer : BufferState) (len : ℕ)
+    → written ≡ closed len l.written → len ≡ tail_len (log_view l) → l.written.tail ≢ []
+    → log_view (record { inst = l.inst; written = written; pages = l.pages; buffer = buffer; spare = l.spare }) ≡ forced (log_view l)
+closed_forced l written buffer len same size some =
+    ap (λ (w : WrittenState). log_view (record { inst = l.inst; written = w; pages = l.pages; buffer = buffer; spare = l.spare }))
+    (same ∙ ap (λ n. closed n l.written) size)
+    ∙ sym (forced_some (log_view l) l.written.tail some)
 
 -- what the bytes behind the gate say
 framed_parts : (text bytes : List ℕ) (n : ℕ) → length text ≡ n → take (5 + n) bytes ≡ framed text → (take (4 + n) bytes ≡ four n ++ text) × (get_or bytes (4 + n) 0 ≡ 0)
@@ -127,19 +128,17 @@ forces_of log seen leaves img t stands f = record {
 
 -- ---- the log of a call, by what is inside
 
-pub tailed_of : (l : Inside) (log : LogState) → IsLog l → log_view l ≡ log → (length l.tail.text ≡ 0 → ⊥) → IsTailed log
+pub tailed_of : (l : Inside) (log : LogState) → IsLog l → log_view l ≡ log → (length (spelled l.written.tail) ≡ 0 → ⊥) → IsTailed log
 tailed_of l log h view some = subst IsTailed view (inside some)
   where
-    inside : (length l.tail.text ≡ 0 → ⊥) → IsTailed (log_view l)
+    inside : (length (spelled l.written.tail) ≡ 0 → ⊥) → IsTailed (log_view l)
     inside some =
-        let size : length l.tail.text ≡ length (spelled l.journal.tail) = ap length h.text_is in
-        let positive : 0 < length l.tail.text = omega (arith, some) in
-        let least = h.least positive in
-        let fits = h.fits positive in
+        let least = least_text l.written.tail some in
+        let fits = h.fits (omega arith) in
         record {
-          some = λ e. some (ap length (h.text_is ∙ ap spelled e));
+          some = λ e. some (ap (λ (rs : List Record). length (spelled rs)) e);
           spelled_ones = h.spelled_ones;
-          least = omega arith;
+          least = least;
           fits = omega arith;
         }
 

@@ -2,11 +2,14 @@ pub mod Changes
 pub mod Counted
 pub mod Forcing
 pub mod Fronts
+pub mod Items
 pub mod Journaling
 pub mod Linked
 pub mod Paging
 pub mod Parted
 pub mod Bodies
 pub mod Spelled
+pub mod Spelling
 pub mod Starts
 pub mod Tails
+pub mod WrittenItems

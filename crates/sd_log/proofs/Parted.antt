@@ -8,7 +8,7 @@ use Rattle.sd_logrec.specs.declared.record.Record.{Record}
 use Rattle.sd_logrec.specs.Kept.{Group, Records, placed_from, spelled}
 use Rattle.sd_logrec.specs.Spelling.{spelling}
 use Rattle.sd_log.specs.declared.placed.Placed.{Placed}
-use Rattle.sd_log.specs.declared.journal.Mark.{Mark}
+use Rattle.sd_log.specs.declared.marks.Mark.{Mark}
 use Rattle.sd_log.specs.Logs.{lsn_of, placed, placed_groups, placed_tail}
 use Rattle.sd_log.specs.Marks.{AreMarks, as_forced, counted, end_of, entry, greatest_lsn, grouped, high_of}
 

@@ -6,7 +6,7 @@ use Rattle.std.proofs.lemmas.List.Elements.{All-from_recursion}
 use Rattle.sd_base.specs.Twin.{is_open}
 use Rattle.sd_logrec.specs.declared.record.Record.{Record}
 use Rattle.sd_logrec.specs.Fronts.{front_at, front_then, front_within, fronts_within}
-use Rattle.sd_logrec.specs.Kept.{Records, fits_area, group_len, record_before, record_then, records_at, records_within}
+use Rattle.sd_logrec.specs.Kept.{Records, fits_area, group_len, record_before, record_then, records_at, records_within, spelled}
 use Rattle.sd_logrec.specs.Reading.{record_at}
 use Rattle.sd_logrec.specs.Spelling.{HasSpelling, spelling}
 use Rattle.sd_logrec.proofs.Formats.{IsBytes, IsBytes-drop, IsBytes-take}
@@ -16,6 +16,7 @@ use Rattle.std.proofs.lemmas.List.{drop_at}
 use Rattle.sd_log.specs.declared.placed.Placed.{Placed}
 use Rattle.sd_log.specs.Logs.{AreSpelled}
 use Rattle.sd_log.specs.Marks.{entry}
+use Rattle.sd_log.specs.Spellings.{record_in}
 use Rattle.sd_log.proofs.Tails.{least_spelling}
 
 -- placed records of the grammar
@@ -64,6 +65,18 @@ within_bytes (suc n) at (b ∷ body) rs are e =
     let t = record_takes (b ∷ body) f.first are f.found in
     let more = within_bytes n (at + length (spelling f.first.0)) f.first.1 f.more (behind_bytes (spelling f.first.0) f.first.1 (b ∷ body) t.0 are) f.rest in
     omega (arith, more, ap length f.all, ap length t.0, length-append (spelling f.first.0) f.first.1, least_spelling f.first.0)
+
+-- and they take exactly its bytes
+pub within_text : (n at : ℕ) (body : List ℕ) (rs : Records) → IsBytes body → records_within n at body ≡ Ok rs → length (spelled (map record_in rs)) ≡ length body
+unfolding records_within
+within_text n at [] rs are e = let none : rs ≡ [] = cc in ap (λ (l : Records). length (spelled (map record_in l))) none
+within_text zero at (b ∷ body) rs are e = absurd (cc)
+within_text (suc n) at (b ∷ body) rs are e =
+    let f = then_ok at (record_at (b ∷ body)) (records_within n) rs e in
+    let t = record_takes (b ∷ body) f.first are f.found in
+    let more = within_text n (at + length (spelling f.first.0)) f.first.1 f.more (behind_bytes (spelling f.first.0) f.first.1 (b ∷ body) t.0 are) f.rest in
+    let all : length (spelled (map record_in rs)) ≡ length (spelling f.first.0 ++ spelled (map record_in f.more)) = ap (λ (l : Records). length (spelled (map record_in l))) f.all in
+    omega (arith, more, all, ap length t.0, length-append (spelling f.first.0) f.first.1, length-append (spelling f.first.0) (spelled (map record_in f.more)))
 
 -- ---- in front of what breaks the format
 

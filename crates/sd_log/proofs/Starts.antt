@@ -5,11 +5,10 @@ use Rattle.std.specs.List.Sorted.{IsPartitionPoint, IsPartitionedBy}
 use Rattle.std.proofs.lemmas.Bool.{lt-ltb, ltb-true, ltb-false}
 use Rattle.std.proofs.lemmas.List.{length-take-le}
 use Rattle.sd_log.specs.declared.placed.Placed.{Placed}
-use Rattle.sd_log.specs.declared.journal.Mark.{Mark}
-use Rattle.sd_log.specs.declared.journal.Journal.TheInside.{Inside}
-use Rattle.sd_log.specs.Journals.{IsJournal, journal_view}
+use Rattle.sd_log.specs.declared.marks.Mark.{Mark}
 use Rattle.sd_log.specs.Logs.{AreBelow, IsStartFor, lsn_of}
-use Rattle.sd_log.specs.Marks.{AreMarks, counted, end_of, entry, greatest_lsn, grouped}
+use Rattle.sd_log.specs.Marks.{AreMarks, MarksState, counted, end_of, entry, greatest_lsn, grouped}
+use Rattle.sd_log.specs.Parts.{IsParted, groups_of}
 
 below_greatest : (low : ℕ) (ps : List Placed) → greatest_lsn ps < low → AreBelow low (map entry ps)
 below_greatest low [] h = tt
@@ -82,23 +81,23 @@ start_is low at high (suc n) (m ∷ ms) ps are counts le base under over =
       greatest = rest.greatest;
     }
 
--- ---- of a journal
+-- ---- of records that marks part
 
-front_size : (j : Inside) → IsJournal j → counted j.marks.items ≤ length (take j.forced j.placed.items)
-front_size j h = let within = h.within in let sum = h.count in omega (arith, length-take-le j.forced j.placed.items (omega (arith, j.placed.ok.0)))
+front_size : (s : MarksState) (ps : List Placed) → IsParted s ps → counted s.marks ≤ length (take s.forced ps)
+front_size s ps h = let within = h.within in let sum = h.count in omega (arith, length-take-le s.forced ps within)
 
-pub parted_by_low : (low : ℕ) (j : Inside) (ms : List Mark) → IsJournal j → ms ≡ j.marks.items → IsPartitionedBy (λ m. nat_lt m.high low) ms
-parted_by_low low j ms h e = λ i k d le lt below.
-    let rise : (get_or ms i d).high ≤ (get_or ms k d).high = subst (λ (l : List Mark). (get_or l i d).high ≤ (get_or l k d).high) (sym e) (highs_rise j.start 0 i k j.marks.items (take j.forced j.placed.items) d h.marks_are le (omega (arith, ap length e))) in
+pub parted_by_low : (low : ℕ) (s : MarksState) (ps : List Placed) (ms : List Mark) → IsParted s ps → ms ≡ s.marks → IsPartitionedBy (λ m. nat_lt m.high low) ms
+parted_by_low low s ps ms h e = λ i k d le lt below.
+    let rise : (get_or ms i d).high ≤ (get_or ms k d).high = subst (λ (l : List Mark). (get_or l i d).high ≤ (get_or l k d).high) (sym e) (highs_rise s.start 0 i k s.marks (take s.forced ps) d h.marks_are le (omega (arith, ap length e))) in
     lt-ltb (get_or ms i d).high low (omega (arith, ltb-true (get_or ms k d).high low below))
 
-pub from_point : (low n : ℕ) (j : Inside) (ms : List Mark) → IsJournal j → ms ≡ j.marks.items → n ≤ length ms → IsPartitionPoint (λ m. nat_lt m.high low ≡ true) (λ m. nat_lt m.high low ≡ false) ms n
-    → IsStartFor low (journal_view j).groups j.gate (end_of j.start (take n j.marks.items))
-from_point low n j ms h e le point =
-    subst (λ gate. IsStartFor low (journal_view j).groups gate (end_of j.start (take n j.marks.items))) (sym h.gate_is)
-    (start_is low j.start 0 n j.marks.items (take j.forced j.placed.items) h.marks_are (front_size j h) (omega (arith, ap length e)) (inl refl)
+pub from_point : (low n : ℕ) (s : MarksState) (ps : List Placed) (ms : List Mark) → IsParted s ps → ms ≡ s.marks → n ≤ length ms → IsPartitionPoint (λ m. nat_lt m.high low ≡ true) (λ m. nat_lt m.high low ≡ false) ms n
+    → IsStartFor low (groups_of s ps) s.gate (end_of s.start (take n s.marks))
+from_point low n s ps ms h e le point =
+    subst (λ gate. IsStartFor low (groups_of s ps) gate (end_of s.start (take n s.marks))) (sym h.gate_is)
+    (start_is low s.start 0 n s.marks (take s.forced ps) h.marks_are (front_size s ps h) (omega (arith, ap length e)) (inl refl)
     (λ k d lt. subst (λ (l : List Mark). (get_or l k d).high < low) e (ltb-true (get_or ms k d).high low (point.0 k d (omega arith) lt)))
     (λ d lt. subst (λ (l : List Mark). low ≤ (get_or l n d).high) e (ltb-false (get_or ms n d).high low (point.1 n d (omega arith) (omega (arith, ap length e))))))
 
-pub from_start : (j : Inside) (n : ℕ) → IsJournal j → j.start ≤ end_of j.start (take n j.marks.items)
-from_start j n h = ends_rise j.start 0 n j.marks.items (take j.forced j.placed.items) h.marks_are
+pub from_start : (s : MarksState) (ps : List Placed) (n : ℕ) → IsParted s ps → s.start ≤ end_of s.start (take n s.marks)
+from_start s ps n h = ends_rise s.start 0 n s.marks (take s.forced ps) h.marks_are

@@ -1,10 +1,9 @@
--- What contracts see of the bytes of a tail.
+-- What contracts see of the memory for a tail, and a tail as it comes onto the device.
 use Rattle.std.specs.Prelude.{ℕ, List, [], ◌∷◌, ◌++◌, length}
 use Rattle.sd_logrec.specs.Spelling.{four}
 
--- the records' bytes, and how many more find memory
+-- of how many bytes a tail finds memory
 pub record BufferState : Type 0 where
-  pub text : List ℕ
   pub room : ℕ
 
 -- what comes onto the device behind a group's gate: the length, the records, and the next gate, which is closed

@@ -8,4 +8,10 @@ pub mod LogInside
 pub mod Logs
 pub mod Marks
 pub mod PagesInside
+pub mod Parts
+pub mod ReadInside
 pub mod Readings
+pub mod Spellings
+pub mod SpellingsInside
+pub mod WrittenInside
+pub mod WrittenStates

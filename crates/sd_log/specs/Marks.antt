@@ -3,7 +3,7 @@ use Rattle.std.specs.Prelude.{◌≡◌, ℕ, ◌+◌, ◌<◌, true, max, List,
 use Rattle.sd_logrec.specs.declared.record.Record.{Record}
 use Rattle.sd_logrec.specs.Kept.{Group}
 use Rattle.sd_log.specs.declared.placed.Placed.{Placed}
-use Rattle.sd_log.specs.declared.journal.Mark.{Mark}
+use Rattle.sd_log.specs.declared.marks.Mark.{Mark}
 use Rattle.sd_log.specs.Logs.{lsn_of}
 
 -- how many records the groups have
@@ -43,3 +43,12 @@ high_of high (m ∷ ms) = high_of m.high ms
 -- the same record, forced
 abbrev pub as_forced : Placed → Placed
 as_forced p = record { place = p.place; rec = p.rec; forced = true }
+
+-- Where the groups begin, where the next gate stands, the marks between, how many records they have, and how many groups
+-- more find memory.
+pub record MarksState : Type 0 where
+  pub start : ℕ
+  pub gate : ℕ
+  pub marks : List Mark
+  pub forced : ℕ
+  pub room : ℕ

@@ -1,7 +1,7 @@
 //! An area as it was read.
 
-use crate::log::Log;
 use crate::placed::Placed;
+use crate::read::ReadLog;
 use sd_base::Refusal;
 
 /// What an area of groups is read as: a log, where they keep the format. Else `fault` is what breaks it, `BadLog` with the
@@ -9,6 +9,6 @@ use sd_base::Refusal;
 /// `front` has the records that stand before it, those of the same group included, in their order.
 #[derive(Drop)]
 pub enum Area {
-    Whole(Log),
+    Whole(ReadLog),
     Broken { front: Vec<Placed>, fault: Refusal },
 }

@@ -1,17 +1,17 @@
-//! The bytes of a tail as they come onto the device: the group's length, the records, and the next gate.
+//! A tail as it comes onto the device: the group's length, the records, and the next gate.
 
 ghost use Rattle.std.specs.Prelude.{◌≡◌, ◌≢◌, ◌⊎◌, [], ◌∷◌, ◌++◌, ℕ, ◌+◌, ◌^◌, ◌<◌, ◌≤◌, true, false, drop, length, vec_len, vec_capacity, IfOk, IsOk, OnErr, OnOk};
 ghost use Rattle.sd_base.specs.Streams.{Rises};
 ghost use Rattle.sd_base.specs.Twin as twin;
-ghost use Rattle.sd_logrec.specs.Spelling.{HasSpelling, four, spelling};
+ghost use Rattle.sd_logrec.specs.Spelling.{four};
+ghost use Rattle.sd_logrec.specs.Writing.{Appends, HasRoom};
 ghost use Rattle.sd_rig.specs.Devices.{AgreesOutside, Elapses, LeavesOnly, LeavesSame, Span, device_len};
 ghost use Rattle.sd_gate.specs.Gates.{Fills};
 ghost use Rattle.sd_log.specs.Buffers.{BufferState, framed};
 
-use byteorder::{BigEndian, ByteOrder};
 use sd_base::{Failed, Memory};
 use sd_gate::fill;
-use sd_logrec::{GROUP_HEAD, Record};
+use sd_logrec::GROUP_HEAD;
 use sd_rig::Rig;
 use std::alloc::Global;
 use std::marker::Model;
@@ -19,84 +19,61 @@ use std::marker::Model;
 /// The length of a group's length in bytes.
 const HEAD: usize = 4;
 
-/// Four bytes for the group's length, and the records' bytes behind them. There is always room for the next gate.
+/// Memory for a tail with the group's length in front and the next gate behind. Between two calls it has no bytes.
 #[derive(Drop)]
 pub struct Buffer {
     bytes: Vec<u8>,
 }
 
 impl Model for Buffer {
-    ghost use Rattle.std.specs.Prelude.{◌+◌, ◌-◌, ◌≤◌, drop, vec_len, vec_capacity};
+    ghost use Rattle.std.specs.Prelude.{◌≡◌, ◌-◌, ◌≤◌, vec_len, vec_capacity};
     ghost use Rattle.sd_log.specs.Buffers.{BufferState};
 
     ghost Value = { BufferState };
 
-    ghost view = { λ b. record { text = drop 4 b.bytes.items; room = vec_capacity b.bytes - (vec_len b.bytes + 1) } };
+    ghost view = { λ b. record { room = vec_capacity b.bytes - 5 } };
 
-    ghost invariant = { λ b. (4 ≤ vec_len b.bytes) × (vec_len b.bytes + 1 ≤ vec_capacity b.bytes) };
+    ghost invariant = { λ b. (vec_len b.bytes ≡ 0) × (5 ≤ vec_capacity b.bytes) };
 }
 
 impl Buffer {
-    /// No bytes.
-    pub fn new(alloc: Global) -> Result<Self, Memory>
-        ensures { IfOk result (λ b. b.text ≡ []) }
-    {
-        let mut bytes = Vec::with_capacity(alloc, HEAD + 1)?;
-        bytes.extend_from_slice(&[0; HEAD])?;
+    /// Room for no bytes.
+    pub fn new(alloc: Global) -> Result<Self, Memory> {
+        let bytes = Vec::with_capacity(alloc, HEAD + 1)?;
         Ok(Buffer { bytes })
     }
 
-    /// How many bytes there are.
-    pub fn len(&self) -> usize
-        ensures { result ≡ length self.now.text }
-    {
-        self.bytes.len() - HEAD
-    }
-
-    /// Makes room for so many bytes more.
+    /// Makes room for a tail of so many bytes.
     pub fn reserve(&mut self, room: usize) -> Result<(), Memory>
-        requires { room < 2 ^ 32 }
-        ensures text { self.new.text ≡ self.old.text }
+        requires { room < 2 ^ 33 }
         ensures ok { OnOk result (room ≤ self.new.room) }
         ensures stays { self.old.room ≤ self.new.room }
         ensures there { room ≤ self.old.room → IsOk result }
     {
-        self.bytes.reserve(room + 1)?;
+        self.bytes.reserve(HEAD + room + 1)?;
         Ok(())
     }
 
-    /// Appends a record's spelling, without memory.
-    pub fn put(&mut self, r: &Record)
-        requires fits { HasSpelling r.now }
-        requires room { length (spelling r.now) ≤ self.old.room }
-        ensures text { self.new.text ≡ self.old.text ++ spelling r.now }
-        ensures room { self.old.room ≤ self.new.room + length (spelling r.now) }
-    {
-        r.write(&mut self.bytes);
-    }
-
-    /// Forgets the bytes.
-    pub fn clear(&mut self)
-        ensures text { self.new.text ≡ [] }
-        ensures room { self.old.room + length self.old.text ≤ self.new.room }
-    {
-        self.bytes.truncate(HEAD);
-    }
-
-    /// Writes the group behind its gate, with a closed gate behind it, and opens its gate.
-    pub fn write<G: Rig>(&mut self, rig: &mut G, dev: u8, gate: u32) -> Result<(), Failed>
+    /// Writes a tail of these bytes as a group behind its gate, with a closed gate behind it, and opens its gate.
+    pub fn write<G: Rig>(
+        &mut self,
+        rig: &mut G,
+        dev: u8,
+        gate: u32,
+        text: &[u8],
+    ) -> Result<(), Failed>
+        requires room { length text.now ≤ self.old.room }
         requires device { dev ≤ 8 }
-        requires short { length self.old.text < 2 ^ 32 }
-        requires range { gate + 1 + (HEAD + length self.old.text + 1) ≤ device_len dev }
+        requires short { length text.now < 2 ^ 32 }
+        requires range { gate + 1 + (HEAD + length text.now + 1) ≤ device_len dev }
         requires stable { LeavesOnly (G.seen rig.old dev) (G.leaves rig.old dev) }
         requires closed { twin.is_open gate (G.seen rig.old dev) ≡ false }
-        ensures text { self.new.text ≡ self.old.text }
         ensures room { self.old.room ≤ self.new.room }
-        ensures filled { OnOk result ((twin.is_open gate (G.seen rig.new dev) ≡ true) × (twin.body_at (GROUP_HEAD + length self.old.text) gate (G.seen rig.new dev) ≡ framed self.old.text)) }
+        ensures filled { OnOk result ((twin.is_open gate (G.seen rig.new dev) ≡ true) × (twin.body_at (GROUP_HEAD + length text.now) gate (G.seen rig.new dev) ≡ framed text.now)) }
         ensures durable { OnOk result (LeavesOnly (G.seen rig.new dev) (G.leaves rig.new dev)) }
-        ensures outside { AgreesOutside gate (GROUP_HEAD + length self.old.text + 1) (G.seen rig.old dev) (G.seen rig.new dev) }
-        ensures whole { (twin.is_open gate (G.seen rig.new dev) ≡ false) ⊎ (twin.body_at (GROUP_HEAD + length self.old.text) gate (G.seen rig.new dev) ≡ framed self.old.text) }
-        ensures any_moment { Span (G.moment rig.old) (G.since rig.new) (Fills dev gate (GROUP_HEAD + length self.old.text) (framed self.old.text) (G.seen rig.old) (G.leaves rig.old)) }
+        ensures outside { AgreesOutside gate (GROUP_HEAD + length text.now + 1) (G.seen rig.old dev) (G.seen rig.new dev) }
+        ensures whole { (twin.is_open gate (G.seen rig.new dev) ≡ false) ⊎ (twin.body_at (GROUP_HEAD + length text.now) gate (G.seen rig.new dev) ≡ framed text.now) }
+        ensures any_moment { Span (G.moment rig.old) (G.since rig.new) (Fills dev gate (GROUP_HEAD + length text.now) (framed text.now) (G.seen rig.old) (G.leaves rig.old)) }
         ensures others { (d : ℕ) → d ≢ dev → G.seen rig.new d ≡ G.seen rig.old d }
         ensures others_leave { (d : ℕ) → d ≢ dev → LeavesSame (G.leaves rig.old d) (G.leaves rig.new d) }
         ensures time { Elapses (G.moment rig.old) (G.moment rig.new) (G.since rig.old) (G.since rig.new) }
@@ -105,24 +82,38 @@ impl Buffer {
         ensures tick { OnOk result (G.moment rig.new ≡ G.moment rig.old + 4) }
         ensures count { G.faults rig.old ≤ G.faults rig.new }
     {
-        let len = self.bytes.len();
-        frame(&mut self.bytes);
+        frame(&mut self.bytes, text);
         let filled = fill(rig, dev, gate, &self.bytes);
-        self.bytes.truncate(len);
+        self.bytes.truncate(0);
         filled
     }
 }
 
-// Writes the group's length in front, and a closed gate behind.
-fn frame(bytes: &mut Vec<u8>)
-    requires head { HEAD ≤ vec_len bytes.old }
-    requires short { vec_len bytes.old < 2 ^ 32 + HEAD }
-    requires room { vec_len bytes.old + 1 ≤ vec_capacity bytes.old }
-    ensures items { bytes.new.items ≡ framed (drop HEAD bytes.old.items) }
-    ensures len { vec_len bytes.new ≡ vec_len bytes.old + 1 }
+// Writes the group's length, the tail's bytes, and a closed gate.
+fn frame(bytes: &mut Vec<u8>, text: &[u8])
+    requires none { vec_len bytes.old ≡ 0 }
+    requires short { length text.now < 2 ^ 32 }
+    requires room { length text.now + 5 ≤ vec_capacity bytes.old }
+    ensures items { bytes.new.items ≡ framed text.now }
     ensures capacity { vec_capacity bytes.old ≤ vec_capacity bytes.new }
 {
-    let len = (bytes.len() - HEAD) as u32;
-    BigEndian::write_u32(bytes, len);
+    put_len(bytes, text.len() as u32);
+    put_bytes(bytes, text);
     bytes.push_reserved(0);
+}
+
+// Appends a group's length.
+fn put_len(out: &mut Vec<u8>, len: u32)
+    requires { HasRoom out.old (four len) }
+    ensures { Appends out.old out.new (four len) }
+{
+    put_bytes(out, &len.to_be_bytes());
+}
+
+// Appends bytes.
+fn put_bytes(out: &mut Vec<u8>, piece: &[u8])
+    requires { HasRoom out.old piece.now }
+    ensures { Appends out.old out.new piece.now }
+{
+    let _ = out.extend_from_slice(piece);
 }

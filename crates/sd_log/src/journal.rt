@@ -1,11 +1,14 @@
-//! The records of a log in memory: those of its groups, with a mark for each group, and those of the tail behind them.
+//! The records of the groups that are read, one by one, with a mark for each group, and those of the group that is being read
+//! behind them.
 
-ghost use Rattle.std.specs.Prelude.{◌≡◌, ◌≢◌, [], ◌∷◌, ◌++◌, ℕ, ◌+◌, ◌-◌, ◌^◌, ◌<◌, ◌≤◌, drop, length, map, take, vec_len, vec_capacity, IsOk, OnOk};
+ghost use Rattle.std.specs.Prelude.{◌≡◌, ◌≢◌, [], ◌∷◌, ◌++◌, ◌+◌, ◌-◌, ◌^◌, ◌<◌, ◌≤◌, drop, length, map, take, vec_len, vec_capacity, IsOk, OnOk};
 ghost use Rattle.sd_logrec.specs.Kept.{spelled};
-ghost use Rattle.sd_log.specs.JournalStates.{JournalState, dropped, pushed, settled};
-ghost use Rattle.sd_log.specs.Logs.{IsStartFor, last_lsn, lsn_of, placed_groups, placed_tail};
-ghost use Rattle.sd_log.specs.Marks.{as_forced, greatest_lsn, high_of};
+ghost use Rattle.sd_log.specs.JournalStates.{JournalState, pushed, settled};
+ghost use Rattle.sd_log.specs.Logs.{placed_groups, placed_tail};
+ghost use Rattle.sd_log.specs.Marks.{as_forced, greatest_lsn};
+ghost use Rattle.sd_log.specs.Parts.{IsParted, groups_of, tail_of};
 
+use crate::marks::Marks;
 use crate::placed::Placed;
 use sd_base::{Lsn, Memory};
 use sd_logrec::{AREA_LEN, END_LEN, GROUP_HEAD, Record};
@@ -14,25 +17,14 @@ use std::marker::Model;
 
 /// How many records memory is taken for at once, at least: those of a full area of which none is shorter than a Commit. It is
 /// touched as they come, and records are hardly ever moved to a wider place.
-const WIDE: usize = AREA_LEN as usize / END_LEN;
+pub const WIDE: usize = AREA_LEN as usize / END_LEN;
 
-/// A group: where it ends, how many records it has, and the greatest LSN of the log up to its end.
-#[derive(Clone, Copy)]
-pub struct Mark {
-    pub end: u32,
-    pub count: usize,
-    pub high: Lsn,
-}
-
-/// The groups from `start` to `gate` and the records of the tail. `room` is how many records more find memory, each with
+/// The groups from `start` to `gate` and the records behind them. `room` is how many records more find memory, each with
 /// a mark of its own.
 #[derive(Drop)]
 pub struct Journal {
-    start: u32,
-    gate: u32,
-    marks: Vec<Mark>,
+    marks: Marks,
     placed: Vec<Placed>,
-    forced: usize,
     room: usize,
 }
 
@@ -54,11 +46,8 @@ impl Journal {
         ensures { result ≡ record { start = start; gate = start; groups = []; tail = []; room = 0 } }
     {
         Journal {
-            start,
-            gate: start,
-            marks: Vec::new(alloc),
+            marks: Marks::new(alloc, start),
             placed: Vec::new(alloc),
-            forced: 0,
             room: 0,
         }
     }
@@ -67,7 +56,7 @@ impl Journal {
     pub fn gate(&self) -> u32
         ensures { result ≡ self.now.gate }
     {
-        self.gate
+        self.marks.gate()
     }
 
     /// All records in their order.
@@ -84,26 +73,15 @@ impl Journal {
         self.placed
     }
 
-    /// The LSN of the last record, or 0.
-    pub fn last_lsn(&self) -> Lsn
-        ensures { result ≡ last_lsn (placed_groups self.now.groups ++ placed_tail self.now.gate self.now.tail) }
+    /// The marks and all records, and the journal no more.
+    pub fn into_parts(self) -> (Marks, Vec<Placed>)
+        ensures parted { IsParted result.0 result.1.items }
+        ensures start { result.0.start ≡ self.start }
+        ensures gate { result.0.gate ≡ self.gate }
+        ensures groups { groups_of result.0 result.1.items ≡ self.groups }
+        ensures tail { tail_of result.0 result.1.items ≡ self.tail }
     {
-        match self.placed.last() {
-            None => 0,
-            Some(last) => last.rec.lsn(),
-        }
-    }
-
-    /// The greatest boundary of groups before which each record has an LSN below `low`.
-    pub fn start_for(&self, low: Lsn) -> u32
-        ensures exact { IsStartFor low self.now.groups self.now.gate result }
-        ensures start { self.now.start ≤ result }
-    {
-        let n = self.marks.partition_point(|mark| mark.high < low);
-        if n == 0 {
-            return self.start;
-        }
-        self.marks[n - 1].end
+        (self.marks, self.placed)
     }
 
     /// Makes room for so many records more.
@@ -120,7 +98,7 @@ impl Journal {
         self.widen(room)
     }
 
-    // Takes memory for so many records more, or for more than these, and counts all that is there then.
+    // Takes memory for so many records more, or for more than these.
     #[inline(never)]
     fn widen(&mut self, room: usize) -> Result<(), Memory>
         requires more { self.old.room < room }
@@ -132,13 +110,11 @@ impl Journal {
         let wide = room.max(WIDE);
         self.placed.reserve(wide)?;
         self.marks.reserve(wide + 1)?;
-        let records = self.placed.capacity() - self.placed.len();
-        let marks = self.marks.capacity() - self.marks.len() - 1;
-        self.room = records.min(marks);
+        self.room = wide;
         Ok(())
     }
 
-    /// Puts a record at the end of the tail, without memory. `place` is where it comes to stand.
+    /// Puts a record behind the others, without memory. `place` is where it stands.
     pub fn push(&mut self, rec: Record, place: u32)
         requires room { 1 ≤ self.old.room }
         requires place { place ≡ self.old.gate + GROUP_HEAD + length (spelled self.old.tail) }
@@ -149,36 +125,17 @@ impl Journal {
         self.room -= 1;
     }
 
-    /// Makes the tail a group with a body of `len` bytes, without memory.
+    /// Makes the records behind the groups a group with a body of `len` bytes, without memory.
     pub fn settle(&mut self, len: u32)
         requires tail { self.old.tail ≢ [] }
         requires fits { self.old.gate + GROUP_HEAD + len < 2 ^ 32 }
         ensures { self.new ≡ settled len self.old }
     {
-        let count = self.placed.len() - self.forced;
-        let high = high_of(&self.marks).max(greatest_lsn(&self.placed[self.forced..]));
-        let end = self.gate + GROUP_HEAD as u32 + len;
-        mark_forced(&mut self.placed, self.forced);
-        self.marks.push_reserved(Mark { end, count, high });
-        self.gate = end;
-        self.forced = self.placed.len();
-    }
-
-    /// Forgets the tail.
-    pub fn drop_tail(&mut self)
-        ensures { self.new ≡ dropped self.old }
-    {
-        self.placed.truncate(self.forced);
-    }
-}
-
-// The greatest LSN up to the last mark, or 0.
-fn high_of(marks: &[Mark]) -> Lsn
-    ensures { result ≡ high_of 0 marks.now }
-{
-    match marks.last() {
-        None => 0,
-        Some(mark) => mark.high,
+        let from = self.marks.forced();
+        let count = self.placed.len() - from;
+        let greatest = greatest_lsn(&self.placed[from..]);
+        mark_forced(&mut self.placed, from);
+        self.marks.close(len, count, greatest);
     }
 }
 

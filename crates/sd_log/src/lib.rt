@@ -1,7 +1,9 @@
 //! The private log of one instance: records in order, of which those of the tail aren't forced yet.
 //!
 //! Meaning: a `Log` is its forced groups, the place of the next gate, and the tail (`LogState`, `specs/Logs.antt`); what
-//! its device stands for is `reading` (`specs/Kept.antt` of sd_logrec), and `StandsOn` says that it is these groups.
+//! its device stands for is `reading` (`specs/Kept.antt` of sd_logrec), and `StandsOn` says that it is these groups. It
+//! keeps its records as their bytes, of which `record` reads one; a `ReadLog` is the same of groups that were just read,
+//! with each record by itself in memory.
 //! Keeps: a closed gate stands behind the last group that is forced; no group passes the area's end, and records of at
 //! least 9 bytes each are few (`keeps`).
 //! Promises: a crash at any moment of `force` leaves the log with its tail or without it (`any_moment`), and with it
@@ -15,7 +17,7 @@
 //! Held by the caller: a crash leaves of the device what it reads, and the log's groups stand there (`force`).
 //!
 //! To change:
-//! - free: bodies and private helpers, `Journal`, `Buffer` and `PageChains` inside
+//! - free: bodies and private helpers, `Journal`, `Written`, `Spellings`, `Marks`, `Buffer` and `PageChains` inside
 //! - dear: `LogState`, the clauses of `append` and `force`, `Forces` (`specs/Forces.antt`)
 //! - frozen: the bytes of a group, and the calls of a force in their order (docs/FORMATS.md)
 #![tactic(auto)]
@@ -24,10 +26,15 @@ mod area;
 mod buffer;
 mod journal;
 mod log;
+mod marks;
 mod pages;
 mod placed;
+mod read;
 mod reading;
+mod spellings;
+mod written;
 
 pub use area::Area;
 pub use log::Log;
 pub use placed::Placed;
+pub use read::ReadLog;

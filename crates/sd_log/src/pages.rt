@@ -1,13 +1,12 @@
 //! The records of each page, found without a look at the others.
 
 ghost use Rattle.std.specs.Prelude.{◌≡◌, [], ◌∷◌, ◌++◌, ◌+◌, ◌-◌, ◌^◌, ◌<◌, ◌≤◌, length, map, take, IfOk, IsOk, OnOk};
-ghost use Rattle.sd_logrec.specs.declared.record.Record.{Record};
 ghost use Rattle.sd_log.specs.ByPage.{changed_page, changed_pages, places_of};
 ghost use Rattle.sd_log.specs.PagesInside.{PagesState};
 
 use crate::placed::Placed;
 use sd_base::{Memory, PAGES, PageNo};
-use sd_logrec::Record;
+use sd_logrec::Lent;
 use std::alloc::Global;
 use std::marker::Model;
 
@@ -59,7 +58,8 @@ impl PageChains {
         let mut pages = PageChains::new(alloc)?;
         pages.reserve(placed.len())?;
         for p in placed {
-            pages.push(&p.rec);
+            let rec = Lent::whole(&p.rec);
+            pages.push(&rec);
         }
         Ok(pages)
     }
@@ -77,7 +77,7 @@ impl PageChains {
     }
 
     /// Puts a record behind the others, without memory.
-    pub fn push(&mut self, rec: &Record)
+    pub fn push(&mut self, rec: &Lent)
         requires room { 1 ≤ self.old.room }
         requires few { length self.old.chains + 1 < 2 ^ 32 }
         ensures chains { self.new.chains ≡ self.old.chains ++ changed_page rec.now ∷ [] }
@@ -133,12 +133,12 @@ impl PageChains {
 }
 
 // The chain of a record: the number of the page that it changes, or the one behind all pages.
-fn chain_of(rec: &Record) -> u16
+fn chain_of(rec: &Lent) -> u16
     ensures chain { result ≡ changed_page rec.now }
     ensures within { result < CHAINS }
 {
-    match rec {
-        Record::Update { page, .. } | Record::Clr { page, .. } => page.get(),
-        _ => PAGES,
+    match rec.page() {
+        Some(page) => page.get(),
+        None => PAGES,
     }
 }

@@ -1,6 +1,5 @@
 //! A record of a log with its place.
 
-use sd_base::{Duplicate, Memory};
 use sd_logrec::Record;
 
 /// A record of a log. `place` is where it stands, in bytes from the area's start; one that isn't forced has the place
@@ -10,14 +9,4 @@ pub struct Placed {
     pub place: u32,
     pub rec: Record,
     pub forced: bool,
-}
-
-impl Duplicate for Placed {
-    fn copy(&self) -> Result<Self, Memory> {
-        Ok(Placed {
-            place: self.place,
-            rec: self.rec.copy()?,
-            forced: self.forced,
-        })
-    }
 }

@@ -1,3 +1,4 @@
+mod Commits
 pub mod Example
 pub mod Formats
 pub mod Groups

@@ -1,5 +1,5 @@
 -- Where a record's spelling has room, each of its pieces has when its turn comes. It serves the goals of `Record::write`.
-use Rattle.std.proofs.Common.{◌≡◌, ℕ, List, ◌++◌, Option, subst}
+use Rattle.std.proofs.Common.{◌≡◌, ℕ, List, ◌++◌, Option, ap, ◌∙◌, subst}
 use Rattle.std.specs.Global.{Vec}
 use Rattle.sd_base.specs.declared.ids.TxnId.{TxnId}
 use Rattle.sd_logrec.specs.declared.record.Record.{Record}
@@ -118,3 +118,10 @@ module _ (a : Vec ℕ) (r : Record) (lsn begin : ℕ) (spans : List Span) (recs 
 
       pub check_recs : (d : Vec ℕ) → Appends c d (counted span spans) → HasRoom d (counted changed recs)
       check_recs d z = room_then c d (counted span spans) (counted changed recs) z behind_begin
+
+-- an Update of values that are the same
+pub same_update : (lsn : ℕ) (txn : TxnId) (prev page slot capacity : ℕ) (b a before after : Option (List ℕ)) → b ≡ before → a ≡ after
+    → records.Update lsn txn prev page slot capacity b a ≡ records.Update lsn txn prev page slot capacity before after
+same_update lsn txn prev page slot capacity b a before after e f =
+    ap (λ (v : Option (List ℕ)). records.Update lsn txn prev page slot capacity v a) e
+    ∙ ap (λ (v : Option (List ℕ)). records.Update lsn txn prev page slot capacity before v) f

@@ -1,5 +1,6 @@
 pub mod Kept
 pub mod Fronts
+pub mod Lent
 pub mod Reading
 pub mod Spelling
 pub mod View

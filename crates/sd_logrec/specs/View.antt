@@ -1,5 +1,6 @@
 -- A log record with the same fields whatever its kind, for the laws on chains of records.
-use Rattle.std.specs.Prelude.{ℕ, List, Option, None}
+use Rattle.std.specs.Prelude.{ℕ, Bool, true, false, List, Option, None, Some}
+use Rattle.sd_base.specs.Ids.{same_txn}
 use Rattle.sd_base.specs.declared.ids.TxnId.{TxnId}
 use Rattle.sd_logrec.specs.declared.record.Record.{Record}
 use Rattle.sd_logrec.specs.declared.record.Record.TheVariants as records
@@ -46,3 +47,33 @@ flat (records.Commit lsn txn prev) = ending Commit lsn txn prev
 flat (records.End lsn txn prev) = ending End lsn txn prev
 flat (records.BeginCheck lsn) = plain lsn
 flat (records.EndCheck lsn begin spans recs) = plain lsn
+
+-- the record is a Commit of t
+abbrev pub is_commit_of : TxnId → Record → Bool
+is_commit_of t (records.Start lsn epoch) = false
+is_commit_of t (records.Update lsn txn prev page slot capacity before after) = false
+is_commit_of t (records.Clr lsn txn prev undo_next page slot after) = false
+is_commit_of t (records.Commit lsn txn prev) = same_txn txn t
+is_commit_of t (records.End lsn txn prev) = false
+is_commit_of t (records.BeginCheck lsn) = false
+is_commit_of t (records.EndCheck lsn begin spans recs) = false
+
+-- the number of the page that the record changes, where it changes one
+abbrev pub page_of : Record → Option ℕ
+page_of (records.Start lsn epoch) = None
+page_of (records.Update lsn txn prev page slot capacity before after) = Some page
+page_of (records.Clr lsn txn prev undo_next page slot after) = Some page
+page_of (records.Commit lsn txn prev) = None
+page_of (records.End lsn txn prev) = None
+page_of (records.BeginCheck lsn) = None
+page_of (records.EndCheck lsn begin spans recs) = None
+
+-- the record ends what an earlier one of its transaction began: a CLR, a Commit or an End
+abbrev pub is_closing : Record → Bool
+is_closing (records.Start lsn epoch) = false
+is_closing (records.Update lsn txn prev page slot capacity before after) = false
+is_closing (records.Clr lsn txn prev undo_next page slot after) = true
+is_closing (records.Commit lsn txn prev) = true
+is_closing (records.End lsn txn prev) = true
+is_closing (records.BeginCheck lsn) = false
+is_closing (records.EndCheck lsn begin spans recs) = false

@@ -22,6 +22,7 @@ mod copy;
 mod fields;
 pub mod laws;
 mod layout;
+mod lent;
 mod miss;
 mod put;
 mod record;
@@ -29,5 +30,6 @@ mod rows;
 mod take;
 
 pub use layout::{AREA, AREA_LEN, CLR_LEN, END_LEN, GROUP_HEAD, MASTER_BODY, MAX_LSN};
+pub use lent::{Lent, Update};
 pub use record::Record;
 pub use rows::{Recs, Rows, Spans};

@@ -1,12 +1,13 @@
 //! A record written at the end of a `Vec`, without memory once its room is there.
 
-ghost use Rattle.std.specs.Prelude.{◌≡◌, ◌≤◌, ◌+◌, ◌++◌, length, vec_len, vec_capacity, IsOk, OnOk, OnErr};
+ghost use Rattle.std.specs.Prelude.{◌≡◌, ◌≤◌, ◌+◌, ◌++◌, length, vec_len, vec_capacity, option_copied, IsOk, OnOk, OnErr};
 ghost use Rattle.std.specs.List.{flat_map};
+ghost use Rattle.sd_logrec.specs.Lent.{update_record};
 ghost use Rattle.sd_logrec.specs.Writing.{HasRoom, Appends};
 ghost use Rattle.sd_logrec.specs.Spelling.{spelling, HasSpelling, IsTxn, IsValue, AreSpans, AreRecs, one, two, four, eight, transaction, value, span, changed, counted, row};
 
-use crate::{END_LEN, Record, Recs, Spans};
-use sd_base::{Bytes, Lsn, Memory, NO_VALUE, PageNo, TxnId};
+use crate::{END_LEN, Record, Recs, Spans, Update};
+use sd_base::{Bytes, Lsn, Memory, NO_VALUE, PageNo, TxnId, lent_value};
 
 /// The length of a page, a slot and a capacity in bytes.
 const PLACE_LEN: usize = 8;
@@ -47,10 +48,17 @@ impl Record {
                 before,
                 after,
             } => {
-                put_head(out, 2, *lsn, *txn, *prev);
-                put_place(out, *page, *slot, *capacity);
-                put_value(out, before);
-                put_value(out, after);
+                let update = Update {
+                    lsn: *lsn,
+                    txn: *txn,
+                    prev: *prev,
+                    page: *page,
+                    slot: *slot,
+                    capacity: *capacity,
+                    before: lent_value(before),
+                    after: lent_value(after),
+                };
+                update.write(out);
             }
             Record::Clr {
                 lsn,
@@ -65,7 +73,7 @@ impl Record {
                 put_u64(out, *undo_next);
                 put_page(out, *page);
                 put_u16(out, *slot);
-                put_value(out, after);
+                put_kept(out, after);
             }
             Record::Commit { lsn, txn, prev } => put_head(out, 4, *lsn, *txn, *prev),
             Record::End { lsn, txn, prev } => put_head(out, 5, *lsn, *txn, *prev),
@@ -82,6 +90,20 @@ impl Record {
                 put_recs(out, recs);
             }
         }
+    }
+}
+
+impl<'a> Update<'a> {
+    /// Appends its spelling where there is room for it. It takes no memory.
+    pub fn write(&self, out: &mut Vec<u8>)
+        requires fits { HasSpelling (update_record self.now) }
+        requires room { HasRoom out.old (spelling (update_record self.now)) }
+        ensures { Appends out.old out.new (spelling (update_record self.now)) }
+    {
+        put_head(out, 2, self.lsn, self.txn, self.prev);
+        put_place(out, self.page, self.slot, self.capacity);
+        put_value(out, self.before);
+        put_value(out, self.after);
     }
 }
 
@@ -190,18 +212,27 @@ fn place_of(page: PageNo, slot: u16, capacity: u16) -> [u8; PLACE_LEN]
     place
 }
 
-fn put_value(out: &mut Vec<u8>, optional: &Option<Bytes>)
-    requires small { IsValue optional.now }
-    requires room { HasRoom out.old (value optional.now) }
-    ensures { Appends out.old out.new (value optional.now) }
+fn put_value(out: &mut Vec<u8>, optional: Option<&[u8]>)
+    requires small { IsValue (option_copied optional) }
+    requires room { HasRoom out.old (value (option_copied optional)) }
+    ensures { Appends out.old out.new (value (option_copied optional.entry)) }
 {
     match optional {
         None => put_u16(out, NO_VALUE),
         Some(bytes) => {
-            put_u16(out, bytes.items().len() as u16);
-            put_bytes(out, bytes.items());
+            put_u16(out, bytes.len() as u16);
+            put_bytes(out, bytes);
         }
     }
+}
+
+// The same of a value that is kept.
+fn put_kept(out: &mut Vec<u8>, optional: &Option<Bytes>)
+    requires small { IsValue optional.now }
+    requires room { HasRoom out.old (value optional.now) }
+    ensures { Appends out.old out.new (value optional.now) }
+{
+    put_value(out, lent_value(optional));
 }
 
 fn put_span(out: &mut Vec<u8>, item: &(TxnId, Lsn, Lsn))

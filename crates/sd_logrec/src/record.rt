@@ -2,7 +2,7 @@
 
 ghost use Rattle.std.specs.Prelude.{◌≡◌, length, IfOk};
 ghost use Rattle.sd_logrec.specs.Spelling.{spelling, spelled_length, HasSpelling};
-ghost use Rattle.sd_logrec.specs.View.{flat};
+ghost use Rattle.sd_logrec.specs.View.{flat, is_closing, page_of};
 
 use crate::layout::{CLR_LEN, END_LEN};
 use crate::{Recs, Spans};
@@ -93,6 +93,26 @@ impl Record {
             Record::EndCheck { spans, recs, .. } => {
                 21 + 25 * spans.items().len() + 12 * recs.items().len()
             }
+        }
+    }
+
+    /// The page that it changes, of an Update or a CLR.
+    pub fn page(&self) -> Option<PageNo>
+        ensures { result ≡ page_of self.now }
+    {
+        match self {
+            Record::Update { page, .. } | Record::Clr { page, .. } => Some(*page),
+            _ => None,
+        }
+    }
+
+    /// Whether it ends what an earlier record of its transaction began: whether it is a CLR, a Commit or an End.
+    pub fn is_closing(&self) -> bool
+        ensures { result ≡ is_closing self.now }
+    {
+        match self {
+            Record::Clr { .. } | Record::Commit { .. } | Record::End { .. } => true,
+            _ => false,
         }
     }
 }

@@ -1,9 +1,12 @@
 //! A record read at the front of a slice, and the bytes behind it.
 
-ghost use Rattle.std.specs.Prelude.{◌≡◌, ◌⊎◌, ◌≤◌, ◌+◌, ℕ, List, ◌++◌, length, drop, nat_lt, IfOk, IfErr, Ok, Err};
+ghost use Rattle.std.specs.Prelude.{◌≡◌, ◌⊎◌, ◌≤◌, ◌+◌, ℕ, List, ◌++◌, length, drop, nat_lt, false, Some, IfOk, IfErr, Ok, Err};
+ghost use Rattle.std.specs.Option.{option_map_or};
+ghost use Rattle.sd_base.specs.Ids.{same_txn};
 ghost use Rattle.sd_base.specs.declared.refusal.Refusal.TheVariants as R;
 ghost use Rattle.sd_logrec.specs.declared.record.Record.{Record};
 ghost use Rattle.sd_logrec.specs.Spelling.{spelling, HasSpelling, is_before, is_rising};
+ghost use Rattle.sd_logrec.specs.View.{is_commit_of};
 ghost use Rattle.sd_logrec.specs.Reading.{Finds, Gives, span_at, changed_at, items_at, spans_at, recs_at, start_at, update_at, clr_at, commit_at, end_at, end_check_at, fields_at, record_at};
 
 use crate::fields::{
@@ -311,5 +314,38 @@ impl Record {
             Err(Miss::Nothing) => Err(Refusal::BadRecord { at: at as u64 }),
             Err(Miss::Memory) => Err(Refusal::Memory),
         }
+    }
+
+    /// Whether the record whose spelling stands at byte `at` is a Commit of this transaction. It takes no memory.
+    pub fn is_commit_at(bytes: &[u8], at: usize, t: &TxnId) -> bool
+        requires inside { at ≤ length bytes.now }
+        ensures { (r : Record) (rest : List ℕ) → HasSpelling r → drop at bytes.now ≡ spelling r ++ rest
+            → result ≡ is_commit_of t.now r }
+    {
+        let (_, front) = bytes.split_at(at);
+        match commit_in(front) {
+            Some(txn) => txn == *t,
+            None => false,
+        }
+    }
+}
+
+// The transaction of the Commit at the front, where one stands there.
+#[tactic(auto, unfolding(crate::specs::Reading::record_at, crate::specs::Reading::fields_at, crate::specs::Reading::commit_at))]
+fn commit_in(bytes: &[u8]) -> Option<TxnId>
+    ensures { (x : Record × List ℕ) → record_at bytes.now ≡ Some x → (t : TxnId) → is_commit_of t x.0 ≡ option_map_or (λ txn. same_txn txn t) result false }
+{
+    let Some((kind, rest)) = byte_of(bytes) else {
+        return None;
+    };
+    if kind != 4 {
+        return None;
+    }
+    let Some((_lsn, rest)) = lsn_of(rest) else {
+        return None;
+    };
+    match txn_of(rest) {
+        Some((txn, _prev)) => Some(txn),
+        None => None,
     }
 }

@@ -22,7 +22,7 @@ ghost use Rattle.sd_state.specs.Values.{Pending};
 
 use sd_base::{InstNo, Lsn, Memory, Place, Refusal, TxnId, copy_value};
 use sd_log::Log;
-use sd_logrec::Record;
+use sd_logrec::{Lent, Record};
 use sd_rig::Rig;
 use sd_state::{Complex, Due};
 use sd_txn::TxnTable;
@@ -145,7 +145,7 @@ fn append_copied(log: &mut Log, clr: Record) -> Result<(), Memory>
     ensures spent { OnOk result (log.old.spare ≤ log.new.spare + length (spelling clr)) }
     ensures err { OnErr result (log.new ≡ log.old) }
 {
-    match log.append(clr, 0) {
+    match log.append(&Lent::whole(&clr), 0) {
         Ok(()) => Ok(()),
         Err(_) => Err(Memory),
     }

@@ -5,7 +5,7 @@ use Rattle.std.specs.Ordering.{is_lt, nat_cmp}
 use Rattle.std.specs.List.{swap}
 use Rattle.std.specs.List.Sorted.{IsNonDecreasingBy}
 use Rattle.std.proofs.lemmas.List.{get_or-map, length-map}
-use Rattle.std.proofs.lemmas.List.Elements.{All-head, All-tail}
+use Rattle.std.proofs.lemmas.List.Elements.{All-head, All-tail, filter_agree}
 use Rattle.std.proofs.lemmas.List.Sorted.{IsPermutation-refl, IsPermutation-cons, IsPermutation-keeps, IsPermutation-trans, IsPermutation-swap}
 
 module _ {X : Type 0} (p : X → Bool) where
@@ -90,6 +90,19 @@ filter_both {X} p q (x ∷ xs) = ap (λ l. cond (p x && q x) (x ∷ l) l) (filte
     go : (a : Bool) (l : List X) → cond (a && q x) (x ∷ filter q l) (filter q l) ≡ filter q (cond a (x ∷ l) l)
     go true l = refl
     go false l = refl
+
+-- two filters, in either order
+pub filters_swap : {X : Type 0} (p q : X → Bool) (xs : List X) → filter p (filter q xs) ≡ filter q (filter p xs)
+filters_swap p q xs =
+    sym (filter_both q p xs)
+    ∙ filter_agree (λ x. q x && p x) (λ x. p x && q x) (λ x. and_comm (q x) (p x)) xs
+    ∙ filter_both p q xs
+  where
+    and_comm : (a b : Bool) → (a && b) ≡ (b && a)
+    and_comm true true = refl
+    and_comm true false = refl
+    and_comm false true = refl
+    and_comm false false = refl
 
 -- a list all of which passes
 pub filter_all : {X : Type 0} (p : X → Bool) (xs : List X) → All (λ x. p x ≡ true) xs → filter p xs ≡ xs

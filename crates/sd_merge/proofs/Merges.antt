@@ -5,7 +5,7 @@ use Rattle.std.specs.List.Sorted.{IsNonDecreasingBy}
 use Rattle.std.specs.Option.{option_map_or}
 use Rattle.std.proofs.lemmas.Bool.{cases_lt, eqb-true}
 use Rattle.std.proofs.lemmas.List.{append-nil, get_or-append-add, get_or_append_left, length-append, map-append}
-use Rattle.std.proofs.lemmas.List.Elements.{All-append, All-cons, All-get_or, All-head, All-map, All-nil, All-tail, All-weaker, filter-append, filter_passes}
+use Rattle.std.proofs.lemmas.List.Elements.{All-append, All-cons, All-filter, All-get_or, All-head, All-map, All-nil, All-tail, All-weaker, filter-append, filter_passes}
 use Rattle.std.proofs.lemmas.List.Sorted.{All-permutation, IsNonDecreasingBy-short, IsPermutation-append_comm, IsPermutation-append_left, IsPermutation-map, IsPermutation-refl, IsPermutation-trans, length_permutation}
 use Rattle.sd_logrec.specs.declared.record.Record.{Record}
 use Rattle.sd_logrec.specs.declared.record.Record.TheVariants as records
@@ -18,9 +18,7 @@ use Rattle.sd_chain.specs.Records.{changes, of_page}
 use Rattle.sd_chain.proofs.Newest.{and_true}
 use Rattle.sd_chain.proofs.Ties.{slow_of}
 use Rattle.sd_merge.specs.declared.change.Change.{Change}
-use Rattle.sd_merge.specs.declared.change.Wanted.{Wanted}
-use Rattle.sd_merge.specs.declared.change.Wanted.TheVariants as W
-use Rattle.sd_merge.specs.Changes.{AllStand, AreChanges, ChangesPage, IsChange, IsMerged, LsnsRise, Rises, StandsIn, chain_of, found_of, in_turn, is_taken, is_wanted, of_lsn, page_of, placed_in, redone_of}
+use Rattle.sd_merge.specs.Changes.{AllStand, AreByLsn, AreChanges, ChangesPage, IsChange, IsMerged, LsnsRise, Rises, StandsIn, chain_of, found_of, in_turn, is_forced_of, is_of, placed_in, redone_of}
 use Rattle.sd_merge.proofs.Filters.{IsNonDecreasingBy-map, IsPermutation-filter, filter_all, filter_within}
 use Rattle.sd_merge.proofs.Ordered.{at_lsn, ordered, recs_at}
 use Rattle.sd_merge.proofs.Turns.{every_flat, flats-filter, flats-found, forced_flat}
@@ -34,89 +32,98 @@ turned logs (suc n) =
     (IsPermutation-append_comm (logs n) (all_of logs n))
     (IsPermutation-append_left (logs n) (all_of logs n) (in_turn logs n) (turned logs n))
 
--- what `changes_by_lsn` answers
-pub record ByLsn (logs : List LogState) (n : ℕ) (w : Wanted) (cs : List Change) : Type 0 where
-  pub are : AreChanges cs
-  pub rises : IsNonDecreasingBy (λ c. (redone_of c).lsn) cs
-  pub same : IsPermutation (filter (is_wanted w) (in_turn (placed_in logs) n)) (map found_of cs)
-  pub turns : (m : ℕ) → of_lsn m (map found_of cs) ≡ of_lsn m (filter (is_wanted w) (in_turn (placed_in logs) n))
+-- ---- records of the grammar
 
-module _ (logs : List LogState) (n : ℕ) (w : Wanted) (cs : List Change) (by : ByLsn logs n w cs) where
-  same_flat : (recs : List Rec) → flats (filter (is_wanted w) (in_turn (placed_in logs) n)) ≡ recs → IsPermutation recs (map redone_of cs)
-  same_flat recs e =
-      subst (λ l. IsPermutation recs l) (flats-found cs)
-      (subst (λ l. IsPermutation l (flats (map found_of cs))) e
-      (IsPermutation-map (λ (p : Placed). flat p.rec) (filter (is_wanted w) (in_turn (placed_in logs) n)) (map found_of cs) by.same))
+spelled_in : (logs : List LogState) (j : ℕ) → All (λ log. AreSpelled (scanned log)) logs → AreSpelled (placed_in logs j)
+spelled_in logs zero all = All-nil (λ (x : Placed). HasSpelling x.rec)
+spelled_in logs (suc j) all = go logs j all
+  where
+    go : (ls : List LogState) (i : ℕ) → All (λ log. AreSpelled (scanned log)) ls → AreSpelled (option_map_or scanned (slice_get ls i) [])
+    go [] i h = All-nil (λ (x : Placed). HasSpelling x.rec)
+    go (l ∷ ls) zero h = All-head (λ log. AreSpelled (scanned log)) l ls h
+    go (l ∷ ls) (suc i) h = go ls i (All-tail (λ log. AreSpelled (scanned log)) l ls h)
 
-  rises_flat : IsNonDecreasingBy (λ x. x.lsn) (map redone_of cs)
-  rises_flat = IsNonDecreasingBy-map redone_of (λ x. x.lsn) cs by.rises
+spelled_turn : (logs : List LogState) (n : ℕ) → All (λ log. AreSpelled (scanned log)) logs → AreSpelled (in_turn (placed_in logs) n)
+spelled_turn logs zero all = All-nil (λ (x : Placed). HasSpelling x.rec)
+spelled_turn logs (suc n) all =
+    All-append (λ (x : Placed). HasSpelling x.rec) (in_turn (placed_in logs) n) (placed_in logs n) (spelled_turn logs n all) (spelled_in logs n all)
 
-  turns_flat : (recs : List Rec) → flats (filter (is_wanted w) (in_turn (placed_in logs) n)) ≡ recs
-      → (m : ℕ) → recs_at m (map redone_of cs) ≡ recs_at m recs
-  turns_flat recs e m =
-      ap (recs_at m) (sym (flats-found cs)) ∙ sym (flats-filter (at_lsn m) (map found_of cs)) ∙ ap flats (by.turns m)
-      ∙ flats-filter (at_lsn m) (filter (is_wanted w) (in_turn (placed_in logs) n)) ∙ ap (recs_at m) e
+-- ---- one page
 
-  of_page_true : (x : Placed) → is_wanted w x ≡ true → of_page (page_of w) (flat x.rec) ≡ true
-  of_page_true x e = (and_true (is_taken w x) (of_page (page_of w) (flat x.rec)) e).1
-
-  wanted : All (λ x. is_wanted w x ≡ true) (map found_of cs)
-  wanted =
+-- what a list by LSN is of the records of all logs that pass a test, where these are all of one page
+module _ (logs : List LogState) (n p : ℕ) (test : Placed → Bool) (narrow : (x : Placed) → test x ≡ true → is_of p x ≡ true)
+    (ps : List Placed) (by : AreByLsn (filter test (in_turn (placed_in logs) n)) ps) where
+  pub tested : All (λ x. test x ≡ true) ps
+  tested =
       let all : List Placed = in_turn (placed_in logs) n in
-      All-permutation (λ x. is_wanted w x ≡ true) (filter (is_wanted w) all) (map found_of cs) by.same (filter_passes (is_wanted w) all)
+      All-permutation (λ x. test x ≡ true) (filter test all) ps by.same (filter_passes test all)
 
-  pub page_spelled : AreSpelled (map found_of cs)
-  page_spelled = All-map (λ (x : Placed). HasSpelling x.rec) found_of cs
-      (All-weaker IsChange (λ c. HasSpelling (found_of c).rec) (λ c is. is.spelled) cs by.are)
-
-  pub page_changes : All (λ x. ChangesPage x.rec (page_of w)) (map found_of cs)
-  page_changes = All-weaker (λ x. is_wanted w x ≡ true) (λ x. ChangesPage x.rec (page_of w))
+  pub page_changes : All (λ x. ChangesPage x.rec p) ps
+  page_changes = All-weaker (λ x. test x ≡ true) (λ x. ChangesPage x.rec p)
       (λ x e.
-      let both = and_true (changes (flat x.rec).kind) (eqb (flat x.rec).page (page_of w)) (of_page_true x e) in record {
+      let both = and_true (changes (flat x.rec).kind) (eqb (flat x.rec).page p) (narrow x e) in record {
         kind = both.0;
-        here = eqb-true (flat x.rec).page (page_of w) both.1;
-      }) (map found_of cs) wanted
+        here = eqb-true (flat x.rec).page p both.1;
+      }) ps tested
 
-  -- where the wanted ones are those of the page in other lists
+  rises_flat : IsNonDecreasingBy (λ x. x.lsn) (flats ps)
+  rises_flat = IsNonDecreasingBy-map (λ (x : Placed). flat x.rec) (λ x. x.lsn) ps by.rises
+
+  -- where they are the page's records in other lists
   module _ (recs : ℕ → List Rec)
-      (is : flats (filter (is_wanted w) (in_turn (placed_in logs) n)) ≡ filter (of_page (page_of w)) (in_turn recs n)) where
-    pub merges : IsMerged (page_of w) recs n (map redone_of cs)
+      (is : flats (filter test (in_turn (placed_in logs) n)) ≡ filter (of_page p) (in_turn recs n)) where
+    same_flat : IsPermutation (filter (of_page p) (in_turn recs n)) (flats ps)
+    same_flat = subst (λ l. IsPermutation l (flats ps)) is
+        (IsPermutation-map (λ (x : Placed). flat x.rec) (filter test (in_turn (placed_in logs) n)) ps by.same)
+
+    turns_flat : (m : ℕ) → recs_at m (flats ps) ≡ recs_at m (filter (of_page p) (in_turn recs n))
+    turns_flat m =
+        sym (flats-filter (at_lsn m) ps) ∙ ap flats (by.turns m)
+        ∙ flats-filter (at_lsn m) (filter test (in_turn (placed_in logs) n)) ∙ ap (recs_at m) is
+
+    pub merges : IsMerged p recs n (flats ps)
     merges = record {
-      same = IsPermutation-trans (filter (of_page (page_of w)) (all_of recs n)) (filter (of_page (page_of w)) (in_turn recs n))
-          (map redone_of cs)
-          (IsPermutation-filter (of_page (page_of w)) (all_of recs n) (in_turn recs n) (turned recs n))
-          (same_flat (filter (of_page (page_of w)) (in_turn recs n)) is);
+      same = IsPermutation-trans (filter (of_page p) (all_of recs n)) (filter (of_page p) (in_turn recs n)) (flats ps)
+          (IsPermutation-filter (of_page p) (all_of recs n) (in_turn recs n) (turned recs n)) same_flat;
       rises = rises_flat;
     }
 
-    own : filter (of_page (page_of w)) (map redone_of cs) ≡ map redone_of cs
-    own = filter_all (of_page (page_of w)) (map redone_of cs)
-        (subst (All (λ x. of_page (page_of w) x ≡ true)) (flats-found cs)
-        (All-map (λ x. of_page (page_of w) x ≡ true) (λ (x : Placed). flat x.rec) (map found_of cs)
-        (All-weaker (λ x. is_wanted w x ≡ true) (λ x. of_page (page_of w) (flat x.rec) ≡ true) of_page_true (map found_of cs) wanted)))
+    own : filter (of_page p) (flats ps) ≡ flats ps
+    own = filter_all (of_page p) (flats ps) (All-map (λ x. of_page p x ≡ true) (λ (x : Placed). flat x.rec) ps
+        (All-weaker (λ x. test x ≡ true) (λ x. is_of p x ≡ true) narrow ps tested))
 
-    pub ordered_chain : ((j : ℕ) → Rises (recs j)) → map redone_of cs ≡ sorted (filter (of_page (page_of w)) (all_of recs n))
+    pub ordered_chain : ((j : ℕ) → Rises (recs j)) → flats ps ≡ sorted (filter (of_page p) (all_of recs n))
     ordered_chain rise =
-        let all : List Rec = filter (of_page (page_of w)) (in_turn recs n) in
-        sym own ∙ ordered (of_page (page_of w)) n recs (map redone_of cs) all rise
-        (filter_within (of_page (page_of w)) (of_page (page_of w)) (λ x e. e) (in_turn recs n))
-        (slow_of (filter (of_page (page_of w)) (map redone_of cs))
-        (subst (IsNonDecreasingBy (λ x. x.lsn)) (sym own) rises_flat))
-        (turns_flat all is)
+        let all : List Rec = filter (of_page p) (in_turn recs n) in
+        sym own ∙ ordered (of_page p) n recs (flats ps) all rise
+        (filter_within (of_page p) (of_page p) (λ x e. e) (in_turn recs n))
+        (slow_of (filter (of_page p) (flats ps)) (subst (IsNonDecreasingBy (λ x. x.lsn)) (sym own) rises_flat))
+        turns_flat
 
 -- the forced ones of a page
-module _ (logs : List LogState) (n p : ℕ) (cs : List Change) (by : ByLsn logs n (W.Forced p) cs) where
-  pub page_forced : All (λ x. x.forced ≡ true) (map found_of cs)
-  page_forced = All-weaker (λ x. is_wanted (W.Forced p) x ≡ true) (λ x. x.forced ≡ true)
-      (λ x e. (and_true x.forced (of_page p (flat x.rec)) e).0) (map found_of cs) (wanted logs n (W.Forced p) cs by)
+module _ (logs : List LogState) (n p : ℕ) (ps : List Placed)
+    (by : AreByLsn (filter (is_forced_of p) (in_turn (placed_in logs) n)) ps) where
+  of_it : (x : Placed) → is_forced_of p x ≡ true → is_of p x ≡ true
+  of_it x e = (and_true x.forced (is_of p x) e).1
 
-  pub page_merged : IsMerged p (forced_in logs) n (flats (map found_of cs))
-  page_merged = subst (IsMerged p (forced_in logs) n) (sym (flats-found cs))
-      (merges logs n (W.Forced p) cs by (forced_in logs) (forced_flat p n logs))
+  pub forced_spelled : All (λ log. AreSpelled (scanned log)) logs → AreSpelled ps
+  forced_spelled spelled =
+      let all : List Placed = in_turn (placed_in logs) n in
+      All-permutation (λ (x : Placed). HasSpelling x.rec) (filter (is_forced_of p) all) ps by.same
+      (All-filter (is_forced_of p) (λ (x : Placed). HasSpelling x.rec) all (spelled_turn logs n spelled))
 
-  pub page_chain : LsnsRise (map without_tail logs)
-      → flats (map found_of cs) ≡ sorted (filter (of_page p) (all_of (forced_in logs) n))
-  page_chain rise = flats-found cs ∙ ordered_chain logs n (W.Forced p) cs by (forced_in logs) (forced_flat p n logs) rise
+  pub forced_changes : All (λ x. ChangesPage x.rec p) ps
+  forced_changes = page_changes logs n p (is_forced_of p) of_it ps by
+
+  pub forced_ones : All (λ x. x.forced ≡ true) ps
+  forced_ones = All-weaker (λ x. is_forced_of p x ≡ true) (λ x. x.forced ≡ true) (λ x e. (and_true x.forced (is_of p x) e).0) ps
+      (tested logs n p (is_forced_of p) of_it ps by)
+
+  pub forced_merged : IsMerged p (forced_in logs) n (flats ps)
+  forced_merged = merges logs n p (is_forced_of p) of_it ps by (forced_in logs) (forced_flat p n logs)
+
+  pub forced_chain : LsnsRise (map without_tail logs) → flats ps ≡ sorted (filter (of_page p) (all_of (forced_in logs) n))
+  forced_chain rise = ordered_chain logs n p (is_forced_of p) of_it ps by (forced_in logs) (forced_flat p n logs) rise
 
 -- ---- page by page
 
@@ -169,9 +176,10 @@ no_pages logs n = record {
 }
 
 -- one page more
-module _ (logs : List LogState) (n p : ℕ) (cs ds : List Change) (s : Pages logs n p cs) (by : ByLsn logs n (W.Every p) ds) where
+module _ (logs : List LogState) (n p : ℕ) (cs ds : List Change) (s : Pages logs n p cs) (are : AreChanges ds)
+    (by : AreByLsn (filter (is_of p) (in_turn (placed_in logs) n)) (map found_of ds)) where
   own_page : All (λ c. c.page ≡ p) ds
-  own_page = paged p ds by.are (page_changes logs n (W.Every p) ds by)
+  own_page = paged p ds are (page_changes logs n p (is_of p) (λ x e. e) (map found_of ds) by)
 
   low : All (λ c. c.page ≤ p) (cs ++ ds)
   low = All-append (λ c. c.page ≤ p) cs ds (All-weaker (λ c. c.page < p) (λ c. c.page ≤ p) (λ c lt. omega arith) cs s.below)
@@ -197,7 +205,7 @@ module _ (logs : List LogState) (n p : ℕ) (cs ds : List Change) (s : Pages log
   lower : (q : ℕ) → q < p → chain_of q (cs ++ ds) ≡ chain_of q cs
   lower q lt =
       chain_of-append q cs ds
-      ∙ ap (λ l. chain_of q cs ++ l) (chain_of-others q ds by.are
+      ∙ ap (λ l. chain_of q cs ++ l) (chain_of-others q ds are
       (All-weaker (λ c. c.page ≡ p) (λ c. c.page ≢ q) (λ c e f. absurd (omega (arith, e, f))) ds own_page))
       ∙ append-nil (chain_of q cs)
 
@@ -206,7 +214,7 @@ module _ (logs : List LogState) (n p : ℕ) (cs ds : List Change) (s : Pages log
       chain_of-append p cs ds
       ∙ ap (λ l. l ++ chain_of p ds) (chain_of-others p cs s.changes
       (All-weaker (λ c. c.page < p) (λ c. c.page ≢ p) (λ c lt e. absurd (omega (arith, e))) cs s.below))
-      ∙ chain_of-own p ds by.are own_page
+      ∙ chain_of-own p ds are own_page
 
   -- a page up to this one
   up_to : (q : ℕ) (P : ℕ → List Rec → Type 0) → (q < p → P q (chain_of q cs)) → P p (map redone_of ds) → q < p + 1 → P q (chain_of q (cs ++ ds))
@@ -219,14 +227,16 @@ module _ (logs : List LogState) (n p : ℕ) (cs ds : List Change) (s : Pages log
 
   pub one_page : (new : List Change) → AllStand logs ds → new ≡ cs ++ ds → Pages logs n (p + 1) new
   one_page new stand e = subst (Pages logs n (p + 1)) (sym e) (record {
-    changes = All-append IsChange cs ds s.changes by.are;
+    changes = All-append IsChange cs ds s.changes are;
     stand = All-append (λ c. StandsIn logs c.dev c.found.now) cs ds s.stand stand;
     below = All-weaker (λ c. c.page ≤ p) (λ c. c.page < p + 1) (λ c le. omega arith) (cs ++ ds) low;
     rises = rises_more;
     merged = λ q. up_to q (λ r xs. IsMerged r (log_in logs) n xs) (s.merged q)
-        (merges logs n (W.Every p) ds by (log_in logs) (every_flat p n logs));
+        (subst (IsMerged p (log_in logs) n) (flats-found ds)
+        (merges logs n p (is_of p) (λ x e. e) (map found_of ds) by (log_in logs) (every_flat p n logs)));
     chains = λ rise q. up_to q (λ r xs. xs ≡ sorted (filter (of_page r) (all_of (log_in logs) n))) (s.chains rise q)
-        (ordered_chain logs n (W.Every p) ds by (log_in logs) (every_flat p n logs) rise);
+        (sym (flats-found ds)
+        ∙ ordered_chain logs n p (is_of p) (λ x e. e) (map found_of ds) by (log_in logs) (every_flat p n logs) rise);
   })
 
 -- ---- no record changes a page behind the last
@@ -244,20 +254,6 @@ past_pages q le x = go x.rec
     go (records.End lsn txn prev) h = refl
     go (records.BeginCheck lsn) h = refl
     go (records.EndCheck lsn begin spans recs) h = refl
-
-spelled_in : (logs : List LogState) (j : ℕ) → All (λ log. AreSpelled (scanned log)) logs → AreSpelled (placed_in logs j)
-spelled_in logs zero all = All-nil (λ (x : Placed). HasSpelling x.rec)
-spelled_in logs (suc j) all = go logs j all
-  where
-    go : (ls : List LogState) (i : ℕ) → All (λ log. AreSpelled (scanned log)) ls → AreSpelled (option_map_or scanned (slice_get ls i) [])
-    go [] i h = All-nil (λ (x : Placed). HasSpelling x.rec)
-    go (l ∷ ls) zero h = All-head (λ log. AreSpelled (scanned log)) l ls h
-    go (l ∷ ls) (suc i) h = go ls i (All-tail (λ log. AreSpelled (scanned log)) l ls h)
-
-spelled_turn : (logs : List LogState) (n : ℕ) → All (λ log. AreSpelled (scanned log)) logs → AreSpelled (in_turn (placed_in logs) n)
-spelled_turn logs zero all = All-nil (λ (x : Placed). HasSpelling x.rec)
-spelled_turn logs (suc n) all =
-    All-append (λ (x : Placed). HasSpelling x.rec) (in_turn (placed_in logs) n) (placed_in logs n) (spelled_turn logs n all) (spelled_in logs n all)
 
 filter_none : (t : Placed → Bool) (xs : List Placed) → All (λ x. t x ≡ false) xs → filter t xs ≡ []
 filter_none t [] none = refl

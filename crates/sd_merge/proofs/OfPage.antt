@@ -1,6 +1,6 @@
 -- The records of a log that change a page, by their indexes. It serves the goals of change.rt.
 use Rattle.std.proofs.Common.{◌≡◌, ℕ, suc, ◌+◌, ◌<◌, Bool, true, false, cond, eqb, List, [], ◌∷◌, ◌++◌, length, map, get_or, refl, sym, ap, ap₂, ◌∙◌, arith, ne_eqb}
-use Rattle.std.specs.Prelude.{All, filter, ◌&&◌}
+use Rattle.std.specs.Prelude.{All, filter}
 use Rattle.std.proofs.lemmas.List.{append_assoc, get_or-append-add, length-append}
 use Rattle.std.proofs.lemmas.List.Elements.{All-cons, All-nil, All-weaker, filter_agree}
 use Rattle.sd_logrec.specs.declared.record.Record.{Record}
@@ -9,9 +9,8 @@ use Rattle.sd_logrec.specs.View.{flat}
 use Rattle.sd_log.specs.declared.placed.Placed.{Placed}
 use Rattle.sd_log.specs.ByPage.{changed_page, changed_pages, places_of}
 use Rattle.sd_chain.specs.Records.{of_page}
-use Rattle.sd_merge.specs.declared.change.Wanted.{Wanted}
-use Rattle.sd_merge.specs.Changes.{is_taken, is_wanted, page_of}
-use Rattle.sd_merge.proofs.Filters.{filter_both}
+use Rattle.sd_merge.specs.Changes.{is_forced_of, is_of}
+use Rattle.sd_merge.proofs.Filters.{filter_both, filters_swap}
 
 -- a record of the page
 abbrev pub on : ℕ → Placed → Bool
@@ -83,16 +82,14 @@ places_within p n (y ∷ ys) =
     go true rest = All-cons (λ i. i < n + suc (length ys)) n (places_of p (suc n) ys) (omega arith) rest
     go false rest = rest
 
-and_comm : (a b : Bool) → (a && b) ≡ (b && a)
-and_comm true true = refl
-and_comm true false = refl
-and_comm false true = refl
-and_comm false false = refl
+-- the page's records, as chains see them
+pub filter_of : (p : ℕ) → p < 1024 → (xs : List Placed) → filter (on p) xs ≡ filter (is_of p) xs
+filter_of p lt xs = filter_agree (on p) (is_of p) (on_page p lt) xs
 
--- of the page's records those that are wanted
-pub wanted_on : (w : Wanted) (xs : List Placed) → page_of w < 1024
-    → filter (is_taken w) (filter (on (page_of w)) xs) ≡ filter (is_wanted w) xs
-wanted_on w xs lt =
-    sym (filter_both (on (page_of w)) (is_taken w) xs)
-    ∙ filter_agree (λ x. on (page_of w) x && is_taken w x) (is_wanted w)
-    (λ x. ap (λ b. b && is_taken w x) (on_page (page_of w) lt x) ∙ and_comm (of_page (page_of w) (flat x.rec)) (is_taken w x)) xs
+-- and the forced ones of them
+pub filter_forced_of : (p : ℕ) → p < 1024 → (xs : List Placed)
+    → filter (λ x. x.forced) (filter (on p) xs) ≡ filter (is_forced_of p) xs
+filter_forced_of p lt xs =
+    ap (filter (λ x. x.forced)) (filter_of p lt xs)
+    ∙ filters_swap (λ x. x.forced) (is_of p) xs
+    ∙ sym (filter_both (λ x. x.forced) (is_of p) xs)

@@ -10,6 +10,7 @@ use Rattle.sd_chain.specs.Records.{Each}
 use Rattle.sd_chain.proofs.Lists.{Each-filter, Each-weaker, cond_both, filter-cons, filter-skip}
 use Rattle.sd_chain.proofs.Sorts.{Slow, sorted_slow}
 use Rattle.sd_merge.specs.Changes.{Rises, in_turn}
+use Rattle.sd_merge.proofs.Filters.{filters_swap}
 
 -- the records of one LSN
 abbrev pub at_lsn : ℕ → Rec → Bool
@@ -137,17 +138,6 @@ same_by_lsn (x ∷ xs) (y ∷ ys) a b f = ⊎_elim
     (f n ∙ ap (λ (z : Rec). recs_at n (z ∷ ys)) (sym head)))))
     (cases_Bool (ltb y.lsn x.lsn)))
     (cases_Bool (ltb x.lsn y.lsn))
-
-filters_swap : (t u : Rec → Bool) (xs : List Rec) → filter t (filter u xs) ≡ filter u (filter t xs)
-filters_swap t u [] = refl
-filters_swap t u (x ∷ xs) = go (t x) (u x) refl refl (filters_swap t u xs)
-  where
-    go : (a b : Bool) → t x ≡ a → u x ≡ b → filter t (filter u xs) ≡ filter u (filter t xs)
-        → filter t (cond b (x ∷ filter u xs) (filter u xs)) ≡ filter u (cond a (x ∷ filter t xs) (filter t xs))
-    go true true e f ih = filter-cons t x (filter u xs) e ∙ ap (λ (l : List Rec). x ∷ l) ih ∙ sym (filter-cons u x (filter t xs) f)
-    go false true e f ih = filter-skip t x (filter u xs) e ∙ ih
-    go true false e f ih = ih ∙ sym (filter-skip u x (filter t xs) f)
-    go false false e f ih = ih
 
 -- Of records that come by LSN, and those of each LSN in the order of the logs, a page's are its chain.
 pub ordered : (t : Rec → Bool) (k : ℕ) (logs : ℕ → List Rec) (xs ys : List Rec)

@@ -1,12 +1,13 @@
 -- What is gathered of all logs, seen flat and LSN by LSN, in the order of the logs. It serves the goals of change.rt.
 use Rattle.std.proofs.Common.{◌≡◌, ℕ, zero, suc, ◌+◌, Bool, true, false, eqb, List, [], ◌∷◌, ◌++◌, Option, None, Some, map, refl, sym, ap, ap₂, ◌∙◌, subst}
-use Rattle.std.specs.Prelude.{filter, option_map, slice_get}
-use Rattle.std.specs.List.Sorted.{IsStableByKey, ties}
+use Rattle.std.specs.Prelude.{IsPermutation, filter, option_map, slice_get}
+use Rattle.std.specs.List.Sorted.{IsNonDecreasingBy, IsStableByKey, ties}
 use Rattle.std.specs.Option.{option_map_or}
 use Rattle.std.specs.Ordering.{is_lt, nat_cmp}
 use Rattle.std.proofs.lemmas.Bool.{eqb-true}
 use Rattle.std.proofs.lemmas.List.{map-append}
 use Rattle.std.proofs.lemmas.List.Elements.{filter_agree, filter-append}
+use Rattle.std.proofs.lemmas.List.Sorted.{IsPermutation-map}
 use Rattle.std.proofs.lemmas.Option.{slice_get-map}
 use Rattle.sd_logrec.specs.Kept.{Group, Records, placed_from}
 use Rattle.sd_logrec.specs.View.{Rec, flat}
@@ -15,9 +16,8 @@ use Rattle.sd_log.specs.Logs.{LogState, flats, forced_in, log_in, lsn_of, placed
 use Rattle.sd_chain.specs.Records.{Each, of_page}
 use Rattle.sd_chain.proofs.Lists.{cond_both}
 use Rattle.sd_merge.specs.declared.change.Change.{Change}
-use Rattle.sd_merge.specs.declared.change.Wanted.TheVariants as W
-use Rattle.sd_merge.specs.Changes.{found_of, in_turn, is_forced_of, is_wanted, of_lsn, placed_in, redone_of}
-use Rattle.sd_merge.proofs.Filters.{filter-map, filter_both, ties_nat}
+use Rattle.sd_merge.specs.Changes.{AreByLsn, found_of, in_turn, is_forced_of, is_of, placed_in, redone_of}
+use Rattle.sd_merge.proofs.Filters.{IsNonDecreasingBy-map, filter-map, filter_both, ties_nat}
 
 -- ---- seen flat
 
@@ -43,7 +43,7 @@ flats_in_turn logs (suc n) =
     ∙ ap₂ (λ (k l : List Rec). k ++ l) (flats_in_turn logs n) (flats_in logs n)
 
 pub every_flat : (p n : ℕ) (logs : List LogState)
-    → flats (filter (is_wanted (W.Every p)) (in_turn (placed_in logs) n)) ≡ filter (of_page p) (in_turn (log_in logs) n)
+    → flats (filter (is_of p) (in_turn (placed_in logs) n)) ≡ filter (of_page p) (in_turn (log_in logs) n)
 every_flat p n logs = flats-filter (of_page p) (in_turn (placed_in logs) n) ∙ ap (filter (of_page p)) (flats_in_turn logs n)
 
 -- ---- the forced ones
@@ -92,48 +92,64 @@ pub forced_flat : (p n : ℕ) (logs : List LogState)
     → flats (filter (is_forced_of p) (in_turn (placed_in logs) n)) ≡ filter (of_page p) (in_turn (forced_in logs) n)
 forced_flat p n logs =
     let all : List Placed = in_turn (placed_in logs) n in
-    ap flats (filter_both is_forced (λ (x : Placed). of_page p (flat x.rec)) all)
+    ap flats (filter_both is_forced (is_of p) all)
     ∙ flats-filter (of_page p) (filter is_forced all)
     ∙ ap (filter (of_page p)) (forced_in_turn logs n)
 
 -- ---- a stable sort
 
--- the changes of one LSN
-abbrev changes_at : ℕ → List Change → List Change
-changes_at n cs = filter (λ c. eqb (redone_of c).lsn n) cs
+module _ {X : Type 0} (lsn : X → ℕ) where
+  -- those of one LSN
+  abbrev with_lsn : ℕ → List X → List X
+  with_lsn n xs = filter (λ x. eqb (lsn x) n) xs
 
-abbrev lt_lsn : Change → Change → Bool
-lt_lsn a b = is_lt (nat_cmp (redone_of a).lsn (redone_of b).lsn)
+  abbrev lt_lsn : X → X → Bool
+  lt_lsn a b = is_lt (nat_cmp (lsn a) (lsn b))
 
-changes_at-stay : (x : Change) (cs ds : List Change) → IsStableByKey (λ c. (redone_of c).lsn) nat_cmp cs ds
-    → changes_at (redone_of x).lsn ds ≡ changes_at (redone_of x).lsn cs
-changes_at-stay x cs ds stable =
-    filter_agree (λ c. eqb (redone_of c).lsn (redone_of x).lsn) (ties lt_lsn x) (λ c. sym (ties_nat (redone_of x).lsn (redone_of c).lsn)) ds
-    ∙ stable x
-    ∙ filter_agree (ties lt_lsn x) (λ c. eqb (redone_of c).lsn (redone_of x).lsn) (λ c. ties_nat (redone_of x).lsn (redone_of c).lsn) cs
+  with_lsn-stay : (x : X) (xs ys : List X) → IsStableByKey lsn nat_cmp xs ys → with_lsn (lsn x) ys ≡ with_lsn (lsn x) xs
+  with_lsn-stay x xs ys stable =
+      filter_agree (λ y. eqb (lsn y) (lsn x)) (ties lt_lsn x) (λ y. sym (ties_nat (lsn x) (lsn y))) ys
+      ∙ stable x
+      ∙ filter_agree (ties lt_lsn x) (λ y. eqb (lsn y) (lsn x)) (λ y. ties_nat (lsn x) (lsn y)) xs
 
-passes : (t : Change → Bool) (cs : List Change) → Each (λ c. t c ≡ true) (filter t cs)
-passes t [] = tt
-passes t (c ∷ cs) = cond_both (Each (λ d. t d ≡ true)) (t c) (c ∷ filter t cs) (filter t cs) (λ is. (is, passes t cs)) (λ isnt. passes t cs)
+  passes : (t : X → Bool) (xs : List X) → Each (λ x. t x ≡ true) (filter t xs)
+  passes t [] = tt
+  passes t (x ∷ xs) =
+      cond_both (Each (λ y. t y ≡ true)) (t x) (x ∷ filter t xs) (filter t xs) (λ is. (is, passes t xs)) (λ isnt. passes t xs)
 
--- at an LSN that no change has too
-changes_at-stays : (n : ℕ) (cs ds : List Change) → IsStableByKey (λ c. (redone_of c).lsn) nat_cmp cs ds → changes_at n ds ≡ changes_at n cs
-changes_at-stays n cs ds stable = go (changes_at n cs) (changes_at n ds) refl refl
-  where
-    along : (x : Change) → eqb (redone_of x).lsn n ≡ true → changes_at n ds ≡ changes_at n cs
-    along x is = subst (λ (m : ℕ). changes_at m ds ≡ changes_at m cs) (eqb-true (redone_of x).lsn n is) (changes_at-stay x cs ds stable)
+  -- at an LSN that none has too
+  with_lsn-stays : (n : ℕ) (xs ys : List X) → IsStableByKey lsn nat_cmp xs ys → with_lsn n ys ≡ with_lsn n xs
+  with_lsn-stays n xs ys stable = go (with_lsn n xs) (with_lsn n ys) refl refl
+    where
+      along : (x : X) → eqb (lsn x) n ≡ true → with_lsn n ys ≡ with_lsn n xs
+      along x is = subst (λ (m : ℕ). with_lsn m ys ≡ with_lsn m xs) (eqb-true (lsn x) n is) (with_lsn-stay x xs ys stable)
 
-    has : (x : Change) (l xs : List Change) → changes_at n xs ≡ x ∷ l → eqb (redone_of x).lsn n ≡ true
-    has x l xs e = (subst (Each (λ c. eqb (redone_of c).lsn n ≡ true)) e (passes (λ c. eqb (redone_of c).lsn n) xs)).0
+      has : (x : X) (l zs : List X) → with_lsn n zs ≡ x ∷ l → eqb (lsn x) n ≡ true
+      has x l zs e = (subst (Each (λ y. eqb (lsn y) n ≡ true)) e (passes (λ y. eqb (lsn y) n) zs)).0
 
-    go : (a b : List Change) → changes_at n cs ≡ a → changes_at n ds ≡ b → changes_at n ds ≡ changes_at n cs
-    go [] [] e f = f ∙ sym e
-    go (x ∷ a) b e f = along x (has x a cs e)
-    go [] (x ∷ b) e f = along x (has x b ds f)
+      go : (a b : List X) → with_lsn n xs ≡ a → with_lsn n ys ≡ b → with_lsn n ys ≡ with_lsn n xs
+      go [] [] e f = f ∙ sym e
+      go (x ∷ a) b e f = along x (has x a xs e)
+      go [] (x ∷ b) e f = along x (has x b ys f)
 
--- a stable sort by LSN keeps the order of each LSN
-pub turns_kept : (n : ℕ) (gathered by_lsn : List Change) (ps : List Placed) → IsStableByKey (λ c. (redone_of c).lsn) nat_cmp gathered by_lsn
-    → map found_of gathered ≡ ps → of_lsn n (map found_of by_lsn) ≡ of_lsn n ps
-turns_kept n gathered by_lsn ps stable e =
-    filter-map (λ p. eqb (lsn_of p) n) found_of by_lsn ∙ ap (map found_of) (changes_at-stays n gathered by_lsn stable)
-    ∙ sym (filter-map (λ p. eqb (lsn_of p) n) found_of gathered) ∙ ap (of_lsn n) e
+-- a stable sort of records by LSN
+pub sorted_placed : (ps by_lsn : List Placed) → IsPermutation ps by_lsn → IsNonDecreasingBy lsn_of by_lsn
+    → IsStableByKey lsn_of nat_cmp ps by_lsn → AreByLsn ps by_lsn
+sorted_placed ps by_lsn same rises stable = record {
+  same = same;
+  rises = rises;
+  turns = λ n. with_lsn-stays lsn_of n ps by_lsn stable;
+}
+
+-- and one of changes
+pub sorted_changes : (cs by_lsn : List Change) (ps : List Placed) → map found_of cs ≡ ps → IsPermutation cs by_lsn
+    → IsNonDecreasingBy (λ c. (redone_of c).lsn) by_lsn → IsStableByKey (λ c. (redone_of c).lsn) nat_cmp cs by_lsn
+    → AreByLsn ps (map found_of by_lsn)
+sorted_changes cs by_lsn ps e same rises stable = subst (λ l. AreByLsn l (map found_of by_lsn)) e (record {
+  same = IsPermutation-map found_of cs by_lsn same;
+  rises = IsNonDecreasingBy-map found_of lsn_of by_lsn rises;
+  turns = λ n.
+      filter-map (λ p. eqb (lsn_of p) n) found_of by_lsn
+      ∙ ap (map found_of) (with_lsn-stays (λ c. (redone_of c).lsn) n cs by_lsn stable)
+      ∙ sym (filter-map (λ p. eqb (lsn_of p) n) found_of cs);
+})

@@ -1,5 +1,5 @@
 -- The changes of pages that logs keep, in the order in which they are redone.
-use Rattle.std.specs.Prelude.{◌≡◌, ℕ, zero, suc, ◌-◌, ◌<◌, ◌≤◌, Bool, true, List, [], ◌∷◌, ◌++◌, Some, map, filter, slice_get, All, IsPermutation, ◌==◌, ◌&&◌}
+use Rattle.std.specs.Prelude.{◌≡◌, ℕ, zero, suc, ◌-◌, ◌<◌, ◌≤◌, Bool, List, [], ◌∷◌, ◌++◌, Some, map, filter, slice_get, All, IsPermutation, ◌==◌, ◌&&◌}
 use Rattle.std.specs.List.Sorted.{IsNonDecreasingBy}
 use Rattle.std.specs.Option.{option_map_or}
 use Rattle.sd_logrec.specs.declared.record.Record.{Record}
@@ -10,8 +10,6 @@ use Rattle.sd_log.specs.Logs.{LogState, log_in, lsn_of, scanned}
 use Rattle.sd_chain.specs.Storage.{all_of}
 use Rattle.sd_chain.specs.Records.{Each, IsPageRecord, of_page}
 use Rattle.sd_merge.specs.declared.change.Change.{Change}
-use Rattle.sd_merge.specs.declared.change.Wanted.{Wanted}
-use Rattle.sd_merge.specs.declared.change.Wanted.TheVariants as W
 
 -- the record of a change
 abbrev pub found_of : Change → Placed
@@ -57,23 +55,19 @@ placed_in logs (suc j) = option_map_or scanned (slice_get logs j) []
 abbrev pub of_lsn : ℕ → List Placed → List Placed
 of_lsn n ps = filter (λ p. lsn_of p == n) ps
 
+-- these records by LSN, those of one LSN in the order that they had
+pub record AreByLsn (ps by_lsn : List Placed) : Type 0 where
+  pub same : IsPermutation ps by_lsn
+  pub rises : IsNonDecreasingBy lsn_of by_lsn
+  pub turns : (n : ℕ) → of_lsn n by_lsn ≡ of_lsn n ps
+
+-- a record that changes this page
+abbrev pub is_of : ℕ → Placed → Bool
+is_of page p = of_page page (flat p.rec)
+
 -- a forced record that changes this page
 abbrev pub is_forced_of : ℕ → Placed → Bool
-is_forced_of page p = p.forced && of_page page (flat p.rec)
-
--- whose changes are gathered
-abbrev pub page_of : Wanted → ℕ
-page_of (W.Every page) = page
-page_of (W.Forced page) = page
-
--- and which of them
-abbrev pub is_taken : Wanted → Placed → Bool
-is_taken (W.Every page) p = true
-is_taken (W.Forced page) p = p.forced
-
--- a record that is gathered
-abbrev pub is_wanted : Wanted → Placed → Bool
-is_wanted w p = is_taken w p && of_page (page_of w) (flat p.rec)
+is_forced_of page p = p.forced && is_of page p
 
 -- each LSN is above those before it
 abbrev pub Rises : List Rec → Type 0

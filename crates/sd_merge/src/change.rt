@@ -1,16 +1,16 @@
 //! The records of all logs that change a page, in the order in which they are redone.
 
-ghost use Rattle.std.specs.Prelude.{◌≡◌, ℕ, ◌+◌, ◌<◌, ◌++◌, filter, length, map, false, true, All, IfOk, IfSome, IsPermutation, OnOk};
+ghost use Rattle.std.specs.Prelude.{◌≡◌, ℕ, ◌+◌, ◌<◌, [], ◌∷◌, ◌++◌, filter, length, map, true, All, IfOk, IfSome, IsPermutation, OnOk};
 ghost use Rattle.std.specs.List.Sorted.{IsNonDecreasingBy};
 ghost use Rattle.sd_base.specs.declared.refusal.Refusal.TheVariants as R;
 ghost use Rattle.sd_logrec.specs.View.{flat};
 ghost use Rattle.sd_log.specs.Logs.{AreSpelled, flats, forced_in, log_in, scanned, without_tail};
 ghost use Rattle.sd_chain.specs.Storage.{all_of, sorted};
 ghost use Rattle.sd_chain.specs.Records.{of_page};
-ghost use Rattle.sd_merge.specs.Changes.{AllStand, AreChanges, ChangesPage, IsMerged, LsnsRise, chain_of, in_turn, found_of, is_forced_of, is_taken, is_wanted, of_lsn, page_of, placed_in, redone_of};
+ghost use Rattle.sd_merge.specs.Changes.{AllStand, AreByLsn, AreChanges, ChangesPage, IsMerged, LsnsRise, chain_of, in_turn, found_of, is_forced_of, is_of, of_lsn, placed_in, redone_of};
 
-use sd_base::{Duplicate, Lsn, Memory, PAGES, PageNo, Refusal};
-use sd_log::{Log, Placed};
+use sd_base::{Lsn, Memory, PAGES, PageNo, Refusal};
+use sd_log::{Log, Placed, ReadLog};
 use sd_logrec::AREA;
 use std::alloc::Global;
 
@@ -48,40 +48,9 @@ pub fn damaged(dev: u8, place: u32) -> Refusal
     }
 }
 
-/// Which changes are gathered.
-#[derive(Drop)]
-pub(crate) enum Wanted {
-    /// Each of this page.
-    Every { page: PageNo },
-    /// The forced ones of this page.
-    Forced { page: PageNo },
-}
-
-impl Wanted {
-    // The page.
-    fn page(&self) -> PageNo
-        ensures { result ≡ page_of self.now }
-    {
-        match self {
-            Wanted::Every { page } => *page,
-            Wanted::Forced { page } => *page,
-        }
-    }
-
-    // Whether a record of the page is wanted.
-    fn takes(&self, found: &Placed) -> bool
-        ensures { result ≡ is_taken self.now found.now }
-    {
-        match self {
-            Wanted::Every { .. } => true,
-            Wanted::Forced { .. } => found.forced,
-        }
-    }
-}
-
-/// The changes of all logs by page, of each page by LSN, and of each LSN in the order of the logs. Only `Memory` is
-/// refused.
-pub fn merged_changes(alloc: Global, logs: &[Log]) -> Result<Vec<Change>, Memory>
+/// The changes of all logs that were read by page, of each page by LSN, and of each LSN in the order of the logs. Each
+/// lends the record that its log has. Only `Memory` is refused.
+pub fn merged_changes(alloc: Global, logs: &[ReadLog]) -> Result<Vec<Change>, Memory>
     requires few { length logs.now < 256 }
     requires spelled { All (λ log. AreSpelled (scanned log)) logs.now }
     ensures changes { IfOk result (λ changes. AreChanges changes.items) }
@@ -94,14 +63,14 @@ pub fn merged_changes(alloc: Global, logs: &[Log]) -> Result<Vec<Change>, Memory
     let mut changes = Vec::new(alloc);
     for p in 0..PAGES {
         let page = PageNo::new(p).unwrap();
-        let mut of_page = changes_by_lsn(alloc, logs, &Wanted::Every { page })?;
+        let mut of_page = changes_by_lsn(alloc, logs, page)?;
         changes.append(&mut of_page)?;
     }
     Ok(changes)
 }
 
 /// The forced records of all logs that change a page, as they are redone: by LSN, and those of one LSN in the order of the
-/// logs. Records of tails aren't among them. Only `Memory` is refused.
+/// logs, each copied out of its log. Records of tails aren't among them. Only `Memory` is refused.
 pub fn merge_page(alloc: Global, logs: &[Log], p: PageNo) -> Result<Vec<Placed>, Memory>
     requires few { length logs.now < 256 }
     requires spelled { All (λ log. AreSpelled (scanned log)) logs.now }
@@ -115,69 +84,56 @@ pub fn merge_page(alloc: Global, logs: &[Log], p: PageNo) -> Result<Vec<Placed>,
     ensures chain { IfOk result (λ found. LsnsRise (map without_tail logs.now) → flats found.items
         ≡ sorted (filter (of_page p) (all_of (forced_in logs.now) (length logs.now + 1)))) }
 {
-    let changes = changes_by_lsn(alloc, logs, &Wanted::Forced { page: p })?;
-    copies(alloc, &changes)
+    let mut records = forced_records(alloc, logs, p)?;
+    records.sort_by_key(|found| found.rec.lsn())?;
+    Ok(records)
 }
 
-// Copies of the records.
-fn copies(alloc: Global, changes: &[Change]) -> Result<Vec<Placed>, Memory>
-    ensures { IfOk result (λ copies. copies.items ≡ map found_of changes.now) }
-{
-    let mut copies = Vec::new(alloc);
-    for change in changes {
-        copies.push(change.found.copy()?)?;
-    }
-    Ok(copies)
-}
-
-// The wanted changes of a page by LSN, and those of each LSN in the order of the logs.
+// The changes of a page by LSN, and those of each LSN in the order of the logs.
 fn changes_by_lsn<'a>(
     alloc: Global,
-    logs: &'a [Log],
-    wanted: &Wanted,
+    logs: &'a [ReadLog],
+    page: PageNo,
 ) -> Result<Vec<Change<'a>>, Memory>
     requires few { length logs.now < 256 }
     requires spelled { All (λ log. AreSpelled (scanned log)) logs.now }
     ensures changes { IfOk result (λ changes. AreChanges changes.items) }
     ensures stand { IfOk result (λ changes. AllStand logs.now changes.items) }
-    ensures rises { IfOk result (λ changes. IsNonDecreasingBy (λ c. (redone_of c).lsn) changes.items) }
-    ensures same { IfOk result (λ changes. IsPermutation (filter (is_wanted wanted.now) (in_turn (placed_in logs.now) (length logs.now + 1)))
+    ensures by_lsn { IfOk result (λ changes. AreByLsn (filter (is_of page) (in_turn (placed_in logs.now) (length logs.now + 1)))
         (map found_of changes.items)) }
-    ensures turns { IfOk result (λ changes. (n : ℕ) → of_lsn n (map found_of changes.items)
-        ≡ of_lsn n (filter (is_wanted wanted.now) (in_turn (placed_in logs.now) (length logs.now + 1)))) }
 {
-    let mut changes = gathered_changes(alloc, logs, wanted)?;
+    let mut changes = gathered_changes(alloc, logs, page)?;
     changes.sort_by_key(|change| change.lsn())?;
     Ok(changes)
 }
 
-// The wanted changes of a page, log by log.
+// The changes of a page, log by log.
 fn gathered_changes<'a>(
     alloc: Global,
-    logs: &'a [Log],
-    wanted: &Wanted,
+    logs: &'a [ReadLog],
+    page: PageNo,
 ) -> Result<Vec<Change<'a>>, Memory>
     requires few { length logs.now < 256 }
     requires spelled { All (λ log. AreSpelled (scanned log)) logs.now }
     ensures changes { IfOk result (λ changes. AreChanges changes.items) }
     ensures stand { IfOk result (λ changes. AllStand logs.now changes.items) }
     ensures gathered { IfOk result (λ changes. map found_of changes.items
-        ≡ filter (is_wanted wanted.now) (in_turn (placed_in logs.now) (length logs.now + 1))) }
+        ≡ filter (is_of page) (in_turn (placed_in logs.now) (length logs.now + 1))) }
 {
     let mut changes = Vec::new(alloc);
     for index in 0..logs.len() {
-        gather(alloc, &mut changes, logs, index, wanted)?;
+        gather(alloc, &mut changes, logs, index, page)?;
     }
     Ok(changes)
 }
 
-// Puts the wanted changes of the log of this index behind the others.
+// Puts the changes of the page in the log of this index behind the others.
 fn gather<'a>(
     alloc: Global,
     changes: &mut Vec<Change<'a>>,
-    logs: &'a [Log],
+    logs: &'a [ReadLog],
     index: usize,
-    wanted: &Wanted,
+    page: PageNo,
 ) -> Result<(), Memory>
     requires few { length logs.now < 256 }
     requires there { index < length logs.now }
@@ -187,19 +143,61 @@ fn gather<'a>(
     ensures changes { OnOk result (AreChanges changes.new.items) }
     ensures stand { OnOk result (AllStand logs.now changes.new.items) }
     ensures gathered { OnOk result (map found_of changes.new.items
-        ≡ map found_of changes.old.items ++ filter (is_wanted wanted.now) (placed_in logs.now (index + 1))) }
+        ≡ map found_of changes.old.items ++ filter (is_of page) (placed_in logs.now (index + 1))) }
 {
     let log = &logs[index];
     let records = log.scan();
     let dev = index as u8 + 1;
-    let page_no = wanted.page();
-    let page = page_no.get();
-    let places = log.of_page(alloc, page_no)?;
+    let number = page.get();
+    let places = log.of_page(alloc, page)?;
     for at in &places {
         let found = &records[*at as usize];
-        if wanted.takes(found) {
-            changes.push(Change { dev, page, found })?;
-        }
+        changes.push(Change {
+            dev,
+            page: number,
+            found,
+        })?;
+    }
+    Ok(())
+}
+
+// The forced records of all logs that change a page, log by log.
+fn forced_records(alloc: Global, logs: &[Log], page: PageNo) -> Result<Vec<Placed>, Memory>
+    ensures { IfOk result (λ found. found.items
+        ≡ filter (is_forced_of page) (in_turn (placed_in logs.now) (length logs.now + 1))) }
+{
+    let mut records = Vec::new(alloc);
+    for log in logs {
+        gather_forced(alloc, &mut records, log, page)?;
+    }
+    Ok(records)
+}
+
+// Puts the forced records of this log that change the page behind the others.
+fn gather_forced(
+    alloc: Global,
+    records: &mut Vec<Placed>,
+    log: &Log,
+    page: PageNo,
+) -> Result<(), Memory>
+    ensures { OnOk result (records.new.items ≡ records.old.items ++ filter (is_forced_of page) (scanned log.now)) }
+{
+    // Its number is below 1,024, where the log has the records that change no page.
+    let _ = page.get();
+    let places = log.of_page(alloc, page)?;
+    for at in &places {
+        let found = log.record(*at as usize)?;
+        push_forced(records, found)?;
+    }
+    Ok(())
+}
+
+// Puts a record behind the others if it is forced.
+fn push_forced(records: &mut Vec<Placed>, found: Placed) -> Result<(), Memory>
+    ensures { OnOk result (records.new.items ≡ records.old.items ++ filter (λ x. x.forced) (found ∷ [])) }
+{
+    if found.forced {
+        records.push(found)?;
     }
     Ok(())
 }

@@ -3,17 +3,18 @@
 //! Meaning: a change is a record of a log that changes a page (`IsChange`, `StandsIn`); a page's changes are merged where
 //! they are those of the logs by LSN (`IsMerged`, `specs/Changes.antt`).
 //! Keeps: nothing.
-//! Promises: `merged_changes` has each change of all logs, tails too, by page and then by LSN; `merge_page` has the forced
-//! ones of one page by LSN; those of one LSN come in the order of the logs (`turns`). Where LSNs rise in each log a page's
-//! are its chain (`chains`, `chain`). Both look up a page's records by the index that each log keeps of them, log by log,
-//! and sort them once by LSN; so a page costs what its own records cost.
+//! Promises: `merged_changes` has each change of all logs that were read, by page and then by LSN, and lends its record;
+//! `merge_page` has the forced records of one page in live logs by LSN, each copied out of its log. Those of one LSN come
+//! in the order of the logs (`turns`), and where LSNs rise in each log a page's are its chain (`chains`, `chain`). Both
+//! look up a page's records by the index that each log keeps of them, log by log, and sort them once by LSN; so a page
+//! costs what its own records cost.
 //! Refuses: nothing but for want of memory.
 //! Knows nothing of: images of pages, which record fits.
 //! Stands on: sd_base, sd_logrec, sd_log, sd_chain.
 //! Held by the caller: each record is one of the grammar (`spelled`).
 //!
 //! To change:
-//! - free: bodies, private helpers, `Wanted`
+//! - free: bodies, private helpers
 //! - dear: `Change`, `IsMerged`, the clauses of both calls
 //! - frozen: nothing
 #![tactic(auto)]

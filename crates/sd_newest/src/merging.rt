@@ -14,7 +14,7 @@ use crate::redoing::{page_lsns, redo_changes};
 use crate::twin::disk_images;
 use sd_base::{Lsn, Refusal};
 use sd_chain::laws;
-use sd_log::Log;
+use sd_log::ReadLog;
 use sd_merge::merged_changes;
 use sd_page::Image;
 use sd_rig::DATA_LEN;
@@ -35,7 +35,7 @@ pub struct NewestPages {
 /// least slot that fails of the first twin that isn't sound, on the data device. Where each twin is sound it names the log
 /// and the place of a record of the first page whose records don't fit: of these the first that doesn't, by LSN and then
 /// by device. That is said of logs in which LSNs rise. Places are in bytes from the device's start.
-pub fn newest_pages(alloc: Global, bytes: &[u8], logs: &[Log]) -> Result<NewestPages, Refusal>
+pub fn newest_pages(alloc: Global, bytes: &[u8], logs: &[ReadLog]) -> Result<NewestPages, Refusal>
     requires size { length bytes.now ≡ DATA_LEN }
     requires eight { length logs.now ≡ 8 }
     requires spelled { All (λ log. AreSpelled (scanned log)) logs.now }

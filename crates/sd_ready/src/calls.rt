@@ -72,12 +72,12 @@ pub fn written<G: Rig>(
     requires { IsReady (G.seen c.old.rig) (G.leaves c.old.rig) (parts c.old) }
     ensures { IsReady (G.seen c.new.rig) (G.leaves c.new.rig) (parts c.new) }
 {
-    let records = c.log(first()).scan().len();
+    let records = c.log(first()).count();
     let done = put_bytes(alloc, c, t, r, bytes);
     if !lacked(&done) {
         return done;
     }
-    if c.log(first()).scan().len() != records {
+    if c.log(first()).count() != records {
         return Err(Stop::Odd);
     }
     put_bytes(alloc, c, t, r, bytes)

@@ -23,8 +23,7 @@ ghost use Rattle.sd_world.specs.Serving.{Core, answered, telling};
 
 use sd_base::{Failed, InstNo, Refusal, TxnId};
 use sd_falls::down;
-use sd_log::{Log, Placed};
-use sd_logrec::Record;
+use sd_log::Log;
 use sd_losers::decided;
 use sd_moves::laws;
 use sd_rig::Rig;
@@ -84,22 +83,5 @@ pub(crate) fn at_rest<G: Rig>(c: &mut Complex<G>, i: InstNo, by: InstNo) -> Resu
 fn has_commit(log: &Log, t: &TxnId) -> bool
     ensures { result ≡ list_any (λ p. commits t.now (flat p.rec)) (scanned log.now) }
 {
-    any_commit(log.scan(), t)
-}
-
-// Whether one of these records is a Commit of the transaction.
-fn any_commit(placed: &[Placed], t: &TxnId) -> bool
-    ensures { result ≡ list_any (λ p. commits t.now (flat p.rec)) placed.now }
-{
-    placed.iter().any(|p| commits(&p.rec, t))
-}
-
-// Whether the record is a Commit of the transaction.
-fn commits(rec: &Record, t: &TxnId) -> bool
-    ensures { result ≡ commits t.now (flat rec.now) }
-{
-    match rec {
-        Record::Commit { txn, .. } => *txn == *t,
-        _ => false,
-    }
+    log.has_commit(t)
 }

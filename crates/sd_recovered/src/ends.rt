@@ -10,7 +10,7 @@ ghost use Rattle.sd_recovered.specs.Ends.{EndsFailAt, EndsFit, HasRoom, IsLogLow
 
 use sd_analysis::{Losers, owed, reserve};
 use sd_base::{Lsn, Refusal};
-use sd_log::{Log, Placed};
+use sd_log::{Placed, ReadLog};
 use sd_logrec::{AREA_LEN, MAX_LSN};
 use sd_merge::damaged;
 use sd_page::Image;
@@ -40,7 +40,7 @@ pub fn are_low(pages: &[Image], owed: u64) -> bool
 }
 
 // Whether so many LSNs are left above those of these records.
-fn is_log_low(log: &Log, owed: u64) -> bool
+fn is_log_low(log: &ReadLog, owed: u64) -> bool
     ensures { (n : ℕ) → owed ≡ min n (2 ^ 64 - 1) → IsTrue result ↔ IsLogLow n log.now }
 {
     log.scan()
@@ -49,14 +49,14 @@ fn is_log_low(log: &Log, owed: u64) -> bool
 }
 
 // Whether so many LSNs are left above those of these logs.
-fn are_logs_low(logs: &[Log], owed: u64) -> bool
+fn are_logs_low(logs: &[ReadLog], owed: u64) -> bool
     ensures { (n : ℕ) → owed ≡ min n (2 ^ 64 - 1) → IsTrue result ↔ All (IsLogLow n) logs.now }
 {
     logs.iter().all(|log| is_log_low(log, owed))
 }
 
 // Whether the log has room for what ends its losers.
-fn has_room(log: &Log, losers: &Losers) -> bool
+fn has_room(log: &ReadLog, losers: &Losers) -> bool
     requires { AreLosers (scanned log.now) losers.now }
     ensures { IsTrue result ↔ HasRoom log.now }
 {
@@ -68,7 +68,7 @@ fn has_room(log: &Log, losers: &Losers) -> bool
 ///
 /// `Damaged` comes exactly where there is none: where LSNs lack at the next gate of log 1, else at that of the first log
 /// that lacks bytes.
-pub fn check_ends(logs: &[Log], losers: &[Losers], low: bool) -> Result<(), Refusal>
+pub fn check_ends(logs: &[ReadLog], losers: &[Losers], low: bool) -> Result<(), Refusal>
     requires losers { AreLosersOf logs.now losers.now }
     requires eight { length logs.now ≡ 8 }
     ensures low { OnOk result (IsTrue low) }
@@ -84,7 +84,7 @@ pub fn check_ends(logs: &[Log], losers: &[Losers], low: bool) -> Result<(), Refu
 }
 
 // Room in each of these logs, the first of which is that of this instance.
-fn check_room(logs: &[Log], losers: &[Losers], inst: u8) -> Result<(), Refusal>
+fn check_room(logs: &[ReadLog], losers: &[Losers], inst: u8) -> Result<(), Refusal>
     requires losers { AreLosersFrom inst logs.now losers.now }
     requires few { inst + length logs.now < 256 }
     ensures fit { OnOk result (All HasRoom logs.now) }

@@ -10,7 +10,7 @@ ghost use Rattle.sd_recovered.specs.Reading.{counting, FailsAmong, HasRead, IsUn
 
 use sd_analysis::{AnalysisError, Losers, analyse};
 use sd_base::{Bytes, InstNo, Refusal};
-use sd_log::Log;
+use sd_log::ReadLog;
 use sd_merge::damaged;
 use sd_rig::LOG_LEN;
 use sd_scan::{MasterRecord, Scanned, scan};
@@ -20,7 +20,7 @@ use std::alloc::Global;
 /// master, where one counts.
 #[derive(Drop)]
 pub struct ReadLogs {
-    pub logs: Vec<Log>,
+    pub logs: Vec<ReadLog>,
     pub losers: Vec<Losers>,
     pub masters: Vec<Option<MasterRecord>>,
 }
@@ -78,7 +78,7 @@ fn read_log(
     alloc: Global,
     device: &[u8],
     inst: InstNo,
-) -> Result<(Log, Losers, Option<MasterRecord>), Refusal>
+) -> Result<(ReadLog, Losers, Option<MasterRecord>), Refusal>
     requires { length device.now ≡ LOG_LEN }
     ensures read { IfOk result (λ r. LogIsRead inst device.now r.0 r.1) }
     ensures counts { IfOk result (λ r. said r.2 ≡ counting device.now) }
@@ -91,7 +91,7 @@ fn read_log(
 }
 
 // The losers of a log.
-fn losers_of(alloc: Global, log: &Log, inst: InstNo) -> Result<Losers, Refusal>
+fn losers_of(alloc: Global, log: &ReadLog, inst: InstNo) -> Result<Losers, Refusal>
     requires { AreSpelled (scanned log.now) }
     ensures tidy { OnOk result (AreTidy (scanned log.now)) }
     ensures losers { IfOk result (AreLosers (scanned log.now)) }

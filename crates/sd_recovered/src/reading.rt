@@ -17,7 +17,7 @@ use crate::table::take_back;
 use sd_analysis::Losers;
 use sd_base::{Bytes, Lsn, Refusal};
 use sd_chain::laws;
-use sd_log::Log;
+use sd_log::ReadLog;
 use sd_model::Table;
 use sd_newest::newest_pages;
 use sd_rig::DATA_LEN;
@@ -29,7 +29,7 @@ use std::alloc::Global;
 /// record above that image (ARIES, section 3), `None` where there is none; and the table that they stand for.
 #[derive(Drop)]
 pub struct Opened {
-    pub logs: Vec<Log>,
+    pub logs: Vec<ReadLog>,
     pub losers: Vec<Losers>,
     pub masters: Vec<Option<MasterRecord>>,
     pub disk_lsns: Vec<Lsn>,
@@ -127,7 +127,7 @@ struct ReadPages {
 fn read_pages(
     alloc: Global,
     bytes: &[u8],
-    logs: &[Log],
+    logs: &[ReadLog],
     losers: &[Losers],
 ) -> Result<ReadPages, Refusal>
     requires size { length bytes.now ≡ DATA_LEN }

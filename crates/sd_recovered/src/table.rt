@@ -12,7 +12,7 @@ ghost use Rattle.sd_undone.specs.Stops.{FirstMisfit};
 
 use sd_analysis::Losers;
 use sd_base::Refusal;
-use sd_log::Log;
+use sd_log::ReadLog;
 use sd_logrec::AREA;
 use sd_merge::damaged;
 use sd_model::Table;
@@ -25,7 +25,7 @@ use std::alloc::Global;
 pub fn take_back(
     alloc: Global,
     pages: Vec<Image>,
-    logs: &[Log],
+    logs: &[ReadLog],
     losers: &[Losers],
 ) -> Result<Table, Refusal>
     requires pages { length pages.items ≡ 1024 }

@@ -15,7 +15,7 @@ ghost use Rattle.sd_scan.specs.Masters.{as_master, kept_master, master_in, said}
 use crate::following::{first_stray, has_end_check};
 use crate::master::{MasterRecord, read_master};
 use sd_base::{InstNo, Refusal};
-use sd_log::{Area, Log, Placed};
+use sd_log::{Area, Placed, ReadLog};
 use sd_logrec::{AREA, AREA_LEN, MASTER_BODY};
 use sd_rig::LOG_LEN;
 use std::alloc::Global;
@@ -23,7 +23,7 @@ use std::alloc::Global;
 /// A log device as it was read: its groups, and the master that counts, if any does.
 #[derive(Drop)]
 pub struct Scanned {
-    pub log: Log,
+    pub log: ReadLog,
     pub master: Option<MasterRecord>,
 }
 
@@ -58,7 +58,7 @@ pub fn scan(alloc: Global, device: &[u8], inst: InstNo) -> Result<Scanned, Refus
     };
     let m = master.unwrap_or(MasterRecord::BLANK);
     let area = &device[AREA as usize..(AREA + AREA_LEN) as usize];
-    match Log::of_area(alloc, inst, m.start, area)? {
+    match ReadLog::of_area(alloc, inst, m.start, area)? {
         Area::Whole(log) => {
             check_records(&log, inst, master.is_some(), m)?;
             Ok(Scanned { log, master })
@@ -68,7 +68,7 @@ pub fn scan(alloc: Global, device: &[u8], inst: InstNo) -> Result<Scanned, Refus
 }
 
 // Whether the log has the checkpoint that its master names, and its records follow one another.
-fn check_records(log: &Log, inst: InstNo, chosen: bool, m: MasterRecord) -> Result<(), Refusal>
+fn check_records(log: &ReadLog, inst: InstNo, chosen: bool, m: MasterRecord) -> Result<(), Refusal>
     ensures sound { OnOk result (IsChecked chosen (kept_master m) (bare (scanned log.now))
         × Follow inst chosen (kept_master m) (past_of (kept_master m)) (bare (scanned log.now))) }
     ensures err { IfErr result (λ e. ((IsChecked chosen (kept_master m) (bare (scanned log.now)) → ⊥) × (e ≡ R.Damaged inst 0))

@@ -19,7 +19,7 @@ ghost use Rattle.sd_txn.specs.Transactions.{span_at, state_at};
 ghost use Rattle.sd_txn.specs.declared.state.TxnState.TheVariants.{Running};
 
 use sd_base::{InstNo, Lsn, Memory, Refusal, TxnId};
-use sd_logrec::{AREA_LEN, MAX_LSN, Record};
+use sd_logrec::{AREA_LEN, Lent, MAX_LSN, Record};
 use sd_rig::Rig;
 use sd_state::Complex;
 use std::cmp;
@@ -156,7 +156,7 @@ fn put_end<G>(c: &mut Complex<G>, t: &TxnId, rec: Record) -> Result<(), Memory>
 {
     let at = t.inst.get() as usize - 1;
     c.txns[at].keeps();
-    match c.logs[at].append(rec, 0) {
+    match c.logs[at].append(&Lent::whole(&rec), 0) {
         Ok(()) => {}
         Err(_) => return Err(Memory),
     }
@@ -217,5 +217,5 @@ fn put_plain<G>(c: &mut Complex<G>, i: InstNo, rec: Record) -> Result<(), Refusa
     ensures rig { c.new.rig ≡ c.old.rig }
 {
     let reserve = c.txns(i).reserve();
-    c.logs[i.get() as usize - 1].append(rec, reserve as u32)
+    c.logs[i.get() as usize - 1].append(&Lent::whole(&rec), reserve as u32)
 }

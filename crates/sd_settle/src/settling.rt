@@ -32,7 +32,7 @@ ghost use Rattle.sd_settle.specs.declared.settling.Unsettled.TheVariants as U;
 use sd_analysis::{AnalysisError, Losers, analyse, owed};
 use sd_base::{Failed, InstNo, Memory, Refusal, TxnId};
 use sd_falls::down;
-use sd_log::{Log, Placed};
+use sd_log::{Log, Placed, ReadLog};
 use sd_logrec::{AREA, Record};
 use sd_moves::laws;
 use sd_relist::relist;
@@ -220,14 +220,16 @@ fn read_again<G: Rig>(
 {
     laws::instances(i);
     let master = choose_master(rig, i)?;
-    let log = read_groups(alloc, rig, i, master.start)?;
-    let (table, owed) = table_and_owed(alloc, i, &log, old)?;
+    let read = read_groups(alloc, rig, i, master.start)?;
+    let (table, owed) = table_and_owed(alloc, i, &read, old)?;
+    let epoch = last_epoch(master.epoch, read.scan());
+    let log = read.into_log(alloc)?;
     Ok(Reread {
-        epoch: last_epoch(master.epoch, log.scan()),
-        count: master.count,
-        owed,
         log,
         table,
+        epoch,
+        count: master.count,
+        owed,
     })
 }
 
@@ -235,7 +237,7 @@ fn read_again<G: Rig>(
 fn table_and_owed(
     alloc: Global,
     i: InstNo,
-    log: &Log,
+    log: &ReadLog,
     old: &TxnTable,
 ) -> Result<(TxnTable, u64), Memory>
     requires spelled { AreSpelled (scanned log.now) }
@@ -252,7 +254,7 @@ fn table_and_owed(
 fn table_by(
     alloc: Global,
     i: InstNo,
-    log: &Log,
+    log: &ReadLog,
     losers: &Losers,
     old: &TxnTable,
 ) -> Result<TxnTable, Memory>
@@ -298,7 +300,12 @@ fn master_of(slots: &[u8]) -> MasterRecord
 }
 
 // The groups of a log, which keep the format, from the place `start` on.
-fn read_groups<G: Rig>(alloc: Global, rig: &mut G, i: InstNo, start: u32) -> Result<Log, Unsettled>
+fn read_groups<G: Rig>(
+    alloc: Global,
+    rig: &mut G,
+    i: InstNo,
+    start: u32,
+) -> Result<ReadLog, Unsettled>
     requires start { start < 1048576 }
     requires whole { IsWhole (reading start (area (G.seen rig.old i))) }
     ensures whole { IfOk result (λ log. StandsOn log (G.seen rig.old i)) }
@@ -312,7 +319,7 @@ fn read_groups<G: Rig>(alloc: Global, rig: &mut G, i: InstNo, start: u32) -> Res
     ensures quiet { result ≢ Err U.Unread → G.faults rig.new ≡ G.faults rig.old }
     ensures count { G.faults rig.old ≤ G.faults rig.new }
 {
-    match Log::read_in(alloc, rig, i, start) {
+    match ReadLog::read_in(alloc, rig, i, start) {
         Ok(log) => Ok(log),
         Err(Refusal::Failed) => Err(Unsettled::Unread),
         Err(Refusal::Memory) => Err(Unsettled::Memory),
@@ -321,7 +328,7 @@ fn read_groups<G: Rig>(alloc: Global, rig: &mut G, i: InstNo, start: u32) -> Res
 }
 
 // The losers of a log whose records are in order.
-fn losers_of(alloc: Global, log: &Log) -> Result<Losers, Memory>
+fn losers_of(alloc: Global, log: &ReadLog) -> Result<Losers, Memory>
     requires spelled { AreSpelled (scanned log.now) }
     requires tidy { AreTidy (scanned log.now) }
     ensures { IfOk result (λ losers. AreLosers (scanned log.now) losers) }

@@ -20,7 +20,7 @@ pub(crate) fn seen<'a, G>(c: &'a Complex<G>, r: &Rid) -> Seen<'a>
     };
     let changed = matches!(c.entry(r.page), Place::Excl { dirty: true, .. });
     (
-        c.log(i).scan().len(),
+        c.log(i).count(),
         c.txns(i).unresolved().len(),
         changed,
         value,

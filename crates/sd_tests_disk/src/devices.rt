@@ -6,7 +6,7 @@ ghost use Rattle.sd_rig.specs.Devices.{device_len};
 ghost use Rattle.sd_recovered.specs.Devices.{AreDevices};
 
 use sd_base::{Bytes, InstNo, Memory, Refusal};
-use sd_log::Log;
+use sd_log::ReadLog;
 use sd_logrec::AREA;
 use sd_rig::device_len;
 use sd_scan::{Scanned, scan};
@@ -50,7 +50,7 @@ fn put(device: &mut [u8], at: usize, bytes: &[u8]) {
 }
 
 /// The log of an instance whose device has these bytes in its log area.
-pub(crate) fn log_of(alloc: Global, inst: InstNo, bytes: &[u8]) -> Result<Log, Refusal>
+pub(crate) fn log_of(alloc: Global, inst: InstNo, bytes: &[u8]) -> Result<ReadLog, Refusal>
     ensures { IfOk result (λ log. AreSpelled (scanned log)) }
 {
     let device = device(alloc, 1, &[log(1, bytes)])?;

@@ -1,15 +1,17 @@
 //! Logs by hand: their bytes, forces that are stopped, and areas that are damaged.
 
-ghost use Rattle.std.specs.Prelude.{◌≡◌, ℕ, ◌^◌, ◌<◌, ◌≤◌, IfOk};
-ghost use Rattle.sd_logrec.specs.Spelling.{HasSpelling, spelling};
+ghost use Rattle.std.specs.Prelude.{◌≡◌, ℕ, ◌^◌, ◌<◌, ◌≤◌, option_copied, IfOk};
+ghost use Rattle.sd_logrec.specs.Lent.{update_record};
+ghost use Rattle.sd_logrec.specs.Spelling.{HasSpelling, IsValue, spelling};
 ghost use Rattle.sd_rig.specs.Devices.{LeavesOnly};
 ghost use Rattle.sd_log.specs.Logs.{StandsOn};
 
-use sd_base::{Bytes, InstNo, Lsn, Memory, PageNo, Pick, Refusal, Trouble, TxnId};
-use sd_log::{Area, Log};
-use sd_logrec::{AREA_LEN, Record};
+use sd_base::{InstNo, Lsn, Memory, PageNo, Pick, Refusal, Trouble, TxnId, lent_value};
+use sd_log::{Area, Log, Placed, ReadLog};
+use sd_logrec::{AREA_LEN, Lent, Record, Update};
 use sd_rig::{MemRig, Rig};
 use std::alloc::Global;
+use std::test::Fail;
 
 // Two groups: the start of epoch 1, and transaction 1.1.1, which puts `red` into slot 0 of page 0 and commits. Behind
 // them a closed gate.
@@ -27,15 +29,15 @@ fn open<G: Rig>(alloc: Global, rig: &mut G, inst: InstNo) -> Result<Log, Refusal
     ensures stable { IfOk result (λ log. LeavesOnly (G.seen rig.new log.inst) (G.leaves rig.new log.inst)) }
 {
     rig.sync(inst.get())?;
-    Log::read_in(alloc, rig, inst, 0)
+    Ok(ReadLog::read_in(alloc, rig, inst, 0)?.into_log(alloc)?)
 }
 
 // Transaction 1.1.1 puts `red` into slot 0 of page 0.
-fn red(alloc: Global, inst: InstNo) -> Result<Record, Memory>
-    ensures { IfOk result (λ r. HasSpelling r) }
+fn red(inst: InstNo) -> Update<'static>
+    ensures { HasSpelling (update_record result) }
 {
     let (epoch, seq) = (1, 1);
-    Ok(Record::Update {
+    Update {
         lsn: 2,
         txn: TxnId { inst, epoch, seq },
         prev: 0,
@@ -43,8 +45,8 @@ fn red(alloc: Global, inst: InstNo) -> Result<Record, Memory>
         slot: 0,
         capacity: 3,
         before: None,
-        after: Some(Bytes::copy_of(alloc, b"red")?),
-    })
+        after: Some(b"red"),
+    }
 }
 
 fn commit(inst: InstNo, lsn: Lsn) -> Record
@@ -61,18 +63,19 @@ fn commit(inst: InstNo, lsn: Lsn) -> Record
 // Forces the start of epoch 1.
 fn write_start(alloc: Global, rig: &mut MemRig, inst: InstNo) -> Result<(), Refusal> {
     let mut log = open(alloc, rig, inst)?;
-    log.append(Record::Start { lsn: 1, epoch: 1 }, 0)?;
+    let start = Record::Start { lsn: 1, epoch: 1 };
+    log.append(&Lent::whole(&start), 0)?;
     log.force(rig)?;
     Ok(())
 }
 
 // Forces the transaction.
-fn write_red<G: Rig>(alloc: Global, rig: &mut G, log: &mut Log, inst: InstNo) -> Result<(), Refusal>
+fn write_red<G: Rig>(rig: &mut G, log: &mut Log, inst: InstNo) -> Result<(), Refusal>
     requires stands { StandsOn log.old (G.seen rig.old log.old.inst) }
     requires stable { LeavesOnly (G.seen rig.old log.old.inst) (G.leaves rig.old log.old.inst) }
 {
-    log.append(red(alloc, inst)?, 78)?;
-    log.append(commit(inst, 3), 0)?;
+    log.append(&Lent::update(&red(inst)), 78)?;
+    log.append(&Lent::whole(&commit(inst, 3)), 0)?;
     log.force(rig)?;
     Ok(())
 }
@@ -81,7 +84,7 @@ fn write_red<G: Rig>(alloc: Global, rig: &mut G, log: &mut Log, inst: InstNo) ->
 fn write_log(alloc: Global, rig: &mut MemRig, inst: InstNo) -> Result<Log, Refusal> {
     write_start(alloc, rig, inst)?;
     let mut log = open(alloc, rig, inst)?;
-    write_red(alloc, rig, &mut log, inst)?;
+    write_red(rig, &mut log, inst)?;
     Ok(log)
 }
 
@@ -92,7 +95,7 @@ fn has_two_groups(alloc: Global, rig: &MemRig) -> Result<bool, Memory> {
 
 // Whether one more change of the page is found beside the first.
 fn knows_its_page(alloc: Global, log: &mut Log, inst: InstNo) -> Result<bool, Refusal> {
-    log.append(red(alloc, inst)?, 78)?;
+    log.append(&Lent::update(&red(inst)), 78)?;
     let places = log.of_page(alloc, PageNo::new(0).unwrap())?;
     Ok(places.as_slice() == [1, 3].as_slice())
 }
@@ -127,15 +130,15 @@ fn is_stopped<G: Rig>(
     requires stands { StandsOn log.old (G.seen rig.old log.old.inst) }
     requires stable { LeavesOnly (G.seen rig.old log.old.inst) (G.leaves rig.old log.old.inst) }
 {
-    log.append(commit(inst, 7), 0)?;
-    log.append(commit(inst, 8), 0)?;
+    log.append(&Lent::whole(&commit(inst, 7)), 0)?;
+    log.append(&Lent::whole(&commit(inst, 8)), 0)?;
     rig.arm(trouble);
     Ok(log.force(rig).is_err())
 }
 
 // How many records a log has on its device.
 fn count<G: Rig>(alloc: Global, rig: &mut G, inst: InstNo) -> Result<usize, Refusal> {
-    let log = Log::read_in(alloc, rig, inst, 0)?;
+    let log = ReadLog::read_in(alloc, rig, inst, 0)?;
     Ok(log.scan().len())
 }
 
@@ -148,7 +151,7 @@ fn is_cut_whole(
     pick: Pick,
 ) -> Result<bool, Refusal> {
     let mut log = open(alloc, rig, inst)?;
-    let old = log.scan().len();
+    let old = log.count();
     let failed = is_stopped(rig, &mut log, inst, trouble)?;
     rig.crash(pick);
     let left = count(alloc, rig, inst)?;
@@ -187,7 +190,7 @@ fn damage(alloc: Global, inst: InstNo, place: usize, byte: u8) -> Result<(bool, 
     }
     let mut area = Vec::from_slice(alloc, &bytes)?;
     area.resize(AREA_LEN as usize, 0)?;
-    Ok(match Log::of_area(alloc, inst, 0, &area)? {
+    Ok(match ReadLog::of_area(alloc, inst, 0, &area)? {
         Area::Broken {
             fault: Refusal::BadLog { at },
             ..
@@ -220,4 +223,150 @@ fn a_damaged_byte_is_told_with_its_place(rt: HostRuntime) {
         let is_told = matches!(found, Ok((length, at)) if length == is_length && at == told);
         assert!(rt; is_told, "byte {place} is {byte}");
     }
+}
+
+// The byte of which 100 are the value before a change, and that of the value after it, where there is one.
+const VALUES: [(Option<u8>, Option<u8>); 3] = [
+    (None, Some(b'a')),
+    (Some(b'a'), Some(b'b')),
+    (Some(b'b'), None),
+];
+
+// A value of 100 bytes.
+fn long(byte: Option<u8>) -> Option<[u8; 100]> {
+    byte.map(|byte| [byte; 100])
+}
+
+fn lent(value: &Option<[u8; 100]>) -> Option<&[u8]>
+    ensures { IsValue (option_copied result) }
+{
+    match value {
+        Some(bytes) => all(bytes),
+        None => None,
+    }
+}
+
+fn all(bytes: &[u8; 100]) -> Option<&[u8]>
+    ensures { IsValue (option_copied result) }
+{
+    Some(bytes.as_slice())
+}
+
+// Transaction 1.1.1 changes slot 0 of page 0 with these values.
+fn change<'a>(inst: InstNo, before: Option<&'a [u8]>, after: Option<&'a [u8]>) -> Update<'a>
+    requires before { IsValue (option_copied before) }
+    requires after { IsValue (option_copied after) }
+    ensures { HasSpelling (update_record result) }
+{
+    let capacity = 100;
+    Update {
+        capacity,
+        before,
+        after,
+        ..red(inst)
+    }
+}
+
+// Whether the record of this index is this one, and stands in a group or in the tail.
+fn is_there(log: &Log, index: usize, change: &Update, is_forced: bool) -> Result<bool, Memory> {
+    if index >= log.count() {
+        return Ok(false);
+    }
+    let Placed { rec, forced, .. } = log.record(index)?;
+    Ok(forced == is_forced && is_same(&rec, change))
+}
+
+fn is_same(rec: &Record, change: &Update) -> bool {
+    match rec {
+        Record::Update {
+            lsn,
+            txn,
+            prev,
+            page,
+            slot,
+            capacity,
+            before,
+            after,
+        } => {
+            (*lsn, *prev, *slot, *capacity)
+                == (change.lsn, change.prev, change.slot, change.capacity)
+                && *txn == change.txn
+                && *page == change.page
+                && lent_value(before) == change.before
+                && lent_value(after) == change.after
+        }
+        _ => false,
+    }
+}
+
+// Appends a change with these values: whether it is read back as it was appended, from the tail and behind a force.
+fn is_kept(
+    alloc: Global,
+    rig: &mut MemRig,
+    before: Option<&[u8]>,
+    after: Option<&[u8]>,
+) -> Result<bool, Refusal>
+    requires before { IsValue (option_copied before) }
+    requires after { IsValue (option_copied after) }
+{
+    let inst = InstNo::new(1).unwrap();
+    let change = change(inst, before, after);
+    let mut log = open(alloc, rig, inst)?;
+    let index = log.count();
+    log.append(&Lent::update(&change), 178)?;
+    let in_tail = is_there(&log, index, &change, false)?;
+    log.force(rig)?;
+    let in_group = is_there(&log, index, &change, true)?;
+    Ok(in_tail && in_group && is_there(&open(alloc, rig, inst)?, index, &change, true)?)
+}
+
+#[test]
+fn long_values_are_read_back_from_the_tail_and_behind_a_force(rt: HostRuntime) {
+    let mut rig = MemRig::blank(rt.alloc()).expect(&rt, "memory for devices");
+    for (before, after) in VALUES {
+        let (old, new) = (long(before), long(after));
+        let kept = is_kept(rt.alloc(), &mut rig, lent(&old), lent(&new));
+        assert!(rt; matches!(kept, Ok(true)), "from {before:?} to {after:?}");
+    }
+}
+
+// The numbers of a transaction, and whether the log has its commit.
+const COMMITS: [(u8, u32, u32, bool); 5] = [
+    (1, 1, 1, true),
+    (1, 2, 1, true),
+    (1, 1, 2, false),
+    (1, 2, 2, false),
+    (2, 1, 1, false),
+];
+
+// Puts the commit of transaction 1.2.1 and the end of 1.1.2 into the tail.
+fn append_ends(log: &mut Log, inst: InstNo) -> Result<(), Refusal> {
+    let (epoch, seq) = (2, 1);
+    let commit = Record::Commit {
+        lsn: 4,
+        txn: TxnId { inst, epoch, seq },
+        prev: 0,
+    };
+    log.append(&Lent::whole(&commit), 0)?;
+    let (epoch, seq) = (1, 2);
+    let end = Record::End {
+        lsn: 5,
+        txn: TxnId { inst, epoch, seq },
+        prev: 0,
+    };
+    log.append(&Lent::whole(&end), 0)
+}
+
+#[test]
+fn a_commit_counts_for_its_transaction_alone(rt: HostRuntime) -> Result<(), Fail> {
+    let one = InstNo::new(1).ok_or("instance 1")?;
+    let mut rig = MemRig::blank(rt.alloc())?;
+    let mut log = write_log(rt.alloc(), &mut rig, one)?;
+    append_ends(&mut log, one)?;
+    for (number, epoch, seq, has) in COMMITS {
+        let inst = InstNo::new(number).ok_or("an instance")?;
+        let txn = TxnId { inst, epoch, seq };
+        assert!(rt; log.has_commit(&txn) == has, "{number}.{epoch}.{seq}");
+    }
+    Ok(())
 }

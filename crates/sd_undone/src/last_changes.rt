@@ -8,7 +8,7 @@ ghost use Rattle.sd_logrec.specs.View.{flat};
 ghost use Rattle.sd_undone.specs.Others.{by_others, last_of_others, of_others, other_lsn, seen_in};
 
 use sd_base::{Lsn, Memory, Rid, TxnId};
-use sd_log::{Log, Placed};
+use sd_log::{Placed, ReadLog};
 use sd_logrec::Record;
 use std::alloc::Global;
 use std::collections::BTreeMap;
@@ -87,7 +87,7 @@ impl Model for LastChanges {
 
 impl LastChanges {
     /// The last changes in these logs.
-    pub fn of(alloc: Global, logs: &[Log]) -> Result<LastChanges, Memory>
+    pub fn of(alloc: Global, logs: &[ReadLog]) -> Result<LastChanges, Memory>
         ensures { IfOk result (λ last. (t : TxnId) (p s : ℕ) → seen_in last t p s ≡ by_others logs.now t p s) }
     {
         let mut last = LastChanges {

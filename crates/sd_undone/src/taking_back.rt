@@ -13,7 +13,7 @@ use crate::last_changes::LastChanges;
 use crate::undoing::UndoError;
 use sd_analysis::{Loser, Losers};
 use sd_base::{Bytes, Rid, lent_value, same_value, value_len};
-use sd_log::{Log, Placed};
+use sd_log::{Placed, ReadLog};
 use sd_logrec::Record;
 use sd_page::{Image, Op};
 
@@ -22,7 +22,7 @@ use sd_page::{Image, Op};
 pub fn take_back_all(
     pages: &mut [Image],
     last: &LastChanges,
-    logs: &[Log],
+    logs: &[ReadLog],
     losers: &[Losers],
 ) -> Result<(), UndoError>
     requires pages { length pages.old ≡ 1024 }

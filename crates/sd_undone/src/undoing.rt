@@ -20,7 +20,7 @@ use crate::taking_back::take_back_all;
 use sd_analysis::{Loser, Losers};
 use sd_base::Memory;
 use sd_chain::laws;
-use sd_log::Log;
+use sd_log::ReadLog;
 use sd_model::Table;
 use sd_page::Image;
 use std::alloc::Global;
@@ -51,7 +51,7 @@ impl From<Memory> for UndoError {
 pub fn undone(
     alloc: Global,
     pages: Vec<Image>,
-    logs: &[Log],
+    logs: &[ReadLog],
     losers: &[Losers],
 ) -> Result<Table, UndoError>
     requires pages { length pages.items ≡ 1024 }
@@ -74,7 +74,7 @@ pub fn undone(
 pub fn undo(
     alloc: Global,
     pages: Vec<Image>,
-    logs: &[Log],
+    logs: &[ReadLog],
     losers: &[Losers],
 ) -> Result<Table, UndoError>
     requires pages { length pages.items ≡ 1024 }

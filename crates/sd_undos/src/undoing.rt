@@ -25,7 +25,7 @@ ghost use Rattle.sd_state.specs.Values.{Pending};
 
 use sd_base::{InstNo, Lsn, PageNo, Place, TxnId, lent_value};
 use sd_log::Log;
-use sd_logrec::Record;
+use sd_logrec::{Lent, Record};
 use sd_page::Op;
 use sd_pool::Pool;
 use sd_rig::Rig;
@@ -178,5 +178,5 @@ fn append_clr(log: &mut Log, clr: Record)
     ensures grown { log.new ≡ with_record clr log.new.spare log.old }
     ensures spent { log.old.spare ≤ log.new.spare + length (spelling clr) }
 {
-    log.append(clr, 0).unwrap();
+    log.append(&Lent::whole(&clr), 0).unwrap();
 }

@@ -1,7 +1,6 @@
 use Rattle.std.proofs.Common.{◌≡◌, ℕ, ◌-◌, ◌≤◌, Some, get_or, slice_set, true, refl, sym, ap, ◌∙◌, subst, arith}
 use Rattle.std.specs.Prelude.{option_copied, option_map}
-use Rattle.sd_log.specs.Logs.{LogState, is_reserved, with_record}
-use Rattle.sd_logrec.specs.declared.record.Record.{Record}
+use Rattle.sd_log.specs.Logs.{LogState, with_record}
 use Rattle.sd_page.specs.declared.op.Op.{Op}
 use Rattle.sd_page.specs.Page.{Page, applied, empty_page}
 use Rattle.sd_asks.specs.Asks.{open_asks}
@@ -45,8 +44,7 @@ returns-clause-put g c =
     let log : LogState = c.log_within.new.log in
     let log_is : log_at p i ≡ old_log = log-lent p i at old_log low high c.requires.shape.logs place c.index_mut.ensures.value in
     let grown : log ≡ with_record (update k) log.spare (log_at p i) =
-    c.in_ok-log_within.ensures.log ∙ ap (λ (r : Record). with_record r log.spare old_log) c.in_ok-rec.ensures
-    ∙ ap (with_record (update k) log.spare) (sym log_is) in
+    c.in_ok-log_within.ensures.log ∙ ap (with_record (update k) log.spare) (sym log_is) in
     let table : Transactions = get_or c.log_within.new.txns.items at no_txns in
     let tables : c.log_within.new.txns.items ≡ slice_set p.txns at table = c.in_ok-log_within.ensures.table in
     let old_table : get_or p.txns at no_txns ≡ txns_at p i =
@@ -78,7 +76,7 @@ returns-clause-put g c =
       table = table;
       pool = pool;
       places = unboxed c.mark.new.directory;
-      memory = c.in_ok-log_within.ensures.memory (ap is_reserved c.in_ok-rec.ensures);
+      memory = c.in_ok-log_within.ensures.memory;
       changed = record {
         row = row;
         bytes = c.owed_by_change.ensures.reserve (txns_at p i) table c.args.t.now x (changed_row k x) put.once row;

@@ -1,6 +1,6 @@
 use Rattle.std.proofs.Common.{◌≡◌, ◌++◌, map, take}
 use Rattle.std.specs.Prelude.{filter}
-use Rattle.sd_merge.specs.Changes.{AllStand, AreChanges, found_of, is_taken, page_of}
+use Rattle.sd_merge.specs.Changes.{AllStand, AreChanges, found_of}
 use Rattle.sd_merge.proofs.OfPage.{on}
 use Rattle.sd_merge.proofs.change.gather.Given as goal
 
@@ -8,6 +8,5 @@ abbrev pub invariant-loop-at : goal.invariant-loop-at
 invariant-loop-at l = record {
   changes : AreChanges l.changes.items;
   stand : AllStand l.logs l.changes.items;
-  gathered : map found_of l.changes.items
-      ≡ map found_of l.fn.changes.items ++ filter (is_taken l.wanted) (take l.at-index (filter (on (page_of l.wanted)) l.records));
+  gathered : map found_of l.changes.items ≡ map found_of l.fn.changes.items ++ take l.at-index (filter (on l.fn.page) l.records);
 }

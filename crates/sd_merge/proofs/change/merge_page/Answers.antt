@@ -1,49 +1,38 @@
-use Rattle.std.proofs.Common.{◌≡◌, ◌+◌, ◌∙◌, List, ap, length, map, subst, sym, true}
-use Rattle.std.specs.Prelude.{All, IfOk, filter}
-use Rattle.std.proofs.lemmas.Result.{IfOk-weaker}
+use Rattle.std.proofs.Common.{◌≡◌, ◌+◌, List, length, rules, subst}
+use Rattle.std.specs.Prelude.{filter}
+use Rattle.std.proofs.lemmas.List.Sorted.{IsNonDecreasingBy-from_sort_by_key, answers_always}
 use Rattle.sd_log.specs.declared.placed.Placed.{Placed}
-use Rattle.sd_log.specs.Logs.{AreSpelled, flats, forced_in, without_tail}
-use Rattle.sd_chain.specs.Storage.{all_of, sorted}
-use Rattle.sd_chain.specs.Records.{of_page}
-use Rattle.sd_merge.specs.declared.change.Wanted.TheVariants as W
-use Rattle.sd_merge.specs.Changes.{ChangesPage, IsMerged, LsnsRise, found_of}
-use Rattle.sd_merge.proofs.Merges.{ByLsn, page_chain, page_changes, page_forced, page_merged, page_spelled}
+use Rattle.sd_log.specs.Logs.{lsn_of}
+use Rattle.sd_merge.specs.Changes.{AreByLsn, in_turn, is_forced_of, placed_in}
+use Rattle.sd_merge.proofs.Merges.{forced_chain, forced_changes, forced_merged, forced_ones, forced_spelled}
+use Rattle.sd_merge.proofs.Turns.{sorted_placed}
 use Rattle.sd_merge.proofs.change.merge_page.Goals as goal
 
-by_lsn : (c : goal.After-drop-changes)
-    → ByLsn c.args.logs.now (length c.args.logs.now + 1) (W.Forced c.args.p) c.in_ok-changes.changes.items
+by_lsn : (c : goal.In_ok-sort_by_key)
+    → AreByLsn (filter (is_forced_of c.args.p) (in_turn (placed_in c.args.logs.now) (length c.args.logs.now + 1)))
+    c.sort_by_key.new.self.items
 by_lsn c =
-    let all = c.in_ok-changes.ensures in record {
-      are = all.changes;
-      rises = all.rises;
-      same = all.same;
-      turns = all.turns;
-    }
-
--- what holds of their records holds of the copies
-of_copies : (c : goal.After-drop-changes) (P : List Placed → Type 0) → P (map found_of c.in_ok-changes.changes.items)
-    → IfOk c.copies.result (λ found. P found.items)
-of_copies c P holds = IfOk-weaker c.copies.result (λ found. found.items ≡ map found_of c.deref.result.now) (λ found. P found.items)
-    (λ found is. subst P (sym (is ∙ ap (map found_of) c.deref.ensures.value)) holds) c.copies.ensures
+    let old : List Placed = c.in_ok-records.records.items in
+    let new : List Placed = c.sort_by_key.new.self.items in
+    subst (λ l. AreByLsn l new) c.in_ok-records.ensures
+    (sorted_placed old new c.in_ok-sort_by_key.ensures.permutation
+    (IsNonDecreasingBy-from_sort_by_key lsn_of new c.in_ok-sort_by_key.ensures.sorted (λ a r q k. search rules))
+    (c.in_ok-sort_by_key.ensures.stable lsn_of (answers_always _ (λ a r. r ≡ lsn_of a.0.now) _ (λ f a r q k. search rules))))
 
 pub returns-clause-spelled : goal.returns-clause-spelled
-returns-clause-spelled c = of_copies c AreSpelled
-    (page_spelled c.args.logs.now (length c.args.logs.now + 1) (W.Forced c.args.p) c.in_ok-changes.changes.items (by_lsn c))
+returns-clause-spelled c = forced_spelled c.args.logs.now (length c.args.logs.now + 1) c.args.p _ (by_lsn c) c.requires.spelled
 
 pub returns-clause-pages : goal.returns-clause-pages
-returns-clause-pages c = of_copies c (All (λ x. ChangesPage x.rec c.args.p))
-    (page_changes c.args.logs.now (length c.args.logs.now + 1) (W.Forced c.args.p) c.in_ok-changes.changes.items (by_lsn c))
+returns-clause-pages c = forced_changes c.args.logs.now (length c.args.logs.now + 1) c.args.p _ (by_lsn c)
 
 pub returns-clause-forced : goal.returns-clause-forced
-returns-clause-forced c = of_copies c (All (λ x. x.forced ≡ true))
-    (page_forced c.args.logs.now (length c.args.logs.now + 1) c.args.p c.in_ok-changes.changes.items (by_lsn c))
+returns-clause-forced c = forced_ones c.args.logs.now (length c.args.logs.now + 1) c.args.p _ (by_lsn c)
 
 pub returns-clause-merged : goal.returns-clause-merged
-returns-clause-merged c = of_copies c (λ found. IsMerged c.args.p (forced_in c.args.logs.now) (length c.args.logs.now + 1) (flats found))
-    (page_merged c.args.logs.now (length c.args.logs.now + 1) c.args.p c.in_ok-changes.changes.items (by_lsn c))
+returns-clause-merged c = forced_merged c.args.logs.now (length c.args.logs.now + 1) c.args.p _ (by_lsn c)
+
+pub returns-clause-turns : goal.returns-clause-turns
+returns-clause-turns c = (by_lsn c).turns
 
 pub returns-clause-chain : goal.returns-clause-chain
-returns-clause-chain c = of_copies c
-    (λ found. LsnsRise (map without_tail c.args.logs.now) → flats found
-    ≡ sorted (filter (of_page c.args.p) (all_of (forced_in c.args.logs.now) (length c.args.logs.now + 1))))
-    (page_chain c.args.logs.now (length c.args.logs.now + 1) c.args.p c.in_ok-changes.changes.items (by_lsn c))
+returns-clause-chain c = forced_chain c.args.logs.now (length c.args.logs.now + 1) c.args.p _ (by_lsn c)

@@ -1,6 +1,7 @@
-use Rattle.std.proofs.Common.{◌≡◌, ℕ, ◌+◌, arith, length, rules, subst, sym}
-use Rattle.sd_merge.specs.declared.change.Wanted.TheVariants as W
-use Rattle.sd_merge.proofs.Merges.{ByLsn, Pages, all_chains, all_merged, no_pages, one_page}
+use Rattle.std.proofs.Common.{◌≡◌, ℕ, ◌+◌, arith, length, map, rules, subst, sym}
+use Rattle.std.specs.Prelude.{filter}
+use Rattle.sd_merge.specs.Changes.{AreByLsn, found_of, in_turn, is_of, placed_in}
+use Rattle.sd_merge.proofs.Merges.{Pages, all_chains, all_merged, no_pages, one_page}
 use Rattle.sd_merge.proofs.change.merged_changes.Goals as goal
 
 pub loop-p-init : goal.loop-p-init
@@ -11,16 +12,12 @@ loop-p-init c = record {
 pub loop-p-preserved : goal.loop-p-preserved
 loop-p-preserved c =
     let all = c.in_ok-of_page.ensures in
-    let by : ByLsn c.args.logs.now (length c.args.logs.now + 1) (W.Every c.unwrap-page.result) c.in_ok-of_page.of_page.items = record {
-      are = all.changes;
-      rises = all.rises;
-      same = all.same;
-      turns = all.turns;
-    } in
+    let turn = in_turn (placed_in c.args.logs.now) (length c.args.logs.now + 1) in
+    let found = map found_of c.in_ok-of_page.of_page.items in
     let page : c.unwrap-page.result ≡ c.loop-p.p = search rules in record {
       pages = one_page c.args.logs.now (length c.args.logs.now + 1) c.loop-p.p c.loop-p.changes.items c.in_ok-of_page.of_page.items
-          c.loop-p.invariant.pages
-          (subst (λ (p : ℕ). ByLsn c.args.logs.now (length c.args.logs.now + 1) (W.Every p) c.in_ok-of_page.of_page.items) page by) c.append.new.self.items all.stand c.in_ok-append.ensures.items;
+          c.loop-p.invariant.pages all.changes (subst (λ (p : ℕ). AreByLsn (filter (is_of p) turn) found) page all.by_lsn)
+          c.append.new.self.items all.stand c.in_ok-append.ensures.items;
     }
 
 pub returns-clause-merged : goal.returns-clause-merged

@@ -1,12 +1,11 @@
-use Rattle.std.proofs.Common.{◌≡◌, ◌⊎◌, ℕ, ◌+◌, ◌≤◌, ◌∙◌, false, true, List, [], ◌∷◌, ◌++◌, length, take, drop, refl, ap, subst, arith, length-append, length-drop}
+use Rattle.std.proofs.Common.{◌≡◌, ◌⊎◌, ℕ, ◌+◌, ◌∙◌, false, true, List, [], ◌∷◌, ◌++◌, length, ap, subst, arith, length-append}
 use Rattle.std.specs.Prelude.{OnOk}
-use Rattle.std.proofs.lemmas.List.{drop-take, take_at}
 use Rattle.sd_base.specs.Twin.{body_at, is_open}
 use Rattle.sd_gate.specs.Gates.{Fills}
 use Rattle.sd_logrec.specs.Spelling.{four}
 use Rattle.sd_logrec.proofs.Lengths.{length-four}
 use Rattle.sd_rig.specs.Devices.{AgreesOutside, Span}
-use Rattle.sd_log.specs.Buffers.{BufferState, framed}
+use Rattle.sd_log.specs.Buffers.{framed}
 use Rattle.sd_log.proofs.buffer.Buffer.write.Goals as goal
 
 length-framed : (text : List ℕ) → length (framed text) ≡ 5 + length text
@@ -19,24 +18,14 @@ as_framed : (P : ℕ → List ℕ → Type 0) (text body : List ℕ)
     → body ≡ framed text → P (length body) body → P (5 + length text) (framed text)
 as_framed P text body is p = subst (λ n. P n (framed text)) (length-framed text) (subst (λ (b : List ℕ). P (length b) b) is p)
 
-drop-framed : (text : List ℕ) → drop 4 (framed text) ≡ text ++ 0 ∷ []
-unfolding four
-drop-framed text = refl
+body : (g : _) (c : goal.After-truncate g) → c.deref.result.now ≡ framed c.args.text.now
+body g c = c.deref.ensures.value ∙ c.frame.ensures.items
 
--- the bytes without the gate behind
-unframed : (xs ys : List ℕ) (len : ℕ) → 4 ≤ length xs → len ≡ length xs → ys ≡ framed (drop 4 xs)
-    → drop 4 (take len ys) ≡ drop 4 xs
-unframed xs ys len le all is =
-    let n : ℕ = length (drop 4 xs) in
-    let long : len ≡ 4 + n = omega (arith, length-drop 4 xs) in
-    ap (λ k. drop 4 (take k ys)) long ∙ drop-take 4 n ys ∙ ap (λ (l : List ℕ). take n (drop 4 l)) is
-    ∙ ap (take n) (drop-framed (drop 4 xs)) ∙ take_at (drop 4 xs) (0 ∷ []) n refl
-
-text : (g : _) (c : goal.After-truncate g) → drop 4 c.self.inside.bytes.items ≡ c.args.self.now.text
-text g c = ap (λ (b : BufferState). b.text) c.self.view_is
-
-body : (g : _) (c : goal.After-truncate g) → c.deref.result.now ≡ framed c.args.self.now.text
-body g c = c.deref.ensures.value ∙ c.frame.ensures.items ∙ ap framed (text g c)
+pub fill-filled-requires-clause-range : goal.fill-filled-requires-clause-range
+fill-filled-requires-clause-range g c =
+    let text : List ℕ = c.args.text.now in
+    let body : c.deref.result.now ≡ framed text = c.deref.ensures.value ∙ c.frame.ensures.items in
+    omega (arith, c.requires.range, ap length body, length-framed text)
 
 pub fill-filled-requires-clause-device : goal.fill-filled-requires-clause-device
 fill-filled-requires-clause-device g c = c.requires.device
@@ -47,20 +36,11 @@ fill-filled-requires-clause-stable g c = c.requires.stable
 pub fill-filled-requires-clause-closed : goal.fill-filled-requires-clause-closed
 fill-filled-requires-clause-closed g c = c.requires.closed
 
-pub returns-clause-text : goal.returns-clause-text
-returns-clause-text g c =
-    let head = c.self.invariant in
-    let xs : List ℕ = c.self.inside.bytes.items in
-    ap (drop 4) c.truncate.ensures.items
-    ∙ unframed xs c.frame.new.bytes.items c.len-len.result (omega (arith, c.self.inside.bytes.ok.0))
-    (c.len-len.ensures ∙ c.self.inside.bytes.ok.0) c.frame.ensures.items
-    ∙ text g c
-
 pub returns-clause-filled : goal.returns-clause-filled
 returns-clause-filled g c =
     let seen = g.G.Rig.seen c.fill-filled.new.rig c.args.dev in
     as_framed (λ n (b : List ℕ). OnOk c.fill-filled.result ((is_open c.args.gate seen ≡ true) × (body_at n c.args.gate seen ≡ b)))
-    c.args.self.now.text c.deref.result.now (body g c) c.fill-filled.ensures.filled
+    c.args.text.now c.deref.result.now (body g c) c.fill-filled.ensures.filled
 
 pub returns-clause-durable : goal.returns-clause-durable
 returns-clause-durable g c = c.fill-filled.ensures.durable
@@ -71,13 +51,13 @@ returns-clause-outside g c =
     let zero = seen c.args.rig.now c.args.dev in
     let one = seen c.fill-filled.new.rig c.args.dev in
     as_framed (λ n (b : List ℕ). AgreesOutside c.args.gate (n + 1) zero one)
-    c.args.self.now.text c.deref.result.now (body g c) c.fill-filled.ensures.outside
+    c.args.text.now c.deref.result.now (body g c) c.fill-filled.ensures.outside
 
 pub returns-clause-whole : goal.returns-clause-whole
 returns-clause-whole g c =
     let seen = g.G.Rig.seen c.fill-filled.new.rig c.args.dev in
     as_framed (λ n (b : List ℕ). (is_open c.args.gate seen ≡ false) ⊎ (body_at n c.args.gate seen ≡ b))
-    c.args.self.now.text c.deref.result.now (body g c) c.fill-filled.ensures.whole
+    c.args.text.now c.deref.result.now (body g c) c.fill-filled.ensures.whole
 
 pub returns-clause-any_moment : goal.returns-clause-any_moment
 returns-clause-any_moment g c =
@@ -85,7 +65,7 @@ returns-clause-any_moment g c =
     let old = c.args.rig.now in
     let since = r.since c.fill-filled.new.rig in
     as_framed (λ n (b : List ℕ). Span (r.moment old) since (Fills c.args.dev c.args.gate n b (r.seen old) (r.leaves old)))
-    c.args.self.now.text c.deref.result.now (body g c) c.fill-filled.ensures.any_moment
+    c.args.text.now c.deref.result.now (body g c) c.fill-filled.ensures.any_moment
 
 pub returns-clause-others : goal.returns-clause-others
 returns-clause-others g c = c.fill-filled.ensures.others

@@ -12,8 +12,8 @@ pub returns-in_err-put-clause-there : goal.returns-in_err-put-clause-there
 returns-in_err-put-clause-there c reserved small =
     let kept : c.spare_after-kept.result ≡ c.self.inside.spare - c.len-len.result = rw reserved at c.spare_after-kept.ensures in
     let spare : c.self.inside.spare ≡ c.args.self.now.spare = ap (λ (s : LogState). s.spare) c.self.view_is in
-    let len : c.len-len.result ≡ length (spelling c.args.r) = c.len-len.ensures in
-    absurd (never (c.in_err-put.ensures.there (omega (arith, reserved_spelling c.args.r reserved))))
+    let len : c.len-len.result ≡ length (spelling c.args.r.now) = c.len-len.ensures in
+    absurd (never (c.in_err-put.ensures.there (omega (arith, reserved_spelling c.args.r.now reserved))))
 
 pub put-requires-clause-fits : goal.put-requires-clause-fits
 put-requires-clause-fits c = c.requires
@@ -37,8 +37,8 @@ returns-in_err-put-clause-stays c =
 
 pub returns-clause-ok : goal.returns-clause-ok
 returns-clause-ok c =
-    let ok : c.put.new.self ≡ with_record c.args.r c.spare_after-kept.result c.args.self.now = c.in_ok-put.ensures.ok in
-    ok ∙ ap (λ n. with_record c.args.r n c.args.self.now) (sym (ap (λ (s : LogState). s.spare) ok))
+    let ok : c.put.new.self ≡ with_record c.args.r.now c.spare_after-kept.result c.args.self.now = c.in_ok-put.ensures.ok in
+    ok ∙ ap (λ n. with_record c.args.r.now n c.args.self.now) (sym (ap (λ (s : LogState). s.spare) ok))
 
 pub returns-clause-there : goal.returns-clause-there
 returns-clause-there c reserved small = inl refl

@@ -7,33 +7,33 @@ use Rattle.sd_rig.specs.Spans.{span-weaker}
 use Rattle.sd_log.specs.Buffers.{framed}
 use Rattle.sd_gate.specs.Gates.{Fills}
 use Rattle.sd_log.specs.Forces.{Forces}
-use Rattle.sd_log.specs.JournalStates.{JournalState}
+use Rattle.sd_log.specs.WrittenStates.{WrittenState}
 use Rattle.sd_log.specs.LogInside.{log_view}
 use Rattle.sd_log.specs.Logs.{LogState, forced, forced_with, tail_group, tail_len}
-use Rattle.sd_log.proofs.Counted.{settled_log}
-use Rattle.sd_log.proofs.Forcing.{closed_on, either_tail, forces_of, moved, settled_forced, tailed_of, with_tail_read}
+use Rattle.sd_log.proofs.Counted.{closed_log}
+use Rattle.sd_log.proofs.Forcing.{closed_on, either_tail, forces_of, moved, closed_forced, tailed_of, with_tail_read}
 use Rattle.sd_log.proofs.Tails.{no_text, widened_log}
 use Rattle.sd_log.proofs.log.Log.force.Goals as goal
 
 pub returns-then-len-eq0-clause-tick : goal.returns-then-len-eq0-clause-tick
 returns-then-len-eq0-clause-tick g c some =
-    let text : c.self.inside.tail.text ≡ spelled c.args.self.now.tail = c.self.invariant.text_is ∙ ap (λ (s : LogState). spelled s.tail) c.self.view_is in
-    absurd (some (no_text c.args.self.now.tail (sym (ap length text) ∙ sym c.len-len.ensures ∙ c.if-len-eq0.true)))
+    let text : c.tail-tail.result.now ≡ spelled c.args.self.now.tail = c.tail-tail.ensures ∙ ap (λ (s : LogState). spelled s.tail) c.self.view_is in
+    absurd (some (no_text c.args.self.now.tail (sym (ap length text) ∙ c.if-len-eq0.true)))
 
 pub returns-then-len-eq0-clause-any_moment : goal.returns-then-len-eq0-clause-any_moment
 returns-then-len-eq0-clause-any_moment g c some =
-    let text : c.self.inside.tail.text ≡ spelled c.args.self.now.tail = c.self.invariant.text_is ∙ ap (λ (s : LogState). spelled s.tail) c.self.view_is in
-    absurd (some (no_text c.args.self.now.tail (sym (ap length text) ∙ sym c.len-len.ensures ∙ c.if-len-eq0.true)))
+    let text : c.tail-tail.result.now ≡ spelled c.args.self.now.tail = c.tail-tail.ensures ∙ ap (λ (s : LogState). spelled s.tail) c.self.view_is in
+    absurd (some (no_text c.args.self.now.tail (sym (ap length text) ∙ c.if-len-eq0.true)))
 
 pub write-requires-clause-closed : goal.write-requires-clause-closed
 write-requires-clause-closed g c =
     let log = c.args.self.now in
     let l = c.self.inside in
-    let t = tailed_of l log c.self.invariant c.self.view_is (λ none. c.if-len-eq0.false (c.len-len.ensures ∙ none)) in
+    let t = tailed_of l log c.self.invariant c.self.view_is (λ none. c.if-len-eq0.false (ap length c.tail-tail.ensures ∙ none)) in
     let dev : c.get.result ≡ log.inst = c.get.ensures.value ∙ ap (λ (s : LogState). s.inst) c.self.view_is in
-    let gate : c.gate.result ≡ log.gate = c.gate.ensures ∙ ap (λ (s : LogState). s.gate) c.self.view_is in
+    let gate : c.gate-gate.result ≡ log.gate = c.gate-gate.ensures ∙ ap (λ (s : LogState). s.gate) c.self.view_is in
     let fits = t.fits in
-    moved (λ d p x. is_open (130 + p) (g.G.Rig.seen c.args.rig.now d) ≡ false) log.inst log.gate [] c.get.result c.gate.result [] (sym dev) (sym gate) refl
+    moved (λ d p x. is_open (130 + p) (g.G.Rig.seen c.args.rig.now d) ≡ false) log.inst log.gate [] c.get.result c.gate-gate.result [] (sym dev) (sym gate) refl
     (closed_on log (g.G.Rig.seen c.args.rig.now log.inst) (omega arith) (c.requires.stands t.some))
 
 pub returns-in_err-write-clause-any_moment : goal.returns-in_err-write-clause-any_moment
@@ -43,13 +43,13 @@ returns-in_err-write-clause-any_moment g c some =
     let l = c.self.inside in
     let zero = c.args.rig.now in
     let one = c.write.new.rig in
-    let t = tailed_of l log c.self.invariant c.self.view_is (λ none. c.if-len-eq0.false (c.len-len.ensures ∙ none)) in
+    let t = tailed_of l log c.self.invariant c.self.view_is (λ none. c.if-len-eq0.false (ap length c.tail-tail.ensures ∙ none)) in
     let dev : c.get.result ≡ log.inst = c.get.ensures.value ∙ ap (λ (s : LogState). s.inst) c.self.view_is in
-    let gate : c.gate.result ≡ log.gate = c.gate.ensures ∙ ap (λ (s : LogState). s.gate) c.self.view_is in
-    let text : l.tail.text ≡ spelled log.tail = c.self.invariant.text_is ∙ ap (λ (s : LogState). spelled s.tail) c.self.view_is in
-    span-weaker (r.moment zero) (r.since one) (Fills c.get.result (130 + c.gate.result) (5 + length l.tail.text) (framed l.tail.text) (r.seen zero) (r.leaves zero)) (Forces log (r.seen zero) (r.leaves zero))
+    let gate : c.gate-gate.result ≡ log.gate = c.gate-gate.ensures ∙ ap (λ (s : LogState). s.gate) c.self.view_is in
+    let text : c.tail-tail.result.now ≡ spelled log.tail = c.tail-tail.ensures ∙ ap (λ (s : LogState). spelled s.tail) c.self.view_is in
+    span-weaker (r.moment zero) (r.since one) (Fills c.get.result (130 + c.gate-gate.result) (5 + length c.tail-tail.result.now) (framed c.tail-tail.result.now) (r.seen zero) (r.leaves zero)) (Forces log (r.seen zero) (r.leaves zero))
     (λ img f. forces_of log (r.seen zero) (r.leaves zero) img t (c.requires.stands some)
-    (moved (λ d p x. Fills d (130 + p) (5 + length x) (framed x) (r.seen zero) (r.leaves zero) img) c.get.result c.gate.result l.tail.text log.inst log.gate (spelled log.tail) dev gate text f))
+    (moved (λ d p x. Fills d (130 + p) (5 + length x) (framed x) (r.seen zero) (r.leaves zero) img) c.get.result c.gate-gate.result c.tail-tail.result.now log.inst log.gate (spelled log.tail) dev gate text f))
     c.write.ensures.any_moment
 
 pub returns-clause-any_moment : goal.returns-clause-any_moment
@@ -59,13 +59,13 @@ returns-clause-any_moment g c some =
     let l = c.self.inside in
     let zero = c.args.rig.now in
     let one = c.write.new.rig in
-    let t = tailed_of l log c.self.invariant c.self.view_is (λ none. c.if-len-eq0.false (c.len-len.ensures ∙ none)) in
+    let t = tailed_of l log c.self.invariant c.self.view_is (λ none. c.if-len-eq0.false (ap length c.tail-tail.ensures ∙ none)) in
     let dev : c.get.result ≡ log.inst = c.get.ensures.value ∙ ap (λ (s : LogState). s.inst) c.self.view_is in
-    let gate : c.gate.result ≡ log.gate = c.gate.ensures ∙ ap (λ (s : LogState). s.gate) c.self.view_is in
-    let text : l.tail.text ≡ spelled log.tail = c.self.invariant.text_is ∙ ap (λ (s : LogState). spelled s.tail) c.self.view_is in
-    span-weaker (r.moment zero) (r.since one) (Fills c.get.result (130 + c.gate.result) (5 + length l.tail.text) (framed l.tail.text) (r.seen zero) (r.leaves zero)) (Forces log (r.seen zero) (r.leaves zero))
+    let gate : c.gate-gate.result ≡ log.gate = c.gate-gate.ensures ∙ ap (λ (s : LogState). s.gate) c.self.view_is in
+    let text : c.tail-tail.result.now ≡ spelled log.tail = c.tail-tail.ensures ∙ ap (λ (s : LogState). spelled s.tail) c.self.view_is in
+    span-weaker (r.moment zero) (r.since one) (Fills c.get.result (130 + c.gate-gate.result) (5 + length c.tail-tail.result.now) (framed c.tail-tail.result.now) (r.seen zero) (r.leaves zero)) (Forces log (r.seen zero) (r.leaves zero))
     (λ img f. forces_of log (r.seen zero) (r.leaves zero) img t (c.requires.stands some)
-    (moved (λ d p x. Fills d (130 + p) (5 + length x) (framed x) (r.seen zero) (r.leaves zero) img) c.get.result c.gate.result l.tail.text log.inst log.gate (spelled log.tail) dev gate text f))
+    (moved (λ d p x. Fills d (130 + p) (5 + length x) (framed x) (r.seen zero) (r.leaves zero) img) c.get.result c.gate-gate.result c.tail-tail.result.now log.inst log.gate (spelled log.tail) dev gate text f))
     c.write.ensures.any_moment
 
 pub returns-in_err-write-clause-whole : goal.returns-in_err-write-clause-whole
@@ -75,13 +75,13 @@ returns-in_err-write-clause-whole g c some =
     let l = c.self.inside in
     let zero = c.args.rig.now in
     let one = c.write.new.rig in
-    let t = tailed_of l log c.self.invariant c.self.view_is (λ none. c.if-len-eq0.false (c.len-len.ensures ∙ none)) in
+    let t = tailed_of l log c.self.invariant c.self.view_is (λ none. c.if-len-eq0.false (ap length c.tail-tail.ensures ∙ none)) in
     let dev : c.get.result ≡ log.inst = c.get.ensures.value ∙ ap (λ (s : LogState). s.inst) c.self.view_is in
-    let gate : c.gate.result ≡ log.gate = c.gate.ensures ∙ ap (λ (s : LogState). s.gate) c.self.view_is in
-    let text : l.tail.text ≡ spelled log.tail = c.self.invariant.text_is ∙ ap (λ (s : LogState). spelled s.tail) c.self.view_is in
+    let gate : c.gate-gate.result ≡ log.gate = c.gate-gate.ensures ∙ ap (λ (s : LogState). s.gate) c.self.view_is in
+    let text : c.tail-tail.result.now ≡ spelled log.tail = c.tail-tail.ensures ∙ ap (λ (s : LogState). spelled s.tail) c.self.view_is in
     either_tail log (r.seen zero log.inst) (r.seen one log.inst) t (c.requires.stands some)
-    (moved (λ d p x. AgreesOutside (130 + p) (5 + length x + 1) (r.seen zero d) (r.seen one d)) c.get.result c.gate.result l.tail.text log.inst log.gate (spelled log.tail) dev gate text c.write.ensures.outside)
-    (moved (λ d p x. (is_open (130 + p) (r.seen one d) ≡ false) ⊎ (body_at (5 + length x) (130 + p) (r.seen one d) ≡ framed x)) c.get.result c.gate.result l.tail.text log.inst log.gate (spelled log.tail) dev gate text c.write.ensures.whole)
+    (moved (λ d p x. AgreesOutside (130 + p) (5 + length x + 1) (r.seen zero d) (r.seen one d)) c.get.result c.gate-gate.result c.tail-tail.result.now log.inst log.gate (spelled log.tail) dev gate text c.write.ensures.outside)
+    (moved (λ d p x. (is_open (130 + p) (r.seen one d) ≡ false) ⊎ (body_at (5 + length x) (130 + p) (r.seen one d) ≡ framed x)) c.get.result c.gate-gate.result c.tail-tail.result.now log.inst log.gate (spelled log.tail) dev gate text c.write.ensures.whole)
 
 pub returns-clause-whole : goal.returns-clause-whole
 returns-clause-whole g c some =
@@ -90,13 +90,13 @@ returns-clause-whole g c some =
     let l = c.self.inside in
     let zero = c.args.rig.now in
     let one = c.write.new.rig in
-    let t = tailed_of l log c.self.invariant c.self.view_is (λ none. c.if-len-eq0.false (c.len-len.ensures ∙ none)) in
+    let t = tailed_of l log c.self.invariant c.self.view_is (λ none. c.if-len-eq0.false (ap length c.tail-tail.ensures ∙ none)) in
     let dev : c.get.result ≡ log.inst = c.get.ensures.value ∙ ap (λ (s : LogState). s.inst) c.self.view_is in
-    let gate : c.gate.result ≡ log.gate = c.gate.ensures ∙ ap (λ (s : LogState). s.gate) c.self.view_is in
-    let text : l.tail.text ≡ spelled log.tail = c.self.invariant.text_is ∙ ap (λ (s : LogState). spelled s.tail) c.self.view_is in
+    let gate : c.gate-gate.result ≡ log.gate = c.gate-gate.ensures ∙ ap (λ (s : LogState). s.gate) c.self.view_is in
+    let text : c.tail-tail.result.now ≡ spelled log.tail = c.tail-tail.ensures ∙ ap (λ (s : LogState). spelled s.tail) c.self.view_is in
     either_tail log (r.seen zero log.inst) (r.seen one log.inst) t (c.requires.stands some)
-    (moved (λ d p x. AgreesOutside (130 + p) (5 + length x + 1) (r.seen zero d) (r.seen one d)) c.get.result c.gate.result l.tail.text log.inst log.gate (spelled log.tail) dev gate text c.write.ensures.outside)
-    (moved (λ d p x. (is_open (130 + p) (r.seen one d) ≡ false) ⊎ (body_at (5 + length x) (130 + p) (r.seen one d) ≡ framed x)) c.get.result c.gate.result l.tail.text log.inst log.gate (spelled log.tail) dev gate text c.write.ensures.whole)
+    (moved (λ d p x. AgreesOutside (130 + p) (5 + length x + 1) (r.seen zero d) (r.seen one d)) c.get.result c.gate-gate.result c.tail-tail.result.now log.inst log.gate (spelled log.tail) dev gate text c.write.ensures.outside)
+    (moved (λ d p x. (is_open (130 + p) (r.seen one d) ≡ false) ⊎ (body_at (5 + length x) (130 + p) (r.seen one d) ≡ framed x)) c.get.result c.gate-gate.result c.tail-tail.result.now log.inst log.gate (spelled log.tail) dev gate text c.write.ensures.whole)
 
 pub returns-clause-stands : goal.returns-clause-stands
 returns-clause-stands g c some =
@@ -105,44 +105,42 @@ returns-clause-stands g c some =
     let l = c.self.inside in
     let zero = c.args.rig.now in
     let one = c.write.new.rig in
-    let t = tailed_of l log c.self.invariant c.self.view_is (λ none. c.if-len-eq0.false (c.len-len.ensures ∙ none)) in
+    let t = tailed_of l log c.self.invariant c.self.view_is (λ none. c.if-len-eq0.false (ap length c.tail-tail.ensures ∙ none)) in
     let dev : c.get.result ≡ log.inst = c.get.ensures.value ∙ ap (λ (s : LogState). s.inst) c.self.view_is in
-    let gate : c.gate.result ≡ log.gate = c.gate.ensures ∙ ap (λ (s : LogState). s.gate) c.self.view_is in
-    let text : l.tail.text ≡ spelled log.tail = c.self.invariant.text_is ∙ ap (λ (s : LogState). spelled s.tail) c.self.view_is in
+    let gate : c.gate-gate.result ≡ log.gate = c.gate-gate.ensures ∙ ap (λ (s : LogState). s.gate) c.self.view_is in
+    let text : c.tail-tail.result.now ≡ spelled log.tail = c.tail-tail.ensures ∙ ap (λ (s : LogState). spelled s.tail) c.self.view_is in
     let filled = c.in_ok-write.ensures.filled in
     let read = with_tail_read log (r.seen zero log.inst) (r.seen one log.inst) t (c.requires.stands some)
-    (moved (λ d p x. AgreesOutside (130 + p) (5 + length x + 1) (r.seen zero d) (r.seen one d)) c.get.result c.gate.result l.tail.text log.inst log.gate (spelled log.tail) dev gate text c.write.ensures.outside)
-    (moved (λ d p x. is_open (130 + p) (r.seen one d) ≡ true) c.get.result c.gate.result l.tail.text log.inst log.gate (spelled log.tail) dev gate text filled.0)
-    (moved (λ d p x. body_at (5 + length x) (130 + p) (r.seen one d) ≡ framed x) c.get.result c.gate.result l.tail.text log.inst log.gate (spelled log.tail) dev gate text filled.1) in
+    (moved (λ d p x. AgreesOutside (130 + p) (5 + length x + 1) (r.seen zero d) (r.seen one d)) c.get.result c.gate-gate.result c.tail-tail.result.now log.inst log.gate (spelled log.tail) dev gate text c.write.ensures.outside)
+    (moved (λ d p x. is_open (130 + p) (r.seen one d) ≡ true) c.get.result c.gate-gate.result c.tail-tail.result.now log.inst log.gate (spelled log.tail) dev gate text filled.0)
+    (moved (λ d p x. body_at (5 + length x) (130 + p) (r.seen one d) ≡ framed x) c.get.result c.gate-gate.result c.tail-tail.result.now log.inst log.gate (spelled log.tail) dev gate text filled.1) in
     let inside = subst (λ (s : LogState). reading s.start (area (r.seen one log.inst)) ≡ Whole (s.groups ++ tail_group s ∷ []) (s.gate + 5 + tail_len s)) (sym c.self.view_is) read in
-    let len : tail_len (log_view l) ≡ c.len-len.result = ap length (sym c.self.invariant.text_is) ∙ sym c.len-len.ensures in
-    subst (λ (j : JournalState). reading j.start (area (r.seen one log.inst)) ≡ Whole j.groups j.gate) (sym c.settle.ensures)
-    (subst (λ n. reading l.journal.start (area (r.seen one log.inst)) ≡ Whole (l.journal.groups ++ tail_group (log_view l) ∷ []) (l.journal.gate + 5 + n)) len inside)
+    let len : tail_len (log_view l) ≡ length c.tail-tail.result.now = sym (ap length c.tail-tail.ensures) in
+    subst (λ (j : WrittenState). reading j.start (area (r.seen one log.inst)) ≡ Whole j.groups j.gate) (sym c.settle.ensures)
+    (subst (λ n. reading l.written.start (area (r.seen one log.inst)) ≡ Whole (l.written.groups ++ tail_group (log_view l) ∷ []) (l.written.gate + 5 + n)) len inside)
 
 pub invariant_of-self-2 : goal.invariant_of-self-2
 invariant_of-self-2 g c =
-    let room = c.write.ensures.room in
-    settled_log c.self.inside c.len-len.result c.settle.new.self c.clear.new.self c.self.invariant record {
-      journal_is = c.settle.ensures;
-      len_is = c.len-len.ensures;
+    closed_log c.self.inside (length c.tail-tail.result.now) c.settle.new.self c.write.new.self c.self.invariant record {
+      written_is = c.settle.ensures;
+      len_is = ap length c.tail-tail.ensures;
       some = omega (arith, c.if-len-eq0.false);
-      text_is = c.clear.ensures.text;
-      room = omega (arith, room, c.clear.ensures.room);
+      room = c.write.ensures.room;
     }
 
 pub returns-then-len-eq0-clause-ok : goal.returns-then-len-eq0-clause-ok
 returns-then-len-eq0-clause-ok g c =
-    let text : c.self.inside.tail.text ≡ spelled c.args.self.now.tail =
-    c.self.invariant.text_is ∙ ap (λ (s : LogState). spelled s.tail) c.self.view_is in
+    let text : c.tail-tail.result.now ≡ spelled c.args.self.now.tail =
+    c.tail-tail.ensures ∙ ap (λ (s : LogState). spelled s.tail) c.self.view_is in
     let none : c.args.self.now.tail ≡ [] =
-    no_text c.args.self.now.tail (sym (ap length text) ∙ sym c.len-len.ensures ∙ c.if-len-eq0.true) in
+    no_text c.args.self.now.tail (sym (ap length text) ∙ c.if-len-eq0.true) in
     sym (ap (forced_with c.args.self.now) none)
 
 pub returns-then-len-eq0-clause-stands : goal.returns-then-len-eq0-clause-stands
 returns-then-len-eq0-clause-stands g c some =
-    let text : c.self.inside.tail.text ≡ spelled c.args.self.now.tail =
-    c.self.invariant.text_is ∙ ap (λ (s : LogState). spelled s.tail) c.self.view_is in
-    absurd (some (no_text c.args.self.now.tail (sym (ap length text) ∙ sym c.len-len.ensures ∙ c.if-len-eq0.true)))
+    let text : c.tail-tail.result.now ≡ spelled c.args.self.now.tail =
+    c.tail-tail.ensures ∙ ap (λ (s : LogState). spelled s.tail) c.self.view_is in
+    absurd (some (no_text c.args.self.now.tail (sym (ap length text) ∙ c.if-len-eq0.true)))
 
 pub returns-then-len-eq0-clause-durable : goal.returns-then-len-eq0-clause-durable
 returns-then-len-eq0-clause-durable g c some = c.requires.stable some
@@ -170,20 +168,20 @@ write-requires-clause-stable g c =
     let r = g.G.Rig in
     let zero = c.args.rig.now in
     let t = tailed_of c.self.inside c.args.self.now c.self.invariant c.self.view_is
-    (λ none. c.if-len-eq0.false (c.len-len.ensures ∙ none)) in
+    (λ none. c.if-len-eq0.false (ap length c.tail-tail.ensures ∙ none)) in
     let dev : c.get.result ≡ c.args.self.now.inst = c.get.ensures.value ∙ ap (λ (s : LogState). s.inst) c.self.view_is in
     subst (λ d. LeavesOnly (r.seen zero d) (r.leaves zero d)) (sym dev) (c.requires.stable t.some)
 
 pub invariant_of-self : goal.invariant_of-self
 invariant_of-self g c =
-    widened_log c.self.inside c.self.inside.journal c.self.inside.pages c.write.new.self c.self.invariant
+    widened_log c.self.inside c.self.inside.written c.self.inside.pages c.write.new.self c.self.invariant
     record {
-      text_is = c.write.ensures.text;
       same = refl;
       chains_is = refl;
-      text_room = c.write.ensures.room;
+      text_room = omega arith;
       record_room = omega arith;
       page_room = omega arith;
+      buffer_room = c.write.ensures.room;
     }
 
 pub returns-in_err-write-clause-stays : goal.returns-in_err-write-clause-stays
@@ -199,10 +197,10 @@ returns-in_err-write-clause-outside g c =
     let zero = c.args.rig.now in
     let one = c.write.new.rig in
     let dev : c.get.result ≡ log.inst = c.get.ensures.value ∙ ap (λ (s : LogState). s.inst) c.self.view_is in
-    let gate : c.gate.result ≡ log.gate = c.gate.ensures ∙ ap (λ (s : LogState). s.gate) c.self.view_is in
-    let text : l.tail.text ≡ spelled log.tail = c.self.invariant.text_is ∙ ap (λ (s : LogState). spelled s.tail) c.self.view_is in
+    let gate : c.gate-gate.result ≡ log.gate = c.gate-gate.ensures ∙ ap (λ (s : LogState). s.gate) c.self.view_is in
+    let text : c.tail-tail.result.now ≡ spelled log.tail = c.tail-tail.ensures ∙ ap (λ (s : LogState). spelled s.tail) c.self.view_is in
     moved (λ d p x. AgreesOutside (130 + p) (5 + length x + 1) (r.seen zero d) (r.seen one d))
-    c.get.result c.gate.result l.tail.text log.inst log.gate (spelled log.tail) dev gate text c.write.ensures.outside
+    c.get.result c.gate-gate.result c.tail-tail.result.now log.inst log.gate (spelled log.tail) dev gate text c.write.ensures.outside
 
 pub returns-in_err-write-clause-others : goal.returns-in_err-write-clause-others
 returns-in_err-write-clause-others g c d other =
@@ -220,7 +218,7 @@ returns-in_err-write-clause-time g c = c.write.ensures.time
 pub returns-in_err-write-clause-idle : goal.returns-in_err-write-clause-idle
 returns-in_err-write-clause-idle g c none =
     let t = tailed_of c.self.inside c.args.self.now c.self.invariant c.self.view_is
-    (λ none. c.if-len-eq0.false (c.len-len.ensures ∙ none)) in
+    (λ none. c.if-len-eq0.false (ap length c.tail-tail.ensures ∙ none)) in
     absurd (t.some none)
 
 pub returns-in_err-write-clause-cause : goal.returns-in_err-write-clause-cause
@@ -234,11 +232,10 @@ returns-in_err-write-clause-count g c = c.write.ensures.count
 pub returns-clause-ok : goal.returns-clause-ok
 returns-clause-ok g c =
     let l = c.self.inside in
-    let t = tailed_of l c.args.self.now c.self.invariant c.self.view_is
-    (λ none. c.if-len-eq0.false (c.len-len.ensures ∙ none)) in
-    let some : l.journal.tail ≡ [] → ⊥ = λ none. t.some (sym (ap (λ (s : LogState). s.tail) c.self.view_is) ∙ none) in
-    settled_forced l c.settle.new.self c.clear.new.self c.len-len.result c.settle.ensures
-    (c.len-len.ensures ∙ ap length c.self.invariant.text_is) some
+    let size = ap length c.tail-tail.ensures in
+    let t = tailed_of l c.args.self.now c.self.invariant c.self.view_is (λ none. c.if-len-eq0.false (size ∙ none)) in
+    let some : l.written.tail ≡ [] → ⊥ = λ none. t.some (sym (ap (λ (s : LogState). s.tail) c.self.view_is) ∙ none) in
+    closed_forced l c.settle.new.self c.write.new.self (length c.tail-tail.result.now) c.settle.ensures size some
     ∙ ap forced c.self.view_is
 
 pub returns-clause-durable : goal.returns-clause-durable
@@ -256,10 +253,10 @@ returns-clause-outside g c =
     let zero = c.args.rig.now in
     let one = c.write.new.rig in
     let dev : c.get.result ≡ log.inst = c.get.ensures.value ∙ ap (λ (s : LogState). s.inst) c.self.view_is in
-    let gate : c.gate.result ≡ log.gate = c.gate.ensures ∙ ap (λ (s : LogState). s.gate) c.self.view_is in
-    let text : l.tail.text ≡ spelled log.tail = c.self.invariant.text_is ∙ ap (λ (s : LogState). spelled s.tail) c.self.view_is in
+    let gate : c.gate-gate.result ≡ log.gate = c.gate-gate.ensures ∙ ap (λ (s : LogState). s.gate) c.self.view_is in
+    let text : c.tail-tail.result.now ≡ spelled log.tail = c.tail-tail.ensures ∙ ap (λ (s : LogState). spelled s.tail) c.self.view_is in
     moved (λ d p x. AgreesOutside (130 + p) (5 + length x + 1) (r.seen zero d) (r.seen one d))
-    c.get.result c.gate.result l.tail.text log.inst log.gate (spelled log.tail) dev gate text c.write.ensures.outside
+    c.get.result c.gate-gate.result c.tail-tail.result.now log.inst log.gate (spelled log.tail) dev gate text c.write.ensures.outside
 
 pub returns-clause-others : goal.returns-clause-others
 returns-clause-others g c d other =
@@ -277,7 +274,7 @@ returns-clause-time g c = c.write.ensures.time
 pub returns-clause-idle : goal.returns-clause-idle
 returns-clause-idle g c none =
     let t = tailed_of c.self.inside c.args.self.now c.self.invariant c.self.view_is
-    (λ none. c.if-len-eq0.false (c.len-len.ensures ∙ none)) in
+    (λ none. c.if-len-eq0.false (ap length c.tail-tail.ensures ∙ none)) in
     absurd (t.some none)
 
 pub returns-clause-quiet : goal.returns-clause-quiet

@@ -1,0 +1,7 @@
+use Rattle.std.proofs.Common.{arith}
+use Rattle.sd_logrec.specs.Lent.{update_record}
+use Rattle.sd_logrec.proofs.Lengths.{length-spelling}
+use Rattle.sd_logrec.proofs.lent.Update.len.Goals as goal
+
+pub returns : goal.returns
+returns c = omega (arith, length-spelling (update_record c.args.self.now), c.len_of.ensures.value, c.len_of-2.ensures.value)
