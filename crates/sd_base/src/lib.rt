@@ -42,4 +42,4 @@ pub use set::InstSet;
 pub use standard_streams::{StdSink, StdSource};
 pub use streams::{Sink, Source};
 pub use trouble::{Pick, Trouble};
-pub use value::{copy_value, lent_value, same_value, value_len};
+pub use value::{copy_value, lent_len, lent_value, same_value, value_len};

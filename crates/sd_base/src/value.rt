@@ -10,9 +10,17 @@ pub fn value_len(value: &Option<Bytes>) -> usize
     ensures value { result ≡ size value.now }
     ensures small { result < 2 ^ 63 }
 {
+    lent_len(lent_value(value))
+}
+
+/// The bytes of a value that is lent, 0 of none.
+pub fn lent_len(value: Option<&[u8]>) -> usize
+    ensures value { result ≡ size (option_copied value.entry) }
+    ensures small { result < 2 ^ 63 }
+{
     match value {
         None => 0,
-        Some(bytes) => bytes.items().len(),
+        Some(bytes) => bytes.len(),
     }
 }
 

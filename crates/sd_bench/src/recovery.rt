@@ -13,7 +13,7 @@ use sd_recovered::recovered;
 use sd_rig::{DATA_LEN, LOG_LEN};
 use std::alloc::Global;
 
-const PAGES: u32 = 4;
+const CHANGED_PAGES: u32 = 4;
 
 /// Reads nine devices so many times, whose first logs, so many, have so many committed transfers in all: each log in turn has
 /// one, and all of them change one page before the next. `false` where they aren't read.
@@ -136,7 +136,7 @@ fn transfer(alloc: Global, inst: InstNo, logs: u32, n: u32) -> Result<Vec<u8>, M
     requires most { logs ≤ 8 }
 {
     let first = 2 + 3 * u64::from(n);
-    let page = PageNo::new((n / logs % PAGES) as u16).unwrap();
+    let page = PageNo::new((n / logs % CHANGED_PAGES) as u16).unwrap();
     let transfer = Transfer::new(inst, n, first, page, before(logs, n));
     let mut body = Vec::new(alloc);
     put_records(&transfer, &mut body)?;
@@ -168,7 +168,7 @@ fn before(logs: u32, n: u32) -> Option<u32>
     requires most { logs ≤ 8 }
 {
     if n % logs == 0 {
-        n.checked_sub((PAGES - 1) * logs + 1)
+        n.checked_sub((CHANGED_PAGES - 1) * logs + 1)
     } else {
         Some(n - 1)
     }

@@ -11,7 +11,7 @@ ghost use Rattle.sd_log.specs.Logs.{needed, with_record};
 ghost use Rattle.sd_logrec.specs.Lent.{update_record};
 ghost use Rattle.sd_logrec.specs.Spelling.{HasSpelling, IsTxn, spelling};
 ghost use Rattle.sd_model.specs.State.{State};
-ghost use Rattle.sd_page.specs.Page.{CanTake, PageFits, after_of, applied};
+ghost use Rattle.sd_page.specs.Page.{CanTake, after_of, applied};
 ghost use Rattle.sd_asks.specs.Asks.{open_asks};
 ghost use Rattle.sd_pagelock.specs.Directory.{asks_at, entry_at, kept_rec, moving_image_at, rec_lsn_at};
 ghost use Rattle.sd_places.specs.Places.{changed, owns};
@@ -28,7 +28,9 @@ ghost use Rattle.sd_txn.specs.Owing.{reserve_of};
 ghost use Rattle.sd_txn.specs.Transactions.{IsUnresolved, state_at, top_at};
 ghost use Rattle.sd_txn.specs.declared.state.TxnState.TheVariants.{Running};
 
-use sd_base::{Bytes, InstNo, Lsn, Memory, PageNo, Place, Refusal, Rid, TxnId, lent_value};
+use sd_base::{
+    Bytes, InstNo, Lsn, Memory, PageNo, Place, Refusal, Rid, TxnId, lent_len, lent_value,
+};
 use sd_log::Log;
 use sd_logrec::{AREA_LEN, CLR_LEN, END_LEN, GROUP_HEAD, Lent, MAX_LSN, Update};
 use sd_page::{Image, Op};
@@ -111,7 +113,7 @@ fn reserved_for<G>(
 {
     let before = before_len(image, r.slot);
     let reserve = reserve_then(c, t, span, before);
-    if lacks_bytes(c, t.inst, 38 + before + len_of(after), reserve) {
+    if lacks_bytes(c, t.inst, 38 + before + lent_len(after), reserve) {
         return Err(Refusal::LogFull);
     }
     if lacks_lsns(c, t, span) {
@@ -295,17 +297,7 @@ fn before_len(image: &Image, slot: u16) -> usize
     ensures small { result ≤ 256 }
 {
     let _image = image.bytes();
-    len_of(image.value(slot))
-}
-
-// The bytes of a value, 0 of none.
-fn len_of(value: Option<&[u8]>) -> usize
-    ensures { result ≡ size (option_copied value.entry) }
-{
-    match value {
-        Some(bytes) => bytes.len(),
-        None => 0,
-    }
+    lent_len(image.value(slot))
 }
 
 // The LSN of the last record of a span, or 0.

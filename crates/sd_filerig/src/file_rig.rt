@@ -60,11 +60,8 @@ fn is_broken(files: &[Backing], dev: u8) -> bool {
     }
 }
 
-// Whether the file has what the memory has: where that noted the bytes, they were written to the file too.
-fn write_file(files: &mut [Backing], noted: bool, dev: u8, at: u32, bytes: &[u8]) -> bool {
-    if !noted {
-        return true;
-    }
+// Whether the bytes were written to the file.
+fn write_file(files: &mut [Backing], dev: u8, at: u32, bytes: &[u8]) -> bool {
     match files.get_mut(dev as usize) {
         Some(file) => file.write(at, bytes),
         None => false,
@@ -123,16 +120,14 @@ impl Rig for FileRig {
         self.memory.read(dev, at, out)
     }
 
-    /// Writes to the memory, and then to the file, if the memory has the bytes. So a write that fails in the file is
+    /// Writes to the memory, and then to the file, also where armed trouble meets the call. So a write that fails in the file is
     /// pending in the memory.
     fn write(&mut self, dev: u8, at: u32, bytes: &[u8]) -> Result<(), Failed> {
         if is_broken(&self.files, dev) {
             return Err(self.memory.fail());
         }
-        let short = self.memory.short();
         let answer = self.memory.write(dev, at, bytes);
-        let noted = self.memory.short() == short;
-        if !write_file(&mut self.files, noted, dev, at, bytes) {
+        if !write_file(&mut self.files, dev, at, bytes) {
             return Err(self.memory.fail());
         }
         answer

@@ -1,10 +1,11 @@
 -- Records and groups read one after the other, as the loops do. It serves the goals of reading.rt.
-use Rattle.std.proofs.Common.{◌≡◌, inl, inr, ℕ, zero, suc, ◌+◌, ◌-◌, ◌<◌, ◌≤◌, true, false, cond, List, [], ◌∷◌, ◌++◌, length, take, drop, get_or, refl, sym, ap, ◌∙◌, subst, arith, append_assoc, length-append, length-drop}
-use Rattle.std.specs.Prelude.{slice_range, IfOk, Result, Ok, Err, Some, None}
+use Rattle.std.proofs.Common.{◌≡◌, inl, inr, ℕ, zero, suc, ◌+◌, ◌-◌, ◌<◌, ◌≤◌, true, false, cond, List, [], ◌∷◌, ◌++◌, length, take, drop, get_or, refl, sym, ap, ◌∙◌, subst, arith, append_assoc, length-drop}
+use Rattle.std.specs.Prelude.{map, slice_range, IfOk, Result, Ok, Err, Some, None}
 use Rattle.std.proofs.Math.ListN.{drop_of_length-le}
+use Rattle.std.proofs.Math.Seq.{take-add}
 use Rattle.std.specs.List.{flat_map}
 use Rattle.std.proofs.lemmas.Grind.{flat_map-append}
-use Rattle.std.proofs.lemmas.List.{append-nil, drop-drop, drop-take, get_or-drop, take_at}
+use Rattle.std.proofs.lemmas.List.{append-nil, drop-drop, drop-take, get_or-drop, length-take-le, map-append, take_all, take_at}
 use Rattle.sd_logrec.specs.declared.record.Record.{Record}
 use Rattle.sd_base.specs.Twin.{is_open}
 use Rattle.sd_base.specs.declared.refusal.Refusal.{Refusal}
@@ -21,8 +22,13 @@ use Rattle.sd_log.specs.declared.area.Area.TheVariants as areas
 use Rattle.sd_log.specs.Areas.{Breaks, IfBroken, IsAt}
 use Rattle.sd_log.specs.JournalStates.{JournalState}
 use Rattle.sd_log.specs.Readings.{AddsFront, AddsGroup, AddsRecords, entries}
+use Rattle.sd_log.proofs.Items.{records_of-items}
+use Rattle.sd_log.proofs.Spelling.{records_placed}
 use Rattle.sd_log.proofs.Fronts.{entries_are, front_bad_length, front_one, front_opened, front_shut}
-use Rattle.sd_log.proofs.Parted.{placed_from-more, spelled-more}
+use Rattle.sd_log.specs.declared.placed.Placed.{Placed}
+use Rattle.sd_log.specs.Logs.{placed, placed_groups}
+use Rattle.sd_log.specs.Parts.{record_of, text_of}
+use Rattle.sd_log.proofs.Parted.{placed_from-more, placed_groups-more, spelled-more}
 use Rattle.sd_log.proofs.Tails.{least_spelling}
 
 -- records in front of those that are read behind them
@@ -44,7 +50,7 @@ pub record ReadsTo (body : List ℕ) (at : ℕ) (old now : JournalState) : Type 
   pub start : now.start ≡ old.start
   pub gate : now.gate ≡ old.gate
   pub groups : now.groups ≡ old.groups
-  pub size : length (spelled now.tail) ≡ at
+  pub text : spelled now.tail ≡ take at body
   pub fuel : ℕ
   pub enough : length (drop at body) ≤ fuel
   pub read : with_front (placed_from (old.gate + 5) now.tail) (records_within fuel (old.gate + 5 + at) (drop at body)) ≡ records_at (old.gate + 5) body
@@ -56,7 +62,7 @@ reads_none body old none = record {
   start = refl;
   gate = refl;
   groups = refl;
-  size = ap (λ (t : List Record). length (spelled t)) none;
+  text = ap spelled none;
   fuel = length body;
   enough = omega arith;
   read = let place : old.gate + 5 + 0 ≡ old.gate + 5 = omega arith in ap (λ (t : List Record). with_front (placed_from (old.gate + 5) t) (records_within (length body) (old.gate + 5 + 0) body)) none ∙ front_none _ ∙ ap (λ p. records_within (length body) p body) place;
@@ -77,6 +83,12 @@ unfolding records_within
 no_step zero p = refl
 no_step (suc n) p = refl
 
+-- one more record behind the first bytes
+taken_more : (body : List ℕ) (at next : ℕ) (r : Record) → drop at body ≡ spelling r ++ drop next body → next ≡ at + length (spelling r) → take next body ≡ take at body ++ spelling r
+taken_more body at next r stands place =
+    ap (λ n. take n body) place ∙ take-add at (length (spelling r)) body
+    ∙ ap (λ (l : List ℕ). take at body ++ l) (ap (take (length (spelling r))) stands ∙ take_at (spelling r) (drop next body) (length (spelling r)) refl)
+
 pub reads_one : (body : List ℕ) (at next room : ℕ) (r : Record) (old now : JournalState) → ReadsTo body at old now → HasSpelling r → drop at body ≡ spelling r ++ drop next body → next ≡ at + length (spelling r) → next ≤ length body
     → ReadsTo body next old (record { start = now.start; gate = now.gate; groups = now.groups; tail = now.tail ++ r ∷ []; room = room })
 reads_one body at next room r old now h fits stands place within =
@@ -85,7 +97,7 @@ reads_one body at next room r old now h fits stands place within =
     let less = above h.fuel (omega (arith, length-drop at body)) in
     let g : ℕ = old.gate + 5 in
     let front : Records = placed_from g now.tail in
-    let size : length (spelled now.tail) ≡ at = h.size in
+    let size : length (spelled now.tail) ≡ at = ap length h.text ∙ length-take-le at body h.within in
     let found : record_at (drop at body) ≡ Some (r, drop next body) = ap record_at stands ∙ record_again r (drop next body) fits in
     let behind : g + at + length (spelling r) ≡ g + next = omega arith in
     let step : records_within h.fuel (g + at) (drop at body) ≡ record_before (g + at) r (records_within less.0 (g + next) (drop next body)) =
@@ -100,7 +112,7 @@ reads_one body at next room r old now h fits stands place within =
       start = h.start;
       gate = h.gate;
       groups = h.groups;
-      size = omega (arith, ap length (spelled-more now.tail r), length-append (spelled now.tail) (spelling r));
+      text = spelled-more now.tail r ∙ ap (λ (l : List ℕ). l ++ spelling r) h.text ∙ sym (taken_more body at next r stands place);
       fuel = less.0;
       enough = omega (arith, less.1, length-drop at body, length-drop next body);
       read = ap (λ (l : Records). with_front l (records_within less.0 (g + next) (drop next body))) longer ∙ sym (front_more front (g + at) r (records_within less.0 (g + next) (drop next body))) ∙ sym (ap (with_front front) step) ∙ h.read;
@@ -131,16 +143,14 @@ reads_front body at old now h lt are none =
       records = sym (append-nil (placed_from (old.gate + 5) now.tail)) ∙ sym (ap (λ (l : Records). placed_from (old.gate + 5) now.tail ++ l) ahead) ∙ h.front;
     }
 
-pub reads_all : (body : List ℕ) (at : ℕ) (old now : JournalState) → ReadsTo body at old now → length body ≤ at → AddsRecords (records_at (old.gate + 5) body) (length body) old now
+pub reads_all : (body : List ℕ) (at : ℕ) (old now : JournalState) → ReadsTo body at old now → length body ≤ at → AddsRecords (records_at (old.gate + 5) body) body old now
 reads_all body at old now h le =
-    let within = h.within in
-    let size = h.size in
     let end : drop at body ≡ [] = drop_of_length-le body {i = at} le in
     record {
       start = h.start;
       gate = h.gate;
       groups = h.groups;
-      length_is = omega arith;
+      text_is = h.text ∙ take_all at body le;
       records = sym h.read ∙ ap (λ (l : List ℕ). with_front (placed_from (old.gate + 5) now.tail) (records_within h.fuel (old.gate + 5 + at) l)) end
           ∙ ap (with_front (placed_from (old.gate + 5) now.tail)) (no_step h.fuel (old.gate + 5 + at)) ∙ ap (λ (l : Records). Ok l) (append-nil (placed_from (old.gate + 5) now.tail));
     }
@@ -213,11 +223,12 @@ reads_first bytes old place some groups tail = record {
 }
 
 pub reads_group : (bytes rest behind body : List ℕ) (len : ℕ) (old now new : JournalState) → ReadsOn bytes rest old now → is_open 0 rest ≡ true → group_len rest ≡ len → fits_area now.gate len ≡ true → body ≡ take len (drop 5 rest) → behind ≡ drop (5 + len) rest
-    → 5 + len + 1 ≤ length rest → AddsGroup (records_at (now.gate + 5) body) len now new → ReadsOn bytes behind old new
+    → 5 + len + 1 ≤ length rest → AddsGroup (records_at (now.gate + 5) body) body now new → ReadsOn bytes behind old new
 reads_group bytes rest behind body len old now new h shown long fits body_is behind_is within adds =
     let enough = h.enough in
     let place = h.place in
-    let gate = adds.gate in
+    let long_is : length body ≡ len = ap length body_is ∙ length-take-le len (drop 5 rest) (omega (arith, length-drop 5 rest)) in
+    let gate : new.gate ≡ now.gate + 5 + len = adds.gate ∙ ap (λ n. now.gate + 5 + n) long_is in
     let less = above h.fuel (omega arith) in
     let size : length behind ≡ length rest - (5 + len) = ap length behind_is ∙ length-drop (5 + len) rest in
     let g : Group = record { at = now.gate; records = placed_from (now.gate + 5) adds.rs } in
@@ -238,6 +249,17 @@ reads_group bytes rest behind body len old now new h shown long fits body_is beh
       read = ap (λ (gs : List Group). groups_before gs (groups_within less.0 new.gate behind)) adds.groups ∙ sym (before_one now.groups g (groups_within less.0 new.gate behind)) ∙ ap (groups_before now.groups) (sym step) ∙ h.read;
       front = ap (λ (l : Records). l ++ fronts_within less.0 new.gate behind) more ∙ append_assoc (records_of now.groups) g.records (fronts_within less.0 new.gate behind) ∙ sym (ap (λ (l : Records). records_of now.groups ++ l) ahead) ∙ h.front;
     }
+
+-- and its bytes come behind those of the groups before
+pub text_group : (body text : List ℕ) (now new : JournalState) → AddsGroup (records_at (now.gate + 5) body) body now new → text ≡ text_of now.groups → text ++ body ≡ text_of new.groups
+text_group body text now new adds is =
+    let rs : Records = placed_from (now.gate + 5) adds.rs in
+    let more : List ℕ = spelled (map record_of (map (placed true) rs)) in
+    let all : text_of new.groups ≡ text_of now.groups ++ more =
+    ap text_of adds.groups ∙ ap (λ (ps : List Placed). spelled (map record_of ps)) (placed_groups-more now.groups (record { at = now.gate; records = rs }))
+    ∙ ap spelled (map-append record_of (placed_groups now.groups) (map (placed true) rs))
+    ∙ flat_map-append spelling (map record_of (placed_groups now.groups)) (map record_of (map (placed true) rs)) in
+    ap (λ (l : List ℕ). l ++ body) is ∙ ap (λ (l : List ℕ). text_of now.groups ++ l) (sym adds.text_is ∙ sym (ap spelled (records_of-items true rs ∙ records_placed (now.gate + 5) adds.rs))) ∙ sym all
 
 pub reads_to_gate : (bytes rest : List ℕ) (old now : JournalState) → ReadsOn bytes rest old now → is_open 0 rest ≡ false → groups_within (length bytes) old.gate bytes ≡ Whole now.groups now.gate
 reads_to_gate bytes rest old now h closed = sym h.read ∙ ap (groups_before now.groups) (shut h.fuel now.gate rest closed) ∙ before_whole now.groups now.gate

@@ -1,8 +1,7 @@
 -- The pages that the records of a log change, as its tail grows, is forced or dropped. It serves the goals of log.rt.
-use Rattle.std.proofs.Common.{◌≡◌, ℕ, ◌+◌, Bool, true, false, List, [], ◌∷◌, ◌++◌, length, take, refl, sym, ap, ◌∙◌, append_assoc}
+use Rattle.std.proofs.Common.{◌≡◌, ℕ, ◌+◌, Bool, true, false, List, [], ◌∷◌, ◌++◌, length, refl, sym, ap, ◌∙◌, append_assoc}
 use Rattle.std.specs.Prelude.{map}
-use Rattle.std.proofs.lemmas.List.{append-nil, length-map, map-append}
-use Rattle.std.proofs.Math.Seq.{take-append_seam}
+use Rattle.std.proofs.lemmas.List.{append-nil, map-append}
 use Rattle.sd_logrec.specs.declared.record.Record.{Record}
 use Rattle.sd_logrec.specs.Kept.{Group, Records, placed_from, spelled}
 use Rattle.sd_log.specs.declared.placed.Placed.{Placed}
@@ -34,11 +33,3 @@ pages-closed len w =
     let rs : Records = placed_from (w.gate + 5) w.tail in
     pages-append all (map (placed false) rs) ∙ ap (λ (l : List ℕ). changed_pages all ++ l) (same_pages false true rs) ∙ sym (pages-append all (map (placed true) rs))
     ∙ ap changed_pages (sym (placed_groups-more w.groups (record { at = w.gate; records = rs }))) ∙ ap changed_pages (sym (append-nil (placed_groups (closed len w).groups)))
-
--- those of the groups stand in front
-pub pages-dropped : (gate : ℕ) (groups : List Group) (tail : List Record) → take (length (placed_groups groups)) (changed_pages (placed_groups groups ++ placed_tail gate tail)) ≡ changed_pages (placed_groups groups ++ placed_tail gate [])
-pages-dropped gate groups tail =
-    let all : List Placed = placed_groups groups in
-    let size : length all ≡ length (changed_pages all) = sym (length-map all (λ (p : Placed). changed_page p.rec)) in
-    ap (take (length all)) (pages-append all (placed_tail gate tail)) ∙ ap (λ n. take n (changed_pages all ++ changed_pages (placed_tail gate tail))) size
-    ∙ take-append_seam (changed_pages all) (changed_pages (placed_tail gate tail)) ∙ ap changed_pages (sym (append-nil all))

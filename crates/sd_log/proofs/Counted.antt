@@ -19,7 +19,7 @@ use Rattle.sd_log.specs.Logs.{AreSpelled, placed, placed_groups, placed_tail, sc
 use Rattle.sd_log.specs.ByPage.{changed_pages}
 use Rattle.sd_log.proofs.Changes.{pages-closed}
 use Rattle.sd_log.proofs.Parted.{placed_groups-more}
-use Rattle.sd_log.specs.Parts.{record_of}
+use Rattle.sd_log.specs.Parts.{record_of, text_of}
 use Rattle.sd_log.specs.Spellings.{record_in}
 use Rattle.sd_log.proofs.Spelled.{within_bytes, within_text}
 use Rattle.sd_log.proofs.Tails.{least_spelling, least_text, no_text}
@@ -115,23 +115,23 @@ read_bytes (suc n) at bytes groups gate are e =
 
 -- the bytes of all records lie between them
 pub read_within : (n at : ℕ) (bytes : List ℕ) (groups : List Group) (gate : ℕ) → IsBytes bytes → groups_within n at bytes ≡ Whole groups gate
-    → at + length (spelled (map record_of (placed_groups groups))) ≤ gate
+    → at + length (text_of groups) ≤ gate
 unfolding groups_within
 read_within zero at bytes groups gate are e =
     let none : groups ≡ [] = cc in
     let here : gate ≡ at = cc in
-    omega (arith, ap (λ (gs : List Group). length (spelled (map record_of (placed_groups gs)))) none)
+    omega (arith, ap (λ (gs : List Group). length (text_of gs)) none)
 read_within (suc n) at bytes groups gate are e =
     let len : ℕ = group_len bytes in
     let body : List ℕ = take len (drop 5 bytes) in
     elim (step_of (is_open 0 bytes) (fits_area at len) at (records_at (at + 5) body) (groups_within n (at + 5 + len) (drop (5 + len) bytes)) groups gate e) [
-      | inl h ↦ omega (arith, h.2, ap (λ (gs : List Group). length (spelled (map record_of (placed_groups gs)))) h.1)
+      | inl h ↦ omega (arith, h.2, ap (λ (gs : List Group). length (text_of gs)) h.1)
       | inr h ↦
           let more = read_within n (at + 5 + len) (drop (5 + len) bytes) h.1 gate (IsBytes-drop (5 + len) bytes are) h.5 in
           let first : length (spelled (map record_in h.0)) ≡ length body =
           within_text (length body) (at + 5) body h.0 (IsBytes-take len (drop 5 bytes) (IsBytes-drop 5 bytes are)) h.4 in
-          let all : length (spelled (map record_of (placed_groups groups))) ≡ length (spelled (map record_in h.0)) + length (spelled (map record_of (placed_groups h.1))) =
-          ap (λ (gs : List Group). length (spelled (map record_of (placed_groups gs)))) h.6 ∙ spelled_both h.0 (placed_groups h.1) in
+          let all : length (text_of groups) ≡ length (spelled (map record_in h.0)) + length (text_of h.1) =
+          ap (λ (gs : List Group). length (text_of gs)) h.6 ∙ spelled_both h.0 (placed_groups h.1) in
           omega (arith, more, first, all, length-take len (drop 5 bytes))
     ]
   where

@@ -3,7 +3,8 @@ use Rattle.std.proofs.Common.{◌≡◌, ◌⊎◌, inl, inr, ℕ, zero, suc, �
 use Rattle.std.specs.Prelude.{Option, Some, Result, Ok, Err, map, slice_get, vec_len}
 use Rattle.std.specs.Global.{Vec}
 use Rattle.std.specs.List.{AllByRecursion}
-use Rattle.std.proofs.lemmas.List.{drop-map, drop_all, drop_at, take_all, take_at}
+use Rattle.std.proofs.lemmas.List.{drop-map, drop_all, drop_at, map-append, take_all, take_at, take_more}
+use Rattle.std.proofs.lemmas.List.Elements.{recursion_from_All}
 use Rattle.std.proofs.lemmas.Option.{slice_get-get_or, slice_get_cases}
 use Rattle.sd_base.specs.declared.refusal.Refusal.{Refusal}
 use Rattle.sd_base.specs.declared.refusal.Refusal.TheVariants as R
@@ -12,6 +13,10 @@ use Rattle.sd_logrec.specs.Kept.{Records, placed_from, spelled}
 use Rattle.sd_logrec.specs.Spelling.{HasSpelling, spelling}
 use Rattle.sd_logrec.specs.View.{flat}
 use Rattle.sd_logrec.proofs.Groups.{spelled_within}
+use Rattle.sd_log.specs.declared.placed.Placed.{Placed}
+use Rattle.sd_log.specs.Logs.{AreSpelled}
+use Rattle.sd_log.specs.Marks.{entry}
+use Rattle.sd_log.specs.Parts.{record_of}
 use Rattle.sd_log.specs.Spellings.{SpellingsState, record_in}
 use Rattle.sd_log.specs.SpellingsInside.{AreSlots, IsSpellings, at_slots, read_of, records_of, spellings_view}
 use Rattle.sd_log.specs.declared.spellings.Slot.{Slot}
@@ -21,7 +26,7 @@ use Rattle.sd_log.proofs.Tails.{all-more}
 
 -- ---- records and their bytes
 
-records_placed : (at : ℕ) (rs : List Record) → map record_in (placed_from at rs) ≡ rs
+pub records_placed : (at : ℕ) (rs : List Record) → map record_in (placed_from at rs) ≡ rs
 records_placed at [] = refl
 records_placed at (r ∷ rs) = ap (λ (l : List Record). r ∷ l) (records_placed (at + length (spelling r)) rs)
 
@@ -75,7 +80,7 @@ entries_front (suc i) [] rs = refl
 entries_front (suc i) (s ∷ ss) [] = refl
 entries_front (suc i) (s ∷ ss) (r ∷ rs) = ap (λ (l : Records). (s.place, r) ∷ l) (entries_front i ss rs)
 
-slots_more : (at : ℕ) (ss : List Slot) (rs : List Record) (s : Slot) (r : Record) → AreSlots at ss rs → s.at ≡ at + length (spelled rs) → s.lsn ≡ (flat r).lsn → AreSlots at (ss ++ s ∷ []) (rs ++ r ∷ [])
+pub slots_more : (at : ℕ) (ss : List Slot) (rs : List Record) (s : Slot) (r : Record) → AreSlots at ss rs → s.at ≡ at + length (spelled rs) → s.lsn ≡ (flat r).lsn → AreSlots at (ss ++ s ∷ []) (rs ++ r ∷ [])
 slots_more at [] [] s r are place lsn = let here : s.at ≡ at = omega arith in (here, lsn, tt)
 slots_more at [] (x ∷ rs) s r are place lsn = absurd are
 slots_more at (y ∷ ss) [] s r are place lsn = absurd are
@@ -83,7 +88,7 @@ slots_more at (y ∷ ss) (x ∷ rs) s r are place lsn =
     let behind : s.at ≡ at + length (spelling x) + length (spelled rs) = omega (arith, length-append (spelling x) (spelled rs)) in
     (are.0, are.1, slots_more (at + length (spelling x)) ss rs s r are.2 behind lsn)
 
-entries_more : (at : ℕ) (ss : List Slot) (rs : List Record) (s : Slot) (r : Record) → AreSlots at ss rs → at_slots (ss ++ s ∷ []) (rs ++ r ∷ []) ≡ at_slots ss rs ++ (s.place, r) ∷ []
+pub entries_more : (at : ℕ) (ss : List Slot) (rs : List Record) (s : Slot) (r : Record) → AreSlots at ss rs → at_slots (ss ++ s ∷ []) (rs ++ r ∷ []) ≡ at_slots ss rs ++ (s.place, r) ∷ []
 entries_more at [] [] s r are = refl
 entries_more at [] (x ∷ rs) s r are = absurd are
 entries_more at (y ∷ ss) [] s r are = absurd are
@@ -118,9 +123,49 @@ tells at (suc i) (x ∷ ss) (r ∷ rs) s are e =
       entry = t.entry;
     }
 
+-- ---- records in memory
+
+each_of : (ps : List Placed) → AllByRecursion (λ (p : Placed). HasSpelling p.rec) ps → AllByRecursion HasSpelling (map record_of ps)
+each_of [] h = tt
+each_of (p ∷ ps) h = (h.0, each_of ps h.1)
+
+pub each_record : (ps : List Placed) → AreSpelled ps → AllByRecursion HasSpelling (map record_of ps)
+each_record ps h = each_of ps (recursion_from_All (λ (p : Placed). HasSpelling p.rec) ps h)
+
+-- the first ones have no more bytes than all
+pub front_text : (ps : List Placed) (i : ℕ) → length (spelled (map record_of (take i ps))) ≤ length (spelled (map record_of ps))
+front_text [] zero = omega arith
+front_text [] (suc i) = omega arith
+front_text (x ∷ ps) zero = omega arith
+front_text (x ∷ ps) (suc i) = omega (arith, front_text ps i, length-append (spelling x.rec) (spelled (map record_of ps)), length-append (spelling x.rec) (spelled (map record_of (take i ps))))
+
+-- one record more
+module _ (ps : List Placed) (i at : ℕ) (ss : List Slot) (p : Placed) (s : Slot) (lt : i < length ps) (is : p ≡ get_or ps i p) where
+  front_more : take (i + 1) ps ≡ take i ps ++ p ∷ []
+  front_more = take_more ps i p lt ∙ ap (λ (x : Placed). take i ps ++ x ∷ []) (sym is)
+
+  records_more : map record_of (take (i + 1) ps) ≡ map record_of (take i ps) ++ p.rec ∷ []
+  records_more = ap (map record_of) front_more ∙ map-append record_of (take i ps) (p ∷ [])
+
+  pub slots_next : AreSlots 0 ss (map record_of (take i ps)) → at ≡ length (spelled (map record_of (take i ps))) → s.at ≡ at → s.lsn ≡ (flat p.rec).lsn
+      → AreSlots 0 (ss ++ s ∷ []) (map record_of (take (i + 1) ps))
+  slots_next are here start lsn =
+      subst (AreSlots 0 (ss ++ s ∷ [])) (sym records_more) (slots_more 0 ss (map record_of (take i ps)) s p.rec are (omega arith) lsn)
+
+  pub entries_next : AreSlots 0 ss (map record_of (take i ps)) → at_slots ss (map record_of (take i ps)) ≡ map entry (take i ps) → s.place ≡ p.place
+      → at_slots (ss ++ s ∷ []) (map record_of (take (i + 1) ps)) ≡ map entry (take (i + 1) ps)
+  entries_next are same place =
+      ap (at_slots (ss ++ s ∷ [])) records_more ∙ entries_more 0 ss (map record_of (take i ps)) s p.rec are
+      ∙ ap (λ (l : Records). l ++ (s.place, p.rec) ∷ []) same ∙ ap (λ n. map entry (take i ps) ++ (n, p.rec) ∷ []) place
+      ∙ sym (ap (map entry) front_more ∙ map-append entry (take i ps) (p ∷ []))
+
+  pub text_next : at ≡ length (spelled (map record_of (take i ps))) → at + length (spelling p.rec) ≡ length (spelled (map record_of (take (i + 1) ps)))
+  text_next here =
+      omega (arith, ap (λ (rs : List Record). length (spelled rs)) records_more, ap length (spelled-more (map record_of (take i ps)) p.rec), length-append (spelled (map record_of (take i ps))) (spelling p.rec))
+
 -- ---- what contracts see
 
-view_of : (ss : List Slot) (bytes : List ℕ) (rs : List Record) → bytes ≡ spelled rs → AllByRecursion HasSpelling rs → at_slots ss (records_of bytes) ≡ at_slots ss rs
+pub view_of : (ss : List Slot) (bytes : List ℕ) (rs : List Record) → bytes ≡ spelled rs → AllByRecursion HasSpelling rs → at_slots ss (records_of bytes) ≡ at_slots ss rs
 view_of ss bytes rs e each = ap (λ (l : List ℕ). at_slots ss (records_of l)) e ∙ ap (at_slots ss) (records_spelled rs each)
 
 entries_are : (b : Inside) (v : SpellingsState) (h : IsSpellings b) → spellings_view b ≡ v → v.entries ≡ at_slots b.slots.items h.rs

@@ -10,7 +10,8 @@ use Rattle.sd_log.specs.declared.log.Log.TheInside.{Inside}
 use Rattle.sd_log.specs.Buffers.{BufferState}
 use Rattle.sd_log.specs.WrittenStates.{WrittenState, all_in}
 use Rattle.sd_log.specs.LogInside.{AreForced, IsLog}
-use Rattle.sd_log.specs.Logs.{is_reserved, placed_groups, placed_tail}
+use Rattle.sd_logrec.specs.View.{is_closing}
+use Rattle.sd_log.specs.Logs.{placed_groups, placed_tail}
 use Rattle.sd_log.specs.ByPage.{changed_page, changed_pages}
 use Rattle.sd_log.specs.PagesInside.{PagesState}
 use Rattle.sd_log.proofs.Changes.{pages-more}
@@ -29,20 +30,20 @@ least_length (records.End lsn txn prev) = omega arith
 least_length (records.BeginCheck lsn) = omega arith
 least_length (records.EndCheck lsn begin spans recs) = omega arith
 
-reserved_length : (r : Record) → is_reserved r ≡ true → 26 ≤ spelled_length r
-reserved_length (records.Start lsn epoch) e = absurd (cc)
-reserved_length (records.Update lsn txn prev page slot capacity before after) e = absurd (cc)
-reserved_length (records.Clr lsn txn prev undo_next page slot after) e = omega arith
-reserved_length (records.Commit lsn txn prev) e = omega arith
-reserved_length (records.End lsn txn prev) e = omega arith
-reserved_length (records.BeginCheck lsn) e = absurd (cc)
-reserved_length (records.EndCheck lsn begin spans recs) e = absurd (cc)
+closing_length : (r : Record) → is_closing r ≡ true → 26 ≤ spelled_length r
+closing_length (records.Start lsn epoch) e = absurd (cc)
+closing_length (records.Update lsn txn prev page slot capacity before after) e = absurd (cc)
+closing_length (records.Clr lsn txn prev undo_next page slot after) e = omega arith
+closing_length (records.Commit lsn txn prev) e = omega arith
+closing_length (records.End lsn txn prev) e = omega arith
+closing_length (records.BeginCheck lsn) e = absurd (cc)
+closing_length (records.EndCheck lsn begin spans recs) e = absurd (cc)
 
 pub least_spelling : (r : Record) → 9 ≤ length (spelling r)
 least_spelling r = omega (arith, length-spelling r, least_length r)
 
-pub reserved_spelling : (r : Record) → is_reserved r ≡ true → 26 ≤ length (spelling r)
-reserved_spelling r e = omega (arith, length-spelling r, reserved_length r e)
+pub closing_spelling : (r : Record) → is_closing r ≡ true → 26 ≤ length (spelling r)
+closing_spelling r e = omega (arith, length-spelling r, closing_length r e)
 
 -- what putting a record makes of the parts
 pub record Puts (l : Inside) (r : Record) (kept : ℕ) (written : WrittenState) (pages : PagesState) (buffer : BufferState) : Type 0 where

@@ -1,5 +1,5 @@
 -- The records of a live log, as its marks part them. It serves the goals of written.rt.
-use Rattle.std.proofs.Common.{◌≡◌, inl, inr, ℕ, zero, suc, ◌+◌, ◌-◌, ◌<◌, ◌≤◌, ◌^◌, Bool, true, false, List, [], ◌∷◌, ◌++◌, length, take, drop, get_or, refl, sym, ap, ◌∙◌, arith, length-append, length-drop}
+use Rattle.std.proofs.Common.{◌≡◌, inl, inr, ℕ, zero, suc, ◌+◌, ◌-◌, ◌<◌, ◌≤◌, ◌^◌, Bool, true, false, List, [], ◌∷◌, ◌++◌, length, take, drop, refl, sym, ap, ◌∙◌, arith, length-append, length-drop}
 use Rattle.std.specs.Prelude.{Option, Some, map, nat_lt, slice_get}
 use Rattle.std.specs.Option.{option_map_or}
 use Rattle.std.proofs.lemmas.Bool.{cases_lt, ltb-true}
@@ -46,25 +46,34 @@ text_small w h small =
 
 -- ---- one of them
 
-pub is_there : (es : Records) (i : ℕ) → i < length es → (e : ℕ × Record) × (slice_get es i ≡ Some e)
+pub is_there : {A : Type 0} (xs : List A) (i : ℕ) → i < length xs → (x : A) × (slice_get xs i ≡ Some x)
 is_there [] i lt = absurd (omega arith)
-is_there (e ∷ es) zero lt = (e, refl)
-is_there (e ∷ es) (suc i) lt = is_there es i (omega arith)
+is_there (x ∷ xs) zero lt = (x, refl)
+is_there (x ∷ xs) (suc i) lt = is_there xs i (omega arith)
+
+pub lsn_is : (w : Inside) → IsWritten w → (i lsn : ℕ) → i < length w.records.entries → ((e : ℕ × Record) → slice_get w.records.entries i ≡ Some e → lsn ≡ (flat e.1).lsn)
+    → (p : Placed) → slice_get (all_in (written_view w)) i ≡ Some p → lsn ≡ lsn_of p
+lsn_is w h i lsn lt told p got =
+    let es : Records = w.records.entries in
+    let n = w.marks.forced in
+    let there = is_there es i lt in
+    let whole : (f : Bool) → slice_get (items_of n es) i ≡ Some (placed f there.0) → lsn ≡ lsn_of p = λ f at.
+    told there.0 there.1
+    ∙ sym (ap (λ (o : Option Placed). option_map_or lsn_of o 0) (sym got ∙ ap (λ (ps : List Placed). slice_get ps i) (all_items w h) ∙ at)) in
+    elim (cases_lt i n) [
+      | inl lt ↦ whole true (get-items n es i there.0 true (λ _. refl) (λ le. absurd (omega arith)) there.1)
+      | inr le ↦ whole false (get-items n es i there.0 false (λ lt. absurd (omega arith)) (λ _. refl) there.1)
+    ]
 
 pub last_is : (w : Inside) → IsWritten w → (lsn : ℕ) → 0 < length w.records.entries
     → ((e : ℕ × Record) → slice_get w.records.entries (length w.records.entries - 1) ≡ Some e → lsn ≡ (flat e.1).lsn) → lsn ≡ last_lsn (all_in (written_view w))
 last_is w h lsn some told =
-    let es : Records = w.records.entries in
-    let n = w.marks.forced in
-    let there = is_there es (length es - 1) (omega arith) in
-    let whole : (f : Bool) → slice_get (items_of n es) (length es - 1) ≡ Some (placed f there.0) → lsn ≡ last_lsn (all_in (written_view w)) = λ f got.
-    told there.0 there.1 ∙ sym (ap (λ (o : Option Placed). option_map_or lsn_of o 0) got)
-    ∙ sym (ap (λ k. option_map_or lsn_of (slice_get (items_of n es) (k - 1)) 0) (length-items n es))
-    ∙ sym (ap last_lsn (all_items w h)) in
-    elim (cases_lt (length es - 1) n) [
-      | inl lt ↦ whole true (get-items n es (length es - 1) there.0 true (λ _. refl) (λ le. absurd (omega arith)) there.1)
-      | inr le ↦ whole false (get-items n es (length es - 1) there.0 false (λ lt. absurd (omega arith)) (λ _. refl) there.1)
-    ]
+    let len = length w.records.entries in
+    let all : List Placed = all_in (written_view w) in
+    let there = is_there all (len - 1) (omega (arith, all_length w h)) in
+    lsn_is w h (len - 1) lsn (omega arith) told there.0 there.1
+    ∙ sym (ap (λ (o : Option Placed). option_map_or lsn_of o 0) there.1)
+    ∙ sym (ap (λ k. option_map_or lsn_of (slice_get all (k - 1)) 0) (all_length w h))
 
 pub none_last : (w : Inside) → IsWritten w → length w.records.entries ≡ 0 → 0 ≡ last_lsn (all_in (written_view w))
 none_last w h none =
@@ -93,17 +102,6 @@ module _ (m : MarksState) (ps : List Placed) (h : IsParted m ps) (none : tail_of
 pub records_of-entries : (ps : List Placed) → map record_in (map entry ps) ≡ map record_of ps
 records_of-entries [] = refl
 records_of-entries (p ∷ ps) = ap (λ (l : List Record). p.rec ∷ l) (records_of-entries ps)
-
-pub one_text : (ps : List Placed) (i : ℕ) (p : Placed) → i < length ps → p ≡ get_or ps i p → length (spelling p.rec) ≤ length (spelled (map record_of ps))
-one_text [] i p lt is = absurd (omega arith)
-one_text (x ∷ ps) zero p lt is = let same : length (spelling p.rec) ≡ length (spelling x.rec) = ap (λ (q : Placed). length (spelling q.rec)) is in omega (arith, length-append (spelling x.rec) (spelled (map record_of ps)))
-one_text (x ∷ ps) (suc i) p lt is = omega (arith, one_text ps i p (omega arith) is, length-append (spelling x.rec) (spelled (map record_of ps)))
-
-pub front_text : (ps : List Placed) (i : ℕ) → length (spelled (map record_of (take i ps))) ≤ length (spelled (map record_of ps))
-front_text [] zero = omega arith
-front_text [] (suc i) = omega arith
-front_text (x ∷ ps) zero = omega arith
-front_text (x ∷ ps) (suc i) = omega (arith, front_text ps i, length-append (spelling x.rec) (spelled (map record_of ps)), length-append (spelling x.rec) (spelled (map record_of (take i ps))))
 
 pub not_below : (i n : ℕ) (b : Bool) → nat_lt i n ≡ b → n ≤ i → b ≡ false
 not_below i n false e le = refl

@@ -1,18 +1,12 @@
 -- Which records of a log change a page.
-use Rattle.std.specs.Prelude.{ℕ, suc, ◌==◌, if◌then◌else◌, List, [], ◌∷◌, map}
+use Rattle.std.specs.Prelude.{ℕ, suc, ◌==◌, if◌then◌else◌, List, [], ◌∷◌, map, unwrap_or}
 use Rattle.sd_logrec.specs.declared.record.Record.{Record}
-use Rattle.sd_logrec.specs.declared.record.Record.TheVariants as records
+use Rattle.sd_logrec.specs.View.{page_of}
 use Rattle.sd_log.specs.declared.placed.Placed.{Placed}
 
 -- the number of the page that a record changes, or 1024 where it changes none
 abbrev pub changed_page : Record → ℕ
-changed_page (records.Start lsn epoch) = 1024
-changed_page (records.Update lsn txn prev page slot capacity before after) = page
-changed_page (records.Clr lsn txn prev undo_next page slot after) = page
-changed_page (records.Commit lsn txn prev) = 1024
-changed_page (records.End lsn txn prev) = 1024
-changed_page (records.BeginCheck lsn) = 1024
-changed_page (records.EndCheck lsn begin spans recs) = 1024
+changed_page r = unwrap_or (page_of r) 1024
 
 -- the pages that records change, one after the other
 abbrev pub changed_pages : List Placed → List ℕ

@@ -23,7 +23,3 @@ settled len j = record {
   tail = [];
   room = j.room;
 }
-
--- without the tail
-abbrev pub dropped : JournalState → JournalState
-dropped j = record { start = j.start; gate = j.gate; groups = j.groups; tail = []; room = j.room }

@@ -3,7 +3,6 @@ use Rattle.std.specs.Prelude.{◌≡◌, ℕ, zero, suc, ◌+◌, ◌-◌, ◌<�
 use Rattle.std.specs.List.{AllByRecursion, flat_map}
 use Rattle.std.specs.Option.{option_map_or}
 use Rattle.sd_logrec.specs.declared.record.Record.{Record}
-use Rattle.sd_logrec.specs.declared.record.Record.TheVariants as records
 use Rattle.sd_logrec.specs.Kept.{Group, Records, Whole, area, placed_from, reading, spelled}
 use Rattle.sd_logrec.specs.Spelling.{HasSpelling}
 use Rattle.sd_logrec.specs.View.{Rec, flat}
@@ -62,16 +61,6 @@ last_lsn ps = option_map_or lsn_of (slice_get ps (length ps - 1)) 0
 -- the place behind the next gate, were the tail forced with n more bytes, and with these bytes reserved
 abbrev pub needed : LogState → ℕ → ℕ → ℕ
 needed log n reserve = log.gate + 5 + tail_len log + n + reserve + 1
-
--- a record for which bytes were reserved: it ends what an earlier one began
-abbrev pub is_reserved : Record → Bool
-is_reserved (records.Start lsn epoch) = false
-is_reserved (records.Update lsn txn prev page slot capacity before after) = false
-is_reserved (records.Clr lsn txn prev undo_next page slot after) = true
-is_reserved (records.Commit lsn txn prev) = true
-is_reserved (records.End lsn txn prev) = true
-is_reserved (records.BeginCheck lsn) = false
-is_reserved (records.EndCheck lsn begin spans recs) = false
 
 -- the group of a tail
 abbrev pub tail_group : LogState → Group

@@ -1,10 +1,9 @@
 -- What is inside a log that was read, and what it stands for.
-use Rattle.std.specs.Prelude.{◌≡◌, ◌+◌, ◌<◌, ◌≤◌, [], length, map}
-use Rattle.sd_logrec.specs.Kept.{spelled}
+use Rattle.std.specs.Prelude.{◌≡◌, ◌+◌, ◌<◌, ◌≤◌, [], length}
 use Rattle.sd_log.specs.ByPage.{changed_pages}
 use Rattle.sd_log.specs.LogInside.{AreForced}
-use Rattle.sd_log.specs.Logs.{LogState, placed_groups, scanned}
-use Rattle.sd_log.specs.Parts.{record_of}
+use Rattle.sd_log.specs.Logs.{LogState, scanned}
+use Rattle.sd_log.specs.Parts.{text_of}
 use Rattle.sd_log.specs.declared.read.ReadLog.TheInside.{Inside}
 
 abbrev pub read_view : Inside → LogState
@@ -14,6 +13,7 @@ read_view l = record { inst = l.inst; start = l.journal.start; gate = l.journal.
 pub record IsReadLog (l : Inside) : Type 0 where
   pub none : l.journal.tail ≡ []
   pub forced_are : AreForced l.journal.start l.journal.gate l.journal.groups
-  pub within : l.journal.start + length (spelled (map record_of (placed_groups l.journal.groups))) ≤ l.journal.gate
+  pub text_is : l.text.items ≡ text_of l.journal.groups
+  pub within : l.journal.start + length (text_of l.journal.groups) ≤ l.journal.gate
   pub gate_within : l.journal.gate < 1048576
   pub chains_are : l.pages.chains ≡ changed_pages (scanned (read_view l))

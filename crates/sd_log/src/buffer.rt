@@ -1,17 +1,15 @@
 //! A tail as it comes onto the device: the group's length, the records, and the next gate.
 
-ghost use Rattle.std.specs.Prelude.{◌≡◌, ◌≢◌, ◌⊎◌, [], ◌∷◌, ◌++◌, ℕ, ◌+◌, ◌^◌, ◌<◌, ◌≤◌, true, false, drop, length, vec_len, vec_capacity, IfOk, IsOk, OnErr, OnOk};
+ghost use Rattle.std.specs.Prelude.{◌≡◌, ◌≢◌, ◌⊎◌, ℕ, ◌+◌, ◌^◌, ◌<◌, ◌≤◌, true, false, length, vec_len, vec_capacity, IsOk, OnErr, OnOk};
 ghost use Rattle.sd_base.specs.Streams.{Rises};
 ghost use Rattle.sd_base.specs.Twin as twin;
-ghost use Rattle.sd_logrec.specs.Spelling.{four};
-ghost use Rattle.sd_logrec.specs.Writing.{Appends, HasRoom};
 ghost use Rattle.sd_rig.specs.Devices.{AgreesOutside, Elapses, LeavesOnly, LeavesSame, Span, device_len};
 ghost use Rattle.sd_gate.specs.Gates.{Fills};
 ghost use Rattle.sd_log.specs.Buffers.{BufferState, framed};
 
 use sd_base::{Failed, Memory};
 use sd_gate::fill;
-use sd_logrec::GROUP_HEAD;
+use sd_logrec::{GROUP_HEAD, put_bytes, put_u32};
 use sd_rig::Rig;
 use std::alloc::Global;
 use std::marker::Model;
@@ -97,23 +95,7 @@ fn frame(bytes: &mut Vec<u8>, text: &[u8])
     ensures items { bytes.new.items ≡ framed text.now }
     ensures capacity { vec_capacity bytes.old ≤ vec_capacity bytes.new }
 {
-    put_len(bytes, text.len() as u32);
+    put_u32(bytes, text.len() as u32);
     put_bytes(bytes, text);
     bytes.push_reserved(0);
-}
-
-// Appends a group's length.
-fn put_len(out: &mut Vec<u8>, len: u32)
-    requires { HasRoom out.old (four len) }
-    ensures { Appends out.old out.new (four len) }
-{
-    put_bytes(out, &len.to_be_bytes());
-}
-
-// Appends bytes.
-fn put_bytes(out: &mut Vec<u8>, piece: &[u8])
-    requires { HasRoom out.old piece.now }
-    ensures { Appends out.old out.new piece.now }
-{
-    let _ = out.extend_from_slice(piece);
 }

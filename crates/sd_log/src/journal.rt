@@ -1,7 +1,7 @@
 //! The records of the groups that are read, one by one, with a mark for each group, and those of the group that is being read
 //! behind them.
 
-ghost use Rattle.std.specs.Prelude.{◌≡◌, ◌≢◌, [], ◌∷◌, ◌++◌, ◌+◌, ◌-◌, ◌^◌, ◌<◌, ◌≤◌, drop, length, map, take, vec_len, vec_capacity, IsOk, OnOk};
+ghost use Rattle.std.specs.Prelude.{◌≡◌, ◌≢◌, [], ◌++◌, ◌+◌, ◌-◌, ◌^◌, ◌<◌, ◌≤◌, drop, length, map, take, vec_len, vec_capacity, IsOk, OnOk};
 ghost use Rattle.sd_logrec.specs.Kept.{spelled};
 ghost use Rattle.sd_log.specs.JournalStates.{JournalState, pushed, settled};
 ghost use Rattle.sd_log.specs.Logs.{placed_groups, placed_tail};

@@ -2,8 +2,8 @@
 //!
 //! Meaning: a `Log` is its forced groups, the place of the next gate, and the tail (`LogState`, `specs/Logs.antt`); what
 //! its device stands for is `reading` (`specs/Kept.antt` of sd_logrec), and `StandsOn` says that it is these groups. It
-//! keeps its records as their bytes, of which `record` reads one; a `ReadLog` is the same of groups that were just read,
-//! with each record by itself in memory.
+//! keeps its records as their bytes, of which `record` reads one and `lsn` tells the LSN; a `ReadLog` is the same of groups
+//! that were just read, with each record by itself in memory and the bytes of all beside them, which `into_log` takes over.
 //! Keeps: a closed gate stands behind the last group that is forced; no group passes the area's end, and records of at
 //! least 9 bytes each are few (`keeps`).
 //! Promises: a crash at any moment of `force` leaves the log with its tail or without it (`any_moment`), and with it

@@ -1,18 +1,18 @@
 //! The log of an instance: its calls.
 
-ghost use Rattle.std.specs.Prelude.{◌≡◌, ◌≢◌, ◌⊎◌, ◌↔◌, [], ◌∷◌, ◌++◌, ℕ, ◌+◌, ◌-◌, ◌/◌, ◌^◌, ◌<◌, ◌≤◌, false, true, max, min, if◌then◌else◌, length, map, slice_get, Err, Ok, Some, IsTrue, IsOk, IfErr, IfOk, OnErr, OnOk};
+ghost use Rattle.std.specs.Prelude.{◌≡◌, ◌≢◌, ◌⊎◌, ◌↔◌, [], ◌++◌, ℕ, ◌+◌, ◌-◌, ◌/◌, ◌^◌, ◌<◌, ◌≤◌, false, true, max, min, if◌then◌else◌, length, slice_get, Err, Ok, Some, IsTrue, IsOk, IfErr, IfOk, OnErr, OnOk};
 ghost use Rattle.std.specs.List.{list_any};
 ghost use Rattle.sd_base.specs.Streams.{Rises};
 ghost use Rattle.sd_base.specs.declared.refusal.Refusal.TheVariants as R;
 ghost use Rattle.sd_logrec.specs.Kept.{spelled};
 ghost use Rattle.sd_logrec.specs.Spelling.{HasSpelling, spelling};
-ghost use Rattle.sd_logrec.specs.View.{is_commit_of};
+ghost use Rattle.sd_logrec.specs.View.{is_closing, is_commit_of};
 ghost use Rattle.sd_rig.specs.Devices.{AgreesOutside, Elapses, LeavesOnly, LeavesSame, Span};
 ghost use Rattle.sd_log.specs.ByPage.{changed_pages, places_of};
 ghost use Rattle.sd_log.specs.Forces.{Forces, StandsEither, forced_at, forced_len};
 ghost use Rattle.sd_log.specs.LogInside.{AreForced};
-ghost use Rattle.sd_log.specs.Logs.{AreSpelled, IsStartFor, StandsOn, forced, is_reserved, last_lsn, needed, placed_groups, placed_tail, scanned, tail_len, with_record, without_tail};
-ghost use Rattle.sd_log.specs.Parts.{record_of};
+ghost use Rattle.sd_log.specs.Logs.{AreSpelled, IsStartFor, StandsOn, forced, last_lsn, lsn_of, needed, placed_groups, placed_tail, scanned, tail_len, with_record, without_tail};
+ghost use Rattle.sd_log.specs.Parts.{text_of};
 
 use crate::buffer::Buffer;
 use crate::journal::Journal;
@@ -68,16 +68,18 @@ impl Log {
         alloc: Global,
         inst: InstNo,
         read: Journal,
+        text: Vec<u8>,
         pages: PageChains,
     ) -> Result<Log, Memory>
         requires forced { AreForced read.start read.gate read.groups }
-        requires within { read.start + length (spelled (map record_of (placed_groups read.groups))) ≤ read.gate }
+        requires text { text.items ≡ text_of read.groups }
+        requires within { read.start + length (text_of read.groups) ≤ read.gate }
         requires gate { read.gate < AREA_LEN }
         requires tail { read.tail ≡ [] }
         requires pages { pages.chains ≡ changed_pages (placed_groups read.groups ++ placed_tail read.gate read.tail) }
         ensures { IfOk result (λ log. log ≡ record { inst = inst; start = read.start; gate = read.gate; groups = read.groups; tail = []; spare = 0 }) }
     {
-        let written = Written::of(alloc, read)?;
+        let written = Written::of(alloc, read, text)?;
         let buffer = Buffer::new(alloc)?;
         Ok(Log {
             inst,
@@ -143,9 +145,9 @@ impl Log {
         ensures full { (result ≡ Err R.LogFull) ↔ (AREA_LEN < needed self.old (length (spelling r.now)) reserve) }
         ensures refusals { IfErr result (λ e. (e ≡ R.LogFull) ⊎ (e ≡ R.Memory)) }
 
-        ensures reserves { OnOk result (is_reserved r.now ≡ false → max self.old.spare reserve ≤ self.new.spare) }
-        ensures spends { is_reserved r.now ≡ true → self.old.spare ≤ self.new.spare + length (spelling r.now) }
-        ensures there { is_reserved r.now ≡ true → length (spelling r.now) ≤ self.old.spare → (result ≡ Ok tt) ⊎ (result ≡ Err R.LogFull) }
+        ensures reserves { OnOk result (is_closing r.now ≡ false → max self.old.spare reserve ≤ self.new.spare) }
+        ensures spends { is_closing r.now ≡ true → self.old.spare ≤ self.new.spare + length (spelling r.now) }
+        ensures there { is_closing r.now ≡ true → length (spelling r.now) ≤ self.old.spare → (result ≡ Ok tt) ⊎ (result ≡ Err R.LogFull) }
     {
         let len = r.len();
         if self.lacks_room(len, reserve) {
@@ -241,7 +243,16 @@ impl Log {
         self.written.len()
     }
 
-    /// The record of this index, of those of the groups and then those of the tail.
+    /// The LSN of the record of this index, of those of the groups and then those of the tail. The record itself isn't read,
+    /// and no memory is taken.
+    pub fn lsn(&self, index: usize) -> Lsn
+        requires { index < length (scanned self.now) }
+        ensures { (p : Placed) → slice_get (scanned self.now) index ≡ Some p → result ≡ lsn_of p }
+    {
+        self.written.lsn(index)
+    }
+
+    /// The record of this index, of those of the groups and then those of the tail. `Memory` is the only refusal.
     pub fn record(&self, index: usize) -> Result<Placed, Memory>
         requires { index < length (scanned self.now) }
         ensures { IfOk result (λ found. slice_get (scanned self.now) index ≡ Some found) }
@@ -257,7 +268,7 @@ impl Log {
     }
 
     /// The indexes of the records that change this page, an Update or a CLR of it, in their order. Only these
-    /// records are looked at.
+    /// records are looked at. `Memory` is the only refusal.
     pub fn of_page(&self, alloc: Global, page: PageNo) -> Result<Vec<u32>, Memory>
         ensures { IfOk result (λ found. found.items ≡ places_of page 0 (changed_pages (scanned self.now))) }
     {
@@ -275,7 +286,7 @@ impl Log {
 
 // How much is to spare behind a record of `len` bytes.
 fn spare_after(r: &Lent, spare: usize, len: usize, reserve: usize) -> usize
-    ensures { result ≡ (if is_reserved r.now then spare - len else max spare reserve) }
+    ensures { result ≡ (if is_closing r.now then spare - len else max spare reserve) }
 {
     if r.is_closing() {
         spare.saturating_sub(len)

@@ -1,6 +1,6 @@
 //! The records of each page, found without a look at the others.
 
-ghost use Rattle.std.specs.Prelude.{◌≡◌, [], ◌∷◌, ◌++◌, ◌+◌, ◌-◌, ◌^◌, ◌<◌, ◌≤◌, length, map, take, IfOk, IsOk, OnOk};
+ghost use Rattle.std.specs.Prelude.{◌≡◌, [], ◌∷◌, ◌++◌, ◌+◌, ◌-◌, ◌^◌, ◌<◌, ◌≤◌, length, take, IfOk, IsOk, OnOk};
 ghost use Rattle.sd_log.specs.ByPage.{changed_page, changed_pages, places_of};
 ghost use Rattle.sd_log.specs.PagesInside.{PagesState};
 

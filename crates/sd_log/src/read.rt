@@ -23,11 +23,12 @@ use sd_rig::Rig;
 use std::alloc::Global;
 use std::marker::Model;
 
-/// The groups of an instance's log as they were read, each record by itself in memory.
+/// The groups of an instance's log as they were read, each record by itself in memory, and the bytes of all beside them.
 #[derive(Drop)]
 pub struct ReadLog {
     inst: InstNo,
     journal: Journal,
+    text: Vec<u8>,
     pages: PageChains,
 }
 
@@ -118,18 +119,19 @@ impl ReadLog {
     }
 
     /// The indexes in `scan` of the records that change this page, an Update or a CLR of it, in their order. Only these
-    /// records are looked at.
+    /// records are looked at. `Memory` is the only refusal.
     pub fn of_page(&self, alloc: Global, page: PageNo) -> Result<Vec<u32>, Memory>
         ensures { IfOk result (λ found. found.items ≡ places_of page 0 (changed_pages (scanned self.now))) }
     {
         self.pages.of_page(alloc, page)
     }
 
-    /// The log that goes on behind these groups.
+    /// The log that goes on behind these groups. It takes the bytes of the records over as they are. `Memory` is the only
+    /// refusal.
     pub fn into_log(self, alloc: Global) -> Result<Log, Memory>
         ensures { IfOk result (λ log. log ≡ self) }
     {
-        Log::behind(alloc, self.inst, self.journal, self.pages)
+        Log::behind(alloc, self.inst, self.journal, self.text, self.pages)
     }
 }
 
@@ -146,7 +148,8 @@ fn read_from(alloc: Global, inst: InstNo, start: u32, bytes: &[u8]) -> Result<Ar
     ensures broken { IfOk result (λ read. IfBroken read (λ fault. Breaks (groups_within (length bytes.now) start bytes.now) fault)) }
 {
     let mut journal = Journal::new(alloc, start);
-    match read_groups(alloc, &mut journal, bytes) {
+    let mut text = Vec::with_capacity(alloc, bytes.len())?;
+    match read_groups(alloc, &mut journal, &mut text, bytes) {
         Ok(()) => {}
         Err(fault @ (Refusal::BadLog { .. } | Refusal::BadRecord { .. })) => {
             let front = journal.into_placed();
@@ -158,6 +161,7 @@ fn read_from(alloc: Global, inst: InstNo, start: u32, bytes: &[u8]) -> Result<Ar
     Ok(Area::Whole(ReadLog {
         inst,
         journal,
+        text,
         pages,
     }))
 }

@@ -1,11 +1,11 @@
 //! The groups of an area, read into a journal.
 
-ghost use Rattle.std.specs.Prelude.{◌≡◌, ◌≢◌, ◌⊎◌, [], ◌∷◌, ◌++◌, ℕ, ◌+◌, ◌^◌, ◌<◌, ◌≤◌, false, true, Err, Ok, length, IfErr, MatchOption, OnOk};
+ghost use Rattle.std.specs.Prelude.{◌≡◌, ◌⊎◌, [], ◌++◌, ℕ, ◌+◌, ◌^◌, ◌<◌, false, true, Err, Ok, length, IfErr, MatchOption, OnOk};
 ghost use Rattle.sd_base.specs.declared.refusal.Refusal.TheVariants as R;
 ghost use Rattle.sd_logrec.specs.Fronts.{front_at, fronts_within};
-ghost use Rattle.sd_logrec.specs.Kept.{BadGroup, NoRecord, Whole, fits_area, group_len, groups_within, placed_from, records_at, spelled};
+ghost use Rattle.sd_logrec.specs.Kept.{Whole, fits_area, group_len, groups_within, records_at};
 ghost use Rattle.sd_log.specs.Areas.{Breaks};
-ghost use Rattle.sd_log.specs.JournalStates.{JournalState};
+ghost use Rattle.sd_log.specs.Parts.{text_of};
 ghost use Rattle.sd_log.specs.Readings.{AddsFront, AddsRecords, AddsGroup, entries};
 
 use crate::journal::Journal;
@@ -37,7 +37,7 @@ fn group_len(bytes: &[u8], at: usize) -> Option<usize>
 fn read_records(alloc: Global, journal: &mut Journal, body: &[u8]) -> Result<(), Refusal>
     requires place { journal.old.gate + GROUP_HEAD + length body.now < 2 ^ 32 }
     requires tail { journal.old.tail ≡ [] }
-    ensures ok { OnOk result (AddsRecords (records_at (journal.old.gate + GROUP_HEAD) body.now) (length body.now) journal.old journal.new) }
+    ensures ok { OnOk result (AddsRecords (records_at (journal.old.gate + GROUP_HEAD) body.now) body.now journal.old journal.new) }
     ensures err { IfErr result (λ e. (e ≡ R.Memory) ⊎ ((place : ℕ) × (e ≡ R.BadRecord place) × (records_at (journal.old.gate + GROUP_HEAD) body.now ≡ Err place)
         × (place < journal.old.gate + GROUP_HEAD + length body.now) × AddsFront (front_at (journal.old.gate + GROUP_HEAD) body.now) journal.old journal.new)) }
 {
@@ -60,28 +60,42 @@ fn read_records(alloc: Global, journal: &mut Journal, body: &[u8]) -> Result<(),
     Ok(())
 }
 
-// Reads a body as one more group.
-fn read_group(alloc: Global, journal: &mut Journal, body: &[u8]) -> Result<(), Refusal>
+// Reads a body as one more group, and puts its bytes behind `text`.
+fn read_group(
+    alloc: Global,
+    journal: &mut Journal,
+    text: &mut Vec<u8>,
+    body: &[u8],
+) -> Result<(), Refusal>
     requires place { journal.old.gate + GROUP_HEAD + length body.now < 2 ^ 32 }
     requires some { 0 < length body.now }
     requires tail { journal.old.tail ≡ [] }
-    ensures ok { OnOk result (AddsGroup (records_at (journal.old.gate + GROUP_HEAD) body.now) (length body.now) journal.old journal.new) }
+    ensures ok { OnOk result (AddsGroup (records_at (journal.old.gate + GROUP_HEAD) body.now) body.now journal.old journal.new) }
+    ensures text { OnOk result (text.new.items ≡ text.old.items ++ body.now) }
     ensures err { IfErr result (λ e. (e ≡ R.Memory) ⊎ ((place : ℕ) × (e ≡ R.BadRecord place) × (records_at (journal.old.gate + GROUP_HEAD) body.now ≡ Err place)
         × (place < journal.old.gate + GROUP_HEAD + length body.now) × AddsFront (front_at (journal.old.gate + GROUP_HEAD) body.now) journal.old journal.new)) }
 {
     read_records(alloc, journal, body)?;
+    text.extend_from_slice(body)?;
     journal.settle(body.len() as u32);
     Ok(())
 }
 
 /// Reads the groups of an area from the journal's gate on, where it has nothing yet, up to a closed gate, or up to what
-/// breaks the format.
-pub fn read_groups(alloc: Global, journal: &mut Journal, bytes: &[u8]) -> Result<(), Refusal>
+/// breaks the format. The bytes of their records come into `text`, where there are none yet.
+pub fn read_groups(
+    alloc: Global,
+    journal: &mut Journal,
+    text: &mut Vec<u8>,
+    bytes: &[u8],
+) -> Result<(), Refusal>
     requires place { journal.old.gate + length bytes.now ≡ AREA_LEN }
     requires some { 0 < length bytes.now }
     requires groups { journal.old.groups ≡ [] }
     requires tail { journal.old.tail ≡ [] }
+    requires text { text.old.items ≡ [] }
     ensures ok { OnOk result (groups_within (length bytes.now) journal.old.gate bytes.now ≡ Whole journal.new.groups journal.new.gate) }
+    ensures text { OnOk result (text.new.items ≡ text_of journal.new.groups) }
     ensures start { OnOk result (journal.new.start ≡ journal.old.start) }
     ensures tail { OnOk result (journal.new.tail ≡ []) }
     ensures gate { OnOk result (journal.new.gate < AREA_LEN) }
@@ -96,7 +110,7 @@ pub fn read_groups(alloc: Global, journal: &mut Journal, bytes: &[u8]) -> Result
             return Err(Refusal::BadLog { at: at as u64 });
         };
         let (body, behind) = rest[GROUP_HEAD..].split_at(len);
-        read_group(alloc, journal, body)?;
+        read_group(alloc, journal, text, body)?;
         rest = behind;
     }
     Ok(())

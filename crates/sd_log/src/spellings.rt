@@ -5,9 +5,14 @@ ghost use Rattle.sd_logrec.specs.declared.record.Record.{Record};
 ghost use Rattle.sd_logrec.specs.Kept.{spelled};
 ghost use Rattle.sd_logrec.specs.Spelling.{HasSpelling, spelling};
 ghost use Rattle.sd_logrec.specs.View.{flat, is_commit_of};
+ghost use Rattle.sd_log.specs.Logs.{AreSpelled};
+ghost use Rattle.sd_log.specs.Marks.{entry};
+ghost use Rattle.sd_log.specs.Parts.{record_of};
 ghost use Rattle.sd_log.specs.Spellings.{SpellingsState, record_in};
+ghost use Rattle.sd_log.specs.SpellingsInside.{AreSlots, at_slots};
 ghost use Rattle.sd_log.specs.declared.spellings.Slot.{Slot};
 
+use crate::placed::Placed;
 use sd_base::{Lsn, Memory, TxnId};
 use sd_logrec::{Lent, Record};
 use std::alloc::Global;
@@ -49,6 +54,17 @@ impl Spellings {
             bytes: Vec::new(alloc),
             slots: Vec::new(alloc),
         }
+    }
+
+    /// These records, of which this is the text.
+    pub fn of(alloc: Global, text: Vec<u8>, placed: &[Placed]) -> Result<Self, Memory>
+        requires spelled { AreSpelled placed.now }
+        requires text { text.items ≡ spelled (map record_of placed.now) }
+        requires small { length text.items < 2 ^ 32 }
+        ensures { IfOk result (λ s. s.entries ≡ map entry placed.now) }
+    {
+        let slots = slots_of(alloc, placed)?;
+        Ok(Spellings { bytes: text, slots })
     }
 
     /// How many records there are.
@@ -150,4 +166,24 @@ fn start_of(slots: &[Slot], index: usize, end: usize) -> usize
     } else {
         end
     }
+}
+
+// Where the bytes of each record begin.
+fn slots_of(alloc: Global, placed: &[Placed]) -> Result<Vec<Slot>, Memory>
+    requires spelled { AreSpelled placed.now }
+    requires small { length (spelled (map record_of placed.now)) < 2 ^ 32 }
+    ensures slots { IfOk result (λ slots. AreSlots 0 slots.items (map record_of placed.now)) }
+    ensures entries { IfOk result (λ slots. at_slots slots.items (map record_of placed.now) ≡ map entry placed.now) }
+{
+    let mut slots = Vec::with_capacity(alloc, placed.len())?;
+    let mut at = 0;
+    for p in placed {
+        slots.push_reserved(Slot {
+            lsn: p.rec.lsn(),
+            place: p.place,
+            at: at as u32,
+        });
+        at += p.rec.len();
+    }
+    Ok(slots)
 }

@@ -1,14 +1,13 @@
 //! The records of a log as their bytes: those of its groups, with a mark for each group, and those of the tail behind them.
 
-ghost use Rattle.std.specs.Prelude.{◌≡◌, ◌≢◌, [], ◌∷◌, ◌++◌, ◌+◌, ◌^◌, ◌<◌, ◌≤◌, drop, length, map, slice_get, Some, All, IfOk, IsOk, OnOk};
+ghost use Rattle.std.specs.Prelude.{◌≡◌, ◌≢◌, [], ◌+◌, ◌^◌, ◌<◌, ◌≤◌, drop, length, slice_get, Some, IfOk, IsOk, OnOk};
 ghost use Rattle.std.specs.List.{list_any};
 ghost use Rattle.sd_logrec.specs.Kept.{spelled};
 ghost use Rattle.sd_logrec.specs.Spelling.{HasSpelling, spelling};
 ghost use Rattle.sd_logrec.specs.View.{is_commit_of};
-ghost use Rattle.sd_log.specs.JournalStates.{JournalState};
-ghost use Rattle.sd_log.specs.Logs.{AreSpelled, IsStartFor, last_lsn, placed_groups, placed_tail};
-ghost use Rattle.sd_log.specs.Marks.{entry};
-ghost use Rattle.sd_log.specs.Parts.{record_of};
+ghost use Rattle.sd_log.specs.declared.placed.Placed.{Placed};
+ghost use Rattle.sd_log.specs.Logs.{AreSpelled, IsStartFor, last_lsn, lsn_of, placed_groups};
+ghost use Rattle.sd_log.specs.Parts.{text_of};
 ghost use Rattle.sd_log.specs.WrittenStates.{WrittenState, all_in, closed, dropped, greatest_in, put};
 
 use crate::journal::{Journal, WIDE};
@@ -53,11 +52,12 @@ impl Written {
         }
     }
 
-    /// The groups that were read.
-    pub fn of(alloc: Global, read: Journal) -> Result<Self, Memory>
+    /// The groups that were read, and the bytes of their records.
+    pub fn of(alloc: Global, read: Journal, text: Vec<u8>) -> Result<Self, Memory>
         requires none { read.tail ≡ [] }
         requires spelled { AreSpelled (placed_groups read.groups) }
-        requires within { read.start + length (spelled (map record_of (placed_groups read.groups))) ≤ read.gate }
+        requires text { text.items ≡ text_of read.groups }
+        requires within { read.start + length (text_of read.groups) ≤ read.gate }
         requires gate { read.gate < 2 ^ 32 }
         ensures start { IfOk result (λ w. w.start ≡ read.start) }
         ensures gate { IfOk result (λ w. w.gate ≡ read.gate) }
@@ -65,7 +65,7 @@ impl Written {
         ensures tail { IfOk result (λ w. w.tail ≡ []) }
     {
         let (marks, placed) = read.into_parts();
-        let records = spellings_of(alloc, &placed)?;
+        let records = Spellings::of(alloc, text, &placed)?;
         Ok(Written {
             marks,
             records,
@@ -127,7 +127,7 @@ impl Written {
         self.widen(text, room)
     }
 
-    // Takes memory for all that an area has room for, or for more than that.
+    // Takes memory for all that the area still has room for, or for more than that.
     #[inline(never)]
     fn widen(&mut self, text: usize, room: usize) -> Result<(), Memory>
         requires more { self.old.room < room }
@@ -137,7 +137,8 @@ impl Written {
         ensures stays { (self.old.text ≤ self.new.text) × (self.old.room ≤ self.new.room) }
     {
         let wide = room.max(WIDE);
-        self.records.reserve(text.max(AREA_LEN as usize), wide)?;
+        let rest = (AREA_LEN as usize).saturating_sub(self.marks.gate() as usize);
+        self.records.reserve(text.max(rest), wide)?;
         self.marks.reserve(wide + 1)?;
         self.room = wide;
         Ok(())
@@ -178,6 +179,14 @@ impl Written {
         self.records.truncate(self.marks.forced());
     }
 
+    /// The LSN of the record of this index.
+    pub fn lsn(&self, index: usize) -> Lsn
+        requires { index < length (all_in self.now) }
+        ensures { (p : Placed) → slice_get (all_in self.now) index ≡ Some p → result ≡ lsn_of p }
+    {
+        self.records.lsn(index)
+    }
+
     /// The record of this index.
     pub fn get(&self, index: usize) -> Result<Placed, Memory>
         requires { index < length (all_in self.now) }
@@ -209,21 +218,6 @@ fn any_commit(records: &Spellings, t: &TxnId) -> bool
         }
     }
     false
-}
-
-// These records as their bytes.
-fn spellings_of(alloc: Global, placed: &[Placed]) -> Result<Spellings, Memory>
-    requires spelled { AreSpelled placed.now }
-    requires small { length (spelled (map record_of placed.now)) < 2 ^ 32 }
-    ensures { IfOk result (λ s. s.entries ≡ map entry placed.now) }
-{
-    let mut records = Spellings::new(alloc);
-    for p in placed {
-        records.reserve(p.rec.len(), 1)?;
-        let rec = Lent::whole(&p.rec);
-        records.push(&rec, p.place);
-    }
-    Ok(records)
 }
 
 // The greatest LSN of the records from this index on, or 0.

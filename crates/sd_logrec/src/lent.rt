@@ -1,14 +1,13 @@
 //! A record that is lent until a log has its bytes.
 
-ghost use Rattle.std.specs.Prelude.{◌≡◌, ◌<◌, ◌^◌, length, option_copied};
-ghost use Rattle.sd_base.specs.Values.{size};
+ghost use Rattle.std.specs.Prelude.{◌≡◌, length};
 ghost use Rattle.sd_logrec.specs.Lent.{update_record};
 ghost use Rattle.sd_logrec.specs.Spelling.{HasSpelling, spelling};
 ghost use Rattle.sd_logrec.specs.View.{flat, is_closing, page_of};
 ghost use Rattle.sd_logrec.specs.Writing.{Appends, HasRoom};
 
 use crate::Record;
-use sd_base::{Lsn, PageNo, TxnId};
+use sd_base::{Lsn, PageNo, TxnId, lent_len};
 use std::marker::Model;
 
 /// An Update whose values are lent, with the fields that `Record::Update` has.
@@ -30,7 +29,7 @@ impl<'a> Update<'a> {
         requires { HasSpelling (update_record self.now) }
         ensures { result ≡ length (spelling (update_record self.now)) }
     {
-        38 + len_of(self.before) + len_of(self.after)
+        38 + lent_len(self.before) + lent_len(self.after)
     }
 }
 
@@ -127,16 +126,5 @@ impl<'a> Lent<'a> {
             Held::Whole(rec) => rec.write(out),
             Held::Update(update) => update.write(out),
         }
-    }
-}
-
-// The bytes of a value, 0 of none.
-fn len_of(value: Option<&[u8]>) -> usize
-    ensures value { result ≡ size (option_copied value.entry) }
-    ensures small { result < 2 ^ 63 }
-{
-    match value {
-        Some(bytes) => bytes.len(),
-        None => 0,
     }
 }

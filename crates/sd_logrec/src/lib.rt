@@ -18,7 +18,6 @@
 //! - frozen: the tables in `specs/Spelling.antt` and `specs/Kept.antt` (docs/FORMATS.md); a new type of record is a new row
 #![tactic(auto)]
 
-mod copy;
 mod fields;
 pub mod laws;
 mod layout;
@@ -31,5 +30,6 @@ mod take;
 
 pub use layout::{AREA, AREA_LEN, CLR_LEN, END_LEN, GROUP_HEAD, MASTER_BODY, MAX_LSN};
 pub use lent::{Lent, Update};
+pub use put::{put_bytes, put_u32};
 pub use record::Record;
 pub use rows::{Recs, Rows, Spans};

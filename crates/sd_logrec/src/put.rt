@@ -107,8 +107,8 @@ impl<'a> Update<'a> {
     }
 }
 
-// Appends bytes.
-fn put_bytes(out: &mut Vec<u8>, piece: &[u8])
+/// Appends bytes where there is room for them. It takes no memory.
+pub fn put_bytes(out: &mut Vec<u8>, piece: &[u8])
     requires { HasRoom out.old piece.now }
     ensures { Appends out.old out.new piece.now }
 {
@@ -130,8 +130,9 @@ fn put_u16(out: &mut Vec<u8>, number: u16)
     put_bytes(out, &number.to_be_bytes());
 }
 
+/// Appends a number in four bytes, the greatest first, where there is room for them. It takes no memory.
 #[tactic(auto, unfolding(crate::specs::Spelling::four))]
-fn put_u32(out: &mut Vec<u8>, number: u32)
+pub fn put_u32(out: &mut Vec<u8>, number: u32)
     requires { HasRoom out.old (four number) }
     ensures { Appends out.old out.new (four number) }
 {

@@ -2,7 +2,7 @@
 
 ghost use Rattle.std.specs.Prelude.{◌≡◌, List};
 
-use sd_base::{Duplicate, Lsn, Memory, PageNo, TxnId};
+use sd_base::{Lsn, PageNo, TxnId};
 use std::marker::Model;
 
 /// A list that owns its items, which are copied as they are. Contracts see it as the list itself.
@@ -43,12 +43,5 @@ impl<X> Rows<X> {
         ensures { result.items ≡ self }
     {
         self.items
-    }
-}
-
-impl<X: Copy + Drop> Duplicate for Rows<X> {
-    fn copy(&self) -> Result<Self, Memory> {
-        let items = Vec::from_slice(*self.items.allocator(), &self.items)?;
-        Ok(Rows { items })
     }
 }

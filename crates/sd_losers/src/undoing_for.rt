@@ -5,7 +5,8 @@ ghost use Rattle.sd_base.specs.Streams.{Rises};
 ghost use Rattle.sd_base.specs.declared.refusal.Refusal.TheVariants as R;
 ghost use Rattle.sd_logrec.specs.Spelling.{HasSpelling, spelling};
 ghost use Rattle.sd_logrec.specs.declared.record.Record.TheVariants as records;
-ghost use Rattle.sd_log.specs.Logs.{is_reserved, with_record};
+ghost use Rattle.sd_logrec.specs.View.{is_closing};
+ghost use Rattle.sd_log.specs.Logs.{with_record};
 ghost use Rattle.sd_page.specs.Page.{Page};
 ghost use Rattle.sd_txn.specs.Transactions.{Transaction, top_at};
 ghost use Rattle.sd_txn.specs.declared.state.OpenRec.{OpenRec};
@@ -140,7 +141,7 @@ fn let_go(_undone: Record) {}
 // Puts a record for which the log has room at its end.
 fn append_copied(log: &mut Log, clr: Record) -> Result<(), Memory>
     requires spelled { HasSpelling clr }
-    requires reserved { is_reserved clr ≡ true }
+    requires reserved { is_closing clr ≡ true }
     ensures grown { OnOk result (log.new ≡ with_record clr log.new.spare log.old) }
     ensures spent { OnOk result (log.old.spare ≤ log.new.spare + length (spelling clr)) }
     ensures err { OnErr result (log.new ≡ log.old) }

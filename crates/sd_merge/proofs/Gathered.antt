@@ -1,5 +1,5 @@
 -- The records of a log that change a page, one after another. It serves the goals of change.rt.
-use Rattle.std.proofs.Common.{◌≡◌, ℕ, ◌+◌, ◌-◌, ◌<◌, ◌≤◌, Bool, true, eqb, List, [], ◌∷◌, ◌++◌, Some, length, map, take, get_or, sym, ap, ap₂, ◌∙◌, subst, arith, add-one}
+use Rattle.std.proofs.Common.{◌≡◌, ℕ, ◌+◌, ◌-◌, ◌<◌, ◌≤◌, Bool, true, eqb, List, [], ◌∷◌, ◌++◌, Some, length, map, take, get_or, sym, ap, ◌∙◌, subst, arith, add-one}
 use Rattle.std.specs.Prelude.{All, filter, slice_get}
 use Rattle.std.specs.Option.{option_map_or}
 use Rattle.std.proofs.lemmas.Bool.{eqb-true}
@@ -14,8 +14,8 @@ use Rattle.sd_log.specs.Logs.{AreSpelled, LogState, scanned}
 use Rattle.sd_chain.specs.Records.{changes}
 use Rattle.sd_chain.proofs.Newest.{and_true}
 use Rattle.sd_merge.specs.declared.change.Change.{Change}
-use Rattle.sd_merge.specs.Changes.{AllStand, AreChanges, ChangesPage, IsChange, StandsIn, found_of, in_turn, is_forced_of, is_of, placed_in}
-use Rattle.sd_merge.proofs.OfPage.{as_many, filter_forced_of, filter_of, on, on_page, places_within, records_at}
+use Rattle.sd_merge.specs.Changes.{AllStand, AreChanges, ChangesPage, IsChange, StandsIn, found_of, in_turn, is_of, placed_in}
+use Rattle.sd_merge.proofs.OfPage.{as_many, filter_of, on, on_page, places_within, records_at}
 
 -- the record that the k-th index of a page's names in a log
 pub record Found (items : List Placed) (p : ℕ) (places : List ℕ) (k at : ℕ) (found : Placed) : Type 0 where
@@ -56,14 +56,11 @@ module _ (items : List Placed) (p : ℕ) (places : List ℕ) (k at : ℕ) (found
   one_more : take (k + 1) recs ≡ take k recs ++ found ∷ []
   one_more = take_more recs k found within_recs ∙ ap (λ (x : Placed). take k recs ++ x ∷ []) is_next
 
-  -- it comes behind those that pass a test, where it passes it too
-  pub tested_more : (test : Placed → Bool) (first old : List Placed) → old ≡ first ++ filter test (take k recs)
-      → old ++ filter test (found ∷ []) ≡ first ++ filter test (take (k + 1) recs)
-  tested_more test first old e =
-      ap (λ (l : List Placed). l ++ filter test (found ∷ [])) e
-      ∙ append_assoc first (filter test (take k recs)) (filter test (found ∷ []))
-      ∙ ap (λ (l : List Placed). first ++ l)
-      (sym (filter-append test (take k recs) (found ∷ [])) ∙ ap (filter test) (sym one_more))
+  -- it comes behind those before
+  pub gathered_more : (first old : List Placed) → old ≡ first ++ take k recs → old ++ found ∷ [] ≡ first ++ take (k + 1) recs
+  gathered_more first old e =
+      ap (λ (l : List Placed). l ++ found ∷ []) e ∙ append_assoc first (take k recs) (found ∷ [])
+      ∙ ap (λ (l : List Placed). first ++ l) (sym one_more)
 
 -- the changes so far
 pub record SoFar (logs : List LogState) (items first : List Placed) (k : ℕ) (cs : List Change) : Type 0 where
@@ -121,9 +118,8 @@ module _ (logs : List LogState) (index : ℕ) (log : LogState) (p : ℕ) (places
             (All-cons P change [] (subst (λ (d : ℕ). StandsIn logs d change.found.now) (sym dev)
             (subst (StandsIn logs (index + 1)) (sym is) found_stands)) (All-nil P)));
         gathered = ap (map found_of) e ∙ map-append found_of cs (change ∷ [])
-            ∙ ap₂ (λ (l : List Placed) (x : Placed). l ++ x ∷ []) s.gathered is
-            ∙ append_assoc first (take k items) (found ∷ [])
-            ∙ ap (λ (l : List Placed). first ++ l) (sym (one_more (scanned log) p places k at found f));
+            ∙ ap (λ (x : Placed). map found_of cs ++ x ∷ []) is
+            ∙ gathered_more (scanned log) p places k at found f first (map found_of cs) s.gathered;
       }
 
 -- the records of the log of an index
@@ -142,25 +138,23 @@ took_all items p places k are all =
     let short : length recs ≤ k = omega (arith, as_many p 0 items, ap length are, all) in
     take_all k recs short
 
--- these are a log's changes
+-- these are the page's records
+pub page_all : (items : List Placed) (p : ℕ) (places : List ℕ) (k : ℕ) (first all : List Placed)
+    → p < 1024 → places ≡ places_of p 0 (changed_pages items) → length places ≤ k
+    → all ≡ first ++ take k (filter (on p) items)
+    → all ≡ first ++ filter (is_of p) items
+page_all items p places k first all page places_are behind e =
+    e ∙ ap (λ (l : List Placed). first ++ l) (took_all items p places k places_are behind ∙ filter_of p page items)
+
+-- in the log of an index
 pub changes_all : (logs : List LogState) (index : ℕ) (log : LogState) (p : ℕ) (places : List ℕ) (k : ℕ) (first all : List Placed)
     → index < length logs → log ≡ get_or logs index log → p < 1024
     → places ≡ places_of p 0 (changed_pages (scanned log)) → length places ≤ k
     → all ≡ first ++ take k (filter (on p) (scanned log))
     → all ≡ first ++ filter (is_of p) (placed_in logs (index + 1))
 changes_all logs index log p places k first all lt is page places_are behind e =
-    e ∙ ap (λ (l : List Placed). first ++ l)
-    (took_all (scanned log) p places k places_are behind ∙ filter_of p page (scanned log))
+    page_all (scanned log) p places k first all page places_are behind e
     ∙ ap (λ (l : List Placed). first ++ filter (is_of p) l) (sym (placed_in-next logs index log lt is))
-
--- and its forced ones
-pub forced_all : (items : List Placed) (p : ℕ) (places : List ℕ) (k : ℕ) (first all : List Placed)
-    → p < 1024 → places ≡ places_of p 0 (changed_pages items) → length places ≤ k
-    → all ≡ first ++ filter (λ x. x.forced) (take k (filter (on p) items))
-    → all ≡ first ++ filter (is_forced_of p) items
-forced_all items p places k first all page places_are behind e =
-    e ∙ ap (λ (l : List Placed). first ++ l)
-    (ap (filter (λ x. x.forced)) (took_all items p places k places_are behind) ∙ filter_forced_of p page items)
 
 -- and those of the logs so far
 pub turn_more : (logs : List LogState) (i : ℕ) (test : Placed → Bool) (old new : List Placed)

@@ -9,8 +9,7 @@ use Rattle.sd_logrec.specs.View.{flat}
 use Rattle.sd_log.specs.declared.placed.Placed.{Placed}
 use Rattle.sd_log.specs.ByPage.{changed_page, changed_pages, places_of}
 use Rattle.sd_chain.specs.Records.{of_page}
-use Rattle.sd_merge.specs.Changes.{is_forced_of, is_of}
-use Rattle.sd_merge.proofs.Filters.{filter_both, filters_swap}
+use Rattle.sd_merge.specs.Changes.{is_of}
 
 -- a record of the page
 abbrev pub on : ℕ → Placed → Bool
@@ -85,11 +84,3 @@ places_within p n (y ∷ ys) =
 -- the page's records, as chains see them
 pub filter_of : (p : ℕ) → p < 1024 → (xs : List Placed) → filter (on p) xs ≡ filter (is_of p) xs
 filter_of p lt xs = filter_agree (on p) (is_of p) (on_page p lt) xs
-
--- and the forced ones of them
-pub filter_forced_of : (p : ℕ) → p < 1024 → (xs : List Placed)
-    → filter (λ x. x.forced) (filter (on p) xs) ≡ filter (is_forced_of p) xs
-filter_forced_of p lt xs =
-    ap (filter (λ x. x.forced)) (filter_of p lt xs)
-    ∙ filters_swap (λ x. x.forced) (is_of p) xs
-    ∙ sym (filter_both (λ x. x.forced) (is_of p) xs)

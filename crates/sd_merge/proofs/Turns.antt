@@ -1,13 +1,14 @@
 -- What is gathered of all logs, seen flat and LSN by LSN, in the order of the logs. It serves the goals of change.rt.
-use Rattle.std.proofs.Common.{◌≡◌, ℕ, zero, suc, ◌+◌, Bool, true, false, eqb, List, [], ◌∷◌, ◌++◌, Option, None, Some, map, refl, sym, ap, ap₂, ◌∙◌, subst}
-use Rattle.std.specs.Prelude.{IsPermutation, filter, option_map, slice_get}
+use Rattle.std.proofs.Common.{◌≡◌, ℕ, zero, suc, ◌+◌, Bool, true, false, eqb, List, [], ◌∷◌, ◌++◌, Option, None, Some, map, refl, sym, ap, ap₂, ◌∙◌, subst, arith}
+use Rattle.std.specs.Prelude.{All, IsPermutation, filter, option_map, slice_get}
 use Rattle.std.specs.List.Sorted.{IsNonDecreasingBy, IsStableByKey, ties}
 use Rattle.std.specs.Option.{option_map_or}
 use Rattle.std.specs.Ordering.{is_lt, nat_cmp}
 use Rattle.std.proofs.lemmas.Bool.{eqb-true}
 use Rattle.std.proofs.lemmas.List.{map-append}
-use Rattle.std.proofs.lemmas.List.Elements.{filter_agree, filter-append}
-use Rattle.std.proofs.lemmas.List.Sorted.{IsPermutation-map}
+use Rattle.std.proofs.lemmas.List.Elements.{All-get_or, All-weaker, filter_agree, filter-append}
+use Rattle.std.proofs.lemmas.List.Kept.{IsNonDecreasingBy-filter}
+use Rattle.std.proofs.lemmas.List.Sorted.{All-permutation, IsPermutation-map}
 use Rattle.std.proofs.lemmas.Option.{slice_get-map}
 use Rattle.sd_logrec.specs.Kept.{Group, Records, placed_from}
 use Rattle.sd_logrec.specs.View.{Rec, flat}
@@ -17,7 +18,9 @@ use Rattle.sd_chain.specs.Records.{Each, of_page}
 use Rattle.sd_chain.proofs.Lists.{cond_both}
 use Rattle.sd_merge.specs.declared.change.Change.{Change}
 use Rattle.sd_merge.specs.Changes.{AreByLsn, found_of, in_turn, is_forced_of, is_of, placed_in, redone_of}
-use Rattle.sd_merge.proofs.Filters.{IsNonDecreasingBy-map, filter-map, filter_both, ties_nat}
+use Rattle.sd_merge.specs.declared.change.Spot.{Spot}
+use Rattle.sd_merge.specs.Spots.{IsSpot, found_at}
+use Rattle.sd_merge.proofs.Filters.{IsNonDecreasingBy-map, IsPermutation-filter, filter-map, filter_alike, filter_both, filters_swap, ties_nat}
 
 -- ---- seen flat
 
@@ -132,16 +135,7 @@ module _ {X : Type 0} (lsn : X → ℕ) where
       go (x ∷ a) b e f = along x (has x a xs e)
       go [] (x ∷ b) e f = along x (has x b ys f)
 
--- a stable sort of records by LSN
-pub sorted_placed : (ps by_lsn : List Placed) → IsPermutation ps by_lsn → IsNonDecreasingBy lsn_of by_lsn
-    → IsStableByKey lsn_of nat_cmp ps by_lsn → AreByLsn ps by_lsn
-sorted_placed ps by_lsn same rises stable = record {
-  same = same;
-  rises = rises;
-  turns = λ n. with_lsn-stays lsn_of n ps by_lsn stable;
-}
-
--- and one of changes
+-- a stable sort of changes by LSN
 pub sorted_changes : (cs by_lsn : List Change) (ps : List Placed) → map found_of cs ≡ ps → IsPermutation cs by_lsn
     → IsNonDecreasingBy (λ c. (redone_of c).lsn) by_lsn → IsStableByKey (λ c. (redone_of c).lsn) nat_cmp cs by_lsn
     → AreByLsn ps (map found_of by_lsn)
@@ -153,3 +147,40 @@ sorted_changes cs by_lsn ps e same rises stable = subst (λ l. AreByLsn l (map f
       ∙ ap (map found_of) (with_lsn-stays (λ c. (redone_of c).lsn) n cs by_lsn stable)
       ∙ sym (filter-map (λ p. eqb (lsn_of p) n) found_of cs);
 })
+
+-- and one of records that are named by where they stand
+told_alike : (n : ℕ) (ts : List Spot) → All IsSpot ts → filter (λ t. eqb t.lsn n) ts ≡ filter (λ t. eqb (lsn_of (found_at t)) n) ts
+told_alike n ts told =
+    filter_alike (λ t. eqb t.lsn n) (λ t. eqb (lsn_of (found_at t)) n) ts
+    (All-weaker IsSpot (λ t. eqb t.lsn n ≡ eqb (lsn_of (found_at t)) n) (λ t is. ap (λ m. eqb m n) is.lsn_is) ts told)
+
+told_rise : (ts : List Spot) → All IsSpot ts → IsNonDecreasingBy (λ t. t.lsn) ts → IsNonDecreasingBy (λ t. lsn_of (found_at t)) ts
+told_rise ts told rises i j d le lt =
+    let first = All-get_or IsSpot ts i d (omega arith) told in
+    let second = All-get_or IsSpot ts j d lt told in
+    omega (arith, rises i j d le lt, first.lsn_is, second.lsn_is)
+
+pub sorted_spots : (ts by_lsn : List Spot) (ps : List Placed) → map found_at ts ≡ ps → All IsSpot ts → IsPermutation ts by_lsn
+    → IsNonDecreasingBy (λ t. t.lsn) by_lsn → IsStableByKey (λ t. t.lsn) nat_cmp ts by_lsn → AreByLsn ps (map found_at by_lsn)
+sorted_spots ts by_lsn ps e told same rises stable =
+    let still : All IsSpot by_lsn = All-permutation IsSpot ts by_lsn same told in
+    subst (λ l. AreByLsn l (map found_at by_lsn)) e (record {
+      same = IsPermutation-map found_at ts by_lsn same;
+      rises = IsNonDecreasingBy-map found_at lsn_of by_lsn (told_rise by_lsn still rises);
+      turns = λ n.
+          filter-map (λ p. eqb (lsn_of p) n) found_at by_lsn
+          ∙ ap (map found_at) (sym (told_alike n by_lsn still) ∙ with_lsn-stays (λ (t : Spot). t.lsn) n ts by_lsn stable ∙ told_alike n ts told)
+          ∙ sym (filter-map (λ p. eqb (lsn_of p) n) found_at ts);
+    })
+
+-- the forced ones of a page's, by LSN
+pub forced_by_lsn : (page : ℕ) (ps by_lsn : List Placed) → AreByLsn (filter (is_of page) ps) by_lsn → AreByLsn (filter (is_forced_of page) ps) (filter (λ x. x.forced) by_lsn)
+forced_by_lsn page ps by_lsn h =
+    let own : filter is_forced (filter (is_of page) ps) ≡ filter (is_forced_of page) ps = filters_swap is_forced (is_of page) ps ∙ sym (filter_both is_forced (is_of page) ps) in
+    subst (λ l. AreByLsn l (filter is_forced by_lsn)) own (record {
+      same = IsPermutation-filter is_forced (filter (is_of page) ps) by_lsn h.same;
+      rises = IsNonDecreasingBy-filter lsn_of is_forced by_lsn h.rises;
+      turns = λ n.
+          filters_swap (λ p. eqb (lsn_of p) n) is_forced by_lsn ∙ ap (filter is_forced) (h.turns n)
+          ∙ filters_swap is_forced (λ p. eqb (lsn_of p) n) (filter (is_of page) ps);
+    })

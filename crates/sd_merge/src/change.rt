@@ -1,13 +1,13 @@
 //! The records of all logs that change a page, in the order in which they are redone.
 
-ghost use Rattle.std.specs.Prelude.{◌≡◌, ℕ, ◌+◌, ◌<◌, [], ◌∷◌, ◌++◌, filter, length, map, true, All, IfOk, IfSome, IsPermutation, OnOk};
+ghost use Rattle.std.specs.Prelude.{◌≡◌, ℕ, ◌+◌, ◌<◌, [], ◌∷◌, ◌++◌, filter, length, map, true, All, IfOk, OnOk};
 ghost use Rattle.std.specs.List.Sorted.{IsNonDecreasingBy};
 ghost use Rattle.sd_base.specs.declared.refusal.Refusal.TheVariants as R;
-ghost use Rattle.sd_logrec.specs.View.{flat};
 ghost use Rattle.sd_log.specs.Logs.{AreSpelled, flats, forced_in, log_in, scanned, without_tail};
 ghost use Rattle.sd_chain.specs.Storage.{all_of, sorted};
 ghost use Rattle.sd_chain.specs.Records.{of_page};
 ghost use Rattle.sd_merge.specs.Changes.{AllStand, AreByLsn, AreChanges, ChangesPage, IsMerged, LsnsRise, chain_of, in_turn, found_of, is_forced_of, is_of, of_lsn, placed_in, redone_of};
+ghost use Rattle.sd_merge.specs.Spots.{IsSpot, found_at};
 
 use sd_base::{Lsn, Memory, PAGES, PageNo, Refusal};
 use sd_log::{Log, Placed, ReadLog};
@@ -36,6 +36,14 @@ impl<'a> Change<'a> {
     {
         damaged(self.dev, self.found.place)
     }
+}
+
+/// Where a record of a live log stands, by its index there, and its LSN.
+#[derive(Clone, Copy)]
+pub struct Spot<'a> {
+    pub lsn: Lsn,
+    pub log: &'a Log,
+    pub index: u32,
 }
 
 /// The refusal of devices of which this log isn't sound at this place of its area.
@@ -70,9 +78,8 @@ pub fn merged_changes(alloc: Global, logs: &[ReadLog]) -> Result<Vec<Change>, Me
 }
 
 /// The forced records of all logs that change a page, as they are redone: by LSN, and those of one LSN in the order of the
-/// logs, each copied out of its log. Records of tails aren't among them. Only `Memory` is refused.
+/// logs, each read of its log's bytes once they are in order. Records of tails aren't among them. Only `Memory` is refused.
 pub fn merge_page(alloc: Global, logs: &[Log], p: PageNo) -> Result<Vec<Placed>, Memory>
-    requires few { length logs.now < 256 }
     requires spelled { All (λ log. AreSpelled (scanned log)) logs.now }
     ensures spelled { IfOk result (λ found. AreSpelled found.items) }
     ensures pages { IfOk result (λ found. All (λ x. ChangesPage x.rec p) found.items) }
@@ -84,9 +91,9 @@ pub fn merge_page(alloc: Global, logs: &[Log], p: PageNo) -> Result<Vec<Placed>,
     ensures chain { IfOk result (λ found. LsnsRise (map without_tail logs.now) → flats found.items
         ≡ sorted (filter (of_page p) (all_of (forced_in logs.now) (length logs.now + 1)))) }
 {
-    let mut records = forced_records(alloc, logs, p)?;
-    records.sort_by_key(|found| found.rec.lsn())?;
-    Ok(records)
+    let mut spots = spots_of(alloc, logs, p)?;
+    spots.sort_by_key(|spot| spot.lsn)?;
+    forced_records(alloc, &spots)
 }
 
 // The changes of a page by LSN, and those of each LSN in the order of the logs.
@@ -161,35 +168,52 @@ fn gather<'a>(
     Ok(())
 }
 
-// The forced records of all logs that change a page, log by log.
-fn forced_records(alloc: Global, logs: &[Log], page: PageNo) -> Result<Vec<Placed>, Memory>
-    ensures { IfOk result (λ found. found.items
-        ≡ filter (is_forced_of page) (in_turn (placed_in logs.now) (length logs.now + 1))) }
+// The records of all logs that change a page, log by log.
+fn spots_of<'a>(alloc: Global, logs: &'a [Log], page: PageNo) -> Result<Vec<Spot<'a>>, Memory>
+    ensures told { IfOk result (λ spots. All IsSpot spots.items) }
+    ensures gathered { IfOk result (λ spots. map found_at spots.items
+        ≡ filter (is_of page) (in_turn (placed_in logs.now) (length logs.now + 1))) }
 {
-    let mut records = Vec::new(alloc);
+    let mut spots = Vec::new(alloc);
     for log in logs {
-        gather_forced(alloc, &mut records, log, page)?;
+        gather_spots(alloc, &mut spots, log, page)?;
     }
-    Ok(records)
+    Ok(spots)
 }
 
-// Puts the forced records of this log that change the page behind the others.
-fn gather_forced(
+// Puts the records of this log that change the page behind the others.
+fn gather_spots<'a>(
     alloc: Global,
-    records: &mut Vec<Placed>,
-    log: &Log,
+    spots: &mut Vec<Spot<'a>>,
+    log: &'a Log,
     page: PageNo,
 ) -> Result<(), Memory>
-    ensures { OnOk result (records.new.items ≡ records.old.items ++ filter (is_forced_of page) (scanned log.now)) }
+    requires told { All IsSpot spots.old.items }
+    ensures told { OnOk result (All IsSpot spots.new.items) }
+    ensures gathered { OnOk result (map found_at spots.new.items ≡ map found_at spots.old.items ++ filter (is_of page) (scanned log.now)) }
 {
     // Its number is below 1,024, where the log has the records that change no page.
     let _ = page.get();
     let places = log.of_page(alloc, page)?;
     for at in &places {
-        let found = log.record(*at as usize)?;
-        push_forced(records, found)?;
+        let index = *at;
+        let lsn = log.lsn(index as usize);
+        spots.push(Spot { lsn, log, index })?;
     }
     Ok(())
+}
+
+// The forced ones of these records, read of their logs.
+fn forced_records(alloc: Global, spots: &[Spot]) -> Result<Vec<Placed>, Memory>
+    requires { All IsSpot spots.now }
+    ensures { IfOk result (λ found. found.items ≡ filter (λ x. x.forced) (map found_at spots.now)) }
+{
+    let mut records = Vec::with_capacity(alloc, spots.len())?;
+    for spot in spots {
+        let found = spot.log.record(spot.index as usize)?;
+        push_forced(&mut records, found)?;
+    }
+    Ok(records)
 }
 
 // Puts a record behind the others if it is forced.

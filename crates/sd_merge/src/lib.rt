@@ -4,8 +4,8 @@
 //! they are those of the logs by LSN (`IsMerged`, `specs/Changes.antt`).
 //! Keeps: nothing.
 //! Promises: `merged_changes` has each change of all logs that were read, by page and then by LSN, and lends its record;
-//! `merge_page` has the forced records of one page in live logs by LSN, each copied out of its log. Those of one LSN come
-//! in the order of the logs (`turns`), and where LSNs rise in each log a page's are its chain (`chains`, `chain`). Both
+//! `merge_page` has the forced records of one page in live logs by LSN, each read of its log's bytes once they are in
+//! order. Those of one LSN come in the order of the logs (`turns`), and where LSNs rise in each log a page's are its chain (`chains`, `chain`). Both
 //! look up a page's records by the index that each log keeps of them, log by log, and sort them once by LSN; so a page
 //! costs what its own records cost.
 //! Refuses: nothing but for want of memory.

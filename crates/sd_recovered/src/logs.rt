@@ -37,7 +37,7 @@ impl ReadLogs {
         }
     }
 
-    /// The next log device besides, of its bytes, which aren't kept. `Damaged` comes exactly where that log isn't sound, with
+    /// The next log device besides, of its bytes, of which those of its records are copied. `Damaged` comes exactly where that log isn't sound, with
     /// the least place of the first of its checks that fails.
     pub fn next(self, alloc: Global, device: &[u8]) -> Result<ReadLogs, Refusal>
         requires few { length self.logs.items < 8 }

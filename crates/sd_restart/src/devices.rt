@@ -47,8 +47,8 @@ fn settle<G: Rig>(rig: &mut G, dev: u8) -> Result<(), Failed>
     rig.sync(dev)
 }
 
-/// What the nine devices hold: the log devices are read one after another, then device 0, each whole by one call. One device's
-/// bytes are kept at a time. It changes nothing on them.
+/// What the nine devices hold: the log devices are read one after another, then device 0, each whole by one call. One device is
+/// held whole at a time; of a log device the bytes of its records stay. It changes nothing on them.
 ///
 /// `Failed` comes where a read fails, `Damaged` exactly where the devices aren't sound, with the first place that fails, as `open`
 /// of sd_recovered tells it, and `Memory` for want of memory.

@@ -207,9 +207,6 @@ tear-at disks disks' dev at bytes are le h made =
     let here : disk_at disks' dev ≡ written at bytes k = ap (λ (ks : List DiskState). disk_at ks dev) made ∙ disk_at-set_same disks dev (written at bytes k) are le in
     subst (λ (j : DiskState). MayTear at (length bytes) (MayLeave k) (MayLeave j)) (sym here) (tear-written at bytes k (subst (λ n. at + length bytes ≤ n) (sym (are.lens dev le)) h) (are.sound dev le))
 
-pub tear-none : (disks disks' : List DiskState) (dev at n : ℕ) → disks' ≡ disks → MayTear at n (left_of disks dev) (left_of disks' dev)
-tear-none disks disks' dev at n same = subst (λ (ks : List DiskState). MayTear at n (left_of disks dev) (left_of ks dev)) (sym same) (tear-same at n (left_of disks dev))
-
 pub durable-at : (disks disks' : List DiskState) (dev : ℕ) → AreDevices disks → dev ≤ 8 → disks' ≡ set disks dev (settled Keep (disk_at disks dev)) → LeavesOnly (disk_at disks dev).seen (left_of disks' dev)
 durable-at disks disks' dev are le made =
     let k = disk_at disks dev in

@@ -47,9 +47,6 @@ devices-set disks dev k are le len sound = record {
   sound = each_set (λ d j. IsSound j) disks dev k are le are.sound sound;
 }
 
-pub settled-set : (disks : List DiskState) (dev : ℕ) (k : DiskState) → AreDevices disks → dev ≤ 8 → AreSettled disks → IsSettled k → AreSettled (set disks dev k)
-settled-set disks dev k are le old new = each_set (λ d j. IsSettled j) disks dev k are le old new
-
 pub length-settled : (pick : Pick) (k : DiskState) → IsSound k → length (settled pick k).seen ≡ length k.seen
 length-settled pick k sound = length-map-range_with_len (left_at pick k) 0 (length k.synced) ∙ sound.synced_len
 
@@ -125,12 +122,6 @@ poked-devices disks dev at byte are le h small =
     let k = disk_at disks dev in
     let fits : at < length k.seen = subst (λ n. at < n) (sym (are.lens dev le)) h in
     devices-set disks dev (poked at byte k) are le (length-set k.seen at byte ∙ are.lens dev le) (poked-sound at byte k fits small (are.sound dev le))
-
-pub poked-settled : (at byte : ℕ) (k : DiskState) → at < length k.pending → IsSettled k → IsSettled (poked at byte k)
-poked-settled at byte k h none i = ⊎_elim
-    (λ e. rw e (get_or-set_same k.pending at false false h))
-    (λ ne. get_or-set_other k.pending at i false false ne ∙ none i)
-    (cases_eq i at)
 
 pub blank_at : (dev : ℕ) → dev ≤ 8 → disk_at blanks dev ≡ blank (device_len dev)
 unfolding blanks

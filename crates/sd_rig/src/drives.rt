@@ -1,6 +1,6 @@
 //! Nine devices in memory with the record of what was done to them. No call fails here.
 
-ghost use Rattle.std.specs.Prelude.{◌≡◌, ◌+◌, ◌≤◌, ◌<◌, ◌↔◌, ◌⊎◌, [], false, map, length, slice_range, All, IfOk, IsOk, IsTrue, OnErr, OnOk};
+ghost use Rattle.std.specs.Prelude.{◌≡◌, ◌+◌, ◌≤◌, ◌<◌, ◌↔◌, ◌⊎◌, [], map, length, slice_range, All, IfOk, IsTrue};
 ghost use Rattle.sd_rig.specs.Devices.{device_len};
 ghost use Rattle.sd_rig.specs.Disk.{IsSettled, settled};
 ghost use Rattle.sd_rig.specs.History.{Crashed, Poked, Synced, Wrote};

@@ -1,9 +1,9 @@
 -- Records without a page that come to a log, by what they are: for the laws of `sealing`.
-use Rattle.std.proofs.Common.{◌<◌, ◌≡◌, ◌≢◌, ℕ, zero, suc, ◌+◌, ◌-◌, ◌≤◌, Bool, true, false, cond, eqb, List, [], ◌∷◌, ◌++◌, ◌||◌, ◌&&◌}
-use Rattle.std.proofs.Common.{inl, inr, get_or, slice_set, refl, sym, ap, ap₂, ◌∙◌, subst, arith, ⊎_elim, eq-eqb}
+use Rattle.std.proofs.Common.{◌<◌, ◌≡◌, ◌≢◌, ℕ, ◌+◌, ◌-◌, ◌≤◌, Bool, true, false, cond, eqb, List, [], ◌∷◌, ◌++◌, ◌||◌, ◌&&◌}
+use Rattle.std.proofs.Common.{inl, inr, slice_set, refl, sym, ap, ap₂, ◌∙◌, subst, arith, ⊎_elim, eq-eqb}
 use Rattle.std.specs.Prelude.{Option, None, Some, filter, leb, length, map, option_map, reverse, if◌then◌else◌, ◌==◌}
 use Rattle.std.specs.List.{list_any}
-use Rattle.std.proofs.lemmas.List.{length-set, set-get_or}
+use Rattle.std.proofs.lemmas.List.{length-set}
 use Rattle.std.proofs.lemmas.List.Folds.{list_any-append}
 use Rattle.sd_base.specs.declared.ids.TxnId.{TxnId}
 use Rattle.sd_base.specs.declared.place.Status.{Status}

@@ -11,11 +11,11 @@ use Rattle.sd_base.specs.declared.refusal.Refusal.{Refusal}
 use Rattle.sd_base.specs.declared.refusal.Refusal.TheVariants as R
 use Rattle.sd_logrec.specs.Kept.{master}
 use Rattle.sd_logrec.specs.Spelling.{spelling}
-use Rattle.sd_logrec.specs.View.{Rec, flat}
+use Rattle.sd_logrec.specs.View.{Rec, flat, is_closing}
 use Rattle.sd_logrec.specs.View.Kind.{Plain}
 use Rattle.sd_logrec.specs.declared.record.Record.{Record}
 use Rattle.sd_logrec.specs.declared.record.Record.TheVariants as records
-use Rattle.sd_log.specs.Logs.{LogState, forced, is_reserved, last_lsn, needed, scanned, with_record}
+use Rattle.sd_log.specs.Logs.{LogState, forced, last_lsn, needed, scanned, with_record}
 use Rattle.sd_model.specs.State.{State}
 use Rattle.sd_page.specs.Page.{Page}
 use Rattle.sd_rig.specs.Devices as rig
@@ -221,7 +221,7 @@ few-told i seen leaves pend c m g reads low high idle up tells =
     omega (arith, few, is)
 
 -- nothing is reserved for a record of no transaction
-pub plain-free : (y : Record) → (flat y).kind ≡ Plain → is_reserved y ≡ false
+pub plain-free : (y : Record) → (flat y).kind ≡ Plain → is_closing y ≡ false
 plain-free (records.Start l epoch) e = refl
 plain-free (records.Update l txn prev page slot capacity before after) e = refl
 plain-free (records.Clr l txn prev undo_next page slot after) e = absurd (cc)

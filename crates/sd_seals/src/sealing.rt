@@ -4,9 +4,9 @@ ghost use Rattle.std.specs.Prelude.{◌≡◌, ◌⊎◌, ◌↔◌, ◌+◌, �
 ghost use Rattle.std.specs.Option.{option_map_or};
 ghost use Rattle.sd_base.specs.declared.place.Status.TheVariants as S;
 ghost use Rattle.sd_base.specs.declared.refusal.Refusal.TheVariants as R;
-ghost use Rattle.sd_log.specs.Logs.{is_reserved, needed};
+ghost use Rattle.sd_log.specs.Logs.{needed};
 ghost use Rattle.sd_logrec.specs.Spelling.{HasSpelling, IsTxn, spelling};
-ghost use Rattle.sd_logrec.specs.View.{flat};
+ghost use Rattle.sd_logrec.specs.View.{flat, is_closing};
 ghost use Rattle.sd_model.specs.State.{State};
 ghost use Rattle.sd_sound.specs.Logs.{next_lsn};
 ghost use Rattle.sd_state.specs.Complexes.{parts};
@@ -146,7 +146,7 @@ fn put_end<G>(c: &mut Complex<G>, t: &TxnId, rec: Record) -> Result<(), Memory>
     requires shape { IsShape (parts c.old) }
     requires own { (flat rec).txn ≡ t.now }
     requires spelled { HasSpelling rec }
-    requires ends { is_reserved rec ≡ true }
+    requires ends { is_closing rec ≡ true }
     requires room { needed (log_at (parts c.old) t.now.inst) (length (spelling rec)) 0 ≤ 1048576 }
     requires there { IsSome (span_at (txns_at (parts c.old) t.now.inst) t.now) }
     ensures ok { OnOk result (HasEnd t.now (λ x. rec) (parts c.old) (parts c.new)) }
@@ -208,7 +208,7 @@ fn lacks_lsns_for<G>(c: &Complex<G>, i: InstNo) -> bool
 fn put_plain<G>(c: &mut Complex<G>, i: InstNo, rec: Record) -> Result<(), Refusal>
     requires shape { IsShape (parts c.old) }
     requires spelled { HasSpelling rec }
-    requires further { is_reserved rec ≡ false }
+    requires further { is_closing rec ≡ false }
     requires room { NoRoomFor i (length (spelling rec)) (parts c.old) → ⊥ }
     ensures ok { OnOk result (parts c.new ≡ with_more i rec (log_at (parts c.new) i).spare (parts c.old)) }
     ensures memory { OnOk result (reserve_of (txns_at (parts c.old) i) ≤ (log_at (parts c.new) i).spare) }

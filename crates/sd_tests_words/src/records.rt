@@ -1,6 +1,6 @@
 //! Records by hand: each kind read and written again, and bytes that are no record.
 
-use sd_base::{Duplicate, Refusal};
+use sd_base::Refusal;
 use sd_logrec::Record;
 use std::alloc::Global;
 use std::test::Fail;
@@ -34,13 +34,13 @@ const END_CHECK: [u8; 95] = [
     0, 0, 0, 0, 7, 0, 2, 0, 0, 0, 0, 0, 0, 0, 0, 0, 0, 0, 2, 0, 0, 0, 7, 0, 0, 0, 0, 0, 0, 0, 4,
 ];
 
-// Whether a record of this LSN is read from the bytes with more behind them, and its copy is written as they stand.
+// Whether a record of this LSN is read from the bytes with more behind them, and is written as they stand.
 fn is_read(alloc: Global, lsn: u64, text: &[u8]) -> Result<bool, Refusal> {
     let mut more = text.to_vec(alloc)?;
     more.extend_from_slice(&[1, 2])?;
     let (record, place) = Record::take(alloc, &more, 0)?;
     let mut out = Vec::new(alloc);
-    record.copy()?.put(&mut out)?;
+    record.put(&mut out)?;
     Ok(
         place == text.len()
             && record.len() == text.len()

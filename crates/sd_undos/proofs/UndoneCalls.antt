@@ -1,11 +1,8 @@
 -- What an undo does to a page's slots, what it says in its record, and what the complex is then: for the call `undo`.
 use Rattle.std.proofs.Common.{◌≡◌, ℕ, zero, suc, ◌-◌, ◌<◌, ◌≤◌, true, List, [], ◌∷◌, get_or, length, refl, sym, ap, ap₂, ◌∙◌, subst, arith}
-use Rattle.std.specs.Prelude.{Option, None, Some, option_and_then, option_map, unwrap_or}
-use Rattle.std.specs.Box.{box_value}
-use Rattle.std.specs.Global.{Box}
+use Rattle.std.specs.Prelude.{Option, None, Some, option_and_then, unwrap_or}
 use Rattle.std.specs.List.{IsDistinct}
 use Rattle.std.specs.Option.{option_map_or}
-use Rattle.std.proofs.Math.ListN.{get_or-map}
 use Rattle.sd_base.specs.Ids.{same_txn}
 use Rattle.sd_base.specs.Values.{size}
 use Rattle.sd_base.specs.declared.ids.TxnId.{TxnId}
@@ -17,7 +14,7 @@ use Rattle.sd_log.specs.Logs.{AreSpelled, LogState, scanned}
 use Rattle.sd_model.specs.Changes.{undid}
 use Rattle.sd_model.specs.State.{State}
 use Rattle.sd_page.specs.Page.{CanTake, Page, Slot, capacity_for, written}
-use Rattle.sd_pagelock.specs.Directory.{DirectoryState, entry_at, moving_image_at}
+use Rattle.sd_pagelock.specs.Directory.{DirectoryState, entry_at}
 use Rattle.sd_places.specs.Places.{owns}
 use Rattle.sd_pool.specs.Buffers as buffers
 use Rattle.sd_pool.specs.Buffers.{Buffers}
@@ -29,7 +26,6 @@ use Rattle.sd_chain.specs.Pages.{FitsUndo, capacity, write}
 use Rattle.sd_chain.specs.Records.{Val, home}
 use Rattle.sd_chain.proofs.Slots.{capacity-at}
 use Rattle.sd_sound.specs.Logs.{Outcomes}
-use Rattle.sd_state.specs.Complexes.{unboxed}
 use Rattle.sd_state.specs.Good.{Good}
 use Rattle.sd_state.specs.Parts.{Parts, log_at, no_log, no_pool, no_txns, pool_at, status_at, txns_at}
 use Rattle.sd_undos.specs.Undoing.{CanUndo, FindsTop, HasUndone, IsUndone, MayUndo, RollsTo, clr_at, lsn_for, with_undone_by}

@@ -29,7 +29,7 @@ use Rattle.sd_chain.specs.Bytes.{disk_page}
 use Rattle.sd_chain.specs.Cuts.{cut}
 use Rattle.sd_chain.specs.Fates.{Fate, commits, fate}
 use Rattle.sd_chain.specs.Storage.{Recovered}
-use Rattle.sd_chain.specs.Images.{Gives, Grows, Keeps, all_kept, log, with_disk}
+use Rattle.sd_chain.specs.Images.{Gives, Grows, Keeps, log, with_disk}
 use Rattle.sd_chain.specs.Images as images
 use Rattle.sd_chain.specs.Order.{MayFollow, UndoesTop}
 use Rattle.sd_chain.specs.Records.{Each, IsOpen, home, rest, stack}

@@ -1,5 +1,5 @@
 -- What an undo makes of a transaction's row, its marks and its live puts: for the law `undo`.
-use Rattle.std.proofs.Common.{◌≡◌, ⊎_elim, ap₂, eqb, eqb-true, ℕ, ◌≤◌, Bool, true, false, cond, leb, List, [], ◌∷◌, ◌++◌, filter, map, refl, sym, ap, ◌∙◌, subst, arith}
+use Rattle.std.proofs.Common.{◌≡◌, ⊎_elim, ℕ, ◌≤◌, Bool, true, false, cond, leb, List, [], ◌∷◌, ◌++◌, filter, map, refl, sym, ap, ◌∙◌, subst, arith}
 use Rattle.std.specs.Prelude.{Option, None, Some, is_some, ◌||◌}
 use Rattle.std.specs.List.{AllByRecursion, list_any}
 use Rattle.std.specs.Map.{lookup}
@@ -14,7 +14,6 @@ use Rattle.sd_model.specs.declared.act.Act.{Act}
 use Rattle.sd_model.proofs.Acts.{live_from-append}
 use Rattle.sd_txn.specs.Marked.{AreRising}
 use Rattle.sd_txn.specs.declared.state.OpenRec.{OpenRec}
-use Rattle.sd_chain.proofs.Whose.{both}
 use Rattle.sd_chain.specs.Order.{Sofar, advance, after_all, none_yet, of_txn, span_from, span_of, spanned}
 use Rattle.sd_state.specs.Tables.{NamedOnce}
 use Rattle.sd_state.specs.Values.{open_of}

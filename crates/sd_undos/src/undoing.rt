@@ -5,9 +5,9 @@ ghost use Rattle.std.specs.Option.{option_map_or};
 ghost use Rattle.sd_base.specs.Values.{size};
 ghost use Rattle.sd_base.specs.declared.place.Status.TheVariants as S;
 ghost use Rattle.sd_logrec.specs.Spelling.{HasSpelling, spelling};
-ghost use Rattle.sd_logrec.specs.View.{flat};
+ghost use Rattle.sd_logrec.specs.View.{flat, is_closing};
 ghost use Rattle.sd_logrec.specs.declared.record.Record.TheVariants as records;
-ghost use Rattle.sd_log.specs.Logs.{is_reserved, needed, with_record};
+ghost use Rattle.sd_log.specs.Logs.{needed, with_record};
 ghost use Rattle.sd_model.specs.Changes.{undid};
 ghost use Rattle.sd_model.specs.State.{State};
 ghost use Rattle.sd_page.specs.Page.{CanTake, Page, after_of, applied};
@@ -172,7 +172,7 @@ fn rewrite(pool: &mut Pool, page: PageNo, op: &Op, lsn: Lsn)
 // Puts a record for which bytes and memory are reserved at the end of the log.
 fn append_clr(log: &mut Log, clr: Record)
     requires spelled { HasSpelling clr }
-    requires reserved { is_reserved clr ≡ true }
+    requires reserved { is_closing clr ≡ true }
     requires room { needed log.old (length (spelling clr)) 0 ≤ 1048576 }
     requires memory { length (spelling clr) ≤ log.old.spare }
     ensures grown { log.new ≡ with_record clr log.new.spare log.old }

@@ -5,9 +5,9 @@ use Rattle.sd_changes.proofs.ChangeCalls.{value-small}
 use Rattle.sd_changes.proofs.changing.before_len.Goals as goal
 
 pub returns-clause-value : goal.returns-clause-value
-returns-clause-value c = c.len_of.ensures ∙ ap size (c.value.ensures ∙ value-at c.args.image.now.slots c.args.slot)
+returns-clause-value c = c.lent_len.ensures.value ∙ ap size (c.value.ensures ∙ value-at c.args.image.now.slots c.args.slot)
 
 pub returns-clause-small : goal.returns-clause-small
 returns-clause-small c = subst (λ (n : ℕ). n ≤ 256)
-    (sym (c.len_of.ensures ∙ ap size (c.value.ensures ∙ value-at c.args.image.now.slots c.args.slot)))
+    (sym (c.lent_len.ensures.value ∙ ap size (c.value.ensures ∙ value-at c.args.image.now.slots c.args.slot)))
     (value-small c.args.image.now c.args.slot c.bytes-image.ensures.fits)

@@ -2,7 +2,7 @@ use Rattle.std.proofs.Common.{◌≡◌, inl, inr, ◌-◌, ◌∙◌, false, tr
 use Rattle.std.proofs.lemmas.Result.{err_from_is_err_and}
 use Rattle.sd_logrec.specs.Spelling.{spelling}
 use Rattle.sd_log.specs.Logs.{LogState, with_record}
-use Rattle.sd_log.proofs.Tails.{reserved_spelling}
+use Rattle.sd_log.proofs.Tails.{closing_spelling}
 use Rattle.sd_log.proofs.log.Log.append.Goals as goal
 
 never : false ≡ true → ⊥
@@ -13,7 +13,7 @@ returns-in_err-put-clause-there c reserved small =
     let kept : c.spare_after-kept.result ≡ c.self.inside.spare - c.len-len.result = rw reserved at c.spare_after-kept.ensures in
     let spare : c.self.inside.spare ≡ c.args.self.now.spare = ap (λ (s : LogState). s.spare) c.self.view_is in
     let len : c.len-len.result ≡ length (spelling c.args.r.now) = c.len-len.ensures in
-    absurd (never (c.in_err-put.ensures.there (omega (arith, reserved_spelling c.args.r.now reserved))))
+    absurd (never (c.in_err-put.ensures.there (omega (arith, closing_spelling c.args.r.now reserved))))
 
 pub put-requires-clause-fits : goal.put-requires-clause-fits
 put-requires-clause-fits c = c.requires

@@ -9,7 +9,7 @@ use Rattle.sd_log.specs.Parts.{IsParted, groups_of, items_of, record_of, tail_of
 use Rattle.sd_log.specs.Spellings.{record_in}
 use Rattle.sd_log.proofs.WrittenItems.{all_are_forced, all_in_groups, read_items, records_of-entries}
 use Rattle.sd_log.proofs.written.Written.of.Goals as goal
-use Rattle.sd_log.proofs.written.Written.of.Goals.{After-deref, After-drop-placed-2, In_ok-records}
+use Rattle.sd_log.proofs.written.Written.of.Goals.{After-deref, In_ok-records}
 
 none_left : (c : After-deref) → tail_of c.into_parts-marks.result.0 c.into_parts-marks.result.1.items ≡ []
 none_left c = c.into_parts-marks.ensures.tail ∙ c.requires.none
@@ -19,13 +19,14 @@ all_placed c =
     all_in_groups c.into_parts-marks.result.0 c.into_parts-marks.result.1.items c.into_parts-marks.ensures.parted (none_left c)
     ∙ ap placed_groups c.into_parts-marks.ensures.groups
 
-pub spellings_of-requires-clause-spelled : goal.spellings_of-requires-clause-spelled
-spellings_of-requires-clause-spelled c = subst AreSpelled (sym (c.deref.ensures.value ∙ all_placed c)) c.requires.spelled
+pub of-requires-clause-spelled : goal.of-requires-clause-spelled
+of-requires-clause-spelled c = subst AreSpelled (sym (c.deref.ensures.value ∙ all_placed c)) c.requires.spelled
 
-pub spellings_of-requires-clause-small : goal.spellings_of-requires-clause-small
-spellings_of-requires-clause-small c =
-    let same = ap (λ (ps : List Placed). length (spelled (map record_of ps))) (c.deref.ensures.value ∙ all_placed c) in
-    omega (arith, same, c.requires.within, c.requires.gate)
+pub of-requires-clause-text : goal.of-requires-clause-text
+of-requires-clause-text c = c.requires.text ∙ sym (ap (λ (ps : List Placed). spelled (map record_of ps)) (c.deref.ensures.value ∙ all_placed c))
+
+pub of-requires-clause-small : goal.of-requires-clause-small
+of-requires-clause-small c = omega (arith, ap length c.requires.text, c.requires.within, c.requires.gate)
 
 items_are : (c : In_ok-records) → items_of c.into_parts-marks.result.0.forced c.in_ok-records.records.entries ≡ c.into_parts-marks.result.1.items
 items_are c =
