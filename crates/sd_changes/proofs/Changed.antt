@@ -733,7 +733,7 @@ module _ (i : ℕ) (k : Change) (x : Transaction) (image : Page) (spare great : 
 
   checking-there : (q : ℕ) (b : Begun) → check_at c q ≡ Some b → IsChecking new q b
   checking-there q b is = let old = g.checking q b is in record {
-    up = old.up;
+    takes = old.takes;
     low = old.low;
     begun = ⊎_elim
         (λ e. let own = subst (λ (n : ℕ). b.begin ≤ last_lsn (scanned (log_at c n))) e old.begun in

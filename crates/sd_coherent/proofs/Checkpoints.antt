@@ -84,7 +84,7 @@ may-shorten may low i gone b d new c cov closed l = record {
     shut = Each-both (λ x. x.lsn < low) (λ x. x.lsn < low → Shut (gone ++ new.base i) x) (Shut (gone ++ new.base i))
         (λ x lt f. f lt) gone l.below
         (front (λ x. x.lsn < low → Shut (gone ++ new.base i) x)
-        (subst (λ (f : List Rec). Each (λ x. x.lsn < low → Shut f x) (log b.tails i)) l.here closed))
+        (subst (λ (f : List Rec). Each (λ x. x.lsn < low → Shut f x) (log b.tails i)) whole closed))
 
     order : (t : TxnId) → Tidy t (gone ++ new.base i)
     order t = subst (Tidy t) (append-nil (b.tails.base i) ∙ l.here) (c.safe.order (λ j. false) i t)

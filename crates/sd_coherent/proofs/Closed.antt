@@ -1,48 +1,50 @@
 -- What a checkpoint has of transactions: records before the later start place are of closed ones. It serves the laws on
 -- checkpoints.
-use Rattle.std.proofs.Common.{◌≡◌, ◌⊎◌, inl, inr, ⊎_elim, ℕ, ◌<◌, ◌≤◌, Bool, true, false, cond, ◌&&◌, List, [], ◌∷◌, ◌++◌, sym, ap, ap₂, ◌∙◌, subst, arith}
+use Rattle.std.proofs.Common.{◌≡◌, ◌⊎◌, inl, inr, ⊎_elim, ℕ, ◌<◌, ◌≤◌, Bool, true, false, cond, ◌&&◌, List, [], ◌∷◌, ◌++◌, sym, ap, ap₂, ◌∙◌, subst, arith, append-nil}
 use Rattle.std.proofs.lemmas.Bool.{cases_Bool, cases_eq}
 use Rattle.sd_base.specs.declared.ids.TxnId.{TxnId}
 use Rattle.sd_base.specs.Ids.{same_txn}
 use Rattle.sd_logrec.specs.View.{Rec}
 use Rattle.sd_chain.specs.Records.{Each, IsOpen, ends, step}
 use Rattle.sd_chain.specs.Order.{InOrder, Sofar, Tidy, advance, none_yet, of_txn, speaks}
-use Rattle.sd_chain.specs.Images.{log}
+use Rattle.sd_chain.specs.Images.{Tails, log}
 use Rattle.sd_chain.proofs.Lists.{Each-append, Each-back, Each-front, Each-weaker}
 use Rattle.sd_chain.proofs.Whose.{both, ends-off, own_is}
 use Rattle.sd_places.proofs.Members.{not_both}
-use Rattle.sd_coherent.specs.Checkpoints.{CloseBegins, CloseGrows, CloseSettles, CloseStays, Shut}
+use Rattle.sd_coherent.specs.Checkpoints.{CloseBegins, CloseGrows, CloseSettles, CloseStays, Closed, Shut}
 use Rattle.sd_coherent.proofs.Changes.{log_here}
-use Rattle.sd_coherent.proofs.Versions.{Each-settled}
 
 pub close-begins : CloseBegins
-close-begins low i tails = Each-weaker (λ x. speaks x.kind ≡ true → IsOpen x.txn (tails.base i) → low ≤ x.lsn)
-    (λ x. x.lsn < low → Shut (tails.base i) x)
+close-begins low i tails = Each-weaker (λ x. speaks x.kind ≡ true → IsOpen x.txn (log tails i) → low ≤ x.lsn)
+    (λ x. x.lsn < low → Shut (log tails i) x)
     (λ x f lt s o. let le = f s o in absurd (omega (arith, le, lt))) (log tails i)
+
+-- more records close more
+shut_still : (records more : List Rec) (x : Rec) → Shut records x → Shut (records ++ more) x
+shut_still records more x f s o = f s (Each-front (λ z. (ends z.kind && same_txn z.txn x.txn) ≡ false) records more o)
 
 pub close-grows : CloseGrows
 close-grows low i y old new g le c =
-    subst (λ (f : List Rec). Each (λ x. x.lsn < low → Shut f x) (log new i)) (sym (g.base i))
-    (subst (Each (λ x. x.lsn < low → Shut (old.base i) x)) (sym (log_here i y old new g))
-    (Each-append (λ x. x.lsn < low → Shut (old.base i) x) (log old i) (y ∷ []) c ((λ lt. absurd (omega (arith, le, lt))), tt)))
+    subst (λ (f : List Rec). Each (λ x. x.lsn < low → Shut f x) f) (sym (log_here i y old new g))
+    (Each-append (λ x. x.lsn < low → Shut (log old i ++ y ∷ []) x) (log old i) (y ∷ [])
+    (Each-weaker (λ x. x.lsn < low → Shut (log old i) x) (λ x. x.lsn < low → Shut (log old i ++ y ∷ []) x)
+    (λ x f lt. shut_still (log old i) (y ∷ []) x (f lt)) (log old i) c)
+    ((λ lt. absurd (omega (arith, le, lt))), tt))
 
--- more forced records close more
-shut_still : (forced more : List Rec) (x : Rec) → Shut forced x → Shut (forced ++ more) x
-shut_still forced more x f s o = f s (Each-front (λ z. (ends z.kind && same_txn z.txn x.txn) ≡ false) forced more o)
+same_log : (low i : ℕ) (old new : Tails) → log new i ≡ log old i → Closed low i old → Closed low i new
+same_log low i old new same c = subst (λ (f : List Rec). Each (λ x. x.lsn < low → Shut f x) f) (sym same) c
 
 pub close-settles : CloseSettles
-close-settles low i j kept old new s c = Each-settled (λ x. x.lsn < low → Shut (new.base i) x) j kept old new s i
-    (Each-weaker (λ x. x.lsn < low → Shut (old.base i) x) (λ x. x.lsn < low → Shut (new.base i) x)
-    (λ x f lt. ⊎_elim
-    (λ e. subst (λ (k : ℕ). Shut (new.base k) x) (sym e) (subst (λ (l : List Rec). Shut l x) (sym s.base)
-    (shut_still (old.base j) (cond kept (old.tail j) []) x (subst (λ (k : ℕ). Shut (old.base k) x) e (f lt)))))
-    (λ ne. subst (λ (l : List Rec). Shut l x) (sym (s.other_bases i ne)) (f lt))
-    (cases_eq i j)) (log old i) c)
+close-settles low i j kept old new s whole = same_log low i old new (⊎_elim
+    (λ e. let all : cond {A = List Rec} kept (old.tail j) [] ≡ old.tail j = ap (λ (b : Bool). cond {A = List Rec} b (old.tail j) []) (whole e) in
+    subst (λ (k : ℕ). log new k ≡ log old k) (sym e)
+    (ap₂ (λ (x z : List Rec). x ++ z) s.base s.tail ∙ append-nil (old.base j ++ cond {A = List Rec} kept (old.tail j) [])
+    ∙ ap (λ (z : List Rec). old.base j ++ z) all))
+    (λ ne. ap₂ (λ (x z : List Rec). x ++ z) (s.other_bases i ne) (s.other_tails i ne))
+    (cases_eq i j))
 
 pub close-stays : CloseStays
-close-stays low i old new base tail c =
-    subst (λ (l : List Rec). Each (λ x. x.lsn < low → Shut l x) (log new i)) (sym base)
-    (subst (Each (λ x. x.lsn < low → Shut (old.base i) x)) (sym (ap₂ (λ (x z : List Rec). x ++ z) base tail)) c)
+close-stays low i old new base tail c = same_log low i old new (ap₂ (λ (x z : List Rec). x ++ z) base tail) c
 
 -- is it open
 open_or : (t : TxnId) (xs : List Rec) → IsOpen t xs ⊎ (IsOpen t xs → ⊥)

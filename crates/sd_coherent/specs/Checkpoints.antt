@@ -17,13 +17,13 @@ OnDisk low p x r = of_page p r ≡ true → r.lsn < low → r.lsn ≤ x.lsn
 abbrev pub Covered : {may : May} → ℕ → ℕ → Base may → Type 0
 Covered {may} low i b = (p : ℕ) (x : Page) → may p x → Each (OnDisk low p x) (log b.tails i)
 
--- The record is of no transaction, or of one that these forced records close.
+-- The record is of no transaction, or of one that these records close.
 abbrev pub Shut : List Rec → Rec → Type 0
-Shut forced x = speaks x.kind ≡ true → IsOpen x.txn forced → ⊥
+Shut records x = speaks x.kind ≡ true → IsOpen x.txn records → ⊥
 
 -- So is each record of log i below low.
 abbrev pub Closed : ℕ → ℕ → Tails → Type 0
-Closed low i tails = Each (λ x. x.lsn < low → Shut (tails.base i) x) (log tails i)
+Closed low i tails = Each (λ x. x.lsn < low → Shut (log tails i) x) (log tails i)
 
 -- Log i is read from a later place.
 abbrev pub with_tails : {may : May} → Tails → Base may → Base may
@@ -78,16 +78,16 @@ CoverStays may may' = (low i : ℕ) (b : Base may) (b' : Base may') → log b'.t
 
 -- A low that is at most the LSN of each record of a transaction that isn't closed begins it.
 abbrev pub CloseBegins : Type 0
-CloseBegins = (low i : ℕ) (tails : Tails) → Each (λ x. speaks x.kind ≡ true → IsOpen x.txn (tails.base i) → low ≤ x.lsn) (log tails i)
+CloseBegins = (low i : ℕ) (tails : Tails) → Each (λ x. speaks x.kind ≡ true → IsOpen x.txn (log tails i) → low ≤ x.lsn) (log tails i)
     → Closed low i tails
 
 -- A record that comes to log i isn't below low.
 abbrev pub CloseGrows : Type 0
 CloseGrows = (low i : ℕ) (y : Rec) (old new : Tails) → Grows i y old new → low ≤ y.lsn → Closed low i old → Closed low i new
 
--- Any log is settled: forced records close more transactions then.
+-- Any log is settled, this one with its tail.
 abbrev pub CloseSettles : Type 0
-CloseSettles = (low i j : ℕ) (kept : Bool) (old new : Tails) → Settled j kept old new → Closed low i old → Closed low i new
+CloseSettles = (low i j : ℕ) (kept : Bool) (old new : Tails) → Settled j kept old new → (i ≡ j → kept ≡ true) → Closed low i old → Closed low i new
 
 -- All else leaves log i as it is.
 abbrev pub CloseStays : Type 0

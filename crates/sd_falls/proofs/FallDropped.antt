@@ -43,7 +43,7 @@ use Rattle.sd_sound.specs.Logs.{Logs, Outcomes, all_at, base_at, eight, kept_log
 use Rattle.sd_sound.specs.Soundly.{IsReady, LogIsSound, LsnsFit}
 use Rattle.sd_state.specs.Good.{Good, Half, IsInstance, IsOfBegun, IsSettledAt, IsTold, OwesAtMost, base_of, dir_of}
 use Rattle.sd_state.specs.Images.{IsClaimed, IsEpochOf, IsOpenIn, begun_at, leaves_by, log_by}
-use Rattle.sd_state.specs.Parts.{Parts, active_as, count_at, epoch_at, is_active, is_loose, log_at, no_log, other_at, owed_at, status_at, txns_at}
+use Rattle.sd_state.specs.Parts.{Begun, Parts, active_as, check_at, count_at, epoch_at, is_active, is_loose, log_at, no_log, other_at, owed_at, status_at, txns_at}
 use Rattle.sd_state.specs.Tables.{GoesOn, NamesLife, RowIsLive, RowIsLogged, StandsAs, tells_log}
 use Rattle.sd_state.specs.Values.{Pending, rid_of, values}
 use Rattle.sd_state.proofs.Items.{item-kept, item-set}
@@ -101,7 +101,8 @@ module _ (i : ℕ) (logs logs' : Logs) (here : logs' i ≡ without_tail (logs i)
 module _ (i owes : ℕ) (seen : rig.DeviceImages) (leaves : Outcomes) (logs logs' : Logs) (c : Parts) (m : State)
     (low : 1 ≤ i) (high : i ≤ 8) (h : Half seen leaves logs Pending.Idle c m) (was_loose : is_loose c i ≡ true) (idle : c.due ≡ None)
     (marks : length c.loose ≡ 9) (stands : (bytes : List ℕ) → leaves i bytes → StandsOn (logs i) bytes)
-    (here : logs' i ≡ without_tail (logs i)) (elsewhere : (j : ℕ) → j ≢ i → logs' j ≡ logs j) where
+    (here : logs' i ≡ without_tail (logs i)) (elsewhere : (j : ℕ) → j ≢ i → logs' j ≡ logs j)
+    (unchecked : (b : Begun) → check_at c i ≡ Some b → ⊥) where
   abbrev new : Parts
   new = with_dropped i owes c
 
@@ -209,7 +210,8 @@ module _ (i owes : ℕ) (seen : rig.DeviceImages) (leaves : Outcomes) (logs logs
     epochs = epochs;
     checks = λ k b is. let old = h.checks k b is in (
       cover-settles (may_of leaves) (may_of leaves) b.low k i false old_base (base_of seen leaves logs' new) settles (λ p x may. may) old.0,
-      close-settles b.low k i false (tails_of logs) (tails_of logs') settles old.1,
+      close-settles b.low k i false (tails_of logs) (tails_of logs') settles
+          (λ e. absurd (unchecked b (subst (λ (n : ℕ). check_at c n ≡ Some b) e is))) old.1,
     );
   }
 
@@ -267,7 +269,8 @@ module _ (i owes : ℕ) (seen : rig.DeviceImages) (leaves : Outcomes) (c : Parts
       g.shape.loose
       (λ bytes left. subst (λ (l : LogState). StandsOn l bytes) (sym (one-place c moved i one))
       (subst (StandsOn (log_at c i)) (sym ((only bytes).0 left.0)) stands))
-      (by-here moved) (by-else moved))
+      (by-here moved) (by-else moved)
+      (λ b is. ⊎_elim (λ up. let clash = sym down ∙ up in absurd (cc)) (λ re. let clash = sym down ∙ re in absurd (cc)) (g.checking i b is).takes))
     where
       leaves-same : leaves_by c moved leaves ≡ leaves_by dropped moved leaves
       leaves-same = ap (λ (starts : ℕ → ℕ). λ (d : ℕ) (bytes : List ℕ). leaves d bytes × IfSome (other_at c d)
@@ -404,8 +407,9 @@ module _ (i owes : ℕ) (seen : rig.DeviceImages) (leaves : Outcomes) (c : Parts
     locks = g.locks;
     asks = g.asks;
     checking = λ k b is. let old = g.checking k b is in record {
-      up = old.up;
+      takes = old.takes;
       low = old.low;
-      begun = subst (λ (l : LogState). b.begin ≤ last_lsn (scanned l)) (sym (log-else k (up-other k old.up))) old.begun;
+      begun = subst (λ (l : LogState). b.begin ≤ last_lsn (scanned l)) (sym (log-else k (⊎_elim (λ up. up-other k up)
+          (λ re e. let clash = sym down ∙ ap (status_at c) (sym e) ∙ re in absurd (cc)) old.takes))) old.begun;
     };
   }

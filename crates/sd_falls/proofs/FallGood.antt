@@ -37,7 +37,7 @@ use Rattle.sd_coherent.proofs.Changes.{rest-keeps}
 use Rattle.sd_coherent.proofs.Falls.{fall-keeps}
 use Rattle.sd_sound.specs.Logs.{Outcomes, all_at, base_at, kept_logs, may_of, tails_of}
 use Rattle.sd_state.specs.Forcing.{owed_either}
-use Rattle.sd_state.specs.Good.{Good, Half, IsInstance, IsOfBegun, IsTold, OwesAtMost, base_of, dir_of, NoneIsFound}
+use Rattle.sd_state.specs.Good.{Good, Half, IsInstance, IsOfBegun, IsTold, OwesAtMost, TakesCheck, base_of, dir_of, NoneIsFound}
 use Rattle.sd_state.specs.Images.{IsEpochOf, leaves_by, log_by}
 use Rattle.sd_state.specs.Parts.{Begun, Parts, active_as, check_at, is_active, is_loose, is_up, log_at, no_pool, no_txns, owed_at, pool_at, status_at, txns_at, up_as, other_at}
 use Rattle.sd_state.specs.Tables.{GoesOn, NamedOnce, NamesLife, RowIsLive, RowIsLogged, lock_of, tells_log}
@@ -125,6 +125,11 @@ module _ (i : ℕ) (table : Transactions) (n c : Parts) (seen : rig.DeviceImages
   up-still : (j : ℕ) → j ≢ i → status_at c j ≡ S.Up → status_at new j ≡ S.Up
   up-still j ne up = status-still j (ap (λ (s : Status). falls_with i j s) up
       ∙ ap (λ (b : Bool). cond b true false) (ne_eqb i j (λ e. ne (sym e)))) ∙ up
+
+  takes-still : (j : ℕ) → j ≢ i → TakesCheck (status_at c j) → TakesCheck (status_at new j)
+  takes-still j ne = ⊎_elim (λ up. inl (up-still j ne up))
+      (λ re. inr (status-still j (ap (λ (s : Status). falls_with i j s) re
+      ∙ ap (λ (b : Bool). cond b true false) (ne_eqb i j (λ e. ne (sym e)))) ∙ re))
 
   -- whoever is found committed was
   none-found : (j place : ℕ) → 1 ≤ j → j ≤ 8 → other_at c j ≡ Some place → NoneIsFound new j
@@ -363,5 +368,5 @@ module _ (i : ℕ) (table : Transactions) (n c : Parts) (seen : rig.DeviceImages
     locks = λ t r. f.locks t r ∙ g.locks t r ∙ sym (ap (λ (q : Claims). lock_of (q r)) (s.claims t));
     asks = asks-there;
     checking = λ k b is. let w = check-there k b is in let was = g.checking k b w.1 in
-        record { up = up-still k w.0 was.up; low = was.low; begun = was.begun };
+        record { takes = takes-still k w.0 was.takes; low = was.low; begun = was.begun };
   }

@@ -239,5 +239,5 @@ module _ (t : TxnId) (x : Transaction) (committed : Bool) (table : Transactions)
     locks = g.locks;
     gone = g.gone;
     asks = g.asks;
-    checking = λ k b is. let old = g.checking k b is in record { up = old.up; low = old.low; begun = old.begun };
+    checking = λ k b is. let old = g.checking k b is in record { takes = old.takes; low = old.low; begun = old.begun };
   }

@@ -502,7 +502,10 @@ module _ (i : ℕ) (locks : LockTable) (seen : rig.DeviceImages) (leaves : Outco
     asks = λ p. Each-weaker _ _ (λ ask a. (still-active ask.by a.0, a.1)) (asks_at c.directory p) (g.asks p);
     checking = λ k b is. let old = g.checking k b is in
         record {
-          up = status-else k (λ e. let clash = sym may.recovering ∙ ap (status_at c) (sym e) ∙ old.up in absurd (cc)) ∙ old.up;
+          takes = ⊎_elim
+              (λ up. inl (status-else k (λ e. let clash = sym may.recovering ∙ ap (status_at c) (sym e) ∙ up in absurd (cc)) ∙ up))
+              (λ re. inr (status-else k (λ e. let clash = sym may.recovering ∙ ap (status_at c) (sym e) ∙ re in absurd (cc)) ∙ re))
+              old.takes;
           low = old.low;
           begun = old.begun;
         };

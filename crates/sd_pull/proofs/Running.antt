@@ -1,7 +1,16 @@
 -- A run goes on by one call of the hall: one that is noted, and one that found no memory. It serves whoever drives the hall.
-use Rattle.std.proofs.Common.{◌≡◌, ◌⊎◌, true, ⊎_elim, ℕ, ◌+◌, ◌≤◌, List, [], ◌∷◌, ◌++◌, refl, sym, ◌∙◌, subst, append_assoc, append-nil, ap, arith, inl}
+use Rattle.sd_page.specs.Page.{Page}
+use Rattle.std.proofs.Common.{◌≡◌, ◌⊎◌, true, false, ⊎_elim, ℕ, ◌+◌, ◌≤◌, List, [], ◌∷◌, ◌++◌, refl, sym, ◌∙◌, subst, append_assoc, append-nil, ap, arith, inl, inr}
 use Rattle.std.specs.Prelude.{None, min}
 use Rattle.sd_base.specs.Streams.{Rises}
+use Rattle.sd_base.specs.declared.place.Status.TheVariants as S
+use Rattle.sd_chain.specs.Bytes.{disk_page}
+use Rattle.sd_pagelock.specs.Directory.{entry_at}
+use Rattle.sd_places.specs.Places.{PageEntry, changed, is_lost}
+use Rattle.sd_sound.specs.Logs.{Outcomes}
+use Rattle.sd_state.specs.Parts.{Parts}
+use Rattle.sd_fits.specs.Fits.{Fits}
+use Rattle.sd_world.specs.Pages.{Pages}
 use Rattle.sd_base.specs.declared.refusal.Refusal.TheVariants as R
 use Rattle.sd_rig.specs.Devices.{DeviceImages, Leaves}
 use Rattle.sd_rig.specs.Spans.{span-then, span-weaker, elapses-then}
@@ -13,12 +22,13 @@ use Rattle.sd_model.specs.declared.event.Reply.TheVariants.{Refused}
 use Rattle.sd_world.specs.Leading.{Leads}
 use Rattle.sd_world.specs.Serving.{Core, FaultsAre, FewFaults, KeepsEarlier, Passes, Telling}
 use Rattle.sd_state.specs.Complexes.{parts}
+use Rattle.sd_model.specs.State.{State}
 use Rattle.sd_fits.specs.Serving.{stands_for}
 use Rattle.sd_fits.proofs.Served.{fits-left}
 use Rattle.sd_fits.specs.Bodies.{ServingHall, fits_body, rig_of}
 use Rattle.sd_fits.specs.declared.body.Body.{Body}
 use Rattle.sd_pull.specs.Driving.{Advances, Drives, World}
-use Rattle.sd_pull.specs.Running.{AllStand, Breaks, FaultsOf, Led, Ran, RunsOn, StandsOnWay, Start}
+use Rattle.sd_pull.specs.Running.{AllStand, Breaks, FaultsOf, Goes, Led, Ran, Rests, RunsOn, ServesEntry, StandsOnWay, Start}
 
 -- ---- runs put together
 
@@ -89,6 +99,79 @@ way-ends start last es img d s = record {
   stands = s;
 }
 
+-- ---- devices that went on
+
+module _ {G : Type 0} (tell : Telling G) where
+  -- devices that stood for the same state, and then passed to another one's
+  rests-pass : (a b c : G) (m m' : State) → KeepsEarlier tell c → Passes tell stands_for a b m m → Passes tell stands_for b c m m'
+      → Passes tell stands_for a c m m'
+  rests-pass a b c m m' earlier p q = record {
+    time = elapses-then (tell.moment a) (tell.moment b) (tell.moment c) (tell.since a) (tell.since b) (tell.since c) earlier p.time q.time;
+    span = record {
+      each = λ img s. ⊎_elim (λ before. inl (⊎_elim (λ x. x) (λ x. x) (p.span.each img before))) (λ behind. q.span.each img behind)
+          (q.time.splits (tell.moment a) img p.time.later s);
+    };
+  }
+
+  goes-rest : (es : List Entry) (w w' : World) (rig a b : G) → KeepsEarlier tell b → Goes tell w rig es w' a → Rests tell a b w'
+      → Goes tell w rig es w' b
+  goes-rest [] w w' rig a b earlier g r = (g.0, inr (⊎_elim
+      (λ same. subst (λ (d : G). Rests tell d b w) same (subst (λ (v : World). Rests tell a b v) (sym g.0) r))
+      (λ before. let here : Rests tell a b w = subst (λ (v : World). Rests tell a b v) (sym g.0) r in record {
+        passes = rests-pass rig a b w.core.scene.state w.core.scene.state earlier before.passes here.passes;
+        quiet = here.quiet ∙ before.quiet;
+      })
+      g.1))
+  goes-rest (e ∷ es) w w' rig a b earlier g r = (g.0, g.1, g.2, g.3, goes-rest es g.0 w' g.1 a b earlier g.4 r)
+
+  goes-grow : (es : List Entry) (e : Entry) (w w' next : World) (rig a b : G) → KeepsEarlier tell b → Goes tell w rig es w' a
+      → Advances w' e next → ServesEntry tell e a b w' next → Goes tell w rig (es ++ e ∷ []) next b
+  goes-grow [] e w w' next rig a b earlier g adv s =
+      let on : Advances w e next = subst (λ (v : World). Advances v e next) (sym g.0) adv in
+      let here : ServesEntry tell e a b w next = subst (λ (v : World). ServesEntry tell e a b v next) (sym g.0) s in
+      (next, b, on, ⊎_elim
+      (λ same. subst (λ (d : G). ServesEntry tell e d b w next) same here)
+      (λ before. record {
+        passes = rests-pass rig a b w.core.scene.state next.core.scene.state earlier before.passes here.passes;
+        told = subst (λ (n : ℕ). FaultsAre e.event e.reply n (tell.faults b)) before.quiet here.told;
+        left = here.left;
+        clean = here.clean;
+      })
+      g.1, (refl, inl refl))
+  goes-grow (x ∷ es) e w w' next rig a b earlier g adv s =
+      (g.0, g.1, g.2, g.3, goes-grow es e g.0 w' next g.1 a b earlier g.4 adv s)
+
+-- a complex that fits a world, open or closed: whatever a crash may leave of its devices stands for its state
+pub body-stands : {G : Type 0} (tell : Telling G) (body : Body G) (core : Core) → fits_body tell.seen tell.leaves body core
+    → (img : DeviceImages) → Leaves (tell.leaves (rig_of body)) img → stands_for img core.scene.state
+body-stands tell (Body.Open c) core f img left = fits-left (tell.seen c.rig) (tell.leaves c.rig) (parts c) core f img left
+body-stands tell (Body.Closed rig shape) core f img left = f.fits.stands img left
+
+-- what is clean isn't lost
+clean-there : (e : PageEntry) → changed e ≡ false → is_lost e ≡ false
+clean-there PageEntry.Free clean = refl
+clean-there (PageEntry.Shared set writer) clean = refl
+clean-there (PageEntry.Excl holder dirty) clean = refl
+clean-there (PageEntry.Moving to mode rest dirty) clean = refl
+clean-there PageEntry.Lost clean = absurd (cc)
+
+-- a clean page is on the data device
+clean-left : (seen : DeviceImages) (leaves : Outcomes) (c : Parts) (w : Core) → Fits seen leaves c w → (p : ℕ)
+    → changed (w.pages.entry p) ≡ false → (bytes : List ℕ) → leaves 0 bytes → (disk_page bytes p).lsn ≡ w.pages.number p
+clean-left seen leaves c w f p clean bytes left =
+    let half = (f.good.half (λ j. false)).coherent in
+    let here : changed (entry_at c.directory p) ≡ false = subst (λ (e : PageEntry). changed e ≡ false) (f.pages.entry p) clean in
+    ap (λ (x : Page). x.lsn) (half.clean p here (disk_page bytes p) (bytes, (left, tt), refl))
+    ∙ sym (f.pages.number p (clean-there (w.pages.entry p) clean))
+
+-- the same of a body that fits, where its complex is open
+body-clean : {G : Type 0} (tell : Telling G) (body : Body G) (core : Core) → fits_body tell.seen tell.leaves body core
+    → ((core.scene.state.inst 1).status ≡ S.Closed → ⊥) → (p : ℕ) → changed (core.pages.entry p) ≡ false
+    → (bytes : List ℕ) → tell.leaves (rig_of body) 0 bytes → (disk_page bytes p).lsn ≡ core.pages.number p
+body-clean tell (Body.Open c) core f open_ p clean bytes left =
+    clean-left (tell.seen c.rig) (tell.leaves c.rig) (parts c) core f p clean bytes left
+body-clean tell (Body.Closed rig shape) core f open_ p clean bytes left = absurd (open_ (f.fits.closed 1))
+
 -- ---- one call
 
 module _ {G : Type 0} (tell : Telling G) (start : Start G) (entries : List Entry) (w : World) where
@@ -101,13 +184,18 @@ module _ {G : Type 0} (tell : Telling G) (start : Start G) (entries : List Entry
   -- devices that pass from one world's state to the next one's
   pub passes-on : (e : Entry) (a b : G) (w' : World) → KeepsEarlier tell b → Drives start.world entries w → RunsOn tell start a entries w
       → Advances w e w' → Passes tell stands_for a b w.core.scene.state w'.core.scene.state
-      → FaultsAre e.event e.reply (tell.faults a) (tell.faults b) → RunsOn tell start b (entries ++ e ∷ []) w'
-  passes-on e a b w' earlier d r adv p f = record {
+      → FaultsAre e.event e.reply (tell.faults a) (tell.faults b)
+      → ((img : DeviceImages) → Leaves (tell.leaves b) img → stands_for img w'.core.scene.state)
+      → (((w'.core.scene.state.inst 1).status ≡ S.Closed → ⊥) → (p : ℕ) → changed (w'.core.pages.entry p) ≡ false
+      → (bytes : List ℕ) → tell.leaves b 0 bytes → (disk_page bytes p).lsn ≡ w'.core.pages.number p)
+      → RunsOn tell start b (entries ++ e ∷ []) w'
+  passes-on e a b w' earlier d r adv p f left clean = record {
     time = elapses-then (tell.moment old) (tell.moment a) (tell.moment b) (tell.since old) (tell.since a) (tell.since b) earlier r.time p.time;
     moments = span-then (tell.moment old) (tell.moment a) (tell.moment b) (tell.since a) (tell.since b) after r.time.later p.time
         (span-weaker (tell.moment old) (tell.since a) on_way after (λ img s. way-grows start.world w w' entries e img adv s) r.moments)
         (span-weaker (tell.moment a) (tell.since b) (λ img. stands_for img w.core.scene.state ⊎ stands_for img w'.core.scene.state) after one p.span);
     faults = faults-grow entries e (tell.faults old) (tell.faults a) (tell.faults b) r.faults f;
+    goes = goes-grow tell entries e start.world w w' old a b earlier r.goes adv (record { passes = p; told = f; left = left; clean = clean });
   }
     where
       after : DeviceImages → Type 0
@@ -127,7 +215,8 @@ module _ {G : Type 0} (tell : Telling G) (start : Start G) (entries : List Entry
   ran-noted e c c' w' earlier r adv fits passes faults = record {
     drives = drives-grow entries e start.world w w' r.drives adv;
     fits = fits;
-    runs = passes-on e (rig_of c) (rig_of c') w' earlier r.drives r.runs adv passes faults;
+    runs = passes-on e (rig_of c) (rig_of c') w' earlier r.drives r.runs adv passes faults (body-stands tell c' w'.core fits)
+        (body-clean tell c' w'.core fits);
   }
 
   -- The call found no memory.
@@ -148,14 +237,9 @@ module _ {G : Type 0} (tell : Telling G) (start : Start G) (entries : List Entry
               (λ img. stands_for img w.core.scene.state ⊎ stands_for img w.core.scene.state) on_way
               (λ img s. way-ends start.world w entries img r.drives (⊎_elim (λ s. s) (λ s. s) s)) spares.passes.span);
           faults = subst (λ (n : ℕ). FaultsOf entries (tell.faults old) n) (sym s.1) r.runs.faults;
+          goes = goes-rest tell entries start.world w old a b earlier r.runs.goes (record { passes = spares.passes; quiet = s.1 });
         };
       }
-
--- a complex that fits a world, open or closed: whatever a crash may leave of its devices stands for its state
-pub body-stands : {G : Type 0} (tell : Telling G) (body : Body G) (core : Core) → fits_body tell.seen tell.leaves body core
-    → (img : DeviceImages) → Leaves (tell.leaves (rig_of body)) img → stands_for img core.scene.state
-body-stands tell (Body.Open c) core f img left = fits-left (tell.seen c.rig) (tell.leaves c.rig) (parts c) core f img left
-body-stands tell (Body.Closed rig shape) core f img left = f.fits.stands img left
 
 -- ---- the start
 
@@ -172,6 +256,7 @@ ran-start tell start body same now fits = record {
       each = λ img s. way-ends start.world start.world [] img refl (body-stands tell body start.world.core fits img (now img s));
     };
     faults = refl;
+    goes = (refl, inl refl);
   });
 }
 

@@ -115,7 +115,7 @@ module _ (marks : List Bool) (places : DirectoryState Page) (seen seen' : rig.De
     locks = g.locks;
     gone = g.gone;
     asks = asks;
-    checking = λ k b is. let old = g.checking k b is in record { up = old.up; low = old.low; begun = old.begun };
+    checking = λ k b is. let old = g.checking k b is in record { takes = old.takes; low = old.low; begun = old.begun };
   }
     where
       places-there : (j place : ℕ) → other_at new j ≡ Some place → (bytes : List ℕ) → leaves' j bytes

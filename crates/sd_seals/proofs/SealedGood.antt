@@ -273,7 +273,7 @@ module _ (i spare : ℕ) (y : Record) (table : Transactions) (epochs : List ℕ)
 
   checks-there : (j : ℕ) (k : Begun) → check_at c j ≡ Some k → IsChecking new j k
   checks-there j k is = let old = g.checking j k is in record {
-    up = old.up;
+    takes = old.takes;
     low = old.low;
     begun = ⊎_elim
         (λ e. subst (λ (n : ℕ). k.begin ≤ last_lsn (scanned (log_at new n))) (sym e)

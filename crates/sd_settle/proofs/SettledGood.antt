@@ -11,13 +11,14 @@ use Rattle.sd_rig.specs.Devices as rig
 use Rattle.sd_rig.specs.Devices.{LeavesOnly}
 use Rattle.sd_chain.specs.Checks.{Past, past_of, placed_of}
 use Rattle.sd_chain.specs.Images.{Keeps, Settled, kept_at}
-use Rattle.sd_sound.specs.Logs.{Less, Outcomes, ReplacesLog, after_records, base_at, past_at, tail_at, tails_of}
+use Rattle.sd_sound.specs.Logs.{Less, Outcomes, ReplacesLog, after_records, base_at, past_at, tail_at, tails_of, may_of}
 use Rattle.sd_sound.specs.Soundly.{IsSoundly}
 use Rattle.sd_sound.proofs.Forces.{settled-keeps}
 use Rattle.sd_sound.proofs.Kept.{kept-is}
-use Rattle.sd_state.specs.Good.{Good, Half}
+use Rattle.sd_state.specs.Good.{Good, Half, base_of, dir_of}
 use Rattle.sd_state.specs.Images.{IsEpochOf, Stands as ImageStands, begun_at, leaves_by, log_by}
-use Rattle.sd_state.specs.Parts.{Parts, is_loose, log_at, no_log, other_at}
+use Rattle.sd_state.specs.Parts.{Begun, Parts, check_at, is_loose, log_at, no_log, other_at, status_at, up_as}
+use Rattle.sd_coherent.proofs.Newest.{up-settled}
 use Rattle.sd_state.specs.Values.{Pending}
 use Rattle.sd_state.proofs.Items.{item-kept, item-set}
 use Rattle.sd_state.proofs.Standing.{left-stands, no-place, one-place}
@@ -48,6 +49,20 @@ was_at i bytes c moved = kept_at i (begins_at bytes (other_at c i)) moved
 module _ (i : ℕ) (seen : rig.DeviceImages) (leaves : Outcomes) (c found : Parts) (m : State) (low : 1 ≤ i) (high : i ≤ 8)
     (g : Good seen leaves Pending.Idle c m) (was_loose : is_loose c i ≡ true) (idle : c.due ≡ None)
     (only : LeavesOnly (seen i) (leaves i)) (reads : (d : ℕ) → d ≤ 8 → leaves d (seen d)) (read : IsReread i (seen i) c found) where
+  -- an instance that is up, or restarting, has a settled log
+  not-ready : up_as (status_at c i) ≡ true → ⊥
+  not-ready up = let settled = up-settled (may_of (leaves_by c (λ j. false) leaves))
+      (base_of seen (leaves_by c (λ j. false) leaves) (log_by c (λ j. false)) c) (dir_of c) (g.half (λ j. false)).coherent idle i low up in
+      let clash : true ≡ false = sym was_loose ∙ settled in absurd (cc)
+
+  -- so it has begun no checkpoint
+  pub unchecked : check_at c i ≡ None
+  unchecked = by (check_at c i) refl
+    where
+      by : (o : Option Begun) → check_at c i ≡ o → check_at c i ≡ None
+      by None e = e
+      by (Some k) e = absurd (not-ready (⊎_elim (λ up. ap up_as up) (λ re. ap up_as re) (g.checking i k e).takes))
+
   abbrev new : Parts
   new = with_reread i found c
 
@@ -160,7 +175,7 @@ module _ (i : ℕ) (seen : rig.DeviceImages) (leaves : Outcomes) (c found : Part
     pub half-there : Half seen (leaves_by new moved leaves) (log_by new moved) Pending.Idle new m
     half-there = half-settled i sound.1.0 seen (leaves_by c (was moved) leaves) (leaves_by new moved leaves)
         (log_by c (was moved)) (log_by new moved) c found m low high h was_loose idle g.shape.loose (less moved) could-disk
-        sound.0 sound.1.1 (ap (λ (l : LogState). l.tail) (by-here moved) ∙ read.log.tail) (by-else moved) epoch
+        sound.0 sound.1.1 (ap (λ (l : LogState). l.tail) (by-here moved) ∙ read.log.tail) (by-else moved) epoch unchecked
       where
         could-disk : leaves_by new moved leaves 0 (seen 0)
         could-disk = (reads 0 (omega arith), tt)

@@ -1,7 +1,7 @@
 -- What a crash may leave once a log is settled with its tail or without, as its device has it: it stands for the same. For
 -- `settle_log`.
 use Rattle.std.proofs.Common.{◌≡◌, ◌≢◌, inl, inr, ⊎_elim, ℕ, ◌≤◌, Bool, true, false, cond, List, [], ◌++◌, length, refl, sym, ap, ◌∙◌, subst, arith, append-nil, eq-eqb, ne_eqb}
-use Rattle.std.specs.Prelude.{None}
+use Rattle.std.specs.Prelude.{None, Some}
 use Rattle.std.specs.List.{list_any}
 use Rattle.std.proofs.lemmas.Bool.{cases_Bool, cases_eq}
 use Rattle.std.proofs.lemmas.List.{get_or-set_other, get_or-set_same}
@@ -36,7 +36,7 @@ use Rattle.sd_sound.specs.Soundly.{IsSoundly}
 use Rattle.sd_sound.proofs.Kept.{forced-idle, no-tail}
 use Rattle.sd_state.specs.Good.{Half, base_of, dir_of}
 use Rattle.sd_state.specs.Images.{IsClaimed, IsEpochOf, IsOpenIn}
-use Rattle.sd_state.specs.Parts.{Parts, is_loose}
+use Rattle.sd_state.specs.Parts.{Begun, Parts, check_at, is_loose}
 use Rattle.sd_state.specs.Values.{Pending, rid_of, values}
 use Rattle.sd_settle.specs.Settling.{with_reread}
 
@@ -69,7 +69,8 @@ module _ (i : ℕ) (kept : Bool) (seen : rig.DeviceImages) (leaves leaves' : Out
     (idle : c.due ≡ None) (marks : length c.loose ≡ 9) (less : Less leaves leaves') (reads : leaves' 0 (seen 0))
     (soundly : IsSoundly leaves' logs') (s : Settled i kept (tails_of logs) (tails_of logs')) (no_tail : (logs' i).tail ≡ [])
     (elsewhere : (j : ℕ) → j ≢ i → logs' j ≡ logs j)
-    (epoch : (bytes : List ℕ) → leaves' i bytes → IsEpochOf m Pending.Idle i (past_at (master bytes) (logs' i)).epoch) where
+    (epoch : (bytes : List ℕ) → leaves' i bytes → IsEpochOf m Pending.Idle i (past_at (master bytes) (logs' i)).epoch)
+    (unchecked : check_at c i ≡ None) where
   abbrev new : Parts
   new = with_reread i found c
 
@@ -167,6 +168,7 @@ module _ (i : ℕ) (kept : Bool) (seen : rig.DeviceImages) (leaves leaves' : Out
     epochs = epochs;
     checks = λ k b is. let old = h.checks k b is in (
       cover-settles (may_of leaves) (may_of leaves') b.low k i kept old_base new_base s may-less old.0,
-      close-settles b.low k i kept (tails_of logs) (tails_of logs') s old.1,
+      close-settles b.low k i kept (tails_of logs) (tails_of logs') s
+          (λ e. let clash : None ≡ Some b = sym unchecked ∙ ap (check_at c) (sym e) ∙ is in absurd (cc)) old.1,
     );
   }

@@ -86,14 +86,6 @@ module _ (i : ℕ) (seen : rig.DeviceImages) (leaves : Outcomes) (c found : Part
       (ap up_as up) in
       let clash : true ≡ false = sym was_loose ∙ settled in absurd (cc)
 
-  -- so it has begun no checkpoint
-  pub unchecked : check_at c i ≡ None
-  unchecked = by (check_at c i) refl
-    where
-      by : (o : Option Begun) → check_at c i ≡ o → check_at c i ≡ None
-      by None e = e
-      by (Some k) e = let begun = g.checking i k e in absurd (not-up begun.up)
-
   abbrev new : Parts
   new = with_reread i found c
 

@@ -24,14 +24,14 @@ use Rattle.sd_sound.specs.Soundly.{LogIsSound}
 use Rattle.sd_sound.proofs.Kept.{forced-idle}
 use Rattle.sd_state.specs.Good.{Good, IsInstance, IsOfBegun, IsSettledAt, IsTold, OwesAtMost, reaches}
 use Rattle.sd_state.specs.Images.{leaves_by, log_by}
-use Rattle.sd_state.specs.Parts.{Parts, count_at, epoch_at, is_loose, log_at, no_txns, other_at, owed_at, status_at, txns_at}
+use Rattle.sd_state.specs.Parts.{Begun, Parts, check_at, count_at, epoch_at, is_loose, log_at, no_txns, other_at, owed_at, status_at, txns_at}
 use Rattle.sd_state.specs.Tables.{GoesOn, NamesLife, RowIsLive, RowIsLogged, tells_log}
 use Rattle.sd_state.specs.Values.{Pending}
 use Rattle.sd_state.proofs.Items.{item-kept, item-set}
 use Rattle.sd_state.proofs.Lasts.{last-sound}
 use Rattle.sd_state.proofs.Standing.{no-place}
 use Rattle.sd_settle.specs.Settling.{IsReread, with_reread}
-use Rattle.sd_settle.proofs.SettledGood.{by-else, by-here, half-there, log-else, log-here, log-kept, other-else, other-here, was_at}
+use Rattle.sd_settle.proofs.SettledGood.{by-else, by-here, half-there, log-else, log-here, log-kept, other-else, other-here, was_at, unchecked}
 use Rattle.sd_settle.proofs.SettledRows.{rests}
 use Rattle.sd_settle.proofs.SettledTold.{counted-again, named-again, not-up, own-again, reached-again, told-again}
 
@@ -253,8 +253,9 @@ module _ (i : ℕ) (seen : rig.DeviceImages) (leaves : Outcomes) (c found : Part
     locks = g.locks;
     asks = g.asks;
     checking = λ k b is. let old = g.checking k b is in record {
-      up = old.up;
+      takes = old.takes;
       low = old.low;
-      begun = subst (λ (l : LogState). b.begin ≤ last_lsn (scanned l)) (sym (log-others k (up-other k old.up))) old.begun;
+      begun = subst (λ (l : LogState). b.begin ≤ last_lsn (scanned l)) (sym (log-others k (λ e. let clash : None ≡ Some b = sym (unchecked i seen leaves c found m low high g was_loose idle only reads read)
+          ∙ ap (check_at c) (sym e) ∙ is in absurd (cc)))) old.begun;
     };
   }

@@ -274,7 +274,7 @@ module _ (i : ℕ) (seen seen' : rig.DeviceImages) (leaves leaves' : Outcomes) (
     locks = g.locks;
     gone = g.gone;
     asks = g.asks;
-    checking = λ k b is. let old = g.checking k b is in record { up = old.up; low = old.low; begun = old.begun };
+    checking = λ k b is. let old = g.checking k b is in record { takes = old.takes; low = old.low; begun = old.begun };
   }
     where
       pending-there : (q : Pending) → IsUnderWay c m q → IsUnderWay failed_parts m q

@@ -213,7 +213,7 @@ module _ (i : ℕ) (seen seen' : rig.DeviceImages) (leaves leaves' : Outcomes) (
     checks = λ k b is.
         let old = h.checks k b (ap (λ (l : List (Option Begun)). among {A = Option Begun} None l k) (sym checks) ∙ is) in (
           cover-settles (may_of leaves) (may_of leaves') b.low k i true old_base (base_of seen' leaves' logs' c') settles may_less old.0,
-          close-settles b.low k i true (tails_of logs) (tails_of logs') settles old.1,
+          close-settles b.low k i true (tails_of logs) (tails_of logs') settles (λ e. refl) old.1,
         );
   }
 
@@ -509,7 +509,7 @@ module _ (i : ℕ) (seen seen' : rig.DeviceImages) (leaves leaves' : Outcomes) (
     gone = g.gone;
     asks = g.asks;
     checking = λ k b is. let old = g.checking k b is in record {
-      up = old.up;
+      takes = old.takes;
       low = old.low;
       begun = subst (λ (n : ℕ). b.begin ≤ n) (sym (last-same k)) old.begun;
     };

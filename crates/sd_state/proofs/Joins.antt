@@ -361,7 +361,8 @@ module _ (i : ℕ) (seen : rig.DeviceImages) (leaves : Outcomes) (c : Parts) (m 
     asks = λ p. Each-weaker _ _ (λ ask a. (still-active ask.by a.0, a.1)) (asks_at c.directory p) (g.asks p);
     checking = λ k b is. let old = g.checking k b is in
         record {
-          up = ⊎_elim (λ e. ap (status_at new) e ∙ status-here) (λ ne. status-else k ne ∙ old.up) (cases_eq k i);
+          takes = ⊎_elim (λ e. inl (ap (status_at new) e ∙ status-here))
+              (λ ne. ⊎_elim (λ up. inl (status-else k ne ∙ up)) (λ re. inr (status-else k ne ∙ re)) old.takes) (cases_eq k i);
           low = old.low;
           begun = old.begun;
         };

@@ -4,6 +4,7 @@ use Rattle.std.specs.List.{list_any}
 use Rattle.sd_base.specs.Twin.{chosen_body, number_of}
 use Rattle.sd_base.specs.declared.ids.TxnId.{TxnId}
 use Rattle.sd_base.specs.declared.ids.Rid.{Rid}
+use Rattle.sd_base.specs.declared.place.Status.{Status}
 use Rattle.sd_base.specs.declared.place.Status.TheVariants as S
 use Rattle.sd_page.specs.Page.{Page}
 use Rattle.sd_logrec.specs.Kept.{master}
@@ -157,9 +158,13 @@ IsUnderWay c m Pending.Idle = Unit {0}
 IsUnderWay c m (Pending.Commits t) = IsPending c m t
 IsUnderWay c m (Pending.Starts i) = IsStarting c m i
 
--- A checkpoint that is begun: its instance is up, its low isn't above its begin, and that was put into the log.
+-- The instance may begin a checkpoint, and end it: it is up, or restarting.
+abbrev pub TakesCheck : Status → Type 0
+TakesCheck s = (s ≡ S.Up) ⊎ (s ≡ S.Restarting)
+
+-- A checkpoint that is begun: its instance takes it, its low isn't above its begin, and that was put into the log.
 pub record IsChecking (c : Parts) (i : ℕ) (k : Begun) : Type 0 where
-  pub up : status_at c i ≡ S.Up
+  pub takes : TakesCheck (status_at c i)
   pub low : k.low ≤ k.begin
   pub begun : k.begin ≤ last_lsn (scanned (log_at c i))
 

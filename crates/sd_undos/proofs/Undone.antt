@@ -472,7 +472,7 @@ module _ (a : ℕ) (t : TxnId) (x : Transaction) (o : OpenRec) (image : Page) (l
 
   checking-there : (k : ℕ) (b : Begun) → check_at c k ≡ Some b → IsChecking new k b
   checking-there k b is = let old = g.checking k b is in record {
-    up = old.up;
+    takes = old.takes;
     low = old.low;
     begun = ⊎_elim
         (λ e.
