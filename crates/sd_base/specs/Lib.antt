@@ -5,3 +5,4 @@ pub mod Ids
 pub mod Waits
 pub mod Values
 pub mod Held
+pub mod Standing

@@ -1,6 +1,6 @@
 //! Names of instances, pages, records and transactions, each in its order.
 
-ghost use Rattle.std.specs.Prelude.{◌≡◌, ℕ, ◌<◌, ◌≤◌, ◌↔◌, IsSome, IfSome};
+ghost use Rattle.std.specs.Prelude.{◌≡◌, ℕ, ◌<◌, ◌≤◌, ◌^◌, ◌↔◌, IsSome, IfSome};
 
 use std::marker::Model;
 
@@ -44,6 +44,14 @@ impl InstNo {
     {
         self.number
     }
+
+    /// What holds of every instance, for a proof that has one: its number is 1 to 8.
+    pub fn keeps(self)
+        ensures low { 1 ≤ self }
+        ensures high { self ≤ 8 }
+    {
+        let _number = self.get();
+    }
 }
 
 /// A page of the data device, 0 to 1,023.
@@ -82,6 +90,13 @@ impl PageNo {
     {
         self.number
     }
+
+    /// What holds of every page's number, for a proof that has one: it is below 1,024.
+    pub fn keeps(self)
+        ensures { self < 1024 }
+    {
+        let _number = self.get();
+    }
 }
 
 /// A record: a slot of a page.
@@ -97,4 +112,18 @@ pub struct TxnId {
     pub inst: InstNo,
     pub epoch: u32,
     pub seq: u32,
+}
+
+impl TxnId {
+    /// What holds of every transaction's name, for a proof that has one: its numbers are in their ranges.
+    pub fn keeps(&self)
+        ensures low { 1 ≤ self.now.inst }
+        ensures high { self.now.inst ≤ 8 }
+        ensures epoch { self.now.epoch < 2 ^ 32 }
+        ensures seq { self.now.seq < 2 ^ 32 }
+    {
+        let _inst = self.inst.get();
+        let _epoch = self.epoch;
+        let _seq = self.seq;
+    }
 }

@@ -1,5 +1,8 @@
 //! How a page is held, where it is, and how an instance stands.
 
+ghost use Rattle.std.specs.Prelude.{◌≡◌};
+ghost use Rattle.sd_base.specs.Standing.{active_as, is_down, is_up};
+
 use crate::{InstNo, InstSet};
 
 /// How a record or a page is held.
@@ -50,4 +53,32 @@ pub enum Status {
     Restarting,
     /// The whole complex failed, and wasn't reopened.
     Closed,
+}
+
+impl Status {
+    /// Whether instance `i`, which is in this status, is active: it runs transactions, or recovers itself or another. So it may have pages,
+    /// be forced, and fail.
+    pub fn is_active(self, i: InstNo) -> bool
+        ensures { result ≡ active_as i self }
+    {
+        match self {
+            Status::Up | Status::Restarting => true,
+            Status::Recovering { by } => by == i,
+            Status::Down | Status::Clean | Status::Closed => false,
+        }
+    }
+
+    /// Whether an instance in this status is up: it runs transactions.
+    pub fn is_up(self) -> bool
+        ensures { result ≡ is_up self }
+    {
+        matches!(self, Status::Up)
+    }
+
+    /// Whether an instance in this status is down: it failed, and nobody recovers it.
+    pub fn is_down(self) -> bool
+        ensures { result ≡ is_down self }
+    {
+        matches!(self, Status::Down)
+    }
 }

@@ -93,6 +93,15 @@ pub enum Refusal {
     Memory,
 }
 
+impl Refusal {
+    /// The refusal of devices of which this one isn't sound at this byte.
+    pub fn damaged(dev: u8, at: u64) -> Refusal
+        ensures { result ≡ R.Damaged dev at }
+    {
+        Refusal::Damaged { dev, at }
+    }
+}
+
 impl From<Failed> for Refusal {
     ghost from_gives = { λ _ r. r ≡ R.Failed };
 

@@ -3,8 +3,7 @@
 ghost use Rattle.std.specs.Prelude.{◌≤◌};
 
 use sd_base::{InstNo, Memory, Mode, PageNo, Refusal, Rid, TxnId};
-use sd_book::Book;
-use sd_model::{Event, Reply, Table};
+use sd_model::{Book, Event, Reply, Table};
 use std::alloc::Global;
 use std::mem;
 

@@ -7,10 +7,9 @@ ghost use Rattle.sd_recovered.specs.Devices.{AreDevices};
 
 use crate::transfers::Transfer;
 use sd_base::{Bytes, InstNo, Memory, PageNo};
-use sd_gate::OPEN;
 use sd_logrec::{AREA, Lent, Record};
 use sd_recovered::recovered;
-use sd_rig::{DATA_LEN, LOG_LEN};
+use sd_rig::{DATA_LEN, LOG_LEN, OPEN};
 use std::alloc::Global;
 
 const CHANGED_PAGES: u32 = 4;

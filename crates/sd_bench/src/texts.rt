@@ -5,7 +5,7 @@ ghost use Rattle.std.specs.Prelude.{◌<◌};
 use crate::books::noted;
 use itoa::Buffer;
 use sd_base::Memory;
-use sd_book::Told;
+use sd_model::Told;
 use sd_report::{in_order, render};
 use sd_script::{Kind, Line, Script};
 use std::alloc::Global;

@@ -4,12 +4,10 @@ use Rattle.std.specs.Prelude.{filter}
 use Rattle.std.proofs.lemmas.Bool.{cases_Bool, cases_eq, cases_lt}
 use Rattle.sd_logrec.specs.View.{Rec}
 use Rattle.sd_chain.specs.Records.{of_page, Each}
-use Rattle.sd_chain.specs.Storage.{Storage, chain, newest, Sound}
+use Rattle.sd_chain.specs.Storage.{Sound, Storage, all_of, chain, inserted, newest, sorted}
 use Rattle.sd_chain.specs.Changes.{IsAbovePage}
-use Rattle.sd_chain.proofs.Lists.{Each-front, Each-weaker, filter-cons, filter-skip}
-use Rattle.sd_chain.specs.Storage.{all_of, sorted, inserted}
+use Rattle.sd_chain.proofs.Lists.{Each-front, Each-weaker, filter-cons, filter-skip, Each-back}
 use Rattle.sd_chain.proofs.Chains.{replay_rises}
-use Rattle.sd_chain.proofs.Lists.{Each-back}
 
 Each-inserted_back : (P : Rec → Type 0) (x : Rec) (xs : List Rec) → Each P (inserted x xs) → P x × Each P xs
 Each-inserted_back P x [] a = a

@@ -1,5 +1,5 @@
 -- Laws over each set of kept tails.
-use Rattle.std.proofs.Common.{◌≡◌, ◌≢◌, ⊎_elim, ℕ, zero, suc, ◌<◌, Bool, true, false, cond, ◌&&◌, List, [], ◌∷◌, ◌++◌, refl, sym, ap, ap₂, ◌∙◌, subst}
+use Rattle.std.proofs.Common.{◌≡◌, ◌≢◌, ⊎_elim, ℕ, zero, suc, ◌<◌, Bool, true, false, cond, ◌&&◌, List, [], ◌∷◌, ◌++◌, refl, sym, ap, ap₂, ◌∙◌, subst, append_assoc, append-nil}
 use Rattle.std.specs.Prelude.{filter}
 use Rattle.std.proofs.lemmas.Bool.{cases_Bool, cases_eq}
 use Rattle.sd_logrec.specs.View.{Rec, Kind}
@@ -9,15 +9,13 @@ use Rattle.sd_chain.specs.Records.{Val, of_page, at, changes, ends, Each, home, 
 use Rattle.sd_logrec.specs.View.Kind.{Update, Clr, Commit, End, Plain}
 use Rattle.sd_page.specs.Page.{Page}
 use Rattle.sd_chain.specs.Pages.{replay, FitsKind}
-use Rattle.sd_chain.specs.Storage.{Storage, chain, newest, opens, Open, Sound, Recovered}
+use Rattle.sd_chain.specs.Storage.{Open, Recovered, Sound, Storage, all_of, chain, newest, opens, sorted}
 use Rattle.sd_chain.specs.Changes.{Appended, CanUpdate, CanUndo, Written}
 use Rattle.sd_chain.proofs.Lists.{Each-append, Each-front, Each-back, filter-skip, cond_both}
 use Rattle.sd_chain.proofs.Newest
 use Rattle.sd_chain.proofs.Newest.{at_is, at_from, of_rid_is, of_rid_from, pages-other}
 use mathlib.Core.Path.{fun_ext}
-use Rattle.std.proofs.Common.{append_assoc, append-nil}
 use Rattle.std.proofs.lemmas.List.Elements.{filter-append}
-use Rattle.sd_chain.specs.Storage.{all_of, sorted}
 use Rattle.sd_chain.specs.Cuts.{Logs, cut, whole, EachSound, Gained, Pops, IsTopsPage, IsLone, CanUpdateWhole, CanUndoWhole, PutPage}
 use Rattle.sd_chain.proofs.Stacks.{stack_from-append, step-own, step-other}
 use Rattle.sd_chain.proofs.Update

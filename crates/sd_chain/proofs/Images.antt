@@ -1,5 +1,5 @@
 -- The events, over all images that a crash may leave.
-use Rattle.std.proofs.Common.{◌≡◌, ◌≢◌, inl, inr, ⊎_elim, ℕ, ◌<◌, ◌≤◌, Bool, true, false, cond, eqb, List, [], ◌∷◌, ◌++◌, refl, sym, ap, ◌∙◌, subst, arith, eq-eqb, ne_eqb}
+use Rattle.std.proofs.Common.{◌≡◌, ◌≢◌, inl, inr, ⊎_elim, ℕ, ◌<◌, ◌≤◌, Bool, true, false, cond, eqb, List, [], ◌∷◌, ◌++◌, refl, sym, ap, ◌∙◌, subst, arith, eq-eqb, ne_eqb, append-nil, append_assoc, ap₂}
 use Rattle.std.specs.Prelude.{filter}
 use Rattle.std.proofs.lemmas.Bool.{cases_Bool, cases_eq}
 use Rattle.sd_logrec.specs.View.{Rec, Kind}
@@ -9,18 +9,16 @@ use Rattle.sd_logrec.specs.View.Kind.{Update, Clr, Commit, End, Plain}
 use Rattle.sd_page.specs.Page.{Page}
 use Rattle.sd_chain.specs.Pages.{value, redo, FitsKind}
 use Rattle.sd_chain.specs.Storage.{Storage, newest, Sound, Recovered}
-use Rattle.sd_chain.specs.Changes.{IsAbovePage, Written}
+use Rattle.sd_chain.specs.Changes.{IsAbovePage, StartMoved, Written}
 use Rattle.sd_chain.proofs.Lists.{Each-append, Each-front, Each-back, filter-skip, cond_both}
 use Rattle.sd_chain.proofs.Newest
 use Rattle.sd_chain.proofs.Newest.{at_is, at_from, of_rid_is, of_rid_from, pages-other}
 use mathlib.Core.Path.{fun_ext}
-use Rattle.std.proofs.Common.{append-nil, append_assoc, ap₂}
 use Rattle.sd_chain.specs.Cuts.{cut, whole, Gained, Pops, IsTopsPage, CanUpdateWhole, CanUndoWhole, PutPage}
 use Rattle.sd_chain.specs.Images.{Tails, Keeps, all_kept, kept_at, with_disk, Allowed, IsSafe, Gives, or_written, Grows, log, MayChange, MayUndo, Redone, Commits, Settled, Shortened, MaySeal}
 use Rattle.sd_chain.specs.Order.{speaks, of_txn, Tidy, MayFollow, UndoesTop}
 use Rattle.sd_chain.proofs.Stacks.{stack_from-append}
 use Rattle.sd_chain.proofs.Order.{tidy-push, tidy-other, tidy-later}
-use Rattle.sd_chain.specs.Changes.{StartMoved}
 use Rattle.sd_chain.proofs.PageWrite
 use Rattle.sd_chain.proofs.StartMoved
 use Rattle.sd_chain.proofs.Above.{above_page}

@@ -1,5 +1,5 @@
 -- The order of a transaction's records, with one more or from a later place.
-use Rattle.std.proofs.Common.{◌≡◌, ◌⊎◌, inl, inr, ⊎_elim, ℕ, ◌<◌, Bool, true, false, cond, ◌&&◌, List, [], ◌∷◌, ◌++◌, refl, sym, ap, ◌∙◌, subst, arith}
+use Rattle.std.proofs.Common.{◌≡◌, ◌⊎◌, inl, inr, ⊎_elim, ℕ, ◌<◌, Bool, true, false, cond, ◌&&◌, List, [], ◌∷◌, ◌++◌, refl, sym, ap, ◌∙◌, subst, arith, append-nil}
 use Rattle.std.proofs.lemmas.Bool.{cases_Bool}
 use Rattle.sd_logrec.specs.View.{Rec, Kind}
 use Rattle.sd_base.specs.declared.ids.TxnId.{TxnId}
@@ -7,7 +7,6 @@ use Rattle.sd_base.specs.Ids.{same_txn}
 use Rattle.sd_chain.specs.Records.{ends, Each, step, stack_from, moved, rest, IsOpen}
 use Rattle.sd_logrec.specs.View.Kind.{Update, Clr, Commit, End, Plain}
 use Rattle.sd_chain.proofs.Lists.{Each-append, Each-front, Each-weaker, cond_both}
-use Rattle.std.proofs.Common.{append-nil}
 use Rattle.sd_chain.specs.Order.{speaks, of_txn, Sofar, none_yet, advance, after_all, ComesNext, InOrder, Undoes, first_prev, Tidy, MayFollow}
 use Rattle.sd_chain.proofs.Stacks.{step-own, step-other}
 use Rattle.sd_chain.proofs.Whose.{after_all-none, ends-off, first_prev-behind, none_of, other_of, open_ones-is, InOrder-back, Undoes-back}

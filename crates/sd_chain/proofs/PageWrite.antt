@@ -8,12 +8,10 @@ use Rattle.sd_chain.specs.Records.{Val, of_page, of_rid, at, Each, home, stack, 
 use Rattle.sd_base.specs.Values.{size}
 use Rattle.sd_page.specs.Page.{Page}
 use Rattle.sd_chain.specs.Pages.{value, capacity, replay, FitAll}
-use Rattle.sd_chain.specs.Storage.{Storage, chain, newest, now, opens, Open, HasPlace, Linked, Alone, Sound, Recovered}
+use Rattle.sd_chain.specs.Storage.{Alone, HasPlace, Linked, Open, Recovered, Sound, Storage, chain, newest, now, opens, sorted}
 use Rattle.sd_chain.specs.Changes.{Written}
-use Rattle.sd_chain.proofs.Lists.{Each-weaker}
+use Rattle.sd_chain.proofs.Lists.{Each-weaker, all_of-same}
 use Rattle.sd_chain.proofs.Capacities.{newest-within}
-use Rattle.sd_chain.specs.Storage.{sorted}
-use Rattle.sd_chain.proofs.Lists.{all_of-same}
 use Rattle.sd_chain.proofs.Chains.{replay_rises}
 use Rattle.sd_chain.proofs.Apart.{Recovered-same}
 

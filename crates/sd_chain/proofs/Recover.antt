@@ -1,5 +1,5 @@
 -- How a table of values is undone, record by record.
-use Rattle.std.proofs.Common.{◌≡◌, ◌≢◌, ◌⊎◌, inl, inr, ⊎_elim, ℕ, true, false, List, [], ◌∷◌, ◌++◌, refl, sym, ap, ◌∙◌, subst}
+use Rattle.std.proofs.Common.{◌≡◌, ◌≢◌, ◌⊎◌, inl, inr, ⊎_elim, ℕ, true, false, List, [], ◌∷◌, ◌++◌, refl, sym, ap, ◌∙◌, subst, append-nil}
 use Rattle.std.specs.Prelude.{filter}
 use Rattle.std.proofs.lemmas.Bool.{cases_Bool}
 use Rattle.sd_logrec.specs.View.{Rec}
@@ -9,7 +9,6 @@ use Rattle.sd_chain.specs.Undoing.{undo_one, undo_all, EachFound, stacks_of, Mem
 use Rattle.sd_chain.specs.Storage.{Storage, now, opens, Open, Linked, undone, Sound, Recovered}
 use Rattle.sd_chain.proofs.Lists.{filter-cons, filter-skip}
 use Rattle.sd_chain.proofs.Newest.{at_is, at_from}
-use Rattle.std.proofs.Common.{append-nil}
 use Rattle.std.proofs.lemmas.List.Elements.{filter-append}
 use Rattle.sd_chain.proofs.Apart.{apart, nil_or}
 

@@ -1,11 +1,10 @@
 -- A sort by LSN of a page's records gives the chain, as far as it counts.
 use Rattle.std.proofs.Common.{◌≡◌, ◌≢◌, ⊎_elim, ℕ, ◌<◌, ◌≤◌, Bool, true, false, cond, eqb, ltb, List, [], ◌∷◌, refl, sym, ap, ap₂, ◌∙◌, ◌+◌, subst, arith, eq-eqb, ne_eqb, ltb-true, ltb-false, lt-ltb}
-use Rattle.std.specs.Prelude.{filter}
+use Rattle.std.specs.Prelude.{All, IsPermutation, filter, sum_by}
 use Rattle.std.proofs.lemmas.Bool.{cases_Bool, cases_eq}
 use Rattle.sd_logrec.specs.View.{Rec}
 use Rattle.sd_chain.specs.Records.{Each}
 use Rattle.sd_chain.proofs.Lists.{Each-weaker, Each-both, Each-filter, Each-inserted, Each-sorted, filter-cons, filter-skip}
-use Rattle.std.specs.Prelude.{sum_by, All, IsPermutation}
 use Rattle.std.proofs.lemmas.List.Sums.{sum_by-cons}
 use Rattle.sd_chain.proofs.Above.{Each-sorted_back, Each-filter_back}
 use Rattle.std.proofs.lemmas.List.Sorted.{sum_by-IsPermutation, All-permutation}

@@ -10,10 +10,9 @@ use Rattle.sd_base.specs.Values.{size}
 use Rattle.sd_page.specs.Page.{Page}
 use Rattle.sd_chain.specs.Pages.{value, capacity, redo, replay, FitAll}
 use Rattle.sd_chain.specs.Order.{of_txn}
-use Rattle.sd_chain.specs.Storage.{Storage, chain, newest, now, opens, Open, HasPlace, Linked, undone, Alone, StackFits, Sound, Recovered}
+use Rattle.sd_chain.specs.Storage.{Alone, HasPlace, Linked, Open, Recovered, Sound, StackFits, Storage, all_of, chain, inserted, newest, now, opens, sorted, undone}
 use Rattle.sd_chain.proofs.Lists.{Each-append, Each-back, Each-weaker, filter-cons, filter-skip}
 use Rattle.std.proofs.lemmas.List.Elements.{filter-append}
-use Rattle.sd_chain.specs.Storage.{all_of, inserted, sorted}
 use Rattle.sd_chain.specs.Changes.{StartMoved}
 use Rattle.sd_chain.proofs.Stacks.{stack_from-append}
 use Rattle.sd_chain.proofs.Whose.{step-off, ends-off}

@@ -1,15 +1,13 @@
 -- A list that std sorted by LSN fits a page exactly where the chain does, and replays to the same.
-use Rattle.std.proofs.Common.{◌≡◌, ⊎_elim, ℕ, suc, ◌<◌, ◌≤◌, Bool, cond, List, [], ◌∷◌, sym, ap, ◌∙◌, subst, arith}
-use Rattle.std.specs.Prelude.{filter}
+use Rattle.std.proofs.Common.{◌≡◌, ⊎_elim, ℕ, suc, ◌<◌, ◌≤◌, Bool, cond, List, [], ◌∷◌, sym, ap, ◌∙◌, subst, arith, ltb-true}
+use Rattle.std.specs.Prelude.{IsPermutation, filter}
 use Rattle.std.proofs.lemmas.Bool.{cases_Bool}
 use Rattle.sd_logrec.specs.View.{Rec}
 use Rattle.sd_chain.specs.Records.{Each}
 use Rattle.sd_page.specs.Page.{Page}
 use Rattle.sd_chain.specs.Pages.{redo, replay, FitAll}
 use Rattle.sd_chain.proofs.Lists.{Each-weaker, filter-cons, filter-skip}
-use Rattle.std.specs.Prelude.{IsPermutation}
 use Rattle.std.specs.List.Sorted.{IsNonDecreasingBy}
-use Rattle.std.proofs.Common.{suc, ltb-true}
 use Rattle.std.proofs.lemmas.List.Sorted.{IsPermutation-sym, sum_by-IsPermutation}
 use Rattle.sd_chain.specs.Storage.{sorted}
 use Rattle.sd_chain.proofs.Sorts.{Rising, Slow, rising_of, few_of, one, total_is, total-sorted, high, sort_is, Each-from_all}

@@ -20,4 +20,6 @@
 //! - frozen: nothing
 #![tactic(auto)]
 
+pub mod coherence_laws;
 pub mod laws;
+pub mod soundness_laws;

@@ -8,23 +8,23 @@ use Rattle.sd_model.specs.declared.event.Event.TheVariants as event
 use Rattle.sd_model.specs.declared.event.Reply.{Reply}
 use Rattle.sd_model.specs.declared.event.Reply.TheVariants as reply
 use Rattle.sd_model.specs.Step.{Step}
-use Rattle.sd_forms.specs.declared.line.Form.{Form}
-use Rattle.sd_forms.specs.declared.line.Form.TheVariants as form
-use Rattle.sd_forms.specs.declared.line.Line.{Line}
+use Rattle.sd_script.specs.declared.line.Form.{Form}
+use Rattle.sd_script.specs.declared.line.Form.TheVariants as form
+use Rattle.sd_script.specs.declared.line.Line.{Line}
 use Rattle.sd_script.specs.Order.{begun_by}
 use Rattle.sd_world.specs.PageCauses.{names_page}
 use Rattle.sd_world.specs.Serving.{Core, Telling}
-use Rattle.sd_rise.specs.Passed.{IsServed}
+use Rattle.sd_hall.specs.Served.{IsServed}
 use Rattle.sd_drive.specs.declared.driver.Driver.{Driver}
-use Rattle.sd_rise.specs.Passed.Driven.{is_did}
-use Rattle.sd_rise.specs.Passed.Driving.{Cursor, Known, Work, World, goes_on, stays, works_of}
-use Rattle.sd_rise.specs.Passed.Lines.{Names, Way, event_of, named_by, rolls_back, undo_of, way_of}
-use Rattle.sd_rise.specs.Passed.Operating.{Came, DueIn, IsDueFor, Operates, OperatesSome}
-use Rattle.sd_rise.specs.Passed.Pulls.{Pull}
+use Rattle.sd_model.specs.Replies.{is_did}
+use Rattle.sd_drive.specs.Driving.{Cursor, Known, Work, World, goes_on, stays, works_of}
+use Rattle.sd_drive.specs.Lines.{Names, Way, event_of, named_by, rolls_back, undo_of, way_of}
+use Rattle.sd_drive.specs.Operating.{Came, DueIn, IsDueFor, Operates, OperatesSome}
+use Rattle.sd_drive.specs.Pulls.{Pull}
 use Rattle.sd_drive.specs.Reaching.{AreDriven, AtLine, DrivesLine, DrivesSome, IsRolledBack, IsSame, Knows, KnowsAll, Reached, RollsBack, UndoesAll, UndoesSome, at_ordinal, name_in, ordinal_in}
-use Rattle.sd_rise.specs.Passed.Running.{Start}
-use Rattle.sd_rise.proofs.Passed.Acts.{back-done}
-use Rattle.sd_rise.proofs.Passed.Measures.{unlike}
+use Rattle.sd_drive.specs.Running.{Start}
+use Rattle.sd_drive.proofs.Acts.{back-done}
+use Rattle.sd_drive.proofs.Measures.{unlike}
 use Rattle.sd_drive.proofs.Lines.{came-ended, goes-there, is-named, is-served, knows-more, knows-now, once-due, passes}
 
 -- ---- lines that roll back

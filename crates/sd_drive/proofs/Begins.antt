@@ -8,20 +8,20 @@ use Rattle.sd_base.specs.declared.ids.TxnId.{TxnId}
 use Rattle.sd_model.specs.declared.event.Event.TheVariants as event
 use Rattle.sd_model.specs.declared.event.Reply.{Reply}
 use Rattle.sd_model.specs.declared.event.Reply.TheVariants as reply
-use Rattle.sd_forms.specs.declared.line.Form.{Form}
-use Rattle.sd_forms.specs.declared.line.Form.TheVariants as form
-use Rattle.sd_forms.specs.declared.line.Line.{Line}
+use Rattle.sd_script.specs.declared.line.Form.{Form}
+use Rattle.sd_script.specs.declared.line.Form.TheVariants as form
+use Rattle.sd_script.specs.declared.line.Line.{Line}
 use Rattle.sd_script.specs.Order.{begun, begun_by, has_name}
 use Rattle.sd_world.specs.Serving.{Telling}
 use Rattle.sd_drive.specs.declared.driver.Driver.{Driver}
-use Rattle.sd_rise.specs.Passed.Driving.{Cursor, Work, World, done, works_of}
-use Rattle.sd_rise.specs.Passed.Lines.{Names, named_by, rolls_back}
-use Rattle.sd_rise.specs.Passed.Operating.{Came}
+use Rattle.sd_drive.specs.Driving.{Cursor, Work, World, done, works_of}
+use Rattle.sd_drive.specs.Lines.{Names, named_by, rolls_back}
+use Rattle.sd_drive.specs.Operating.{Came}
 use Rattle.sd_drive.specs.Reaching.{IsSame, Reached, named}
-use Rattle.sd_rise.specs.Passed.Replies.{began_by}
+use Rattle.sd_model.specs.Replies.{began_by}
 use Rattle.sd_drive.proofs.Lines.{goes-there, once-ends}
 use Rattle.sd_drive.proofs.Naming.{begun-more, named-none, named-push}
-use Rattle.sd_rise.specs.Passed.Running.{Start}
+use Rattle.sd_drive.specs.Running.{Start}
 
 -- where the begin is refused the name has no transaction, as before
 none-now : (names : List (List ℕ)) (txns : List (Option TxnId)) (name q : List ℕ) → has_name names name ≡ false

@@ -5,23 +5,23 @@ use Rattle.sd_model.specs.declared.event.Entry.{Entry}
 use Rattle.sd_model.specs.declared.event.Event.{Event}
 use Rattle.sd_model.specs.declared.event.Event.TheVariants as event
 use Rattle.sd_model.specs.declared.event.Reply.{Reply}
-use Rattle.sd_forms.specs.declared.line.Form.TheVariants as form
-use Rattle.sd_forms.specs.declared.line.Line.{Line}
-use Rattle.sd_forms.specs.Forms.{IsForm}
+use Rattle.sd_script.specs.declared.line.Form.TheVariants as form
+use Rattle.sd_script.specs.declared.line.Line.{Line}
+use Rattle.sd_script.specs.Forms.{IsForm}
 use Rattle.sd_script.specs.Order.{Follows, begun, has_name}
 use Rattle.sd_world.specs.PageCauses.{names_page}
 use Rattle.sd_world.specs.Serving.{Telling}
-use Rattle.sd_rise.specs.Passed.{IsServed}
+use Rattle.sd_hall.specs.Served.{IsServed}
 use Rattle.sd_drive.specs.declared.driver.Driver.{Driver}
-use Rattle.sd_rise.specs.Passed.Driven.{IsIn}
-use Rattle.sd_rise.specs.Passed.Driving.{Cursor, World, works_of}
-use Rattle.sd_rise.specs.Passed.Lines.{Names, event_of, way_of}
-use Rattle.sd_rise.specs.Passed.Operating.{Came, DueIn, IsDueFor, Operates, OperatesSome}
+use Rattle.sd_drive.specs.Driven.{IsIn}
+use Rattle.sd_drive.specs.Driving.{Cursor, World, works_of}
+use Rattle.sd_drive.specs.Lines.{Names, event_of, way_of}
+use Rattle.sd_drive.specs.Operating.{Came, DueIn, IsDueFor, Operates, OperatesSome}
 use Rattle.sd_drive.specs.Reaching.{AreDriven, AtLine, DrivesLine, DrivesSome, IsPlain, IsSame, IsShort, Knows, Reached, ordinal_in}
-use Rattle.sd_rise.specs.Passed.Replies.{began_by}
+use Rattle.sd_model.specs.Replies.{began_by}
 use Rattle.sd_drive.proofs.Begins.{came-begin}
 use Rattle.sd_drive.proofs.Lines.{came-plain, is-named, is-served, knows-now, once-due, ordinal-there, passed, plain-single}
-use Rattle.sd_rise.specs.Passed.Running.{Start}
+use Rattle.sd_drive.specs.Running.{Start}
 
 module _ {G : Type 0} (tell : Telling G) (old : Driver G) (line : Line) where
   -- as far as memory went nothing came

@@ -13,15 +13,15 @@ use Rattle.sd_model.specs.declared.event.Event.TheVariants as event
 use Rattle.sd_model.specs.declared.event.Reply.{Reply}
 use Rattle.sd_model.specs.declared.event.Reply.TheVariants as reply
 use Rattle.sd_model.specs.State.{fresh, joined}
-use Rattle.sd_forms.specs.declared.line.Form.{Form}
-use Rattle.sd_forms.specs.declared.line.Form.TheVariants as form
-use Rattle.sd_forms.specs.declared.line.Line.{Line}
-use Rattle.sd_places.specs.Places.{PageEntry}
+use Rattle.sd_script.specs.declared.line.Form.{Form}
+use Rattle.sd_script.specs.declared.line.Form.TheVariants as form
+use Rattle.sd_script.specs.declared.line.Line.{Line}
+use Rattle.sd_pagelock.specs.Places.{PageEntry}
 use Rattle.sd_world.specs.Pages.{Pages, page_placed}
 use Rattle.sd_world.specs.Serving.{Core}
-use Rattle.sd_rise.specs.Passed.Driving.{Cursor, IsTold, Progress, Tells, Work, done, followed, marked, stays, untold, works_of}
-use Rattle.sd_rise.specs.Passed.Pulls.{Pull}
-use Rattle.sd_rise.proofs.Pools.{idle-leavers}
+use Rattle.sd_drive.specs.Driving.{Cursor, IsTold, Progress, Tells, Work, done, followed, marked, stays, untold, works_of}
+use Rattle.sd_drive.specs.Pulls.{Pull}
+use Rattle.sd_drive.proofs.Pools.{idle-leavers}
 
 abbrev s : List ℕ
 s = 115 ∷ []

@@ -11,4 +11,25 @@ pub mod Replays
 mod Risen
 mod Example
 mod Restarts
-pub mod Passed
+pub mod Finding
+pub mod Pools
+mod Openings
+pub mod OpeningExample
+pub mod Acts
+pub mod Tops
+pub mod Bodies
+pub mod Measures
+pub mod Nearing
+pub mod Telling
+pub mod Needs
+pub mod Rooms
+pub mod Running
+pub mod Marks
+pub mod Steps
+pub mod Answering
+pub mod Asking
+pub mod Helps
+pub mod Pulled
+pub mod Victims
+pub mod Operating
+pub mod Recovered

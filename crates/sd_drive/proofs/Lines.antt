@@ -9,21 +9,21 @@ use Rattle.sd_model.specs.declared.event.Event.TheVariants as event
 use Rattle.sd_model.specs.declared.event.Reply.{Reply}
 use Rattle.sd_model.specs.declared.event.Reply.TheVariants as reply
 use Rattle.sd_model.specs.State.{State}
-use Rattle.sd_forms.specs.declared.line.Form.{Form}
-use Rattle.sd_forms.specs.declared.line.Form.TheVariants as form
-use Rattle.sd_forms.specs.declared.line.Line.{Line}
+use Rattle.sd_script.specs.declared.line.Form.{Form}
+use Rattle.sd_script.specs.declared.line.Form.TheVariants as form
+use Rattle.sd_script.specs.declared.line.Line.{Line}
 use Rattle.sd_script.specs.Order.{Follows, begun, begun_by, ordinal_of}
 use Rattle.sd_world.specs.PageCauses.{names_page}
 use Rattle.sd_world.specs.Serving.{Core, Telling}
-use Rattle.sd_rise.specs.Passed.{IsServed}
+use Rattle.sd_hall.specs.Served.{IsServed}
 use Rattle.sd_drive.specs.declared.driver.Driver.{Driver}
-use Rattle.sd_rise.specs.Passed.Driven.{IsIn}
-use Rattle.sd_rise.specs.Passed.Driving.{Cursor, Known, Work, World, ahead, begins, cursor_in, followed, goes_on, left_from, start_of, works_of}
-use Rattle.sd_rise.specs.Passed.Lines.{Names, Way, capacity_of, event_of, named_by, rolls_back, way_of}
-use Rattle.sd_rise.specs.Passed.Operating.{Came, IsDueFor}
+use Rattle.sd_drive.specs.Driven.{IsIn}
+use Rattle.sd_drive.specs.Driving.{Cursor, Known, Work, World, ahead, begins, cursor_in, followed, goes_on, left_from, start_of, works_of}
+use Rattle.sd_drive.specs.Lines.{Names, Way, capacity_of, event_of, named_by, rolls_back, way_of}
+use Rattle.sd_drive.specs.Operating.{Came, IsDueFor}
 use Rattle.sd_drive.specs.Reaching.{IsPlain, IsSame, Knows, KnowsAll, Reached, at_ordinal, name_in, named, ordinal_in}
 use Rattle.sd_drive.proofs.Naming.{begun-more, drop-at, ordinal-within}
-use Rattle.sd_rise.specs.Passed.Running.{Start}
+use Rattle.sd_drive.specs.Running.{Start}
 
 -- ---- what forms have
 

@@ -5,28 +5,29 @@ use Rattle.std.specs.Prelude.{Option, None, Some, is_some, slice_get}
 use Rattle.sd_model.specs.declared.event.Event.TheVariants as event
 use Rattle.sd_model.specs.declared.event.Reply.{Reply}
 use Rattle.sd_model.specs.State.{State}
-use Rattle.sd_forms.specs.declared.line.Form.{Form}
-use Rattle.sd_forms.specs.declared.line.Form.TheVariants as form
-use Rattle.sd_forms.specs.declared.line.Line.{Line}
+use Rattle.sd_script.specs.declared.line.Form.{Form}
+use Rattle.sd_script.specs.declared.line.Form.TheVariants as form
+use Rattle.sd_script.specs.declared.line.Line.{Line}
 use Rattle.sd_script.specs.Order.{begun_by}
 use Rattle.sd_world.specs.Serving.{Core, Telling}
-use Rattle.sd_rise.specs.Passed.{fits_in}
+use Rattle.sd_hall.specs.Bodies.{fits_in}
 use Rattle.sd_drive.specs.declared.driver.Driver.{Driver}
-use Rattle.sd_rise.specs.Passed.Bodies.{status_in}
-use Rattle.sd_rise.specs.Passed.Driven.{IsIn}
-use Rattle.sd_rise.specs.Passed.Driving.{Cursor, Known, Work, World, begins, cursor_in, done, followed, is_down, next_down, recovers, start_of, stays, works_of}
-use Rattle.sd_rise.specs.Passed.Lines.{Names, named_by, way_of}
-use Rattle.sd_rise.specs.Passed.Outcome.{Outcome}
-use Rattle.sd_rise.specs.Passed.Outcome.TheVariants as outcomes
-use Rattle.sd_rise.specs.Passed.Owner.{Owner}
-use Rattle.sd_rise.specs.Passed.Recoveries.{DoesSome, DueOf, GoneOn, IsDueOf, RecoversTo}
-use Rattle.sd_rise.specs.Passed.Pulls.{Pull}
+use Rattle.sd_drive.specs.Bodies.{status_in}
+use Rattle.sd_drive.specs.Driven.{IsIn}
+use Rattle.sd_drive.specs.Driving.{Cursor, Known, Work, World, begins, cursor_in, done, followed, next_down, recovers, start_of, stays, works_of}
+use Rattle.sd_base.specs.Standing.{is_down}
+use Rattle.sd_drive.specs.Lines.{Names, named_by, way_of}
+use Rattle.sd_drive.specs.declared.recovery.Outcome.{Outcome}
+use Rattle.sd_drive.specs.declared.recovery.Outcome.TheVariants as outcomes
+use Rattle.sd_drive.specs.declared.recovery.Owner.{Owner}
+use Rattle.sd_drive.specs.Recoveries.{DoesSome, DueOf, GoneOn, IsDueOf, RecoversTo}
+use Rattle.sd_drive.specs.Pulls.{Pull}
 use Rattle.sd_drive.specs.Reaching.{AreDriven, AtLine, DrivesLine, DrivesSome, IsSame, KnowsAll, Reached}
 use Rattle.sd_drive.specs.Recovering.{LineRecovers, RecoversNow, RecoversOn, RecoversSome, WaitsToRecover}
-use Rattle.sd_rise.specs.Passed.Running.{Start}
-use Rattle.sd_rise.proofs.Passed.Bodies.{fits-now, status-is}
+use Rattle.sd_drive.specs.Running.{Start}
+use Rattle.sd_drive.proofs.Bodies.{fits-now, status-is}
 use Rattle.sd_drive.proofs.Lines.{first-here, knows-as, knows-more, passes-by}
-use Rattle.sd_rise.proofs.Finding.{down-behind, down-here}
+use Rattle.sd_drive.proofs.Finding.{down-behind, down-here}
 
 -- ---- who recovers next
 

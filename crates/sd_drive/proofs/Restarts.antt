@@ -12,12 +12,12 @@ use Rattle.sd_model.specs.declared.event.Event.{Event}
 use Rattle.sd_model.specs.declared.event.Event.TheVariants as event
 use Rattle.sd_model.specs.declared.event.Reply.{Reply}
 use Rattle.sd_model.specs.declared.event.Reply.TheVariants as reply
-use Rattle.sd_forms.specs.declared.line.Form.{Form}
-use Rattle.sd_forms.specs.declared.line.Form.TheVariants as form
-use Rattle.sd_forms.specs.declared.line.Line.{Line}
-use Rattle.sd_rise.specs.Passed.Driving.{Cursor, IsTold, Progress, Tells, Work, done, stays}
-use Rattle.sd_rise.specs.Passed.Pulls.{Pull}
-use Rattle.sd_rise.proofs.Example.{core, helps, needed, none, page, state}
+use Rattle.sd_script.specs.declared.line.Form.{Form}
+use Rattle.sd_script.specs.declared.line.Form.TheVariants as form
+use Rattle.sd_script.specs.declared.line.Line.{Line}
+use Rattle.sd_drive.specs.Driving.{Cursor, IsTold, Progress, Tells, Work, done, stays}
+use Rattle.sd_drive.specs.Pulls.{Pull}
+use Rattle.sd_drive.proofs.OpeningExample.{core, helps, needed, none, page, state}
 
 abbrev line : ℕ → Form → Line
 line number f = record { number = number; session = 0; form = f }

@@ -1,13 +1,13 @@
 -- A driver of a hall that rose stands before the first line. It serves the goals of `new` in driver.rt.
 use Rattle.std.proofs.Common.{◌≡◌, ℕ, List, [], length, sym, ap, ap₂, ◌∙◌, subst}
-use Rattle.sd_forms.specs.declared.line.Line.{Line}
+use Rattle.sd_script.specs.declared.line.Line.{Line}
 use Rattle.sd_world.specs.Serving.{Telling}
-use Rattle.sd_rise.specs.Passed.{Hall}
-use Rattle.sd_rise.specs.Passed.Driven.{IsIn}
-use Rattle.sd_rise.specs.Passed.Driving.{Known, Work, World, ahead, untold}
-use Rattle.sd_rise.specs.Passed.Running.{Start}
-use Rattle.sd_rise.specs.declared.rise.Rise.{Rise}
-use Rattle.sd_rise.specs.Rising.{HasRisen}
+use Rattle.sd_hall.specs.declared.hall.Hall.{Hall}
+use Rattle.sd_drive.specs.Driven.{IsIn}
+use Rattle.sd_drive.specs.Driving.{Known, Work, World, ahead, untold}
+use Rattle.sd_drive.specs.Running.{Start}
+use Rattle.sd_drive.specs.declared.opening.Rise.{Rise}
+use Rattle.sd_drive.specs.Rising.{HasRisen}
 use Rattle.sd_drive.specs.declared.driver.Driver.{Driver}
 use Rattle.sd_drive.specs.Reaching.{Reached}
 

@@ -7,26 +7,26 @@ use Rattle.sd_model.specs.declared.event.Event.TheVariants as event
 use Rattle.sd_model.specs.declared.event.Reply.{Reply}
 use Rattle.sd_model.specs.declared.event.Reply.TheVariants as reply
 use Rattle.sd_model.specs.State.{State}
-use Rattle.sd_forms.specs.declared.line.Form.{Form}
-use Rattle.sd_forms.specs.declared.line.Form.TheVariants as form
-use Rattle.sd_forms.specs.declared.line.Line.{Line}
+use Rattle.sd_script.specs.declared.line.Form.{Form}
+use Rattle.sd_script.specs.declared.line.Form.TheVariants as form
+use Rattle.sd_script.specs.declared.line.Line.{Line}
 use Rattle.sd_script.specs.Order.{begun_by}
-use Rattle.sd_world.specs.Serving.{Telling}
+use Rattle.sd_world.specs.Serving.{Core, Telling}
 use Rattle.sd_drive.specs.declared.driver.Driver.{Driver}
-use Rattle.sd_rise.specs.Passed.Driven.{IsIn}
+use Rattle.sd_drive.specs.Driven.{IsIn}
 use Rattle.sd_base.specs.declared.place.Status.{Status}
-use Rattle.sd_rise.specs.Passed.{fits_in}
-use Rattle.sd_world.specs.Serving.{Core}
-use Rattle.sd_rise.specs.Passed.Bodies.{status_in}
-use Rattle.sd_rise.specs.Passed.Driving.{first_from, lister_by, Cursor, Known, Work, World, begins, cursor_in, goes_on, is_up, lister, start_of, stays, works_of}
-use Rattle.sd_rise.specs.Passed.Lines.{Names, named_by, way_of}
-use Rattle.sd_rise.specs.Passed.Operating.{Came, DueIn, IsDueFor, Operates, OperatesSome}
-use Rattle.sd_rise.specs.Passed.Pulls.{Pull}
+use Rattle.sd_hall.specs.Bodies.{fits_in}
+use Rattle.sd_drive.specs.Bodies.{status_in}
+use Rattle.sd_drive.specs.Driving.{first_from, lister_by, Cursor, Known, Work, World, begins, cursor_in, goes_on, lister, start_of, stays, works_of}
+use Rattle.sd_base.specs.Standing.{is_up}
+use Rattle.sd_drive.specs.Lines.{Names, named_by, way_of}
+use Rattle.sd_drive.specs.Operating.{Came, DueIn, IsDueFor, Operates, OperatesSome}
+use Rattle.sd_drive.specs.Pulls.{Pull}
 use Rattle.sd_drive.specs.Reaching.{AreDriven, AtLine, DrivesLine, DrivesSome, IsSame, KnowsAll, ListsNext, Reached}
-use Rattle.sd_rise.specs.Passed.Replies.{is_rows}
-use Rattle.sd_rise.proofs.Passed.Bodies.{fits-now, status-is}
+use Rattle.sd_model.specs.Replies.{is_rows}
+use Rattle.sd_drive.proofs.Bodies.{fits-now, status-is}
 use Rattle.sd_drive.proofs.Lines.{came-ended, first-here as begins-first, goes-there, knows-more}
-use Rattle.sd_rise.specs.Passed.Running.{Start}
+use Rattle.sd_drive.specs.Running.{Start}
 
 -- ---- who lists
 

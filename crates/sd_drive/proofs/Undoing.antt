@@ -9,21 +9,21 @@ use Rattle.sd_model.specs.declared.event.Reply.{Reply}
 use Rattle.sd_model.specs.declared.event.Reply.TheVariants as reply
 use Rattle.sd_model.specs.Acts.{live}
 use Rattle.sd_model.specs.Step.{Step}
-use Rattle.sd_forms.specs.declared.line.Line.{Line}
+use Rattle.sd_script.specs.declared.line.Line.{Line}
 use Rattle.sd_world.specs.Serving.{Core, Telling}
 use Rattle.sd_drive.specs.declared.driver.Driver.{Driver}
-use Rattle.sd_rise.specs.Passed.Driving.{Cursor, Known, Work, World, goes_on, stays, works_of}
-use Rattle.sd_rise.specs.Passed.Lines.{rolls_back}
-use Rattle.sd_rise.specs.Passed.Operating.{Came, DueIn, Operates, OperatesSome}
-use Rattle.sd_rise.specs.Passed.Pulls.{Pull}
+use Rattle.sd_drive.specs.Driving.{Cursor, Known, Work, World, goes_on, stays, works_of}
+use Rattle.sd_drive.specs.Lines.{rolls_back}
+use Rattle.sd_drive.specs.Operating.{Came, DueIn, Operates, OperatesSome}
+use Rattle.sd_drive.specs.Pulls.{Pull}
 use Rattle.sd_drive.specs.Reaching.{IsRolledBack, IsSame, KnowsAll, Reached, RollsBack, Undoes, UndoesAll, UndoesSome, open_records}
-use Rattle.sd_rise.specs.Passed.Standing.{GoesBack}
-use Rattle.sd_rise.specs.Passed.Replies.{is_step}
-use Rattle.sd_rise.specs.Passed.Running.{Start}
-use Rattle.sd_rise.proofs.Passed.Acts.{undo-stepped}
+use Rattle.sd_drive.specs.Standing.{GoesBack}
+use Rattle.sd_model.specs.Replies.{is_step}
+use Rattle.sd_drive.specs.Running.{Start}
+use Rattle.sd_drive.proofs.Acts.{undo-stepped}
 use Rattle.sd_drive.proofs.Backs.{rolls-names, undo-rolls}
 use Rattle.sd_drive.proofs.Lines.{came-ended, goes-there, knows-as}
-use Rattle.sd_rise.proofs.Passed.Bodies.{depth-is, fits-now}
+use Rattle.sd_drive.proofs.Bodies.{depth-is, fits-now}
 
 step-is : (r : Reply) → is_step r ≡ true → r ≡ reply.Step
 step-is reply.Step step = refl

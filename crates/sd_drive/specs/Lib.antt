@@ -1,3 +1,16 @@
 pub mod Reaching
 pub mod Recovering
-pub mod Passed
+pub mod Rising
+pub mod Going
+pub mod Emptying
+pub mod Restarting
+pub mod Lines
+pub mod Bodies
+pub mod Pulls
+pub mod Driving
+pub mod Measure
+pub mod Standing
+pub mod Running
+pub mod Driven
+pub mod Operating
+pub mod Recoveries

@@ -2,21 +2,21 @@
 use Rattle.std.specs.Prelude.{◌≡◌, ◌⊎◌, ℕ, ◌+◌, ◌<◌, ◌≤◌, ◌^◌, Bool, true, false, List, [], Option, None, Some, length, take, drop, get_or, slice_get}
 use Rattle.sd_base.specs.declared.ids.TxnId.{TxnId}
 use Rattle.sd_model.specs.declared.event.Event.TheVariants as event
-use Rattle.sd_forms.specs.declared.line.Form.{Form}
-use Rattle.sd_forms.specs.declared.line.Form.TheVariants as form
-use Rattle.sd_forms.specs.declared.line.Line.{Line}
-use Rattle.sd_forms.specs.Forms.{IsForm}
+use Rattle.sd_script.specs.declared.line.Form.{Form}
+use Rattle.sd_script.specs.declared.line.Form.TheVariants as form
+use Rattle.sd_script.specs.declared.line.Line.{Line}
+use Rattle.sd_script.specs.Forms.{IsForm}
 use Rattle.sd_script.specs.Order.{Follows, begun, insts_of, ordinal_of, pages_of}
 use Rattle.sd_world.specs.Serving.{Telling}
-use Rattle.sd_rise.specs.Passed.Bodies.{depth_in}
+use Rattle.sd_drive.specs.Bodies.{depth_in}
 use Rattle.sd_drive.specs.declared.driver.Driver.{Driver}
-use Rattle.sd_rise.specs.Passed.Driven.{IsIn}
-use Rattle.sd_rise.specs.Passed.Driving.{Cursor, Known, World, ahead, next_absent, works_of}
-use Rattle.sd_rise.specs.Passed.Operating.{IsDueFor}
-use Rattle.sd_rise.specs.Passed.Lines.{Names}
-use Rattle.sd_rise.specs.Passed.Pulls.{Pull}
-use Rattle.sd_rise.specs.Passed.Running.{Start}
-use Rattle.sd_rise.specs.Passed.Standing.{GoesBack}
+use Rattle.sd_drive.specs.Driven.{IsIn}
+use Rattle.sd_drive.specs.Driving.{Cursor, Known, World, ahead, next_absent, works_of}
+use Rattle.sd_drive.specs.Operating.{IsDueFor}
+use Rattle.sd_drive.specs.Lines.{Names}
+use Rattle.sd_drive.specs.Pulls.{Pull}
+use Rattle.sd_drive.specs.Running.{Start}
+use Rattle.sd_drive.specs.Standing.{GoesBack}
 
 -- the name and the ordinal that a line tells of its transaction, where it has one
 abbrev pub name_in : Form → List ℕ

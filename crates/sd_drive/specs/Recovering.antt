@@ -1,14 +1,14 @@
 -- A line that recovers the instances that are down, and the recoveries of the opening: how far they are.
 use Rattle.std.specs.Prelude.{◌≡◌, ◌⊎◌, ℕ, ◌+◌, Bool, true, false, List, None, Some, drop, slice_get}
 use Rattle.sd_model.specs.declared.event.Event.TheVariants as event
-use Rattle.sd_forms.specs.declared.line.Line.{Line}
+use Rattle.sd_script.specs.declared.line.Line.{Line}
 use Rattle.sd_world.specs.Serving.{Telling}
 use Rattle.sd_drive.specs.declared.driver.Driver.{Driver}
-use Rattle.sd_rise.specs.Passed.Driven.{IsIn}
-use Rattle.sd_rise.specs.Passed.Driving.{Cursor, World, next_down, works_of}
-use Rattle.sd_rise.specs.Passed.Operating.{IsDueFor}
+use Rattle.sd_drive.specs.Driven.{IsIn}
+use Rattle.sd_drive.specs.Driving.{Cursor, World, next_down, works_of}
+use Rattle.sd_drive.specs.Operating.{IsDueFor}
 use Rattle.sd_drive.specs.Reaching.{KnowsAll, Reached}
-use Rattle.sd_rise.specs.Passed.Running.{Start}
+use Rattle.sd_drive.specs.Running.{Start}
 
 -- the n-th line begins the recovery of instance j next
 pub record WaitsToRecover {G : Type 0} (tell : Telling G) (start : Start G) (lines : List Line) (n : ℕ) (line : Line) (driver : Driver G) (j : ℕ)

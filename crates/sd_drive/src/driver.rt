@@ -2,27 +2,25 @@
 
 ghost use Rattle.std.specs.Prelude.{◌≡◌, ◌+◌, ◌<◌, ◌≤◌, ℕ, true, List, [], IfOk, OnErr, OnOk, Some, length};
 ghost use Rattle.sd_world.specs.Serving.{Core, telling};
-ghost use Rattle.sd_rise.specs.Passed.{IsRigIn, Keeps, fits_in};
-ghost use Rattle.sd_forms.specs.declared.line.Line.{Line};
-ghost use Rattle.sd_rise.specs.Passed.Bodies.{status_in};
-ghost use Rattle.sd_rise.specs.Passed.Driven.{IsIn};
-ghost use Rattle.sd_rise.specs.Passed.Running.{Start};
-ghost use Rattle.sd_rise.specs.Passed.Driving.{IsTold, World, lister_by};
-ghost use Rattle.sd_forms.specs.declared.line.Form.TheVariants as form;
-ghost use Rattle.sd_rise.specs.Passed.Lines.{Names, event_of, rolls_back};
-ghost use Rattle.sd_rise.specs.Rising.{HasRisen};
+ghost use Rattle.sd_hall.specs.Bodies.{IsRigIn, fits_in};
+ghost use Rattle.sd_hall.specs.Keeping.{Keeps};
+ghost use Rattle.sd_script.specs.declared.line.Line.{Line};
+ghost use Rattle.sd_drive.specs.Bodies.{status_in};
+ghost use Rattle.sd_drive.specs.Driven.{IsIn};
+ghost use Rattle.sd_drive.specs.Running.{Start};
+ghost use Rattle.sd_drive.specs.Driving.{IsTold, World, lister_by};
+ghost use Rattle.sd_script.specs.declared.line.Form.TheVariants as form;
+ghost use Rattle.sd_drive.specs.Lines.{Names, event_of, rolls_back};
+ghost use Rattle.sd_drive.specs.Rising.{HasRisen};
 ghost use Rattle.sd_drive.specs.Recovering.{LineRecovers, RecoversNow, RecoversSome};
 ghost use Rattle.sd_drive.specs.Reaching.{AreDriven, AtLine, DrivesLine, DrivesSome, IsJoining, IsPlain, IsRolledBack, IsSame, IsShort, JoinsNow, JoinsSome, Knows, Reached, Undoes, UndoesAll, UndoesSome, at_ordinal, ordinal_in};
 
 use crate::forms::{event_by, lone_event, ordinal};
+use crate::{Outcome, Owner, Rise, inst_no, operate, page_no, recover, status_of};
 use sd_base::{InstNo, Memory, TxnId};
-use sd_book::Book;
-use sd_model::Event;
+use sd_hall::Hall;
+use sd_model::{Book, Event};
 use sd_rig::Rig;
-use sd_rise::{
-    Hall, Outcome, Owner, Rise, began, inst_no, is_did, is_down, is_joined, is_rows, is_step,
-    is_up, operate, page_no, recover, status_of,
-};
 use sd_script::{Form, Line};
 use std::alloc::Global;
 
@@ -124,7 +122,7 @@ impl<G: Rig> Driver<G> {
             line.number,
             Event::Begin { inst },
         )?;
-        let txn = began(self.hall.last());
+        let txn = self.hall.last().began();
         self.txns.push(txn)?;
         Ok(())
     }
@@ -159,7 +157,7 @@ impl<G: Rig> Driver<G> {
         ensures same { IsSame self.old self.new }
         ensures txns { self.new.txns ≡ self.old.txns }
     {
-        if !is_down(status_of(&self.hall, inst)) {
+        if !status_of(&self.hall, inst).is_down() {
             return Ok(true);
         }
         let of = Owner {
@@ -205,7 +203,7 @@ impl<G: Rig> Driver<G> {
         ensures same { IsSame self.old self.new }
         ensures txns { self.new.txns ≡ self.old.txns }
     {
-        if is_up(status_of(&self.hall, inst)) {
+        if status_of(&self.hall, inst).is_up() {
             return Ok(true);
         }
         operate(
@@ -214,7 +212,7 @@ impl<G: Rig> Driver<G> {
             line.number,
             Event::Join { inst },
         )?;
-        Ok(is_joined(self.hall.last()))
+        Ok(self.hall.last().is_joined())
     }
 
     // Lists each page, by the lowest instance that is up, up to the first refusal.
@@ -236,7 +234,7 @@ impl<G: Rig> Driver<G> {
                 line.number,
                 Event::List { inst, page },
             )?;
-            if !is_rows(self.hall.last()) {
+            if !self.hall.last().is_rows() {
                 return Ok(());
             }
         }
@@ -257,7 +255,7 @@ impl<G: Rig> Driver<G> {
         };
         let back = event_by(&line.form, txn)?;
         operate(&mut self.hall, line.session, line.number, back)?;
-        if !is_did(self.hall.last()) {
+        if !self.hall.last().is_did() {
             return Ok(());
         }
         self.undo_all(line, &txn)
@@ -285,14 +283,14 @@ impl<G: Rig> Driver<G> {
             self.old self.new line.now txn.now) }
         ensures same { IsSame self.old self.new }
     {
-        let _inst = txn.inst.get();
+        txn.inst.keeps();
         operate(
             &mut self.hall,
             line.session,
             line.number,
             Event::Undo { txn: *txn },
         )?;
-        Ok(is_step(self.hall.last()))
+        Ok(self.hall.last().is_step())
     }
 
     // Does the event of a line that has one at most, and begins no transaction.
@@ -344,7 +342,7 @@ fn lister<G: Rig>(hall: &Hall<G>, insts: u8) -> InstNo
 {
     for number in 0..insts {
         let inst = inst_no(number + 1);
-        if is_up(status_of(hall, inst)) {
+        if status_of(hall, inst).is_up() {
             return inst;
         }
     }

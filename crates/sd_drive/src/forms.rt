@@ -1,7 +1,7 @@
 //! The event that a line asks for, or the first one that it does.
 
 ghost use Rattle.std.specs.Prelude.{◌≡◌, ◌<◌, ◌^◌, ℕ, List, None, Some, IfOk, IsSome, length};
-ghost use Rattle.sd_rise.specs.Passed.Lines.{Names, capacity_of, event_of};
+ghost use Rattle.sd_drive.specs.Lines.{Names, capacity_of, event_of};
 ghost use Rattle.sd_drive.specs.Reaching.{IsShort, name_in, ordinal_in};
 
 use sd_base::{Bytes, Duplicate, Memory, Trouble, TxnId};

@@ -18,7 +18,18 @@
 #![tactic(auto)]
 
 mod driver;
+mod emptying;
+mod events;
 mod forms;
+mod opening;
+mod pull;
+mod recovery;
+mod replies;
+mod standing;
 
 pub use driver::Driver;
-pub use sd_rise::{Hall, Rise};
+pub use events::operate;
+pub use opening::Rise;
+pub use pull::must_write;
+pub use recovery::{Outcome, Owner, recover};
+pub use standing::{inst_no, page_no, status_of};

@@ -24,7 +24,7 @@ use Rattle.sd_model.specs.declared.event.Reply.TheVariants as reply
 use Rattle.sd_rig.specs.Devices.{DeviceImages, Elapses, IsUnchanged, LeavesOnly}
 use Rattle.sd_rig.specs.Devices as rig
 use Rattle.sd_chain.specs.Checks.{DevicesAreSound}
-use Rattle.sd_sound.specs.Logs.{Outcomes}
+use Rattle.sd_chain.specs.Logs.{Outcomes}
 use Rattle.sd_world.specs.Answers.{Fails}
 use Rattle.sd_world.specs.Bounds.{bounds_after}
 use Rattle.sd_world.specs.PageCauses.{NoneSays}

@@ -1,7 +1,5 @@
 -- A change of a record: how the complex goes on fitting. For the calls on records.
-use Rattle.std.proofs.Common.{◌≡◌, ⊎_elim, ℕ, zero, suc, ◌+◌, ◌^◌, ◌<◌, ◌≤◌, Bool, true, false, cond, eqb}
-use Rattle.std.proofs.Common.{eq-eqb, List, [], ◌∷◌, length, map, max, refl, sym, ap, ◌∙◌, subst}
-use Rattle.std.proofs.Common.{arith}
+use Rattle.std.proofs.Common.{◌≡◌, ⊎_elim, ℕ, zero, suc, ◌+◌, ◌^◌, ◌<◌, ◌≤◌, Bool, true, false, cond, eqb, eq-eqb, List, [], ◌∷◌, length, map, max, refl, sym, ap, ◌∙◌, subst, arith}
 use Rattle.std.specs.Prelude.{Option, IsSome, option_and_then, is_some}
 use Rattle.std.proofs.lemmas.Bool.{cases_eq, ne_eqb}
 use Rattle.sd_base.specs.Values.{size}
@@ -20,7 +18,7 @@ use Rattle.sd_model.specs.State.{State}
 use Rattle.sd_model.specs.declared.event.Event.{Event}
 use Rattle.sd_model.specs.declared.event.Reply.{Reply}
 use Rattle.sd_page.specs.Page.{Page, Slot}
-use Rattle.sd_places.specs.Rows.{dirtied}
+use Rattle.sd_pagelock.specs.Rows.{dirtied}
 use Rattle.sd_rig.specs.Devices.{DeviceImages}
 use Rattle.sd_txn.specs.Owing.{owed_of, reserve_of}
 use Rattle.sd_txn.specs.Transactions.{Transaction, Transactions, span_at}
@@ -29,20 +27,20 @@ use Rattle.sd_chain.specs.Checks.{reserve}
 use Rattle.sd_chain.specs.Images.{Keeps, all_kept}
 use Rattle.sd_chain.specs.Pages.{redo, write}
 use Rattle.sd_chain.specs.Records.{Val, home}
-use Rattle.sd_coherent.specs.Named.{version_of}
-use Rattle.sd_sound.specs.Logs.{Outcomes, all_at, tails_of}
-use Rattle.sd_sound.proofs.Kept.{forced-gate}
+use Rattle.sd_chain.specs.Named.{version_of}
+use Rattle.sd_chain.specs.Logs.{Outcomes, all_at, tails_of}
+use Rattle.sd_chain.proofs.Kept.{forced-gate}
 use Rattle.sd_world.specs.Bounds.{Bounds, bounds_after, cost, counts, with_slot}
 use Rattle.sd_world.specs.Pages.{Pages, numbered, page_placed}
 use Rattle.sd_world.specs.Serving.{Core}
-use Rattle.sd_changes.specs.Changing.{Change, IsMade, LacksLsns, LacksRoom, change_of, changed_log, flat_of, image_for, owed_then, row_for, update, with_changed}
+use Rattle.sd_update.specs.Changing.{Change, IsMade, LacksLsns, LacksRoom, change_of, changed_log, flat_of, image_for, owed_then, row_for, update, with_changed}
 use Rattle.sd_state.specs.Good.{Good, IsTold}
 use Rattle.sd_state.specs.Images.{log_by}
 use Rattle.sd_state.specs.Parts.{Parts, is_loose, log_at, owed_at, status_at, txns_at, up_as}
 use Rattle.sd_state.specs.Sums.{great_of, owed_in_all, owes_most, sum_to}
 use Rattle.sd_state.specs.Tables.{tells_log}
 use Rattle.sd_state.specs.Values.{Pending}
-use Rattle.sd_changes.proofs.ChangeCalls.{owed-more, reserve-more}
+use Rattle.sd_update.proofs.ChangeCalls.{owed-more, reserve-more}
 use Rattle.sd_state.proofs.Standing.{one-place}
 use Rattle.sd_fits.specs.Fits.{AreWithin, Fits, FitsBounds, ReachesAtMost, capacities}
 use Rattle.sd_fits.proofs.Recording.{Records}

@@ -25,12 +25,12 @@ use Rattle.sd_model.specs.Step.{Step}
 use Rattle.sd_rig.specs.Devices as rig
 use Rattle.sd_chain.specs.Bytes.{stable}
 use Rattle.sd_chain.specs.Storage.{Recovered}
-use Rattle.sd_sound.specs.Logs.{Outcomes}
+use Rattle.sd_chain.specs.Logs.{Outcomes}
 use Rattle.sd_world.specs.Bounds.{bounds_after}
 use Rattle.sd_world.specs.Serving.{Core, Turns}
 use Rattle.sd_state.specs.Images.{Stands}
 use Rattle.sd_state.specs.Values.{Pending, is_doubt}
-use Rattle.sd_falls.proofs.FallModel.{cond-doubts, cond-gone, values-by}
+use Rattle.sd_moves.proofs.FallModel.{cond-doubts, cond-gone, values-by}
 use Rattle.sd_fits.specs.Closed.{AllFail, AllFailAgain, ClosedStays, FitsClosed, closed_core}
 use Rattle.sd_fits.specs.Opened.{NoneMore}
 use Rattle.sd_fits.specs.Sums.{IsWithinSums}

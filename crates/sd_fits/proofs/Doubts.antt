@@ -1,7 +1,6 @@
 -- What those in doubt put is at slots of their pages: how that goes on, where no page loses a slot. For each change of a complex
 -- that fits.
-use Rattle.std.proofs.Common.{◌≡◌, ℕ, ◌<◌, ◌≤◌, Bool, true, false, cond, ◌||◌, List, [], ◌∷◌, ◌++◌, length, map, append_assoc}
-use Rattle.std.proofs.Common.{refl, sym, ap, ◌∙◌, subst, arith}
+use Rattle.std.proofs.Common.{◌≡◌, ℕ, ◌<◌, ◌≤◌, Bool, true, false, cond, ◌||◌, List, [], ◌∷◌, ◌++◌, length, map, append_assoc, refl, sym, ap, ◌∙◌, subst, arith}
 use Rattle.std.proofs.lemmas.List.Folds.{list_any-append}
 use Rattle.std.specs.List.{list_any}
 use Rattle.sd_base.specs.declared.ids.TxnId.{TxnId}
@@ -17,8 +16,8 @@ use Rattle.sd_chain.specs.Fates.{commits}
 use Rattle.sd_chain.specs.Storage.{HasPlace}
 use Rattle.sd_chain.specs.Images.{Keeps}
 use Rattle.sd_chain.specs.Records.{Each, home}
-use Rattle.sd_coherent.specs.Named.{version_of}
-use Rattle.sd_sound.specs.Logs.{kept_logs, tails_of}
+use Rattle.sd_chain.specs.Named.{version_of}
+use Rattle.sd_chain.specs.Logs.{kept_logs, tails_of}
 use Rattle.sd_state.specs.Images.{log_by}
 use Rattle.sd_state.specs.Parts.{Parts}
 use Rattle.sd_state.specs.Values.{is_committed, is_doubt, put_of}

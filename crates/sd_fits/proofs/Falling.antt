@@ -1,6 +1,5 @@
 -- An instance falls: how what is left of the complex fits the world behind it. For the calls of events that fail, or whose device does.
-use Rattle.std.proofs.Common.{◌≡◌, ◌≢◌, ◌⊎◌, inl, inr, ⊎_elim, ℕ, ◌+◌, ◌≤◌, Bool, true, false, cond, List, eqb, append-nil}
-use Rattle.std.proofs.Common.{refl, sym, ap, ap₂, ◌∙◌, subst, arith, eq-eqb, ne_eqb}
+use Rattle.std.proofs.Common.{◌≡◌, ◌≢◌, ◌⊎◌, inl, inr, ⊎_elim, ℕ, ◌+◌, ◌≤◌, Bool, true, false, cond, List, eqb, append-nil, refl, sym, ap, ap₂, ◌∙◌, subst, arith, eq-eqb, ne_eqb}
 use Rattle.std.specs.Prelude.{Option, None, Some, IsSome, is_some}
 use Rattle.std.specs.Option.{option_map_or}
 use Rattle.std.proofs.lemmas.Bool.{cases_eq}
@@ -27,14 +26,14 @@ use Rattle.sd_chain.specs.Images.{Keeps}
 use Rattle.sd_chain.specs.Records.{IsOpen, home}
 use Rattle.sd_log.specs.Logs.{LogState, without_tail}
 use Rattle.sd_logrec.specs.View.{Rec}
-use Rattle.sd_asks.specs.Asks.{asks_without, open_asks}
-use Rattle.sd_places.specs.Places.{PageEntry}
-use Rattle.sd_places.specs.Rows.{fallen}
+use Rattle.sd_pagelock.specs.Asks.{asks_without, open_asks}
+use Rattle.sd_pagelock.specs.Places.{PageEntry}
+use Rattle.sd_pagelock.specs.Rows.{fallen}
 use Rattle.sd_page.specs.Page.{Page}
 use Rattle.sd_pool.specs.Buffers.{Buffers}
 use Rattle.sd_reclock.specs.Locks.{waits}
 use Rattle.sd_txn.specs.Transactions.{Transactions, span_at}
-use Rattle.sd_sound.specs.Logs.{Outcomes, all_at, base_at, kept_logs, tails_of}
+use Rattle.sd_chain.specs.Logs.{Outcomes, all_at, base_at, kept_logs, tails_of}
 use Rattle.sd_world.specs.Answers.{Moves}
 use Rattle.sd_world.specs.Bounds.{Bounds, Within, bounds_after}
 use Rattle.sd_world.specs.Pages.{Pages, fell}
@@ -46,10 +45,10 @@ use Rattle.sd_state.specs.Parts.{Begun, Parts, check_at, count_at, log_at, no_lo
 use Rattle.sd_state.specs.Values.{Pending, is_doubt}
 use Rattle.sd_state.proofs.Items.{item-kept, item-set}
 use Rattle.sd_state.proofs.Standing.{one-place}
-use Rattle.sd_falls.specs.Falling.{IsFallen, emptied_pool, is_recovered_by, logs_by, owed_dropped, with_fallen}
-use Rattle.sd_falls.proofs.FallBounds.{fallen-great, fallen-log, fallen-owes, fallen-versions, kept_by}
-use Rattle.sd_falls.proofs.FallDropped.{kept-all}
-use Rattle.sd_falls.proofs.FallFinal.{when-dropped}
+use Rattle.sd_moves.specs.Falling.{IsFallen, emptied_pool, is_recovered_by, logs_by, owed_dropped, with_fallen}
+use Rattle.sd_moves.proofs.FallBounds.{fallen-great, fallen-log, fallen-owes, fallen-versions, kept_by}
+use Rattle.sd_moves.proofs.FallDropped.{kept-all}
+use Rattle.sd_moves.proofs.FallFinal.{when-dropped}
 use Rattle.sd_fits.specs.Fits.{AreWithin, Fits, FitsBounds, FitsDoubts, FitsPages, ReachesAtMost, capacities}
 use Rattle.sd_fits.proofs.Doubts.{DoubtsStay, doubts-kept}
 

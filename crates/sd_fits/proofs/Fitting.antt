@@ -9,15 +9,15 @@ use Rattle.sd_reclock.specs.Locks.{waits_in}
 use Rattle.sd_rig.specs.Devices as rig
 use Rattle.sd_txn.specs.Owing.{owed_of}
 use Rattle.sd_chain.specs.Images.{all_kept}
-use Rattle.sd_sound.specs.Logs.{IsBlank, Outcomes}
-use Rattle.sd_sound.proofs.Blank.{master_blank}
+use Rattle.sd_chain.specs.Logs.{IsBlank, Outcomes}
+use Rattle.sd_chain.proofs.Blank.{master_blank}
 use Rattle.sd_fits.specs.Fits.{AreWithin, Fits, FitsBounds, FitsPages, FitsStands, FreshFits, ReachesAtMost, capacities, fresh_core}
 use Rattle.sd_state.specs.Fresh.{AreBlank, IsFresh, empty_pool}
 use Rattle.sd_state.specs.Parts.{Parts, among, is_loose, log_at, no_pool, status_at}
 use Rattle.sd_state.specs.Sums.{most_to, owes_most, sum_to}
 use Rattle.sd_state.specs.Tables.{tells_log}
 use Rattle.sd_state.specs.Values.{Pending}
-use Rattle.sd_opened.proofs.Beginning.{fresh-good, log-is, no-check, now-empty, owes-none, same-log, table-is}
+use Rattle.sd_moves.proofs.Beginning.{fresh-good, log-is, no-check, now-empty, owes-none, same-log, table-is}
 use Rattle.sd_state.proofs.Items.{at-each}
 use Rattle.sd_state.proofs.Standing.{left-stands}
 

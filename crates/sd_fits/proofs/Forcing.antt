@@ -17,9 +17,9 @@ use Rattle.sd_chain.specs.Bytes.{disk_page}
 use Rattle.sd_chain.specs.Checks.{owed, reserve}
 use Rattle.sd_chain.specs.Storage.{newest}
 use Rattle.sd_chain.specs.Images.{Keeps, Tails, all_kept, kept_at}
-use Rattle.sd_coherent.specs.Named.{version_of}
-use Rattle.sd_sound.specs.Logs.{Logs, Outcomes, all_at, base_at, kept_logs, tail_at, tails_of}
-use Rattle.sd_sound.proofs.Kept.{forced-base, forced-idle, forced-tail, no-tail}
+use Rattle.sd_chain.specs.Named.{version_of}
+use Rattle.sd_chain.specs.Logs.{Logs, Outcomes, all_at, base_at, kept_logs, tail_at, tails_of}
+use Rattle.sd_chain.proofs.Kept.{forced-base, forced-idle, forced-tail, no-tail}
 use Rattle.sd_state.specs.Forcing.{KeepMasters, owed_either, with_failed, with_forced}
 use Rattle.sd_state.specs.Good.{Good}
 use Rattle.sd_state.specs.Images.{begun_at, log_by}
@@ -35,7 +35,7 @@ use Rattle.sd_world.specs.Bounds.{Bounds}
 use Rattle.sd_world.specs.Pages.{Pages}
 use Rattle.sd_fits.specs.Fits.{AreWithin, FitsBounds, FitsDoubts, FitsPages, ReachesAtMost, capacities}
 use Rattle.sd_fits.proofs.Doubts.{doubts-kept, same-doubts}
-use Rattle.sd_falls.proofs.FallBounds.{sum-less, told-most}
+use Rattle.sd_moves.proofs.FallBounds.{sum-less, told-most}
 
 -- ---- versions that see the same records
 

@@ -8,7 +8,7 @@ use Rattle.sd_model.specs.declared.event.Event.{Event}
 use Rattle.sd_model.specs.declared.event.Event.TheVariants.{Write, Add, Insert, Delete, Undo, Ask, Give, Take, Evict, Flush, CheckBegin, CheckEnd, Fail, FailAll, RecoverStep, Reopen, Show}
 use Rattle.sd_model.specs.declared.event.Reply.{Reply}
 use Rattle.sd_model.specs.declared.event.Reply.TheVariants as reply
-use Rattle.sd_places.specs.Places.{holds_as}
+use Rattle.sd_pagelock.specs.Places.{holds_as}
 use Rattle.sd_world.specs.Answers.{Answers, DidBefore, Fails, Moves, Rebuilds, RefusalLeaves, Undoes}
 use Rattle.sd_world.specs.Pages.{Pages, had, page_placed}
 use Rattle.sd_world.specs.Serving.{Core, Turns}

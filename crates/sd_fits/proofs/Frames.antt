@@ -5,14 +5,14 @@ use Rattle.std.specs.List.{IsDistinct, AllByRecursion}
 use Rattle.std.specs.Map.{keys_of, lookup}
 use Rattle.std.proofs.lemmas.Bool.{cases_eq, cases_lt}
 use Rattle.sd_pagelock.specs.Directory.{entry_at}
-use Rattle.sd_places.specs.Places.{PageEntry, holds}
+use Rattle.sd_pagelock.specs.Places.{PageEntry, holds}
 use Rattle.sd_pool.specs.Buffers as buffers
 use Rattle.sd_pool.specs.Buffers.{Buffers, IsPool}
 use Rattle.sd_rig.specs.Devices as rig
 use Rattle.sd_page.specs.Page.{Page}
-use Rattle.sd_coherent.specs.World.{newest_version}
+use Rattle.sd_chain.specs.World.{newest_version}
 use Rattle.sd_model.specs.State.{State}
-use Rattle.sd_sound.specs.Logs.{Outcomes}
+use Rattle.sd_chain.specs.Logs.{Outcomes}
 use Rattle.sd_world.specs.Pages.{Pages, held_count}
 use Rattle.sd_state.specs.Good.{Good, base_of}
 use Rattle.sd_state.specs.Images.{leaves_by, log_by}

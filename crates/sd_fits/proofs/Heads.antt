@@ -21,7 +21,7 @@ use Rattle.sd_txn.specs.Transactions.{Transaction, ids, state_at, txn_at}
 use Rattle.sd_txn.specs.declared.state.TxnState.{TxnState}
 use Rattle.sd_chain.specs.Fates.{Fate, fate}
 use Rattle.sd_chain.specs.Records.{home}
-use Rattle.sd_sound.specs.Logs.{Outcomes, all_at, base_at}
+use Rattle.sd_chain.specs.Logs.{Outcomes, all_at, base_at}
 use Rattle.sd_state.specs.Good.{Good}
 use Rattle.sd_state.specs.Parts.{Parts, log_at, status_at, txns_at}
 use Rattle.sd_state.specs.Tables.{IsInDoubt, NamesLife, StandsAs}

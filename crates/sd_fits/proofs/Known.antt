@@ -7,7 +7,7 @@ use Rattle.sd_model.specs.declared.act.Life.{Life}
 use Rattle.sd_rig.specs.Devices.{DeviceImages}
 use Rattle.sd_txn.specs.Transactions.{IsUnresolved, Transaction, txn_at}
 use Rattle.sd_chain.specs.Records.{home}
-use Rattle.sd_sound.specs.Logs.{Outcomes}
+use Rattle.sd_chain.specs.Logs.{Outcomes}
 use Rattle.sd_world.specs.Serving.{Core}
 use Rattle.sd_state.specs.Parts.{Parts, txns_at}
 use Rattle.sd_state.specs.Values.{Pending}

@@ -1,5 +1,5 @@
 -- Locks and claims tell the same of who stands in whose way: a refused lock is refused by the serial table. For the calls on records.
-use Rattle.std.proofs.Common.{◌≡◌, List, [], ◌∷◌, refl, sym, ap, ◌∙◌}
+use Rattle.std.proofs.Common.{◌≡◌, List, [], ◌∷◌, refl, sym, ap, ◌∙◌, cond}
 use Rattle.std.specs.Prelude.{Option, Some}
 use Rattle.sd_base.specs.Ids.{same_txn}
 use Rattle.sd_base.specs.Waits as waits
@@ -7,7 +7,6 @@ use Rattle.sd_base.specs.Waits.{EndsWith, IsBlocked, IsChain, IsCycle, IsDeadloc
 use Rattle.sd_base.specs.declared.ids.TxnId.{TxnId}
 use Rattle.sd_base.specs.declared.place.Mode.{Mode}
 use Rattle.sd_base.specs.declared.place.Mode.TheVariants as modes
-use Rattle.std.proofs.Common.{cond}
 use Rattle.sd_model.specs.Claims.{Clash}
 use Rattle.sd_model.specs.State.{State}
 use Rattle.sd_model.specs.Waits as claims
@@ -15,7 +14,7 @@ use Rattle.sd_model.specs.Waits.{claim_of}
 use Rattle.sd_model.specs.declared.act.Claim.{Claim}
 use Rattle.sd_reclock.specs.Locks as locks
 use Rattle.sd_rig.specs.Devices.{DeviceImages}
-use Rattle.sd_sound.specs.Logs.{Outcomes}
+use Rattle.sd_chain.specs.Logs.{Outcomes}
 use Rattle.sd_state.specs.Good.{Good}
 use Rattle.sd_state.specs.Parts.{Parts}
 use Rattle.sd_state.specs.Tables.{lock_of}

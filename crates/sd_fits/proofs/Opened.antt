@@ -36,15 +36,15 @@ use Rattle.sd_chain.proofs.Lists.{Each-weaker}
 use Rattle.sd_chain.proofs.Losers.{fate-loser, loser-fate, losers-open, opening-recovers}
 use Rattle.sd_chain.proofs.Members.{is-open_in, member-each}
 use Rattle.sd_chain.proofs.Soundly.{sound-opens}
-use Rattle.sd_sound.specs.Logs.{Outcomes}
-use Rattle.sd_sound.proofs.Epochs.{own-begun_of}
-use Rattle.sd_sound.proofs.Kept.{flat-records, log-here, log-past}
-use Rattle.sd_opened.specs.Opening.{OpensTo, has_open, is_any, is_down_in, is_loser, some_lost}
+use Rattle.sd_chain.specs.Logs.{Outcomes}
+use Rattle.sd_chain.proofs.Epochs.{own-begun_of}
+use Rattle.sd_chain.proofs.Kept.{flat-records, log-here, log-past}
+use Rattle.sd_moves.specs.Opening.{OpensTo, has_open, is_any, is_down_in, is_loser, some_lost}
 use Rattle.sd_state.specs.Images.{kept_epoch}
 use Rattle.sd_state.specs.Sums.{most_to}
 use Rattle.sd_state.proofs.Summed.{most-at}
-use Rattle.sd_opened.proofs.OpenedAgain.{down-lost, some-any}
-use Rattle.sd_opened.proofs.OpenedImage.{left-open}
+use Rattle.sd_moves.proofs.OpenedAgain.{down-lost, some-any}
+use Rattle.sd_moves.proofs.OpenedImage.{left-open}
 use Rattle.sd_fits.specs.Fits.{AreWithin}
 use Rattle.sd_fits.specs.Opened.{OpenedFits, opening_state, sums_of, top_lsn, top_page}
 use Rattle.sd_fits.specs.Sums.{IsWithinSums}

@@ -3,7 +3,7 @@ use Rattle.std.proofs.Common.{◌≡◌, ⊎_elim, ℕ, ◌+◌, ◌-◌, ◌≤
 use Rattle.std.specs.Prelude.{IfSome, None, Option, Some, is_some}
 use Rattle.std.proofs.lemmas.Bool.{cases_Bool}
 use Rattle.sd_base.specs.Twin.{chosen_body, number_of}
-use Rattle.sd_gate.proofs.Numbers.{number_of-take}
+use Rattle.sd_rig.proofs.Numbers.{number_of-take}
 use Rattle.sd_logrec.specs.Kept.{master, master_of}
 use Rattle.sd_log.specs.Logs.{LogState, last_lsn, scanned}
 use Rattle.sd_model.specs.Listed.{IsAtWork}
@@ -11,7 +11,7 @@ use Rattle.sd_model.specs.Scenes.{is_running}
 use Rattle.sd_model.specs.State.{State}
 use Rattle.sd_model.specs.declared.act.Life.{Life}
 use Rattle.sd_page.specs.Page.{Page}
-use Rattle.sd_places.specs.Rows.{nowhere}
+use Rattle.sd_pagelock.specs.Rows.{nowhere}
 use Rattle.sd_pool.specs.Buffers.{Buffers}
 use Rattle.sd_rig.specs.Devices as rig
 use Rattle.sd_rig.specs.Devices.{LeavesOnly}
@@ -22,26 +22,26 @@ use Rattle.sd_chain.specs.Storage.{Storage, newest}
 use Rattle.sd_chain.specs.Images.{Keeps, all_kept}
 use Rattle.sd_chain.specs.Records.{Each}
 use Rattle.sd_chain.proofs.Lists.{Each-weaker}
-use Rattle.sd_coherent.specs.Named.{version_of}
-use Rattle.sd_sound.specs.Logs.{Outcomes, all_at, base_at, tails_of}
-use Rattle.sd_sound.proofs.Kept.{forced-idle}
-use Rattle.sd_sound.proofs.Lsns.{last-at-most}
+use Rattle.sd_chain.specs.Named.{version_of}
+use Rattle.sd_chain.specs.Logs.{Outcomes, all_at, base_at, tails_of}
+use Rattle.sd_chain.proofs.Kept.{forced-idle}
+use Rattle.sd_chain.proofs.Lsns.{last-at-most}
 use Rattle.sd_world.specs.Bounds.{Bounds}
 use Rattle.sd_world.specs.Pages.{place_of}
 use Rattle.sd_state.specs.Fresh.{empty_pool}
 use Rattle.sd_state.specs.Good.{Good}
 use Rattle.sd_state.specs.Images.{log_by}
-use Rattle.sd_opened.specs.Opening.{AreOpened, OpensTo, is_loser, is_lost_in}
+use Rattle.sd_moves.specs.Opening.{AreOpened, OpensTo, is_loser, is_lost_in}
 use Rattle.sd_state.specs.Parts.{Parts, among, count_at, is_loose, log_at, no_pool, other_at, owed_at, status_at, txns_at}
 use Rattle.sd_state.specs.Sums.{great_of, most_to, owed_in_all, owes_most}
 use Rattle.sd_state.specs.Tables.{tells_log}
 use Rattle.sd_state.specs.Values.{Pending}
 use Rattle.sd_state.proofs.Items.{at-each}
-use Rattle.sd_opened.proofs.OpenedGood.{opened-good}
-use Rattle.sd_opened.proofs.OpenedHalf.{all-is, base-is, is-settled, kept-here, left-is, no-check, no-other, now-same}
-use Rattle.sd_opened.proofs.OpenedImage.{no-doubt}
+use Rattle.sd_moves.proofs.OpenedGood.{opened-good}
+use Rattle.sd_moves.proofs.OpenedHalf.{all-is, base-is, is-settled, kept-here, left-is, no-check, no-other, now-same}
+use Rattle.sd_moves.proofs.OpenedImage.{no-doubt}
 use Rattle.sd_state.proofs.Standing.{one-place}
-use Rattle.sd_falls.proofs.FallBounds.{sum-less}
+use Rattle.sd_moves.proofs.FallBounds.{sum-less}
 use Rattle.sd_fits.specs.Opened.{IsOpenedOn, opened_core, opened_pages}
 use Rattle.sd_fits.specs.Fits.{AreWithin, Fits, FitsBounds, FitsPages, ReachesAtMost, capacities}
 use Rattle.sd_fits.specs.Sums.{IsWithinSums}

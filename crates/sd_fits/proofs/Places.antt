@@ -12,16 +12,16 @@ use Rattle.sd_model.specs.State.{State}
 use Rattle.sd_model.specs.Step.{Step}
 use Rattle.sd_model.specs.declared.event.Event.{Event}
 use Rattle.sd_model.specs.declared.event.Reply.{Reply}
-use Rattle.sd_asks.specs.Asks.{open_asks, queued}
+use Rattle.sd_pagelock.specs.Asks.{open_asks, queued}
 use Rattle.sd_pagelock.specs.Directory.{DirectoryState, asks_at, entry_at}
-use Rattle.sd_places.specs.Places.{PageEntry, is_lost}
+use Rattle.sd_pagelock.specs.Places.{PageEntry, is_lost}
 use Rattle.sd_pool.specs.Buffers.{Buffers}
 use Rattle.sd_rig.specs.Devices as rig
 use Rattle.sd_rig.specs.Devices.{IsUnchanged}
 use Rattle.sd_chain.specs.Bytes.{disk_page}
 use Rattle.sd_chain.specs.Images.{all_kept}
-use Rattle.sd_coherent.specs.Named.{version_of}
-use Rattle.sd_sound.specs.Logs.{Outcomes, tails_of}
+use Rattle.sd_chain.specs.Named.{version_of}
+use Rattle.sd_chain.specs.Logs.{Outcomes, tails_of}
 use Rattle.sd_world.specs.Answers.{Moves}
 use Rattle.sd_world.specs.Bounds.{Bounds, Within, bounds_after}
 use Rattle.sd_world.specs.Pages.{Pages, asked, page_placed, put}

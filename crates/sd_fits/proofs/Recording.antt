@@ -1,7 +1,6 @@
 -- A record that changes a page comes to the log of the instance that has the page alone: how pages and sums go on fitting. For
 -- changes of records and their undo.
-use Rattle.std.proofs.Common.{◌≡◌, ◌≢◌, ◌⊎◌, inl, inr, ⊎_elim, ℕ, zero, suc, ◌+◌, ◌≤◌, Bool, true, false, cond, eq-eqb, ◌&&◌, ◌||◌}
-use Rattle.std.proofs.Common.{List, [], ◌∷◌, ◌++◌, append-nil, length, filter, max, refl, sym, ap, ◌∙◌, subst, arith}
+use Rattle.std.proofs.Common.{◌≡◌, ◌≢◌, ◌⊎◌, inl, inr, ⊎_elim, ℕ, zero, suc, ◌+◌, ◌≤◌, Bool, true, false, cond, eq-eqb, ◌&&◌, ◌||◌, List, [], ◌∷◌, ◌++◌, append-nil, length, filter, max, refl, sym, ap, ◌∙◌, subst, arith}
 use Rattle.std.specs.Prelude.{None, Some}
 use Rattle.std.specs.List.{list_any}
 use Rattle.std.specs.Option.{option_map_or}
@@ -16,10 +15,10 @@ use Rattle.sd_logrec.specs.declared.record.Record.{Record}
 use Rattle.sd_log.specs.Logs.{LogState, last_lsn, scanned, with_record}
 use Rattle.sd_model.specs.State.{State}
 use Rattle.sd_page.specs.Page.{Page}
-use Rattle.sd_asks.specs.Asks.{open_asks}
+use Rattle.sd_pagelock.specs.Asks.{open_asks}
 use Rattle.sd_pagelock.specs.Directory.{DirectoryState, asks_at, entry_at}
-use Rattle.sd_places.specs.Places.{PageEntry, is_lost}
-use Rattle.sd_places.specs.Rows.{dirtied}
+use Rattle.sd_pagelock.specs.Places.{PageEntry, is_lost}
+use Rattle.sd_pagelock.specs.Rows.{dirtied}
 use Rattle.sd_pool.specs.Buffers.{Buffers, image_at}
 use Rattle.sd_rig.specs.Devices.{DeviceImages}
 use Rattle.sd_txn.specs.Transactions.{OthersStay, Transactions, txn_at}
@@ -33,17 +32,17 @@ use Rattle.sd_chain.proofs.Cuts.{newest-by_page}
 use Rattle.sd_chain.proofs.Lists.{Each-weaker}
 use Rattle.sd_chain.proofs.Newest.{newest-other}
 use Rattle.sd_chain.proofs.Slots.{length-write}
-use Rattle.sd_coherent.specs.Coherent.{Quiet}
-use Rattle.sd_coherent.specs.Named.{version_of}
-use Rattle.sd_coherent.proofs.Cases.{by_seat, none_some}
-use Rattle.sd_coherent.proofs.Changes.{held-now}
-use Rattle.sd_coherent.proofs.Newest.{tails-agree}
-use Rattle.sd_sound.specs.Logs.{Outcomes, all_at, base_at, kept_logs, may_of, next_lsn, tail_at, tails_of}
-use Rattle.sd_sound.proofs.Appends.{appended-log}
+use Rattle.sd_chain.specs.Coherent.{Quiet}
+use Rattle.sd_chain.specs.Named.{version_of}
+use Rattle.sd_chain.proofs.Cases.{by_seat, none_some}
+use Rattle.sd_chain.proofs.Changes.{held-now}
+use Rattle.sd_chain.proofs.OneUpdater.{tails-agree}
+use Rattle.sd_chain.specs.Logs.{Outcomes, all_at, base_at, kept_logs, may_of, next_lsn, tail_at, tails_of}
+use Rattle.sd_chain.proofs.Appends.{appended-log}
 use Rattle.sd_world.specs.Bounds.{Bounds}
 use Rattle.sd_world.specs.Pages.{Pages, numbered, page_placed, put}
 use Rattle.sd_world.specs.Serving.{Core}
-use Rattle.sd_changes.specs.Changing.{with_changed}
+use Rattle.sd_update.specs.Changing.{with_changed}
 use Rattle.sd_state.specs.Good.{Good, Half, base_of, dir_of}
 use Rattle.sd_state.specs.Images.{begun_at, leaves_by, log_by}
 use Rattle.sd_state.specs.Laws.{newest_of}
@@ -51,8 +50,8 @@ use Rattle.sd_state.specs.Parts.{Parts, is_loose, log_at, no_log, no_pool, no_tx
 use Rattle.sd_state.specs.Sums.{great_of, most_to, owed_in_all}
 use Rattle.sd_state.specs.Values.{Pending, is_committed}
 use Rattle.sd_state.proofs.Summed.{most-at}
-use Rattle.sd_changes.proofs.ChangedRows.{open-more}
-use Rattle.sd_changes.proofs.ChangeLsns.{image-low}
+use Rattle.sd_update.proofs.ChangedRows.{open-more}
+use Rattle.sd_update.proofs.ChangeLsns.{image-low}
 use Rattle.sd_state.proofs.Items.{item-kept, item-set}
 use Rattle.sd_state.proofs.Lasts.{last-more}
 use Rattle.sd_state.proofs.Standing.{one-place}

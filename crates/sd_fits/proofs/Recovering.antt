@@ -24,7 +24,7 @@ use Rattle.sd_model.specs.declared.act.Life.{Life}
 use Rattle.sd_model.specs.declared.cause.Cause.{Cause}
 use Rattle.sd_model.specs.declared.event.Event.TheVariants.{RecoverBegin, RecoverStep}
 use Rattle.sd_model.specs.declared.event.Reply.TheVariants as reply
-use Rattle.sd_sound.specs.Logs.{Outcomes, all_at}
+use Rattle.sd_chain.specs.Logs.{Outcomes, all_at}
 use Rattle.sd_world.specs.Answers.{Steps, Undoes}
 use Rattle.sd_world.specs.Answers.Fails.{falls}
 use Rattle.sd_world.specs.Answers.Rebuilds.{undoes}
@@ -38,8 +38,8 @@ use Rattle.sd_state.specs.Sums.{great_of, owed_in_all, owes_most}
 use Rattle.sd_state.specs.Tables.{tells_log}
 use Rattle.sd_state.specs.Values.{Pending}
 use Rattle.sd_state.proofs.Items.{item-kept}
-use Rattle.sd_falls.specs.Falling.{IsFallen, with_fallen}
-use Rattle.sd_falls.proofs.FallBounds.{fallen-log, sum-less}
+use Rattle.sd_moves.specs.Falling.{IsFallen, with_fallen}
+use Rattle.sd_moves.proofs.FallBounds.{fallen-log, sum-less}
 use Rattle.sd_fits.specs.Fits.{Fits, FitsBounds, FitsDoubts, FitsPages}
 use Rattle.sd_fits.proofs.Falling.{fallen-bounds, fallen-doubts, fallen-pages, fell_core, fell_waits, numbers_of}
 use Rattle.sd_fits.proofs.Forcing.{no-more}

@@ -22,12 +22,13 @@ use Rattle.sd_world.specs.Bounds.{Allows}
 use Rattle.sd_world.specs.PageCauses.{NoneSays, PagesAgree}
 use Rattle.sd_world.specs.Serving.{Core, Serves, Telling, Turns}
 use Rattle.sd_state.specs.Complexes.{parts}
-use Rattle.sd_state.specs.Parts.{Parts, active_as, is_active}
+use Rattle.sd_state.specs.Parts.{Parts, is_active}
+use Rattle.sd_base.specs.Standing.{active_as}
 use Rattle.sd_state.specs.declared.complex.Complex.{Complex}
 use Rattle.sd_fits.specs.Fits.{Fits}
 use Rattle.sd_fits.specs.Serving.{fits_by, stands_for}
 use Rattle.sd_fits.proofs.Served.{none-ended, nothing-fits, passed, still-serves, turns-on}
-use Rattle.sd_sound.specs.Logs.{Outcomes}
+use Rattle.sd_chain.specs.Logs.{Outcomes}
 
 -- ---- who is active
 

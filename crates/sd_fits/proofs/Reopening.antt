@@ -25,12 +25,12 @@ use Rattle.sd_chain.specs.Bytes.{stable}
 use Rattle.sd_chain.specs.Storage.{Storage, newest}
 use Rattle.sd_chain.specs.Losers.{OwnLogs}
 use Rattle.sd_chain.proofs.Soundly.{sound-opens}
-use Rattle.sd_sound.specs.Logs.{Outcomes}
+use Rattle.sd_chain.specs.Logs.{Outcomes}
 use Rattle.sd_world.specs.Answers.{AreFoundLost}
 use Rattle.sd_world.specs.Serving.{Core, Turns}
-use Rattle.sd_opened.specs.Opening.{OpensTo, is_down_in, is_loser, is_lost_in, opened_again, some_lost}
+use Rattle.sd_moves.specs.Opening.{OpensTo, is_down_in, is_loser, is_lost_in, opened_again, some_lost}
 use Rattle.sd_state.specs.Parts.{Parts}
-use Rattle.sd_opened.proofs.OpenedAgain.{closed-opens-again, down-lost}
+use Rattle.sd_moves.proofs.OpenedAgain.{closed-opens-again, down-lost}
 use Rattle.sd_fits.specs.Closed.{ClosedReopens, FitsClosed, reopened_core}
 use Rattle.sd_fits.specs.Fits.{Fits}
 use Rattle.sd_fits.specs.Opened.{IsOpenedOn}

@@ -1,7 +1,6 @@
 -- A record of no page comes to a log: how pages and sums go on fitting. For the calls that put a Commit, an End, a Start or a
 -- record of a checkpoint.
-use Rattle.std.proofs.Common.{◌≡◌, ◌≢◌, ⊎_elim, ℕ, zero, suc, eqb, ◌+◌, ◌-◌, ◌≤◌, Bool, true, false, cond, ◌&&◌, ◌||◌, List, []}
-use Rattle.std.proofs.Common.{◌∷◌, ◌++◌, length, max, slice_set, append-nil, refl, sym, ap, ◌∙◌, subst, arith}
+use Rattle.std.proofs.Common.{◌≡◌, ◌≢◌, ⊎_elim, ℕ, zero, suc, eqb, ◌+◌, ◌-◌, ◌≤◌, Bool, true, false, cond, ◌&&◌, ◌||◌, List, [], ◌∷◌, ◌++◌, length, max, slice_set, append-nil, refl, sym, ap, ◌∙◌, subst, arith}
 use Rattle.std.specs.Prelude.{None, filter, map}
 use Rattle.std.specs.List.{list_any}
 use Rattle.std.specs.Option.{option_map_or}
@@ -35,10 +34,10 @@ use Rattle.sd_chain.specs.Records.{IsOpen, changes, home, of_page, stack}
 use Rattle.sd_chain.proofs.Cuts.{newest-by_page}
 use Rattle.sd_chain.proofs.Fates.{open-endless}
 use Rattle.sd_chain.proofs.Lists.{filter-skip}
-use Rattle.sd_coherent.specs.Named.{version_of}
-use Rattle.sd_sound.specs.Logs.{Logs, Outcomes, all_at, base_at, kept_logs, next_lsn, tail_at, tails_of}
-use Rattle.sd_sound.proofs.Appends.{appended-log}
-use Rattle.sd_sound.proofs.Kept.{forced-gate}
+use Rattle.sd_chain.specs.Named.{version_of}
+use Rattle.sd_chain.specs.Logs.{Logs, Outcomes, all_at, base_at, kept_logs, next_lsn, tail_at, tails_of}
+use Rattle.sd_chain.proofs.Appends.{appended-log}
+use Rattle.sd_chain.proofs.Kept.{forced-gate}
 use Rattle.sd_state.specs.Good.{Good}
 use Rattle.sd_state.specs.Images.{begun_at, log_by}
 use Rattle.sd_state.specs.Parts.{Parts, among, is_loose, log_at, no_log, no_txns, other_at, owed_at, status_at, txns_at}
@@ -52,7 +51,7 @@ use Rattle.sd_world.specs.Bounds.{Bounds}
 use Rattle.sd_world.specs.Pages.{Pages}
 use Rattle.sd_fits.specs.Fits.{AreWithin, FitsBounds, FitsDoubts, FitsPages, HaveSlots, ReachesAtMost, capacities}
 use Rattle.sd_fits.proofs.Doubts.{commits-more, doubts-on, placed-slots, same-doubts, slots-kept}
-use Rattle.sd_falls.proofs.FallBounds.{sum-less}
+use Rattle.sd_moves.proofs.FallBounds.{sum-less}
 
 -- ---- one record more in a tail
 

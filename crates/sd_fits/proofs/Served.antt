@@ -17,7 +17,7 @@ use Rattle.sd_model.specs.declared.event.Event.TheVariants.{Insert, CheckEnd}
 use Rattle.sd_model.specs.declared.event.Reply.{Reply}
 use Rattle.sd_model.specs.declared.event.Reply.TheVariants as reply
 use Rattle.sd_reclock.specs.Locks.{LockTable, held, waits}
-use Rattle.sd_sound.specs.Logs.{Outcomes}
+use Rattle.sd_chain.specs.Logs.{Outcomes}
 use Rattle.sd_world.specs.Answers.{Moves}
 use Rattle.sd_world.specs.Bounds.{Bounds, Within, bounds_after, cost, counts, masters_after, slots_after, with_slot}
 use Rattle.sd_world.specs.Serving.{Core, Passes, Serves, Spares, Telling, Turns}

@@ -15,13 +15,13 @@ use Rattle.sd_chain.specs.Storage.{newest}
 use Rattle.sd_chain.specs.Images.{Allowed, Keeps}
 use Rattle.sd_chain.specs.Records.{Each, Val}
 use Rattle.sd_chain.proofs.Lists.{Each-front, Each-weaker}
-use Rattle.sd_coherent.proofs.Crashes as crashes
-use Rattle.sd_coherent.specs.Named.{version_of}
-use Rattle.sd_sound.specs.Logs.{Logs, Outcomes, all_at, base_at, eight, kept_logs, owed_with, tail_at, tails_of, may_of}
-use Rattle.sd_sound.specs.Soundly.{IsReady}
-use Rattle.sd_sound.proofs.Kept.{forced-base, forced-start, kept-is, log-here, log-past}
-use Rattle.sd_sound.proofs.Lsns.{owed-most}
-use Rattle.sd_sound.proofs.Soundly.{logs-ready}
+use Rattle.sd_chain.proofs.Crashes as crashes
+use Rattle.sd_chain.specs.Named.{version_of}
+use Rattle.sd_chain.specs.Logs.{Logs, Outcomes, all_at, base_at, eight, kept_logs, owed_with, tail_at, tails_of, may_of}
+use Rattle.sd_chain.specs.Soundly.{IsReady}
+use Rattle.sd_chain.proofs.Kept.{forced-base, forced-start, kept-is, log-here, log-past}
+use Rattle.sd_chain.proofs.Lsns.{owed-most}
+use Rattle.sd_chain.proofs.ChecksPass.{logs-ready}
 use Rattle.sd_state.specs.Good.{Half, base_of, dir_of}
 use Rattle.sd_state.specs.Images.{leaves_by, log_by}
 use Rattle.sd_state.specs.Parts.{Parts, log_at}
@@ -29,7 +29,7 @@ use Rattle.sd_state.specs.Sums.{great_of, owed_in_all}
 use Rattle.sd_state.specs.Values.{Pending, values}
 use Rattle.sd_state.proofs.Summed.{most-at}
 use Rattle.sd_state.proofs.ChangedLists.{each-by}
-use Rattle.sd_changes.proofs.ChangeLsns.{known-low}
+use Rattle.sd_update.proofs.ChangeLsns.{known-low}
 use Rattle.sd_state.proofs.Owing.{most-in-all, owes-at-most}
 use Rattle.sd_state.proofs.Standing.{left-by, which}
 use Rattle.sd_model.specs.Fields.{inst_of}

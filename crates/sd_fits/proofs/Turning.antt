@@ -18,7 +18,7 @@ use Rattle.sd_rig.specs.Devices.{DeviceImages}
 use Rattle.sd_txn.specs.Owing.{owed_of}
 use Rattle.sd_txn.specs.Transactions.{OthersStay, Transaction, Transactions, span_at, txn_at}
 use Rattle.sd_chain.specs.Records.{IsOpen, home}
-use Rattle.sd_sound.specs.Logs.{Outcomes, all_at}
+use Rattle.sd_chain.specs.Logs.{Outcomes, all_at}
 use Rattle.sd_world.specs.Bounds.{Bounds}
 use Rattle.sd_world.specs.Serving.{Core}
 use Rattle.sd_state.specs.Good.{Good}

@@ -14,8 +14,8 @@ use Rattle.sd_rig.specs.Devices.{DeviceImages}
 use Rattle.sd_chain.specs.Images.{Keeps, all_kept}
 use Rattle.sd_chain.specs.Pages.{value}
 use Rattle.sd_chain.specs.Records.{home, stack}
-use Rattle.sd_coherent.proofs.Newest.{value-committed}
-use Rattle.sd_sound.specs.Logs.{Outcomes, all_at, kept_logs, tails_of}
+use Rattle.sd_chain.proofs.OneUpdater.{value-committed}
+use Rattle.sd_chain.specs.Logs.{Outcomes, all_at, kept_logs, tails_of}
 use Rattle.sd_state.specs.Good.{Good, Half, base_of, dir_of}
 use Rattle.sd_state.specs.Images.{leaves_by, log_by}
 use Rattle.sd_state.specs.Laws.{newest_of}

@@ -1,6 +1,5 @@
 -- A transaction's last open record is undone: how the complex goes on fitting. For the calls that roll back.
-use Rattle.std.proofs.Common.{◌≡◌, ◌≢◌, ◌⊎◌, inl, inr, ⊎_elim, ℕ, suc, ◌+◌, ◌<◌, ◌≤◌, true, false, cond, List, [], ◌∷◌, ◌++◌, length, map}
-use Rattle.std.proofs.Common.{max, refl, sym, ap, ◌∙◌, subst, arith}
+use Rattle.std.proofs.Common.{◌≡◌, ◌≢◌, ◌⊎◌, inl, inr, ⊎_elim, ℕ, suc, ◌+◌, ◌<◌, ◌≤◌, true, false, cond, List, [], ◌∷◌, ◌++◌, length, map, max, refl, sym, ap, ◌∙◌, subst, arith}
 use Rattle.std.specs.Prelude.{Option, None, Some, IsSome, reverse}
 use Rattle.std.specs.List.{IsDistinct}
 use Rattle.std.specs.Option.{option_and_then}
@@ -26,8 +25,8 @@ use Rattle.sd_model.specs.declared.event.Event.TheVariants.{Undo}
 use Rattle.sd_model.specs.declared.event.Reply.TheVariants as reply
 use Rattle.sd_page.specs.Page.{Page}
 use Rattle.sd_pagelock.specs.Directory.{entry_at}
-use Rattle.sd_places.specs.Places.{PageEntry, is_lost, owns}
-use Rattle.sd_places.specs.Rows.{dirtied}
+use Rattle.sd_pagelock.specs.Places.{PageEntry, is_lost, owns}
+use Rattle.sd_pagelock.specs.Rows.{dirtied}
 use Rattle.sd_pool.specs.Buffers.{Buffers}
 use Rattle.sd_rig.specs.Devices.{DeviceImages}
 use Rattle.sd_txn.specs.Owing.{owed_of}
@@ -39,28 +38,28 @@ use Rattle.sd_chain.specs.Checks.{owed, reserve}
 use Rattle.sd_chain.specs.Images.{Keeps, all_kept}
 use Rattle.sd_chain.specs.Pages.{redo}
 use Rattle.sd_chain.specs.Records.{IsOpen, home, stack}
-use Rattle.sd_coherent.specs.Named.{version_of}
-use Rattle.sd_sound.specs.Logs.{Outcomes, all_at, tails_of}
-use Rattle.sd_sound.proofs.Appends.{appended-log}
+use Rattle.sd_chain.specs.Named.{version_of}
+use Rattle.sd_chain.specs.Logs.{Outcomes, all_at, tails_of}
+use Rattle.sd_chain.proofs.Appends.{appended-log}
 use Rattle.sd_world.specs.Bounds.{Bounds, bounds_after}
 use Rattle.sd_world.specs.PageCauses.{last_page, undo_page}
 use Rattle.sd_world.specs.Pages.{numbered, page_placed}
 use Rattle.sd_world.specs.Serving.{Core}
-use Rattle.sd_changes.specs.Changing.{with_changed}
+use Rattle.sd_update.specs.Changing.{with_changed}
 use Rattle.sd_state.specs.Good.{Good}
 use Rattle.sd_state.specs.Images.{log_by}
 use Rattle.sd_state.specs.Parts.{Parts, is_loose, log_at, owed_at, pool_at, status_at, txns_at}
 use Rattle.sd_state.specs.Sums.{great_of, owed_in_all, owes_most}
 use Rattle.sd_state.specs.Tables.{IsLive, IsLogged, RowIsLive, RowIsLogged, goes_on_as, tells_log}
-use Rattle.sd_undos.specs.Undoing.{HasTop, HasUndone, RollsTo, clr_at, with_undone_by}
+use Rattle.sd_update.specs.Undoing.{HasTop, HasUndone, RollsTo, clr_at, with_undone_by}
 use Rattle.sd_state.specs.Values.{Pending, is_doubt, put_of}
 use Rattle.sd_state.proofs.Standing.{one-place}
-use Rattle.sd_undos.proofs.UndoneHalf.{life-same}
-use Rattle.sd_undos.proofs.UndoneRows.{IsTop, top-of}
-use Rattle.sd_undos.proofs.UndoneTop.{clr-falls, finds-place}
+use Rattle.sd_update.proofs.UndoneHalf.{life-same}
+use Rattle.sd_update.proofs.UndoneRows.{IsTop, top-of}
+use Rattle.sd_update.proofs.UndoneTop.{clr-falls, finds-place}
 use Rattle.sd_state.proofs.WorkingGood.{working-settled}
 use Rattle.sd_state.proofs.WorkingTurns.{as-many}
-use Rattle.sd_falls.proofs.FallBounds.{sum-less}
+use Rattle.sd_moves.proofs.FallBounds.{sum-less}
 use Rattle.sd_fits.specs.Fits.{AreWithin, Fits, FitsBounds, ReachesAtMost, capacities}
 use Rattle.sd_fits.proofs.Changing.{caps-set}
 use Rattle.sd_fits.proofs.Recording.{Records}

@@ -1,6 +1,5 @@
 -- What a transaction sees at a record is what its page has there, where nobody stands in the way of its lock. For the calls on records.
-use Rattle.std.proofs.Common.{◌≡◌, ◌≢◌, ⊎_elim, ℕ, zero, suc, ◌≤◌, Bool, true, false, cond, List, [], ◌∷◌, filter, length, map}
-use Rattle.std.proofs.Common.{refl, sym, ap, ◌∙◌, subst, append-nil, arith}
+use Rattle.std.proofs.Common.{◌≡◌, ◌≢◌, ⊎_elim, ℕ, zero, suc, ◌≤◌, Bool, true, false, cond, List, [], ◌∷◌, filter, length, map, refl, sym, ap, ◌∙◌, subst, append-nil, arith}
 use Rattle.std.specs.Prelude.{Option, None, Some, unwrap_or}
 use Rattle.sd_base.specs.Ids.{same_rid}
 use Rattle.sd_base.specs.declared.ids.Rid.{Rid}
@@ -12,7 +11,7 @@ use Rattle.sd_base.proofs.SameIds.{cases_rid, cases_txn, ne-same_rid}
 use Rattle.sd_logrec.specs.View.{Rec}
 use Rattle.sd_page.specs.Page.{Page, Slot, empty_page}
 use Rattle.sd_pagelock.specs.Directory.{entry_at}
-use Rattle.sd_places.specs.Places.{holds}
+use Rattle.sd_pagelock.specs.Places.{holds}
 use Rattle.sd_model.specs.Acts.{Puts, after, live, seen_over}
 use Rattle.sd_model.specs.Claims.{Claims, Clash, Owns}
 use Rattle.sd_model.specs.Kept.{MayCommit}
@@ -34,9 +33,9 @@ use Rattle.sd_chain.specs.Images.{Keeps, all_kept}
 use Rattle.sd_chain.specs.Pages.{value}
 use Rattle.sd_chain.specs.Records.{Each, IsOpen, at, home, stack}
 use Rattle.sd_chain.proofs.Newest.{at_is}
-use Rattle.sd_coherent.proofs.Newest.{value-committed, value-open}
-use Rattle.sd_sound.specs.Logs.{Outcomes, all_at, base_at, kept_logs, tails_of}
-use Rattle.sd_changes.specs.Changing.{image_for}
+use Rattle.sd_chain.proofs.OneUpdater.{value-committed, value-open}
+use Rattle.sd_chain.specs.Logs.{Outcomes, all_at, base_at, kept_logs, tails_of}
+use Rattle.sd_update.specs.Changing.{image_for}
 use Rattle.sd_state.specs.Good.{Good, Half, base_of, dir_of}
 use Rattle.sd_state.specs.Images.{leaves_by, log_by}
 use Rattle.sd_state.specs.Laws.{newest_of}

@@ -4,12 +4,12 @@ use Rattle.std.proofs.Common.{ℕ, ◌+◌, ◌≤◌, List, arith}
 use Rattle.sd_reclock.specs.Locks.{LockTable}
 use Rattle.sd_rig.specs.Devices as rig
 use Rattle.sd_txn.specs.Transactions.{Transactions}
-use Rattle.sd_sound.specs.Logs.{Outcomes}
+use Rattle.sd_chain.specs.Logs.{Outcomes}
 use Rattle.sd_state.specs.Parts.{Parts}
 use Rattle.sd_state.specs.Sums.{great_of, owed_in_all, owes_most}
 use Rattle.sd_world.specs.Bounds.{Bounds}
 use Rattle.sd_world.specs.Pages.{Pages}
-use Rattle.sd_falls.proofs.FallBounds.{sum-less}
+use Rattle.sd_moves.proofs.FallBounds.{sum-less}
 use Rattle.sd_fits.specs.Fits.{FitsBounds, FitsPages}
 
 module _ (txns : List Transactions) (locks : LockTable) (seen : rig.DeviceImages) (leaves : Outcomes) (c : Parts) where

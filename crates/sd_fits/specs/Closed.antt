@@ -11,14 +11,14 @@ use Rattle.sd_model.specs.Recoverers.{Recoverers}
 use Rattle.sd_model.specs.State.{closed}
 use Rattle.sd_model.specs.declared.event.Event.TheVariants.{FailAll, Reopen}
 use Rattle.sd_model.specs.declared.event.Reply.TheVariants as reply
-use Rattle.sd_places.specs.Places.{PageEntry}
+use Rattle.sd_pagelock.specs.Places.{PageEntry}
 use Rattle.sd_rig.specs.Devices as rig
-use Rattle.sd_sound.specs.Logs.{Outcomes}
+use Rattle.sd_chain.specs.Logs.{Outcomes}
 use Rattle.sd_world.specs.Bounds.{Bounds, bounds_after}
 use Rattle.sd_world.specs.Pages.{Pages, emptied}
 use Rattle.sd_world.specs.Serving.{Core, Turns}
 use Rattle.sd_state.specs.Images.{Stands}
-use Rattle.sd_opened.specs.Opening.{opened_again}
+use Rattle.sd_moves.specs.Opening.{opened_again}
 use Rattle.sd_state.specs.Parts.{Parts}
 use Rattle.sd_state.specs.Values.{Pending}
 use Rattle.sd_fits.specs.Fits.{Fits}

@@ -15,14 +15,14 @@ use Rattle.sd_model.specs.Tables.{Content}
 use Rattle.sd_txn.specs.Transactions.{span_at}
 use Rattle.sd_page.specs.Page.{Page}
 use Rattle.sd_pagelock.specs.Directory.{asks_at, entry_at}
-use Rattle.sd_places.specs.Places.{PageEntry, is_lost}
+use Rattle.sd_pagelock.specs.Places.{PageEntry, is_lost}
 use Rattle.sd_reclock.specs.Locks.{waits}
 use Rattle.sd_rig.specs.Devices as rig
 use Rattle.sd_chain.specs.Bytes.{disk_page}
 use Rattle.sd_chain.specs.Checks.{reserve}
 use Rattle.sd_chain.specs.Images.{Keeps}
-use Rattle.sd_coherent.specs.Named.{version_of}
-use Rattle.sd_sound.specs.Logs.{Outcomes, all_at, base_at, kept_logs, tails_of}
+use Rattle.sd_chain.specs.Named.{version_of}
+use Rattle.sd_chain.specs.Logs.{Outcomes, all_at, base_at, kept_logs, tails_of}
 use Rattle.sd_world.specs.Bounds.{Bounds}
 use Rattle.sd_world.specs.Pages.{Pages}
 use Rattle.sd_world.specs.Serving.{Core}

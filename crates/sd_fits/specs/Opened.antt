@@ -11,12 +11,12 @@ use Rattle.sd_chain.specs.Bytes.{disk_page, log_of, stable}
 use Rattle.sd_chain.specs.Checks.{gate_of, owed_by_all, reserve}
 use Rattle.sd_chain.specs.Storage.{Storage, newest}
 use Rattle.sd_chain.specs.Losers.{losers_in, table_in}
-use Rattle.sd_sound.specs.Logs.{Outcomes}
+use Rattle.sd_chain.specs.Logs.{Outcomes}
 use Rattle.sd_world.specs.Bounds.{Bounds}
 use Rattle.sd_world.specs.Pages.{Pages, place_of}
 use Rattle.sd_world.specs.Serving.{Core}
 use Rattle.sd_state.specs.Images.{kept_epoch}
-use Rattle.sd_opened.specs.Opening.{AreOpened, has_open, is_loser, is_lost_in, status_in}
+use Rattle.sd_moves.specs.Opening.{AreOpened, has_open, is_loser, is_lost_in, status_in}
 use Rattle.sd_state.specs.Parts.{Parts}
 use Rattle.sd_state.specs.Sums.{most_to}
 use Rattle.sd_fits.specs.Fits.{Fits, capacities}

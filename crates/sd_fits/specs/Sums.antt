@@ -6,7 +6,7 @@ use Rattle.sd_chain.specs.Bytes.{disk_page, log_of, stable}
 use Rattle.sd_chain.specs.Checks.{gate_of, owed_by_all, reserve}
 use Rattle.sd_chain.specs.Storage.{newest}
 use Rattle.sd_chain.specs.Records.{Each}
-use Rattle.sd_sound.specs.Logs.{Outcomes}
+use Rattle.sd_chain.specs.Logs.{Outcomes}
 use Rattle.sd_world.specs.Bounds.{Bounds}
 use Rattle.sd_world.specs.Serving.{Core}
 use Rattle.sd_state.specs.Parts.{Parts}

@@ -17,14 +17,14 @@ use Rattle.sd_state.specs.declared.complex.Shape.{Shape}
 use Rattle.sd_fits.specs.declared.body.Body.{Body}
 use Rattle.sd_fits.proofs.Framed.{turns-frames}
 use Rattle.sd_hall.specs.declared.hall.Hall.{Hall}
-use Rattle.sd_owed.specs.Passed.Bodies.{IsAwaited, IsAwaitedIn, IsDownAt, IsWorked, IsWorkedIn, ServesIn}
-use Rattle.sd_owed.specs.Passed.Owed.{IsOwed}
-use Rattle.sd_owed.specs.Passed.Served.{IsServed}
+use Rattle.sd_hall.specs.Bodies.{IsAwaited, IsAwaitedIn, IsDownAt, IsWorked, IsWorkedIn, ServesIn}
+use Rattle.sd_hall.specs.Owed.{IsOwed}
+use Rattle.sd_hall.specs.Served.{IsServed}
 use Rattle.sd_hall.specs.Keeping.{HasPlace, Keeps, MakesPlace}
-use Rattle.sd_owed.specs.Ledger.{entries_owed, owed_more}
-use Rattle.sd_owed.proofs.Owes.{step-owed}
-use Rattle.sd_owed.proofs.Bodies.{fell-in, listed-in, next-in, paid-in, same-in}
-use Rattle.sd_owed.proofs.Paid.{HasFallen, owed-none, owed-some}
+use Rattle.sd_hall.specs.Ledger.{entries_owed, owed_more}
+use Rattle.sd_hall.proofs.Owes.{step-owed}
+use Rattle.sd_hall.proofs.LedgerBodies.{fell-in, listed-in, next-in, paid-in, same-in}
+use Rattle.sd_hall.proofs.Paid.{HasFallen, owed-none, owed-some}
 
 -- one entry more is owed at most
 pub more-one : (e : Event) (r : Reply) → owed_more e r ≤ 1

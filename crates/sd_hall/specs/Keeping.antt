@@ -3,10 +3,10 @@ use Rattle.std.specs.Prelude.{◌≡◌, ◌⊎◌, ◌+◌, ◌≤◌}
 use Rattle.sd_model.specs.declared.event.Event.{Event}
 use Rattle.sd_world.specs.Leading.{Leads}
 use Rattle.sd_world.specs.Serving.{Core, Telling}
-use Rattle.sd_owed.specs.Passed.Bodies.{fits_in}
+use Rattle.sd_hall.specs.Bodies.{fits_in}
 use Rattle.sd_hall.specs.declared.hall.Hall.{Hall}
-use Rattle.sd_owed.specs.Ledger.{entries_owed}
-use Rattle.sd_owed.specs.Passed.Owed.{IsOwed}
+use Rattle.sd_hall.specs.Ledger.{entries_owed}
+use Rattle.sd_hall.specs.Owed.{IsOwed}
 
 -- The entries lead from the start to a core that the complex fits, open or closed, with as many frames as the hall's shape says:
 -- at least one, and at most 1,024. The book has room for what the hall owes, and the hall counts no less than it owes.

@@ -1,2 +1,5 @@
 pub mod Keeping
-pub mod Passed
+pub mod Served
+pub mod Owed
+pub mod Bodies
+pub mod Ledger

@@ -1,10 +1,10 @@
 //! What a hall keeps of pages: a law, the contract of a call that does nothing.
 
 ghost use Rattle.std.specs.Prelude.{◌≡◌, ℕ, true, None, Some, cond};
-ghost use Rattle.sd_coherent.specs.Newest.{IsAlone};
+ghost use Rattle.sd_chain.specs.Newest.{IsAlone};
 ghost use Rattle.sd_page.specs.Page.{Page};
 ghost use Rattle.sd_pagelock.specs.Directory.{entry_at, moving_image_at};
-ghost use Rattle.sd_places.specs.Places.{holds, owns, passes};
+ghost use Rattle.sd_pagelock.specs.Places.{holds, owns, passes};
 ghost use Rattle.sd_pool.specs.Buffers.{image_at};
 ghost use Rattle.sd_state.specs.Complexes.{parts};
 ghost use Rattle.sd_state.specs.Good.{dir_of};
@@ -12,7 +12,7 @@ ghost use Rattle.sd_state.specs.Laws.{newest_of};
 ghost use Rattle.sd_state.specs.Parts.{pool_at};
 ghost use Rattle.sd_world.specs.Serving.{Core, telling};
 ghost use Rattle.sd_state.specs.declared.complex.Complex.{Complex};
-ghost use Rattle.sd_owed.specs.Passed.Bodies.{open_in};
+ghost use Rattle.sd_hall.specs.Bodies.{open_in};
 ghost use Rattle.sd_hall.specs.Keeping.{Keeps};
 
 use crate::hall::Hall;

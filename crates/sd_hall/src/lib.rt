@@ -20,7 +20,13 @@
 //! - frozen: nothing
 #![tactic(auto)]
 
+mod dispatch;
 mod hall;
 pub mod laws;
+mod ledger;
+mod turning;
 
+pub use dispatch::put_told;
 pub use hall::Hall;
+pub use ledger::{is_owed_in, more};
+pub use turning::{serve_body, turned};

@@ -13,7 +13,7 @@ use Rattle.sd_logrec.proofs.Lengths.{length-four}
 use Rattle.sd_rig.specs.Devices.{AgreesOutside, DeviceImages}
 use Rattle.sd_rig.specs.Ranges.{outside_before}
 use Rattle.sd_log.specs.Buffers.{BufferState, framed}
-use Rattle.sd_gate.specs.Gates.{Fills}
+use Rattle.sd_rig.specs.Gates.{Fills}
 use Rattle.sd_log.specs.Forces.{Forces, StandsEither, forced_at, forced_len}
 use Rattle.sd_log.specs.declared.log.Log.TheInside.{Inside}
 use Rattle.sd_log.specs.WrittenStates.{WrittenState, closed}

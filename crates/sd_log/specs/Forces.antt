@@ -1,7 +1,7 @@
 -- What a crash may leave of the devices while a log is forced.
 use Rattle.std.specs.Prelude.{◌⊎◌, ℕ, ◌+◌, List}
 use Rattle.sd_rig.specs.Devices.{AgreesOutside, DeviceImages}
-use Rattle.sd_gate.specs.Gates.{LeavesOthers}
+use Rattle.sd_rig.specs.Gates.{LeavesOthers}
 use Rattle.sd_log.specs.Logs.{LogState, StandsOn, forced, tail_len}
 
 -- the bytes of its device that a force of the log may change

@@ -4,13 +4,12 @@ ghost use Rattle.std.specs.Prelude.{◌≡◌, ◌≢◌, ◌⊎◌, ℕ, ◌+�
 ghost use Rattle.sd_base.specs.Streams.{Rises};
 ghost use Rattle.sd_base.specs.Twin as twin;
 ghost use Rattle.sd_rig.specs.Devices.{AgreesOutside, Elapses, LeavesOnly, LeavesSame, Span, device_len};
-ghost use Rattle.sd_gate.specs.Gates.{Fills};
+ghost use Rattle.sd_rig.specs.Gates.{Fills};
 ghost use Rattle.sd_log.specs.Buffers.{BufferState, framed};
 
 use sd_base::{Failed, Memory};
-use sd_gate::fill;
 use sd_logrec::{GROUP_HEAD, put_bytes, put_u32};
-use sd_rig::Rig;
+use sd_rig::{Rig, fill};
 use std::alloc::Global;
 use std::marker::Model;
 

@@ -126,7 +126,7 @@ impl Journal {
     }
 
     /// Makes the records behind the groups a group with a body of `len` bytes, without memory.
-    pub fn settle(&mut self, len: u32)
+    pub fn close_group(&mut self, len: u32)
         requires tail { self.old.tail ≢ [] }
         requires fits { self.old.gate + GROUP_HEAD + len < 2 ^ 32 }
         ensures { self.new ≡ settled len self.old }

@@ -232,7 +232,7 @@ impl Log {
         }
         let gate = AREA + self.written.gate();
         self.buffer.write(rig, self.inst.get(), gate, tail)?;
-        self.written.settle(len as u32);
+        self.written.close_group(len as u32);
         Ok(())
     }
 

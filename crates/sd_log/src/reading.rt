@@ -11,8 +11,8 @@ ghost use Rattle.sd_log.specs.Readings.{AddsFront, AddsRecords, AddsGroup, entri
 use crate::journal::Journal;
 use byteorder::{BigEndian, ByteOrder};
 use sd_base::Refusal;
-use sd_gate::is_open;
 use sd_logrec::{AREA_LEN, GROUP_HEAD, Record};
+use sd_rig::is_open;
 use std::alloc::Global;
 
 /// The least length of a body: that of the shortest record.
@@ -77,7 +77,7 @@ fn read_group(
 {
     read_records(alloc, journal, body)?;
     text.extend_from_slice(body)?;
-    journal.settle(body.len() as u32);
+    journal.close_group(body.len() as u32);
     Ok(())
 }
 

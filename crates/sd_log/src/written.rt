@@ -159,7 +159,7 @@ impl Written {
     }
 
     /// Makes the tail a group with a body of `len` bytes, without memory.
-    pub fn settle(&mut self, len: u32)
+    pub fn close_group(&mut self, len: u32)
         requires tail { self.old.tail ≢ [] }
         requires len { len ≡ length (spelled self.old.tail) }
         requires fits { self.old.gate + GROUP_HEAD + len < 2 ^ 32 }

@@ -29,3 +29,4 @@ pub mod Reopens
 pub mod WaitAnswers
 pub mod Scenes
 pub mod NumberTexts
+mod Booked

@@ -1,6 +1,5 @@
 -- What digits spell: bounds by their number, and one spelling of each number. It serves the goals of numbers.rt.
-use Rattle.std.proofs.Common.{◌≡◌, ◌≢◌, ◌⊎◌, ⊎_elim, ℕ, zero, suc, ◌+◌, ◌*◌, ◌-◌, ◌^◌, ◌<◌, ◌≤◌, List, [], ◌∷◌, ◌++◌, length, refl, sym, ap, ◌∙◌, subst, arith}
-use Rattle.std.proofs.Common.{◌/◌, ◌%◌, length-append, add-one, take, drop, get_or, false, true≢false, eqb, Option, None, Some, MatchOption, ℤ, pos, negsuc, ◌+ℤ◌, ◌-ℤ◌}
+use Rattle.std.proofs.Common.{◌≡◌, ◌≢◌, ◌⊎◌, ⊎_elim, ℕ, zero, suc, ◌+◌, ◌*◌, ◌-◌, ◌^◌, ◌<◌, ◌≤◌, List, [], ◌∷◌, ◌++◌, length, refl, sym, ap, ◌∙◌, subst, arith, ◌/◌, ◌%◌, length-append, add-one, take, drop, get_or, false, true≢false, eqb, Option, None, Some, MatchOption, ℤ, pos, negsuc, ◌+ℤ◌, ◌-ℤ◌}
 use lib.IntN.{nat_abs}
 use lib.Signed.{mag}
 use mir.Syntax.{w64}

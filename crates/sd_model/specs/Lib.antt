@@ -32,3 +32,6 @@ pub mod SceneLaws
 pub mod Recoverers
 pub mod Finishing
 pub mod Reopening
+pub mod Replies
+pub mod Booked
+pub mod Shorts

@@ -1,5 +1,8 @@
 //! What is asked of the complex, and what it answers.
 
+ghost use Rattle.std.specs.Prelude.{◌≡◌};
+ghost use Rattle.sd_model.specs.Replies.{began_by, is_did, is_failed, is_joined, is_rows, is_step, wants_page};
+
 use crate::rows::Rows;
 use sd_base::{Bytes, InstNo, Lsn, Mode, PageNo, Pick, Place, Refusal, Rid, Trouble, TxnId, Word};
 
@@ -162,6 +165,60 @@ pub enum Reply {
     Shown { place: Place, lsn: Lsn },
     /// It is refused.
     Refused(Refusal),
+}
+
+impl Reply {
+    /// The transaction that began, if one did.
+    pub fn began(&self) -> Option<TxnId>
+        ensures { result ≡ began_by self.now }
+    {
+        match self {
+            Reply::Began(txn) => Some(*txn),
+            _ => None,
+        }
+    }
+
+    /// Whether an instance joined.
+    pub fn is_joined(&self) -> bool
+        ensures { result ≡ is_joined self.now }
+    {
+        matches!(self, Reply::Joined { .. })
+    }
+
+    /// Whether the reply has the rows of a page.
+    pub fn is_rows(&self) -> bool
+        ensures { result ≡ is_rows self.now }
+    {
+        matches!(self, Reply::Rows(_))
+    }
+
+    /// Whether it is done.
+    pub fn is_did(&self) -> bool
+        ensures { result ≡ is_did self.now }
+    {
+        matches!(self, Reply::Did)
+    }
+
+    /// Whether one step was made.
+    pub fn is_step(&self) -> bool
+        ensures { result ≡ is_step self.now }
+    {
+        matches!(self, Reply::Step)
+    }
+
+    /// Whether the reply wants a page.
+    pub fn wants_page(&self) -> bool
+        ensures { result ≡ wants_page self.now }
+    {
+        matches!(self, Reply::Refused(Refusal::NeedPage { .. }))
+    }
+
+    /// Whether the reply tells that a device failed.
+    pub fn is_failed(&self) -> bool
+        ensures { result ≡ is_failed self.now }
+    {
+        matches!(self, Reply::Refused(Refusal::Failed))
+    }
 }
 
 /// An event with its reply.

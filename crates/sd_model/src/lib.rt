@@ -18,18 +18,26 @@
 #![tactic(auto)]
 
 mod act;
+mod book;
 mod cause;
 mod copies;
 mod event;
 pub mod laws;
+mod line;
 mod numbers;
+mod packed;
 mod rows;
 mod table;
+mod told;
 
 pub use act::{Act, Claim, Cut, Done, Inst, Life};
+pub use book::Book;
 pub use cause::{Cause, causes_of, order};
 pub use copies::copy_refusal;
 pub use event::{Entry, Event, Reply};
+pub use line::{LineEntry, valued};
 pub use numbers::{NoSum, number, number_text, sum, text_length};
+pub use packed::{Answer, Deed, Noted, help_of};
 pub use rows::Rows;
 pub use table::Table;
+pub use told::{Seen, Told};

@@ -8,11 +8,11 @@ use Rattle.sd_page.specs.Page.{Page}
 use Rattle.sd_rig.specs.Devices.{DeviceImages}
 use Rattle.sd_model.specs.State.{State}
 use Rattle.sd_pagelock.specs.Directory.{DirectoryState, entry_at, moving_image_at}
-use Rattle.sd_places.specs.Places.{holds, passes}
+use Rattle.sd_pagelock.specs.Places.{holds, passes}
 use Rattle.sd_pool.specs.Buffers as buffers
 use Rattle.sd_pool.specs.Buffers.{Buffers}
-use Rattle.sd_coherent.proofs.Newest.{moving-newest}
-use Rattle.sd_sound.specs.Logs.{Outcomes, may_of}
+use Rattle.sd_chain.proofs.OneUpdater.{moving-newest}
+use Rattle.sd_chain.specs.Logs.{Outcomes, may_of}
 use Rattle.sd_state.specs.Complexes.{parts, unboxed}
 use Rattle.sd_state.specs.Good.{Good, base_of, dir_of}
 use Rattle.sd_state.specs.Images.{leaves_by}

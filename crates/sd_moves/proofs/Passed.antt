@@ -6,22 +6,22 @@ use Rattle.sd_base.specs.declared.place.Mode.{Mode}
 use Rattle.sd_logrec.specs.View.{flat}
 use Rattle.sd_page.specs.Page.{Page}
 use Rattle.sd_model.specs.State.{State}
-use Rattle.sd_asks.specs.declared.queue.Ask.{Ask}
-use Rattle.sd_asks.specs.Asks.{is_open_ask, oldest, open_asks}
+use Rattle.sd_pagelock.specs.declared.queue.Ask.{Ask}
+use Rattle.sd_pagelock.specs.Asks.{is_open_ask, oldest, open_asks}
 use Rattle.sd_pagelock.specs.Directory.{DirectoryState, asks_at, entry_at, kept_rec, rec_lsn_at}
 use Rattle.sd_pagelock.specs.Directory as directory
-use Rattle.sd_places.specs.Places.{Formed, PageEntry, changed, holds, owns, receives}
-use Rattle.sd_places.specs.Rows.{given_excl, given_shared, may_share, may_yield, taken}
-use Rattle.sd_places.proofs.Losses.{changed-given, changed-taken}
+use Rattle.sd_pagelock.specs.Places.{Formed, PageEntry, changed, holds, owns, receives}
+use Rattle.sd_pagelock.specs.Rows.{given_excl, given_shared, may_share, may_yield, taken}
+use Rattle.sd_pagelock.proofs.Losses.{changed-given, changed-taken}
 use Rattle.sd_pool.specs.Buffers as buffers
 use Rattle.sd_pool.specs.Buffers.{Buffers}
 use Rattle.sd_rig.specs.Devices as rig
 use Rattle.sd_chain.specs.Images.{Keeps}
 use Rattle.sd_chain.specs.Records.{Each}
-use Rattle.sd_coherent.specs.Coherent.{Coherent}
-use Rattle.sd_coherent.specs.Moves.{ForcedFor}
-use Rattle.sd_coherent.proofs.Moves.{share-keeps, take-keeps, yield-keeps}
-use Rattle.sd_sound.specs.Logs.{Outcomes, may_of}
+use Rattle.sd_chain.specs.Coherent.{Coherent}
+use Rattle.sd_chain.specs.Moves.{ForcedFor}
+use Rattle.sd_chain.proofs.Moves.{share-keeps, take-keeps, yield-keeps}
+use Rattle.sd_chain.specs.Logs.{Outcomes, may_of}
 use Rattle.sd_state.specs.Good.{Good, base_of, dir_of}
 use Rattle.sd_state.specs.Images.{leaves_by, log_by}
 use Rattle.sd_state.specs.Locking.{IsSet, with_place}

@@ -1,6 +1,5 @@
 -- How a complex stays good while pools and directory change: for the moves of a page.
-use Rattle.std.proofs.Common.{◌≡◌, ◌≢◌, ◌⊎◌, ℕ, ◌-◌, ◌≤◌, Bool, true, false, cond, eqb, List, [], ◌∷◌, length, refl, sym, ap}
-use Rattle.std.proofs.Common.{◌∙◌, subst, ⊎_elim, eqb-true}
+use Rattle.std.proofs.Common.{◌≡◌, ◌≢◌, ◌⊎◌, ℕ, ◌-◌, ◌≤◌, Bool, true, false, cond, eqb, List, [], ◌∷◌, length, refl, sym, ap, ◌∙◌, subst, ⊎_elim, eqb-true}
 use Rattle.std.specs.Prelude.{Option, None, Some, is_some, not, slice_set, ◌&&◌}
 use Rattle.std.proofs.lemmas.Bool.{cases_eq}
 use Rattle.std.proofs.lemmas.List.{length-set}
@@ -11,28 +10,28 @@ use Rattle.sd_base.specs.declared.place.Mode.{Mode}
 use Rattle.sd_base.specs.declared.place.Mode.TheVariants as modes
 use Rattle.sd_page.specs.Page.{Page}
 use Rattle.sd_model.specs.State.{State}
-use Rattle.sd_asks.specs.declared.queue.Ask.{Ask}
-use Rattle.sd_asks.specs.Asks.{is_open_ask, queued, stronger}
+use Rattle.sd_pagelock.specs.declared.queue.Ask.{Ask}
+use Rattle.sd_pagelock.specs.Asks.{is_open_ask, queued, stronger}
 use Rattle.sd_pagelock.specs.Directory as directory
 use Rattle.sd_pagelock.specs.Directory.{DirectoryState, asks_at, entry_at, rec_lsn_at}
-use Rattle.sd_places.specs.Places.{Formed, PageEntry, changed, holds, passes, uses}
-use Rattle.sd_places.specs.Rows.{fallen, is_only, may_evict, may_raise, raised}
-use Rattle.sd_places.proofs.Drops.{changed-fallen}
-use Rattle.sd_places.proofs.Losses.{changed-raised}
-use Rattle.sd_places.proofs.Uses.{raise-shares}
+use Rattle.sd_pagelock.specs.Places.{Formed, PageEntry, changed, holds, passes, uses}
+use Rattle.sd_pagelock.specs.Rows.{fallen, is_only, may_evict, may_raise, raised}
+use Rattle.sd_pagelock.proofs.Drops.{changed-fallen}
+use Rattle.sd_pagelock.proofs.Losses.{changed-raised}
+use Rattle.sd_pagelock.proofs.Uses.{raise-shares}
 use Rattle.sd_pool.specs.Buffers as buffers
 use Rattle.sd_pool.specs.Buffers.{Buffers}
 use Rattle.sd_rig.specs.Devices as rig
 use Rattle.sd_chain.specs.Images.{Keeps}
 use Rattle.sd_chain.specs.Laws.{May}
 use Rattle.sd_chain.specs.Records.{Each}
-use Rattle.sd_coherent.specs.Changes as changes_law
-use Rattle.sd_coherent.specs.Coherent.{Coherent, Quiet, Sits}
-use Rattle.sd_coherent.specs.Moves.{OneCopy}
-use Rattle.sd_coherent.specs.World.{Base, Dir, newest_version}
-use Rattle.sd_coherent.proofs.Changes.{rest-keeps}
-use Rattle.sd_coherent.proofs.Moves.{drop-keeps, raise-keeps, row_keeps-rec}
-use Rattle.sd_sound.specs.Logs.{Outcomes, may_of}
+use Rattle.sd_chain.specs.AppendedRecords as changes_law
+use Rattle.sd_chain.specs.Coherent.{Coherent, Quiet, Sits}
+use Rattle.sd_chain.specs.Moves.{OneCopy}
+use Rattle.sd_chain.specs.World.{Base, Dir, newest_version}
+use Rattle.sd_chain.proofs.Changes.{rest-keeps}
+use Rattle.sd_chain.proofs.Moves.{drop-keeps, raise-keeps, row_keeps-rec}
+use Rattle.sd_chain.specs.Logs.{Outcomes, may_of}
 use Rattle.sd_state.specs.Complexes.{unboxed}
 use Rattle.sd_state.specs.Good.{Good, Half, IsUnderWay, base_of, dir_of}
 use Rattle.sd_state.specs.Images.{begun_at, leaves_by, log_by}

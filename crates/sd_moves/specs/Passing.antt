@@ -4,8 +4,8 @@ use Rattle.sd_base.specs.declared.place.Mode.{Mode}
 use Rattle.sd_base.specs.declared.place.Mode.TheVariants as modes
 use Rattle.sd_page.specs.Page.{Page}
 use Rattle.sd_pagelock.specs.Directory.{DirectoryState, moving_image_at}
-use Rattle.sd_places.specs.Places.{PageEntry}
-use Rattle.sd_places.specs.Rows.{given_excl, given_shared, may_share, may_yield}
+use Rattle.sd_pagelock.specs.Places.{PageEntry}
+use Rattle.sd_pagelock.specs.Rows.{given_excl, given_shared, may_share, may_yield}
 use Rattle.sd_pool.specs.Buffers.{without_page}
 use Rattle.sd_state.specs.Locking.{with_place}
 use Rattle.sd_state.specs.Parts.{Parts, pool_at}

@@ -1,10 +1,9 @@
 -- What a move of a page leaves of the directory and of the complex.
-use Rattle.std.specs.Prelude.{◌≡◌, ◌≢◌, ℕ}
+use Rattle.std.specs.Prelude.{◌≡◌, ◌≢◌, ℕ, List}
 use Rattle.sd_page.specs.Page.{Page}
-use Rattle.sd_asks.specs.declared.queue.Ask.{Ask}
+use Rattle.sd_pagelock.specs.declared.queue.Ask.{Ask}
 use Rattle.sd_pagelock.specs.Directory.{DirectoryState, asks_at, entry_at, moving_image_at, rec_lsn_at}
 use Rattle.sd_state.specs.Parts.{Parts}
-use Rattle.std.specs.Prelude.{List}
 
 -- the directory is this one
 abbrev pub with_directory : DirectoryState Page → Parts → Parts

@@ -20,11 +20,20 @@
 //! - frozen: nothing
 #![tactic(auto)]
 
-pub mod laws;
+mod assembling;
+mod blanks;
+mod crash;
 mod passing;
 mod places;
-mod standing;
+mod rebuilding;
+mod reread;
+mod writing;
 
+pub use assembling::{Restored, assemble};
+pub use blanks::fresh;
+pub use crash::{cut, down};
 pub use passing::{move_copy, take_copy};
 pub use places::{drop_copy, queue_ask, raise, touch};
-pub use standing::is_active;
+pub use rebuilding::{newest_image, rebuild};
+pub use reread::{Unsettled, last_epoch, settle};
+pub use writing::{Unput, put_page};

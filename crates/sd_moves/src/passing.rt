@@ -4,10 +4,10 @@ ghost use Rattle.std.specs.Prelude.{◌≡◌, ◌≢◌, ℕ, true, false, [], 
 ghost use Rattle.sd_model.specs.State.{State};
 ghost use Rattle.sd_moves.specs.Passing.{IsOnWay, may_set_out, set_out, with_sent};
 ghost use Rattle.sd_moves.specs.Places.{IsAsked, with_directory};
-ghost use Rattle.sd_asks.specs.Asks.{oldest};
+ghost use Rattle.sd_pagelock.specs.Asks.{oldest};
 ghost use Rattle.sd_pagelock.specs.Directory.{asks_at, entry_at, moving_image_at, rec_lsn_at};
-ghost use Rattle.sd_places.specs.Places.{holds, owns, receives};
-ghost use Rattle.sd_places.specs.Rows.{given_excl, given_shared, may_share, may_yield, taken};
+ghost use Rattle.sd_pagelock.specs.Places.{holds, owns, receives};
+ghost use Rattle.sd_pagelock.specs.Rows.{given_excl, given_shared, may_share, may_yield, taken};
 ghost use Rattle.sd_pool.specs.Buffers as buffers;
 ghost use Rattle.sd_pool.specs.Buffers.{LacksFrame, with_page, without_page};
 ghost use Rattle.sd_state.specs.Complexes.{parts};

@@ -3,9 +3,9 @@
 ghost use Rattle.std.specs.Prelude.{◌≡◌, ◌≢◌, ℕ, true, None, OnErr, OnOk};
 ghost use Rattle.sd_model.specs.State.{State};
 ghost use Rattle.sd_moves.specs.Places.{IsAsked, with_directory};
-ghost use Rattle.sd_asks.specs.Asks.{is_open_ask, queued};
+ghost use Rattle.sd_pagelock.specs.Asks.{is_open_ask, queued};
 ghost use Rattle.sd_pagelock.specs.Directory.{asks_at, entry_at, moving_image_at, rec_lsn_at};
-ghost use Rattle.sd_places.specs.Rows.{fallen, may_evict, may_raise, raised};
+ghost use Rattle.sd_pagelock.specs.Rows.{fallen, may_evict, may_raise, raised};
 ghost use Rattle.sd_pool.specs.Buffers.{used, without_page};
 ghost use Rattle.sd_state.specs.Complexes.{parts};
 ghost use Rattle.sd_state.specs.Good.{Good};

@@ -19,14 +19,14 @@ use Rattle.sd_txn.specs.Transactions.{Transaction, top, txn_at}
 use Rattle.sd_txn.specs.declared.state.OpenRec.{OpenRec}
 use Rattle.sd_chain.specs.Records.{home, stack}
 use Rattle.sd_chain.proofs.Slots.{has-slot, lacks-slot}
-use Rattle.sd_sound.specs.Logs.{Outcomes, all_at}
-use Rattle.sd_sound.proofs.Kept.{forced-tail}
+use Rattle.sd_chain.specs.Logs.{Outcomes, all_at}
+use Rattle.sd_chain.proofs.Kept.{forced-tail}
 use Rattle.sd_state.specs.Forcing.{with_forced}
 use Rattle.sd_state.specs.Fresh.{IsFresh}
 use Rattle.sd_state.specs.Good.{Good}
 use Rattle.sd_state.specs.Parts.{Parts, is_loose, log_at, no_log, txns_at}
 use Rattle.sd_state.specs.Tables.{IsLive, RowIsLive, RowIsLogged, tells_log}
-use Rattle.sd_undos.specs.Undoing.{RollsTo}
+use Rattle.sd_update.specs.Undoing.{RollsTo}
 use Rattle.sd_state.specs.Values.{Pending, open_of, put_of}
 use Rattle.sd_state.proofs.EndingLeaves.{rolling-there}
 use Rattle.sd_state.proofs.Items.{item-set}

@@ -7,14 +7,14 @@ use Rattle.sd_logrec.specs.Spelling.{IsTxn}
 use Rattle.sd_model.specs.State.{State}
 use Rattle.sd_page.specs.Page.{Slot}
 use Rattle.sd_pagelock.specs.Directory.{entry_at}
-use Rattle.sd_places.specs.Places.{owns}
+use Rattle.sd_pagelock.specs.Places.{owns}
 use Rattle.sd_rig.specs.Devices as rig
 use Rattle.sd_txn.specs.Transactions.{state_at, top_at}
 use Rattle.sd_txn.specs.declared.state.OpenRec.{OpenRec}
 use Rattle.sd_txn.specs.declared.state.TxnState.{TxnState}
 use Rattle.sd_chain.specs.Pages.{FitsUpdate, value}
 use Rattle.sd_chain.specs.Records.{Val, home}
-use Rattle.sd_sound.specs.Logs.{Outcomes}
+use Rattle.sd_chain.specs.Logs.{Outcomes}
 use Rattle.sd_state.specs.Good.{Good}
 use Rattle.sd_state.specs.Parts.{Parts, status_at, txns_at}
 use Rattle.sd_state.specs.Values.{Pending}

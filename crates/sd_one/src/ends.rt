@@ -9,8 +9,8 @@ use crate::standing::{is_bare, may_end, may_take_back, runs};
 use crate::stop::Stop;
 use sd_base::TxnId;
 use sd_rig::Rig;
-use sd_seals::{seal_commit, seal_end};
 use sd_state::Complex;
+use sd_update::{seal_commit, seal_end};
 
 /// Commits a transaction: its Commit is forced, where it has a record. `Odd` where it doesn't run.
 pub fn commit<G: Rig>(c: &mut Complex<G>, t: &TxnId) -> Result<(), Stop>
@@ -40,7 +40,7 @@ pub fn undo<G: Rig>(c: &mut Complex<G>, t: &TxnId) -> Result<(), Stop>
     if !may_take_back(c, t) {
         return Err(Stop::Odd);
     }
-    sd_undos::undo(c, t);
+    sd_update::undo(c, t);
     Ok(())
 }
 

@@ -18,12 +18,16 @@
 //! - frozen: nothing
 #![tactic(auto)]
 
+mod calls;
+mod devices;
 mod ends;
 mod standing;
 mod starting;
 mod stop;
 mod work;
 
+pub use calls::{begun, get_page, is_lack, is_up, lacked, record, written};
+pub use devices::blank;
 pub use ends::{commit, roll_back_whole, undo};
 pub use starting::{arm, first, hold, start};
 pub use stop::Stop;

@@ -3,11 +3,11 @@
 ghost use Rattle.std.specs.Prelude.{◌≡◌, ◌≤◌, true, None, IsTrue};
 ghost use Rattle.sd_logrec.specs.Spelling.{IsTxn};
 ghost use Rattle.sd_pagelock.specs.Directory.{entry_at};
-ghost use Rattle.sd_places.specs.Places as places;
-ghost use Rattle.sd_changes.specs.Changing.{FitsThere};
+ghost use Rattle.sd_pagelock.specs.Places as places;
+ghost use Rattle.sd_update.specs.Changing.{FitsThere};
 ghost use Rattle.sd_state.specs.Complexes.{parts};
 ghost use Rattle.sd_state.specs.Parts.{IsShape, pool_at, txns_at};
-ghost use Rattle.sd_seals.specs.Sealing.{MayPutEnd};
+ghost use Rattle.sd_update.specs.Sealing.{MayPutEnd};
 ghost use Rattle.sd_txn.specs.Transactions.{span_at};
 ghost use Rattle.sd_one.specs.Ready.{FitsAt, MayTakeBack, Rolls, Runs};
 
@@ -23,7 +23,7 @@ pub fn runs<G>(c: &Complex<G>, t: &TxnId) -> bool
     requires { IsShape (parts c.now) }
     ensures { IsTrue result → Runs t.now (parts c.now) }
 {
-    let _number = t.inst.get();
+    t.inst.keeps();
     t.epoch >= 1
         && t.seq >= 1
         && matches!(c.status(t.inst), Status::Up)
@@ -35,7 +35,7 @@ pub fn rolls<G>(c: &Complex<G>, t: &TxnId) -> bool
     requires { IsShape (parts c.now) }
     ensures { IsTrue result → Rolls t.now (parts c.now) }
 {
-    let _number = t.inst.get();
+    t.inst.keeps();
     t.epoch >= 1
         && t.seq >= 1
         && matches!(c.status(t.inst), Status::Up)

@@ -11,11 +11,11 @@ ghost use Rattle.sd_one.specs.Ready.{IsReady};
 use crate::standing::pool;
 use crate::stop::Stop;
 use sd_base::{InstNo, Mode, PageNo, Refusal, Status, Trouble};
-use sd_opened::fresh;
+use sd_moves::fresh;
 use sd_pagelock::rows;
 use sd_rig::Rig;
-use sd_seals::seal_start;
 use sd_state::{Complex, Shape};
+use sd_update::seal_start;
 use std::alloc::Global;
 
 /// A complex on blank devices, with so many frames in each pool, whose instance 1 has begun its first epoch and is up. An error

@@ -8,9 +8,9 @@ use crate::standing::may_put;
 use crate::starting::first;
 use crate::stop::Stop;
 use sd_base::{Bytes, Mode, Rid, Status, TxnId, lent_value};
-use sd_changes::change;
 use sd_rig::Rig;
 use sd_state::Complex;
+use sd_update::change;
 
 /// Begins a transaction on instance 1. `Odd` where that isn't up.
 pub fn begin<G: Rig>(c: &mut Complex<G>) -> Result<TxnId, Stop>

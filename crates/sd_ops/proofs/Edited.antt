@@ -1,6 +1,5 @@
 -- An edit at its end: it is made, or its change is refused. For `carry`.
-use Rattle.std.proofs.Common.{◌≡◌, ◌⊎◌, inl, inr, ℕ, ◌+◌, ◌^◌, ◌<◌, ◌≤◌, true, false, cond, List, [], ◌∷◌, ◌++◌, length, refl}
-use Rattle.std.proofs.Common.{sym, ap, ap₂, ◌∙◌, subst, arith}
+use Rattle.std.proofs.Common.{◌≡◌, ◌⊎◌, inl, inr, ℕ, ◌+◌, ◌^◌, ◌<◌, ◌≤◌, true, false, cond, List, [], ◌∷◌, ◌++◌, length, refl, sym, ap, ap₂, ◌∙◌, subst, arith}
 use Rattle.std.specs.Prelude.{Option, None, Some, Result, Ok, Err, IfErr, OnErr, OnOk}
 use Rattle.sd_base.specs.Values.{size}
 use Rattle.sd_base.specs.declared.ids.Rid.{Rid}
@@ -19,11 +18,11 @@ use Rattle.sd_model.specs.declared.cause.Cause.{Cause}
 use Rattle.sd_model.specs.declared.event.Event.{Event}
 use Rattle.sd_model.specs.declared.event.Reply.TheVariants as reply
 use Rattle.sd_pagelock.specs.Directory.{entry_at}
-use Rattle.sd_places.specs.Places.{holds_as, is_lost, owns}
+use Rattle.sd_pagelock.specs.Places.{holds_as, is_lost, owns}
 use Rattle.sd_reclock.specs.Answers.{IsFree}
 use Rattle.sd_reclock.specs.Locks.{stands, wait_for}
 use Rattle.sd_rig.specs.Devices.{DeviceImages}
-use Rattle.sd_sound.specs.Logs.{Outcomes}
+use Rattle.sd_chain.specs.Logs.{Outcomes}
 use Rattle.sd_chain.specs.Pages.{value}
 use Rattle.sd_chain.specs.Records.{home}
 use Rattle.sd_txn.specs.Transactions.{state_at}
@@ -33,7 +32,7 @@ use Rattle.sd_world.specs.Bounds.{bounds_after, cost, counts}
 use Rattle.sd_world.specs.PageCauses.{NoneSays}
 use Rattle.sd_world.specs.Pages.{Pages}
 use Rattle.sd_world.specs.Serving.{Core, did, refused}
-use Rattle.sd_changes.specs.Changing.{LacksLsns, LacksRoom, change_of, image_for}
+use Rattle.sd_update.specs.Changing.{LacksLsns, LacksRoom, change_of, image_for}
 use Rattle.sd_state.specs.Parts.{Parts, status_at, txns_at}
 use Rattle.sd_fits.specs.Fits.{Fits}
 use Rattle.sd_fits.proofs.Changing.{ends-told, full-told}
@@ -42,13 +41,13 @@ use Rattle.sd_fits.proofs.Taking.{turned_to}
 use Rattle.sd_ops.specs.declared.edits.Edit.{Edit}
 use Rattle.sd_ops.specs.declared.edits.Edit.TheVariants.{To, By, Gone}
 use Rattle.sd_ops.specs.Edits.{IsLongEdit, Makes, Sets, event_of}
-use Rattle.sd_work.specs.Halves.{HalfServed, HalfTurns}
+use Rattle.sd_ops.specs.Halves.{HalfServed, HalfTurns}
 use Rattle.sd_ops.specs.Puts.{IsLowered, IsPutThere}
 use Rattle.sd_ops.proofs.Editing.{from-head, passes-both, ready-here, unlocked}
 use Rattle.sd_ops.proofs.Owning.{not-lost, owned-there, sees}
 use Rattle.sd_ops.proofs.Putted.{is-change, lowered-fits, put-fits, slots-stay}
 use Rattle.sd_ops.proofs.Spoiling.{here-not-none, is-number, is-short, sum-number}
-use Rattle.sd_work.proofs.Work.{IsFor, refused-turns, refused_to}
+use Rattle.sd_ops.proofs.Work.{IsFor, refused-turns, refused_to}
 
 module _ (t : TxnId) (r : Rid) (edit : Edit) (short : IsLongEdit edit → ⊥) (seen_by : DeviceImages) (leaves : Outcomes) (c : Parts)
     (low : 1 ≤ home t) (high : home t ≤ 8) (up : status_at c (home t) ≡ S.Up)

@@ -16,11 +16,11 @@ use Rattle.sd_model.specs.declared.act.Claim.{Claim}
 use Rattle.sd_model.specs.declared.cause.Cause.{Cause}
 use Rattle.sd_model.specs.declared.event.Event.{Event}
 use Rattle.sd_pagelock.specs.Directory.{entry_at}
-use Rattle.sd_places.specs.Places.{PageEntry, is_lost, owns}
+use Rattle.sd_pagelock.specs.Places.{PageEntry, is_lost, owns}
 use Rattle.sd_reclock.specs.Answers.{IsFree, IsRefused}
 use Rattle.sd_reclock.specs.Locks.{stands, wait_for, waits}
 use Rattle.sd_rig.specs.Devices.{DeviceImages}
-use Rattle.sd_sound.specs.Logs.{Outcomes}
+use Rattle.sd_chain.specs.Logs.{Outcomes}
 use Rattle.sd_chain.specs.Records.{home}
 use Rattle.sd_txn.specs.Transactions.{state_at}
 use Rattle.sd_txn.specs.declared.state.TxnState.{TxnState}
@@ -33,10 +33,10 @@ use Rattle.sd_fits.proofs.Heads.{is-ready}
 use Rattle.sd_ops.specs.declared.edits.Edit.{Edit}
 use Rattle.sd_ops.specs.declared.edits.Edit.TheVariants.{To, By, Gone}
 use Rattle.sd_ops.specs.Edits.{IsLongEdit, event_of}
-use Rattle.sd_work.specs.Halves.{HalfServed, NotesWait}
-use Rattle.sd_reads.specs.Copies.{LacksPage}
-use Rattle.sd_reads.proofs.Asking.{MayBlock, asked-half}
-use Rattle.sd_work.proofs.Work.{IsFor, IsWork, ready-passes, refused-half}
+use Rattle.sd_ops.specs.Halves.{HalfServed, NotesWait}
+use Rattle.sd_ops.specs.Copies.{LacksPage}
+use Rattle.sd_ops.proofs.Asking.{MayBlock, asked-half}
+use Rattle.sd_ops.proofs.Work.{IsFor, IsWork, ready-passes, refused-half}
 
 -- each is of a transaction that must run
 pub edit-work : (t : TxnId) (r : Rid) (edit : Edit) → IsWork (event_of t r edit) t

@@ -1,6 +1,5 @@
 -- An insert at its end: the record is made, or its change is refused. For `fill`.
-use Rattle.std.proofs.Common.{◌≡◌, ◌≢◌, ◌⊎◌, inl, inr, ⊎_elim, ℕ, ◌+◌, ◌^◌, ◌<◌, ◌≤◌, Bool, true, false, cond, eq-eqb, List, []}
-use Rattle.std.proofs.Common.{◌∷◌, ◌++◌, length, refl, sym, ap, ◌∙◌, subst, arith}
+use Rattle.std.proofs.Common.{◌≡◌, ◌≢◌, ◌⊎◌, inl, inr, ⊎_elim, ℕ, ◌+◌, ◌^◌, ◌<◌, ◌≤◌, Bool, true, false, cond, eq-eqb, List, [], ◌∷◌, ◌++◌, length, refl, sym, ap, ◌∙◌, subst, arith}
 use Rattle.std.specs.Prelude.{None, Some, Result, Ok, Err, IfErr, IfOk, OnErr}
 use Rattle.std.proofs.lemmas.Bool.{cases_lt}
 use Rattle.sd_base.specs.Values.{size}
@@ -21,11 +20,11 @@ use Rattle.sd_model.specs.declared.event.Event.{Event}
 use Rattle.sd_model.specs.declared.event.Event.TheVariants as event
 use Rattle.sd_model.specs.declared.event.Reply.TheVariants as reply
 use Rattle.sd_pagelock.specs.Directory.{entry_at}
-use Rattle.sd_places.specs.Places.{holds_as, is_lost, owns}
+use Rattle.sd_pagelock.specs.Places.{holds_as, is_lost, owns}
 use Rattle.sd_reclock.specs.Answers.{IsFree}
 use Rattle.sd_reclock.specs.Locks.{stands, wait_for}
 use Rattle.sd_rig.specs.Devices.{DeviceImages}
-use Rattle.sd_sound.specs.Logs.{Outcomes}
+use Rattle.sd_chain.specs.Logs.{Outcomes}
 use Rattle.sd_chain.specs.Pages.{redo, value}
 use Rattle.sd_chain.specs.Records.{home}
 use Rattle.sd_txn.specs.Transactions.{state_at}
@@ -34,7 +33,7 @@ use Rattle.sd_world.specs.Answers.{changes}
 use Rattle.sd_world.specs.Bounds.{bounds_after, with_slot}
 use Rattle.sd_world.specs.Pages.{Pages}
 use Rattle.sd_world.specs.Serving.{Core, refused}
-use Rattle.sd_changes.specs.Changing.{LacksLsns, LacksRoom, change_of, flat_of, image_for}
+use Rattle.sd_update.specs.Changing.{LacksLsns, LacksRoom, change_of, flat_of, image_for}
 use Rattle.sd_state.specs.Parts.{Parts, status_at, txns_at}
 use Rattle.sd_state.specs.Values.{Pending}
 use Rattle.sd_state.proofs.WorkingTakes.{free-claims}
@@ -42,14 +41,14 @@ use Rattle.sd_fits.specs.Fits.{AreWithin, Fits, capacities}
 use Rattle.sd_fits.proofs.Changing.{ends-told, full-told}
 use Rattle.sd_fits.proofs.Served.{bounds-stay}
 use Rattle.sd_fits.proofs.Taking.{turned_to}
-use Rattle.sd_work.specs.Halves.{HalfServed, HalfTurns}
+use Rattle.sd_ops.specs.Halves.{HalfServed, HalfTurns}
 use Rattle.sd_ops.specs.Puts.{IsLowered, IsPutThere}
 use Rattle.sd_ops.specs.Vacancies.{IsLongFor, IsVacant}
 use Rattle.sd_ops.proofs.Editing.{head_causes}
 use Rattle.sd_ops.proofs.Filling.{insert-head, near-slot, owned-page, ready-insert, there-page}
 use Rattle.sd_ops.proofs.Owning.{sees}
 use Rattle.sd_ops.proofs.Putted.{is-change, lowered-fits, put-fits, slots-added, slots-stay}
-use Rattle.sd_work.proofs.Work.{IsFor, refused-turns, refused_to}
+use Rattle.sd_ops.proofs.Work.{IsFor, refused-turns, refused_to}
 
 not-held-free : (claim : Claim) → (Holds claim → ⊥) → claim ≡ Claim.Free
 not-held-free Claim.Free none = refl

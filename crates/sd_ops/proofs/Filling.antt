@@ -1,6 +1,5 @@
 -- An insert before its wait is ended: each refusal. For `fill`.
-use Rattle.std.proofs.Common.{◌≡◌, ⊎_elim, ℕ, ◌+◌, ◌*◌, ◌≤◌, Bool, true, false, cond, eq-eqb, List, [], ◌∷◌, ◌++◌, length, map}
-use Rattle.std.proofs.Common.{refl, sym, ap, ◌∙◌, subst, arith}
+use Rattle.std.proofs.Common.{◌≡◌, ⊎_elim, ℕ, ◌+◌, ◌*◌, ◌≤◌, Bool, true, false, cond, eq-eqb, List, [], ◌∷◌, ◌++◌, length, map, refl, sym, ap, ◌∙◌, subst, arith}
 use Rattle.std.specs.Prelude.{Option, None, Some, sum, sum_by}
 use Rattle.std.proofs.lemmas.Bool.{cases_lt}
 use Rattle.std.proofs.lemmas.List.Sums.{sum-map, sum_by-cons}
@@ -23,31 +22,31 @@ use Rattle.sd_model.specs.declared.event.Event.{Event}
 use Rattle.sd_model.specs.declared.event.Event.TheVariants as event
 use Rattle.sd_page.specs.Page.{HasRoom, Page, Slot, heap_end}
 use Rattle.sd_pagelock.specs.Directory.{entry_at}
-use Rattle.sd_places.specs.Places.{PageEntry, holds_as, is_lost, owns}
+use Rattle.sd_pagelock.specs.Places.{PageEntry, holds_as, is_lost, owns}
 use Rattle.sd_reclock.specs.Answers.{IsRefused}
 use Rattle.sd_reclock.specs.Locks.{stands, wait_for, waits}
 use Rattle.sd_rig.specs.Devices.{DeviceImages}
-use Rattle.sd_sound.specs.Logs.{Outcomes}
+use Rattle.sd_chain.specs.Logs.{Outcomes}
 use Rattle.sd_chain.specs.Images.{all_kept}
 use Rattle.sd_chain.specs.Records.{home}
 use Rattle.sd_txn.specs.Transactions.{state_at}
 use Rattle.sd_txn.specs.declared.state.TxnState.{TxnState}
 use Rattle.sd_world.specs.Bounds.{IsFull}
 use Rattle.sd_world.specs.Serving.{Core, refused}
-use Rattle.sd_changes.specs.Changing.{image_for}
+use Rattle.sd_update.specs.Changing.{image_for}
 use Rattle.sd_state.specs.Parts.{Parts, status_at, txns_at}
 use Rattle.sd_state.specs.Values.{Pending}
 use Rattle.sd_state.proofs.ChangedLists.{lock-none}
 use Rattle.sd_fits.specs.Fits.{AreWithin, Fits, capacities}
 use Rattle.sd_fits.proofs.Heads.{is-ready}
 use Rattle.sd_fits.proofs.Values.{beyond-absent, copy-newest}
-use Rattle.sd_work.specs.Halves.{HalfServed, NotesWait}
-use Rattle.sd_reads.specs.Copies.{LacksPage}
+use Rattle.sd_ops.specs.Halves.{HalfServed, NotesWait}
+use Rattle.sd_ops.specs.Copies.{LacksPage}
 use Rattle.sd_ops.specs.Vacancies.{IsLongFor, IsUnheld, IsVacant, LacksPlace}
-use Rattle.sd_reads.proofs.Asking.{MayBlock, asked-half}
+use Rattle.sd_ops.proofs.Asking.{MayBlock, asked-half}
 use Rattle.sd_ops.proofs.Editing.{head_causes, passes-both}
-use Rattle.sd_reads.proofs.Held.{as-held}
-use Rattle.sd_work.proofs.Work.{IsFor, IsWork, ready-passes, refused-half}
+use Rattle.sd_ops.proofs.Held.{as-held}
+use Rattle.sd_ops.proofs.Work.{IsFor, IsWork, ready-passes, refused-half}
 
 -- an insert is of a transaction that must run
 pub insert-work : (t : TxnId) (p : ℕ) (v : List ℕ) (asked : ℕ) → IsWork (event.Insert t p v asked) t

@@ -10,22 +10,23 @@ use Rattle.sd_model.specs.declared.act.Act.{Act}
 use Rattle.sd_model.specs.declared.act.Claim.{Claim}
 use Rattle.sd_model.specs.declared.act.Life.{Life}
 use Rattle.sd_pagelock.specs.Directory.{entry_at}
-use Rattle.sd_places.specs.Places.{PageEntry, holds_as, is_lost, owns}
+use Rattle.sd_pagelock.specs.Places.{PageEntry, holds_as, is_lost, owns}
 use Rattle.sd_reclock.specs.Answers.{IsFree}
-use Rattle.sd_reclock.specs.Locks.{stands, wait_for, waits_in, Asked}
+use Rattle.sd_reclock.specs.Locks.{stands, wait_for, waits_in}
+use Rattle.sd_reclock.specs.declared.wait.Asked.{Asked}
 use Rattle.sd_rig.specs.Devices.{DeviceImages}
-use Rattle.sd_sound.specs.Logs.{Outcomes}
+use Rattle.sd_chain.specs.Logs.{Outcomes}
 use Rattle.sd_chain.specs.Pages.{value}
 use Rattle.sd_chain.specs.Records.{home}
 use Rattle.sd_world.specs.Bounds.{Bounds}
 use Rattle.sd_world.specs.Serving.{Core}
-use Rattle.sd_changes.specs.Changing.{image_for}
+use Rattle.sd_update.specs.Changing.{image_for}
 use Rattle.sd_state.specs.Parts.{Parts, status_at}
 use Rattle.sd_fits.specs.Fits.{Fits, FitsBounds}
 use Rattle.sd_fits.proofs.Taking.{noted-good, taken-fits, took-on}
 use Rattle.sd_fits.proofs.Values.{copy-seen}
 use Rattle.sd_ops.specs.Puts.{IsGranted}
-use Rattle.sd_reads.proofs.Held.{as-held}
+use Rattle.sd_ops.proofs.Held.{as-held}
 
 module _ (t : TxnId) (r : Rid) (seen_by : DeviceImages) (leaves : Outcomes) (c : Parts) (up : status_at c (home t) ≡ S.Up)
     (free : IsFree (stands c.locks) t (wait_for r modes.Excl)) (mine : holds_as modes.Excl (entry_at c.directory r.page) (home t) ≡ true)

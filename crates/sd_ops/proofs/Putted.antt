@@ -1,6 +1,5 @@
 -- An edit that is made, or finds no room in its log, no LSN or no memory. For `carry`.
-use Rattle.std.proofs.Common.{◌≡◌, ℕ, ◌<◌, ◌≤◌, Bool, true, false, cond, List, [], ◌∷◌, ◌++◌, length, refl, sym, ap, ◌∙◌, subst}
-use Rattle.std.proofs.Common.{arith}
+use Rattle.std.proofs.Common.{◌≡◌, ℕ, ◌<◌, ◌≤◌, Bool, true, false, cond, List, [], ◌∷◌, ◌++◌, length, refl, sym, ap, ◌∙◌, subst, arith}
 use Rattle.sd_base.specs.Values.{size}
 use Rattle.sd_base.specs.declared.ids.Rid.{Rid}
 use Rattle.sd_base.specs.declared.ids.TxnId.{TxnId}
@@ -18,19 +17,20 @@ use Rattle.sd_model.specs.declared.event.Reply.{Reply}
 use Rattle.sd_model.proofs.Views.{part-here}
 use Rattle.sd_page.specs.Page.{Page}
 use Rattle.sd_pagelock.specs.Directory.{entry_at}
-use Rattle.sd_places.specs.Places.{holds_as, is_lost}
-use Rattle.sd_places.specs.Rows.{dirtied}
+use Rattle.sd_pagelock.specs.Places.{holds_as, is_lost}
+use Rattle.sd_pagelock.specs.Rows.{dirtied}
 use Rattle.sd_reclock.specs.Answers.{IsFree}
-use Rattle.sd_reclock.specs.Locks.{stands, wait_for, waits_in, Asked}
+use Rattle.sd_reclock.specs.Locks.{stands, wait_for, waits_in}
+use Rattle.sd_reclock.specs.declared.wait.Asked.{Asked}
 use Rattle.sd_rig.specs.Devices.{DeviceImages}
-use Rattle.sd_sound.specs.Logs.{Outcomes}
+use Rattle.sd_chain.specs.Logs.{Outcomes}
 use Rattle.sd_chain.specs.Pages.{redo}
 use Rattle.sd_chain.specs.Records.{home}
 use Rattle.sd_world.specs.Answers.{changes}
 use Rattle.sd_world.specs.Bounds.{Bounds, bounds_after, cost, counts, with_slot}
 use Rattle.sd_world.specs.Pages.{Pages, numbered, page_placed}
 use Rattle.sd_world.specs.Serving.{Core}
-use Rattle.sd_changes.specs.Changing.{Change, change_of, changed_log, flat_of, image_for, putting, with_changed}
+use Rattle.sd_update.specs.Changing.{Change, change_of, changed_log, flat_of, image_for, putting, with_changed}
 use Rattle.sd_state.specs.Good.{Good}
 use Rattle.sd_state.specs.Parts.{Parts, status_at}
 use Rattle.sd_state.specs.Values.{Pending}
@@ -40,7 +40,7 @@ use Rattle.sd_fits.proofs.Served.{relocked-good}
 use Rattle.sd_fits.proofs.Taking.{GoesOnAs, same-on, taken-fits, took-lives, took-on, took-twice, turned_to}
 use Rattle.sd_fits.proofs.Values.{copy-newest}
 use Rattle.sd_ops.specs.Puts.{IsLowered, IsPutThere}
-use Rattle.sd_reads.proofs.Held.{as-held}
+use Rattle.sd_ops.proofs.Held.{as-held}
 use Rattle.sd_ops.proofs.Owning.{looked-fits, not-lost}
 
 -- one who puts something last has put something

@@ -1,6 +1,5 @@
 -- A record's lock is given, and its value set. For `put`.
-use Rattle.std.proofs.Common.{◌≡◌, ⊎_elim, ℕ, ◌≤◌, ◌<◌, ◌^◌, Bool, true, false, cond, ◌&&◌, refl, sym, ap, ap₂, ◌∙◌, subst}
-use Rattle.std.proofs.Common.{length}
+use Rattle.std.proofs.Common.{◌≡◌, ⊎_elim, ℕ, ◌≤◌, ◌<◌, ◌^◌, Bool, true, false, cond, ◌&&◌, refl, sym, ap, ap₂, ◌∙◌, subst, length}
 use Rattle.std.specs.Prelude.{Option, None, Some, IsSome}
 use Rattle.sd_base.specs.Ids.{same_rid, same_txn}
 use Rattle.sd_base.specs.declared.ids.Rid.{Rid}
@@ -13,11 +12,11 @@ use Rattle.sd_model.specs.State.{State}
 use Rattle.sd_model.specs.declared.act.Life.{Life}
 use Rattle.sd_reclock.specs.Locks.{IsNoStronger, raised}
 use Rattle.sd_rig.specs.Devices.{DeviceImages}
-use Rattle.sd_sound.specs.Logs.{Outcomes}
+use Rattle.sd_chain.specs.Logs.{Outcomes}
 use Rattle.sd_chain.specs.Records.{home}
 use Rattle.sd_pool.specs.Buffers.{Buffers}
 use Rattle.sd_model.specs.Tables.{Content}
-use Rattle.sd_changes.specs.Changing.{IsMade, change_of}
+use Rattle.sd_update.specs.Changing.{IsMade, change_of}
 use Rattle.sd_state.specs.Working.{with_locks}
 use Rattle.sd_state.proofs.Items.{item-set}
 use Rattle.sd_state.specs.Good.{Good}

@@ -1,6 +1,5 @@
 -- An edit that is refused by what was found: that is read, and the record claimed. For `carry`.
-use Rattle.std.proofs.Common.{◌≡◌, ⊎_elim, ℕ, ◌<◌, ◌≤◌, true, false, List, [], ◌∷◌, ◌++◌, length, refl, sym, ◌∙◌, subst, arith}
-use Rattle.std.proofs.Common.{Bor}
+use Rattle.std.proofs.Common.{◌≡◌, ⊎_elim, ℕ, ◌<◌, ◌≤◌, true, false, List, [], ◌∷◌, ◌++◌, length, refl, sym, ◌∙◌, subst, arith, Bor}
 use Rattle.std.specs.Prelude.{Option, None, Some, ℤ}
 use Rattle.sd_base.specs.Waits.{Waits}
 use Rattle.sd_base.specs.declared.ids.Rid.{Rid}
@@ -18,18 +17,18 @@ use Rattle.sd_model.specs.declared.cause.Cause.{Cause}
 use Rattle.sd_model.specs.declared.event.Event.{Event}
 use Rattle.sd_model.specs.declared.event.Reply.TheVariants as reply
 use Rattle.sd_pagelock.specs.Directory.{entry_at}
-use Rattle.sd_places.specs.Places.{holds_as, is_lost, owns}
+use Rattle.sd_pagelock.specs.Places.{holds_as, is_lost, owns}
 use Rattle.sd_reclock.specs.Answers.{IsFree}
 use Rattle.sd_reclock.specs.Locks.{stands, wait_for}
 use Rattle.sd_rig.specs.Devices.{DeviceImages}
-use Rattle.sd_sound.specs.Logs.{Outcomes}
+use Rattle.sd_chain.specs.Logs.{Outcomes}
 use Rattle.sd_chain.specs.Pages.{value}
 use Rattle.sd_chain.specs.Records.{home}
 use Rattle.sd_txn.specs.Transactions.{state_at}
 use Rattle.sd_txn.specs.declared.state.TxnState.{TxnState}
 use Rattle.sd_world.specs.Bounds.{bounds_after}
 use Rattle.sd_world.specs.Serving.{Core, IsFault, refused}
-use Rattle.sd_changes.specs.Changing.{image_for}
+use Rattle.sd_update.specs.Changing.{image_for}
 use Rattle.sd_state.specs.Parts.{Parts, status_at, txns_at}
 use Rattle.sd_fits.specs.Fits.{Fits}
 use Rattle.sd_fits.proofs.Served.{bounds-stay}
@@ -37,11 +36,11 @@ use Rattle.sd_fits.proofs.Taking.{turned_to}
 use Rattle.sd_ops.specs.declared.edits.Edit.{Edit}
 use Rattle.sd_ops.specs.declared.edits.Edit.TheVariants.{To, By, Gone}
 use Rattle.sd_ops.specs.Edits.{IsLongEdit, IsSpoiled, IsVain, event_of}
-use Rattle.sd_work.specs.Halves.{HalfServed, noted}
+use Rattle.sd_ops.specs.Halves.{HalfServed, noted}
 use Rattle.sd_ops.specs.Puts.{IsGranted}
 use Rattle.sd_ops.proofs.Editing.{from-head, head_causes, ready-here, unlocked}
 use Rattle.sd_ops.proofs.Owning.{looked-fits, not-lost, owned-there, sees}
-use Rattle.sd_work.proofs.Work.{IsFor, refused-turns, refused_to}
+use Rattle.sd_ops.proofs.Work.{IsFor, refused-turns, refused_to}
 
 the-value : (u v : List ℕ) → Some u ≡ Some v → u ≡ v
 the-value u v e = cc

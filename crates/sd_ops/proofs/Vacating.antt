@@ -1,4 +1,4 @@
--- Slots for new records. For `is_dead` and `room_for`.
+-- Slots for new records. For `room_for`.
 use Rattle.std.proofs.Common.{◌≡◌, inl, inr, ⊎_elim, ℕ, ◌≤◌, List, [], ◌∷◌, length, refl, sym, ap, ◌∙◌, subst, arith}
 use Rattle.std.specs.Prelude.{◌+◌, ◌<◌, Option, None, Some, Result, Err, IfErr, option_and_then, unwrap_or}
 use Rattle.std.proofs.lemmas.Bool.{cases_lt}
@@ -9,15 +9,11 @@ use Rattle.sd_base.specs.declared.refusal.Refusal.{Refusal}
 use Rattle.sd_base.specs.declared.refusal.Refusal.TheVariants as R
 use Rattle.sd_chain.specs.Pages.{value}
 use Rattle.sd_chain.specs.Records.{home}
-use Rattle.sd_chain.proofs.Slots.{value-at}
 use Rattle.sd_page.specs.Page.{HasRoom, Page, PageFits, Slot, empty_page}
-use Rattle.sd_page.specs.Reading.{entry_place, two_at}
-use Rattle.sd_page.specs.Spelling.{length_word, page_spelling}
-use Rattle.sd_page.proofs.Opened.{slot_at}
 use Rattle.sd_pool.specs.Buffers.{image_at}
-use Rattle.sd_changes.specs.Changing.{image_for}
+use Rattle.sd_update.specs.Changing.{image_for}
 use Rattle.sd_state.specs.Parts.{Parts, pool_at}
-use Rattle.sd_reads.specs.Copies.{LacksPage}
+use Rattle.sd_ops.specs.Copies.{LacksPage}
 use Rattle.sd_ops.specs.Vacancies.{IsDead, IsLongFor, IsVacant, LacksPlace, NoneUsable}
 use Rattle.sd_ops.proofs.Planning.{slot-fits}
 
@@ -33,23 +29,6 @@ asked-small v asked short = ⊎_elim (λ lt. absurd (short (inr (inl lt)))) (λ 
 beyond-none : (slots : List Slot) → value slots (length slots) ≡ None
 beyond-none [] = refl
 beyond-none (x ∷ xs) = beyond-none xs
-
--- what an entry says of a value that is 256 bytes long at most
-word-none : (o : Option (List ℕ)) (n : ℕ) → size o ≤ n → n ≤ 256 → length_word o ≡ 65535 → o ≡ None
-word-none None n le small is = refl
-word-none (Some v) n le small is = absurd (omega (arith, le, small, is))
-
--- an entry says of its slot whether it is dead
-pub dead-word : (bytes : List ℕ) (page : Page) (s : ℕ) → PageFits page → bytes ≡ page_spelling page → s < length page.slots
-    → (two_at bytes (entry_place s + 4) ≡ 65535 → value page.slots s ≡ None)
-    × (value page.slots s ≡ None → two_at bytes (entry_place s + 4) ≡ 65535)
-dead-word bytes page s fits spelled lt =
-    let at = slot_at bytes page s (record { fits = fits; spelled = spelled }) lt in
-    let has : value page.slots s ≡ at.slot.1 =
-    sym (value-at page.slots s) ∙ ap (λ (o : Option Slot). option_and_then (λ (x : Slot). x.1) o) at.got in (
-      λ is. has ∙ word-none at.slot.1 at.slot.0 at.fits.value at.fits.capacity (sym at.word ∙ is),
-      λ none. at.word ∙ ap length_word (sym has ∙ none),
-    )
 
 -- the copy that the pool has
 pub copy-is : (t : TxnId) (p : ℕ) (c : Parts) (page : Page) → image_at (pool_at c (home t)) p ≡ Some page → page ≡ image_for t p c

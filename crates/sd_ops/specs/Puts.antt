@@ -9,8 +9,8 @@ use Rattle.sd_model.specs.State.{State}
 use Rattle.sd_model.specs.Tables.{Content}
 use Rattle.sd_reclock.specs.Locks.{held, raised}
 use Rattle.sd_rig.specs.Devices.{DeviceImages}
-use Rattle.sd_sound.specs.Logs.{Outcomes}
-use Rattle.sd_changes.specs.Changing.{IsMade, change_of, putting}
+use Rattle.sd_chain.specs.Logs.{Outcomes}
+use Rattle.sd_update.specs.Changing.{IsMade, change_of, putting}
 use Rattle.sd_state.specs.Good.{Good}
 use Rattle.sd_state.specs.Parts.{Parts, pool_at}
 use Rattle.sd_state.specs.Values.{Pending}

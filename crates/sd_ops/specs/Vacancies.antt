@@ -10,11 +10,11 @@ use Rattle.sd_chain.specs.Pages.{FitsUpdate, capacity, value}
 use Rattle.sd_model.specs.Tables.{Content}
 use Rattle.sd_page.specs.Page.{HasRoom, Page}
 use Rattle.sd_pagelock.specs.Directory.{entry_at}
-use Rattle.sd_places.specs.Places.{holds_as}
+use Rattle.sd_pagelock.specs.Places.{holds_as}
 use Rattle.sd_reclock.specs.Locks.{held}
-use Rattle.sd_changes.specs.Changing.{image_for}
+use Rattle.sd_update.specs.Changing.{image_for}
 use Rattle.sd_state.specs.Parts.{Parts}
-use Rattle.sd_reads.specs.Copies.{LacksPage}
+use Rattle.sd_ops.specs.Copies.{LacksPage}
 
 -- the value or the capacity is over 256 bytes, or the value is longer than the capacity
 abbrev pub IsLongFor : List ℕ → ℕ → Type 0

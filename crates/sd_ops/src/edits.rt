@@ -7,19 +7,19 @@ ghost use Rattle.sd_chain.specs.Pages.{value};
 ghost use Rattle.sd_model.specs.State.{State};
 ghost use Rattle.sd_page.specs.Page.{Page};
 ghost use Rattle.sd_pagelock.specs.Directory.{entry_at};
-ghost use Rattle.sd_places.specs.Places.{holds_as};
-ghost use Rattle.sd_changes.specs.Changing.{image_for};
+ghost use Rattle.sd_pagelock.specs.Places.{holds_as};
+ghost use Rattle.sd_update.specs.Changing.{image_for};
 ghost use Rattle.sd_state.specs.Complexes.{parts};
 ghost use Rattle.sd_state.specs.Good.{Good};
 ghost use Rattle.sd_state.specs.Values.{Pending};
 ghost use Rattle.sd_ops.specs.Edits.{IsFitted, IsLongEdit, IsPlan, IsSumFitted};
-ghost use Rattle.sd_reads.specs.Copies.{LacksPage};
+ghost use Rattle.sd_ops.specs.Copies.{LacksPage};
 
+use crate::copy;
 use itoa::Buffer;
 use sd_base::{MAX_CAPACITY, Mode, Refusal, Rid, TxnId};
 use sd_model::{NoSum, sum};
 use sd_page::Image;
-use sd_reads::copy;
 use sd_rig::Rig;
 use sd_state::Complex;
 
@@ -91,7 +91,7 @@ pub fn planned<'a, G: Rig>(
 fn plan_in<'a>(image: &Image, slot: u16, edit: &Edit<'a>, text: &'a mut Buffer) -> Plan<'a>
     ensures { IsPlan image.now slot edit.now result }
 {
-    let _bytes = image.bytes();
+    image.keeps();
     let Some(old) = image.value(slot) else {
         return Plan::Refuse(Refusal::NoRecord);
     };

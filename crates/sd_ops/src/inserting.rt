@@ -7,26 +7,24 @@ ghost use Rattle.sd_base.specs.declared.refusal.Refusal.TheVariants as R;
 ghost use Rattle.sd_chain.specs.Pages.{capacity as capacity_of, value};
 ghost use Rattle.sd_model.specs.State.{State};
 ghost use Rattle.sd_model.specs.declared.event.Event.TheVariants as event;
-ghost use Rattle.sd_page.specs.Reading.{two_at};
 ghost use Rattle.sd_pagelock.specs.Directory.{entry_at};
-ghost use Rattle.sd_places.specs.Places.{holds_as};
-ghost use Rattle.sd_changes.specs.Changing.{image_for};
+ghost use Rattle.sd_pagelock.specs.Places.{holds_as};
+ghost use Rattle.sd_update.specs.Changing.{image_for};
 ghost use Rattle.sd_state.specs.Complexes.{parts};
 ghost use Rattle.sd_state.specs.Good.{Good};
 ghost use Rattle.sd_state.specs.Values.{Pending};
 ghost use Rattle.sd_world.specs.Serving.{Core, placed_at, telling};
 ghost use Rattle.sd_fits.specs.Fits.{Fits};
 ghost use Rattle.sd_fits.specs.Serving.{Serving};
-ghost use Rattle.sd_work.specs.Halves.{HalfServed};
+ghost use Rattle.sd_ops.specs.Halves.{HalfServed};
 ghost use Rattle.sd_ops.specs.Vacancies.{IsChosen, IsDead, IsFullFor, IsLongFor, IsUsable, IsVacant, LacksPlace, NoneUsable};
 
 use crate::putting::put;
-use sd_base::{Mode, NO_VALUE, PageNo, Refusal, Rid, TxnId};
-use sd_page::{Image, PAGE_BYTES};
-use sd_reads::copy;
+use crate::{ask, at_work, copy, end_wait};
+use sd_base::{Mode, PageNo, Refusal, Rid, TxnId};
+use sd_page::Image;
 use sd_rig::Rig;
 use sd_state::Complex;
-use sd_work::{ask, at_work, end_wait};
 
 // A slot for a new record, with its capacity.
 #[derive(Clone, Copy)]
@@ -111,7 +109,7 @@ fn room_for<G: Rig>(c: &Complex<G>, t: &TxnId, p: PageNo, capacity: u16) -> Resu
     ensures lacks { IfErr result (LacksPlace t.now p capacity (parts c.now)) }
 {
     let image = copy(c, t.inst, p, Mode::Excl)?;
-    let _bytes = image.bytes();
+    image.keeps();
     if let Some(dead) = dead_slot(c, image, t, p, capacity) {
         return Ok(dead);
     }
@@ -153,7 +151,7 @@ fn usable<G>(c: &Complex<G>, image: &Image, t: &TxnId, r: &Rid, capacity: u16) -
         (λ own. IsUsable image.now t.now r.now.page capacity (parts c.now) r.now.slot
         × (own ≡ capacity_of image.now.slots r.now.slot)) }
 {
-    if !is_dead(image, r.slot) {
+    if !image.is_dead(r.slot) {
         return None;
     }
     let own = image.capacity(r.slot)?;
@@ -164,22 +162,4 @@ fn usable<G>(c: &Complex<G>, image: &Image, t: &TxnId, r: &Rid, capacity: u16) -
         Some(_) => None,
         None => Some(own),
     }
-}
-
-// Whether a slot of the page is dead, as the length in its entry tells (docs/FORMATS.md). Nothing else of the slot is looked at.
-fn is_dead(image: &Image, slot: u16) -> bool
-    requires { slot < length image.now.slots }
-    ensures { IsTrue result ↔ (value image.now.slots slot ≡ None) }
-{
-    let bytes = image.bytes();
-    let entry = PAGE_BYTES - 6 * (slot as usize + 1);
-    two_at(bytes, entry + 4) == NO_VALUE
-}
-
-// The number in the two bytes at a place.
-fn two_at(bytes: &[u8], at: usize) -> u16
-    requires { at + 2 ≤ length bytes.now }
-    ensures { result ≡ two_at bytes.now at }
-{
-    u16::from_be_bytes([bytes[at], bytes[at + 1]])
 }

@@ -17,10 +17,28 @@
 //! - frozen: nothing
 #![tactic(auto)]
 
+mod copies;
 mod edits;
+mod ending;
 mod inserting;
+mod listing;
+mod locking;
 mod putting;
+mod reads;
 mod records;
+mod rollbacks;
+mod standing;
+mod transactions;
+mod turning;
+mod undoing;
 
+pub use copies::copy;
 pub use inserting::insert;
+pub use listing::list_page;
+pub use locking::{ask, at_work, end_wait};
+pub use reads::read;
 pub use records::{add, delete, write};
+pub use standing::expect_up;
+pub use transactions::{begin, commit, save};
+pub use turning::back_to;
+pub use undoing::undo;

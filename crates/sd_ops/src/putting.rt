@@ -5,10 +5,10 @@ ghost use Rattle.sd_base.specs.declared.place.Mode.TheVariants.{Excl};
 ghost use Rattle.sd_base.specs.declared.place.Status.TheVariants as S;
 ghost use Rattle.sd_base.specs.declared.refusal.Refusal.TheVariants as R;
 ghost use Rattle.sd_pagelock.specs.Directory.{entry_at};
-ghost use Rattle.sd_places.specs.Places.{holds_as};
+ghost use Rattle.sd_pagelock.specs.Places.{holds_as};
 ghost use Rattle.sd_reclock.specs.Answers.{IsFree};
 ghost use Rattle.sd_reclock.specs.Locks.{stands, wait_for};
-ghost use Rattle.sd_changes.specs.Changing.{FitsThere, LacksLsns, LacksRoom, change_of};
+ghost use Rattle.sd_update.specs.Changing.{FitsThere, LacksLsns, LacksRoom, change_of};
 ghost use Rattle.sd_state.specs.Complexes.{parts};
 ghost use Rattle.sd_state.specs.Parts.{status_at, txns_at};
 ghost use Rattle.sd_txn.specs.Transactions.{state_at};
@@ -18,9 +18,9 @@ ghost use Rattle.sd_fits.specs.Fits.{Fits};
 ghost use Rattle.sd_ops.specs.Puts.{IsLowered, IsPutThere};
 
 use sd_base::{Mode, Refusal, Rid, TxnId};
-use sd_changes::change;
 use sd_rig::Rig;
 use sd_state::Complex;
+use sd_update::change;
 
 /// A transaction that runs gets the record's `Excl` lock, which nobody stands in the way of, and sets the record's value on a page that
 /// its instance has alone; `capacity` is the slot's own, or that of a new slot.
@@ -48,7 +48,7 @@ pub fn put<G: Rig>(
     ensures lsns { (result ≡ Err R.LsnEnd) → LacksLsns t.now (parts c.old) }
     ensures refusals { IfErr result (λ e. (e ≡ R.LogFull) ⊎ ((e ≡ R.LsnEnd) ⊎ (e ≡ R.Memory))) }
 {
-    name(t);
+    t.keeps();
     let was = c.locks.mode(t, r);
     c.grant(t, r, Mode::Excl)?;
     match change(c, t, *r, capacity, after) {
@@ -58,16 +58,4 @@ pub fn put<G: Rig>(
             Err(refusal)
         }
     }
-}
-
-// The numbers of a transaction's name.
-fn name(t: &TxnId)
-    ensures low { 1 ≤ t.now.inst }
-    ensures high { t.now.inst ≤ 8 }
-    ensures epoch { t.now.epoch < 2 ^ 32 }
-    ensures seq { t.now.seq < 2 ^ 32 }
-{
-    let _inst = t.inst.get();
-    let _epoch = t.epoch;
-    let _seq = t.seq;
 }

@@ -7,15 +7,15 @@ ghost use Rattle.sd_world.specs.Serving.{Core, did, telling};
 ghost use Rattle.sd_fits.specs.Fits.{Fits};
 ghost use Rattle.sd_fits.specs.Serving.{Serving};
 ghost use Rattle.sd_ops.specs.Edits.{event_of};
-ghost use Rattle.sd_work.specs.Halves.{HalfServed};
+ghost use Rattle.sd_ops.specs.Halves.{HalfServed};
 
 use crate::edits::{Edit, Plan, planned};
 use crate::putting::put;
+use crate::{ask, at_work, end_wait};
 use itoa::Buffer;
 use sd_base::{Mode, Refusal, Rid, TxnId};
 use sd_rig::Rig;
 use sd_state::Complex;
-use sd_work::{ask, at_work, end_wait};
 
 /// Puts a value in place of the one that a record has. The transaction has the record's `Excl` lock then, and also where it is refused by
 /// what it found: `NoRecord`, or `TooLong` over the capacity of the record's slot.

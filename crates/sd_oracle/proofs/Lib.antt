@@ -3,3 +3,13 @@ pub mod Sums
 pub mod RowsWhole
 pub mod Outcomes
 pub mod Lowering
+pub mod Loops
+pub mod Scans
+pub mod Parts
+pub mod OneByOne
+pub mod Search
+pub mod SlotClaims
+pub mod Firsts
+pub mod NumberSums
+pub mod Deciding
+pub mod Noting

@@ -14,13 +14,13 @@ use Rattle.sd_model.specs.declared.act.Life.TheVariants.{Retained, Doubt}
 use Rattle.sd_model.specs.Claims.{raised_claim}
 use Rattle.sd_model.specs.State.{Part, gone, with_status}
 use Rattle.sd_model.specs.Changes.{IsLoser}
-use Rattle.sd_lists.specs.declared.standing.Standing.{Standing}
+use Rattle.sd_oracle.specs.declared.standing.Standing.{Standing}
 use Rattle.sd_oracle.specs.declared.outcome.Outcome.{Outcome}
-use Rattle.sd_lists.specs.Lists.{part_in, claims_in, inst_in, unjoined}
+use Rattle.sd_oracle.specs.Lists.{part_in, claims_in, inst_in, unjoined}
 use Rattle.sd_oracle.specs.Outcomes.{among, among_claims, left_claim, is_lost, loser, left_part, rest_after, HasLoserIn, Lowers}
-use Rattle.sd_lists.proofs.Parts.{claim_from-snoc, inst_from-snoc}
-use Rattle.sd_causes.proofs.Search.{AnyOf, part-any}
-use Rattle.sd_lists.proofs.OneByOne.{take-more}
+use Rattle.sd_oracle.proofs.Parts.{claim_from-snoc, inst_from-snoc}
+use Rattle.sd_oracle.proofs.Search.{AnyOf, part-any}
+use Rattle.sd_oracle.proofs.OneByOne.{take-more}
 use Rattle.sd_base.proofs.SameIds.{cases_rid, eq-same_rid, ne-same_rid}
 
 -- a transaction of the instance that is a loser among all

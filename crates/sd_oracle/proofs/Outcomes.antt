@@ -5,7 +5,7 @@ use Rattle.std.specs.Prelude.{Result, Ok, Err, IfOk}
 use Rattle.sd_base.specs.declared.ids.TxnId.{TxnId}
 use Rattle.sd_base.specs.declared.refusal.Refusal.{Refusal}
 use Rattle.sd_base.specs.declared.refusal.Refusal.TheVariants as R
-use Rattle.sd_causes.specs.Firsts.{IsFirstOf}
+use Rattle.sd_oracle.specs.Firsts.{IsFirstOf}
 use Rattle.sd_model.specs.Causes.{has_cause}
 use Rattle.sd_model.specs.Refusing.{causes_of, Tells, Refuses}
 use Rattle.sd_model.specs.declared.act.Done.{Done}

@@ -4,7 +4,7 @@ use Rattle.std.specs.Prelude.{IfOk, MatchOption}
 use Rattle.sd_model.specs.Numbers.{IsSum}
 use Rattle.sd_model.specs.Tables.{Content}
 use Rattle.sd_oracle.specs.Judging.{IsSumAt}
-use Rattle.sd_causes.proofs.NumberSums.{the_value}
+use Rattle.sd_oracle.proofs.NumberSums.{the_value}
 
 pub sum-found : {E : Type 0} (r : Result Content E) (u : List ℕ) (v : Content) (by : ℤ) → Some u ≡ v → IfOk r (λ found. MatchOption found ((w : List ℕ) → IsSum u by w → ⊥) (IsSum u by)) → IfOk r (λ found. IsSumAt found v by)
 sum-found (Ok None) u v by e h = λ x w is s. h w (subst (λ (y : List ℕ). IsSum y by w) (the_value x u (is ∙ sym e)) s)

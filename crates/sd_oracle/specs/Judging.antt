@@ -17,7 +17,7 @@ use Rattle.sd_oracle.specs.declared.outcome.Outcome.{Outcome}
 use Rattle.sd_oracle.specs.declared.verdict.Verdict.{Verdict}
 use Rattle.sd_oracle.specs.declared.verdict.Verdict.TheVariants.{Follows, Differs, Unjudged}
 use Rattle.sd_oracle.specs.Outcomes.{Falls, fallen, Told}
-use Rattle.sd_lists.specs.Joins.{IsCountable}
+use Rattle.sd_oracle.specs.Joins.{IsCountable}
 
 -- no state follows that is told so
 abbrev pub NoStep : Outcome → State → Event → Reply → Type 0

@@ -1,3 +1,12 @@
 pub mod Outcomes
 pub mod Judging
 pub mod Rows
+pub mod Lists
+pub mod Wholes
+pub mod Answers
+pub mod Joins
+pub mod Claimers
+pub mod Firsts
+pub mod Scenes
+pub mod Exactly
+pub mod Watches

@@ -20,8 +20,8 @@ use Rattle.sd_model.specs.State.{State, Part, gone, fall, with_status}
 use Rattle.sd_model.specs.Changes.{commit_all, swept, HasLoser, Left, AreOf, AreInDoubt}
 use Rattle.sd_model.specs.Refusing.{MayFall, counted}
 use Rattle.sd_oracle.specs.declared.outcome.Outcome.{Outcome}
-use Rattle.sd_lists.specs.declared.standing.Standing.{Standing}
-use Rattle.sd_lists.specs.Lists.{part_in}
+use Rattle.sd_oracle.specs.declared.standing.Standing.{Standing}
+use Rattle.sd_oracle.specs.Lists.{part_in}
 
 abbrev pub among : TxnId → List TxnId → Bool
 among t ts = list_any (λ u. same_txn u t) ts

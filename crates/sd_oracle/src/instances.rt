@@ -2,15 +2,15 @@
 
 ghost use Rattle.std.specs.Prelude.{◌≡◌, IfOk, OnErr};
 ghost use Rattle.sd_model.specs.Applies.{Clear};
-ghost use Rattle.sd_lists.specs.Lists.{meaning};
+ghost use Rattle.sd_oracle.specs.Lists.{meaning};
 ghost use Rattle.sd_oracle.specs.Judging.{IsOpenEnded, IsOfRecords, IsOfRollbacks, JudgesRow};
 
+use crate::Lists;
 use crate::pages::answer_page;
 use crate::replies::{follows, said};
 use crate::rows::are_rows;
 use crate::verdict::Verdict;
 use sd_base::Memory;
-use sd_lists::Lists;
 use sd_model::{Event, Reply};
 
 /// An answer of an event of instances.

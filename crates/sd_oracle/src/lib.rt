@@ -14,19 +14,55 @@
 //! - frozen: nothing
 #![tactic(auto)]
 
+mod arguments;
+mod asked;
+mod causes;
+mod changers;
+mod devices;
+mod drafts;
+mod failures;
+mod fields;
+mod instance_causes;
 mod instances;
+mod joins;
+mod judge;
+mod lists;
+mod locks;
+mod obstacles;
 mod outcome;
+mod page_causes;
 mod pages;
+mod record_changes;
 mod records;
 mod recoveries;
+mod recovery_changes;
 mod refusals;
 mod reopenings;
 mod replies;
+mod rollback_changes;
 mod rollbacks;
 mod rows;
 mod serial_table;
+mod slots;
+mod standing;
+mod transactions;
+mod value_causes;
+mod values;
 mod verdict;
+mod watch;
+mod wholes;
 
+pub use arguments::tells;
+pub use causes::{first_of, passes_all};
+pub use devices::may_fall;
+pub use fields::{rid_of, txn_of};
+pub use joins::is_recovering;
+pub use judge::Judge;
+pub use lists::{Lists, with_status};
+pub use locks::{is_lowest_obstacle, locked, obstacles};
 pub use outcome::Outcome;
 pub use serial_table::SerialTable;
+pub use standing::{Standing, claim, instance, last_standing};
+pub use values::{committed, find_row};
 pub use verdict::Verdict;
+pub use wholes::{Turn, turned_insts};

@@ -2,11 +2,11 @@
 
 ghost use Rattle.std.specs.Prelude.{◌≡◌, None, Some, IfOk, OnErr, MatchOption, ◌<◌, option_copied, [], ◌∷◌, ℕ, List};
 ghost use Rattle.sd_model.specs.Applies.{Clear};
-ghost use Rattle.sd_lists.specs.Lists.{meaning};
+ghost use Rattle.sd_oracle.specs.Lists.{meaning};
 ghost use Rattle.sd_oracle.specs.Judging.{IsOpenEnded, JudgesRow, IsSumAt, Replaces};
 ghost use Rattle.sd_model.specs.State.{view};
 ghost use Rattle.sd_model.specs.StepLaws.{next_txn};
-ghost use Rattle.sd_lists.specs.Answers.{Answers};
+ghost use Rattle.sd_oracle.specs.Answers.{Answers};
 ghost use Rattle.sd_model.specs.Numbers.{IsSum};
 ghost use Rattle.sd_model.specs.declared.event.Event.TheVariants as E;
 ghost use Rattle.sd_model.specs.declared.event.Reply.TheVariants as R;
@@ -15,9 +15,8 @@ ghost use Rattle.sd_model.specs.declared.act.Act.TheVariants as Act;
 use crate::replies::said;
 use crate::rollbacks::answer_rollback;
 use crate::verdict::Verdict;
+use crate::{Lists, locked};
 use sd_base::{Bytes, Duplicate, InstNo, Memory, PageNo, Rid, TxnId, lent_value, same_value};
-use sd_causes::locked;
-use sd_lists::Lists;
 use sd_model::{Act, Claim, Event, Reply, number_text, sum};
 use std::alloc::Global;
 

@@ -1,7 +1,7 @@
 //! Which answers of a step of a recovery may follow, and what its end leaves.
 
 ghost use Rattle.std.specs.Prelude.{◌≡◌, ◌↔◌, IsTrue, IfOk, OnErr};
-ghost use Rattle.sd_lists.specs.Lists.{meaning};
+ghost use Rattle.sd_oracle.specs.Lists.{meaning};
 ghost use Rattle.sd_oracle.specs.Judging.{JudgesTold};
 ghost use Rattle.sd_model.specs.Changes.{AreOf};
 ghost use Rattle.sd_oracle.specs.Outcomes.{Finishes, Commits, Sweeps};
@@ -9,11 +9,11 @@ ghost use Rattle.sd_model.specs.declared.act.Cut.TheVariants.{Committing};
 ghost use Rattle.sd_model.specs.declared.act.Life.TheVariants.{Doubt};
 ghost use Rattle.sd_model.specs.declared.event.Event.TheVariants as E;
 
+use crate::Lists;
 use crate::outcome::Outcome;
 use crate::replies::said;
 use crate::verdict::Verdict;
 use sd_base::{InstNo, Memory, TxnId};
-use sd_lists::Lists;
 use sd_model::{Cut, Life, Reply};
 use std::mem::swap;
 

@@ -4,8 +4,8 @@ ghost use Rattle.std.specs.Prelude.{◌≡◌, IfOk, OnOk, OnErr};
 ghost use Rattle.sd_model.specs.declared.cause.Cause.TheVariants.{Rig};
 ghost use Rattle.sd_model.specs.State.{fall};
 ghost use Rattle.sd_model.specs.Refusing.{counted, found};
-ghost use Rattle.sd_lists.specs.Joins.{IsCountable};
-ghost use Rattle.sd_lists.specs.Lists.{meaning};
+ghost use Rattle.sd_oracle.specs.Joins.{IsCountable};
+ghost use Rattle.sd_oracle.specs.Lists.{meaning};
 ghost use Rattle.sd_oracle.specs.Judging.{Judges, JudgesCause};
 ghost use Rattle.sd_model.specs.declared.event.Reply.TheVariants as R;
 
@@ -13,9 +13,8 @@ use crate::outcome::Outcome;
 use crate::records::read_alone;
 use crate::replies::follows;
 use crate::verdict::Verdict;
+use crate::{Lists, first_of, may_fall, rid_of, tells, txn_of};
 use sd_base::{InstNo, Memory, Refusal};
-use sd_causes::{first_of, may_fall, rid_of, tells, txn_of};
-use sd_lists::Lists;
 use sd_model::{Cause, Claim, Event, causes_of};
 use std::mem::swap;
 

@@ -1,7 +1,7 @@
 //! What a reopening leaves: the losers with their claims, and how the instances stand.
 
 ghost use Rattle.std.specs.Prelude.{◌≡◌, ◌↔◌, IsTrue, IfOk, OnOk, OnErr, false};
-ghost use Rattle.sd_lists.specs.Lists.{meaning, part_of, part_in, claims_in, inst_in};
+ghost use Rattle.sd_oracle.specs.Lists.{meaning, part_of, part_in, claims_in, inst_in};
 ghost use Rattle.sd_oracle.specs.Judging.{JudgesTold};
 ghost use Rattle.sd_base.specs.declared.ids.TxnId.{TxnId};
 ghost use Rattle.sd_base.specs.declared.ids.Rid.{Rid};
@@ -15,8 +15,8 @@ use crate::outcome::Outcome;
 use crate::recoveries::commit_found;
 use crate::replies::said;
 use crate::verdict::Verdict;
+use crate::{Lists, Standing, Turn, instance, last_standing, turned_insts, with_status};
 use sd_base::{Duplicate, InstNo, Memory, Rid, Sequence, Status, TxnId};
-use sd_lists::{Lists, Standing, Turn, instance, last_standing, turned_insts, with_status};
 use sd_model::{Claim, Inst, Life, Reply};
 use std::alloc::Global;
 use std::mem::swap;

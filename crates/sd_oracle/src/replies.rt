@@ -3,7 +3,7 @@
 ghost use Rattle.std.specs.Prelude.{◌≡◌, IfOk, OnErr, if◌then◌else◌};
 ghost use Rattle.std.specs.Result.{result_map_both};
 ghost use Rattle.sd_oracle.specs.declared.verdict.Verdict.TheVariants.{Follows, Differs};
-ghost use Rattle.sd_lists.specs.Lists.{meaning};
+ghost use Rattle.sd_oracle.specs.Lists.{meaning};
 ghost use Rattle.sd_oracle.specs.Judging.{IsRefusal, Judges};
 
 use crate::outcome::Outcome;
@@ -12,9 +12,8 @@ use crate::recoveries::answer_recovery;
 use crate::refusals::refuse;
 use crate::reopenings::answer_reopening;
 use crate::verdict::Verdict;
+use crate::{Lists, passes_all};
 use sd_base::Memory;
-use sd_causes::passes_all;
-use sd_lists::Lists;
 use sd_model::{Event, Reply, order};
 
 /// Judges the reply with what is told of the outcome, and does the event where it follows. After `Memory` nothing is

@@ -2,17 +2,17 @@
 
 ghost use Rattle.std.specs.Prelude.{◌≡◌, IfOk, OnErr};
 ghost use Rattle.sd_model.specs.Applies.{Clear};
-ghost use Rattle.sd_lists.specs.Lists.{meaning};
+ghost use Rattle.sd_oracle.specs.Lists.{meaning};
 ghost use Rattle.sd_oracle.specs.Judging.{IsOpenEnded, IsOfRecords, JudgesRow};
-ghost use Rattle.sd_lists.specs.Answers.{Answers};
+ghost use Rattle.sd_oracle.specs.Answers.{Answers};
 ghost use Rattle.sd_model.specs.declared.event.Event.TheVariants as E;
 ghost use Rattle.sd_model.specs.declared.event.Reply.TheVariants as R;
 
+use crate::Lists;
 use crate::instances::answer_instance;
 use crate::replies::said;
 use crate::verdict::Verdict;
 use sd_base::{Memory, TxnId, Word};
-use sd_lists::Lists;
 use sd_model::{Event, Life, Reply};
 
 /// An answer of an event of a rollback.

@@ -3,11 +3,11 @@
 ghost use Rattle.std.specs.Prelude.{◌↔◌, IsTrue};
 ghost use Rattle.sd_model.specs.State.{now};
 ghost use Rattle.sd_model.specs.Listing.{AreIn, StartsAbove, AreRising, AreRows};
-ghost use Rattle.sd_lists.specs.Lists.{meaning};
+ghost use Rattle.sd_oracle.specs.Lists.{meaning};
 ghost use Rattle.sd_oracle.specs.Rows.{Agree, AgreeAtRows, AgreeAtActs, AgreeAtDone};
 
+use crate::{Lists, committed, find_row};
 use sd_base::{Bytes, PageNo, Rid, same_value};
-use sd_lists::{Lists, committed, find_row};
 use sd_model::{Act, Done};
 
 /// Whether the rows are the committed records of the page, rising by slot.

@@ -6,9 +6,8 @@ ghost use Rattle.std.specs.List.{Contains};
 use crate::outcome::Outcome;
 use crate::replies::judge;
 use crate::verdict::Verdict;
+use crate::{Lists, is_lowest_obstacle, obstacles};
 use sd_base::{Memory, Rid, Status, TxnId};
-use sd_causes::{is_lowest_obstacle, obstacles};
-use sd_lists::Lists;
 use sd_model::{Claim, Event, Reply, Rows};
 use std::alloc::Global;
 use std::marker::Model;
@@ -21,7 +20,7 @@ pub struct SerialTable {
 }
 
 impl Model for SerialTable {
-    ghost use Rattle.sd_lists.specs.Lists.{Journal, journal};
+    ghost use Rattle.sd_oracle.specs.Lists.{Journal, journal};
 
     ghost Value = { Journal };
 
@@ -30,9 +29,9 @@ impl Model for SerialTable {
 
 impl SerialTable {
     ghost use Rattle.sd_base.specs.declared.ids.TxnId.{TxnId};
-    ghost use Rattle.sd_lists.specs.Lists.{state_of, fresh_with};
+    ghost use Rattle.sd_oracle.specs.Lists.{state_of, fresh_with};
     ghost use Rattle.sd_oracle.specs.Judging.{Judges};
-    ghost use Rattle.sd_causes.specs.Claimers.{Obstructs, IsLowestObstacle};
+    ghost use Rattle.sd_oracle.specs.Claimers.{Obstructs, IsLowestObstacle};
     ghost use Rattle.sd_model.specs.State.{view};
     ghost use Rattle.sd_model.specs.Step.{Runs};
 

@@ -1,9 +1,10 @@
 -- What an image's bytes say of the page that contracts see. It serves the goals of image.rt that read.
-use Rattle.std.proofs.Common.{◌≡◌, ℕ, ◌+◌, ◌<◌, ◌≤◌, List, length, get_or, take, drop, Option, Some, None, sym, ap, subst, inl, inr, ⊎_elim, ◌∙◌, arith}
+use Rattle.std.proofs.Common.{◌≡◌, ℕ, ◌+◌, ◌<◌, ◌≤◌, List, length, get_or, take, drop, Option, Some, None, refl, sym, ap, subst, inl, inr, ⊎_elim, ◌∙◌, arith}
 use Rattle.std.specs.Prelude.{slice_get, option_and_then, option_map}
 use Rattle.std.proofs.lemmas.List.{length-take-le}
 use Rattle.std.proofs.lemmas.Bool.{cases_eq}
 use Rattle.std.proofs.lemmas.Option.{slice_get-get_or, slice_get_past}
+use Rattle.sd_base.specs.Values.{size}
 use Rattle.sd_page.specs.Page.{Slot, Page, heap_end, value_at, capacity_at, SlotFits, PageFits}
 use Rattle.sd_page.specs.Spelling.{value_bytes, length_word, page_spelling}
 use Rattle.sd_page.specs.Reading.{field, two_at, four_at, eight_at, entry_place, slot_in, LiesInside, page_of, IsImage}
@@ -70,6 +71,22 @@ slot_at bytes page k i lt =
       word = ap (λ (b : List ℕ). two_at b (entry_place k + 4)) i.spelled ∙ ap (λ n. two_at (page_spelling page) (entry_place n + 4)) (sym place) ∙ told-length page xs s ys has;
       value = ap (λ (b : List ℕ). field b (heap_end xs) (length (value_bytes s.1))) i.spelled ∙ told-value page xs s ys has;
     }
+
+-- what an entry says of a value that is 256 bytes long at most
+word-none : (o : Option (List ℕ)) (n : ℕ) → size o ≤ n → n ≤ 256 → length_word o ≡ 65535 → o ≡ None
+word-none None n le small is = refl
+word-none (Some v) n le small is = absurd (omega (arith, le, small, is))
+
+-- an entry says of its slot whether it is dead
+pub dead-word : (bytes : List ℕ) (page : Page) (s : ℕ) → Images bytes page → s < length page.slots
+    → (two_at bytes (entry_place s + 4) ≡ 65535 → value_at page.slots s ≡ None)
+    × (value_at page.slots s ≡ None → two_at bytes (entry_place s + 4) ≡ 65535)
+dead-word bytes page s images lt =
+    let at = slot_at bytes page s images lt in
+    let has : value_at page.slots s ≡ at.slot.1 = ap (λ (o : Option Slot). option_and_then (λ (x : Slot). x.1) o) at.got in (
+      λ is. has ∙ word-none at.slot.1 at.slot.0 at.fits.value at.fits.capacity (sym at.word ∙ is),
+      λ none. at.word ∙ ap length_word (sym has ∙ none),
+    )
 
 -- ---- what the calls that read a slot answer
 

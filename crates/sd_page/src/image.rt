@@ -1,6 +1,6 @@
 //! The image of a page, kept as its bytes.
 
-ghost use Rattle.std.specs.Prelude.{◌≡◌, ◌+◌, ◌<◌, ◌≤◌, ◌↔◌, ◌⊎◌, ◌++◌, ◌∷◌, [], length, take, option_map, IsTrue, IsOk, IsSome, IsSomeAnd, IfSome, OnOk, IfErr, OnErr, Err, Some};
+ghost use Rattle.std.specs.Prelude.{◌≡◌, ◌+◌, ◌<◌, ◌≤◌, ◌↔◌, ◌⊎◌, ◌++◌, ◌∷◌, [], length, take, option_map, IsTrue, IsOk, IsSome, IsSomeAnd, IfSome, OnOk, IfErr, OnErr, Err, None, Some};
 ghost use Rattle.sd_base.specs.declared.refusal.Refusal.TheVariants as R;
 ghost use Rattle.sd_base.specs.Values.{size};
 ghost use Rattle.sd_page.specs.Page.{Page, PageFits, CanTake, HasRoom, IsTooLong, LacksRoom, LacksSlot, after_of, applied, capacity_at, capacity_for, empty_page, heap_end, value_at, written};
@@ -12,7 +12,7 @@ use crate::layout::{
     COUNT, ENTRY_BYTES, HEADER_BYTES, HEAP_END, LSN, NUMBER, PAGE_BYTES, bytes_of, entry_place,
     length_word, slot_in,
 };
-use sd_base::{Lsn, MAX_CAPACITY, PageNo, Refusal};
+use sd_base::{Lsn, MAX_CAPACITY, NO_VALUE, PageNo, Refusal};
 use std::marker::Model;
 
 /// The image of a page: its 1,024 bytes. Contracts see the page that they spell.
@@ -74,6 +74,14 @@ impl Image {
         &self.bytes
     }
 
+    /// What holds of every image, for a proof that has one: it is the image of a page, in 1,024 bytes.
+    pub fn keeps(&self)
+        ensures size { length (page_spelling self.now) ≡ 1024 }
+        ensures fits { PageFits self.now }
+    {
+        let _bytes = self.bytes();
+    }
+
     /// The LSN of its last change.
     pub fn lsn(&self) -> Lsn
         ensures { result ≡ self.now.lsn }
@@ -125,6 +133,14 @@ impl Image {
         }
         let (_capacity, value) = slot_in(&self.bytes, slot)?;
         value
+    }
+
+    /// Whether a slot of the page is dead, as the length in its entry tells. Nothing else of the slot is looked at.
+    pub fn is_dead(&self, slot: u16) -> bool
+        requires { slot < length self.now.slots }
+        ensures { IsTrue result ↔ (value_at self.now.slots slot ≡ None) }
+    {
+        u16_at(&self.bytes, entry_place(slot) + 4) == NO_VALUE
     }
 
     /// Whether a new slot of this capacity fits, its entry too.

@@ -5,10 +5,10 @@ use Rattle.std.proofs.lemmas.Bool.{cases_eq}
 use Rattle.std.proofs.lemmas.List.{get_or-set_other, length-set, length-replicate}
 use Rattle.std.proofs.lemmas.Grind.{get_or-set_at}
 use Rattle.sd_base.specs.declared.place.Place as coded
-use Rattle.sd_places.specs.Places.{PageEntry, changed, place_at}
-use Rattle.sd_places.specs.Rows.{fallen}
-use Rattle.sd_places.proofs.Drops.{changed-fallen}
-use Rattle.sd_placetable.proofs.Kept.{blank}
+use Rattle.sd_pagelock.specs.Places.{PageEntry, changed, place_at}
+use Rattle.sd_pagelock.specs.Rows.{fallen}
+use Rattle.sd_pagelock.proofs.Drops.{changed-fallen}
+use Rattle.sd_pagelock.proofs.TableKept.{blank}
 use Rattle.sd_pagelock.specs.Directory.{IsKept, kept_rec}
 
 pub kept-write : (old new : List coded.Place) (recs : List (Option ℕ)) (images i : ℕ) (to : PageEntry) (rec : Option ℕ)

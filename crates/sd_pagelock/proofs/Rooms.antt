@@ -4,7 +4,7 @@ use Rattle.std.specs.Prelude.{is_some, slice_set}
 use Rattle.std.proofs.lemmas.Bool.{cases_eq}
 use Rattle.std.proofs.lemmas.List.{get_or-set_other, get_or_read, length-set}
 use Rattle.std.proofs.lemmas.Grind.{get_or-set_at}
-use Rattle.sd_asks.specs.Asks.{Queues, asks_for}
+use Rattle.sd_pagelock.specs.Asks.{Queues, asks_for}
 use Rattle.sd_pagelock.specs.Directory.{HaveRoom}
 
 module _ {I : Type 0} (old new : Queues) (images sent rooms : List (Option I)) (p : ℕ) (was : HaveRoom old images rooms)

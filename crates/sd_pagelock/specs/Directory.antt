@@ -1,9 +1,9 @@
 -- What the directory says of each page.
 use Rattle.std.specs.Prelude.{◌≡◌, ℕ, ◌<◌, Bool, List, [], Option, None, is_some, get_or, length, cond}
 use Rattle.sd_base.specs.declared.place.Place as coded
-use Rattle.sd_places.specs.Places.{PageEntry, place_at, changed}
-use Rattle.sd_asks.specs.declared.queue.Ask.{Ask}
-use Rattle.sd_asks.specs.Asks.{Queues, asks_for, can_give}
+use Rattle.sd_pagelock.specs.Places.{PageEntry, place_at, changed}
+use Rattle.sd_pagelock.specs.declared.queue.Ask.{Ask}
+use Rattle.sd_pagelock.specs.Asks.{Queues, asks_for, can_give}
 
 -- by page: where it is, its RecLSN, and what of it is on its way; and the asks by page
 pub record DirectoryState (I : Type 0) : Type 0 where

@@ -1,9 +1,8 @@
 //! The directory: each page's place and RecLSN, what of it is on its way, and the asks for it.
 
-use sd_asks::Asks;
+use crate::rows::{changed, receives};
+use crate::{Asks, GROUP, GROUPS, PlaceTable, nothing, repeated};
 use sd_base::{InstNo, Lsn, Memory, Mode, PAGES, PageNo, Place};
-use sd_places::rows::{changed, receives};
-use sd_placetable::{GROUP, GROUPS, PlaceTable, nothing, repeated};
 use std::alloc::Global;
 use std::marker::Model;
 
@@ -37,10 +36,10 @@ impl<I> Model for Directory<I> {
 
 impl<I: Drop> Directory<I> {
     ghost use Rattle.std.specs.Prelude.{◌≡◌, ◌≢◌, ◌≤◌, ℕ, [], None, Some, IsTrue, IfNone, IfOk, IfSome, is_some, option_copied, cond, true, false, Option};
-    ghost use Rattle.sd_places.specs.Places.{PageEntry, seen, is_free, changed, receives, Formed, InRange};
-    ghost use Rattle.sd_places.specs.Rows.{fallen};
-    ghost use Rattle.sd_places.specs.Moves.{IsMove};
-    ghost use Rattle.sd_asks.specs.Asks.{open_asks, asks_without, IsOneEach};
+    ghost use Rattle.sd_pagelock.specs.Places.{PageEntry, seen, is_free, changed, receives, Formed, InRange};
+    ghost use Rattle.sd_pagelock.specs.Rows.{fallen};
+    ghost use Rattle.sd_pagelock.specs.Moves.{IsMove};
+    ghost use Rattle.sd_pagelock.specs.Asks.{open_asks, asks_without, IsOneEach};
     ghost use Rattle.sd_pagelock.specs.Directory.{entry_at, rec_lsn_at, moving_image_at, asks_at, kept_rec};
 
     /// The directory of 1,024 free pages, with no asks and nothing on its way. It takes all memory that places need;
@@ -200,8 +199,8 @@ impl<I: Drop> Directory<I> {
 
 impl<I: Drop> Directory<I> {
     ghost use Rattle.std.specs.Prelude.{◌≡◌, ◌≢◌, ◌<◌, ◌≤◌, ◌+◌, ◌*◌, ℕ, None, Option, IfNone, IfOk, IfSome, OnErr, OnOk, is_some, cond, true, false};
-    ghost use Rattle.sd_places.specs.Places.{seen, changed, is_lost, receives, Formed};
-    ghost use Rattle.sd_asks.specs.Asks.{queued, oldest, asks_without};
+    ghost use Rattle.sd_pagelock.specs.Places.{seen, changed, is_lost, receives, Formed};
+    ghost use Rattle.sd_pagelock.specs.Asks.{queued, oldest, asks_without};
     ghost use Rattle.sd_pagelock.specs.Directory.{entry_at, rec_lsn_at, moving_image_at, asks_at, is_wanted, kept_rec};
 
     /// `i` asks for the page: at the end of its asks, or in the place of its older ask, which becomes the stronger of

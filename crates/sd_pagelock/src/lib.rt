@@ -19,7 +19,20 @@
 //! - frozen: nothing
 #![tactic(auto)]
 
+mod asks;
 mod directory;
+mod filled;
+mod lawful;
+pub mod laws;
+mod noted;
+mod queue;
+pub mod rows;
+mod table;
 
+pub use asks::Asks;
 pub use directory::Directory;
-pub use sd_places::{is_lawful, laws, rows};
+pub use filled::{nothing, repeated};
+pub use lawful::is_lawful;
+pub use noted::{GROUP, GROUPS};
+pub use queue::Ask;
+pub use table::PlaceTable;

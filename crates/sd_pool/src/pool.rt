@@ -78,6 +78,13 @@ impl Pool {
         self.cache.len()
     }
 
+    /// What holds of every pool, for a proof that has one.
+    pub fn keeps(&self)
+        ensures { IsPool self.now }
+    {
+        let _held = self.count();
+    }
+
     /// Whether a page has no frame and finds none.
     pub fn lacks_frame(&self, p: PageNo) -> bool
         ensures { IsTrue result ↔ LacksFrame self.now p }

@@ -13,7 +13,7 @@ use Rattle.sd_base.specs.Ids.{same_txn, same_rid}
 use Rattle.sd_base.specs.Waits.{Wait, Clash}
 use Rattle.sd_reclock.specs.Locks.{Held, held_in, raised, Agree, StandsIn, IsLowestHolder}
 use Rattle.sd_reclock.specs.Indexing.{Index, names, rids_of, IsIndexed}
-use Rattle.sd_cycle.proofs.Noting.{PutsTxn}
+use Rattle.sd_reclock.proofs.Noting.{PutsTxn}
 use Rattle.sd_reclock.proofs.Writes.{Changes, and-false}
 use Rattle.sd_base.proofs.SameIds.{cases_rid, cases_txn, ne-same_rid, ne-same}
 use Rattle.sd_base.proofs.Orders.{same-rid, same-txn, same_rid-sym}

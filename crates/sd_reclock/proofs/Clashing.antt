@@ -12,7 +12,7 @@ use Rattle.sd_base.specs.declared.place.Mode.{Mode}
 use Rattle.sd_base.specs.Ids.{same_txn, same_rid}
 use Rattle.sd_base.specs.Waits.{Wait, Clash}
 use Rattle.sd_reclock.specs.Locks.{Held, Modes, mode_of, mode_among, ClashesIn, StandsIn}
-use Rattle.sd_cycle.specs.Reaching.{AreThose}
+use Rattle.sd_reclock.specs.Reaching.{AreThose}
 use Rattle.sd_base.proofs.Orders.{txn_cmp, look-txn, same-txn, same-txn-is}
 
 abbrev pub Row : Type 0

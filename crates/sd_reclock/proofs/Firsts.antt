@@ -11,7 +11,7 @@ use Rattle.sd_base.specs.Waits.{Clash}
 use Rattle.sd_reclock.specs.Locks.{Modes, mode_of, raised, ClashesIn, IsLowestHolder}
 use Rattle.sd_reclock.specs.Holding.{with_first, first_of, IsApart}
 use Rattle.sd_reclock.specs.Owning.{IsLow, IsLowerOf}
-use Rattle.sd_cycle.specs.Reaching.{AreThose}
+use Rattle.sd_reclock.specs.Reaching.{AreThose}
 use Rattle.sd_reclock.proofs.Owners.{Row, first_mode, low_both}
 use Rattle.sd_base.proofs.SameIds.{cases_txn, ne-same}
 use Rattle.sd_base.proofs.Orders.{same-txn, same-txn-is, not_below_itself}

@@ -12,3 +12,8 @@ pub mod Placed
 pub mod Joining
 pub mod Moving
 pub mod Marking
+pub mod Walks
+pub mod Reached
+pub mod Counting
+pub mod Meeting
+pub mod Noting

@@ -21,7 +21,7 @@ use Rattle.sd_base.specs.declared.place.Mode.TheVariants as modes
 use Rattle.sd_base.specs.Ids.{same_rid, IsBelow}
 use Rattle.sd_reclock.specs.Locks.{Held, Modes, mode_of, mode_among, held_in, Agree, AgreeAmong, OwnsIn, IsLowestOwner, IsOwner}
 use Rattle.sd_reclock.specs.Owning.{IsLow, IsLowerOf}
-use Rattle.sd_cycle.proofs.Walks.{at_some}
+use Rattle.sd_reclock.proofs.Walks.{at_some}
 use Rattle.sd_reclock.specs.Placing.{IsOneEach}
 use Rattle.sd_reclock.proofs.Owners.{low_both}
 use Rattle.sd_reclock.proofs.Placing.{Entry, found_row_at}

@@ -11,7 +11,7 @@ use Rattle.sd_base.specs.declared.place.Mode.{Mode}
 use Rattle.sd_base.specs.Ids.{same_txn, same_rid}
 use Rattle.sd_reclock.specs.Locks.{Held, held_in, IsNoStronger}
 use Rattle.sd_reclock.specs.Indexing.{Index, names, rids_of, IsIndexed}
-use Rattle.sd_cycle.proofs.Noting.{PutsTxn}
+use Rattle.sd_reclock.proofs.Noting.{PutsTxn}
 use Rattle.sd_reclock.proofs.Writes.{Changes}
 use Rattle.sd_reclock.proofs.Agreeing.{here}
 use Rattle.sd_reclock.proofs.Lowering.{none_after}

@@ -11,7 +11,7 @@ use Rattle.sd_base.specs.declared.ids.TxnId.{TxnId}
 use Rattle.sd_base.specs.declared.ids.Rid.{Rid}
 use Rattle.sd_base.specs.declared.place.Mode.{Mode}
 use Rattle.sd_base.specs.Ids.{same_txn, same_rid}
-use Rattle.sd_cycle.proofs.Noting.{PutsTxn}
+use Rattle.sd_reclock.proofs.Noting.{PutsTxn}
 use Rattle.sd_reclock.specs.Locks.{Held, Modes, held_in, mode_among}
 use Rattle.sd_reclock.specs.Indexing.{Index, IsIndexed, names, rids_of}
 use Rattle.sd_base.proofs.SameIds.{cases_rid, cases_txn, ne-same_rid, ne-same}

@@ -6,3 +6,6 @@ pub mod Holding
 pub mod Placing
 pub mod Singles
 pub mod Marking
+pub mod Waiting
+pub mod Reaching
+pub mod Searching

@@ -7,8 +7,8 @@ use Rattle.sd_base.specs.declared.place.Mode.{Mode}
 use Rattle.sd_base.specs.declared.place.Mode.TheVariants as modes
 use Rattle.sd_base.specs.Ids.{same_txn, same_rid, IsBelow}
 use Rattle.sd_base.specs.Waits.{Wait, Waits, Clash, Obstacles}
-pub use Rattle.sd_cycle.specs.declared.wait.Asked.{Asked}
-pub use Rattle.sd_cycle.specs.Waiting.{wait_of, waits_in}
+pub use Rattle.sd_reclock.specs.declared.wait.Asked.{Asked}
+pub use Rattle.sd_reclock.specs.Waiting.{wait_of, waits_in}
 
 -- the locks on one record: each holder with its mode
 abbrev pub Modes : Type 0

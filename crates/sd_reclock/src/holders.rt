@@ -7,11 +7,11 @@ ghost use Rattle.sd_base.specs.Ids.{same_txn};
 ghost use Rattle.sd_reclock.specs.Locks.{mode_of, raised, AgreeAmong, ClashesIn, IsLowestHolder, IsNoStronger, IsOwner};
 ghost use Rattle.sd_reclock.specs.Holding.{with_first, first_of};
 ghost use Rattle.sd_reclock.specs.Owning.{IsLowerOf};
-ghost use Rattle.sd_cycle.specs.Reaching.{AreThose};
+ghost use Rattle.sd_reclock.specs.Reaching.{AreThose};
 
+use crate::clashes;
 use crate::others::{Others, raise};
 use sd_base::{Memory, Mode, TxnId};
-use sd_cycle::clashes;
 use std::alloc::Global;
 use std::marker::Model;
 

@@ -17,11 +17,15 @@
 //! - frozen: nothing; no byte on a device depends on it
 #![tactic(auto)]
 
+mod deadlock;
 mod few;
 mod holders;
 mod locks;
 mod many;
 mod others;
 mod table;
+mod wait;
 
+pub use deadlock::{Asking, Standing};
 pub use table::RecordLocks;
+pub use wait::{Asked, clashes};

@@ -5,7 +5,7 @@ ghost use Rattle.std.specs.Map.{lookup};
 ghost use Rattle.sd_base.specs.declared.ids.TxnId.{TxnId};
 ghost use Rattle.sd_base.specs.declared.ids.Rid.{Rid};
 ghost use Rattle.sd_base.specs.Ids.{same_txn, same_rid, IsBelow};
-ghost use Rattle.sd_cycle.specs.Waiting.{wait_of};
+ghost use Rattle.sd_reclock.specs.Waiting.{wait_of};
 ghost use Rattle.sd_reclock.specs.Locks.{held_in, raised, Agree, IsLowestHolder, IsLowestOwner, IsNoStronger, StandsIn};
 ghost use Rattle.sd_reclock.specs.Answers.{IsFree};
 ghost use Rattle.sd_reclock.specs.Placing.{IsApartFrom};
@@ -13,8 +13,8 @@ ghost use Rattle.sd_reclock.specs.Placing.{IsApartFrom};
 use crate::few::Few;
 use crate::holders::{Holders, lower_of};
 use crate::many::Many;
+use crate::{Asked, Standing, clashes};
 use sd_base::{Memory, Mode, PageNo, Rid, TxnId};
-use sd_cycle::{Asked, Standing, clashes};
 use std::alloc::Global;
 use std::marker::Model;
 
@@ -138,7 +138,7 @@ impl Locks {
     }
 
     /// Makes place for a further record, where there is none and memory is found: all locks stay.
-    pub fn settle(&mut self)
+    pub fn make_place(&mut self)
         ensures held { (u : TxnId) (q : Rid) → held_in self.new u q ≡ held_in self.old u q }
         ensures agree { Agree self.new }
     {

@@ -7,15 +7,15 @@ ghost use Rattle.std.specs.declared.ops.Bound.TheVariants.{Excluded, Unbounded};
 ghost use Rattle.sd_base.specs.declared.ids.TxnId.{TxnId};
 ghost use Rattle.sd_base.specs.declared.ids.Rid.{Rid};
 ghost use Rattle.sd_base.specs.Ids.{same_txn, same_rid};
-ghost use Rattle.sd_cycle.specs.Waiting.{wait_of};
+ghost use Rattle.sd_reclock.specs.Waiting.{wait_of};
 ghost use Rattle.sd_reclock.specs.Locks.{held_in, raised, Agree, IsLowestOwner, IsNoStronger, StandsIn};
 ghost use Rattle.sd_reclock.specs.Answers.{IsFree};
 ghost use Rattle.sd_reclock.specs.Indexing.{names, IsIndexed};
 ghost use Rattle.sd_reclock.specs.Marking.{AreMarked};
 
+use crate::Asked;
 use crate::holders::{Holders, lower_of};
 use sd_base::{Memory, Mode, PAGES, PageNo, Rid, TxnId};
-use sd_cycle::Asked;
 use std::alloc::Global;
 use std::collections::BTreeMap;
 use std::marker::Model;

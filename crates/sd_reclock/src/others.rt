@@ -4,10 +4,10 @@ ghost use Rattle.std.specs.Prelude.{◌≡◌, [], None, Some, cond, IsTrue, IfO
 ghost use Rattle.sd_base.specs.declared.ids.TxnId.{TxnId};
 ghost use Rattle.sd_base.specs.Ids.{same_txn};
 ghost use Rattle.sd_reclock.specs.Locks.{mode_of, raised, AgreeAmong, ClashesIn, IsLowestHolder, IsNoStronger, IsOwner};
-ghost use Rattle.sd_cycle.specs.Reaching.{AreThose};
+ghost use Rattle.sd_reclock.specs.Reaching.{AreThose};
 
+use crate::clashes;
 use sd_base::{Memory, Mode, TxnId};
-use sd_cycle::clashes;
 use std::alloc::Global;
 use std::collections::BTreeMap;
 use std::marker::Model;

@@ -5,13 +5,12 @@ ghost use Rattle.sd_base.specs.declared.ids.TxnId.{TxnId};
 ghost use Rattle.sd_base.specs.declared.ids.Rid.{Rid};
 ghost use Rattle.sd_base.specs.Ids.{same_txn, same_rid};
 ghost use Rattle.sd_base.specs.Waits.{with_wait};
-ghost use Rattle.sd_reclock.specs.Locks.{held, stands, waits, raised, wait_for};
-ghost use Rattle.sd_reclock.specs.Locks.{Agree, IsLowestHolder, IsLowestOwner, IsNoStronger};
+ghost use Rattle.sd_reclock.specs.Locks.{Agree, IsLowestHolder, IsLowestOwner, IsNoStronger, held, raised, stands, wait_for, waits};
 ghost use Rattle.sd_reclock.specs.Answers.{IsFree, IsRefused};
 
 use crate::locks::Locks;
+use crate::{Asked, Asking};
 use sd_base::{InstNo, Memory, Mode, PageNo, Refusal, Rid, TxnId};
-use sd_cycle::{Asked, Asking};
 use std::alloc::Global;
 use std::collections::BTreeMap;
 use std::marker::Model;
@@ -114,7 +113,7 @@ impl RecordLocks {
         ensures agree { Agree self.new.locks }
     {
         self.locks.put(t, &Asked { rid: *r, mode })?;
-        self.locks.settle();
+        self.locks.make_place();
         Ok(())
     }
 

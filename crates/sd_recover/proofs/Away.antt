@@ -15,8 +15,8 @@ use Rattle.sd_model.specs.Applies.{HasPage}
 use Rattle.sd_model.specs.State.{State}
 use Rattle.sd_model.specs.declared.cause.Cause.{Cause}
 use Rattle.sd_model.specs.declared.event.Event.TheVariants.{RecoverStep}
-use Rattle.sd_places.specs.Places.{PageEntry, is_lost, owns}
-use Rattle.sd_sound.specs.Logs.{Outcomes}
+use Rattle.sd_pagelock.specs.Places.{PageEntry, is_lost, owns}
+use Rattle.sd_chain.specs.Logs.{Outcomes}
 use Rattle.sd_world.specs.PageCauses.{IsNeededPage}
 use Rattle.sd_world.specs.Serving.{Core, Telling, refused}
 use Rattle.sd_state.specs.Complexes.{parts}
@@ -27,8 +27,8 @@ use Rattle.sd_fits.specs.Serving.{Serving}
 use Rattle.sd_fits.proofs.Recovering.{recovers-at}
 use Rattle.sd_fits.proofs.Refused.{IsFor, refused-serves}
 use Rattle.sd_recover.specs.Recovering.{IsAway}
-use Rattle.sd_tasks.specs.Tasks.{AreThere}
-use Rattle.sd_tasks.proofs.Awaited.{page-needed}
+use Rattle.sd_recover.specs.Tasks.{AreThere}
+use Rattle.sd_recover.proofs.Awaited.{page-needed}
 
 module _ (t : TxnId) (by : ℕ) (seen : DeviceImages) (leaves : Outcomes) (c : Parts) (w : Core) (f : Fits seen leaves c w) (low : 1 ≤ home t)
     (high : home t ≤ 8) (recovers : status_at c (home t) ≡ S.Recovering by) (there : AreThere c)

@@ -2,12 +2,12 @@
 use Rattle.std.proofs.Common.{◌≡◌, ⊎_elim, ℕ, ◌<◌, Bool, true, false, subst, arith}
 use Rattle.std.proofs.lemmas.Bool.{cases_eq, cases_lt}
 use Rattle.sd_pagelock.specs.Directory.{entry_at}
-use Rattle.sd_places.specs.Places.{is_lost}
+use Rattle.sd_pagelock.specs.Places.{is_lost}
 use Rattle.sd_state.specs.Parts.{Parts, is_loose}
 use Rattle.sd_recover.specs.Recovering.{FreesOne, HasCleared, SettlesOne}
-use Rattle.sd_tasks.specs.Tasks.{AreThere, IsNext}
-use Rattle.sd_tasks.specs.declared.tasks.Task.{Task}
-use Rattle.sd_tasks.specs.declared.tasks.Task.TheVariants as task
+use Rattle.sd_recover.specs.Tasks.{AreThere, IsNext}
+use Rattle.sd_recover.specs.declared.tasks.Task.{Task}
+use Rattle.sd_recover.specs.declared.tasks.Task.TheVariants as task
 
 pub opposite : (b : Bool) → b ≡ true → b ≡ false → ⊥
 opposite b t f = cc

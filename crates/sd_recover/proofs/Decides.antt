@@ -17,8 +17,8 @@ use Rattle.sd_chain.specs.Records.{home}
 use Rattle.sd_model.specs.State.{State}
 use Rattle.sd_model.specs.declared.event.Event.TheVariants.{RecoverStep}
 use Rattle.sd_model.specs.declared.event.Reply.TheVariants as reply
-use Rattle.sd_sound.specs.Logs.{Outcomes, base_at}
-use Rattle.sd_sound.proofs.Kept.{forced-tail}
+use Rattle.sd_chain.specs.Logs.{Outcomes, base_at}
+use Rattle.sd_chain.proofs.Kept.{forced-tail}
 use Rattle.sd_world.specs.Bounds.{Bounds}
 use Rattle.sd_world.specs.Serving.{Core, Telling, Turns}
 use Rattle.sd_state.specs.Complexes.{parts}
@@ -31,8 +31,8 @@ use Rattle.sd_state.specs.Tables.{tells_log}
 use Rattle.sd_state.specs.Values.{Pending}
 use Rattle.sd_state.specs.declared.complex.Complex.{Complex}
 use Rattle.sd_state.proofs.Items.{item-kept}
-use Rattle.sd_merge.proofs.Flats.{flats-log}
-use Rattle.sd_falls.proofs.FallBounds.{sum-less}
+use Rattle.sd_redo.proofs.Flats.{flats-log}
+use Rattle.sd_moves.proofs.FallBounds.{sum-less}
 use Rattle.sd_fits.specs.Fits.{Fits, FitsBounds}
 use Rattle.sd_fits.specs.Serving.{Serving, fits_by}
 use Rattle.sd_fits.proofs.Forcing.{no-more}

@@ -1,10 +1,9 @@
 -- The End of a loser is forced, or its force fails: for the goals of `end_next`.
-use Rattle.std.proofs.Common.{◌≡◌, ◌≢◌, ◌⊎◌, ℕ, ◌≤◌, true, false, refl, sym, ap, ◌∙◌, subst}
+use Rattle.std.proofs.Common.{◌≡◌, ◌≢◌, ◌⊎◌, ℕ, ◌≤◌, true, false, refl, sym, ap, ◌∙◌, subst, suc}
 use Rattle.std.specs.Prelude.{None, Option, Some, IsSome, is_some, length, option_and_then}
-use Rattle.std.proofs.Common.{suc}
 use Rattle.sd_txn.specs.Transactions.{Transaction, Transactions, top, top_at}
 use Rattle.sd_state.proofs.Items.{item-set}
-use Rattle.sd_tasks.specs.Tasks.{tasks_in}
+use Rattle.sd_recover.specs.Tasks.{tasks_in}
 use Rattle.sd_recover.proofs.Left.{ended-fewer}
 use Rattle.sd_base.specs.declared.ids.TxnId.{TxnId}
 use Rattle.sd_base.specs.declared.place.Status.TheVariants as S
@@ -13,11 +12,11 @@ use Rattle.sd_log.specs.Logs.{forced}
 use Rattle.sd_rig.specs.Devices.{Elapses, Span}
 use Rattle.sd_chain.specs.Checks.{owed}
 use Rattle.sd_chain.specs.Records.{home}
-use Rattle.sd_sound.specs.Logs.{all_at}
+use Rattle.sd_chain.specs.Logs.{all_at}
 use Rattle.sd_model.specs.State.{State, fall}
 use Rattle.sd_model.specs.declared.event.Event.TheVariants.{RecoverStep}
 use Rattle.sd_model.specs.declared.event.Reply.TheVariants as reply
-use Rattle.sd_falls.specs.Falling.{IsFallen, with_fallen}
+use Rattle.sd_moves.specs.Falling.{IsFallen, with_fallen}
 use Rattle.sd_world.specs.Answers.Undoes.{none}
 use Rattle.sd_world.specs.Serving.{Core, Serves, Telling}
 use Rattle.sd_state.specs.Complexes.{parts}
@@ -25,7 +24,7 @@ use Rattle.sd_state.specs.Forcing.{KeepMasters, with_failed, with_forced}
 use Rattle.sd_state.specs.Good.{Good}
 use Rattle.sd_state.specs.Images.{Stands}
 use Rattle.sd_state.specs.Parts.{Parts, acting, actor, is_loose, log_at, no_txns, owed_at, status_at, txns_at}
-use Rattle.sd_seals.specs.Sealing.{HasEnd, end_of}
+use Rattle.sd_update.specs.Sealing.{HasEnd, end_of}
 use Rattle.sd_state.specs.Values.{Pending}
 use Rattle.sd_state.specs.declared.complex.Complex.{Complex}
 use Rattle.sd_fits.specs.Fits.{Fits, FitsBounds, FitsDoubts, FitsPages}

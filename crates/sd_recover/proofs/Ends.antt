@@ -1,6 +1,5 @@
 -- A loser gets its End: for the goals of `end_next`.
-use Rattle.std.proofs.Common.{◌≡◌, ◌≢◌, inr, ⊎_elim, ℕ, ◌+◌, ◌-◌, ◌≤◌, false, cond, eqb, List, ◌∷◌, [], ◌++◌, length, slice_set}
-use Rattle.std.proofs.Common.{refl, sym, ap, ◌∙◌, subst, arith}
+use Rattle.std.proofs.Common.{◌≡◌, ◌≢◌, inr, ⊎_elim, ℕ, ◌+◌, ◌-◌, ◌≤◌, false, cond, eqb, List, ◌∷◌, [], ◌++◌, length, slice_set, refl, sym, ap, ◌∙◌, subst, arith}
 use Rattle.std.specs.Prelude.{Option, None, Some, IsSome, option_map, slice_get}
 use Rattle.std.specs.Option.{option_and_then}
 use Rattle.std.proofs.lemmas.Bool.{cases_eq}
@@ -19,18 +18,18 @@ use Rattle.sd_txn.specs.declared.state.OpenRec.{OpenRec}
 use Rattle.sd_txn.specs.declared.state.TxnState.{TxnState}
 use Rattle.sd_chain.specs.Checks.{owed, reserve}
 use Rattle.sd_chain.specs.Records.{IsOpen, home}
-use Rattle.sd_sound.specs.Logs.{HasRecord, Outcomes, all_at}
-use Rattle.sd_sound.proofs.Appends.{appended-log}
-use Rattle.sd_sound.proofs.Owing.{end-owes}
-use Rattle.sd_sound.proofs.Room.{end-len}
+use Rattle.sd_chain.specs.Logs.{HasRecord, Outcomes, all_at}
+use Rattle.sd_chain.proofs.Appends.{appended-log}
+use Rattle.sd_chain.proofs.Owing.{end-owes}
+use Rattle.sd_chain.proofs.Room.{end-len}
 use Rattle.sd_world.specs.Serving.{Core}
 use Rattle.sd_state.specs.Good.{Good}
 use Rattle.sd_state.specs.Parts.{Parts, among, is_loose, log_at, no_log, no_txns, status_at, txns_at}
-use Rattle.sd_seals.specs.Sealing.{HasEnd, MayPutEnd, end_of}
+use Rattle.sd_update.specs.Sealing.{HasEnd, MayPutEnd, end_of}
 use Rattle.sd_state.specs.Tables.{IsLogged, RowIsLogged, tells_log}
 use Rattle.sd_state.specs.Values.{Pending}
 use Rattle.sd_state.proofs.Items.{item-kept, item-set}
-use Rattle.sd_seals.proofs.SealedCalls.{has}
+use Rattle.sd_update.proofs.SealedCalls.{has}
 use Rattle.sd_fits.specs.Fits.{Fits, FitsBounds, FitsDoubts, FitsPages}
 use Rattle.sd_fits.proofs.Recovering.{IsAside, step_sums}
 use Rattle.sd_fits.proofs.Sealing.{AreMore, sealed-bounds, sealed-doubts, sealed-pages}

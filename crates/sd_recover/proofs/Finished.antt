@@ -1,6 +1,5 @@
 -- A recovery ends: for the goals of `finish`.
-use Rattle.std.proofs.Common.{◌≡◌, inl, inr, ⊎_elim, ℕ, ◌≤◌, Bool, false, cond, List, [], ◌++◌, map}
-use Rattle.std.proofs.Common.{append-nil, refl, sym, ap, ◌∙◌, subst}
+use Rattle.std.proofs.Common.{◌≡◌, inl, inr, ⊎_elim, ℕ, ◌≤◌, Bool, false, cond, List, [], ◌++◌, map, append-nil, refl, sym, ap, ◌∙◌, subst}
 use Rattle.std.specs.Prelude.{Option, None, Some, is_some, option_and_then, option_map}
 use Rattle.std.proofs.lemmas.Bool.{cases_eq}
 use Rattle.sd_base.specs.declared.ids.Rid.{Rid}
@@ -20,17 +19,17 @@ use Rattle.sd_chain.proofs.Fates.{fate-closed}
 use Rattle.sd_model.specs.Lives.{SuitsStatus}
 use Rattle.sd_model.specs.State.{State}
 use Rattle.sd_model.specs.declared.act.Life.{Life}
-use Rattle.sd_sound.specs.Logs.{Outcomes, all_at, base_at}
+use Rattle.sd_chain.specs.Logs.{Outcomes, all_at, base_at}
 use Rattle.sd_world.specs.Serving.{Core}
 use Rattle.sd_state.specs.Parts.{Parts, is_loose, log_at, status_at, txns_at}
 use Rattle.sd_state.specs.Recovering.{IsDone, MayEnd}
 use Rattle.sd_state.specs.Tables.{IsLogged, NamesLife, RowIsLogged, StandsAs, lock_of, tells_log}
 use Rattle.sd_fits.specs.Fits.{Fits}
-use Rattle.sd_tasks.specs.Tasks as next
-use Rattle.sd_tasks.specs.Tasks.{AreThere, IsRowTask, open_lsn}
-use Rattle.sd_tasks.specs.declared.tasks.Task.TheVariants as task
+use Rattle.sd_recover.specs.Tasks as next
+use Rattle.sd_recover.specs.Tasks.{AreThere, IsRowTask, open_lsn}
+use Rattle.sd_recover.specs.declared.tasks.Task.TheVariants as task
 use Rattle.sd_recover.proofs.Ends.{none-top}
-use Rattle.sd_tasks.proofs.Rows.{none-open, none-passes}
+use Rattle.sd_recover.proofs.Rows.{none-open, none-passes}
 
 -- ---- nothing is left to do of a row
 

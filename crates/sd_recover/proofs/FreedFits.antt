@@ -3,12 +3,12 @@ use Rattle.std.proofs.Common.{◌≡◌, ℕ, false, refl, sym, ap, ◌∙◌}
 use Rattle.std.specs.Prelude.{None}
 use Rattle.sd_page.specs.Page.{Page}
 use Rattle.sd_model.specs.State.{State}
-use Rattle.sd_asks.specs.Asks.{open_asks}
+use Rattle.sd_pagelock.specs.Asks.{open_asks}
 use Rattle.sd_pagelock.specs.Directory.{DirectoryState, asks_at, entry_at}
-use Rattle.sd_places.specs.Places.{PageEntry}
+use Rattle.sd_pagelock.specs.Places.{PageEntry}
 use Rattle.sd_rig.specs.Devices as rig
-use Rattle.sd_puts.specs.Putting.{SameVersions, with_loose_disk}
-use Rattle.sd_sound.specs.Logs.{Outcomes}
+use Rattle.sd_moves.specs.Putting.{SameVersions, with_loose_disk}
+use Rattle.sd_chain.specs.Logs.{Outcomes}
 use Rattle.sd_world.specs.Answers.{IsLowestLost, Rebuilds, Steps}
 use Rattle.sd_world.specs.Bounds.{Bounds}
 use Rattle.sd_world.specs.Pages.{Pages, page_placed, renumbered}
@@ -21,7 +21,7 @@ use Rattle.sd_state.specs.Values.{Pending}
 use Rattle.sd_fits.specs.Fits.{Fits, FitsBounds, FitsPages}
 use Rattle.sd_fits.proofs.Falling.{numbers_of}
 use Rattle.sd_fits.proofs.Places.{put-case}
-use Rattle.sd_writer.proofs.PutFits.{put-fits}
+use Rattle.sd_transfer.proofs.PutFits.{put-fits}
 
 -- page p is free, and pages have these numbers
 abbrev pub freed : ℕ → (ℕ → ℕ) → Pages → Pages

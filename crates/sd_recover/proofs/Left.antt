@@ -1,8 +1,7 @@
 -- A step leaves one task less in its table: for the tasks of a recovery.
 use Rattle.std.proofs.Common.{◌≡◌, ◌⊎◌, ⊎_elim, ℕ, suc, ◌+◌, ◌-◌, Bool, true, false, cond, List, [], ◌∷◌, length, refl, sym, ap, ◌∙◌, arith}
-use Rattle.std.specs.Prelude.{None, Some, if◌then◌else◌, is_some, option_map}
+use Rattle.std.specs.Prelude.{None, Some, if◌then◌else◌, is_some, option_map, slice_get}
 use Rattle.std.specs.List.{IsDistinct, list_any}
-use Rattle.std.specs.Prelude.{slice_get}
 use Rattle.std.proofs.lemmas.Bool.{cases_Bool}
 use Rattle.std.proofs.lemmas.List.{length-map, length-reverse}
 use Rattle.sd_base.specs.Ids.{same_txn}
@@ -20,7 +19,7 @@ use Rattle.sd_state.specs.Recovering.{decided_as}
 use Rattle.sd_state.specs.Tables.{IsLogged, IsShut}
 use Rattle.sd_state.specs.Values.{open_of}
 use Rattle.sd_state.proofs.ChangedLists.{span-there}
-use Rattle.sd_tasks.specs.Tasks.{row_is_doubt, tasks_in, tasks_of}
+use Rattle.sd_recover.specs.Tasks.{row_is_doubt, tasks_in, tasks_of}
 
 -- a decision is made
 pub decided-fewer : (old new : Transactions) (t : TxnId) (x : Transaction) (b : Bool) → IsDistinct same_txn (ids old) → txn_at old t ≡ Some x

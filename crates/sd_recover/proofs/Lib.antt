@@ -19,3 +19,17 @@ mod UndoSteps
 mod UndoBreaks
 mod UndoFails
 mod Wanting
+pub mod Rows
+pub mod Owns
+mod Nexts
+pub mod Awaited
+mod NoRoom
+mod Armed
+pub mod Failed
+mod Fewer
+mod Spans
+mod Started
+mod Unjoined
+mod Joined
+mod Calls
+pub mod Shut

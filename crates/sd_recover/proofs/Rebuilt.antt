@@ -7,20 +7,20 @@ use Rattle.sd_base.specs.declared.refusal.Refusal.{Refusal}
 use Rattle.sd_base.specs.declared.refusal.Refusal.TheVariants as R
 use Rattle.sd_rig.specs.Devices.{DeviceImages, Elapses, IsUnchanged, Leaves, LeavesSame, Span}
 use Rattle.sd_chain.specs.Bytes.{disk_page}
-use Rattle.sd_coherent.specs.Named.{version_of}
-use Rattle.sd_sound.specs.Logs.{tails_of}
+use Rattle.sd_chain.specs.Named.{version_of}
+use Rattle.sd_chain.specs.Logs.{tails_of}
 use Rattle.sd_model.specs.Applies.{IsNotRecovered}
 use Rattle.sd_model.specs.State.{State}
 use Rattle.sd_model.specs.declared.event.Event.{Event}
 use Rattle.sd_model.specs.declared.event.Event.TheVariants.{RecoverStep}
 use Rattle.sd_model.specs.declared.event.Reply.TheVariants as reply
 use Rattle.sd_moves.specs.Places.{with_directory}
-use Rattle.sd_puts.specs.Putting.{SameVersions, with_loose_disk}
-use Rattle.sd_puts.specs.Rebuilding.{MayRebuild}
-use Rattle.sd_puts.proofs.PutCalls.{disk-same, read-elapses}
+use Rattle.sd_moves.specs.Putting.{SameVersions, with_loose_disk}
+use Rattle.sd_moves.specs.Rebuilding.{MayRebuild}
+use Rattle.sd_moves.proofs.PutCalls.{disk-same, read-elapses}
 use Rattle.sd_pagelock.specs.Directory.{DirectoryState, entry_at}
-use Rattle.sd_places.specs.Places.{PageEntry, is_lost}
-use Rattle.sd_places.proofs.Uses.{lost-is}
+use Rattle.sd_pagelock.specs.Places.{PageEntry, is_lost}
+use Rattle.sd_pagelock.proofs.Uses.{lost-is}
 use Rattle.sd_page.specs.Page.{Page}
 use Rattle.sd_world.specs.Answers.{IsLowestLost, Undoes}
 use Rattle.sd_world.specs.Bounds.{bounds_after}
@@ -42,8 +42,8 @@ use Rattle.sd_fits.proofs.Places.{read-fits, read-spares, repaged, turns-repaged
 use Rattle.sd_recover.proofs.FreedFits.{freed, freed-fits, frees-lowest}
 use Rattle.sd_fits.proofs.Served.{bounds-stay, none-ended}
 use Rattle.sd_recover.specs.Rebuilding.{LeavesLost}
-use Rattle.sd_writer.specs.Breaking.{BreaksBy}
-use Rattle.sd_writer.proofs.Unput.{unread-served}
+use Rattle.sd_transfer.specs.Breaking.{BreaksBy}
+use Rattle.sd_transfer.proofs.Unput.{unread-served}
 
 -- the lowest lost page is lost, and may be rebuilt
 pub may-rebuild : (p : ℕ) (c : Parts) → IsLowestLost (entry_at c.directory) p → ((d : ℕ) → d ≤ 8 → is_loose c d ≡ false)

@@ -20,8 +20,8 @@ use Rattle.sd_txn.specs.Transactions.{Transactions, span_at}
 use Rattle.sd_chain.specs.Bytes.{disk_page}
 use Rattle.sd_chain.specs.Images.{Keeps, kept_at}
 use Rattle.sd_chain.specs.Records.{IsOpen, home}
-use Rattle.sd_coherent.specs.Named.{version_of}
-use Rattle.sd_sound.specs.Logs.{Less, Outcomes, all_at, tails_of}
+use Rattle.sd_chain.specs.Named.{version_of}
+use Rattle.sd_chain.specs.Logs.{Less, Outcomes, all_at, tails_of}
 use Rattle.sd_world.specs.Bounds.{Bounds}
 use Rattle.sd_world.specs.Pages.{Pages, renumbered}
 use Rattle.sd_world.specs.Serving.{Core}
@@ -31,11 +31,11 @@ use Rattle.sd_state.specs.Parts.{Parts, count_at, is_loose, no_txns, status_at, 
 use Rattle.sd_state.specs.Values.{Pending, is_committed}
 use Rattle.sd_state.proofs.Items.{item-kept, item-set}
 use Rattle.sd_state.proofs.LockReads.{less-good}
-use Rattle.sd_settle.specs.Settling.{IsReread, with_reread}
-use Rattle.sd_settle.proofs.SettledBounds.{kept-again, reach-again, reread-great, reread-owes}
-use Rattle.sd_settle.proofs.SettledGood.{by-else, by-here, half-kept, log-else, was_at}
-use Rattle.sd_settle.proofs.SettledTold.{not-up}
-use Rattle.sd_settle.proofs.SettledWhole.{reread-good}
+use Rattle.sd_moves.specs.Settling.{IsReread, with_reread}
+use Rattle.sd_moves.proofs.SettledBounds.{kept-again, reach-again, reread-great, reread-owes}
+use Rattle.sd_moves.proofs.SettledGood.{by-else, by-here, half-kept, log-else, was_at}
+use Rattle.sd_moves.proofs.SettledTold.{not-up}
+use Rattle.sd_moves.proofs.SettledWhole.{reread-good}
 use Rattle.sd_fits.specs.Fits.{AreWithin, Fits, FitsBounds, FitsDoubts, FitsPages, HaveSlots, ReachesAtMost, capacities}
 use Rattle.sd_fits.proofs.Falling.{numbers_of}
 use Rattle.sd_fits.proofs.Forcing.{versions-same}

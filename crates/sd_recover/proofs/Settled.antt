@@ -13,10 +13,10 @@ use Rattle.sd_model.specs.declared.cause.Cause.{Cause}
 use Rattle.sd_model.specs.declared.event.Event.{Event}
 use Rattle.sd_model.specs.declared.event.Event.TheVariants.{RecoverStep}
 use Rattle.sd_model.specs.declared.event.Reply.TheVariants as reply
-use Rattle.sd_falls.specs.Falling.{IsFallen, with_fallen}
-use Rattle.sd_puts.specs.Putting.{with_loose_disk}
-use Rattle.sd_settle.specs.Settling.{IsReread, with_reread}
-use Rattle.sd_sound.specs.Logs.{Less, Outcomes}
+use Rattle.sd_moves.specs.Falling.{IsFallen, with_fallen}
+use Rattle.sd_moves.specs.Putting.{with_loose_disk}
+use Rattle.sd_moves.specs.Settling.{IsReread, with_reread}
+use Rattle.sd_chain.specs.Logs.{Less, Outcomes}
 use Rattle.sd_world.specs.Answers.{Fails}
 use Rattle.sd_world.specs.Serving.{Core, Passes, Telling}
 use Rattle.sd_state.specs.Complexes.{parts}
@@ -28,15 +28,15 @@ use Rattle.sd_state.specs.declared.complex.Complex.{Complex}
 use Rattle.sd_fits.specs.Fits.{Fits}
 use Rattle.sd_fits.specs.Serving.{Serving, fits_by, stands_for}
 use Rattle.sd_fits.proofs.Falling.{numbers_of}
-use Rattle.sd_writer.proofs.PutFits.{put-fits}
+use Rattle.sd_transfer.proofs.PutFits.{put-fits}
 use Rattle.sd_fits.proofs.Recovering.{numbers-step, step-turns, step_core, step_sums}
 use Rattle.sd_fits.proofs.Refused.{IsFor, refused-turns}
 use Rattle.sd_fits.proofs.Served.{bounds-stay, nothing-fits, passed}
 use Rattle.sd_recover.proofs.RereadFits.{less-fits, reread-fits}
 use Rattle.sd_recover.specs.Recovering.{SettlesOne}
 use Rattle.sd_recover.proofs.Rebuilt.{step-breaks}
-use Rattle.sd_writer.specs.Breaking.{BreaksBy}
-use Rattle.sd_writer.proofs.Broken.{broken-serves}
+use Rattle.sd_transfer.specs.Breaking.{BreaksBy}
+use Rattle.sd_transfer.proofs.Broken.{broken-serves}
 
 -- its mark alone is another
 pub settles-one : (c new : Parts) (dev : ℕ) → dev ≤ 8 → length c.loose ≡ 9 → new.loose ≡ slice_set c.loose dev false → SettlesOne dev c new

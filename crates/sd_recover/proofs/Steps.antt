@@ -17,9 +17,9 @@ use Rattle.sd_model.specs.declared.event.Event.{Event}
 use Rattle.sd_model.specs.declared.event.Event.TheVariants.{RecoverStep}
 use Rattle.sd_model.specs.declared.event.Reply.{Reply}
 use Rattle.sd_model.specs.declared.event.Reply.TheVariants as reply
-use Rattle.sd_falls.specs.Falling.{IsFallen, with_fallen}
-use Rattle.sd_sound.specs.Logs.{Outcomes, all_at, base_at}
-use Rattle.sd_sound.proofs.Kept.{forced-base, forced-tail}
+use Rattle.sd_moves.specs.Falling.{IsFallen, with_fallen}
+use Rattle.sd_chain.specs.Logs.{Outcomes, all_at, base_at}
+use Rattle.sd_chain.proofs.Kept.{forced-base, forced-tail}
 use Rattle.sd_world.specs.Answers.{Undoes}
 use Rattle.sd_world.specs.Bounds.{Bounds}
 use Rattle.sd_world.specs.Pages.{Pages}

@@ -23,11 +23,11 @@ use Rattle.sd_model.specs.State.{Part, State, gone}
 use Rattle.sd_model.specs.declared.act.Life.{Life}
 use Rattle.sd_model.specs.declared.event.Event.TheVariants.{RecoverStep}
 use Rattle.sd_model.specs.declared.event.Reply.TheVariants as reply
-use Rattle.sd_sound.specs.Logs.{Outcomes}
+use Rattle.sd_chain.specs.Logs.{Outcomes}
 use Rattle.sd_world.specs.Answers.{NoneLost}
 use Rattle.sd_world.specs.Bounds.{Bounds, bounds_after}
 use Rattle.sd_world.specs.Serving.{Core, Telling, Turns}
-use Rattle.sd_places.specs.Places.{is_lost}
+use Rattle.sd_pagelock.specs.Places.{is_lost}
 use Rattle.sd_state.specs.Complexes.{parts}
 use Rattle.sd_state.specs.Forcing.{with_forced}
 use Rattle.sd_state.specs.Good.{Good}
@@ -37,15 +37,15 @@ use Rattle.sd_state.specs.Sums.{great_of, owed_in_all, owes_most}
 use Rattle.sd_state.specs.Tables.{tells_log}
 use Rattle.sd_state.specs.Values.{Pending, is_doubt}
 use Rattle.sd_state.specs.declared.complex.Complex.{Complex}
-use Rattle.sd_losers.proofs.Finishing as ended
-use Rattle.sd_falls.proofs.FallBounds.{sum-less}
+use Rattle.sd_update.proofs.Finishing as ended
+use Rattle.sd_moves.proofs.FallBounds.{sum-less}
 use Rattle.sd_fits.specs.Fits.{Fits, FitsBounds}
 use Rattle.sd_fits.specs.Serving.{Serving, fits_by}
 use Rattle.sd_fits.proofs.Doubts.{DoubtsStay, doubts-kept}
 use Rattle.sd_fits.proofs.Forcing.{no-more}
 use Rattle.sd_fits.proofs.Recovering.{rests}
 use Rattle.sd_fits.proofs.Served.{bounds-stay, none-ended}
-use Rattle.sd_tasks.specs.Tasks.{AreThere}
+use Rattle.sd_recover.specs.Tasks.{AreThere}
 use Rattle.sd_recover.proofs.Steps.{then-serves}
 
 -- a table without rows owes nothing

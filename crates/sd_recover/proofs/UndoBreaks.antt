@@ -13,10 +13,10 @@ use Rattle.sd_log.specs.Logs.{LogState, forced, with_record}
 use Rattle.sd_model.specs.State.{State, fall}
 use Rattle.sd_model.specs.declared.event.Event.TheVariants.{RecoverStep}
 use Rattle.sd_model.specs.declared.event.Reply.TheVariants as reply
-use Rattle.sd_falls.specs.Falling.{IsFallen, with_fallen}
+use Rattle.sd_moves.specs.Falling.{IsFallen, with_fallen}
 use Rattle.sd_pagelock.specs.Directory.{entry_at}
-use Rattle.sd_places.specs.Places.{PageEntry, is_lost, owns}
-use Rattle.sd_places.specs.Rows.{dirtied}
+use Rattle.sd_pagelock.specs.Places.{PageEntry, is_lost, owns}
+use Rattle.sd_pagelock.specs.Rows.{dirtied}
 use Rattle.sd_rig.specs.Devices.{Elapses, Span}
 use Rattle.sd_txn.specs.Owing.{owed_of}
 use Rattle.sd_txn.specs.Transactions.{Transaction, Transactions, ids, state_at, top, top_at}
@@ -24,7 +24,7 @@ use Rattle.sd_txn.specs.declared.state.OpenRec.{OpenRec}
 use Rattle.sd_txn.specs.declared.state.TxnState.{TxnState}
 use Rattle.sd_chain.specs.Checks.{owed}
 use Rattle.sd_chain.specs.Records.{home}
-use Rattle.sd_sound.specs.Logs.{all_at}
+use Rattle.sd_chain.specs.Logs.{all_at}
 use Rattle.sd_world.specs.Answers.{MayRollBack, Undoes}
 use Rattle.sd_world.specs.PageCauses.{IsNeededPage}
 use Rattle.sd_world.specs.Pages.{Pages, page_placed, renumbered}
@@ -36,8 +36,8 @@ use Rattle.sd_state.specs.Images.{Stands}
 use Rattle.sd_state.specs.Parts.{Parts, acting, actor, is_loose, log_at, no_log, no_txns, owed_at, status_at, txns_at}
 use Rattle.sd_state.specs.Sums.{owes_most}
 use Rattle.sd_state.specs.Tables.{tells_log}
-use Rattle.sd_undos.specs.Undoing.{HasUndone, clr_at}
-use Rattle.sd_losers.specs.UndoingFor.{own_forced}
+use Rattle.sd_update.specs.Undoing.{HasUndone, clr_at}
+use Rattle.sd_update.specs.UndoingFor.{own_forced}
 use Rattle.sd_state.specs.Values.{Pending}
 use Rattle.sd_state.specs.declared.complex.Complex.{Complex}
 use Rattle.sd_state.proofs.Items.{item-kept, item-set}
@@ -45,8 +45,8 @@ use Rattle.sd_fits.specs.Fits.{Fits, FitsBounds, FitsDoubts, FitsPages}
 use Rattle.sd_fits.specs.Serving.{fits_by, stands_for}
 use Rattle.sd_fits.proofs.Falling.{numbers_of}
 use Rattle.sd_fits.proofs.Recovering.{IsAside, broken, broken-fits, broken-turns, recovers-at, step_sums}
-use Rattle.sd_tasks.specs.Tasks.{AreThere}
-use Rattle.sd_tasks.proofs.Awaited.{page-needed}
+use Rattle.sd_recover.specs.Tasks.{AreThere}
+use Rattle.sd_recover.proofs.Awaited.{page-needed}
 use Rattle.sd_recover.proofs.Steps.{passes-to}
 use Rattle.sd_recover.proofs.UndoneFor.{made, undone-bounds, undone-doubts}
 use Rattle.sd_recover.proofs.UndoServed.{fin-aside, fin-pages, popped-owes, step-more}

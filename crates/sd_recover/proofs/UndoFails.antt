@@ -1,7 +1,6 @@
 -- A force of an undo for a loser failed: for the goals of `undo_next`.
-use Rattle.std.proofs.Common.{◌≡◌, ◌⊎◌, inr, ⊎_elim, ℕ, ◌≤◌, true, refl, ap, ◌∙◌, subst, arith}
+use Rattle.std.proofs.Common.{◌≡◌, ◌⊎◌, inr, ⊎_elim, ℕ, ◌≤◌, true, refl, ap, ◌∙◌, subst, arith, Bool, List, get_or, length, slice_set}
 use Rattle.std.specs.Prelude.{None, Some}
-use Rattle.std.proofs.Common.{Bool, List, get_or, length, slice_set}
 use Rattle.std.specs.List.{IsDistinct}
 use Rattle.std.proofs.lemmas.List.{get_or-set_same}
 use Rattle.sd_base.specs.Ids.{same_txn}
@@ -11,9 +10,9 @@ use Rattle.sd_base.specs.declared.refusal.Refusal.TheVariants as R
 use Rattle.sd_model.specs.State.{State, fall}
 use Rattle.sd_model.specs.declared.event.Event.TheVariants.{RecoverStep}
 use Rattle.sd_model.specs.declared.event.Reply.TheVariants as reply
-use Rattle.sd_falls.specs.Falling.{IsFallen, with_fallen}
+use Rattle.sd_moves.specs.Falling.{IsFallen, with_fallen}
 use Rattle.sd_pagelock.specs.Directory.{entry_at}
-use Rattle.sd_places.specs.Places.{owns}
+use Rattle.sd_pagelock.specs.Places.{owns}
 use Rattle.sd_rig.specs.Devices.{Elapses, Span}
 use Rattle.sd_txn.specs.Transactions.{ids, state_at, top_at}
 use Rattle.sd_txn.specs.declared.state.OpenRec.{OpenRec}
@@ -26,13 +25,13 @@ use Rattle.sd_state.specs.Forcing.{KeepMasters, with_failed}
 use Rattle.sd_state.specs.Good.{Good}
 use Rattle.sd_state.specs.Images.{Stands}
 use Rattle.sd_state.specs.Parts.{Parts, acting, actor, is_loose, status_at, txns_at}
-use Rattle.sd_losers.specs.UndoingFor.{HasFailedFor}
+use Rattle.sd_update.specs.UndoingFor.{HasFailedFor}
 use Rattle.sd_state.specs.Values.{Pending}
 use Rattle.sd_state.specs.declared.complex.Complex.{Complex}
 use Rattle.sd_fits.specs.Serving.{fits_by, stands_for}
 use Rattle.sd_fits.proofs.Recovering.{recovers-at, step_sums}
 use Rattle.sd_fits.proofs.Served.{bounds-stay}
-use Rattle.sd_tasks.specs.Tasks.{AreThere}
+use Rattle.sd_recover.specs.Tasks.{AreThere}
 use Rattle.sd_recover.proofs.Steps.{breaks, failed-all, failed-aside, failed-due, same-aside}
 use Rattle.sd_recover.proofs.UndoBreaks.{undo-breaks, who}
 

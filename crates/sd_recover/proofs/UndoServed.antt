@@ -8,10 +8,10 @@ use Rattle.sd_base.specs.declared.ids.TxnId.{TxnId}
 use Rattle.sd_base.specs.declared.place.Status.TheVariants as S
 use Rattle.sd_log.specs.Logs.{LogState}
 use Rattle.sd_model.specs.State.{State}
-use Rattle.sd_asks.specs.Asks.{open_asks}
+use Rattle.sd_pagelock.specs.Asks.{open_asks}
 use Rattle.sd_pagelock.specs.Directory.{asks_at, entry_at}
-use Rattle.sd_places.specs.Places.{PageEntry, owns}
-use Rattle.sd_places.specs.Rows.{dirtied}
+use Rattle.sd_pagelock.specs.Places.{PageEntry, owns}
+use Rattle.sd_pagelock.specs.Rows.{dirtied}
 use Rattle.sd_pool.specs.Buffers.{Buffers}
 use Rattle.sd_rig.specs.Devices.{DeviceImages}
 use Rattle.sd_txn.specs.Owing.{owed_of, records_owed}
@@ -20,13 +20,13 @@ use Rattle.sd_txn.specs.declared.state.OpenRec.{OpenRec}
 use Rattle.sd_txn.proofs.Owing.{records_owed-popped, total-replaced}
 use Rattle.sd_chain.specs.Checks.{owed}
 use Rattle.sd_chain.specs.Records.{IsOpen, home}
-use Rattle.sd_sound.specs.Logs.{Outcomes, all_at}
+use Rattle.sd_chain.specs.Logs.{Outcomes, all_at}
 use Rattle.sd_world.specs.Pages.{Pages, page_placed, renumbered}
 use Rattle.sd_world.specs.Serving.{Core}
 use Rattle.sd_state.specs.Forcing.{KeepMasters}
 use Rattle.sd_state.specs.Parts.{Parts, is_loose, log_at, no_pool, no_txns, pool_at, status_at, txns_at}
-use Rattle.sd_undos.specs.Undoing.{HasUndone}
-use Rattle.sd_losers.specs.UndoingFor.{own_forced}
+use Rattle.sd_update.specs.Undoing.{HasUndone}
+use Rattle.sd_update.specs.UndoingFor.{own_forced}
 use Rattle.sd_state.proofs.Items.{item-kept, item-set}
 use Rattle.sd_fits.specs.Fits.{Fits, FitsPages}
 use Rattle.sd_fits.proofs.Falling.{numbers_of}

@@ -12,8 +12,8 @@ use Rattle.sd_model.specs.State.{State}
 use Rattle.sd_model.specs.declared.event.Event.TheVariants.{RecoverStep}
 use Rattle.sd_model.specs.declared.event.Reply.TheVariants as reply
 use Rattle.sd_pagelock.specs.Directory.{entry_at}
-use Rattle.sd_places.specs.Places.{PageEntry, is_lost, owns}
-use Rattle.sd_places.specs.Rows.{dirtied}
+use Rattle.sd_pagelock.specs.Places.{PageEntry, is_lost, owns}
+use Rattle.sd_pagelock.specs.Rows.{dirtied}
 use Rattle.sd_rig.specs.Devices.{Elapses, Span}
 use Rattle.sd_txn.specs.Owing.{owed_of}
 use Rattle.sd_txn.specs.Transactions.{Transaction, Transactions, ids, state_at, top, top_at}
@@ -21,8 +21,8 @@ use Rattle.sd_txn.specs.declared.state.OpenRec.{OpenRec}
 use Rattle.sd_txn.specs.declared.state.TxnState.{TxnState}
 use Rattle.sd_chain.specs.Checks.{owed}
 use Rattle.sd_chain.specs.Records.{home}
-use Rattle.sd_sound.specs.Logs.{all_at, base_at}
-use Rattle.sd_sound.proofs.Kept.{forced-base}
+use Rattle.sd_chain.specs.Logs.{all_at, base_at}
+use Rattle.sd_chain.proofs.Kept.{forced-base}
 use Rattle.sd_world.specs.Answers.{MayRollBack, Undoes}
 use Rattle.sd_world.specs.Answers.Rebuilds.{undoes}
 use Rattle.sd_world.specs.PageCauses.{IsNeededPage}
@@ -35,8 +35,8 @@ use Rattle.sd_state.specs.Images.{Stands}
 use Rattle.sd_state.specs.Parts.{Parts, is_loose, log_at, no_log, no_txns, owed_at, status_at, txns_at}
 use Rattle.sd_state.specs.Sums.{owes_most}
 use Rattle.sd_state.specs.Tables.{tells_log}
-use Rattle.sd_undos.specs.Undoing.{HasUndone, clr_at}
-use Rattle.sd_losers.specs.UndoingFor.{own_forced}
+use Rattle.sd_update.specs.Undoing.{HasUndone, clr_at}
+use Rattle.sd_update.specs.UndoingFor.{own_forced}
 use Rattle.sd_state.specs.Values.{Pending}
 use Rattle.sd_state.specs.declared.complex.Complex.{Complex}
 use Rattle.sd_state.proofs.Items.{item-kept, item-set}
@@ -44,8 +44,8 @@ use Rattle.sd_fits.specs.Fits.{Fits}
 use Rattle.sd_fits.specs.Serving.{fits_by, stands_for}
 use Rattle.sd_fits.proofs.Falling.{numbers_of}
 use Rattle.sd_fits.proofs.Recovering.{aside-fits, recovers-at, step-turns, step_core, step_sums}
-use Rattle.sd_tasks.specs.Tasks.{AreThere}
-use Rattle.sd_tasks.proofs.Awaited.{page-needed}
+use Rattle.sd_recover.specs.Tasks.{AreThere}
+use Rattle.sd_recover.proofs.Awaited.{page-needed}
 use Rattle.sd_recover.proofs.Steps.{forced-whole, passes-to}
 use Rattle.sd_recover.proofs.UndoneFor.{made, owes-less, undone-bounds, undone-doubts}
 use Rattle.sd_recover.proofs.UndoServed.{fin-aside, fin-pages, step-more}

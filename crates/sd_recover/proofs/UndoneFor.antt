@@ -1,6 +1,5 @@
 -- A loser's last open record is undone by the instance that recovers: how the complex goes on fitting. For the goals of `undo_next`.
-use Rattle.std.proofs.Common.{◌≡◌, ◌≢◌, ◌⊎◌, inl, inr, ⊎_elim, ℕ, suc, ◌+◌, ◌-◌, ◌≤◌, Bool, true, false, cond, eq-eqb, ◌||◌}
-use Rattle.std.proofs.Common.{List, [], ◌∷◌, ◌++◌, append-nil, length, filter, map, max, slice_set, refl, sym, ap, ap₂, ◌∙◌, subst, arith}
+use Rattle.std.proofs.Common.{◌≡◌, ◌≢◌, ◌⊎◌, inl, inr, ⊎_elim, ℕ, suc, ◌+◌, ◌-◌, ◌≤◌, Bool, true, false, cond, eq-eqb, ◌||◌, List, [], ◌∷◌, ◌++◌, append-nil, length, filter, map, max, slice_set, refl, sym, ap, ap₂, ◌∙◌, subst, arith}
 use Rattle.std.specs.Prelude.{None, Option, Some}
 use Rattle.std.specs.List.{IsDistinct, list_any}
 use Rattle.std.specs.Option.{option_map_or}
@@ -16,7 +15,7 @@ use Rattle.sd_log.specs.Logs.{LogState, forced, last_lsn, scanned, with_record}
 use Rattle.sd_model.specs.State.{State}
 use Rattle.sd_page.specs.Page.{Page}
 use Rattle.sd_pagelock.specs.Directory.{entry_at}
-use Rattle.sd_places.specs.Places.{PageEntry, owns}
+use Rattle.sd_pagelock.specs.Places.{PageEntry, owns}
 use Rattle.sd_pool.specs.Buffers.{Buffers, image_at}
 use Rattle.sd_rig.specs.Devices.{DeviceImages}
 use Rattle.sd_txn.specs.Transactions.{ids}
@@ -31,14 +30,14 @@ use Rattle.sd_chain.proofs.Cuts.{newest-by_page}
 use Rattle.sd_chain.proofs.Lists.{Each-weaker}
 use Rattle.sd_chain.proofs.Newest.{newest-other}
 use Rattle.sd_chain.proofs.Slots.{length-write}
-use Rattle.sd_coherent.specs.Coherent.{Quiet}
-use Rattle.sd_coherent.specs.Named.{version_of}
-use Rattle.sd_coherent.proofs.Cases.{by_seat}
-use Rattle.sd_coherent.proofs.Changes.{held-now}
-use Rattle.sd_coherent.proofs.Newest.{tails-agree}
-use Rattle.sd_sound.specs.Logs.{Outcomes, all_at, base_at, kept_logs, may_of, tail_at, tails_of}
-use Rattle.sd_sound.proofs.Appends.{appended-log}
-use Rattle.sd_sound.proofs.Kept.{forced-base, forced-idle, forced-tail, no-tail}
+use Rattle.sd_chain.specs.Coherent.{Quiet}
+use Rattle.sd_chain.specs.Named.{version_of}
+use Rattle.sd_chain.proofs.Cases.{by_seat}
+use Rattle.sd_chain.proofs.Changes.{held-now}
+use Rattle.sd_chain.proofs.OneUpdater.{tails-agree}
+use Rattle.sd_chain.specs.Logs.{Outcomes, all_at, base_at, kept_logs, may_of, tail_at, tails_of}
+use Rattle.sd_chain.proofs.Appends.{appended-log}
+use Rattle.sd_chain.proofs.Kept.{forced-base, forced-idle, forced-tail, no-tail}
 use Rattle.sd_world.specs.Bounds.{Bounds}
 use Rattle.sd_world.specs.Serving.{Core}
 use Rattle.sd_state.specs.Forcing.{KeepMasters}
@@ -47,16 +46,16 @@ use Rattle.sd_state.specs.Images.{begun_at, leaves_by, log_by}
 use Rattle.sd_state.specs.Parts.{Parts, is_loose, log_at, no_log, no_pool, other_at, pool_at, status_at, txns_at}
 use Rattle.sd_state.specs.Sums.{great_of, most_to, owed_in_all, owes_most}
 use Rattle.sd_state.specs.Tables.{tells_log}
-use Rattle.sd_undos.specs.Undoing.{HasTop, HasUndone, clr_at, clr_of}
-use Rattle.sd_losers.specs.UndoingFor.{own_forced}
+use Rattle.sd_update.specs.Undoing.{HasTop, HasUndone, clr_at, clr_of}
+use Rattle.sd_update.specs.UndoingFor.{own_forced}
 use Rattle.sd_state.specs.Values.{Pending, is_committed}
 use Rattle.sd_state.proofs.Summed.{most-at}
-use Rattle.sd_changes.proofs.ChangeLsns.{image-low}
+use Rattle.sd_update.proofs.ChangeLsns.{image-low}
 use Rattle.sd_state.proofs.Items.{item-kept, item-set}
 use Rattle.sd_state.proofs.Lasts.{last-forced, last-more}
 use Rattle.sd_state.proofs.Standing.{one-place}
-use Rattle.sd_undos.proofs.UndoneTop.{clr-falls, finds-place}
-use Rattle.sd_falls.proofs.FallBounds.{sum-less}
+use Rattle.sd_update.proofs.UndoneTop.{clr-falls, finds-place}
+use Rattle.sd_moves.proofs.FallBounds.{sum-less}
 use Rattle.sd_fits.specs.Fits.{AreWithin, Fits, FitsBounds, FitsDoubts, ReachesAtMost, capacities}
 use Rattle.sd_fits.proofs.Changing.{caps-set}
 use Rattle.sd_fits.proofs.Doubts.{HadCommit, doubts-on, same-doubts}

@@ -1,2 +1,5 @@
 pub mod Rebuilding
 pub mod Recovering
+pub mod Tasks
+pub mod Joining
+pub mod Closing

@@ -7,13 +7,13 @@ use Rattle.sd_base.specs.declared.refusal.Refusal.TheVariants as R
 use Rattle.sd_pagelock.specs.Directory.{entry_at}
 use Rattle.sd_model.specs.declared.event.Reply.{Reply}
 use Rattle.sd_model.specs.declared.event.Reply.TheVariants as reply
-use Rattle.sd_places.specs.Places.{PageEntry, owns, seen}
+use Rattle.sd_pagelock.specs.Places.{PageEntry, owns, seen}
 use Rattle.sd_world.specs.Answers.{IsLowestLost}
 use Rattle.sd_state.specs.Parts.{Parts, is_loose, status_at, txns_at}
 use Rattle.sd_recover.specs.declared.recovering.Recovery.{Recovery}
 use Rattle.sd_recover.specs.declared.recovering.Recovery.TheVariants as recoveries
-use Rattle.sd_tasks.specs.Tasks.{AreSettled, AreThere, IsLowestLoose, IsNext, tasks_in}
-use Rattle.sd_tasks.specs.declared.tasks.Task.TheVariants as task
+use Rattle.sd_recover.specs.Tasks.{AreSettled, AreThere, IsLowestLoose, IsNext, tasks_in}
+use Rattle.sd_recover.specs.declared.tasks.Task.TheVariants as task
 
 -- The recovery of i by this instance may not begin for this cause, and no cause before it applies: i isn't down; or another is to
 -- recover it, which isn't up.

@@ -13,10 +13,9 @@ ghost use Rattle.sd_recover.specs.Recovering.{MayNotBegin};
 ghost use Rattle.sd_world.specs.Serving.{Core, did, telling};
 
 use sd_base::{InstNo, Refusal, Status};
-use sd_losers::recovering;
-use sd_moves::laws;
 use sd_rig::Rig;
 use sd_state::Complex;
+use sd_update::recovering;
 
 /// The recovery of an instance that is down begins, by itself or by one that is up. Its log and the data device count as unsettled
 /// from then on. It takes no memory, and calls no device.
@@ -31,8 +30,8 @@ pub fn recover_begin<G: Rig>(c: &mut Complex<G>, i: InstNo, by: InstNo) -> Resul
     ensures there { result ≢ Err R.Memory }
     ensures rig { c.new.rig ≡ c.old.rig }
 {
-    laws::instances(i);
-    laws::instances(by);
+    i.keeps();
+    by.keeps();
     may_begin(c, i, by)?;
     recovering(c, i, by);
     Ok(())

@@ -16,18 +16,17 @@ ghost use Rattle.sd_state.specs.Complexes.{parts};
 ghost use Rattle.sd_state.specs.Forcing.{with_forced};
 ghost use Rattle.sd_state.specs.Parts.{is_loose, log_at, owed_at, status_at, txns_at};
 ghost use Rattle.sd_recover.specs.Recovering.{WantsNone};
-ghost use Rattle.sd_tasks.specs.Tasks.{tasks_in};
+ghost use Rattle.sd_recover.specs.Tasks.{tasks_in};
 ghost use Rattle.sd_txn.specs.Transactions.{state_at};
 ghost use Rattle.sd_txn.specs.declared.state.TxnState.{TxnState};
 ghost use Rattle.sd_world.specs.Serving.{Core, answered, telling};
 
 use sd_base::{Failed, InstNo, Refusal, TxnId};
-use sd_falls::down;
 use sd_log::Log;
-use sd_losers::decided;
-use sd_moves::laws;
+use sd_moves::down;
 use sd_rig::Rig;
 use sd_state::Complex;
+use sd_update::decide;
 
 /// Decides the transaction in doubt of an instance that `by` recovers: it is committed where the log has its Commit, and a loser where
 /// it hasn't. It looks through the records of the log once. It takes no memory.
@@ -43,12 +42,12 @@ pub(crate) fn decide_next<G: Rig>(c: &mut Complex<G>, by: InstNo, t: &TxnId) -> 
     ensures fewer { OnOk result
         (suc (tasks_in (txns_at (parts c.new) (home t.now))) ≡ tasks_in (txns_at (parts c.old) (home t.now))) }
 {
-    laws::instances(t.inst);
+    t.inst.keeps();
     match at_rest(c, t.inst, by) {
         Ok(()) => {
             c.txns(t.inst).keeps();
             let committed = has_commit(c.log(t.inst), t);
-            decided(c, t, committed);
+            decide(c, t, committed);
             Ok(())
         }
         Err(_) => Err(Refusal::Failed),
@@ -68,8 +67,8 @@ pub(crate) fn at_rest<G: Rig>(c: &mut Complex<G>, i: InstNo, by: InstNo) -> Resu
     ensures failed { OnErr result
         (Serving (telling G.seen G.leaves G.moment G.since G.faults) (event.RecoverStep i) (Some (reply.Refused R.Failed)) c.old c.new) }
 {
-    laws::instances(i);
-    laws::instances(by);
+    i.keeps();
+    by.keeps();
     match c.force_log(i) {
         Ok(()) => Ok(()),
         Err(failed) => {

@@ -11,20 +11,18 @@ ghost use Rattle.sd_model.specs.declared.event.Reply.TheVariants as reply;
 ghost use Rattle.sd_state.specs.Complexes.{parts};
 ghost use Rattle.sd_state.specs.Parts.{is_loose, status_at, txns_at};
 ghost use Rattle.sd_recover.specs.Recovering.{WantsNone};
-ghost use Rattle.sd_tasks.specs.Tasks.{tasks_in, AreThere, IsRowTask};
-ghost use Rattle.sd_tasks.specs.declared.tasks.Task.TheVariants as task;
+ghost use Rattle.sd_recover.specs.Tasks.{tasks_in, AreThere, IsRowTask};
+ghost use Rattle.sd_recover.specs.declared.tasks.Task.TheVariants as task;
 ghost use Rattle.sd_txn.specs.Transactions.{span_at, state_at, top_at};
 ghost use Rattle.sd_txn.specs.declared.state.TxnState.{TxnState};
 ghost use Rattle.sd_world.specs.Serving.{Core, answered, telling};
 
 use crate::deciding::at_rest;
 use sd_base::{InstNo, Refusal, TxnId};
-use sd_falls::down;
-use sd_losers::recovered;
-use sd_moves::laws;
+use sd_moves::down;
 use sd_rig::Rig;
-use sd_seals::seal_end;
 use sd_state::Complex;
+use sd_update::{end_recovery, seal_end};
 
 /// Puts the End of a loser into the log of its instance, which `by` recovers, and forces that. `Memory` changes nothing; after `Failed`
 /// the instance `by` has fallen.
@@ -41,8 +39,8 @@ pub(crate) fn end_next<G: Rig>(c: &mut Complex<G>, by: InstNo, t: &TxnId) -> Res
     ensures fewer { OnOk result
         (suc (tasks_in (txns_at (parts c.new) (home t.now))) ≡ tasks_in (txns_at (parts c.old) (home t.now))) }
 {
-    name(t);
-    laws::instances(by);
+    t.keeps();
+    by.keeps();
     seal_end(c, t)?;
     match c.force_log(t.inst) {
         Ok(()) => Ok(()),
@@ -51,18 +49,6 @@ pub(crate) fn end_next<G: Rig>(c: &mut Complex<G>, by: InstNo, t: &TxnId) -> Res
             Err(Refusal::Failed)
         }
     }
-}
-
-// The numbers of a transaction's name.
-fn name(t: &TxnId)
-    ensures low { 1 ≤ t.now.inst }
-    ensures high { t.now.inst ≤ 8 }
-    ensures epoch { t.now.epoch < 2 ^ 32 }
-    ensures seq { t.now.seq < 2 ^ 32 }
-{
-    let _inst = t.inst.get();
-    let _epoch = t.epoch;
-    let _seq = t.seq;
 }
 
 /// Ends the recovery of an instance by `by`: the transaction that was found committed is so, the losers are gone, and all of them let go
@@ -77,11 +63,11 @@ pub(crate) fn finish<G: Rig>(c: &mut Complex<G>, i: InstNo, by: InstNo) -> Resul
     ensures memory { result ≢ Err R.Memory }
     ensures only { IfErr result WantsNone }
 {
-    laws::instances(i);
+    i.keeps();
     match at_rest(c, i, by) {
         Ok(()) => {
             c.txns(i).keeps();
-            recovered(c, i);
+            end_recovery(c, i);
             Ok(())
         }
         Err(_) => Err(Refusal::Failed),

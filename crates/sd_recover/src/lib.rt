@@ -22,13 +22,23 @@
 //! - frozen: nothing
 #![tactic(auto)]
 
+mod arming;
 mod beginning;
+mod closing;
 mod deciding;
 mod ending;
+mod failing;
+mod joining;
 mod rebuilding;
 mod recovering;
 mod settling;
+mod tasks;
 mod undoing;
 
+pub use arming::arm;
 pub use beginning::recover_begin;
+pub use closing::{fail_all, on_closed};
+pub use failing::fail;
+pub use joining::join;
 pub use recovering::{Recovery, recover_step};
+pub use tasks::{Task, needed, next_task};

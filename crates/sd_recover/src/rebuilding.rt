@@ -8,7 +8,7 @@ ghost use Rattle.sd_model.specs.declared.event.Event.TheVariants as event;
 ghost use Rattle.sd_model.specs.declared.event.Reply.TheVariants as reply;
 ghost use Rattle.sd_moves.specs.Places.{with_directory};
 ghost use Rattle.sd_pagelock.specs.Directory.{entry_at};
-ghost use Rattle.sd_places.specs.Places.{PageEntry};
+ghost use Rattle.sd_pagelock.specs.Places.{PageEntry};
 ghost use Rattle.sd_state.specs.Complexes.{parts};
 ghost use Rattle.sd_state.specs.Laws.{newest_of};
 ghost use Rattle.sd_state.specs.Locking.{IsSet};
@@ -18,10 +18,8 @@ ghost use Rattle.sd_world.specs.Answers.{IsLowestLost};
 ghost use Rattle.sd_world.specs.Serving.{Core, answered, telling};
 
 use sd_base::{InstNo, PageNo, Refusal};
-use sd_falls::down;
-use sd_moves::laws;
+use sd_moves::{Unput, down, newest_image, rebuild};
 use sd_page::Image;
-use sd_puts::{Unput, newest_image, rebuilt};
 use sd_rig::Rig;
 use sd_state::Complex;
 
@@ -45,7 +43,7 @@ pub(crate) fn rebuild_next<G: Rig>(
     ensures left { IfErr result (λ n. LeavesLost n by (parts c.old) (parts c.new)) }
     ensures logs { (d : ℕ) → d ≢ 0 → G.seen c.new.rig d ≡ G.seen c.old.rig d }
 {
-    laws::instances(i);
+    i.keeps();
     let image = newest_image(c, p)?;
     put_or_fall(c, i, by, p, &image)
 }
@@ -70,9 +68,9 @@ fn put_or_fall<G: Rig>(
     ensures left { IfErr result (λ n. LeavesLost n by (parts c.old) (parts c.new)) }
     ensures logs { (d : ℕ) → d ≢ 0 → G.seen c.new.rig d ≡ G.seen c.old.rig d }
 {
-    laws::instances(i);
-    laws::instances(by);
-    match rebuilt(c, p, im) {
+    i.keeps();
+    by.keeps();
+    match rebuild(c, p, im) {
         Ok(()) => Ok(()),
         Err(Unput::Unread) => Err(Refusal::Failed),
         Err(Unput::Unwritten) => {

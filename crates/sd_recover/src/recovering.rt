@@ -12,7 +12,7 @@ ghost use Rattle.sd_model.specs.declared.event.Reply.TheVariants as reply;
 ghost use Rattle.sd_state.specs.Complexes.{parts};
 ghost use Rattle.sd_state.specs.Parts.{status_at, IsShape};
 ghost use Rattle.sd_recover.specs.Recovering.{recovery, AwaitsPage, HasCleared, HasOneLess, HaveStayedOrFallen, IsUnrecovering};
-ghost use Rattle.sd_tasks.specs.Tasks.{IsNext};
+ghost use Rattle.sd_recover.specs.Tasks.{IsNext};
 ghost use Rattle.sd_recover.specs.declared.recovering.Recovery.TheVariants as recoveries;
 ghost use Rattle.sd_world.specs.Serving.{Core, answered, telling};
 
@@ -21,11 +21,10 @@ use crate::ending::{end_next, finish};
 use crate::rebuilding::rebuild_next;
 use crate::settling::settle_next;
 use crate::undoing::undo_next;
+use crate::{Task, next_task};
 use sd_base::{InstNo, Refusal, Status};
-use sd_moves::laws;
 use sd_rig::Rig;
 use sd_state::Complex;
-use sd_tasks::{Task, next_task};
 
 /// What a step of a recovery comes to.
 #[derive(Clone, Copy, PartialEq, Eq)]
@@ -50,9 +49,9 @@ pub fn recover_step<G: Rig>(c: &mut Complex<G>, i: InstNo) -> Result<Recovery, R
     ensures stepped { result ≡ Ok recoveries.Step → HasOneLess i (parts c.old) (parts c.new) }
     ensures awaits { IfErr result (λ n. (place : Place) → n ≡ R.NeedPage place → AwaitsPage (parts c.old) i) }
 {
-    laws::instances(i);
+    i.keeps();
     let by = recoverer(c, i)?;
-    laws::instances(by);
+    by.keeps();
     let task = next_task(c, i);
     work_on(c, i, by, task)
 }
@@ -72,7 +71,7 @@ fn work_on<G: Rig>(
     ensures stepped { result ≡ Ok recoveries.Step → HasOneLess i (parts c.old) (parts c.new) }
     ensures awaits { IfErr result (λ n. (place : Place) → n ≡ R.NeedPage place → AwaitsPage (parts c.old) i) }
 {
-    laws::instances(i);
+    i.keeps();
     match task {
         Task::Settle(dev) => stepped(settle_next(c, i, by, dev)),
         Task::Rebuild(p) => stepped(rebuild_next(c, i, by, p)),

@@ -6,8 +6,8 @@ ghost use Rattle.sd_fits.specs.Fits.{Fits};
 ghost use Rattle.sd_fits.specs.Serving.{Serving};
 ghost use Rattle.sd_model.specs.declared.event.Event.TheVariants as event;
 ghost use Rattle.sd_model.specs.declared.event.Reply.TheVariants as reply;
-ghost use Rattle.sd_puts.specs.Putting.{with_loose_disk};
-ghost use Rattle.sd_settle.specs.Settling.{with_reread};
+ghost use Rattle.sd_moves.specs.Putting.{with_loose_disk};
+ghost use Rattle.sd_moves.specs.Settling.{with_reread};
 ghost use Rattle.sd_state.specs.Complexes.{parts};
 ghost use Rattle.sd_state.specs.Parts.{is_loose, status_at};
 ghost use Rattle.sd_recover.specs.Rebuilding.{LeavesLost};
@@ -15,9 +15,8 @@ ghost use Rattle.sd_recover.specs.Recovering.{SettlesOne};
 ghost use Rattle.sd_world.specs.Serving.{Core, answered, telling};
 
 use sd_base::{InstNo, Refusal};
-use sd_moves::laws;
+use sd_moves::{Unsettled, settle};
 use sd_rig::Rig;
-use sd_settle::{Unsettled, settle};
 use sd_state::Complex;
 
 // A step of the recovery of an instance: its recoverer settles the lowest device that isn't settled. The device is synced; of a log
@@ -42,8 +41,8 @@ pub(crate) fn settle_next<G: Rig>(
     ensures left { IfErr result (λ n. LeavesLost n by (parts c.old) (parts c.new)) }
     ensures reads { (d : ℕ) → G.seen c.new.rig d ≡ G.seen c.old.rig d }
 {
-    laws::instances(i);
-    laws::instances(by);
+    i.keeps();
+    by.keeps();
     match settle(c, dev, by) {
         Ok(()) => Ok(()),
         Err(Unsettled::Unsynced) => Err(Refusal::Failed),

@@ -9,23 +9,22 @@ ghost use Rattle.sd_fits.specs.Serving.{Serving};
 ghost use Rattle.sd_model.specs.declared.event.Event.TheVariants as event;
 ghost use Rattle.sd_model.specs.declared.event.Reply.TheVariants as reply;
 ghost use Rattle.sd_pagelock.specs.Directory.{entry_at};
-ghost use Rattle.sd_places.specs.Places.{owns};
+ghost use Rattle.sd_pagelock.specs.Places.{owns};
 ghost use Rattle.sd_state.specs.Complexes.{parts};
 ghost use Rattle.sd_state.specs.Parts.{status_at, txns_at};
 ghost use Rattle.sd_recover.specs.Recovering.{IsAway};
-ghost use Rattle.sd_tasks.specs.Tasks.{tasks_in, AreThere};
+ghost use Rattle.sd_recover.specs.Tasks.{tasks_in, AreThere};
 ghost use Rattle.sd_txn.specs.Transactions.{state_at, top_at};
 ghost use Rattle.sd_txn.specs.declared.state.OpenRec.{OpenRec};
 ghost use Rattle.sd_txn.specs.declared.state.TxnState.{TxnState};
 ghost use Rattle.sd_world.specs.Serving.{Core, answered, telling};
 
 use sd_base::{InstNo, Mode, PageNo, Refusal, TxnId};
-use sd_falls::down;
-use sd_losers::undo_forced;
-use sd_moves::laws;
+use sd_moves::down;
 use sd_pagelock::rows;
 use sd_rig::Rig;
 use sd_state::Complex;
+use sd_update::undo_forced;
 
 /// Undoes a loser's last open record, which is of this page, in the pool of `by`, which recovers the loser's instance: the CLR is forced
 /// into the log of that. `NeedPage` comes where `by` hasn't the page alone, and changes nothing; after `Memory` all is as it was, but
@@ -46,8 +45,8 @@ pub(crate) fn undo_next<G: Rig>(
     ensures fewer { OnOk result
         (suc (tasks_in (txns_at (parts c.new) (home t.now))) ≡ tasks_in (txns_at (parts c.old) (home t.now))) }
 {
-    laws::instances(t.inst);
-    laws::instances(by);
+    t.inst.keeps();
+    by.keeps();
     c.txns(t.inst).keeps();
     alone(c, by, page)?;
     match undo_forced(c, t, by) {

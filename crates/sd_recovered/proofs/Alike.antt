@@ -7,13 +7,13 @@ use Rattle.std.proofs.lemmas.Option.{slice_get_cases, slice_get_past}
 use Rattle.sd_logrec.specs.View.{Rec}
 use Rattle.sd_logrec.specs.Kept.{kept}
 use Rattle.sd_log.specs.Logs.{LogState, flats, log_in, scanned}
-use Rattle.sd_analysis.specs.declared.losers.Loser.{Loser}
+use Rattle.sd_recovered.specs.declared.losers.Loser.{Loser}
 use Rattle.sd_chain.specs.Records.{of_page}
 use Rattle.sd_chain.specs.Bytes.{log_of, records_of, stable}
 use Rattle.sd_chain.specs.Storage.{chain, newest, sorted}
 use Rattle.sd_chain.specs.Pages.{replay}
 use Rattle.sd_chain.proofs.Lists.{all_of-same}
-use Rattle.sd_newest.specs.Reading.{image_of}
+use Rattle.sd_recovered.specs.ReadPages.{image_of}
 use Rattle.sd_recovered.specs.Devices.{devices_of}
 use Rattle.sd_recovered.specs.Reading.{AreRead}
 use Rattle.sd_recovered.proofs.Covers.{as_many, covered}

@@ -3,7 +3,7 @@ use Rattle.std.proofs.Common.{◌≡◌, inl, inr, ℕ, zero, suc, ◌+◌, List
 use Rattle.std.specs.Prelude.{All, Some, slice_get}
 use Rattle.std.proofs.lemmas.List.Elements.{All-nil, All-cons}
 use Rattle.sd_log.specs.Logs.{AreSpelled, LogState, scanned}
-use Rattle.sd_analysis.specs.declared.losers.Loser.{Loser}
+use Rattle.sd_recovered.specs.declared.losers.Loser.{Loser}
 use Rattle.sd_recovered.specs.Reading.{AreRead, IsUnread, LogIsRead, SomeUnread}
 
 -- the log of this index, and its losers

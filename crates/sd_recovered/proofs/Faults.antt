@@ -7,17 +7,17 @@ use Rattle.sd_logrec.specs.Kept.{kept, master}
 use Rattle.sd_page.specs.Page.{Page}
 use Rattle.sd_log.specs.declared.placed.Placed.{Placed}
 use Rattle.sd_log.specs.Logs.{LogState, flats, scanned}
-use Rattle.sd_analysis.specs.declared.losers.Loser.{Loser}
+use Rattle.sd_recovered.specs.declared.losers.Loser.{Loser}
 use Rattle.sd_chain.specs.Bytes.{stable}
 use Rattle.sd_chain.specs.Checks.{RoomIsLeft, gate_of, past_of, placed_of, records_in}
 use Rattle.sd_chain.specs.Faults as faults
 use Rattle.sd_chain.specs.Faults.{ChainsAreSound, FailsInChain, FailsInRoom, FailsInStack, FailsInTwin, LogsAreSound}
 use Rattle.sd_chain.specs.Storage.{Storage, chain, newest}
 use Rattle.sd_chain.specs.Pages.{FitAll}
-use Rattle.sd_merge.specs.Changes.{LsnsRise, Rises}
-use Rattle.sd_newest.specs.Misfits as newest
-use Rattle.sd_newest.specs.Reading.{ChainFits, image_of}
-use Rattle.sd_undone.specs.Stops as undone
+use Rattle.sd_redo.specs.Changes.{LsnsRise, Rises}
+use Rattle.sd_recovered.specs.Misfits as newest
+use Rattle.sd_recovered.specs.ReadPages.{ChainFits, image_of}
+use Rattle.sd_recovered.specs.Stops as undone
 use Rattle.sd_recovered.specs.Devices.{devices_of}
 use Rattle.sd_recovered.specs.Ends.{EndsFailAt, IsLogLow, IsPageLow, LacksRoom, owed_in}
 use Rattle.sd_recovered.specs.Reading.{AreRead}

@@ -4,9 +4,9 @@ use Rattle.std.specs.Prelude.{Option, map}
 use Rattle.std.proofs.lemmas.List.{length-take-le, map-append}
 use Rattle.std.proofs.Math.Seq.{take-length, take-suc}
 use Rattle.sd_log.specs.Logs.{LogState}
-use Rattle.sd_analysis.specs.declared.losers.Loser.{Loser}
-use Rattle.sd_scan.specs.declared.master.MasterRecord.{MasterRecord}
-use Rattle.sd_scan.specs.Masters.{said}
+use Rattle.sd_recovered.specs.declared.losers.Loser.{Loser}
+use Rattle.sd_recovered.specs.declared.master.MasterRecord.{MasterRecord}
+use Rattle.sd_recovered.specs.Masters.{said}
 use Rattle.sd_chain.specs.Faults.{LogFailsAt}
 use Rattle.sd_recovered.specs.Reading.{AreRead, FailsAmong, HasRead, IsUnread, LogIsRead, SomeUnread, counting}
 use Rattle.sd_recovered.specs.declared.logs.ReadLogs.{ReadLogs}

@@ -8,10 +8,10 @@ use Rattle.sd_log.specs.Logs.{LogState, flats, scanned}
 use Rattle.sd_chain.specs.Bytes.{records_of}
 use Rattle.sd_chain.specs.Checks.{placed_of, records_in}
 use Rattle.sd_chain.specs.Order.{Tidy}
-use Rattle.sd_analysis.specs.Losers.{AreTidy}
+use Rattle.sd_recovered.specs.Losers.{AreTidy}
 use Rattle.sd_recovered.specs.Reading.{IsUnread}
 use Rattle.sd_chain.proofs.Soundly.{flat_records}
-use Rattle.sd_merge.proofs.Flats.{flats-log}
+use Rattle.sd_redo.proofs.Flats.{flats-log}
 
 -- what the device keeps, as chains see it
 pub kept_flats : (bytes : List ℕ) (log : LogState) → kept bytes ≡ Whole log.groups log.gate → log.tail ≡ []

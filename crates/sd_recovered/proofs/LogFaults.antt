@@ -5,7 +5,7 @@ use Rattle.std.proofs.lemmas.Option.{slice_get-get_or, slice_get_cases, slice_ge
 use Rattle.sd_logrec.specs.Kept.{Whole, kept}
 use Rattle.sd_logrec.specs.View.{Rec}
 use Rattle.sd_log.specs.Logs.{LogState, scanned}
-use Rattle.sd_analysis.specs.declared.losers.Loser.{Loser}
+use Rattle.sd_recovered.specs.declared.losers.Loser.{Loser}
 use Rattle.sd_chain.specs.Faults.{FailsInLog, IsFirstMisplaced, LogFailsAt, LogIsSound, TxnsFailAt}
 use Rattle.sd_chain.specs.Order.{Tidy}
 use Rattle.sd_recovered.specs.Devices.{devices_of}

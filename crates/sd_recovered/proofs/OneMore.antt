@@ -1,7 +1,7 @@
 -- Log devices read one after another. It serves the goals of logs.rt and reading.rt.
 use Rattle.std.proofs.Common.{◌≡◌, inl, inr, ℕ, zero, suc, ◌+◌, ◌<◌, List, [], ◌∷◌, ◌++◌, length, get_or, subst, arith}
 use Rattle.sd_log.specs.Logs.{LogState}
-use Rattle.sd_analysis.specs.declared.losers.Loser.{Loser}
+use Rattle.sd_recovered.specs.declared.losers.Loser.{Loser}
 use Rattle.sd_recovered.specs.Reading.{AreRead, IsUnread, LogIsRead, SomeUnread}
 
 -- one device more

@@ -14,9 +14,9 @@ use Rattle.sd_log.specs.Logs.{LogState, flats, scanned}
 use Rattle.sd_chain.specs.Checks.{Follow, MayCome, Past, after_record, past_of, records_in}
 use Rattle.sd_chain.specs.Order.{of_txn, speaks}
 use Rattle.sd_chain.specs.Records.{Each, home}
-use Rattle.sd_analysis.specs.declared.losers.Loser.{Loser}
-use Rattle.sd_analysis.specs.Losers.{IsLoser}
-use Rattle.sd_undone.specs.Reading.{AreLosersFrom}
+use Rattle.sd_recovered.specs.declared.losers.Loser.{Loser}
+use Rattle.sd_recovered.specs.Losers.{IsLoser}
+use Rattle.sd_recovered.specs.UndoPass.{AreLosersFrom}
 use Rattle.sd_recovered.specs.Reading.{AreRead, LogIsRead}
 use Rattle.sd_recovered.proofs.Kept.{kept_records}
 use Rattle.sd_base.proofs.SameIds.{cases_txn, ne-same}

@@ -12,7 +12,7 @@ use Rattle.sd_log.specs.Logs.{LogState, placed, placed_groups, placed_tail, scan
 use Rattle.sd_chain.specs.Checks.{Follow, Past, after_record, placed_of}
 use Rattle.sd_chain.specs.Records.{Each}
 use Rattle.sd_chain.proofs.Lists.{Each-weaker}
-use Rattle.sd_merge.specs.Changes.{Rises}
+use Rattle.sd_redo.specs.Changes.{Rises}
 use Rattle.sd_chain.proofs.Pasts.{lsn_after}
 
 placed_in_groups : (gs : List Group) → placed_groups gs ≡ map (placed true) (flat_map (λ g. g.records) gs)

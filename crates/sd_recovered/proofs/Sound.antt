@@ -7,14 +7,14 @@ use Rattle.sd_logrec.specs.View.{flat}
 use Rattle.sd_logrec.specs.Kept.{kept}
 use Rattle.sd_page.specs.Page.{Page}
 use Rattle.sd_log.specs.Logs.{LogState, flats, log_in, scanned}
-use Rattle.sd_analysis.specs.declared.losers.Loser.{Loser}
+use Rattle.sd_recovered.specs.declared.losers.Loser.{Loser}
 use Rattle.sd_chain.specs.Bytes.{log_of, stable}
 use Rattle.sd_chain.specs.Checks.{GroupsAreSound, MasterIsSound, RoomIsLeft, TxnsAreSound, gate_of, owed, owed_by_all, reserve}
 use Rattle.sd_chain.specs.Storage.{Storage, newest}
 use Rattle.sd_chain.specs.Order.{Tidy}
 use Rattle.sd_chain.specs.Records.{Each}
-use Rattle.sd_newest.specs.Reading.{image_of}
-use Rattle.sd_undone.specs.Reading as undone
+use Rattle.sd_recovered.specs.ReadPages.{image_of}
+use Rattle.sd_recovered.specs.UndoPass as undone
 use Rattle.sd_recovered.specs.Devices.{devices_of}
 use Rattle.sd_recovered.specs.Ends.{EndsFit, HasRoom, IsLogLow, owed_in}
 use Rattle.sd_recovered.specs.Reading.{AreRead, LogIsRead}

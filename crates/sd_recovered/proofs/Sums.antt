@@ -5,9 +5,9 @@ use Rattle.std.proofs.lemmas.List.Sums.{sum_by-cons}
 use Rattle.sd_log.specs.declared.placed.Placed.{Placed}
 use Rattle.sd_log.specs.Logs.{LogState, flats, scanned}
 use Rattle.sd_chain.specs.Checks.{owed}
-use Rattle.sd_analysis.specs.declared.losers.Loser.{Loser}
-use Rattle.sd_analysis.specs.Losers.{AreLosers}
-use Rattle.sd_undone.specs.Reading.{AreLosersFrom}
+use Rattle.sd_recovered.specs.declared.losers.Loser.{Loser}
+use Rattle.sd_recovered.specs.Losers.{AreLosers}
+use Rattle.sd_recovered.specs.UndoPass.{AreLosersFrom}
 use Rattle.sd_recovered.specs.Ends.{owed_in}
 
 -- an empty list

@@ -7,14 +7,14 @@ use Rattle.sd_base.specs.declared.ids.TxnId.{TxnId}
 use Rattle.sd_logrec.specs.Kept.{kept}
 use Rattle.sd_page.specs.Page.{Page}
 use Rattle.sd_log.specs.Logs.{AreSpelled, LogState, log_in, scanned}
-use Rattle.sd_analysis.specs.declared.losers.Loser.{Loser}
+use Rattle.sd_recovered.specs.declared.losers.Loser.{Loser}
 use Rattle.sd_chain.specs.Bytes.{log_of}
 use Rattle.sd_chain.specs.Checks.{DevicesAreSound, GroupsAreSound, LsnsAreLeft, MasterIsSound, RoomIsLeft, TxnsAreSound, TwinIsSound, gate_of, owed_by_all, reserve}
 use Rattle.sd_chain.specs.Storage.{Open, StackFits, Storage, chain, newest}
 use Rattle.sd_chain.specs.Pages.{FitAll}
 use Rattle.sd_chain.specs.Records.{Each}
-use Rattle.sd_newest.specs.Reading.{ChainFits, IsUnsound, image_of}
-use Rattle.sd_undone.specs.Reading as undone
+use Rattle.sd_recovered.specs.ReadPages.{ChainFits, IsUnsound, image_of}
+use Rattle.sd_recovered.specs.UndoPass as undone
 use Rattle.sd_recovered.specs.Devices.{devices_of}
 use Rattle.sd_recovered.specs.Ends.{EndsFit, HasRoom, IsLogLow, IsPageLow, owed_in}
 use Rattle.sd_recovered.specs.Reading.{AreRead, SomeUnread}

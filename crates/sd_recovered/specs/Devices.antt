@@ -5,7 +5,7 @@ use Rattle.sd_rig.specs.Devices as rig
 use Rattle.sd_model.specs.Tables.{contents}
 use Rattle.sd_chain.specs.Bytes.{disk_page, stable}
 use Rattle.sd_chain.specs.Storage.{Recovered, chain}
-use Rattle.sd_newest.specs.FirstAbove.{IsFirstAbove}
+use Rattle.sd_recovered.specs.FirstAbove.{IsFirstAbove}
 
 -- by number: 0 is the data device, n the log of instance n
 abbrev pub devices_of : List (List ℕ) → rig.DeviceImages

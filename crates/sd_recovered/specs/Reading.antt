@@ -1,14 +1,14 @@
 -- What is read of the log devices, one by one.
 use Rattle.std.specs.Prelude.{◌≡◌, ◌⊎◌, ℕ, suc, ◌+◌, ◌<◌, List, [], ◌∷◌, Option, Some, map, option_map, slice_get}
 use Rattle.sd_base.specs.Twin.{chosen_body}
-use Rattle.sd_scan.specs.Masters.{master_in, said}
+use Rattle.sd_recovered.specs.Masters.{master_in, said}
 use Rattle.sd_logrec.specs.Kept.{Master, Whole, kept, master as master_on}
 use Rattle.sd_log.specs.Logs.{AreSpelled, LogState, flats, scanned}
 use Rattle.sd_chain.specs.Checks.{GroupsAreSound, MasterIsSound, TxnsAreSound}
 use Rattle.sd_log.specs.declared.placed.Placed.{Placed}
 use Rattle.sd_chain.specs.Faults.{IsFirstMisplaced, LogFailsAt, LogIsSound}
-use Rattle.sd_analysis.specs.declared.losers.Loser.{Loser}
-use Rattle.sd_analysis.specs.Losers.{AreLosers, AreTidy}
+use Rattle.sd_recovered.specs.declared.losers.Loser.{Loser}
+use Rattle.sd_recovered.specs.Losers.{AreLosers, AreTidy}
 use Rattle.sd_recovered.specs.declared.logs.ReadLogs.{ReadLogs}
 
 -- The log that the device of instance j keeps, and its losers.

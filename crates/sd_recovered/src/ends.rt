@@ -4,16 +4,16 @@ ghost use Rattle.std.specs.Prelude.{◌≡◌, ◌≢◌, ◌⊎◌, ℕ, ◌+�
 ghost use Rattle.sd_base.specs.declared.refusal.Refusal.TheVariants as R;
 ghost use Rattle.sd_log.specs.Logs.{LogState, flats, scanned};
 ghost use Rattle.sd_chain.specs.Checks as checks;
-ghost use Rattle.sd_analysis.specs.Losers.{AreLosers};
-ghost use Rattle.sd_undone.specs.Reading.{AreLosersFrom, AreLosersOf};
+ghost use Rattle.sd_recovered.specs.Losers.{AreLosers};
+ghost use Rattle.sd_recovered.specs.UndoPass.{AreLosersFrom, AreLosersOf};
 ghost use Rattle.sd_recovered.specs.Ends.{EndsFailAt, EndsFit, HasRoom, IsLogLow, IsLow, IsPageLow, LacksRoom, owed_in};
 
-use sd_analysis::{Losers, owed, reserve};
+use crate::{Losers, owed, reserve};
 use sd_base::{Lsn, Refusal};
 use sd_log::{Placed, ReadLog};
 use sd_logrec::{AREA_LEN, MAX_LSN};
-use sd_merge::damaged;
 use sd_page::Image;
+use sd_redo::damaged_log;
 
 /// How many records end these losers, at most 2^64 - 1.
 pub fn owed_by(losers: &[Losers]) -> u64
@@ -78,7 +78,7 @@ pub fn check_ends(logs: &[ReadLog], losers: &[Losers], low: bool) -> Result<(), 
 {
     let owed = owed_by(losers);
     if !low || !are_logs_low(logs, owed) {
-        return Err(damaged(1, logs[0].gate()));
+        return Err(damaged_log(1, logs[0].gate()));
     }
     check_room(logs, losers, 1)
 }
@@ -94,7 +94,7 @@ fn check_room(logs: &[ReadLog], losers: &[Losers], inst: u8) -> Result<(), Refus
     match (logs, losers) {
         ([log, logs @ ..], [found, losers @ ..]) => {
             if !has_room(log, found) {
-                return Err(damaged(inst, log.gate()));
+                return Err(damaged_log(inst, log.gate()));
             }
             check_room(logs, losers, inst + 1)
         }

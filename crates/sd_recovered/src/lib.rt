@@ -17,10 +17,33 @@
 //! - frozen: nothing
 #![tactic(auto)]
 
+mod closed;
 mod ends;
+mod following;
+mod last_changes;
 mod logs;
+mod losers;
+mod master;
+mod merging;
+mod owing;
 mod reading;
+mod redoing;
+mod relisting;
+mod scanning;
+mod seen;
 mod table;
+mod taking_back;
+mod transactions;
+mod twin;
+mod undo_pass;
+mod values;
 
 pub use logs::ReadLogs;
-pub use reading::{Opened, open, recovered};
+pub use losers::{AnalysisError, Loser, Losers, analyse};
+pub use master::{MasterRecord, Unsound, read_master};
+pub use merging::{NewestPages, newest_pages};
+pub use owing::{owed, reserve};
+pub use reading::{ReadDevices, open, recovered};
+pub use relisting::relist;
+pub use scanning::{Scanned, scan};
+pub use undo_pass::{UndoError, undone};

@@ -3,17 +3,16 @@
 ghost use Rattle.std.specs.Prelude.{◌≡◌, ◌≢◌, ◌⊎◌, ℕ, ◌+◌, ◌<◌, List, [], ◌∷◌, ◌++◌, All, Err, IfErr, IfOk, OnOk, length};
 ghost use Rattle.sd_base.specs.declared.refusal.Refusal.TheVariants as R;
 ghost use Rattle.sd_log.specs.Logs.{AreSpelled, scanned};
-ghost use Rattle.sd_scan.specs.Masters.{said};
+ghost use Rattle.sd_recovered.specs.Masters.{said};
 ghost use Rattle.sd_chain.specs.Faults.{LogFailsAt};
-ghost use Rattle.sd_analysis.specs.Losers.{AreLosers, AreTidy};
+ghost use Rattle.sd_recovered.specs.Losers.{AreLosers, AreTidy};
 ghost use Rattle.sd_recovered.specs.Reading.{counting, FailsAmong, HasRead, IsUnread, LogIsRead, Misplaced, SomeUnread};
 
-use sd_analysis::{AnalysisError, Losers, analyse};
+use crate::{AnalysisError, Losers, MasterRecord, Scanned, analyse, scan};
 use sd_base::{Bytes, InstNo, Refusal};
 use sd_log::ReadLog;
-use sd_merge::damaged;
+use sd_redo::damaged_log;
 use sd_rig::LOG_LEN;
-use sd_scan::{MasterRecord, Scanned, scan};
 use std::alloc::Global;
 
 /// What was read of the first log devices, that of instance 1 first: of each its log, what it leaves unfinished, and its
@@ -101,7 +100,7 @@ fn losers_of(alloc: Global, log: &ReadLog, inst: InstNo) -> Result<Losers, Refus
     let placed = log.scan();
     match analyse(alloc, placed) {
         Ok(losers) => Ok(losers),
-        Err(AnalysisError::Disorder { at }) => Err(damaged(inst.get(), placed[at].place)),
+        Err(AnalysisError::Disorder { at }) => Err(damaged_log(inst.get(), placed[at].place)),
         Err(AnalysisError::Memory) => Err(Refusal::Memory),
     }
 }

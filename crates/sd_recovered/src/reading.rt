@@ -4,31 +4,29 @@ ghost use Rattle.std.specs.Prelude.{◌≡◌, ◌⊎◌, ℕ, ◌∷◌, All, �
 ghost use Rattle.sd_base.specs.declared.refusal.Refusal.TheVariants as R;
 ghost use Rattle.sd_log.specs.Logs.{AreSpelled, scanned};
 ghost use Rattle.sd_chain.specs.Bytes.{disk_page};
-ghost use Rattle.sd_scan.specs.Masters.{said};
+ghost use Rattle.sd_recovered.specs.Masters.{said};
 ghost use Rattle.sd_chain.specs.Checks.{DevicesAreSound};
 ghost use Rattle.sd_chain.specs.Faults.{FailsFirstAt};
-ghost use Rattle.sd_undone.specs.Reading.{AreLosersOf};
+ghost use Rattle.sd_recovered.specs.UndoPass.{AreLosersOf};
 ghost use Rattle.sd_recovered.specs.Devices.{AreDevices, HasRecLsn, IsRecovered, devices_of, log_devices};
 ghost use Rattle.sd_recovered.specs.Reading.{AreRead, HasRead, counting};
 
 use crate::ends::{are_low, check_ends, owed_by};
 use crate::logs::{ReadLogs, read_logs};
 use crate::table::take_back;
-use sd_analysis::Losers;
+use crate::{Losers, MasterRecord, newest_pages};
 use sd_base::{Bytes, Lsn, Refusal};
 use sd_chain::laws;
 use sd_log::ReadLog;
 use sd_model::Table;
-use sd_newest::newest_pages;
 use sd_rig::DATA_LEN;
-use sd_scan::MasterRecord;
 use std::alloc::Global;
 
 /// What nine device images hold, from which a complex is opened: the logs of the instances 1 to 8, what each leaves
 /// unfinished, and its master, where one counts; by page the LSN of its disk image and its RecLSN, the LSN of the first
 /// record above that image (ARIES, section 3), `None` where there is none; and the table that they stand for.
 #[derive(Drop)]
-pub struct Opened {
+pub struct ReadDevices {
     pub logs: Vec<ReadLog>,
     pub losers: Vec<Losers>,
     pub masters: Vec<Option<MasterRecord>>,
@@ -63,7 +61,7 @@ pub fn recovered(alloc: Global, images: &[Bytes]) -> Result<Table, Refusal>
 /// - 6: of the first open transaction, by instance, epoch and number, whose stack isn't as it was left the lowest record
 ///   of its stack.
 /// - 7: the next gate of log 1 where LSNs lack, else that of the first log without room for what ends its transactions.
-pub fn open(alloc: Global, images: &[Bytes]) -> Result<Opened, Refusal>
+pub fn open(alloc: Global, images: &[Bytes]) -> Result<ReadDevices, Refusal>
     requires devices { AreDevices images.now }
     ensures sound { OnOk result (DevicesAreSound (devices_of images.now)) }
     ensures read { IfOk result (λ o. AreRead 1 (log_devices images.now) o.logs.items o.losers.items) }
@@ -84,7 +82,7 @@ pub fn open(alloc: Global, images: &[Bytes]) -> Result<Opened, Refusal>
 impl ReadLogs {
     /// The end of a reading: of the bytes of the data device, behind all eight logs. What it answers is what `open` answers of
     /// these nine devices.
-    pub fn finish(self, alloc: Global, bytes: &[u8]) -> Result<Opened, Refusal>
+    pub fn finish(self, alloc: Global, bytes: &[u8]) -> Result<ReadDevices, Refusal>
         requires size { length bytes.now ≡ DATA_LEN }
         requires all { (devices : List (List ℕ)) × (length devices ≡ 8) × HasRead devices self }
         ensures sound { OnOk result ((devices : List (List ℕ)) → HasRead devices self → DevicesAreSound (devices_of (bytes.now ∷ devices))) }
@@ -104,7 +102,7 @@ impl ReadLogs {
         ensures refusals { IfErr result (λ e. (e ≡ R.Memory) ⊎ ((dev : ℕ) × (at : ℕ) × (e ≡ R.Damaged dev at))) }
     {
         let told = read_pages(alloc, bytes, &self.logs, &self.losers)?;
-        Ok(Opened {
+        Ok(ReadDevices {
             logs: self.logs,
             losers: self.losers,
             masters: self.masters,

@@ -7,17 +7,16 @@ ghost use Rattle.sd_model.specs.Tables.{contents};
 ghost use Rattle.sd_log.specs.Logs.{AreSpelled, scanned};
 ghost use Rattle.sd_chain.specs.Storage.{Open, Sound, StackFits, Storage, now};
 ghost use Rattle.sd_chain.specs.Undoing.{stacks_of, undo_all};
-ghost use Rattle.sd_undone.specs.Reading.{AreLosersOf, NewestAreRead, txns_of};
-ghost use Rattle.sd_undone.specs.Stops.{FirstMisfit};
+ghost use Rattle.sd_recovered.specs.UndoPass.{AreLosersOf, NewestAreRead, txns_of};
+ghost use Rattle.sd_recovered.specs.Stops.{FirstMisfit};
 
-use sd_analysis::Losers;
+use crate::{Losers, UndoError, undone};
 use sd_base::Refusal;
 use sd_log::ReadLog;
 use sd_logrec::AREA;
-use sd_merge::damaged;
 use sd_model::Table;
 use sd_page::Image;
-use sd_undone::{UndoError, undone};
+use sd_redo::damaged_log;
 use std::alloc::Global;
 
 /// The table of the newest pages with what the losers changed taken back; `Damaged` where some stack isn't as it was left,
@@ -42,7 +41,7 @@ pub fn take_back(
 {
     match undone(alloc, pages, logs, losers) {
         Ok(table) => Ok(table),
-        Err(UndoError::Misfit { inst, place }) => Err(damaged(inst, place)),
+        Err(UndoError::Misfit { inst, place }) => Err(damaged_log(inst, place)),
         Err(UndoError::Memory) => Err(Refusal::Memory),
     }
 }

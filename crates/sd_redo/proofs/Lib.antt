@@ -1,2 +1,9 @@
 pub mod Written
 pub mod Replays
+pub mod Filters
+pub mod Turns
+pub mod Ordered
+pub mod OfPage
+pub mod Gathered
+pub mod Merges
+pub mod Flats

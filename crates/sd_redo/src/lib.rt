@@ -18,8 +18,10 @@
 //! - frozen: nothing
 #![tactic(auto)]
 
+mod change;
 mod redoing;
 mod replaying;
 
+pub use change::{Change, damaged_log, merge_page, merged_changes};
 pub use redoing::{fits, redo};
 pub use replaying::{replay, try_replay};

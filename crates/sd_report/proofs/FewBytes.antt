@@ -1,14 +1,14 @@
 -- What is kept in few bytes tells no transaction. It serves a goal of names_for.
 use Rattle.std.proofs.Common.{◌≡◌, ℕ, Bool, true, false, ◌||◌, List, [], ◌∷◌, refl, ap, ◌∙◌}
 use Rattle.sd_model.specs.declared.event.Entry.{Entry}
-use Rattle.sd_short.specs.declared.line.LineEntry.{LineEntry}
-use Rattle.sd_short.specs.declared.line.LineEntry.TheVariants as line
-use Rattle.sd_short.specs.declared.noted.Answer.{Answer}
-use Rattle.sd_short.specs.declared.noted.Answer.TheVariants as answer
-use Rattle.sd_short.specs.declared.noted.Noted.{Noted}
-use Rattle.sd_short.specs.declared.noted.Noted.TheVariants as noted
-use Rattle.sd_short.specs.Shorts.{line_entry, reply_of}
-use Rattle.sd_book.specs.Booked.{unpacked}
+use Rattle.sd_model.specs.declared.line.LineEntry.{LineEntry}
+use Rattle.sd_model.specs.declared.line.LineEntry.TheVariants as line
+use Rattle.sd_model.specs.declared.packed.Answer.{Answer}
+use Rattle.sd_model.specs.declared.packed.Answer.TheVariants as answer
+use Rattle.sd_model.specs.declared.packed.Noted.{Noted}
+use Rattle.sd_model.specs.declared.packed.Noted.TheVariants as noted
+use Rattle.sd_model.specs.Shorts.{line_entry, reply_of}
+use Rattle.sd_model.specs.Booked.{unpacked}
 use Rattle.sd_report.specs.Report.{reply_tells_txn, tell_txns}
 
 short_tells : (l : LineEntry) → reply_tells_txn (line_entry l).reply ≡ false

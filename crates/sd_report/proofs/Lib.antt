@@ -5,3 +5,5 @@ mod Notes
 mod OneLine
 pub mod Scripts
 mod Unnamed
+pub mod Growing
+mod Sets

@@ -1,15 +1,14 @@
 -- Entries whose lines don't fall, parted at a line. It serves the goals of render and TxnNames::of, and whoever shows that the
 -- entries of a book are in order.
-use Rattle.std.proofs.Common.{◌≡◌, inl, inr, ⊎_elim, ℕ, ◌<◌, ◌≤◌, Bool, true, false, List, [], ◌∷◌, ◌++◌}
-use Rattle.std.proofs.Common.{cond, eqb, ltb, ◌+◌, length, take, drop, get_or, refl, sym, ap, subst, ◌∙◌, arith}
+use Rattle.std.proofs.Common.{◌≡◌, inl, inr, ⊎_elim, ℕ, ◌<◌, ◌≤◌, Bool, true, false, List, [], ◌∷◌, ◌++◌, cond, eqb, ltb, ◌+◌, length, take, drop, get_or, refl, sym, ap, subst, ◌∙◌, arith}
 use Rattle.std.specs.Prelude.{◌⊎◌, max}
 use Rattle.std.proofs.lemmas.Bool.{cases_Bool, eqb-true, ltb-true, ltb-false}
 use Rattle.std.proofs.lemmas.List.{drop_more}
 use Rattle.sd_model.specs.declared.event.Entry.{Entry}
-use Rattle.sd_forms.specs.declared.line.Line.{Line}
-use Rattle.sd_forms.specs.declared.line.Form.{Form}
+use Rattle.sd_script.specs.declared.line.Line.{Line}
+use Rattle.sd_script.specs.declared.line.Form.{Form}
 use Rattle.sd_report.specs.Report.{gathered, AreAbove, entries_of, upto, behind, AreFrom}
-use Rattle.sd_replies.proofs.Growing.{flat_map_more}
+use Rattle.sd_report.proofs.Growing.{flat_map_more}
 
 -- of two numbers that differ the test is false
 apart : (a b : ℕ) → (a ≡ b → ⊥) → eqb a b ≡ false

@@ -2,13 +2,13 @@
 use Rattle.std.proofs.Common.{◌≡◌, ℕ, ◌<◌, ◌≤◌, ◌-◌, List, [], ◌∷◌, length, take, drop, get_or, arith, refl, sym, ap, ◌∙◌}
 use Rattle.std.proofs.lemmas.List.{drop_more, take_rest}
 use Rattle.sd_model.specs.declared.event.Entry.{Entry}
-use Rattle.sd_short.specs.declared.line.LineEntry.{LineEntry}
-use Rattle.sd_short.specs.declared.noted.Answer.{Answer}
-use Rattle.sd_short.specs.declared.noted.Deed.{Deed}
-use Rattle.sd_short.specs.declared.noted.Noted.{Noted}
-use Rattle.sd_short.specs.declared.noted.Noted.TheVariants as noted
-use Rattle.sd_short.specs.Shorts.{entry_of, line_entry}
-use Rattle.sd_book.specs.Booked.{unpacked}
+use Rattle.sd_model.specs.declared.line.LineEntry.{LineEntry}
+use Rattle.sd_model.specs.declared.packed.Answer.{Answer}
+use Rattle.sd_model.specs.declared.packed.Deed.{Deed}
+use Rattle.sd_model.specs.declared.packed.Noted.{Noted}
+use Rattle.sd_model.specs.declared.packed.Noted.TheVariants as noted
+use Rattle.sd_model.specs.Shorts.{entry_of, line_entry}
+use Rattle.sd_model.specs.Booked.{unpacked}
 
 -- a slice of less than one item has none
 pub no_items : {X : Type 0} (xs : List X) → length xs < 1 → xs ≡ []

@@ -1,7 +1,6 @@
 -- The entries of one line, one more at a time. It serves the goals of part_at, part_unnoted, push_own_rows
 -- and push_line.
-use Rattle.std.proofs.Common.{◌≡◌, ℕ, Bool, true, false, List, [], ◌∷◌, ◌++◌, cond, eqb, ltb, length}
-use Rattle.std.proofs.Common.{◌<◌, ◌≤◌, ◌+◌, ◌-◌, zero, suc, arith, append_assoc, length-append, refl, sym, ap, ◌∙◌}
+use Rattle.std.proofs.Common.{◌≡◌, ℕ, Bool, true, false, List, [], ◌∷◌, ◌++◌, cond, eqb, ltb, length, ◌<◌, ◌≤◌, ◌+◌, ◌-◌, zero, suc, arith, append_assoc, length-append, refl, sym, ap, ◌∙◌}
 use Rattle.std.specs.Prelude.{Option, None, Some, slice_get}
 use Rattle.std.specs.List.{flat_map}
 use Rattle.std.specs.Option.{option_or}
@@ -11,9 +10,9 @@ use Rattle.std.proofs.lemmas.List.Concat.{flat_map-cons}
 use Rattle.std.proofs.lemmas.Grind.{flat_map-append}
 use Rattle.sd_base.specs.declared.ids.Rid.{Rid}
 use Rattle.sd_model.specs.declared.event.Entry.{Entry}
-use Rattle.sd_short.specs.declared.noted.Noted.{Noted}
-use Rattle.sd_short.specs.declared.noted.Noted.TheVariants as noted
-use Rattle.sd_short.specs.Shorts.{help_entry}
+use Rattle.sd_model.specs.declared.packed.Noted.{Noted}
+use Rattle.sd_model.specs.declared.packed.Noted.TheVariants as noted
+use Rattle.sd_model.specs.Shorts.{help_entry}
 use Rattle.sd_report.specs.Report.{entries_of, last_entry, row_line, rows_in, table_rows, upto, behind}
 
 -- the last entry of the line, where this one was the last before these

@@ -9,15 +9,14 @@ use Rattle.sd_model.specs.declared.event.Event.{Event}
 use Rattle.sd_model.specs.declared.event.Reply.{Reply}
 use Rattle.sd_model.specs.declared.event.Reply.TheVariants as reply
 use Rattle.sd_model.specs.declared.event.Entry.{Entry}
-use Rattle.sd_forms.specs.declared.line.Form.{Form}
-use Rattle.sd_forms.specs.declared.line.Form.TheVariants as form
-use Rattle.sd_forms.specs.declared.line.Line.{Line}
-use Rattle.sd_forms.specs.Forms.{pick_word}
-use Rattle.sd_replies.specs.Words.{line_of, NamesOf}
-use Rattle.sd_replies.specs.Refusals.{refusal_text, tells_txn}
-use Rattle.sd_replies.specs.Replies.{no_reply, pulled_text, reply_text, last_text, words_of, behind_words, last_behind_words, behind_all, last_behind_all}
-use Rattle.sd_report.specs.Report.{last_entry, txn_line, page_line, echo_line, all_line, listed, table_lines}
-use Rattle.sd_report.specs.Report.{reported, gathered, entries_of, reply_tells_txn, tell_txns}
+use Rattle.sd_script.specs.declared.line.Form.{Form}
+use Rattle.sd_script.specs.declared.line.Form.TheVariants as form
+use Rattle.sd_script.specs.declared.line.Line.{Line}
+use Rattle.sd_script.specs.Forms.{pick_word}
+use Rattle.sd_report.specs.Words.{line_of, NamesOf}
+use Rattle.sd_report.specs.Refusals.{refusal_text, tells_txn}
+use Rattle.sd_report.specs.Replies.{no_reply, pulled_text, reply_text, last_text, words_of, behind_words, last_behind_words, behind_all, last_behind_all}
+use Rattle.sd_report.specs.Report.{all_line, echo_line, entries_of, gathered, last_entry, listed, page_line, reply_tells_txn, reported, table_lines, tell_txns, txn_line}
 
 neither : (a b : Bool) → (a || b) ≡ false → (a ≡ false) × (b ≡ false)
 neither true b e = absurd (cc)

@@ -1,1 +1,6 @@
 pub mod Report
+pub mod Words
+pub mod Refusals
+pub mod Places
+pub mod Replies
+pub mod Names

@@ -1,6 +1,5 @@
 -- The text of the report: line after line of the script, what was replied to it.
-use Rattle.std.specs.Prelude.{◌≡◌, ℕ, ◌-◌, ◌<◌, ◌≤◌, ◌⊎◌, Bool, false, max, List, []}
-use Rattle.std.specs.Prelude.{◌∷◌, ◌++◌, Option, None, Some, length, codes, filter, eqb, ltb, cond, slice_get}
+use Rattle.std.specs.Prelude.{◌≡◌, ℕ, ◌-◌, ◌<◌, ◌≤◌, ◌⊎◌, Bool, false, max, List, [], ◌∷◌, ◌++◌, Option, None, Some, length, codes, filter, eqb, ltb, cond, slice_get}
 use Rattle.std.specs.List.{flat_map, list_any}
 use Rattle.std.specs.Fmt.{decimal}
 use Rattle.std.specs.Map.{update_all}
@@ -12,13 +11,13 @@ use Rattle.sd_model.specs.declared.event.Event.{Event}
 use Rattle.sd_model.specs.declared.event.Reply.{Reply}
 use Rattle.sd_model.specs.declared.event.Reply.TheVariants as reply
 use Rattle.sd_model.specs.declared.event.Entry.{Entry}
-use Rattle.sd_forms.specs.declared.line.Form.{Form}
-use Rattle.sd_forms.specs.declared.line.Form.TheVariants as form
-use Rattle.sd_forms.specs.declared.line.Line.{Line}
-use Rattle.sd_forms.specs.Forms.{form_words, pick_word, rid_word}
-use Rattle.sd_replies.specs.Words.{line_of, NamesOf, no_names}
-use Rattle.sd_replies.specs.Refusals.{refusal_text, cause_word, tells_txn}
-use Rattle.sd_replies.specs.Replies.{no_reply, pulled_text, last_text, words_of, last_behind_words, last_behind_all}
+use Rattle.sd_script.specs.declared.line.Form.{Form}
+use Rattle.sd_script.specs.declared.line.Form.TheVariants as form
+use Rattle.sd_script.specs.declared.line.Line.{Line}
+use Rattle.sd_script.specs.Forms.{form_words, pick_word, rid_word}
+use Rattle.sd_report.specs.Words.{line_of, NamesOf, no_names}
+use Rattle.sd_report.specs.Refusals.{refusal_text, cause_word, tells_txn}
+use Rattle.sd_report.specs.Replies.{no_reply, pulled_text, last_text, words_of, last_behind_words, last_behind_all}
 
 -- the entries of a line are those that carry its number; those of line 0 are of no line
 abbrev pub entries_of : ℕ → List Entry → List Entry

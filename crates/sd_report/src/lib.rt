@@ -18,7 +18,22 @@
 mod naming;
 mod order;
 mod parting;
+mod places;
+mod refusals;
+mod replies;
 mod report;
+mod shorts;
+mod txn_names;
+mod words;
 
 pub use order::in_order;
+pub use refusals::cause_name;
+pub use replies::{
+    push_behind_all, push_behind_words, push_page_reply, push_pulled, push_txn_reply,
+};
 pub use report::{bad_line, damaged_line, render, render_book};
+pub use shorts::push_short_words;
+pub use txn_names::TxnNames;
+pub use words::{
+    push_before, push_counted, push_end, push_first, push_next, push_number, push_rid, push_word,
+};

@@ -4,18 +4,16 @@ ghost use Rattle.std.specs.Prelude.{◌≡◌, option_map, IfOk, OnOk};
 ghost use Rattle.std.specs.Map.{update_all};
 ghost use Rattle.sd_base.specs.Ids.{same_txn};
 ghost use Rattle.sd_base.specs.declared.ids.TxnId.{TxnId};
-ghost use Rattle.sd_short.specs.Shorts.{line_entry};
-ghost use Rattle.sd_book.specs.Booked.{entries_in, seen_entry};
-ghost use Rattle.sd_replies.specs.Names.{name_in};
+ghost use Rattle.sd_model.specs.Shorts.{line_entry};
+ghost use Rattle.sd_model.specs.Booked.{entries_in, seen_entry};
+ghost use Rattle.sd_report.specs.Names.{name_in};
 ghost use Rattle.sd_report.specs.Report.{given_by, given_last, names_of, AreFrom, AreAbove};
 
+use crate::TxnNames;
 use crate::parting::part_at;
 use sd_base::{Memory, Word};
-use sd_book::{Seen, Told};
-use sd_model::Reply;
-use sd_replies::TxnNames;
+use sd_model::{LineEntry, Reply, Seen, Told};
 use sd_script::{Form, Line};
-use sd_short::LineEntry;
 use std::alloc::Global;
 
 /// The names that the begin lines gave their transactions, by the entries of the book.

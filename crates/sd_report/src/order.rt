@@ -1,10 +1,10 @@
 //! The order of lines and of entries that a report stands on.
 
 ghost use Rattle.std.specs.Prelude.{◌↔◌, IsTrue};
-ghost use Rattle.sd_book.specs.Booked.{entries_in};
+ghost use Rattle.sd_model.specs.Booked.{entries_in};
 ghost use Rattle.sd_report.specs.Report.{AreFrom, AreAbove};
 
-use sd_book::Told;
+use sd_model::Told;
 use sd_script::Line;
 
 fn lines_rise(lines: &[Line]) -> bool

@@ -2,12 +2,10 @@
 
 ghost use Rattle.std.specs.Prelude.{◌≡◌, ◌<◌, option_map};
 ghost use Rattle.std.specs.Option.{option_or};
-ghost use Rattle.sd_book.specs.Booked.{entries_in, seen_entry};
+ghost use Rattle.sd_model.specs.Booked.{entries_in, seen_entry};
 ghost use Rattle.sd_report.specs.Report.{entries_of, last_entry, upto, behind};
 
-use sd_book::{Seen, Told};
-use sd_model::Entry;
-use sd_short::Noted;
+use sd_model::{Entry, Noted, Seen, Told};
 
 /// The last entry of the line before the first of a later line, and the entries from there on.
 pub fn part_at<'a>(number: u32, entries: Told<'a>) -> (Option<Seen<'a>>, Told<'a>)

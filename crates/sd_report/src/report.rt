@@ -4,30 +4,26 @@ ghost use Rattle.std.specs.Prelude.{◌≡◌, ◌+◌, ◌<◌, ◌≤◌, [], 
 ghost use Rattle.std.specs.List.{flat_map};
 ghost use Rattle.std.specs.Option.{option_copied, option_map};
 ghost use Rattle.std.specs.Fmt.{decimal};
-ghost use Rattle.sd_forms.specs.declared.line.Form.TheVariants as form;
-ghost use Rattle.sd_forms.specs.Forms.{pick_word, rid_word};
-ghost use Rattle.sd_short.specs.Shorts.{line_entry};
-ghost use Rattle.sd_replies.specs.Names.{name_in};
-ghost use Rattle.sd_replies.specs.Words.{line_of, no_names};
-ghost use Rattle.sd_replies.specs.Refusals.{refusal_text};
-ghost use Rattle.sd_replies.specs.Replies.{no_reply, pulled_text, last_text, words_of, last_behind_all, last_behind_words};
-ghost use Rattle.sd_report.specs.Report.{entries_of, last_entry, reported, report, bad_text, damaged_text};
-ghost use Rattle.sd_book.specs.Booked.{entries_in, seen_entry};
-ghost use Rattle.sd_report.specs.Report.{gathered, reply_tells_txn, tell_txns, upto, AreFrom, AreAbove};
-ghost use Rattle.sd_report.specs.Report.{row_line, rows_in, table_rows};
+ghost use Rattle.sd_script.specs.declared.line.Form.TheVariants as form;
+ghost use Rattle.sd_script.specs.Forms.{pick_word, rid_word};
+ghost use Rattle.sd_model.specs.Shorts.{line_entry};
+ghost use Rattle.sd_report.specs.Names.{name_in};
+ghost use Rattle.sd_report.specs.Words.{line_of, no_names};
+ghost use Rattle.sd_report.specs.Refusals.{refusal_text};
+ghost use Rattle.sd_report.specs.Replies.{no_reply, pulled_text, last_text, words_of, last_behind_all, last_behind_words};
+ghost use Rattle.sd_report.specs.Report.{AreAbove, AreFrom, bad_text, damaged_text, entries_of, gathered, last_entry, reply_tells_txn, report, reported, row_line, rows_in, table_rows, tell_txns, upto};
+ghost use Rattle.sd_model.specs.Booked.{entries_in, seen_entry};
 
 use crate::naming::known_names;
 use crate::parting::part_at;
-use sd_base::{Bytes, InstNo, LineError, Memory, Pick, Refusal, Rid, Word};
-use sd_book::{Book, Seen, Told};
-use sd_model::{Entry, Reply};
-use sd_replies::{
+use crate::{
     TxnNames, cause_name, push_before, push_behind_all, push_behind_words, push_counted, push_end,
     push_first, push_next, push_number, push_page_reply, push_pulled, push_rid, push_short_words,
     push_txn_reply, push_word,
 };
+use sd_base::{Bytes, InstNo, LineError, Memory, Pick, Refusal, Rid, Word};
+use sd_model::{Book, Entry, LineEntry, Reply, Seen, Told};
 use sd_script::{Form, Line};
-use sd_short::LineEntry;
 use std::alloc::Global;
 
 fn push_complex(out: &mut Vec<u8>, insts: InstNo, pages: u16, frames: u16) -> Result<(), Memory>

@@ -8,11 +8,11 @@ use Rattle.sd_chain.specs.Checks.{DevicesAreSound}
 use Rattle.sd_recovered.specs.Devices.{HasRecLsn, devices_of, log_devices}
 use Rattle.sd_recovered.specs.Reading.{AreRead, HasRead, counting}
 use Rattle.sd_recovered.specs.declared.logs.ReadLogs.{ReadLogs}
-use Rattle.sd_recovered.specs.declared.reading.Opened.{Opened}
+use Rattle.sd_recovered.specs.declared.reading.ReadDevices.{ReadDevices}
 use Rattle.sd_rig.specs.Devices.{DeviceImages, device_len}
-use Rattle.sd_scan.specs.Masters.{said}
+use Rattle.sd_recovered.specs.Masters.{said}
 use Rattle.sd_restart.specs.Devices.{images_of}
-use Rattle.sd_found.specs.Reading.{IsReading}
+use Rattle.sd_restart.specs.Reading.{IsReading}
 use Rattle.sd_restart.proofs.Nine.{are-nine}
 
 -- a refusal that names a place is no other
@@ -34,7 +34,7 @@ module _ (seen : DeviceImages) (bytes : List ℕ) (logs : ReadLogs) (is : bytes 
   pub on-nine : (P : List (List ℕ) → Type 0) → P (images_of seen) → P (bytes ∷ log_devices (images_of seen))
   on-nine P p = subst P (sym nine) p
 
-  pub is-reading : (result : Result Opened Refusal) → ((d : ℕ) → d ≤ 8 → length (seen d) ≡ device_len d)
+  pub is-reading : (result : Result ReadDevices Refusal) → ((d : ℕ) → d ≤ 8 → length (seen d) ≡ device_len d)
       → OnOk result ((devices : List (List ℕ)) → HasRead devices logs → DevicesAreSound (devices_of (bytes ∷ devices)))
       → IfOk result (λ o. (devices : List (List ℕ)) → HasRead devices logs → AreRead 1 devices o.logs.items o.losers.items)
       → IfOk result (λ o. (devices : List (List ℕ)) → HasRead devices logs → map said o.masters.items ≡ map counting devices)

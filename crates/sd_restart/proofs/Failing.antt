@@ -15,10 +15,10 @@ use Rattle.sd_chain.specs.Storage as disks
 use Rattle.sd_chain.specs.Storage.{Open, StackFits, chain, opens}
 use Rattle.sd_chain.specs.Pages.{FitAll, FitsPage, replay}
 use Rattle.sd_chain.specs.Records.{Each, stack}
-use Rattle.sd_sound.specs.Laws.{IsRead}
-use Rattle.sd_sound.proofs.Kept.{log-past}
+use Rattle.sd_chain.specs.ChecksKept.{IsRead}
+use Rattle.sd_chain.proofs.Kept.{log-past}
 use Rattle.sd_state.specs.Images.{kept_epoch}
-use Rattle.sd_opened.specs.Opening.{AreOpened, IsFoundInst, IsFoundPage, IsLeftIn, claim_in, status_in}
+use Rattle.sd_moves.specs.Opening.{AreOpened, IsFoundInst, IsFoundPage, IsLeftIn, claim_in, status_in}
 use Rattle.sd_state.specs.Parts.{Parts, count_at, log_at, txns_at}
 use Rattle.sd_state.specs.Tables.{lock_of}
 use Rattle.sd_txn.specs.Transactions.{txn_at}

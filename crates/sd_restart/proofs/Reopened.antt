@@ -5,7 +5,7 @@ use mathlib.Core.Path.{fun_ext}
 use Rattle.sd_rig.specs.Devices.{DeviceImages, LeavesOnly, LeavesSame}
 use Rattle.sd_recovered.specs.Devices.{IsRecovered, devices_of}
 use Rattle.sd_model.specs.State.{State}
-use Rattle.sd_opened.specs.Opening.{AreOpened, OpensTo}
+use Rattle.sd_moves.specs.Opening.{AreOpened, OpensTo}
 use Rattle.sd_state.specs.Parts.{Parts}
 use Rattle.sd_restart.specs.Devices.{AgreeOnNine, images_of}
 use Rattle.sd_restart.proofs.Alike.{recovered-same}

@@ -1,2 +1,5 @@
 pub mod Devices
 pub mod Laws
+pub mod Reading
+pub mod Claims
+pub mod Made

@@ -9,10 +9,10 @@ ghost use Rattle.sd_recovered.specs.Devices.{IsRecovered, devices_of, log_device
 ghost use Rattle.sd_recovered.specs.Reading.{FailsAmong, HasRead, IsUnread, SomeUnread};
 ghost use Rattle.sd_rig.specs.Devices.{IsUnchanged, LeavesOnly, device_len};
 ghost use Rattle.sd_restart.specs.Devices.{Calms, images_of};
-ghost use Rattle.sd_found.specs.Reading.{IsReading};
+ghost use Rattle.sd_restart.specs.Reading.{IsReading};
 
 use sd_base::{Failed, Memory, Refusal};
-use sd_recovered::{Opened, ReadLogs};
+use sd_recovered::{ReadDevices, ReadLogs};
 use sd_rig::{DATA_LEN, LOG_LEN, Rig, device_len};
 use std::alloc::Global;
 
@@ -52,7 +52,7 @@ fn settle<G: Rig>(rig: &mut G, dev: u8) -> Result<(), Failed>
 ///
 /// `Failed` comes where a read fails, `Damaged` exactly where the devices aren't sound, with the first place that fails, as `open`
 /// of sd_recovered tells it, and `Memory` for want of memory.
-pub fn read_devices<G: Rig>(alloc: Global, rig: &mut G) -> Result<Opened, Refusal>
+pub fn read_devices<G: Rig>(alloc: Global, rig: &mut G) -> Result<ReadDevices, Refusal>
     ensures read { IfOk result (IsReading (images_of (G.seen rig.old))) }
     ensures recovered { IfOk result (λ o. IsRecovered (devices_of (images_of (G.seen rig.old))) o.table) }
     ensures stays { IsUnchanged (G.seen rig.old) (G.seen rig.new) (G.leaves rig.old) (G.leaves rig.new)
@@ -76,7 +76,7 @@ fn bytes_of_device(alloc: Global) -> Result<Vec<u8>, Memory>
 }
 
 // The same, into the bytes of the longest device.
-fn read_into<G: Rig>(alloc: Global, rig: &mut G, bytes: &mut [u8]) -> Result<Opened, Refusal>
+fn read_into<G: Rig>(alloc: Global, rig: &mut G, bytes: &mut [u8]) -> Result<ReadDevices, Refusal>
     requires { length bytes.old ≡ DATA_LEN }
     ensures read { IfOk result (IsReading (images_of (G.seen rig.old))) }
     ensures recovered { IfOk result (λ o. IsRecovered (devices_of (images_of (G.seen rig.old))) o.table) }

@@ -20,9 +20,13 @@
 //! - frozen: nothing
 #![tactic(auto)]
 
+mod claims;
 mod devices;
+mod finding;
 pub mod laws;
+mod parts;
 mod restarting;
 
 pub use devices::{read_devices, settle_devices};
+pub use finding::restored_of;
 pub use restarting::{reopen, restart};

@@ -10,15 +10,15 @@ ghost use Rattle.sd_recovered.specs.Devices.{IsRecovered};
 ghost use Rattle.sd_rig.specs.Devices.{LeavesOnly};
 ghost use Rattle.sd_state.specs.Complexes.{parts};
 ghost use Rattle.sd_state.specs.Good.{Good};
-ghost use Rattle.sd_opened.specs.Opening.{AreOpened, OpensTo, opened_parts};
+ghost use Rattle.sd_moves.specs.Opening.{AreOpened, OpensTo, opened_parts};
 ghost use Rattle.sd_state.specs.Values.{Pending};
 ghost use Rattle.sd_restart.specs.Devices.{Calms};
 
 use crate::devices::{read_devices, settle_devices};
+use crate::restored_of;
 use sd_base::Refusal;
-use sd_found::found_of;
 use sd_model::Table;
-use sd_opened::{Found, opened};
+use sd_moves::{Restored, assemble};
 use sd_rig::Rig;
 use sd_state::{Complex, Shape};
 use std::alloc::Global;
@@ -60,7 +60,7 @@ pub fn restart<G: Rig>(
 {
     let mut rig = rig;
     match found_on(alloc, &mut rig) {
-        Ok((found, table)) => match opened(alloc, rig, shape, found) {
+        Ok((found, table)) => match assemble(alloc, rig, shape, found) {
             Ok(c) => Ok((c, table)),
             Err((_, rig)) => Err((Refusal::Memory, rig)),
         },
@@ -97,7 +97,7 @@ pub fn reopen<G: Rig>(alloc: Global, rig: G, shape: Shape) -> Result<Complex<G>,
 }
 
 // What a complex is made of, and the table, of the devices, which are synced and read.
-fn found_on<G: Rig>(alloc: Global, rig: &mut G) -> Result<(Found, Table), Refusal>
+fn found_on<G: Rig>(alloc: Global, rig: &mut G) -> Result<(Restored, Table), Refusal>
     ensures sound { OnOk result (DevicesAreSound (G.seen rig.old)) }
     ensures recovered { IfOk result (λ x. IsRecovered (G.seen rig.old) x.1) }
     ensures found { IfOk result (λ x. (frames : ℕ) → AreOpened frames (G.seen rig.old) (opened_parts frames x.0)) }
@@ -114,5 +114,5 @@ fn found_on<G: Rig>(alloc: Global, rig: &mut G) -> Result<(Found, Table), Refusa
 {
     settle_devices(rig)?;
     let opened = read_devices(alloc, rig)?;
-    Ok(found_of(alloc, opened)?)
+    Ok(restored_of(alloc, opened)?)
 }

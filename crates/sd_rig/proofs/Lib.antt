@@ -6,3 +6,9 @@ pub mod Parts
 pub mod Places
 pub mod Replays
 pub mod Steps
+pub mod Gates
+pub mod Numbers
+pub mod SlotBytes
+pub mod Choice
+pub mod TwinSlots
+pub mod Images

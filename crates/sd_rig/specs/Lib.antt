@@ -8,3 +8,6 @@ pub mod Replay
 pub mod Rigs
 pub mod Spans
 pub mod Troubles
+pub mod Gates
+pub mod Slots
+pub mod Puts

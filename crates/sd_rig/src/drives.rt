@@ -2,10 +2,9 @@
 
 ghost use Rattle.std.specs.Prelude.{◌≡◌, ◌+◌, ◌≤◌, ◌<◌, ◌↔◌, ◌⊎◌, [], map, length, slice_range, All, IfOk, IsTrue};
 ghost use Rattle.sd_rig.specs.Devices.{device_len};
-ghost use Rattle.sd_rig.specs.Disk.{IsSettled, settled};
+ghost use Rattle.sd_rig.specs.Disk.{IsSettled, disk_code, settled};
 ghost use Rattle.sd_rig.specs.History.{Crashed, Poked, Synced, Wrote};
 ghost use Rattle.sd_rig.specs.Replay.{AreDevices, AreSettled, Notes, NotesNothing, blanks, disk_at, replayed};
-ghost use Rattle.sd_rig.specs.Disk.{disk_code};
 ghost use Rattle.std.specs.Coded.{Coded-set, coded_list};
 
 use crate::disk::Disk;

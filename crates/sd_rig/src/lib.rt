@@ -20,10 +20,18 @@
 mod disk;
 mod drives;
 mod front;
+mod gate;
 mod history;
 mod memory_rig;
+mod putting;
 mod rig;
+mod slots;
 mod troubles;
+mod twin;
 
+pub use gate::{OPEN, close, fill, is_open};
 pub use memory_rig::MemRig;
+pub use putting::put;
 pub use rig::{DATA_LEN, LOG_LEN, Rig, device_len};
+pub use slots::{Chosen, chosen_of, number_of};
+pub use twin::{Twin, choose};

@@ -6,7 +6,7 @@ use Rattle.std.proofs.lemmas.List.Sums.{fails_before_first}
 use Rattle.std.specs.Prelude.{position}
 use Rattle.std.specs.List.{slice_split, position_or_len}
 use Rattle.sd_script.specs.Text.{less_empty_last, lines_of}
-use Rattle.sd_forms.proofs.Parting.{found_at, not_found, rest_of, some_part}
+use Rattle.sd_script.proofs.Parting.{found_at, not_found, rest_of, some_part}
 
 abbrev is_feed : ℕ → Bool
 is_feed b = b == 10

@@ -4,15 +4,15 @@ use Rattle.std.proofs.lemmas.Bool.{cases_lt}
 use Rattle.std.proofs.lemmas.List.{take_all}
 use Rattle.std.proofs.lemmas.Option.{slice_get_within}
 use Rattle.std.specs.Prelude.{slice_get}
-use Rattle.sd_forms.specs.declared.line.Form.{Form}
-use Rattle.sd_forms.specs.declared.line.Form.TheVariants.{Read, Write, Add, Insert, Delete, Save, Back, Rollback, Commit}
-use Rattle.sd_forms.specs.declared.line.Line.{Line}
-use Rattle.sd_forms.specs.Forms.{form_words, IsForm, IsKnownBy}
+use Rattle.sd_script.specs.declared.line.Form.{Form}
+use Rattle.sd_script.specs.declared.line.Form.TheVariants.{Read, Write, Add, Insert, Delete, Save, Back, Rollback, Commit}
+use Rattle.sd_script.specs.declared.line.Line.{Line}
+use Rattle.sd_script.specs.Forms.{form_words, IsForm, IsKnownBy}
 use Rattle.sd_script.specs.Order.{Follows, begun, ordinal_of}
 use Rattle.sd_script.specs.Text.{lines_of, end_of}
-use Rattle.sd_forms.specs.Words.{words_of}
+use Rattle.sd_script.specs.Words.{words_of}
 use Rattle.sd_script.specs.Reading.{ReadsAs, Reads, IsRead, IsScript, IsBadAt}
-use Rattle.sd_forms.proofs.OneForm.{one_form}
+use Rattle.sd_script.proofs.OneForm.{one_form}
 use Rattle.sd_base.proofs.Lists.{stands_at, slice_get-append_left, slice_get-push, take-push, take-append_left, take_next}
 
 -- a form that may follow has the ordinal of its name

@@ -6,12 +6,12 @@ use Rattle.std.proofs.lemmas.Bool.{cases_Bool, true≢false}
 use Rattle.std.proofs.lemmas.List.Sums.{sum_by-append}
 use Rattle.std.specs.Prelude.{Some}
 use Rattle.std.specs.Str.{bytes_eq}
-use Rattle.sd_forms.specs.declared.line.Form.{Form}
-use Rattle.sd_forms.specs.declared.line.Form.TheVariants.{Complex, Begin, Read, Write, Add, Insert, Delete, Save, Back, Rollback, Commit, Table}
-use Rattle.sd_forms.specs.declared.line.Line.{Line}
+use Rattle.sd_script.specs.declared.line.Form.{Form}
+use Rattle.sd_script.specs.declared.line.Form.TheVariants.{Complex, Begin, Read, Write, Add, Insert, Delete, Save, Back, Rollback, Commit, Table}
+use Rattle.sd_script.specs.declared.line.Line.{Line}
 use Rattle.sd_script.specs.Order.{begun_by, begun, has_name, ordinal_of, IsBegun, insts_in, insts_of, pages_in, pages_of, is_table, table_count, Follows}
 use Rattle.sd_script.specs.Remembered.{known_after, begins_after, insts_after, pages_after, tables_after, AreOrdinals, Remembers, FormFits, IsFresh, IsUnknown}
-use Rattle.sd_forms.specs.Forms.{IsForm, IsName, IsKnownBy}
+use Rattle.sd_script.specs.Forms.{IsForm, IsName, IsKnownBy}
 use Rattle.sd_script.proofs.Ordinals.{no_ordinal, has_none, ordinal_push}
 
 begun-push : (lines : List Line) (line : Line) → begun (lines ++ line ∷ []) ≡ begun lines ++ begun_by line.form

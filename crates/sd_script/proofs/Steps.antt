@@ -8,7 +8,7 @@ use Rattle.sd_base.specs.declared.refusal.Refusal.{Refusal}
 use Rattle.sd_base.specs.declared.refusal.Refusal.TheVariants as refusal
 use Rattle.sd_base.specs.declared.refusal.LineError.{LineError}
 use Rattle.sd_base.specs.declared.refusal.LineError.TheVariants.{Word}
-use Rattle.sd_forms.specs.declared.line.Line.{Line}
+use Rattle.sd_script.specs.declared.line.Line.{Line}
 use Rattle.sd_script.specs.Text.{lines_of, end_of}
 use Rattle.sd_script.specs.Reading.{ReadsAs, Reads, IsRead, IsScript, IsBadAt, IsRefusedWith, UnlessMemory}
 use Rattle.sd_script.specs.Remembered.{GoesOn, IsLineRefusedWith}

@@ -1,12 +1,12 @@
 -- Words and the line that is taken of them. It serves the goals of form.rt and reader.rt.
 use Rattle.std.proofs.Common.{◌≡◌, ℕ, ◌+◌, Bool, true, false, List, Option, None, Some, length, refl, sym, ◌∙◌, subst}
 use Rattle.std.specs.Prelude.{◌↔◌, Result, Ok, Err, IfOk, IsTrue}
-use Rattle.sd_forms.specs.declared.line.Form.{Form}
-use Rattle.sd_forms.specs.declared.line.Line.{Line}
-use Rattle.sd_forms.specs.Forms.{form_words, IsForm, IsFormOf}
+use Rattle.sd_script.specs.declared.line.Form.{Form}
+use Rattle.sd_script.specs.declared.line.Line.{Line}
+use Rattle.sd_script.specs.Forms.{form_words, IsForm, IsFormOf}
 use Rattle.sd_script.specs.Order.{Follows, begun, ordinal_of}
 use Rattle.sd_script.specs.Remembered.{AreOrdinals, FormFits, IsFresh, IsTakenIf, IsTakenOf}
-use Rattle.sd_forms.proofs.OneForm.{one_form}
+use Rattle.sd_script.proofs.OneForm.{one_form}
 use Rattle.sd_script.proofs.Readings.{ordinal_known}
 use Rattle.sd_script.proofs.Remembering.{known_from, ordinals_from, follows_from, fits_from, fresh_from}
 

@@ -2,3 +2,8 @@ pub mod Text
 pub mod Order
 pub mod Reading
 pub mod Remembered
+pub mod Words
+pub mod Forms
+pub mod Ordinals
+pub mod Packed
+pub mod Known

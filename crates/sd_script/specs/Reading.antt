@@ -3,10 +3,10 @@ use Rattle.std.specs.Prelude.{◌≡◌, ℕ, ◌+◌, ◌<◌, ◌≤◌, ◌�
 use Rattle.sd_base.specs.declared.refusal.Refusal.{Refusal}
 use Rattle.sd_base.specs.declared.refusal.Refusal.TheVariants as refusal
 use Rattle.sd_base.specs.declared.refusal.LineError.TheVariants.{Word}
-use Rattle.sd_forms.specs.declared.line.Line.{Line}
+use Rattle.sd_script.specs.declared.line.Line.{Line}
 use Rattle.sd_script.specs.Text.{lines_of, end_of}
-use Rattle.sd_forms.specs.Words.{words_of}
-use Rattle.sd_forms.specs.Forms.{form_words, IsForm}
+use Rattle.sd_script.specs.Words.{words_of}
+use Rattle.sd_script.specs.Forms.{form_words, IsForm}
 use Rattle.sd_script.specs.Order.{Follows}
 
 -- The bytes of a line, which ends at this byte of the text, read as this line behind those before.

@@ -3,16 +3,16 @@
 ghost use Rattle.std.specs.Prelude.{◌<◌, ◌∷◌, [], length, IfOk};
 ghost use Rattle.std.specs.Fmt.{decimal};
 ghost use Rattle.std.specs.Option.{option_copied};
-ghost use Rattle.sd_forms.specs.Forms.{IsInst, IsNoInst};
+ghost use Rattle.sd_script.specs.Forms.{IsInst, IsNoInst};
 ghost use Rattle.sd_script.specs.Remembered.{IsTakenOf};
-ghost use Rattle.sd_forms.specs.Words.{words_of, words_behind};
+ghost use Rattle.sd_script.specs.Words.{words_of, words_behind};
 
 use crate::reader::Reader;
-use sd_base::{InstNo, Memory};
-use sd_forms::{
+use crate::{
     ask_of, complex_of, first_word, five_of_verb, force_of, inst_of, is_add, is_begin, is_commit,
     is_insert, is_read, is_write, lone_of, three_of_inst, three_of_verb, two_of_verb,
 };
+use sd_base::{InstNo, Memory};
 use std::alloc::Global;
 
 /// Takes the line of these bytes, if it may come next, and tells whether it did.

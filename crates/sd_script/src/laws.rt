@@ -1,7 +1,7 @@
 //! What holds of every text, whoever reads it.
 
 ghost use Rattle.std.specs.Prelude.{◌≡◌, ℕ, List};
-ghost use Rattle.sd_forms.specs.declared.line.Line.{Line};
+ghost use Rattle.sd_script.specs.declared.line.Line.{Line};
 ghost use Rattle.sd_script.specs.Reading.{IsScript, IsBadAt};
 
 /// A text is a script of one list of lines at most.

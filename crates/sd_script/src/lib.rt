@@ -16,10 +16,26 @@
 #![tactic(auto)]
 
 mod form;
+mod inst_forms;
 pub mod laws;
+mod line;
+mod names;
+mod newest;
+mod packed;
+mod parts;
 mod reader;
 mod script;
 mod text;
+mod verb_forms;
+mod word;
 
+pub use inst_forms::{ask_of, begin_of, force_of, three_of_inst};
+pub use line::{Form, Line};
+pub use names::Names;
+pub use parts::inst_of;
 pub use script::{Kind, Script};
-pub use sd_forms::{Form, Line};
+pub use verb_forms::{
+    add_of, commit_of, complex_of, five_of_verb, insert_of, lone_of, read_of, three_of_verb,
+    two_of_verb, write_of,
+};
+pub use word::{first_word, is_add, is_begin, is_commit, is_insert, is_read, is_write};

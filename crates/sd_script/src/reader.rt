@@ -5,15 +5,14 @@ ghost use Rattle.std.specs.Vec.{vec_len, vec_capacity};
 ghost use Rattle.std.specs.Fmt.{decimal};
 ghost use Rattle.sd_base.specs.declared.refusal.Refusal.TheVariants as refusal;
 ghost use Rattle.sd_base.specs.declared.refusal.LineError.TheVariants.{Word};
-ghost use Rattle.sd_forms.specs.Forms.{IsForm, IsFormOf, IsInst, IsName};
-ghost use Rattle.sd_forms.specs.Known.{known};
+ghost use Rattle.sd_script.specs.Forms.{IsForm, IsFormOf, IsInst, IsName};
+ghost use Rattle.sd_script.specs.Known.{known};
 ghost use Rattle.sd_script.specs.Order.{begun, ordinal_of, is_table, insts_of, pages_of, Follows};
-ghost use Rattle.sd_script.specs.Remembered.{known_after, begins_after, insts_after, pages_after, tables_after};
-ghost use Rattle.sd_script.specs.Remembered.{FormFits, IsUnknown, IsFresh, IsTakenIf, IsTakenOf, GoesOn, IsLineRefusedWith};
+ghost use Rattle.sd_script.specs.Remembered.{FormFits, GoesOn, IsFresh, IsLineRefusedWith, IsTakenIf, IsTakenOf, IsUnknown, begins_after, insts_after, known_after, pages_after, tables_after};
 
 use crate::form::take_line;
+use crate::{Form, Line, Names, add_of, begin_of, commit_of, insert_of, read_of, write_of};
 use sd_base::{InstNo, LineError, Memory, PageNo, Refusal};
-use sd_forms::{Form, Line, Names, add_of, begin_of, commit_of, insert_of, read_of, write_of};
 use std::alloc::Global;
 use std::marker::Model;
 
@@ -38,8 +37,8 @@ pub(crate) struct Reader {
 
 impl Model for Reader {
     ghost use Rattle.std.specs.Prelude.{List};
-    ghost use Rattle.sd_forms.specs.declared.line.Line.{Line};
-    ghost use Rattle.sd_forms.specs.Known.{known};
+    ghost use Rattle.sd_script.specs.declared.line.Line.{Line};
+    ghost use Rattle.sd_script.specs.Known.{known};
     ghost use Rattle.sd_script.specs.Remembered.{Remembers};
 
     ghost Value = { List Line };

@@ -3,14 +3,14 @@
 ghost use Rattle.std.specs.Prelude.{◌≡◌, ℕ, ◌⊎◌, List, length, Ok, Err, IfOk, IfErr};
 ghost use Rattle.sd_base.specs.declared.refusal.Refusal.TheVariants as refusal;
 ghost use Rattle.sd_base.specs.declared.refusal.LineError.TheVariants.{Word};
-ghost use Rattle.sd_forms.specs.declared.line.Line.{Line};
+ghost use Rattle.sd_script.specs.declared.line.Line.{Line};
 ghost use Rattle.sd_script.specs.Text.{lines_of};
 ghost use Rattle.sd_script.specs.Reading.{IsRead, IsScript, IsBadAt, IsRefusedWith, UnlessMemory};
 
+use crate::Line;
 use crate::reader::{LINES, Reader};
 use crate::text::first_line;
 use sd_base::{LineError, Refusal};
-use sd_forms::Line;
 use std::alloc::Global;
 use std::cmp;
 use std::marker::Model;
@@ -33,7 +33,7 @@ pub struct Script {
 
 impl Model for Script {
     ghost use Rattle.std.specs.Prelude.{List};
-    ghost use Rattle.sd_forms.specs.declared.line.Line.{Line};
+    ghost use Rattle.sd_script.specs.declared.line.Line.{Line};
 
     ghost Value = { List Line };
 

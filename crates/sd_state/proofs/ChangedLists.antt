@@ -1,42 +1,36 @@
 -- One more record of a log, an update: what the log tells then. For a change.
 use Rattle.sd_base.specs.declared.ids.Rid.{Rid}
 use Rattle.sd_chain.proofs.Newest.{at_is}
-use Rattle.sd_chain.specs.Images.{Grows, Tails}
-use Rattle.sd_chain.specs.Records.{at}
+use Rattle.sd_chain.specs.Images.{Grows, Keeps, Tails}
+use Rattle.sd_chain.specs.Records.{Each, at, ends, moved, step}
 use Rattle.sd_model.specs.Claims.{Claims}
 use Rattle.sd_page.specs.Page.{Page}
-use Rattle.sd_asks.specs.Asks.{is_open_ask, open_asks}
-use Rattle.sd_asks.specs.declared.queue.Ask.{Ask}
+use Rattle.sd_pagelock.specs.Asks.{is_open_ask, open_asks}
+use Rattle.sd_pagelock.specs.declared.queue.Ask.{Ask}
 use Rattle.sd_pagelock.specs.Directory.{DirectoryState, asks_at, entry_at}
-use Rattle.sd_places.specs.Places.{PageEntry}
-use Rattle.sd_places.specs.Rows.{dirtied}
-use Rattle.sd_sound.specs.Logs.{kept_logs}
-use Rattle.sd_state.specs.Values.{rid_of}
-use Rattle.std.proofs.Common.{◌≢◌, ◌⊎◌, ap₂, inl, inr}
-use Rattle.std.proofs.lemmas.Bool.{cases_eq}
-use Rattle.std.proofs.Common.{◌≡◌, ⊎_elim, ℕ, ◌≤◌, Bool, true, false, cond, List, [], ◌∷◌, ◌++◌, ◌||◌, map, refl, sym, ap, ◌∙◌, arith, append-nil, append_assoc, leb-true, subst}
+use Rattle.sd_pagelock.specs.Places.{PageEntry}
+use Rattle.sd_pagelock.specs.Rows.{dirtied}
+use Rattle.sd_chain.specs.Logs.{all_at, kept_logs, tail_at}
+use Rattle.sd_state.specs.Values.{Pending, as_done, decided, is_doubt, rid_of}
+use Rattle.std.proofs.Common.{◌≢◌, ◌⊎◌, ap₂, inl, inr, ◌≡◌, ⊎_elim, ℕ, ◌≤◌, Bool, true, false, cond, List, [], ◌∷◌, ◌++◌, ◌||◌, map, refl, sym, ap, ◌∙◌, arith, append-nil, append_assoc, leb-true, subst}
+use Rattle.std.proofs.lemmas.Bool.{cases_Bool, cases_eq}
 use Rattle.std.specs.Prelude.{Option, None, Some, filter, is_some, leb}
 use Rattle.std.specs.Option.{option_map_or}
 use Rattle.std.specs.List.{flat_map, list_any}
-use Rattle.std.proofs.lemmas.Bool.{cases_Bool}
 use mathlib.Core.Path.{fun_ext}
 use Rattle.sd_base.specs.declared.ids.TxnId.{TxnId}
 use Rattle.sd_logrec.specs.View.{Rec, flat}
 use Rattle.sd_model.specs.State.{State}
 use Rattle.sd_chain.specs.Fates.{commits}
 use Rattle.sd_chain.specs.Order.{Sofar, advance, after_all, none_yet, of_txn, span_from, span_of, spanned}
-use Rattle.sd_chain.specs.Records.{Each, ends, moved, step}
-use Rattle.sd_chain.specs.Images.{Keeps}
 use Rattle.sd_logrec.specs.Kept.{Group}
 use Rattle.sd_logrec.specs.declared.record.Record.{Record}
-use Rattle.sd_sound.specs.Logs.{all_at, tail_at}
 use Rattle.sd_state.specs.Images.{begun_at, log_by}
 use Rattle.sd_state.specs.Parts.{Parts, log_at, other_at}
 use Rattle.std.proofs.lemmas.List.{map-append}
 use Rattle.sd_base.specs.declared.place.Mode.TheVariants as modes
 use Rattle.sd_model.specs.declared.act.Claim.{Claim}
 use Rattle.sd_state.specs.Tables.{lock_of}
-use Rattle.sd_state.specs.Values.{Pending, as_done, decided, is_doubt}
 use Rattle.sd_state.specs.Good.{reaches}
 
 -- ---- spans

@@ -19,7 +19,7 @@ use Rattle.sd_txn.specs.declared.state.OpenRec.{OpenRec}
 use Rattle.sd_chain.specs.Fates.{fate}
 use Rattle.sd_chain.specs.Images.{Keeps}
 use Rattle.sd_chain.specs.Records.{Each, IsOpen, home, stack}
-use Rattle.sd_sound.specs.Logs.{Outcomes, all_at, base_at, kept_logs, tail_at, tails_of}
+use Rattle.sd_chain.specs.Logs.{Outcomes, all_at, base_at, kept_logs, tail_at, tails_of}
 use Rattle.sd_state.specs.Good.{Good}
 use Rattle.sd_state.specs.Images.{IsOpenIn, log_by}
 use Rattle.sd_state.specs.Parts.{Parts, among, log_at, no_txns, status_at, txns_at}

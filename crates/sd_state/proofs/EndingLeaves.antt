@@ -37,7 +37,7 @@ use Rattle.sd_chain.specs.Records.{Each, IsOpen, home, stack}
 use Rattle.sd_chain.proofs.Fates.{fate-open, none-unknown, open-endless}
 use Rattle.sd_chain.proofs.Lists.{Each-append, Each-front}
 use Rattle.sd_chain.proofs.Whose.{of_none, stack-none}
-use Rattle.sd_sound.specs.Logs.{Outcomes, all_at, base_at, kept_logs, tail_at, tails_of}
+use Rattle.sd_chain.specs.Logs.{Outcomes, all_at, base_at, kept_logs, tail_at, tails_of}
 use Rattle.sd_state.specs.Good.{Good}
 use Rattle.sd_state.specs.Images.{IsOpenIn, log_by}
 use Rattle.sd_state.specs.Parts.{Parts, is_loose, log_at, status_at, txns_at}

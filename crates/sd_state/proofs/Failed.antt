@@ -14,31 +14,32 @@ use Rattle.sd_model.specs.State.{State}
 use Rattle.sd_rig.specs.Devices as rig
 use Rattle.sd_chain.specs.Bytes.{disk_page}
 use Rattle.sd_chain.specs.Images.{Keeps}
-use Rattle.sd_coherent.specs.Changes as changes_law
+use Rattle.sd_chain.specs.AppendedRecords as changes_law
 use Rattle.sd_chain.specs.Laws.{May}
-use Rattle.sd_places.specs.Places.{PageEntry}
-use Rattle.sd_places.specs.Rows.{dirtied}
-use Rattle.sd_places.proofs.Members.{not_both}
-use Rattle.sd_places.proofs.Uses
-use Rattle.sd_coherent.specs.Coherent.{Coherent, Quiet}
-use Rattle.sd_coherent.specs.Forces.{failing}
-use Rattle.sd_coherent.specs.Named.{IsNamed}
-use Rattle.sd_coherent.specs.World.{Base, Dir, put_at}
-use Rattle.sd_coherent.proofs.Cases.{by_seat, the_same}
-use Rattle.sd_coherent.proofs.Changes.{rest-keeps}
-use Rattle.sd_coherent.proofs.Checkpoints.{cover-stays}
-use Rattle.sd_coherent.proofs.Forces as forces
-use Rattle.sd_coherent.proofs.Named.{may_be-named}
-use Rattle.sd_sound.specs.Logs.{LessElsewhere, Logs, Outcomes, may_of, past_at, tails_of}
-use Rattle.sd_sound.proofs.Changed.{may-less}
-use Rattle.sd_sound.proofs.Forces.{failed-keeps}
-use Rattle.sd_sound.proofs.Kept.{master-same}
-use Rattle.sd_sound.proofs.Outcomes.{less-same}
+use Rattle.sd_pagelock.specs.Places.{PageEntry}
+use Rattle.sd_pagelock.specs.Rows.{dirtied}
+use Rattle.sd_pagelock.proofs.Members.{not_both}
+use Rattle.sd_pagelock.proofs.Uses
+use Rattle.sd_chain.specs.Coherent.{Coherent, Quiet}
+use Rattle.sd_chain.specs.Forces.{failing}
+use Rattle.sd_chain.specs.Named.{IsNamed}
+use Rattle.sd_chain.specs.World.{Base, Dir, put_at}
+use Rattle.sd_chain.proofs.Cases.{by_seat, the_same}
+use Rattle.sd_chain.proofs.Changes.{rest-keeps}
+use Rattle.sd_chain.proofs.Checkpoints.{cover-stays}
+use Rattle.sd_chain.proofs.LogsSettled as forces
+use Rattle.sd_chain.proofs.Named.{may_be-named}
+use Rattle.sd_chain.specs.Logs.{LessElsewhere, Logs, Outcomes, may_of, past_at, tails_of}
+use Rattle.sd_chain.proofs.Changed.{may-less}
+use Rattle.sd_chain.proofs.Forces.{failed-keeps}
+use Rattle.sd_chain.proofs.Kept.{master-same}
+use Rattle.sd_chain.proofs.Outcomes.{less-same}
 use Rattle.sd_state.specs.Values.{Pending}
 use Rattle.sd_state.specs.Forcing.{ForcesNow, IsHalfForced, owed_either, with_failed}
 use Rattle.sd_state.specs.Good.{IsUnderWay, Good, Half, IsSettledAt, OwesAtMost, base_of, dir_of}
 use Rattle.sd_state.specs.Images.{IsEpochOf, leaves_by, log_by}
-use Rattle.sd_state.specs.Parts.{Parts, acting, active_as, actor, count_at, is_loose, log_at, other_at, owed_at, status_at, up_as}
+use Rattle.sd_state.specs.Parts.{Parts, acting, actor, count_at, is_loose, log_at, other_at, owed_at, status_at, up_as}
+use Rattle.sd_base.specs.Standing.{active_as}
 use Rattle.sd_state.proofs.Items.{item-kept, item-set}
 use Rattle.sd_state.proofs.Owed.{owed-forced}
 use Rattle.sd_state.proofs.Standing.{no-place, one-place}

@@ -35,19 +35,19 @@ use Rattle.sd_chain.proofs.Devices.{chosen_same, part_before}
 use Rattle.sd_chain.proofs.Fates.{committed-stays}
 use Rattle.sd_chain.proofs.Images as images
 use Rattle.sd_chain.proofs.Lists.{Each-front}
-use Rattle.sd_coherent.specs.Coherent.{Coherent}
-use Rattle.sd_coherent.specs.Forces as forced_law
-use Rattle.sd_coherent.specs.World.{Base, Dir}
-use Rattle.sd_coherent.specs.Named.{IsNamed}
-use Rattle.sd_coherent.proofs.Named.{settle-named}
-use Rattle.sd_coherent.proofs.Forces as forces
-use Rattle.sd_coherent.proofs.Checkpoints.{cover-settles}
-use Rattle.sd_coherent.proofs.Closed.{close-settles}
-use Rattle.sd_sound.specs.Logs.{LessElsewhere, Logs, Outcomes, all_at, base_at, kept_logs, may_of, past_at, tail_at, tails_of}
-use Rattle.sd_sound.proofs.Kept.{forced-base, forced-idle, forced-tail, master-same}
-use Rattle.sd_sound.proofs.Forces.{forced-keeps}
-use Rattle.sd_sound.proofs.Outcomes.{less-same}
-use Rattle.sd_sound.proofs.Changed.{may-less}
+use Rattle.sd_chain.specs.Coherent.{Coherent}
+use Rattle.sd_chain.specs.Forces as forced_law
+use Rattle.sd_chain.specs.World.{Base, Dir}
+use Rattle.sd_chain.specs.Named.{IsNamed}
+use Rattle.sd_chain.proofs.Named.{settle-named}
+use Rattle.sd_chain.proofs.LogsSettled as forces
+use Rattle.sd_chain.proofs.Checkpoints.{cover-settles}
+use Rattle.sd_chain.proofs.Closed.{close-settles}
+use Rattle.sd_chain.specs.Logs.{LessElsewhere, Logs, Outcomes, all_at, base_at, kept_logs, may_of, past_at, tail_at, tails_of}
+use Rattle.sd_chain.proofs.Kept.{forced-base, forced-idle, forced-tail, master-same}
+use Rattle.sd_chain.proofs.Forces.{forced-keeps}
+use Rattle.sd_chain.proofs.Outcomes.{less-same}
+use Rattle.sd_chain.proofs.Changed.{may-less}
 use Rattle.sd_state.specs.Forcing.{ForcesNow, IsForced, with_settled}
 use Rattle.sd_state.specs.Good.{IsOlder, Good, Half, IsInstance, IsKnownLsn, IsUnderWay, IsOfBegun, IsSettledAt, IsTold, OwesAtMost, base_of, dir_of, reaches}
 use Rattle.sd_state.specs.Images.{IsClaimed, IsEpochOf, IsOpenIn, begun_at, leaves_by, log_by}
@@ -56,7 +56,8 @@ use Rattle.sd_txn.specs.declared.state.TxnState.{TxnState}
 use Rattle.sd_txn.specs.Transactions.{Transaction, txn_at}
 use Rattle.sd_model.specs.declared.act.Life.{Life}
 use Rattle.sd_model.specs.declared.act.Claim.{Claim}
-use Rattle.sd_state.specs.Parts.{Begun, Parts, active_as, among, count_at, is_loose, log_at, no_log, no_pool, other_at, owed_at, txns_at, up_as, epoch_at}
+use Rattle.sd_state.specs.Parts.{Begun, Parts, among, count_at, is_loose, log_at, no_log, no_pool, other_at, owed_at, txns_at, up_as, epoch_at}
+use Rattle.sd_base.specs.Standing.{active_as}
 use Rattle.sd_state.proofs.Items.{item-kept, item-set}
 use Rattle.sd_state.proofs.Standing.{no-place, one-place}
 use Rattle.sd_state.proofs.Lasts.{last-forced}

@@ -34,16 +34,17 @@ use Rattle.sd_chain.specs.Undoing.{Member}
 use Rattle.sd_chain.proofs.Fates.{open-fate}
 use Rattle.sd_chain.proofs.Lists.{Each-weaker}
 use Rattle.sd_chain.proofs.Members.{open_in-is}
-use Rattle.sd_coherent.specs.Coherent.{Coherent}
-use Rattle.sd_coherent.proofs.Statuses.{status-keeps}
-use Rattle.sd_sound.specs.Logs.{Outcomes, all_at, may_of, past_at}
-use Rattle.sd_sound.specs.Soundly.{LogIsSound}
-use Rattle.sd_sound.proofs.Kept.{forced-idle}
-use Rattle.sd_sound.proofs.Next.{own-begun}
+use Rattle.sd_chain.specs.Coherent.{Coherent}
+use Rattle.sd_chain.proofs.Statuses.{status-keeps}
+use Rattle.sd_chain.specs.Logs.{Outcomes, all_at, may_of, past_at}
+use Rattle.sd_chain.specs.Soundly.{LogIsSound}
+use Rattle.sd_chain.proofs.Kept.{forced-idle}
+use Rattle.sd_chain.proofs.Next.{own-begun}
 use Rattle.sd_state.specs.Good.{IsOlder, IsStarting, Good, Half, RowsAreLive, IsInstance, IsOfBegun, IsTold, base_of, dir_of}
 use Rattle.sd_state.specs.Images.{IsEpochOf, leaves_by, log_by}
 use Rattle.sd_state.specs.Joining.{with_joined}
-use Rattle.sd_state.specs.Parts.{Parts, active_as, epoch_at, is_active, is_loose, is_up, log_at, status_at, txns_at, up_as}
+use Rattle.sd_state.specs.Parts.{Parts, epoch_at, is_active, is_loose, is_up, log_at, status_at, txns_at, up_as}
+use Rattle.sd_base.specs.Standing.{active_as}
 use Rattle.sd_state.specs.Tables.{GoesOn, NamesLife, RowIsLive, RowIsLogged, StandsAs, tells_log}
 use Rattle.sd_state.specs.Values.{Pending, starts_of}
 use Rattle.sd_state.proofs.Items.{item-kept, item-set}

@@ -10,12 +10,12 @@ use Rattle.sd_chain.specs.Checks.{Follow, Past, after_record, lsn_of, past_of}
 use Rattle.sd_chain.specs.Records.{Each}
 use Rattle.sd_chain.proofs.Lists.{Each-append, Each-weaker}
 use Rattle.sd_chain.proofs.Pasts.{lsn_after}
-use Rattle.sd_sound.specs.Logs.{after_records, all_at, next_lsn, past_at, records_at}
-use Rattle.sd_sound.specs.Soundly.{LogIsSound}
-use Rattle.sd_sound.proofs.Appends.{appended-records}
-use Rattle.sd_sound.proofs.Follows.{after-append, lsn-rises}
-use Rattle.sd_sound.proofs.Kept.{forced-idle, forced-tail}
-use Rattle.sd_sound.proofs.Lsns.{last-is, log-records}
+use Rattle.sd_chain.specs.Logs.{after_records, all_at, next_lsn, past_at, records_at}
+use Rattle.sd_chain.specs.Soundly.{LogIsSound}
+use Rattle.sd_chain.proofs.Appends.{appended-records}
+use Rattle.sd_chain.proofs.Follows.{after-append, lsn-rises}
+use Rattle.sd_chain.proofs.Kept.{forced-idle, forced-tail}
+use Rattle.sd_chain.proofs.Lsns.{last-is, log-records}
 
 each-last : (inst : ℕ) (chosen : Bool) (m : Master) (past : Past) (xs : List Record) → Follow inst chosen m past xs
     → Each (λ x. x.lsn ≤ (after_records past xs).lsn) (map flat xs)

@@ -12,11 +12,11 @@ use Rattle.sd_chain.specs.Bytes.{twin_at}
 use Rattle.sd_chain.specs.Checks.{IsPageSlot, TwinIsSound}
 use Rattle.sd_chain.specs.Images.{Keeps}
 use Rattle.sd_chain.proofs.Narrowed.{narrowed-gives, narrowed-safe}
-use Rattle.sd_coherent.specs.Changes as changes_law
-use Rattle.sd_coherent.specs.World.{Base}
-use Rattle.sd_coherent.proofs.Changes.{rest-keeps}
-use Rattle.sd_sound.specs.Logs.{Less, Outcomes, may_of}
-use Rattle.sd_sound.specs.Soundly.{IsSoundly}
+use Rattle.sd_chain.specs.AppendedRecords as changes_law
+use Rattle.sd_chain.specs.World.{Base}
+use Rattle.sd_chain.proofs.Changes.{rest-keeps}
+use Rattle.sd_chain.specs.Logs.{Less, Outcomes, may_of}
+use Rattle.sd_chain.specs.Soundly.{IsSoundly}
 use Rattle.sd_state.specs.Good.{Good, Half, base_of, dir_of}
 use Rattle.sd_state.specs.Images.{Stands, leaves_by, log_by}
 use Rattle.sd_state.specs.Parts.{Parts}

@@ -6,25 +6,25 @@ use Rattle.std.proofs.lemmas.List.{length-set}
 use Rattle.sd_base.specs.declared.place.Mode.{Mode}
 use Rattle.sd_page.specs.Page.{Page}
 use Rattle.sd_model.specs.State.{State}
-use Rattle.sd_asks.specs.declared.queue.Ask.{Ask}
-use Rattle.sd_asks.specs.Asks.{is_open_ask}
+use Rattle.sd_pagelock.specs.declared.queue.Ask.{Ask}
+use Rattle.sd_pagelock.specs.Asks.{is_open_ask}
 use Rattle.sd_pagelock.specs.Directory as directory
 use Rattle.sd_pagelock.specs.Directory.{DirectoryState, asks_at, entry_at, kept_rec, rec_lsn_at}
-use Rattle.sd_places.specs.Places.{PageEntry, changed, is_free}
-use Rattle.sd_places.specs.Rows.{locked}
-use Rattle.sd_places.proofs.Uses.{clean-locked}
+use Rattle.sd_pagelock.specs.Places.{PageEntry, changed, is_free}
+use Rattle.sd_pagelock.specs.Rows.{locked}
+use Rattle.sd_pagelock.proofs.Uses.{clean-locked}
 use Rattle.sd_pool.specs.Buffers as buffers
 use Rattle.sd_pool.specs.Buffers.{Buffers}
 use Rattle.sd_rig.specs.Devices as rig
 use Rattle.sd_chain.specs.Bytes.{disk_page}
 use Rattle.sd_chain.specs.Images.{Keeps}
 use Rattle.sd_chain.specs.Records.{Each}
-use Rattle.sd_coherent.specs.Changes as changes_law
-use Rattle.sd_coherent.specs.Coherent.{Coherent}
-use Rattle.sd_coherent.specs.World.{Base}
-use Rattle.sd_coherent.proofs.Changes.{rest-keeps}
-use Rattle.sd_coherent.proofs.Moves.{lock-keeps, row_keeps-rec}
-use Rattle.sd_sound.specs.Logs.{Outcomes, may_of}
+use Rattle.sd_chain.specs.AppendedRecords as changes_law
+use Rattle.sd_chain.specs.Coherent.{Coherent}
+use Rattle.sd_chain.specs.World.{Base}
+use Rattle.sd_chain.proofs.Changes.{rest-keeps}
+use Rattle.sd_chain.proofs.Moves.{lock-keeps, row_keeps-rec}
+use Rattle.sd_chain.specs.Logs.{Outcomes, may_of}
 use Rattle.sd_state.specs.Good.{Good, Half, IsUnderWay, base_of, dir_of}
 use Rattle.sd_state.specs.Images.{leaves_by, log_by}
 use Rattle.sd_state.specs.Locking.{IsSet, with_place}

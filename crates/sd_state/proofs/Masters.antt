@@ -3,8 +3,8 @@ use Rattle.std.proofs.Common.{◌≡◌, ◌≢◌, ⊎_elim, ℕ, ◌≤◌, Li
 use Rattle.std.proofs.lemmas.Bool.{cases_eq}
 use Rattle.sd_logrec.specs.Kept.{master}
 use Rattle.sd_rig.specs.Devices.{AgreesOutside, LeavesSame}
-use Rattle.sd_sound.proofs.Kept.{master-same}
-use Rattle.sd_sound.specs.Logs.{Outcomes}
+use Rattle.sd_chain.proofs.Kept.{master-same}
+use Rattle.sd_chain.specs.Logs.{Outcomes}
 use Rattle.sd_state.specs.Forcing.{KeepMasters}
 
 -- where at most as much may be left of each log

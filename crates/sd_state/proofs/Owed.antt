@@ -10,8 +10,8 @@ use Rattle.sd_txn.specs.Owing.{owed_of}
 use Rattle.sd_chain.specs.Bytes.{disk_page}
 use Rattle.sd_chain.specs.Checks.{owed}
 use Rattle.sd_chain.specs.Images.{Keeps, all_kept}
-use Rattle.sd_sound.specs.Logs.{Outcomes, all_at, base_at}
-use Rattle.sd_sound.proofs.Lsns.{owed-one_within}
+use Rattle.sd_chain.specs.Logs.{Outcomes, all_at, base_at}
+use Rattle.sd_chain.proofs.Lsns.{owed-one_within}
 use Rattle.sd_state.specs.Values.{Pending}
 use Rattle.sd_state.specs.Forcing.{owed_as, owed_by}
 use Rattle.sd_state.specs.Good.{Good, Half}

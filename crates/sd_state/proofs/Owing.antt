@@ -10,7 +10,7 @@ use Rattle.sd_rig.specs.Devices as rig
 use Rattle.sd_txn.specs.Owing.{owed_of}
 use Rattle.sd_chain.specs.Checks.{owed}
 use Rattle.sd_chain.specs.Images.{Keeps}
-use Rattle.sd_sound.specs.Logs.{Logs, Outcomes, all_at, base_at, eight, most_owed, tails_of}
+use Rattle.sd_chain.specs.Logs.{Logs, Outcomes, all_at, base_at, eight, most_owed, tails_of}
 use Rattle.sd_state.specs.Good.{Good, OwesAtMost}
 use Rattle.sd_state.specs.Images.{log_by}
 use Rattle.sd_state.specs.Parts.{Parts, is_loose, log_at, owed_at, status_at, txns_at}

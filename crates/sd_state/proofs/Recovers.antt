@@ -21,18 +21,19 @@ use Rattle.sd_chain.specs.Checks.{owed}
 use Rattle.sd_chain.specs.Images.{Keeps}
 use Rattle.sd_chain.proofs.Lists.{Each-weaker}
 use Rattle.sd_chain.specs.Records.{Each}
-use Rattle.sd_coherent.specs.Changes as changes_law
-use Rattle.sd_coherent.specs.Coherent.{Coherent}
-use Rattle.sd_coherent.specs.Falls.{begun}
-use Rattle.sd_coherent.specs.World.{Base, put_at}
-use Rattle.sd_coherent.proofs.Changes.{rest-keeps}
-use Rattle.sd_coherent.proofs.Falls.{begin-keeps}
-use Rattle.sd_sound.specs.Logs.{all_at, Outcomes, base_at, may_of}
+use Rattle.sd_chain.specs.AppendedRecords as changes_law
+use Rattle.sd_chain.specs.Coherent.{Coherent}
+use Rattle.sd_chain.specs.Falls.{begun}
+use Rattle.sd_chain.specs.World.{Base, put_at}
+use Rattle.sd_chain.proofs.Changes.{rest-keeps}
+use Rattle.sd_chain.proofs.Falls.{begin-keeps}
+use Rattle.sd_chain.specs.Logs.{all_at, Outcomes, base_at, may_of}
 use Rattle.sd_state.specs.Good.{IsOfBegun, Good, Half, IsInstance, OwesAtMost, base_of, dir_of}
 use Rattle.sd_state.specs.Images.{IsEpochOf, leaves_by, log_by}
 use Rattle.sd_state.specs.Tables.{tells_log}
 use Rattle.sd_txn.specs.Transactions.{begins_in}
-use Rattle.sd_state.specs.Parts.{Parts, active_as, is_active, is_loose, is_up, log_at, owed_at, status_at, txns_at, up_as}
+use Rattle.sd_state.specs.Parts.{Parts, is_active, is_loose, is_up, log_at, owed_at, status_at, txns_at, up_as}
+use Rattle.sd_base.specs.Standing.{active_as}
 use Rattle.sd_state.specs.Recovering.{recovers, with_recovering}
 use Rattle.sd_state.specs.Values.{Pending}
 use Rattle.sd_state.proofs.Items.{item-kept, item-set}

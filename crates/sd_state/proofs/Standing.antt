@@ -19,15 +19,15 @@ use Rattle.sd_chain.specs.Fates.{Fate, fate}
 use Rattle.sd_chain.specs.Storage.{Recovered}
 use Rattle.sd_chain.specs.Images.{Keeps}
 use Rattle.sd_chain.specs.Records.{Val, home}
-use Rattle.sd_coherent.proofs.Crashes as crashes
-use Rattle.sd_coherent.proofs.Newest as newest
+use Rattle.sd_chain.proofs.Crashes as crashes
+use Rattle.sd_chain.proofs.OneUpdater as newest
 use Rattle.sd_txn.specs.Transactions.{Transactions, state_at}
-use Rattle.sd_sound.specs.Logs.{Logs, Outcomes, after_records, base_at, kept_logs, may_of, past_at, tails_of}
-use Rattle.sd_sound.specs.Soundly.{IsReady}
-use Rattle.sd_sound.proofs.Forces.{force-left}
-use Rattle.sd_sound.proofs.Kept.{forced-start, kept-is, master-same}
-use Rattle.sd_sound.proofs.Ready.{forced-ready}
-use Rattle.sd_sound.proofs.Soundly.{between-left, logs-ready}
+use Rattle.sd_chain.specs.Logs.{Logs, Outcomes, after_records, base_at, kept_logs, may_of, past_at, tails_of}
+use Rattle.sd_chain.specs.Soundly.{IsReady}
+use Rattle.sd_chain.proofs.Forces.{force-left}
+use Rattle.sd_chain.proofs.Kept.{forced-start, kept-is, master-same}
+use Rattle.sd_chain.proofs.Ready.{forced-ready}
+use Rattle.sd_chain.proofs.ChecksPass.{between-left, logs-ready}
 use Rattle.sd_state.specs.Good.{Good, Half, IsKnownLsn, NoneIsFound, base_of, dir_of, reaches}
 use Rattle.sd_state.specs.Images.{IsClaimed, IsEpochOf, Stands, begun_at, kept_epoch, leaves_by, log_by}
 use Rattle.sd_state.specs.Laws.{EachCopyIsNewest, ForceLeftStands, LeftStands, OneMayUpdate}

@@ -39,7 +39,7 @@ use Rattle.sd_chain.specs.Records.{Each, home}
 use Rattle.sd_chain.proofs.Fates.{none-unknown}
 use Rattle.sd_chain.proofs.Lists.{Each-append, Each-front, Each-weaker}
 use Rattle.sd_chain.proofs.Whose.{both, none_of, none_open, own_is, stack-none}
-use Rattle.sd_sound.specs.Logs.{Outcomes, all_at, base_at, kept_logs, tail_at, tails_of}
+use Rattle.sd_chain.specs.Logs.{Outcomes, all_at, base_at, kept_logs, tail_at, tails_of}
 use Rattle.sd_state.specs.Good.{Good, IsOfBegun}
 use Rattle.sd_state.specs.Parts.{Parts, among, epoch_at, log_at, no_txns, status_at, txns_at}
 use Rattle.sd_state.specs.Images.{log_by}

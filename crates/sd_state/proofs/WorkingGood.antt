@@ -26,7 +26,7 @@ use Rattle.sd_chain.specs.Storage.{Recovered}
 use Rattle.sd_chain.specs.Images.{Keeps, with_disk}
 use Rattle.sd_chain.specs.Records.{Each, IsOpen, home, stack}
 use Rattle.sd_chain.proofs.Lists.{Each-weaker}
-use Rattle.sd_sound.specs.Logs.{Logs, Outcomes, all_at, base_at, kept_logs, tail_at, tails_of}
+use Rattle.sd_chain.specs.Logs.{Logs, Outcomes, all_at, base_at, kept_logs, tail_at, tails_of}
 use Rattle.sd_state.specs.Good.{Good, Half, IsInstance, IsOfBegun, IsTold, HasNumber}
 use Rattle.sd_state.specs.Images.{IsClaimed, IsEpochOf, IsOpenIn, leaves_by, log_by}
 use Rattle.sd_state.specs.Parts.{Parts, is_loose, log_at, no_txns, among, status_at, txns_at, up_as}

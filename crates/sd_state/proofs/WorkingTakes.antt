@@ -36,7 +36,7 @@ use Rattle.sd_txn.specs.declared.state.TxnState.{TxnState}
 use Rattle.sd_chain.specs.Fates.{Fate, fate}
 use Rattle.sd_chain.specs.Records.{Each, home, stack}
 use Rattle.sd_chain.proofs.Lists.{Each-weaker}
-use Rattle.sd_sound.specs.Logs.{Outcomes, all_at, base_at, kept_logs, tail_at, tails_of}
+use Rattle.sd_chain.specs.Logs.{Outcomes, all_at, base_at, kept_logs, tail_at, tails_of}
 use Rattle.sd_state.specs.Good.{Good, Half}
 use Rattle.sd_state.specs.Images.{leaves_by, log_by}
 use Rattle.sd_state.specs.Parts.{Parts, log_at, status_at, txns_at}

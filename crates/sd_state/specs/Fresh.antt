@@ -3,11 +3,11 @@ use Rattle.std.specs.Prelude.{◌≡◌, ℕ, zero, suc, ◌≤◌, false, List,
 use Rattle.sd_base.specs.declared.place.Status.TheVariants as S
 use Rattle.sd_pagelock.specs.Directory as directory
 use Rattle.sd_pagelock.specs.Directory.{asks_at, entry_at, rec_lsn_at}
-use Rattle.sd_places.specs.Places.{PageEntry}
+use Rattle.sd_pagelock.specs.Places.{PageEntry}
 use Rattle.sd_pool.specs.Buffers.{Buffers}
 use Rattle.sd_rig.specs.Devices as rig
 use Rattle.sd_rig.specs.Devices.{LeavesOnly}
-use Rattle.sd_sound.specs.Logs.{IsBlank, Outcomes, new_log}
+use Rattle.sd_chain.specs.Logs.{IsBlank, Outcomes, new_log}
 use Rattle.sd_txn.specs.Transactions.{Transactions}
 use Rattle.sd_state.specs.Parts.{Begun, Parts}
 

@@ -19,7 +19,7 @@ use Rattle.sd_model.specs.State.{State}
 use Rattle.sd_model.specs.declared.act.Claim.{Claim}
 use Rattle.sd_model.specs.declared.act.Inst.{Inst}
 use Rattle.sd_model.specs.declared.act.Life.{Life}
-use Rattle.sd_asks.specs.Asks.{is_open_ask}
+use Rattle.sd_pagelock.specs.Asks.{is_open_ask}
 use Rattle.sd_pagelock.specs.Directory as directory
 use Rattle.sd_pagelock.specs.Directory.{asks_at, entry_at, rec_lsn_at}
 use Rattle.sd_pool.specs.Buffers as buffers
@@ -35,12 +35,12 @@ use Rattle.sd_chain.specs.Fates.{fate}
 use Rattle.sd_chain.specs.Images.{Gives, Keeps}
 use Rattle.sd_chain.specs.Order.{speaks}
 use Rattle.sd_chain.specs.Records.{Each, IsOpen, home, stack}
-use Rattle.sd_coherent.specs.Checkpoints.{Closed, Covered}
-use Rattle.sd_coherent.specs.Coherent.{Coherent}
-use Rattle.sd_coherent.specs.Named.{version_of}
-use Rattle.sd_coherent.specs.World.{Base, Dir}
-use Rattle.sd_sound.specs.Logs.{Logs, Outcomes, all_at, base_at, kept_logs, may_of, past_at, tails_of}
-use Rattle.sd_sound.specs.Soundly.{IsSoundly}
+use Rattle.sd_chain.specs.Checkpoints.{Closed, Covered}
+use Rattle.sd_chain.specs.Coherent.{Coherent}
+use Rattle.sd_chain.specs.Named.{version_of}
+use Rattle.sd_chain.specs.World.{Base, Dir}
+use Rattle.sd_chain.specs.Logs.{Logs, Outcomes, all_at, base_at, kept_logs, may_of, past_at, tails_of}
+use Rattle.sd_chain.specs.Soundly.{IsSoundly}
 use Rattle.sd_state.specs.Images.{IsClaimed, IsEpochOf, IsOpenIn, leaves_by, log_by}
 use Rattle.sd_state.specs.Parts.{Begun, IsShape, Parts, check_at, count_at, epoch_at, is_active, is_loose, is_up, log_at, other_at, owed_at, pool_at, status_at, txns_at}
 use Rattle.sd_state.specs.Tables.{GoesOn, NamedOnce, NamesLife, RowIsLive, RowIsLogged, lock_of, tells_log}

@@ -15,7 +15,7 @@ use Rattle.sd_chain.specs.Fates.{Fate, fate}
 use Rattle.sd_chain.specs.Storage.{Recovered}
 use Rattle.sd_chain.specs.Images.{Keeps}
 use Rattle.sd_chain.specs.Records.{Each, home, stack}
-use Rattle.sd_sound.specs.Logs.{Logs, Outcomes, after_records}
+use Rattle.sd_chain.specs.Logs.{Logs, Outcomes, after_records}
 use Rattle.sd_state.specs.Parts.{Parts, log_at, other_at}
 use Rattle.sd_state.specs.Values.{Pending, rid_of, starts_of, values}
 

@@ -4,12 +4,12 @@ use Rattle.sd_page.specs.Page.{Page}
 use Rattle.sd_log.specs.Forces.{Forces}
 use Rattle.sd_model.specs.State.{State}
 use Rattle.sd_pagelock.specs.Directory.{entry_at}
-use Rattle.sd_places.specs.Places.{holds, owns}
+use Rattle.sd_pagelock.specs.Places.{holds, owns}
 use Rattle.sd_pool.specs.Buffers as buffers
 use Rattle.sd_rig.specs.Devices as rig
-use Rattle.sd_sound.specs.Logs.{Outcomes}
-use Rattle.sd_coherent.specs.Newest.{IsAlone}
-use Rattle.sd_coherent.specs.World.{newest_version}
+use Rattle.sd_chain.specs.Logs.{Outcomes}
+use Rattle.sd_chain.specs.Newest.{IsAlone}
+use Rattle.sd_chain.specs.World.{newest_version}
 use Rattle.sd_state.specs.Good.{Good, base_of, dir_of}
 use Rattle.sd_state.specs.Images.{Stands}
 use Rattle.sd_state.specs.Values.{Pending}

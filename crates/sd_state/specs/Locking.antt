@@ -1,9 +1,9 @@
 -- A page comes into a pool, or changes its place in the directory.
 use Rattle.std.specs.Prelude.{◌≡◌, ◌≢◌, ℕ, ◌-◌, Option, slice_set}
 use Rattle.sd_page.specs.Page.{Page}
-use Rattle.sd_asks.specs.Asks.{open_asks}
+use Rattle.sd_pagelock.specs.Asks.{open_asks}
 use Rattle.sd_pagelock.specs.Directory.{DirectoryState, asks_at, entry_at, kept_rec, rec_lsn_at}
-use Rattle.sd_places.specs.Places.{PageEntry, changed}
+use Rattle.sd_pagelock.specs.Places.{PageEntry, changed}
 use Rattle.sd_pool.specs.Buffers.{Buffers}
 use Rattle.sd_state.specs.Parts.{Parts}
 

@@ -1,6 +1,5 @@
 -- What clauses read of a complex: its parts, those of the instances by their numbers.
-use Rattle.std.specs.Prelude.{ℕ, zero, suc, ◌≤◌, Bool, true, false, List, [], Option, None, get_or, eqb, length}
-use Rattle.std.specs.Prelude.{◌≡◌}
+use Rattle.std.specs.Prelude.{ℕ, zero, suc, ◌≤◌, Bool, true, false, List, [], Option, None, get_or, eqb, length, ◌≡◌}
 use Rattle.sd_base.specs.declared.place.Status.{Status}
 use Rattle.sd_base.specs.declared.place.Status.TheVariants as S
 use Rattle.sd_log.specs.Logs.{LogState}
@@ -8,7 +7,7 @@ use Rattle.sd_page.specs.Page.{Page}
 use Rattle.sd_pagelock.specs.Directory.{DirectoryState}
 use Rattle.sd_pool.specs.Buffers.{Buffers}
 use Rattle.sd_reclock.specs.Locks.{LockTable}
-use Rattle.sd_sound.specs.Logs.{Logs}
+use Rattle.sd_chain.specs.Logs.{Logs}
 use Rattle.sd_txn.specs.Transactions.{Transactions}
 
 -- a checkpoint that is begun: the LSN of its begin, and the low below which its log isn't needed once it ends
@@ -85,15 +84,6 @@ owed_at c j = among 0 c.owed j
 -- a device isn't settled; there are none above 8
 abbrev pub is_loose : Parts → ℕ → Bool
 is_loose c d = get_or c.loose d true
-
--- an instance in this status may have pages
-abbrev pub active_as : ℕ → Status → Bool
-active_as i S.Up = true
-active_as i S.Down = false
-active_as i (S.Recovering by) = eqb by i
-active_as i S.Clean = false
-active_as i S.Restarting = true
-active_as i S.Closed = false
 
 -- an instance in this status may append to its log
 abbrev pub up_as : Status → Bool

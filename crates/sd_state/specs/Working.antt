@@ -14,7 +14,7 @@ use Rattle.sd_model.specs.declared.act.Act.{Act}
 use Rattle.sd_model.specs.declared.act.Life.{Life}
 use Rattle.sd_reclock.specs.Locks.{LockTable, held, raised, stands, wait_for}
 use Rattle.sd_rig.specs.Devices as rig
-use Rattle.sd_sound.specs.Logs.{Outcomes}
+use Rattle.sd_chain.specs.Logs.{Outcomes}
 use Rattle.sd_state.specs.Good.{Good}
 use Rattle.sd_txn.specs.Owing.{bytes_owed, owed_of, records_owed, reserve_of}
 use Rattle.sd_txn.specs.Transactions.{OthersStay, Transaction, Transactions, txn_at, without}

@@ -8,7 +8,7 @@ ghost use Rattle.sd_base.specs.declared.place.Status.TheVariants as S;
 ghost use Rattle.sd_chain.specs.Records.{IsOpen};
 ghost use Rattle.sd_model.specs.State.{State, committed, gone, put_part};
 ghost use Rattle.sd_reclock.specs.Locks.{held, waits};
-ghost use Rattle.sd_sound.specs.Logs.{all_at};
+ghost use Rattle.sd_chain.specs.Logs.{all_at};
 ghost use Rattle.sd_state.specs.Complexes.{parts};
 ghost use Rattle.sd_state.specs.Good.{Good};
 ghost use Rattle.sd_state.specs.Parts.{IsShape, log_at, status_at, txns_at};

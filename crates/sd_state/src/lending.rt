@@ -2,7 +2,7 @@
 
 ghost use Rattle.std.specs.Prelude.{◌≡◌};
 ghost use Rattle.sd_pagelock.specs.Directory.{entry_at};
-ghost use Rattle.sd_places.specs.Places.{seen};
+ghost use Rattle.sd_pagelock.specs.Places.{seen};
 ghost use Rattle.sd_state.specs.Complexes.{parts};
 ghost use Rattle.sd_state.specs.Parts.{IsShape, log_at, status_at, txns_at};
 

@@ -4,13 +4,13 @@ ghost use Rattle.std.specs.Prelude.{◌≡◌, ◌⊎◌, ℕ, ◌≤◌, true, 
 ghost use Rattle.sd_base.specs.Streams.{Rises};
 ghost use Rattle.sd_base.specs.declared.refusal.Refusal.TheVariants as R;
 ghost use Rattle.sd_chain.specs.Bytes.{disk_page, page_in};
-ghost use Rattle.sd_gate.specs.Slots.{named_body};
+ghost use Rattle.sd_rig.specs.Slots.{named_body};
 ghost use Rattle.sd_model.specs.State.{State};
 ghost use Rattle.sd_page.specs.Reading.{page_of};
 ghost use Rattle.sd_page.specs.Spelling.{WellFormed};
 ghost use Rattle.sd_pagelock.specs.Directory.{entry_at, moving_image_at};
-ghost use Rattle.sd_places.specs.Places.{PageEntry};
-ghost use Rattle.sd_places.specs.Rows.{locked};
+ghost use Rattle.sd_pagelock.specs.Places.{PageEntry};
+ghost use Rattle.sd_pagelock.specs.Rows.{locked};
 ghost use Rattle.sd_pool.specs.Buffers.{LacksFrame, with_page};
 ghost use Rattle.sd_rig.specs.Devices.{IsUnchanged, Span};
 ghost use Rattle.sd_state.specs.Complexes.{parts};
@@ -24,8 +24,7 @@ use crate::complex::Complex;
 use sd_base::{InstNo, Memory, Mode, PageNo, Refusal};
 use sd_page::{Image, PAGE_BYTES};
 use sd_pagelock::rows::locked;
-use sd_rig::Rig;
-use sd_twin::{Chosen, Twin, choose};
+use sd_rig::{Chosen, Rig, Twin, choose};
 
 /// The length of both slots of a page, each a gate byte and an image.
 const SLOTS: usize = 2 * (PAGE_BYTES + 1);
@@ -110,6 +109,6 @@ fn image_in(body: &[u8], p: PageNo) -> Image
     ensures { result ≡ page_of body.now }
 {
     let image = Image::check(body, p).unwrap();
-    let _whole = image.bytes();
+    image.keeps();
     image
 }

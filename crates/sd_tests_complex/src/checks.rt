@@ -8,11 +8,10 @@ ghost use Rattle.sd_one.specs.Ready.{IsReady};
 
 use sd_base::InstNo;
 use sd_logrec::{MAX_LSN, Record};
-use sd_one::{Stop, first};
-use sd_ready::{is_up, lacked};
+use sd_one::{Stop, first, is_up, lacked};
 use sd_rig::Rig;
-use sd_seals::seal_check;
 use sd_state::Complex;
+use sd_update::seal_check;
 
 /// The first record of a checkpoint comes to the log of the instance; once more where there was no memory. `Odd` where the
 /// instance isn't up, or the log has come to the last LSN.

@@ -1,9 +1,8 @@
 //! A complex is made on blank devices where there is memory, and a log of it is forced.
 
 use sd_base::{InstNo, Refusal};
-use sd_one::Stop;
-use sd_opened::fresh;
-use sd_ready::blank;
+use sd_moves::fresh;
+use sd_one::{Stop, blank};
 use sd_state::{Complex, Shape};
 use std::alloc::Global;
 

@@ -9,12 +9,11 @@ use crate::checks::checked;
 use crate::seeing::{Seen, seen};
 use sd_base::{Refusal, Rid, Status, TxnId};
 use sd_logrec::AREA;
-use sd_one::{Stop, first, roll_back_whole};
-use sd_ready::{begun, blank, get_page, record, written};
+use sd_one::{Stop, begun, blank, first, get_page, record, roll_back_whole, written};
 use sd_restart::reopen;
 use sd_rig::{MemRig, Rig};
-use sd_seals::seal_start;
 use sd_state::{Complex, Shape};
+use sd_update::seal_start;
 use std::alloc::Global;
 
 // The group of a Start of epoch 1, whose LSN is four below the greatest.

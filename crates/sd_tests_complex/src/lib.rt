@@ -3,13 +3,9 @@
 //! Stands on: sd_base, sd_logrec, sd_rig, sd_log, sd_state, sd_restart, sd_seals, sd_opened, sd_fits, sd_one, sd_ready.
 #![tactic(auto)]
 
-#[cfg(test)]
 mod checks;
-#[cfg(test)]
 mod complexes;
-#[cfg(test)]
+mod crashes;
 mod last_lsns;
-#[cfg(test)]
 mod seeing;
-#[cfg(test)]
 mod works;

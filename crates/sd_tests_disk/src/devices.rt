@@ -8,8 +8,8 @@ ghost use Rattle.sd_recovered.specs.Devices.{AreDevices};
 use sd_base::{Bytes, InstNo, Memory, Refusal};
 use sd_log::ReadLog;
 use sd_logrec::AREA;
+use sd_recovered::{Scanned, scan};
 use sd_rig::device_len;
-use sd_scan::{Scanned, scan};
 use std::alloc::Global;
 
 /// Bytes at a place of a device.

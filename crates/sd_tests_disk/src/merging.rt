@@ -7,7 +7,7 @@ use crate::bytes_by_hand::{LOSER, WORKED};
 use crate::devices::log_of;
 use sd_base::{InstNo, Memory, PageNo, Refusal};
 use sd_log::Log;
-use sd_merge::merge_page;
+use sd_redo::merge_page;
 use std::alloc::Global;
 use std::test::Fail;
 

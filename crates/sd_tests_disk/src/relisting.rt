@@ -1,15 +1,14 @@
 //! A log by hand that leaves a transaction open, what ends it, and the table made from it.
 
 ghost use Rattle.std.specs.Prelude.{◌≡◌, map, IfOk};
-ghost use Rattle.sd_analysis.specs.Losers.{AreLosers};
+ghost use Rattle.sd_recovered.specs.Losers.{AreLosers};
 ghost use Rattle.sd_log.specs.Logs.{AreSpelled};
 
 use crate::bytes_by_hand::LOSER;
 use crate::devices::log_of;
-use sd_analysis::{AnalysisError, Losers, analyse, owed, reserve};
 use sd_base::{InstNo, Memory, TxnId, lent_value};
 use sd_log::Placed;
-use sd_relist::relist;
+use sd_recovered::{AnalysisError, Losers, analyse, owed, relist, reserve};
 use sd_txn::{TxnState, TxnTable};
 use std::alloc::Global;
 use std::test::Fail;

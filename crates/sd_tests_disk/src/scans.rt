@@ -3,7 +3,7 @@
 use crate::bytes_by_hand::{NEW_SLOT, OLD_SLOT, THREE_GROUPS};
 use crate::devices::{bytes_at, device, log};
 use sd_base::InstNo;
-use sd_scan::{MasterRecord, Scanned, scan};
+use sd_recovered::{MasterRecord, Scanned, scan};
 use std::test::Fail;
 
 // Whether the records stand at their places, and this is the master that counts.

@@ -1,7 +1,7 @@
 //! Events and replies of worked runs, built from short words.
 
 ghost use Rattle.std.specs.Prelude.{IfOk, IfSome};
-ghost use Rattle.sd_hall.specs.Passed.{IsServed};
+ghost use Rattle.sd_hall.specs.Served.{IsServed};
 
 use sd_base::{
     Bytes, InstNo, InstSet, Memory, Mode, PageNo, Pick, Place, Refusal, Rid, Status, Trouble,

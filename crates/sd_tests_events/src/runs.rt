@@ -3,7 +3,7 @@
 ghost use Rattle.std.specs.Prelude.{◌≤◌, IfOk, IfSome, OnOk};
 ghost use Rattle.sd_world.specs.Serving.{Core, telling};
 ghost use Rattle.sd_hall.specs.Keeping.{Keeps};
-ghost use Rattle.sd_hall.specs.Passed.{IsServed};
+ghost use Rattle.sd_hall.specs.Served.{IsServed};
 
 use crate::faults::FAULTS;
 use crate::faults::KEPT;

@@ -3,13 +3,16 @@
 //! Stands on: sd_base, sd_page, sd_logrec, sd_rig, sd_log, sd_pool, sd_txn, sd_reclock, sd_places, sd_pagelock.
 #![tactic(auto)]
 
-#[cfg(test)]
 mod directory;
-#[cfg(test)]
+mod events;
+mod files;
+mod gates;
 mod locks;
-#[cfg(test)]
 mod logs;
-#[cfg(test)]
+mod pages;
 mod pools;
-#[cfg(test)]
+mod records;
+mod rigs;
+mod twins;
 mod txns;
+mod words;

@@ -15,9 +15,8 @@ use crate::entries::{
     FAR, JudgedLine, MAKER, NEAR, ONE, Say, THIRD, TWO, Who, event, outcome, reply, told,
 };
 use sd_base::{Memory, Pick};
-use sd_judge::Judge;
 use sd_model::{Event, Rows};
-use sd_oracle::Verdict;
+use sd_oracle::{Judge, Verdict};
 use std::process::Abort;
 use std::test::Fail;
 

@@ -12,8 +12,7 @@ use crate::entries::Why::{
 };
 use crate::entries::{FAR, MAKER, NEAR, ONE, Say, TWO, Who, reply, txn};
 use sd_base::{Duplicate, LineError, Memory, PageNo, Trouble};
-use sd_book::Told;
-use sd_model::{Entry, Event};
+use sd_model::{Entry, Event, Told};
 use sd_report::{bad_line, in_order, render};
 use sd_script::{Form, Kind, Line, Script};
 use std::process::Abort;

@@ -1,9 +1,8 @@
 //! Commands with what they write, streams and devices that fail.
 
 use sd_base::{MemSink, MemSource, OpenGate, Pick, Trouble};
-use sd_command::place;
 use sd_rig::{MemRig, Rig};
-use sd_top::{Status, top};
+use sd_top::{Status, place, top};
 use std::alloc::Global;
 use std::test::Fail;
 

@@ -13,7 +13,7 @@ use Rattle.sd_model.specs.SerialLaws.{RunIsSerial}
 use Rattle.sd_chain.specs.Checks.{DevicesAreSound}
 use Rattle.sd_chain.specs.Faults.{FailsFirstAt}
 use Rattle.sd_recovered.specs.Devices.{IsRecovered}
-use Rattle.sd_forms.specs.declared.line.Line.{Line}
+use Rattle.sd_script.specs.declared.line.Line.{Line}
 use Rattle.sd_script.specs.Order.{insts_of, pages_of}
 use Rattle.sd_script.specs.Reading.{IsScript, IsBadAt}
 use Rattle.sd_script.proofs.Readings.{no_bad_script}
@@ -24,19 +24,22 @@ use Rattle.sd_fits.specs.declared.body.Body.{Body}
 use Rattle.sd_fits.specs.Bodies.{rig_of}
 use Rattle.sd_fits.specs.Opened.{opening_core}
 use Rattle.sd_fits.proofs.Opened.{is-opened}
-use Rattle.sd_drive.specs.Passed.{Hall, IsRigIn, Keeps, fits_in}
-use Rattle.sd_drive.specs.Passed.Driving.{IsTold, World}
-use Rattle.sd_drive.specs.Passed.Driven.{IsIn}
-use Rattle.sd_drive.specs.Passed.{Rise, before, begin_of}
+use Rattle.sd_hall.specs.declared.hall.Hall.{Hall}
+use Rattle.sd_hall.specs.Bodies.{IsRigIn, fits_in}
+use Rattle.sd_hall.specs.Keeping.{Keeps}
+use Rattle.sd_drive.specs.Driving.{IsTold, World}
+use Rattle.sd_drive.specs.Driven.{IsIn}
+use Rattle.sd_drive.specs.declared.opening.Rise.{Rise}
+use Rattle.sd_drive.specs.Rising.{before, begin_of}
 use Rattle.sd_drive.specs.Reaching.{Reached}
-use Rattle.sd_drive.specs.Passed.Running.{Breaks, Led, Start}
+use Rattle.sd_drive.specs.Running.{Breaks, Led, Start}
 use Rattle.sd_drive.specs.declared.driver.Driver.{Driver}
-use Rattle.sd_drive.proofs.Passed.Running.{drives-leads, ran-led}
-use Rattle.sd_status.specs.declared.status.Status.{Status}
-use Rattle.sd_status.specs.declared.status.Status.TheVariants as status
-use Rattle.sd_status.specs.Sides.{SourceSide, SinkSide}
-use Rattle.sd_status.specs.Input.{Taken, IsAtEnd}
-use Rattle.sd_status.specs.Reporting.{Delivers, TellsDamaged, TellsUnopened}
+use Rattle.sd_drive.proofs.Running.{drives-leads, ran-led}
+use Rattle.sd_top.specs.declared.status.Status.{Status}
+use Rattle.sd_top.specs.declared.status.Status.TheVariants as status
+use Rattle.sd_top.specs.Sides.{SourceSide, SinkSide}
+use Rattle.sd_top.specs.Input.{Taken, IsAtEnd}
+use Rattle.sd_top.specs.Reporting.{Delivers, TellsDamaged, TellsUnopened}
 use Rattle.sd_top.specs.Opening.{AreRead, LedFrom, Opens, frames_of, opening, opening_world}
 use Rattle.sd_top.specs.declared.replaying.Ended.{Ended}
 use Rattle.sd_top.specs.Unopened.{IsEnded, IsOpened, IsUnopened}

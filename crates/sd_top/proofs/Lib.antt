@@ -1,3 +1,6 @@
 mod Answered
 mod Rising
 mod Scripts
+mod Puts
+mod Takes
+mod Commands

@@ -8,11 +8,11 @@ use Rattle.sd_model.specs.declared.event.Event.{Event}
 use Rattle.sd_model.specs.declared.event.Reply.{Reply}
 use Rattle.sd_model.specs.declared.event.Reply.TheVariants as reply
 use Rattle.sd_model.specs.State.{State}
-use Rattle.sd_forms.specs.declared.line.Line.{Line}
+use Rattle.sd_script.specs.declared.line.Line.{Line}
 use Rattle.sd_world.specs.Serving.{Core}
 use Rattle.sd_report.specs.Report.{AreAbove, AreFrom}
-use Rattle.sd_drive.specs.Passed.Driving.{Cursor, Drives, Helps, Known, Own, Progress, TellsAt, TellsFirst, TellsWork, Work, World, ahead, cursor_in, due_works, event_at, followed, goes_on, left_from, marked, number_of, puller_of, start_of, stays, untold, works_of}
-use Rattle.sd_drive.specs.Passed.Pulls.{Puller, helped, is_pulling}
+use Rattle.sd_drive.specs.Driving.{Cursor, Drives, Helps, Known, Own, Progress, TellsAt, TellsFirst, TellsWork, Work, World, ahead, cursor_in, due_works, event_at, followed, goes_on, left_from, marked, number_of, puller_of, start_of, stays, untold, works_of}
+use Rattle.sd_drive.specs.Pulls.{Puller, helped, is_pulling}
 
 -- the numbers of the works don't fall, and none is below this one
 abbrev WorksFrom : ℕ → List Work → Type 0

@@ -8,12 +8,12 @@ use Rattle.std.proofs.lemmas.Bool.{eqb-true}
 use Rattle.std.proofs.lemmas.List.{take_all}
 use Rattle.std.proofs.lemmas.List.Splits.{join_with_byte-slice_split}
 use Rattle.std.proofs.lemmas.List.Sums.{sum_by-cons}
-use Rattle.sd_forms.specs.declared.line.Form.{Form}
-use Rattle.sd_forms.specs.declared.line.Form.TheVariants as form
-use Rattle.sd_forms.specs.declared.line.Line.{Line}
+use Rattle.sd_script.specs.declared.line.Form.{Form}
+use Rattle.sd_script.specs.declared.line.Form.TheVariants as form
+use Rattle.sd_script.specs.declared.line.Line.{Line}
 use Rattle.sd_script.specs.Text.{lines_of, end_of, less_empty_last}
-use Rattle.sd_forms.specs.Words.{words_of}
-use Rattle.sd_forms.specs.Forms.{IsCount, IsForm, IsInst, capacity_words, form_words}
+use Rattle.sd_script.specs.Words.{words_of}
+use Rattle.sd_script.specs.Forms.{IsCount, IsForm, IsInst, capacity_words, form_words}
 use Rattle.sd_script.specs.Order.{Follows, insts_in, insts_of, pages_in, pages_of}
 use Rattle.sd_script.specs.Reading.{Reads, IsScript}
 use Rattle.sd_drive.specs.Reaching.{AreDriven, IsShort, MayStand}

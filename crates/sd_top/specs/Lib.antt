@@ -1,3 +1,9 @@
 pub mod Opening
 pub mod Unopened
 pub mod Outcome
+pub mod Sides
+pub mod Input
+pub mod Output
+pub mod ExitNumber
+pub mod Reporting
+pub mod Words

@@ -6,15 +6,15 @@ use Rattle.sd_chain.specs.Checks.{DevicesAreSound}
 use Rattle.sd_recovered.specs.Devices.{IsRecovered}
 use Rattle.sd_restart.specs.Devices.{Calms}
 use Rattle.sd_model.specs.declared.event.Entry.{Entry}
-use Rattle.sd_forms.specs.declared.line.Form.{Form}
-use Rattle.sd_forms.specs.declared.line.Form.TheVariants.{Complex}
-use Rattle.sd_forms.specs.declared.line.Line.{Line}
+use Rattle.sd_script.specs.declared.line.Form.{Form}
+use Rattle.sd_script.specs.declared.line.Form.TheVariants.{Complex}
+use Rattle.sd_script.specs.declared.line.Line.{Line}
 use Rattle.sd_script.specs.Order.{insts_of, pages_of}
 use Rattle.sd_world.specs.Serving.{Telling}
 use Rattle.sd_fits.specs.Opened.{opening_core}
-use Rattle.sd_drive.specs.Passed.Driving.{World}
-use Rattle.sd_drive.specs.Passed.{before}
-use Rattle.sd_drive.specs.Passed.Running.{Led, StandsOnWay, Start}
+use Rattle.sd_drive.specs.Driving.{World}
+use Rattle.sd_drive.specs.Rising.{before}
+use Rattle.sd_drive.specs.Running.{Led, StandsOnWay, Start}
 
 -- the frames of each pool
 abbrev pub frames_in : Form → ℕ

@@ -8,17 +8,17 @@ use Rattle.sd_model.specs.History.{History}
 use Rattle.sd_model.specs.declared.event.Entry.{Entry}
 use Rattle.sd_chain.specs.Checks.{DevicesAreSound}
 use Rattle.sd_chain.specs.Faults.{FailsFirstAt}
-use Rattle.sd_forms.specs.declared.line.Line.{Line}
+use Rattle.sd_script.specs.declared.line.Line.{Line}
 use Rattle.sd_script.specs.Reading.{IsScript, IsBadAt}
 use Rattle.sd_world.specs.Serving.{Telling}
 use Rattle.sd_report.specs.Report.{bad_text, damaged_text, report}
-use Rattle.sd_status.specs.declared.status.Status.{Status}
-use Rattle.sd_status.specs.declared.status.Status.TheVariants as status
-use Rattle.sd_status.specs.Sides.{SourceSide, SinkSide}
-use Rattle.sd_status.specs.Input.{Taken, IsAtEnd}
-use Rattle.sd_status.specs.Output.{AppendsFront}
-use Rattle.sd_status.specs.Reporting.{WrittenUnless, device_text}
-use Rattle.sd_drive.specs.Passed.Driving.{IsTold, World}
+use Rattle.sd_top.specs.declared.status.Status.{Status}
+use Rattle.sd_top.specs.declared.status.Status.TheVariants as status
+use Rattle.sd_top.specs.Sides.{SourceSide, SinkSide}
+use Rattle.sd_top.specs.Input.{Taken, IsAtEnd}
+use Rattle.sd_top.specs.Output.{AppendsFront}
+use Rattle.sd_top.specs.Reporting.{WrittenUnless, device_text}
+use Rattle.sd_drive.specs.Driving.{IsTold, World}
 use Rattle.sd_top.specs.Opening.{AreRead, LedFrom}
 
 -- What a script that was read may change: the sink, and the devices.

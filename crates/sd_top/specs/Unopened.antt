@@ -1,13 +1,14 @@
 -- A hall before the opening, its driver behind it, and what the lines leave.
 use Rattle.std.specs.Prelude.{◌≡◌, List, [], OnOk}
-use Rattle.sd_forms.specs.declared.line.Line.{Line}
+use Rattle.sd_script.specs.declared.line.Line.{Line}
 use Rattle.sd_script.specs.Order.{insts_of, pages_of}
 use Rattle.sd_world.specs.Serving.{Telling}
 use Rattle.sd_fits.specs.Opened.{opening_core}
-use Rattle.sd_drive.specs.Passed.{IsRigIn, Keeps}
-use Rattle.sd_drive.specs.Passed.{Rise}
+use Rattle.sd_hall.specs.Bodies.{IsRigIn}
+use Rattle.sd_hall.specs.Keeping.{Keeps}
+use Rattle.sd_drive.specs.declared.opening.Rise.{Rise}
 use Rattle.sd_drive.specs.declared.driver.Driver.{Driver}
-use Rattle.sd_drive.specs.Passed.Driving.{IsTold, World}
+use Rattle.sd_drive.specs.Driving.{IsTold, World}
 use Rattle.sd_drive.specs.Reaching.{Reached}
 use Rattle.sd_top.specs.declared.replaying.Ended.{Ended}
 use Rattle.sd_top.specs.Opening.{LedFrom, Opens, frames_of, opening}

@@ -21,7 +21,15 @@
 //! - frozen: nothing
 #![tactic(auto)]
 
+mod input;
+mod output;
 mod replaying;
+mod reporting;
+mod status;
+mod words;
 
+pub use input::{InputError, MOST_BYTES, read_all};
 pub use replaying::{Done, top};
-pub use sd_status::{Status, report_unopened};
+pub use reporting::{report_bad_line, report_book, report_unopened};
+pub use status::Status;
+pub use words::{is_command, place};

@@ -2,28 +2,30 @@
 
 ghost use Rattle.std.specs.Prelude.{◌≡◌, ◌⊎◌, ◌≤◌, ℕ, List, length, map, string_bytes, Some, None};
 ghost use Rattle.sd_base.specs.Streams.{Rises};
-ghost use Rattle.sd_forms.specs.declared.line.Line.{Line};
+ghost use Rattle.sd_script.specs.declared.line.Line.{Line};
 ghost use Rattle.sd_script.specs.Reading.{IsScript};
 ghost use Rattle.sd_world.specs.Serving.{telling};
 ghost use Rattle.sd_chain.specs.Checks.{DevicesAreSound};
-ghost use Rattle.sd_drive.specs.Passed.Driving.{World};
+ghost use Rattle.sd_drive.specs.Driving.{World};
 ghost use Rattle.sd_drive.specs.Reaching.{AreDriven};
-ghost use Rattle.sd_command.specs.Words.{IsCommand};
+ghost use Rattle.sd_top.specs.Words.{IsCommand};
 ghost use Rattle.sd_top.specs.Unopened.{IsEnded, IsOpened, IsUnopened};
 ghost use Rattle.sd_script.specs.Order.{insts_of, pages_of};
-ghost use Rattle.sd_status.specs.declared.status.Status.TheVariants as status;
-ghost use Rattle.sd_status.specs.Input.{Taken};
+ghost use Rattle.sd_top.specs.declared.status.Status.TheVariants as status;
+ghost use Rattle.sd_top.specs.Input.{Taken};
 ghost use Rattle.sd_top.specs.Opening.{frames_of};
 ghost use Rattle.sd_top.specs.Outcome.{Answers, Outcome};
 
+use crate::{
+    InputError, Status, is_command, read_all, report_bad_line, report_book, report_unopened,
+};
 use sd_base::{Gate, Memory, Refusal, Sink, Source};
-use sd_book::Book;
-use sd_command::is_command;
-use sd_drive::{Driver, Hall, Rise};
+use sd_drive::{Driver, Rise};
+use sd_hall::Hall;
+use sd_model::Book;
 use sd_rig::Rig;
 use sd_script::{Form, Kind, Line, Script};
 use sd_state::Shape;
-use sd_status::{InputError, Status, read_all, report_bad_line, report_book, report_unopened};
 use std::alloc::Global;
 
 /// What `top` answers: its status, the rig, and the book, which is there where a script was read and the complex was

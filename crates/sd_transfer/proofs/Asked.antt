@@ -13,10 +13,10 @@ use Rattle.sd_model.specs.declared.event.Event.{Event}
 use Rattle.sd_model.specs.declared.event.Event.TheVariants.{Ask}
 use Rattle.sd_model.specs.declared.event.Reply.TheVariants as reply
 use Rattle.sd_pagelock.specs.Directory.{entry_at}
-use Rattle.sd_places.specs.Places.{PageEntry, holds_as, is_free, is_lost, passes, receives, rests}
-use Rattle.sd_places.specs.Rows.{locked, may_raise, raised}
-use Rattle.sd_places.proofs.Uses.{free-is}
-use Rattle.sd_sound.specs.Logs.{Outcomes}
+use Rattle.sd_pagelock.specs.Places.{PageEntry, holds_as, is_free, is_lost, passes, receives, rests}
+use Rattle.sd_pagelock.specs.Rows.{locked, may_raise, raised}
+use Rattle.sd_pagelock.proofs.Uses.{free-is}
+use Rattle.sd_chain.specs.Logs.{Outcomes}
 use Rattle.sd_world.specs.Answers.{Fails, Gets, Queues}
 use Rattle.sd_world.specs.PageCauses.{IsLostFor, IsUnderWay, NoneSays, PoolIsFull}
 use Rattle.sd_world.specs.Pages.{Pages, had, held_count, is_had, page_placed}

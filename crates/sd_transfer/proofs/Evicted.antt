@@ -13,9 +13,9 @@ use Rattle.sd_model.specs.declared.event.Event.{Event}
 use Rattle.sd_model.specs.declared.event.Event.TheVariants.{Evict}
 use Rattle.sd_model.specs.declared.event.Reply.TheVariants as reply
 use Rattle.sd_pagelock.specs.Directory.{entry_at}
-use Rattle.sd_places.specs.Places.{PageEntry, holds, is_lost, seen}
-use Rattle.sd_places.specs.Rows.{fallen, may_evict}
-use Rattle.sd_places.proofs.Uses.{held-found, lost-is}
+use Rattle.sd_pagelock.specs.Places.{PageEntry, holds, is_lost, seen}
+use Rattle.sd_pagelock.specs.Rows.{fallen, may_evict}
+use Rattle.sd_pagelock.proofs.Uses.{held-found, lost-is}
 use Rattle.sd_pool.specs.Buffers.{without_page}
 use Rattle.sd_world.specs.Bounds.{bounds_after}
 use Rattle.sd_world.specs.PageCauses.{IsAway, IsLostFor, IsOnlyCopy, NoneSays}

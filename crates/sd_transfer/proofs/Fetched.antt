@@ -13,10 +13,10 @@ use Rattle.sd_model.specs.declared.event.Event.{Event}
 use Rattle.sd_model.specs.declared.event.Event.TheVariants.{Ask}
 use Rattle.sd_model.specs.declared.event.Reply.{Reply}
 use Rattle.sd_model.specs.declared.event.Reply.TheVariants as reply
-use Rattle.sd_asks.specs.Asks.{queued}
+use Rattle.sd_pagelock.specs.Asks.{queued}
 use Rattle.sd_pagelock.specs.Directory.{asks_at, entry_at}
-use Rattle.sd_places.specs.Places.{PageEntry, holds, holds_as, is_free, is_lost}
-use Rattle.sd_places.specs.Rows.{locked, may_raise, raised}
+use Rattle.sd_pagelock.specs.Places.{PageEntry, holds, holds_as, is_free, is_lost}
+use Rattle.sd_pagelock.specs.Rows.{locked, may_raise, raised}
 use Rattle.sd_pool.specs.Buffers as buffers
 use Rattle.sd_pool.specs.Buffers.{Buffers, IsPool, with_page}
 use Rattle.sd_world.specs.Bounds.{bounds_after}
@@ -33,8 +33,7 @@ use Rattle.sd_fits.specs.Fits.{Fits}
 use Rattle.sd_fits.specs.Serving.{Serving, fits_by, stands_for}
 use Rattle.sd_fits.proofs.Frames.{frames-held, frames-left}
 use Rattle.sd_transfer.proofs.PassFits.{kept-spared}
-use Rattle.sd_fits.proofs.Places.{asked-pages, frames-kept, moved-fits, placed-pages, read-fits, read-serves}
-use Rattle.sd_fits.proofs.Places.{read-spares, repaged}
+use Rattle.sd_fits.proofs.Places.{asked-pages, frames-kept, moved-fits, placed-pages, read-fits, read-serves, read-spares, repaged}
 use Rattle.sd_fits.proofs.Served.{bounds-stay, nothing-fits, passed, still-serves}
 use Rattle.sd_moves.specs.Places.{IsAsked, with_directory}
 use Rattle.sd_transfer.specs.Asking.{IsUnserved, MayAsk}

@@ -5,3 +5,12 @@ pub mod Asked
 pub mod Fetched
 pub mod Shown
 pub mod Taken
+mod Dropped
+mod Given
+pub mod PutFits
+pub mod Broken
+pub mod Unput
+pub mod Forced
+pub mod Forces
+pub mod Settled
+pub mod Writes

@@ -9,7 +9,7 @@ use Rattle.sd_model.specs.declared.event.Event.TheVariants.{Show}
 use Rattle.sd_model.specs.declared.event.Reply.{Reply}
 use Rattle.sd_model.specs.declared.event.Reply.TheVariants as reply
 use Rattle.sd_pagelock.specs.Directory.{entry_at}
-use Rattle.sd_places.specs.Places.{PageEntry, is_lost, seen}
+use Rattle.sd_pagelock.specs.Places.{PageEntry, is_lost, seen}
 use Rattle.sd_world.specs.Pages.{number_shown}
 use Rattle.sd_world.specs.Serving.{Core, Telling, Turns}
 use Rattle.sd_state.specs.Complexes.{parts}

@@ -15,8 +15,8 @@ use Rattle.sd_model.specs.declared.event.Event.{Event}
 use Rattle.sd_model.specs.declared.event.Event.TheVariants.{Take}
 use Rattle.sd_model.specs.declared.event.Reply.TheVariants as reply
 use Rattle.sd_pagelock.specs.Directory.{asks_at, entry_at}
-use Rattle.sd_places.specs.Places.{Formed, PageEntry, holds, is_lost, receives, seen}
-use Rattle.sd_places.specs.Rows.{taken}
+use Rattle.sd_pagelock.specs.Places.{Formed, PageEntry, holds, is_lost, receives, seen}
+use Rattle.sd_pagelock.specs.Rows.{taken}
 use Rattle.sd_pool.specs.Buffers as buffers
 use Rattle.sd_pool.specs.Buffers.{Buffers, IsPool, with_page}
 use Rattle.sd_world.specs.PageCauses.{IsAway, IsLostFor, NoneSays, PoolIsFull}

@@ -3,8 +3,8 @@ use Rattle.std.specs.Prelude.{◌≡◌, ℕ, true, false}
 use Rattle.sd_base.specs.declared.refusal.Refusal.{Refusal}
 use Rattle.sd_base.specs.declared.refusal.Refusal.TheVariants as R
 use Rattle.sd_pagelock.specs.Directory.{entry_at}
-use Rattle.sd_places.specs.Places.{holds, is_lost, seen}
-use Rattle.sd_places.specs.Rows.{may_evict}
+use Rattle.sd_pagelock.specs.Places.{holds, is_lost, seen}
+use Rattle.sd_pagelock.specs.Rows.{may_evict}
 use Rattle.sd_state.specs.Parts.{Parts, is_active}
 
 -- the copy of page p stays in the pool of instance i for this cause, and no cause before it applies

@@ -3,7 +3,7 @@ use Rattle.std.specs.Prelude.{◌≡◌, ℕ, true, false}
 use Rattle.sd_base.specs.declared.refusal.Refusal.{Refusal}
 use Rattle.sd_base.specs.declared.refusal.Refusal.TheVariants as R
 use Rattle.sd_pagelock.specs.Directory.{entry_at}
-use Rattle.sd_places.specs.Places.{is_lost, receives, seen}
+use Rattle.sd_pagelock.specs.Places.{is_lost, receives, seen}
 use Rattle.sd_state.specs.Parts.{Parts, is_active}
 
 -- The instance is active, and the page moves to it.

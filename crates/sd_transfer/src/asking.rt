@@ -8,9 +8,9 @@ ghost use Rattle.sd_fits.specs.Serving.{Serving};
 ghost use Rattle.sd_model.specs.declared.event.Event.TheVariants as event;
 ghost use Rattle.sd_model.specs.declared.event.Reply.TheVariants as reply;
 ghost use Rattle.sd_pagelock.specs.Directory.{entry_at};
-ghost use Rattle.sd_places.specs.Places as places;
-ghost use Rattle.sd_places.specs.Places.{holds_as, seen, Formed, PageEntry};
-ghost use Rattle.sd_places.specs.Rows.{may_raise};
+ghost use Rattle.sd_pagelock.specs.Places as places;
+ghost use Rattle.sd_pagelock.specs.Places.{holds_as, seen, Formed, PageEntry};
+ghost use Rattle.sd_pagelock.specs.Rows.{may_raise};
 ghost use Rattle.sd_pool.specs.Buffers.{LacksFrame, IsPool};
 ghost use Rattle.sd_rig.specs.Devices.{IsUnchanged};
 ghost use Rattle.sd_state.specs.Complexes.{parts};
@@ -20,7 +20,7 @@ ghost use Rattle.sd_world.specs.Pages.{answerer, lowest_of};
 ghost use Rattle.sd_world.specs.Serving.{Core, answered, had_or_asked, telling};
 
 use sd_base::{InstNo, InstSet, Mode, PageNo, Place, Refusal};
-use sd_moves::{is_active, laws, queue_ask, raise};
+use sd_moves::{queue_ask, raise};
 use sd_pagelock::rows;
 use sd_rig::Rig;
 use sd_state::Complex;
@@ -46,7 +46,7 @@ pub fn ask<G: Rig>(
     ensures still { IsUnchanged (G.seen c.old.rig) (G.seen c.new.rig) (G.leaves c.old.rig) (G.leaves c.new.rig)
         (G.moment c.old.rig) (G.moment c.new.rig) (G.since c.old.rig) (G.since c.new.rig) }
 {
-    laws::instances(i);
+    i.keeps();
     let place = may_ask(c, i, p)?;
     if rows::holds_as(mode, &place, i) {
         return Ok(None);
@@ -72,7 +72,7 @@ fn may_ask<G: Rig>(c: &Complex<G>, i: InstNo, p: PageNo) -> Result<Place, Refusa
     ensures may { OnOk result (MayAsk (parts c.now) i p) }
     ensures refused { IfErr result (λ n. IsUnserved (parts c.now) i p n) }
 {
-    if !is_active(i, c.status(i)) {
+    if !c.status(i).is_active(i) {
         return Err(Refusal::Down);
     }
     let place = c.entry(p);
@@ -95,7 +95,7 @@ fn fetch<G: Rig>(c: &mut Complex<G>, i: InstNo, p: PageNo, mode: Mode) -> Result
     ensures still { IsUnchanged (G.seen c.old.rig) (G.seen c.new.rig) (G.leaves c.old.rig) (G.leaves c.new.rig)
         (G.moment c.old.rig) (G.moment c.new.rig) (G.since c.old.rig) (G.since c.new.rig) }
 {
-    laws::instances(i);
+    i.keeps();
     if lacks_frame(c, i, p) {
         return Err(Refusal::PoolFull);
     }
@@ -113,7 +113,7 @@ pub(crate) fn lacks_frame<G: Rig>(c: &Complex<G>, i: InstNo, p: PageNo) -> bool
 {
     c.directory.keeps();
     let pool = &c.pools[i.get() as usize - 1];
-    let _held = pool.count();
+    pool.keeps();
     pool.lacks_frame(p)
 }
 

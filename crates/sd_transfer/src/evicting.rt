@@ -6,14 +6,14 @@ ghost use Rattle.sd_fits.specs.Fits.{Fits};
 ghost use Rattle.sd_fits.specs.Serving.{Serving};
 ghost use Rattle.sd_model.specs.declared.event.Event.TheVariants as event;
 ghost use Rattle.sd_pagelock.specs.Directory.{entry_at};
-ghost use Rattle.sd_places.specs.Rows.{may_evict};
+ghost use Rattle.sd_pagelock.specs.Rows.{may_evict};
 ghost use Rattle.sd_state.specs.Complexes.{parts};
 ghost use Rattle.sd_state.specs.Parts.{is_active, IsShape};
 ghost use Rattle.sd_transfer.specs.Evicting.{StaysFor};
 ghost use Rattle.sd_world.specs.Serving.{Core, did, telling};
 
 use sd_base::{InstNo, PageNo, Refusal};
-use sd_moves::{drop_copy, is_active, laws};
+use sd_moves::drop_copy;
 use sd_pagelock::rows;
 use sd_rig::Rig;
 use sd_state::Complex;
@@ -28,7 +28,7 @@ pub fn evict<G: Rig>(c: &mut Complex<G>, i: InstNo, p: PageNo) -> Result<(), Ref
     ensures there { result ≢ Err R.Memory }
     ensures rig { c.new.rig ≡ c.old.rig }
 {
-    laws::instances(i);
+    i.keeps();
     may_go(c, i, p)?;
     drop_copy(c, p, i);
     Ok(())
@@ -41,7 +41,7 @@ fn may_go<G: Rig>(c: &Complex<G>, i: InstNo, p: PageNo) -> Result<(), Refusal>
     ensures spare { OnOk result (may_evict i (entry_at (parts c.now).directory p) ≡ true) }
     ensures refused { IfErr result (λ n. StaysFor (parts c.now) i p n) }
 {
-    if !is_active(i, c.status(i)) {
+    if !c.status(i).is_active(i) {
         return Err(Refusal::Down);
     }
     let place = c.entry(p);

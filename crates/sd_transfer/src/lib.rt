@@ -20,10 +20,16 @@
 
 mod asking;
 mod evicting;
+mod forcing;
+mod giving;
 mod showing;
 mod taking;
+mod writing;
 
 pub use asking::ask;
 pub use evicting::evict;
+pub use forcing::{force, force_or_fall};
+pub use giving::give;
 pub use showing::show;
 pub use taking::take;
+pub use writing::write_page;

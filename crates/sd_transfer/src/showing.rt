@@ -7,7 +7,7 @@ ghost use Rattle.sd_model.specs.State.{State};
 ghost use Rattle.sd_model.specs.declared.event.Event.TheVariants as event;
 ghost use Rattle.sd_model.specs.declared.event.Reply.TheVariants as reply;
 ghost use Rattle.sd_pagelock.specs.Directory.{entry_at};
-ghost use Rattle.sd_places.specs.Places.{holds, passes, seen};
+ghost use Rattle.sd_pagelock.specs.Places.{holds, passes, seen};
 ghost use Rattle.sd_state.specs.Complexes.{parts};
 ghost use Rattle.sd_state.specs.Good.{Good};
 ghost use Rattle.sd_state.specs.Laws.{newest_of};

@@ -11,7 +11,7 @@ ghost use Rattle.sd_world.specs.Serving.{Core, did, telling};
 
 use crate::asking::lacks_frame;
 use sd_base::{InstNo, PageNo, Refusal};
-use sd_moves::{is_active, laws, take_copy};
+use sd_moves::take_copy;
 use sd_pagelock::rows;
 use sd_rig::Rig;
 use sd_state::Complex;
@@ -27,7 +27,7 @@ pub fn take<G: Rig>(c: &mut Complex<G>, i: InstNo, p: PageNo) -> Result<(), Refu
     ensures served { Serving (telling G.seen G.leaves G.moment G.since G.faults) (event.Take i p) (did result) c.old c.new }
     ensures rig { c.new.rig ≡ c.old.rig }
 {
-    laws::instances(i);
+    i.keeps();
     may_take(c, i, p)?;
     c.directory.keeps();
     if lacks_frame(c, i, p) {
@@ -43,7 +43,7 @@ fn may_take<G: Rig>(c: &Complex<G>, i: InstNo, p: PageNo) -> Result<(), Refusal>
     ensures may { OnOk result (MayTake (parts c.now) i p) }
     ensures refused { IfErr result (λ n. IsUntaken (parts c.now) i p n) }
 {
-    if !is_active(i, c.status(i)) {
+    if !c.status(i).is_active(i) {
         return Err(Refusal::Down);
     }
     let place = c.entry(p);

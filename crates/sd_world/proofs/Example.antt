@@ -11,7 +11,7 @@ use Rattle.sd_model.specs.declared.cause.Cause.{Cause}
 use Rattle.sd_model.specs.declared.event.Event.TheVariants.{Write, Read, Ask, Give, Take, Evict, Flush, Fail, CheckEnd, Insert}
 use Rattle.sd_model.specs.declared.event.Reply.TheVariants as reply
 use Rattle.sd_model.specs.State.{State, begun_part, fall, fresh}
-use Rattle.sd_places.specs.Places.{PageEntry}
+use Rattle.sd_pagelock.specs.Places.{PageEntry}
 use Rattle.sd_world.specs.Pages.{Pages, asked, fell, held_count, numbered, page_placed}
 use Rattle.sd_world.specs.Answers.{Moves}
 use Rattle.sd_world.specs.Bounds.{Bounds, Within, bounds_after}

@@ -4,15 +4,15 @@ use Rattle.std.specs.Prelude.{filter, find, not, ◌||◌}
 use Rattle.std.specs.Option.{option_map}
 use Rattle.sd_base.specs.declared.place.Mode.{Mode}
 use Rattle.sd_base.specs.declared.place.Mode.TheVariants as modes
-use Rattle.sd_asks.specs.declared.queue.Ask.{Ask}
-use Rattle.sd_places.specs.Places.{Formed, PageEntry, holds, holds_as, is_free, is_lost, uses}
-use Rattle.sd_places.specs.Rows.{given_shared, given_excl, may_raise, may_yield, dropped, fallen, written, locked, raised}
-use Rattle.sd_asks.specs.Asks.{asks_by, asks_without, is_open_ask, oldest, open_asks, queued, stronger}
-use Rattle.sd_places.specs.Moves.{IsMove}
-use Rattle.sd_places.proofs.Drops.{formed-dropped}
-use Rattle.sd_places.proofs.Falls.{holds-fallen, uses-fallen}
-use Rattle.sd_places.proofs.Forms.{formed-fallen, formed-move}
-use Rattle.sd_asks.proofs.Queues.{one_each-filter, one_each-queued}
+use Rattle.sd_pagelock.specs.declared.queue.Ask.{Ask}
+use Rattle.sd_pagelock.specs.Places.{Formed, PageEntry, holds, holds_as, is_free, is_lost, uses}
+use Rattle.sd_pagelock.specs.Rows.{given_shared, given_excl, may_raise, may_yield, dropped, fallen, written, locked, raised}
+use Rattle.sd_pagelock.specs.Asks.{asks_by, asks_without, is_open_ask, oldest, open_asks, queued, stronger}
+use Rattle.sd_pagelock.specs.Moves.{IsMove}
+use Rattle.sd_pagelock.proofs.Drops.{formed-dropped}
+use Rattle.sd_pagelock.proofs.Falls.{holds-fallen, uses-fallen}
+use Rattle.sd_pagelock.proofs.Forms.{formed-fallen, formed-move}
+use Rattle.sd_pagelock.proofs.Queues.{one_each-filter, one_each-queued}
 use Rattle.sd_world.specs.Pages.{Pages, AreFormed, AreOpen, IsWellAsked, asked, emptied, fell, given, had, is_had, place_of, page_placed}
 
 -- ---- asks

@@ -6,12 +6,12 @@ use Rattle.sd_base.specs.declared.place.Place as coded
 use Rattle.sd_base.specs.declared.place.Mode.{Mode}
 use Rattle.sd_base.specs.declared.place.Mode.TheVariants as modes
 use Rattle.sd_base.specs.Sets.{has}
-use Rattle.sd_asks.specs.declared.queue.Ask.{Ask}
-use Rattle.sd_places.specs.Places.{Formed, PageEntry, holds, holds_as, is_free, is_lost, passes, seen}
-use Rattle.sd_places.specs.Rows.{dropped, fallen, given_excl, given_shared, left_alone, locked, may_drop, may_evict, may_raise, may_yield, raised, taken, written}
-use Rattle.sd_asks.specs.Asks.{oldest}
-use Rattle.sd_places.specs.Moves.{IsMove}
-use Rattle.sd_places.proofs.Losses.{never_lost}
+use Rattle.sd_pagelock.specs.declared.queue.Ask.{Ask}
+use Rattle.sd_pagelock.specs.Places.{Formed, PageEntry, holds, holds_as, is_free, is_lost, passes, seen}
+use Rattle.sd_pagelock.specs.Rows.{dropped, fallen, given_excl, given_shared, left_alone, locked, may_drop, may_evict, may_raise, may_yield, raised, taken, written}
+use Rattle.sd_pagelock.specs.Asks.{oldest}
+use Rattle.sd_pagelock.specs.Moves.{IsMove}
+use Rattle.sd_pagelock.proofs.Losses.{never_lost}
 use Rattle.sd_world.specs.Pages.{Pages, given, had, is_had, page_placed, place_of}
 use Rattle.sd_world.proofs.Forms.{asker_of}
 

@@ -12,11 +12,11 @@ use Rattle.sd_model.specs.declared.event.Reply.TheVariants as reply
 use Rattle.sd_model.specs.State.{State}
 use Rattle.sd_model.specs.Causes.{order}
 use Rattle.sd_model.specs.Fields.{txn_of}
-use Rattle.sd_places.specs.Places.{PageEntry, holds_as, is_free, is_lost, receives}
-use Rattle.sd_places.specs.Rows.{dirtied, fallen, may_raise, taken, written}
-use Rattle.sd_places.specs.Moves.{IsMove}
-use Rattle.sd_places.proofs.Forms.{formed-fallen, formed-move}
-use Rattle.sd_places.proofs.Uses.{receiver-passes}
+use Rattle.sd_pagelock.specs.Places.{PageEntry, holds_as, is_free, is_lost, receives}
+use Rattle.sd_pagelock.specs.Rows.{dirtied, fallen, may_raise, taken, written}
+use Rattle.sd_pagelock.specs.Moves.{IsMove}
+use Rattle.sd_pagelock.proofs.Forms.{formed-fallen, formed-move}
+use Rattle.sd_pagelock.proofs.Uses.{receiver-passes}
 use Rattle.sd_world.specs.Pages.{Pages, AreFormed, asked, emptied, fell, given, numbered, page_placed, renumbered}
 use Rattle.sd_world.specs.PageCauses.{NoneSays, undo_page}
 use Rattle.sd_world.specs.Answers.{Answers, DidBefore, Fails, Gives, Moves, Queues, Rebuilds, RefusalLeaves, Steps, Undoes, changes, takes_back}

@@ -20,8 +20,8 @@ use Rattle.sd_model.specs.Fields.{txn_of}
 use Rattle.sd_model.specs.Refusing.{Names, Refuses, counted, found}
 use Rattle.sd_model.specs.Step.{Row, Step}
 use Rattle.sd_model.proofs.Placed.{each_inst}
-use Rattle.sd_places.specs.Places.{PageEntry, holds, holds_as, is_lost, passes}
-use Rattle.sd_places.specs.Rows.{dirtied, fallen, may_evict, taken, written}
+use Rattle.sd_pagelock.specs.Places.{PageEntry, holds, holds_as, is_lost, passes}
+use Rattle.sd_pagelock.specs.Rows.{dirtied, fallen, may_evict, taken, written}
 use Rattle.sd_world.specs.Pages.{Pages, AreFormed, emptied, given, had, is_had, numbered, page_placed, renumbered}
 use Rattle.sd_world.specs.PageCauses.{NoneSays, undo_page}
 use Rattle.sd_world.specs.Answers.{AreFoundLost, Answers, Fails, Gives, RefusalLeaves, Moves, Rebuilds, Undoes, changes, takes_back}

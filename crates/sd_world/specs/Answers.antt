@@ -15,9 +15,9 @@ use Rattle.sd_model.specs.Causes.{order, before}
 use Rattle.sd_model.specs.Fields.{txn_of}
 use Rattle.sd_model.specs.Applies.{First}
 use Rattle.sd_model.specs.Refusing.{Names, MayFall, counted}
-use Rattle.sd_places.specs.Places.{PageEntry, seen, owns, holds_as, is_lost, receives}
-use Rattle.sd_places.specs.Rows.{taken, fallen, written, dirtied}
-use Rattle.sd_asks.specs.Asks.{oldest}
+use Rattle.sd_pagelock.specs.Places.{PageEntry, seen, owns, holds_as, is_lost, receives}
+use Rattle.sd_pagelock.specs.Rows.{taken, fallen, written, dirtied}
+use Rattle.sd_pagelock.specs.Asks.{oldest}
 use Rattle.sd_world.specs.Pages.{Pages, page_placed, asked, numbered, renumbered, begins, given, fell, emptied, answerer, is_had, had, number_shown}
 use Rattle.sd_world.specs.PageCauses.{page_of, undo_page, PagesAgree, NoneSays, RecoversAt, IsNeededPage}
 

@@ -18,8 +18,8 @@ use Rattle.sd_model.specs.Refusing.{Names, found}
 use Rattle.sd_model.specs.Step.{Step}
 use Rattle.sd_model.specs.Run.{Run}
 use Rattle.sd_rig.specs.Devices.{DeviceImages}
-use Rattle.sd_places.specs.Places.{holds, is_lost, seen, uses}
-use Rattle.sd_asks.specs.Asks.{asks_by}
+use Rattle.sd_pagelock.specs.Places.{holds, is_lost, seen, uses}
+use Rattle.sd_pagelock.specs.Asks.{asks_by}
 use Rattle.sd_world.specs.Pages.{Pages, AreFormed, fell}
 use Rattle.sd_world.specs.PageCauses.{PagesSay, decided}
 use Rattle.sd_world.specs.Answers.{Moves}

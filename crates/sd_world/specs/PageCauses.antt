@@ -8,9 +8,9 @@ use Rattle.sd_model.specs.declared.event.Event.TheVariants.{Read, Write, Add, In
 use Rattle.sd_model.specs.Acts.{Puts, live}
 use Rattle.sd_model.specs.State.{State}
 use Rattle.sd_model.specs.Applies.{Changes, HasPage, IsLost, unless}
-use Rattle.sd_places.specs.Places.{holds, owns, is_free, is_lost, passes, receives}
-use Rattle.sd_places.specs.Rows.{may_evict}
-use Rattle.sd_asks.specs.Asks.{oldest}
+use Rattle.sd_pagelock.specs.Places.{holds, owns, is_free, is_lost, passes, receives}
+use Rattle.sd_pagelock.specs.Rows.{may_evict}
+use Rattle.sd_pagelock.specs.Asks.{oldest}
 use Rattle.sd_world.specs.Pages.{Pages, held_count, is_duty}
 
 -- the page of a transaction's last live put

@@ -3,10 +3,10 @@ use Rattle.std.specs.Prelude.{◌≡◌, ℕ, zero, suc, ◌+◌, Bool, true, fa
 use Rattle.sd_base.specs.declared.place.Mode.{Mode}
 use Rattle.sd_base.specs.declared.place.Mode.TheVariants as modes
 use Rattle.sd_base.specs.Sets.{without}
-use Rattle.sd_asks.specs.declared.queue.Ask.{Ask}
-use Rattle.sd_places.specs.Places.{PageEntry, holds, holds_as, is_free, Formed}
-use Rattle.sd_places.specs.Rows.{locked, may_raise, raised, given_shared, given_excl, may_yield, dropped, fallen}
-use Rattle.sd_asks.specs.Asks.{queued, is_open_ask, open_asks, asks_without, IsOneEach}
+use Rattle.sd_pagelock.specs.declared.queue.Ask.{Ask}
+use Rattle.sd_pagelock.specs.Places.{PageEntry, holds, holds_as, is_free, Formed}
+use Rattle.sd_pagelock.specs.Rows.{locked, may_raise, raised, given_shared, given_excl, may_yield, dropped, fallen}
+use Rattle.sd_pagelock.specs.Asks.{queued, is_open_ask, open_asks, asks_without, IsOneEach}
 
 -- frames: how many pages a pool holds at most; entry: where each page is; asks: who asks for it, the oldest first;
 -- number: the LSN of its newest version; begun: whether the instance has begun a checkpoint

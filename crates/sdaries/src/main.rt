@@ -15,10 +15,9 @@
 #![tactic(auto)]
 
 use sd_base::{Memory, OpenGate, Refusal, StdSink, StdSource};
-use sd_command::place;
 use sd_filerig::FileRig;
 use sd_rig::{MemRig, Rig};
-use sd_top::{Status, report_unopened, top};
+use sd_top::{Status, place, report_unopened, top};
 use std::process::ExitCode;
 use std::{env, io};
 

@@ -1,7 +1,7 @@
 use Rattle.std.proofs.Common.{◌≡◌, true, rules, subst}
 use Rattle.sd_base.specs.declared.place.Mode.TheVariants as modes
-use Rattle.sd_places.specs.Places.{PageEntry, seen, is_free}
-use Rattle.sd_places.specs.Moves.{IsMove}
+use Rattle.sd_pagelock.specs.Places.{PageEntry, seen, is_free}
+use Rattle.sd_pagelock.specs.Moves.{IsMove}
 use Rattle.sd_bench.proofs.moves.lock.Goals as goal
 
 pub set-requires-clause-lawful : goal.set-requires-clause-lawful

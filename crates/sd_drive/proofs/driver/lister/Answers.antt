@@ -1,8 +1,9 @@
 use Rattle.std.proofs.Common.{◌≡◌, ℕ, ◌+◌, ◌-◌, Bool, true, false, sym, ap, ◌∙◌, subst, arith}
 use Rattle.std.specs.Prelude.{Option, unwrap_or}
-use Rattle.sd_rise.specs.Passed.Bodies.{status_in}
-use Rattle.sd_rise.specs.Passed.Driving.{first_from, is_up}
-use Rattle.sd_rise.proofs.Finding.{first-behind, first-here, first-none}
+use Rattle.sd_drive.specs.Bodies.{status_in}
+use Rattle.sd_drive.specs.Driving.{first_from}
+use Rattle.sd_base.specs.Standing.{is_up}
+use Rattle.sd_drive.proofs.Finding.{first-behind, first-here, first-none}
 use Rattle.sd_drive.proofs.driver.lister.Goals as goal
 
 pub loop-number-init : goal.loop-number-init

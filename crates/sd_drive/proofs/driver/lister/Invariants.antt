@@ -1,6 +1,7 @@
 use Rattle.std.proofs.Common.{◌≡◌, ℕ, ◌+◌, ◌-◌}
-use Rattle.sd_rise.specs.Passed.Bodies.{status_in}
-use Rattle.sd_rise.specs.Passed.Driving.{first_from, is_up}
+use Rattle.sd_drive.specs.Bodies.{status_in}
+use Rattle.sd_drive.specs.Driving.{first_from}
+use Rattle.sd_base.specs.Standing.{is_up}
 use Rattle.sd_drive.proofs.driver.lister.Given as goal
 
 -- none of those before is up

@@ -3,7 +3,7 @@ use Rattle.sd_state.proofs.Standing.{one-may-update, each-copy-is-newest}
 use Rattle.sd_state.specs.Complexes.{parts}
 use Rattle.sd_state.specs.Values.{Pending}
 use Rattle.sd_world.specs.Serving.{Telling, telling}
-use Rattle.sd_owed.proofs.Bodies.{open-fits}
+use Rattle.sd_hall.proofs.LedgerBodies.{open-fits}
 use Rattle.sd_hall.proofs.laws.page_locks.Goals as goal
 
 pub returns : goal.returns

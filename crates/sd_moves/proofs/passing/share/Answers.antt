@@ -4,9 +4,9 @@ use Rattle.std.specs.Prelude.{None, option_map}
 use Rattle.sd_base.specs.declared.place.Mode.TheVariants as modes
 use Rattle.sd_page.specs.Page.{Page}
 use Rattle.sd_pagelock.specs.Directory.{DirectoryState, entry_at}
-use Rattle.sd_places.specs.Moves.{IsMove}
-use Rattle.sd_places.specs.Places.{PageEntry}
-use Rattle.sd_places.specs.Rows.{given_shared, may_share}
+use Rattle.sd_pagelock.specs.Moves.{IsMove}
+use Rattle.sd_pagelock.specs.Places.{PageEntry}
+use Rattle.sd_pagelock.specs.Rows.{given_shared, may_share}
 use Rattle.sd_pool.specs.Buffers as buffers
 use Rattle.sd_state.specs.Complexes.{parts, unboxed}
 use Rattle.sd_state.specs.Locking.{IsSet}

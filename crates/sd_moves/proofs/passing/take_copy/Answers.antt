@@ -8,9 +8,9 @@ use Rattle.sd_base.specs.declared.refusal.Memory.{Memory}
 use Rattle.sd_page.specs.Page.{Page}
 use Rattle.sd_pagelock.specs.Directory.{DirectoryState, asks_at, entry_at, moving_image_at}
 use Rattle.sd_pagelock.specs.Directory as directory
-use Rattle.sd_places.specs.Places.{PageEntry}
-use Rattle.sd_places.specs.Rows.{taken}
-use Rattle.sd_places.proofs.Uses.{receiver-passes}
+use Rattle.sd_pagelock.specs.Places.{PageEntry}
+use Rattle.sd_pagelock.specs.Rows.{taken}
+use Rattle.sd_pagelock.proofs.Uses.{receiver-passes}
 use Rattle.sd_pool.specs.Buffers as buffers
 use Rattle.sd_pool.specs.Buffers.{Buffers, with_page}
 use Rattle.sd_state.specs.Complexes.{parts, unboxed}

@@ -1,10 +1,10 @@
 use Rattle.std.proofs.Common.{◌≡◌, ℕ, ◌-◌, ◌≤◌, true, false, sym, ap, ◌∙◌, subst, arith, slice_set}
 use Rattle.std.specs.Prelude.{None}
 use Rattle.sd_pagelock.specs.Directory.{DirectoryState, entry_at}
-use Rattle.sd_places.specs.Moves.{IsMove}
-use Rattle.sd_places.specs.Places.{PageEntry, changed}
-use Rattle.sd_places.specs.Rows.{fallen}
-use Rattle.sd_places.proofs.Drops.{changed-fallen}
+use Rattle.sd_pagelock.specs.Moves.{IsMove}
+use Rattle.sd_pagelock.specs.Places.{PageEntry, changed}
+use Rattle.sd_pagelock.specs.Rows.{fallen}
+use Rattle.sd_pagelock.proofs.Drops.{changed-fallen}
 use Rattle.sd_page.specs.Page.{Page}
 use Rattle.sd_pool.specs.Buffers as buffers
 use Rattle.sd_pool.specs.Buffers.{Buffers, without_page}

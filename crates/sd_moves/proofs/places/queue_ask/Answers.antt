@@ -2,8 +2,8 @@ use Rattle.std.proofs.Common.{List}
 use Rattle.std.specs.Prelude.{Result, Ok, Err, OnErr, OnOk}
 use Rattle.sd_base.proofs.Results.{on_err, on_ok}
 use Rattle.sd_base.specs.declared.refusal.Memory.{Memory}
-use Rattle.sd_asks.specs.Asks.{queued}
-use Rattle.sd_asks.specs.declared.queue.Ask.{Ask}
+use Rattle.sd_pagelock.specs.Asks.{queued}
+use Rattle.sd_pagelock.specs.declared.queue.Ask.{Ask}
 use Rattle.sd_pagelock.specs.Directory.{asks_at}
 use Rattle.sd_state.specs.Complexes.{parts, unboxed}
 use Rattle.sd_state.specs.Parts.{Parts, is_active}

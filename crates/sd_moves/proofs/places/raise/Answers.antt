@@ -1,9 +1,9 @@
 use Rattle.std.proofs.Common.{ap, ◌∙◌, subst}
 use Rattle.std.specs.Prelude.{None}
 use Rattle.sd_pagelock.specs.Directory.{DirectoryState, entry_at}
-use Rattle.sd_places.specs.Moves.{IsMove}
-use Rattle.sd_places.specs.Places.{PageEntry}
-use Rattle.sd_places.specs.Rows.{raised}
+use Rattle.sd_pagelock.specs.Moves.{IsMove}
+use Rattle.sd_pagelock.specs.Places.{PageEntry}
+use Rattle.sd_pagelock.specs.Rows.{raised}
 use Rattle.sd_page.specs.Page.{Page}
 use Rattle.sd_state.specs.Complexes.{parts, unboxed}
 use Rattle.sd_state.specs.Locking.{IsSet}

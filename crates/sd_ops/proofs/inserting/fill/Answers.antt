@@ -8,22 +8,22 @@ use Rattle.sd_base.specs.declared.refusal.Refusal.TheVariants as R
 use Rattle.sd_model.specs.declared.event.Event.TheVariants as event
 use Rattle.sd_model.specs.declared.event.Reply.TheVariants as reply
 use Rattle.sd_pagelock.specs.Directory.{entry_at}
-use Rattle.sd_places.specs.Places.{holds_as}
+use Rattle.sd_pagelock.specs.Places.{holds_as}
 use Rattle.sd_reclock.specs.Answers.{IsFree, IsRefused}
 use Rattle.sd_reclock.specs.Locks.{LockTable, stands, wait_for, waits}
-use Rattle.sd_changes.specs.Changing.{FitsThere, image_for}
+use Rattle.sd_update.specs.Changing.{FitsThere, image_for}
 use Rattle.sd_state.specs.Complexes.{parts}
 use Rattle.sd_state.specs.Parts.{Parts, status_at, txns_at}
 use Rattle.sd_txn.specs.Transactions.{state_at}
 use Rattle.sd_txn.specs.declared.state.TxnState.{TxnState}
 use Rattle.sd_world.specs.Serving.{refused}
 use Rattle.sd_fits.proofs.Refused.{unlike}
-use Rattle.sd_work.specs.Halves.{HalfServed, IsOff}
+use Rattle.sd_ops.specs.Halves.{HalfServed, IsOff}
 use Rattle.sd_ops.specs.Vacancies.{IsFullFor, IsVacant, LacksPlace}
 use Rattle.sd_ops.proofs.Filled.{err-ok, filled-half, ok-not_full, put-not-full, same-refusal, unfilled-half}
 use Rattle.sd_ops.proofs.Filling.{insert-asked, insert-away, insert-long, insert-work}
 use Rattle.sd_ops.proofs.Vacating.{asked-small, not-long}
-use Rattle.sd_work.proofs.Work.{err-half, off-half}
+use Rattle.sd_ops.proofs.Work.{err-half, off-half}
 use Rattle.sd_ops.proofs.inserting.fill.Goals as goal
 
 pub returns-in_err-at_work-clause-half : goal.returns-in_err-at_work-clause-half

@@ -2,7 +2,7 @@ use Rattle.std.proofs.Common.{refl, ◌∙◌}
 use Rattle.sd_model.specs.declared.event.Event.TheVariants as event
 use Rattle.sd_model.specs.declared.event.Reply.TheVariants as reply
 use Rattle.sd_world.specs.Serving.{telling}
-use Rattle.sd_work.proofs.Ending.{half-serves}
+use Rattle.sd_ops.proofs.WaitEnded.{half-serves}
 use Rattle.sd_ops.proofs.inserting.insert.Goals as goal
 
 pub returns-clause-served : goal.returns-clause-served

@@ -19,7 +19,7 @@ returns-in-Some-clause-vacant g c = subst
     (λ (x : Page). IsVacant x c.args.t.now c.args.p c.args.capacity
     (parts c.args.c.now) c.in-Some.dead.slot c.in-Some.dead.capacity)
     (copy-is c.args.t.now c.args.p (parts c.args.c.now) c.in_ok-image.image.now c.in_ok-image.ensures.image)
-    (dead-vacant c.in_ok-image.image.now c.args.t.now c.args.p c.args.capacity (parts c.args.c.now) c.bytes-bytes.ensures.fits
+    (dead-vacant c.in_ok-image.image.now c.args.t.now c.args.p c.args.capacity (parts c.args.c.now) c.keeps.ensures.fits
     c.in-Some.dead.slot c.in-Some.dead.capacity c.in-Some.ensures)
 
 pub returns-then-not-room-clause-lacks : goal.returns-then-not-room-clause-lacks
@@ -34,5 +34,5 @@ pub returns-clause-vacant : goal.returns-clause-vacant
 returns-clause-vacant g c = subst
     (λ (x : Page). IsVacant x c.args.t.now c.args.p c.args.capacity (parts c.args.c.now) c.count.result c.args.capacity)
     (copy-is c.args.t.now c.args.p (parts c.args.c.now) c.in_ok-image.image.now c.in_ok-image.ensures.image)
-    (next-vacant c.in_ok-image.image.now c.args.t.now c.args.p c.args.capacity (parts c.args.c.now) c.bytes-bytes.ensures.fits
+    (next-vacant c.in_ok-image.image.now c.args.t.now c.args.p c.args.capacity (parts c.args.c.now) c.keeps.ensures.fits
     c.count.result c.count.ensures.value (c.room.ensures.0 c.if-not-room.false) c.requires.small c.in_default.ensures)

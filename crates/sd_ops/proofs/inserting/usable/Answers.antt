@@ -1,5 +1,5 @@
 use Rattle.std.proofs.Common.{sym, ◌∙◌, arith}
-use Rattle.sd_chain.proofs.Slots.{has-slot}
+use Rattle.sd_chain.proofs.Slots.{has-slot, value-at}
 use Rattle.sd_ops.proofs.inserting.usable.Goals as goal
 
 pub returns-then-own-capacity : goal.returns-then-own-capacity
@@ -10,7 +10,9 @@ returns-then-own-capacity g c usable =
     absurd (omega (arith, own, enough, less))
 
 pub returns-then-not-is_dead : goal.returns-then-not-is_dead
-returns-then-not-is_dead g c usable = let f = sym c.if-not-is_dead.true ∙ c.is_dead.ensures.1 usable.none in absurd (cc)
+returns-then-not-is_dead g c usable =
+    let f = sym c.if-not-is_dead.true ∙ c.is_dead.ensures.1 (value-at c.args.image.now.slots c.args.r.now.slot ∙ usable.none) in
+    absurd (cc)
 
 pub returns-in-None : goal.returns-in-None
 returns-in-None g c =
@@ -19,7 +21,7 @@ returns-in-None g c =
     let enough = c.if-own-capacity.false in (
       record {
         place = own.0;
-        none = c.is_dead.ensures.0 c.if-not-is_dead.false;
+        none = sym (value-at c.args.image.now.slots c.args.r.now.slot) ∙ c.is_dead.ensures.0 c.if-not-is_dead.false;
         enough = omega (arith, same, enough);
         unheld = c.in-None.ensures.lowest;
       },

@@ -7,9 +7,9 @@ use Rattle.sd_base.specs.declared.refusal.Refusal.TheVariants as R
 use Rattle.sd_model.specs.State.{took}
 use Rattle.sd_model.specs.Waits.{claim_of}
 use Rattle.sd_pagelock.specs.Directory.{entry_at}
-use Rattle.sd_places.specs.Places.{owns}
+use Rattle.sd_pagelock.specs.Places.{owns}
 use Rattle.sd_reclock.specs.Locks.{held}
-use Rattle.sd_changes.specs.Changing.{FitsThere, LacksLsns, LacksRoom, change_of, putting}
+use Rattle.sd_update.specs.Changing.{FitsThere, LacksLsns, LacksRoom, change_of, putting}
 use Rattle.sd_state.specs.Complexes.{parts}
 use Rattle.sd_state.specs.Good.{Good}
 use Rattle.sd_state.specs.Parts.{Parts, status_at, txns_at}
@@ -32,7 +32,7 @@ change-requires-clause-numbered g c =
     let rig = c.args.c.now.rig in
     let w = c.requires.fits.0 in
     let f = c.requires.fits.1 in
-    let n = c.name.ensures in
+    let n = c.keeps.ensures in
     running-named (g.G.Rig.seen rig) (g.G.Rig.leaves rig) Pending.Idle (parts c.args.c.now) w.scene.state c.args.t.now f.good
     (is-ready (g.G.Rig.seen rig) (g.G.Rig.leaves rig) Pending.Idle (parts c.args.c.now) w.scene.state f.good c.args.t.now n.low n.high
     c.requires.up c.requires.runs).runs n.low n.high n.epoch n.seq
@@ -57,7 +57,7 @@ returns-in-Ok-clause-put g c = record {
       (c.in-Ok.ensures.good m (subst (λ d. Good (g.G.Rig.seen d) (g.G.Rig.leaves d) Pending.Idle (parts c.grant.new.self) m)
       (sym c.grant.ensures.rig) good));
   frames = frames-kept c.args.t.now c.args.r.now c.args.capacity (option_copied c.args.after) (parts c.args.c.now) (parts c.grant.new.self)
-      (parts c.change.new.c) c.name.ensures.low c.name.ensures.high c.requires.fits.1.good.shape.pools c.grant.ensures.parts
+      (parts c.change.new.c) c.keeps.ensures.low c.keeps.ensures.high c.requires.fits.1.good.shape.pools c.grant.ensures.parts
       c.in-Ok.ensures.made;
 }
 

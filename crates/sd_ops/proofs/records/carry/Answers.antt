@@ -7,7 +7,7 @@ use Rattle.sd_base.specs.declared.refusal.Refusal.TheVariants as R
 use Rattle.sd_model.specs.declared.event.Reply.TheVariants as reply
 use Rattle.sd_reclock.specs.Answers.{IsFree}
 use Rattle.sd_reclock.specs.Locks.{LockTable, stands, wait_for}
-use Rattle.sd_changes.specs.Changing.{image_for}
+use Rattle.sd_update.specs.Changing.{image_for}
 use Rattle.sd_state.specs.Complexes.{parts}
 use Rattle.sd_state.specs.Good.{Good}
 use Rattle.sd_state.specs.Parts.{Parts, status_at, txns_at}
@@ -19,12 +19,12 @@ use Rattle.sd_fits.specs.Fits.{Fits}
 use Rattle.sd_fits.proofs.Refused.{unlike}
 use Rattle.sd_ops.specs.declared.edits.Edit.{Edit}
 use Rattle.sd_ops.specs.Edits.{IsPlan, event_of}
-use Rattle.sd_work.specs.Halves.{HalfServed}
-use Rattle.sd_reads.specs.Copies.{LacksPage}
+use Rattle.sd_ops.specs.Halves.{HalfServed}
+use Rattle.sd_ops.specs.Copies.{LacksPage}
 use Rattle.sd_ops.proofs.Edited.{put-served}
 use Rattle.sd_ops.proofs.Editing.{edit-asked, edit-away, edit-long, edit-work}
 use Rattle.sd_ops.proofs.Spoiling.{vain-half}
-use Rattle.sd_work.proofs.Work.{err-half, off-half}
+use Rattle.sd_ops.proofs.Work.{err-half, off-half}
 use Rattle.sd_ops.proofs.records.carry.Goals as goal
 
 pub returns-in_err-at_work-clause-half : goal.returns-in_err-at_work-clause-half

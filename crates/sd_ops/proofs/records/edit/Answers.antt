@@ -5,9 +5,9 @@ use Rattle.sd_model.specs.declared.event.Reply.TheVariants as reply
 use Rattle.sd_state.specs.Complexes.{parts}
 use Rattle.sd_world.specs.Serving.{telling}
 use Rattle.sd_ops.specs.Edits.{event_of}
-use Rattle.sd_work.specs.Halves.{EndsWait, refusal_of}
+use Rattle.sd_ops.specs.Halves.{EndsWait, refusal_of}
 use Rattle.sd_ops.proofs.Editing.{edit-work}
-use Rattle.sd_work.proofs.Ending.{half-serves}
+use Rattle.sd_ops.proofs.WaitEnded.{half-serves}
 use Rattle.sd_ops.proofs.records.edit.Goals as goal
 
 pub returns-clause-served : goal.returns-clause-served

@@ -1,5 +1,5 @@
 use Rattle.sd_model.specs.declared.event.Event.TheVariants.{List as Listing, Join, RecoverBegin, Fail, FailAll}
-use Rattle.sd_lists.specs.Lists.{meaning}
+use Rattle.sd_oracle.specs.Lists.{meaning}
 use Rattle.sd_oracle.proofs.Answered.{differs}
 use Rattle.sd_oracle.proofs.instances.answer_instance.Goals as goal
 

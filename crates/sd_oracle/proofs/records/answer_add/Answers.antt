@@ -2,7 +2,7 @@ use Rattle.std.proofs.Common.{ℤ, w64, to_z, of_z, None, refl, subst}
 use Rattle.std.proofs.lemmas.Int.{to_z-of_z}
 use Rattle.sd_model.specs.Tables.{Content}
 use Rattle.sd_model.specs.State.{view}
-use Rattle.sd_lists.specs.Lists.{meaning}
+use Rattle.sd_oracle.specs.Lists.{meaning}
 use Rattle.sd_oracle.specs.Judging.{IsSumAt}
 use Rattle.sd_oracle.proofs.records.answer_add.Goals as goal
 

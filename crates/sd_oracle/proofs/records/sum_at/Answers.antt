@@ -3,7 +3,7 @@ use Rattle.std.proofs.lemmas.Int.{to_z-of_z}
 use Rattle.std.specs.Prelude.{IfOk, MatchOption}
 use Rattle.sd_model.specs.Numbers.{IsSum}
 use Rattle.sd_model.specs.State.{view}
-use Rattle.sd_lists.specs.Lists.{meaning}
+use Rattle.sd_oracle.specs.Lists.{meaning}
 use Rattle.sd_oracle.proofs.Sums.{sum-found}
 use Rattle.sd_oracle.proofs.records.sum_at.Goals as goal
 

@@ -1,7 +1,7 @@
 use Rattle.std.proofs.Common.{ℤ, w64, subst}
 use Rattle.std.proofs.lemmas.Int.{to_z-of_z}
 use Rattle.sd_model.specs.Numbers.{Lacks}
-use Rattle.sd_causes.proofs.NumberSums.{never-sum}
+use Rattle.sd_oracle.proofs.NumberSums.{never-sum}
 use Rattle.sd_oracle.proofs.records.sum_text.Goals as goal
 
 pub returns-in-Err : goal.returns-in-Err

@@ -3,7 +3,7 @@ use Rattle.sd_model.specs.declared.event.Reply.{Reply}
 use Rattle.sd_oracle.specs.declared.verdict.Verdict.{Verdict}
 use Rattle.std.proofs.Common.{Bool, sym, subst}
 use Rattle.std.specs.Prelude.{IfOk}
-use Rattle.sd_lists.specs.Lists.{meaning}
+use Rattle.sd_oracle.specs.Lists.{meaning}
 use Rattle.sd_oracle.specs.Judging.{JudgesTold}
 use Rattle.sd_oracle.specs.Outcomes.{Finishes}
 use Rattle.sd_oracle.proofs.Answered.{said}

@@ -1,9 +1,9 @@
 use Rattle.std.proofs.Common.{◌≡◌, true, List, refl, sym, subst}
 use Rattle.sd_model.specs.declared.cause.Cause.{Cause}
 use Rattle.sd_model.specs.Causes.{has_cause}
-use Rattle.sd_causes.proofs.Search.{not_true}
-use Rattle.sd_causes.specs.Firsts.{IsFirstOf}
-use Rattle.sd_lists.specs.Lists.{meaning}
+use Rattle.sd_oracle.proofs.Search.{not_true}
+use Rattle.sd_oracle.specs.Firsts.{IsFirstOf}
+use Rattle.sd_oracle.specs.Lists.{meaning}
 use Rattle.sd_oracle.proofs.Outcomes.{judged-refusal}
 use Rattle.sd_oracle.proofs.refusals.refuse.Goals as goal
 

@@ -4,8 +4,8 @@ use Rattle.sd_base.specs.declared.place.Status.{Status}
 use Rattle.sd_base.specs.declared.place.Status.TheVariants.{Down}
 use Rattle.sd_model.specs.declared.act.Inst.{Inst}
 use Rattle.sd_model.specs.State.{with_status}
-use Rattle.sd_lists.specs.declared.standing.Standing.{Standing}
-use Rattle.sd_lists.specs.Lists.{part_in, inst_in}
+use Rattle.sd_oracle.specs.declared.standing.Standing.{Standing}
+use Rattle.sd_oracle.specs.Lists.{part_in, inst_in}
 use Rattle.sd_oracle.specs.Outcomes.{left_part, HasLoserIn, Lowers}
 use Rattle.sd_oracle.proofs.Lowering.{left-loser, clean-or-down, stands-so}
 use Rattle.sd_oracle.proofs.reopenings.leave.Goals as goal

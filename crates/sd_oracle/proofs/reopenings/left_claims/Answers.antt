@@ -1,10 +1,10 @@
 use Rattle.std.proofs.Common.{◌≡◌, ◌∙◌, ap, refl, sym, List, subst}
 use Rattle.std.proofs.lemmas.List.{take_all}
 use Rattle.sd_model.specs.declared.act.Claim.{Claim}
-use Rattle.sd_lists.specs.Lists.{claims_in}
+use Rattle.sd_oracle.specs.Lists.{claims_in}
 use Rattle.sd_base.specs.declared.ids.Rid.{Rid}
 use Rattle.sd_oracle.specs.Outcomes.{among_claims, left_claim}
-use Rattle.sd_causes.proofs.Search.{not_true}
+use Rattle.sd_oracle.proofs.Search.{not_true}
 use Rattle.sd_oracle.proofs.Lowering.{claims-kept, claims-dropped, left-free}
 use Rattle.sd_oracle.proofs.reopenings.left_claims.Goals as goal
 use Rattle.sd_oracle.proofs.reopenings.left_claims.Goals.{then-is_kept+in_ok-push, else-is_kept}

@@ -1,6 +1,6 @@
 use Rattle.std.proofs.Common.{◌≡◌, take}
 use Rattle.sd_base.specs.declared.ids.Rid.{Rid}
-use Rattle.sd_lists.specs.Lists.{claims_in}
+use Rattle.sd_oracle.specs.Lists.{claims_in}
 use Rattle.sd_oracle.specs.Outcomes.{among_claims, left_claim}
 use Rattle.sd_oracle.proofs.reopenings.left_claims.Given as goal
 

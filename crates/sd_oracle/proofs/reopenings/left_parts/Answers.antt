@@ -1,10 +1,10 @@
 use Rattle.std.proofs.Common.{◌≡◌, List, ap, subst}
 use Rattle.std.proofs.lemmas.List.{take_all}
 use Rattle.sd_base.specs.declared.ids.TxnId.{TxnId}
-use Rattle.sd_lists.specs.Lists.{part_in}
-use Rattle.sd_lists.specs.declared.standing.Standing.{Standing}
+use Rattle.sd_oracle.specs.Lists.{part_in}
+use Rattle.sd_oracle.specs.declared.standing.Standing.{Standing}
 use Rattle.sd_oracle.specs.Outcomes.{left_part}
-use Rattle.sd_lists.proofs.OneByOne.{parts-next}
+use Rattle.sd_oracle.proofs.OneByOne.{parts-next}
 use Rattle.sd_oracle.proofs.reopenings.left_parts.Goals as goal
 
 pub loop-txn-preserved : goal.loop-txn-preserved

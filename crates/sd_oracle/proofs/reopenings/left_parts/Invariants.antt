@@ -1,6 +1,6 @@
 use Rattle.std.proofs.Common.{◌≡◌, take}
 use Rattle.sd_base.specs.declared.ids.TxnId.{TxnId}
-use Rattle.sd_lists.specs.Lists.{part_in}
+use Rattle.sd_oracle.specs.Lists.{part_in}
 use Rattle.sd_oracle.specs.Outcomes.{left_part}
 use Rattle.sd_oracle.proofs.reopenings.left_parts.Given as goal
 

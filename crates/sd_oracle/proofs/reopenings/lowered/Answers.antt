@@ -1,7 +1,7 @@
 use Rattle.std.proofs.Common.{◌∙◌, ap, refl, sym, subst, ℕ, List, ◌+◌, take}
 use Rattle.sd_model.specs.declared.act.Inst.{Inst}
-use Rattle.sd_lists.specs.Lists.{inst_in}
-use Rattle.sd_causes.proofs.Search.{not_true}
+use Rattle.sd_oracle.specs.Lists.{inst_in}
+use Rattle.sd_oracle.proofs.Search.{not_true}
 use Rattle.sd_oracle.proofs.Lowering.{LowersAll, lower-more, lower-skip, lower-all}
 use Rattle.sd_oracle.proofs.reopenings.lowered.Goals as goal
 use Rattle.sd_oracle.proofs.reopenings.lowered.Goals.{then-is_retained+in_ok-push, else-is_retained}

@@ -1,5 +1,5 @@
 use Rattle.std.proofs.Common.{take}
-use Rattle.sd_lists.specs.Lists.{inst_in}
+use Rattle.sd_oracle.specs.Lists.{inst_in}
 use Rattle.sd_oracle.proofs.Lowering.{LowersAll}
 use Rattle.sd_oracle.proofs.reopenings.lowered.Given as goal
 

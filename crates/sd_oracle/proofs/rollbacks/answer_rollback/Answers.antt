@@ -1,5 +1,5 @@
 use Rattle.sd_model.specs.declared.event.Event.TheVariants.{Save, Back, Undo}
-use Rattle.sd_lists.specs.Lists.{meaning}
+use Rattle.sd_oracle.specs.Lists.{meaning}
 use Rattle.sd_oracle.proofs.Answered.{differs}
 use Rattle.sd_oracle.proofs.rollbacks.answer_rollback.Goals as goal
 

@@ -3,9 +3,9 @@ use Rattle.sd_base.specs.declared.ids.Rid.{Rid}
 use Rattle.sd_model.specs.declared.act.Done.{Done}
 use Rattle.sd_model.specs.Tables.{Contents}
 use Rattle.sd_model.specs.State.{now}
-use Rattle.sd_lists.specs.Lists.{meaning}
+use Rattle.sd_oracle.specs.Lists.{meaning}
 use Rattle.sd_oracle.specs.Rows.{AgreeAtRows, AgreeAtDone}
-use Rattle.sd_causes.proofs.Search.{not_true}
+use Rattle.sd_oracle.proofs.Search.{not_true}
 use Rattle.sd_oracle.proofs.RowsWhole.{rows-whole, all-rows, all-done}
 use Rattle.sd_oracle.proofs.rows.are_rows.Goals as goal
 

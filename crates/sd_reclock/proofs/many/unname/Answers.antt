@@ -7,7 +7,7 @@ use Rattle.std.proofs.lemmas.Option.{slice_get_within, get_or_from_slice_get}
 use Rattle.sd_base.specs.declared.ids.Rid.{Rid}
 use Rattle.sd_base.specs.Ids.{same_txn, same_rid}
 use Rattle.sd_reclock.specs.Indexing.{rids_of}
-use Rattle.sd_cycle.proofs.Noting.{PutsTxn}
+use Rattle.sd_reclock.proofs.Noting.{PutsTxn}
 use Rattle.sd_reclock.proofs.Writes.{stay}
 use Rattle.sd_reclock.proofs.Unnaming.{unnamed_kept}
 use Rattle.sd_reclock.proofs.many.unname.Goals as goal

@@ -12,8 +12,8 @@ pub returns-clause-served : goal.returns-clause-served
 returns-clause-served g c =
     let old = c.args.c.now in
     let tell = telling g.G.Rig.seen g.G.Rig.leaves g.G.Rig.moment g.G.Rig.since g.G.Rig.faults in
-    let n = c.instances.ensures in
-    let k = c.instances-2.ensures in
+    let n = c.keeps.ensures in
+    let k = c.keeps-2.ensures in
     let e = c.recovering.ensures in
     begins tell old c.args.i c.args.by n.low n.high k.low k.high (λ img since. g.met.G.Rig.only_now old.rig img since)
     c.recovering.new.c e.rig e.parts e.good c.in_ok-may_begin.ensures.down c.in_ok-may_begin.ensures.recoverer
@@ -22,8 +22,8 @@ pub returns-in_err-may_begin-clause-served : goal.returns-in_err-may_begin-claus
 returns-in_err-may_begin-clause-served g c =
     let old = c.args.c.now in
     let tell = telling g.G.Rig.seen g.G.Rig.leaves g.G.Rig.moment g.G.Rig.since g.G.Rig.faults in
-    let n = c.instances.ensures in
-    let k = c.instances-2.ensures in
+    let n = c.keeps.ensures in
+    let k = c.keeps-2.ensures in
     let p = err_from_is_err_and c.from_residual.result c.from_residual.ensures.1 in
     subst (λ (r : Result (Unit {0}) Refusal). Serving tell (RecoverBegin c.args.i c.args.by) (did r) old old)
     (sym (p.1 ∙ ap (λ (n : Refusal). Err n) p.2))

@@ -24,7 +24,7 @@ seal_end-requires-clause-numbered g c =
     let t = c.args.t.now in
     let rig = c.args.c.now.rig in
     let f = c.requires.fits.1 in
-    let n = c.name.ensures in
+    let n = c.keeps.ensures in
     let number = f.good.numbered t (some-there (g.G.Rig.seen rig) (g.G.Rig.leaves rig) Pending.Idle (parts c.args.c.now)
     c.requires.fits.0.scene.state f.good t TxnState.Retained n.low n.high c.requires.loser) in
     record { low = n.low; high = n.high; epoch = (number.0, n.epoch); seq = (number.1, n.seq) }
@@ -58,7 +58,7 @@ pub down-requires-clause-due : goal.down-requires-clause-due
 down-requires-clause-due g c =
     let tell : Telling _ = telling g.G.Rig.seen g.G.Rig.leaves g.G.Rig.moment g.G.Rig.since g.G.Rig.faults in
     let r = c.requires in
-    let n = c.name.ensures in
+    let n = c.keeps.ensures in
     let s = c.in_ok-seal_end.ensures in
     let e = c.in-Err.ensures in
     end-due tell c.args.by c.args.t.now c.args.c.now c.seal_end.new.c c.force_log.new.self n.low n.high r.recovers r.settled
@@ -68,7 +68,7 @@ pub returns-in-Ok-clause-served : goal.returns-in-Ok-clause-served
 returns-in-Ok-clause-served g c =
     let tell : Telling _ = telling g.G.Rig.seen g.G.Rig.leaves g.G.Rig.moment g.G.Rig.since g.G.Rig.faults in
     let r = c.requires in
-    let n = c.name.ensures in
+    let n = c.keeps.ensures in
     let s = c.in_ok-seal_end.ensures in
     let e = c.in-Ok.ensures in (
       λ w f. end-step tell c.args.by c.args.t.now c.args.c.now c.seal_end.new.c c.force_log.new.self n.low n.high r.recovers r.settled
@@ -81,8 +81,8 @@ pub returns-in-Err-clause-served : goal.returns-in-Err-clause-served
 returns-in-Err-clause-served g c =
     let tell : Telling _ = telling g.G.Rig.seen g.G.Rig.leaves g.G.Rig.moment g.G.Rig.since g.G.Rig.faults in
     let r = c.requires in
-    let n = c.name.ensures in
-    let k = c.instances.ensures in
+    let n = c.keeps.ensures in
+    let k = c.keeps-2.ensures in
     let s = c.in_ok-seal_end.ensures in
     let e = c.in-Err.ensures in
     let d = c.down.ensures in
@@ -99,7 +99,7 @@ pub returns-in-Ok-clause-fewer : goal.returns-in-Ok-clause-fewer
 returns-in-Ok-clause-fewer g c =
     let tell : Telling _ = telling g.G.Rig.seen g.G.Rig.leaves g.G.Rig.moment g.G.Rig.since g.G.Rig.faults in
     let r = c.requires in
-    let n = c.name.ensures in
+    let n = c.keeps.ensures in
     let s = c.in_ok-seal_end.ensures in
     let e = c.in-Ok.ensures in
     end-fewer c.args.t.now (parts c.args.c.now) (parts c.seal_end.new.c) (parts c.force_log.new.self) n.low n.high r.fits.1.good.shape.txns

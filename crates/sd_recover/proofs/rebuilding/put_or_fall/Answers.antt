@@ -1,48 +1,48 @@
 use Rattle.std.proofs.Common.{◌≡◌, inl, inr, false, ap, ◌∙◌, subst, arith}
 use Rattle.sd_model.specs.declared.event.Event.TheVariants.{RecoverStep}
-use Rattle.sd_puts.specs.Putting.{left_after}
-use Rattle.sd_puts.specs.declared.putting.Unput.{Unput}
-use Rattle.sd_puts.proofs.PutCalls.{disk-same}
+use Rattle.sd_moves.specs.Putting.{left_after}
+use Rattle.sd_moves.specs.declared.writing.Unput.{Unput}
+use Rattle.sd_moves.proofs.PutCalls.{disk-same}
 use Rattle.sd_state.specs.Complexes.{parts}
 use Rattle.sd_state.specs.Parts.{Parts}
 use Rattle.sd_state.specs.Values.{Pending}
 use Rattle.sd_world.specs.Serving.{telling}
 use Rattle.sd_fits.proofs.Falling.{fallen-down}
-use Rattle.sd_writer.proofs.Unput.{unread-served, unwritten-served}
+use Rattle.sd_transfer.proofs.Unput.{unread-served, unwritten-served}
 use Rattle.sd_recover.proofs.Rebuilt.{may-rebuild, rebuild-served, step-breaks}
 use Rattle.sd_recover.proofs.rebuilding.put_or_fall.Goals as goal
 
-pub rebuilt-requires-clause-good : goal.rebuilt-requires-clause-good
-rebuilt-requires-clause-good g c =
+pub rebuild-requires-clause-good : goal.rebuild-requires-clause-good
+rebuild-requires-clause-good g c =
     let fits = c.requires.fits in
     (Pending.Idle, fits.0.scene.state, fits.1.good)
 
-pub rebuilt-requires-clause-may : goal.rebuilt-requires-clause-may
-rebuilt-requires-clause-may g c =
+pub rebuild-requires-clause-may : goal.rebuild-requires-clause-may
+rebuild-requires-clause-may g c =
     may-rebuild c.args.p (parts c.args.c.now) c.requires.lowest c.requires.settled c.requires.fits.1.idle
 
 pub returns-in-Ok-clause-served : goal.returns-in-Ok-clause-served
 returns-in-Ok-clause-served g c =
     let tell = telling g.G.Rig.seen g.G.Rig.leaves g.G.Rig.moment g.G.Rig.since g.G.Rig.faults in
     let put = c.in-Ok.ensures in
-    rebuild-served tell c.args.c.now c.args.i c.args.by c.args.p c.instances.ensures.low c.instances.ensures.high
-    c.requires.recovers c.rebuilt.new.c c.requires.lowest (c.requires.settled 0 (omega arith))
+    rebuild-served tell c.args.c.now c.args.i c.args.by c.args.p c.keeps.ensures.low c.keeps.ensures.high
+    c.requires.recovers c.rebuild.new.c c.requires.lowest (c.requires.settled 0 (omega arith))
     put.good put.images put.time put.versions put.others_leave put.parts put.place put.quiet
 
 pub returns-in-Err-Unread-clause-served : goal.returns-in-Err-Unread-clause-served
 returns-in-Err-Unread-clause-served g c =
     let tell = telling g.G.Rig.seen g.G.Rig.leaves g.G.Rig.moment g.G.Rig.since g.G.Rig.faults in
     let put = c.in-Err-Unread.ensures in
-    unread-served tell c.args.c.now c.rebuilt.new.c c.args.by (RecoverStep c.args.i)
-    (λ w f. step-breaks tell c.args.c.now c.args.i c.args.by c.args.p c.instances.ensures.low c.instances.ensures.high
+    unread-served tell c.args.c.now c.rebuild.new.c c.args.by (RecoverStep c.args.i)
+    (λ w f. step-breaks tell c.args.c.now c.args.i c.args.by c.args.p c.keeps.ensures.low c.keeps.ensures.high
     c.requires.recovers w f)
     put.good put.images put.time put.versions put.others_leave put.cause
-    (subst (λ (e : Unput). parts c.rebuilt.new.c ≡ left_after e (parts c.args.c.now)) c.in-Err-Unread.field-0-is put.errors)
+    (subst (λ (e : Unput). parts c.rebuild.new.c ≡ left_after e (parts c.args.c.now)) c.in-Err-Unread.field-0-is put.errors)
 
 pub returns-in-Err-Unread-clause-left : goal.returns-in-Err-Unread-clause-left
 returns-in-Err-Unread-clause-left g c =
     let p : Parts = parts c.args.c.now in
-    inl (subst (λ (e : Unput). parts c.rebuilt.new.c ≡ left_after e p) c.in-Err-Unread.field-0-is c.in-Err-Unread.ensures.errors
+    inl (subst (λ (e : Unput). parts c.rebuild.new.c ≡ left_after e p) c.in-Err-Unread.field-0-is c.in-Err-Unread.ensures.errors
     ∙ disk-same p false (c.requires.settled 0 (omega arith)))
 
 pub down-requires-clause-good : goal.down-requires-clause-good
@@ -53,7 +53,7 @@ down-requires-clause-good g c =
 pub down-requires-clause-due : goal.down-requires-clause-due
 down-requires-clause-due g c =
     inl (ap (λ (k : Parts). k.due)
-    (subst (λ (e : Unput). parts c.rebuilt.new.c ≡ left_after e (parts c.args.c.now)) c.in-Err-Unwritten.field-0-is
+    (subst (λ (e : Unput). parts c.rebuild.new.c ≡ left_after e (parts c.args.c.now)) c.in-Err-Unwritten.field-0-is
     c.in-Err-Unwritten.ensures.errors)
     ∙ c.requires.fits.1.idle)
 
@@ -62,13 +62,13 @@ returns-in-Err-Unwritten-clause-served g c =
     let tell = telling g.G.Rig.seen g.G.Rig.leaves g.G.Rig.moment g.G.Rig.since g.G.Rig.faults in
     let put = c.in-Err-Unwritten.ensures in
     let down = c.down.ensures in
-    unwritten-served tell c.args.c.now c.rebuilt.new.c c.args.by (RecoverStep c.args.i)
-    (λ w f. step-breaks tell c.args.c.now c.args.i c.args.by c.args.p c.instances.ensures.low c.instances.ensures.high
+    unwritten-served tell c.args.c.now c.rebuild.new.c c.args.by (RecoverStep c.args.i)
+    (λ w f. step-breaks tell c.args.c.now c.args.i c.args.by c.args.p c.keeps.ensures.low c.keeps.ensures.high
     c.requires.recovers w f)
-    put.good put.images put.time put.versions put.others_leave put.cause c.instances-2.ensures.low c.instances-2.ensures.high
-    (subst (λ (e : Unput). parts c.rebuilt.new.c ≡ left_after e (parts c.args.c.now)) c.in-Err-Unwritten.field-0-is put.errors)
+    put.good put.images put.time put.versions put.others_leave put.cause c.keeps-2.ensures.low c.keeps-2.ensures.high
+    (subst (λ (e : Unput). parts c.rebuild.new.c ≡ left_after e (parts c.args.c.now)) c.in-Err-Unwritten.field-0-is put.errors)
     c.down.new.c down.rig down.parts down.fallen down.good
 
 pub returns-in-Err-Unwritten-clause-left : goal.returns-in-Err-Unwritten-clause-left
 returns-in-Err-Unwritten-clause-left g c =
-    inr (fallen-down c.args.by (parts c.rebuilt.new.c) (parts c.down.new.c) c.down.ensures.fallen)
+    inr (fallen-down c.args.by (parts c.rebuild.new.c) (parts c.down.new.c) c.down.ensures.fallen)

@@ -7,7 +7,7 @@ use Rattle.sd_model.specs.declared.event.Event.TheVariants.{RecoverStep}
 use Rattle.sd_model.specs.declared.event.Reply.TheVariants as reply
 use Rattle.sd_moves.specs.Places.{with_directory}
 use Rattle.sd_pagelock.specs.Directory.{entry_at}
-use Rattle.sd_places.specs.Places.{PageEntry}
+use Rattle.sd_pagelock.specs.Places.{PageEntry}
 use Rattle.sd_state.specs.Complexes.{parts}
 use Rattle.sd_state.specs.Locking.{IsSet}
 use Rattle.sd_state.specs.Parts.{Parts, is_loose, status_at}
@@ -35,7 +35,7 @@ returns-in_err-image-clause-served g c =
     let from = err_from_is_err_and c.from_residual.result c.from_residual.ensures.1 in
     subst (λ (x : Result (Unit {0}) Refusal). Serving tell (RecoverStep c.args.i) (answered (λ y. reply.Step) x) old read)
     (sym (from.1 ∙ ap (λ (n : Refusal). Err n) from.2))
-    (read-refused tell old c.args.i c.args.by c.args.p c.instances.ensures.low c.instances.ensures.high
+    (read-refused tell old c.args.i c.args.by c.args.p c.keeps.ensures.low c.keeps.ensures.high
     c.requires.recovers read found.parts
     found.stays (λ img since. g.met.G.Rig.only_now old.rig img since) found.good (c.requires.settled 0 (omega arith)) found.images
     c.in_err-image.field-0.0 c.in_err-image.ensures.refusals)
@@ -63,7 +63,7 @@ put_or_fall-requires-clause-fits g c =
     let found = c.newest_image.ensures in
     let fits = c.requires.fits in (
       fits.0,
-      fits-read tell old c.args.i c.args.by c.args.p c.instances.ensures.low c.instances.ensures.high
+      fits-read tell old c.args.i c.args.by c.args.p c.keeps.ensures.low c.keeps.ensures.high
           c.requires.recovers read found.parts
           found.stays (λ img since. g.met.G.Rig.only_now old.rig img since) found.good fits.0 fits.1,
     )
@@ -93,7 +93,7 @@ returns-clause-served g c =
     let new = c.put_or_fall.new.c in
     served-again tell stands_for (λ k. k.rig) (fits_by r.seen r.leaves) (RecoverStep c.args.i)
     (answered (λ y. reply.Step) c.put_or_fall.result) old read new (λ t u img le s. g.met.G.Rig.earlier new.rig t u img le s)
-    (read-spared tell old c.args.i c.args.by c.args.p c.instances.ensures.low c.instances.ensures.high
+    (read-spared tell old c.args.i c.args.by c.args.p c.keeps.ensures.low c.keeps.ensures.high
     c.requires.recovers read found.parts
     found.stays (λ img since. g.met.G.Rig.only_now old.rig img since) found.good c.in_ok-image.ensures.quiet)
     c.put_or_fall.ensures.served

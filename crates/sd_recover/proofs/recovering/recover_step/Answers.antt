@@ -22,7 +22,7 @@ pub returns-in_err-by-clause-served : goal.returns-in_err-by-clause-served
 returns-in_err-by-clause-served g c =
     let old = c.args.c.now in
     let tell : Telling _ = telling g.G.Rig.seen g.G.Rig.leaves g.G.Rig.moment g.G.Rig.since g.G.Rig.faults in
-    let n = c.instances.ensures in
+    let n = c.keeps.ensures in
     let p = err_from_is_err_and c.from_residual.result c.from_residual.ensures.1 in
     subst (λ (r : Result Recovery Refusal). Serving tell (RecoverStep c.args.i) (answered recovery r) old old)
     (sym (p.1 ∙ ap (λ (k : Refusal). Err k) p.2))
@@ -38,8 +38,8 @@ returns-in_err-by-clause-down g c = λ e.
 pub returns-clause-down : goal.returns-clause-down
 returns-clause-down g c = λ e.
     let tell : Telling _ = telling g.G.Rig.seen g.G.Rig.leaves g.G.Rig.moment g.G.Rig.since g.G.Rig.faults in
-    let n = c.instances.ensures in
-    let k = c.instances-2.ensures in
+    let n = c.keeps.ensures in
+    let k = c.keeps-2.ensures in
     let f = c.requires.fits in
     stayed-or-fell tell c.args.c.now c.work_on.new.c c.args.i c.in_ok-by.by n.low n.high k.low k.high c.in_ok-by.ensures.by c.work_on.result f.0 f.1
     c.work_on.ensures.served e

@@ -4,7 +4,7 @@ use Rattle.sd_base.specs.declared.place.Status.TheVariants as S
 use Rattle.sd_base.proofs.Results.{when_ok}
 use Rattle.sd_chain.specs.Records.{home}
 use Rattle.sd_pagelock.specs.Directory.{entry_at}
-use Rattle.sd_places.specs.Places.{is_lost}
+use Rattle.sd_pagelock.specs.Places.{is_lost}
 use Rattle.sd_fits.specs.Serving.{Serving}
 use Rattle.sd_model.specs.declared.event.Event.TheVariants.{RecoverStep}
 use Rattle.sd_model.specs.declared.event.Reply.{Reply}
@@ -16,11 +16,11 @@ use Rattle.sd_txn.specs.declared.state.OpenRec.{OpenRec}
 use Rattle.sd_txn.specs.declared.state.TxnState.{TxnState}
 use Rattle.sd_world.specs.Serving.{Telling, answered, telling}
 use Rattle.sd_recover.specs.Recovering.{AwaitsPage}
-use Rattle.sd_tasks.specs.Tasks.{IsNext, tasks_in}
-use Rattle.sd_tasks.specs.declared.tasks.Task.TheVariants as task
+use Rattle.sd_recover.specs.Tasks.{IsNext, tasks_in}
+use Rattle.sd_recover.specs.declared.tasks.Task.TheVariants as task
 use Rattle.sd_recover.proofs.Wanting.{lost-none, none-wanted, wanted-so}
 use Rattle.sd_recover.proofs.Cleared.{next-cleared, opposite, there-cleared}
-use Rattle.sd_tasks.proofs.Owns.{bare, doubtful, ended-loser, open-loser, own-row, spoken}
+use Rattle.sd_recover.proofs.Owns.{bare, doubtful, ended-loser, open-loser, own-row, spoken}
 use Rattle.sd_recover.proofs.recovering.work_on.Goals as goal
 
 pub decide_next-requires-clause-recovers : goal.decide_next-requires-clause-recovers
@@ -28,7 +28,7 @@ decide_next-requires-clause-recovers g c =
     let old : Parts = parts c.args.c.now in
     let rig = c.args.c.now.rig in
     let i : ℕ = c.args.i in
-    let n = c.instances.ensures in
+    let n = c.keeps.ensures in
     let f = c.requires.fits in
     let next = subst (IsNext old i) c.in-Decide.is c.requires.next in
     let stands = doubtful (txns_at old i) c.in-Decide.t next.1 in
@@ -40,7 +40,7 @@ decide_next-requires-clause-settled g c =
     let old : Parts = parts c.args.c.now in
     let rig = c.args.c.now.rig in
     let i : ℕ = c.args.i in
-    let n = c.instances.ensures in
+    let n = c.keeps.ensures in
     let f = c.requires.fits in
     let next = subst (IsNext old i) c.in-Decide.is c.requires.next in
     let stands = doubtful (txns_at old i) c.in-Decide.t next.1 in
@@ -52,7 +52,7 @@ decide_next-requires-clause-doubt g c =
     let old : Parts = parts c.args.c.now in
     let rig = c.args.c.now.rig in
     let i : ℕ = c.args.i in
-    let n = c.instances.ensures in
+    let n = c.keeps.ensures in
     let f = c.requires.fits in
     let next = subst (IsNext old i) c.in-Decide.is c.requires.next in
     let stands = doubtful (txns_at old i) c.in-Decide.t next.1 in
@@ -64,7 +64,7 @@ undo_next-requires-clause-recovers g c =
     let old : Parts = parts c.args.c.now in
     let rig = c.args.c.now.rig in
     let i : ℕ = c.args.i in
-    let n = c.instances.ensures in
+    let n = c.keeps.ensures in
     let f = c.requires.fits in
     let next = subst (IsNext old i) c.in-Undo.is c.requires.next in
     let stands = (open-loser (txns_at old i) c.in-Undo.txn next.1.1).0 in
@@ -76,7 +76,7 @@ undo_next-requires-clause-there g c =
     let old : Parts = parts c.args.c.now in
     let rig = c.args.c.now.rig in
     let i : ℕ = c.args.i in
-    let n = c.instances.ensures in
+    let n = c.keeps.ensures in
     let f = c.requires.fits in
     let next = subst (IsNext old i) c.in-Undo.is c.requires.next in
     let stands = (open-loser (txns_at old i) c.in-Undo.txn next.1.1).0 in
@@ -88,7 +88,7 @@ undo_next-requires-clause-loser g c =
     let old : Parts = parts c.args.c.now in
     let rig = c.args.c.now.rig in
     let i : ℕ = c.args.i in
-    let n = c.instances.ensures in
+    let n = c.keeps.ensures in
     let f = c.requires.fits in
     let next = subst (IsNext old i) c.in-Undo.is c.requires.next in
     let stands = (open-loser (txns_at old i) c.in-Undo.txn next.1.1).0 in
@@ -100,7 +100,7 @@ undo_next-requires-clause-last g c =
     let old : Parts = parts c.args.c.now in
     let rig = c.args.c.now.rig in
     let i : ℕ = c.args.i in
-    let n = c.instances.ensures in
+    let n = c.keeps.ensures in
     let f = c.requires.fits in
     let next = subst (IsNext old i) c.in-Undo.is c.requires.next in
     let stands = (open-loser (txns_at old i) c.in-Undo.txn next.1.1).0 in
@@ -112,7 +112,7 @@ end_next-requires-clause-recovers g c =
     let old : Parts = parts c.args.c.now in
     let rig = c.args.c.now.rig in
     let i : ℕ = c.args.i in
-    let n = c.instances.ensures in
+    let n = c.keeps.ensures in
     let f = c.requires.fits in
     let next = subst (IsNext old i) c.in-End.is c.requires.next in
     let stands = ended-loser (txns_at old i) c.in-End.t next.1.2 in
@@ -124,7 +124,7 @@ end_next-requires-clause-settled g c =
     let old : Parts = parts c.args.c.now in
     let rig = c.args.c.now.rig in
     let i : ℕ = c.args.i in
-    let n = c.instances.ensures in
+    let n = c.keeps.ensures in
     let f = c.requires.fits in
     let next = subst (IsNext old i) c.in-End.is c.requires.next in
     let stands = ended-loser (txns_at old i) c.in-End.t next.1.2 in
@@ -136,7 +136,7 @@ end_next-requires-clause-loser g c =
     let old : Parts = parts c.args.c.now in
     let rig = c.args.c.now.rig in
     let i : ℕ = c.args.i in
-    let n = c.instances.ensures in
+    let n = c.keeps.ensures in
     let f = c.requires.fits in
     let next = subst (IsNext old i) c.in-End.is c.requires.next in
     let stands = ended-loser (txns_at old i) c.in-End.t next.1.2 in
@@ -148,7 +148,7 @@ end_next-requires-clause-empty g c =
     let old : Parts = parts c.args.c.now in
     let rig = c.args.c.now.rig in
     let i : ℕ = c.args.i in
-    let n = c.instances.ensures in
+    let n = c.keeps.ensures in
     let f = c.requires.fits in
     let next = subst (IsNext old i) c.in-End.is c.requires.next in
     let stands = ended-loser (txns_at old i) c.in-End.t next.1.2 in
@@ -160,7 +160,7 @@ end_next-requires-clause-there g c =
     let old : Parts = parts c.args.c.now in
     let rig = c.args.c.now.rig in
     let i : ℕ = c.args.i in
-    let n = c.instances.ensures in
+    let n = c.keeps.ensures in
     let f = c.requires.fits in
     let next = subst (IsNext old i) c.in-End.is c.requires.next in
     let stands = ended-loser (txns_at old i) c.in-End.t next.1.2 in
@@ -204,7 +204,7 @@ returns-in-Decide-clause-served g c =
     let old : Parts = parts c.args.c.now in
     let rig = c.args.c.now.rig in
     let i : ℕ = c.args.i in
-    let n = c.instances.ensures in
+    let n = c.keeps.ensures in
     let f = c.requires.fits in
     let next = subst (IsNext old i) c.in-Decide.is c.requires.next in
     let stands = doubtful (txns_at old i) c.in-Decide.t next.1 in
@@ -218,7 +218,7 @@ returns-in-Undo-clause-served g c =
     let old : Parts = parts c.args.c.now in
     let rig = c.args.c.now.rig in
     let i : ℕ = c.args.i in
-    let n = c.instances.ensures in
+    let n = c.keeps.ensures in
     let f = c.requires.fits in
     let next = subst (IsNext old i) c.in-Undo.is c.requires.next in
     let stands = (open-loser (txns_at old i) c.in-Undo.txn next.1.1).0 in
@@ -232,7 +232,7 @@ returns-in-End-clause-served g c =
     let old : Parts = parts c.args.c.now in
     let rig = c.args.c.now.rig in
     let i : ℕ = c.args.i in
-    let n = c.instances.ensures in
+    let n = c.keeps.ensures in
     let f = c.requires.fits in
     let next = subst (IsNext old i) c.in-End.is c.requires.next in
     let stands = ended-loser (txns_at old i) c.in-End.t next.1.2 in
@@ -250,7 +250,7 @@ returns-in-Decide-clause-stepped g c = λ fine there.
     let old : Parts = parts c.args.c.now in
     let rig = c.args.c.now.rig in
     let i : ℕ = c.args.i in
-    let n = c.instances.ensures in
+    let n = c.keeps.ensures in
     let f = c.requires.fits in
     let next = subst (IsNext old i) c.in-Decide.is c.requires.next in
     let stands = doubtful (txns_at old i) c.in-Decide.t next.1 in
@@ -263,7 +263,7 @@ returns-in-Undo-clause-stepped g c = λ fine there.
     let old : Parts = parts c.args.c.now in
     let rig = c.args.c.now.rig in
     let i : ℕ = c.args.i in
-    let n = c.instances.ensures in
+    let n = c.keeps.ensures in
     let f = c.requires.fits in
     let next = subst (IsNext old i) c.in-Undo.is c.requires.next in
     let stands = (open-loser (txns_at old i) c.in-Undo.txn next.1.1).0 in
@@ -276,7 +276,7 @@ returns-in-End-clause-stepped g c = λ fine there.
     let old : Parts = parts c.args.c.now in
     let rig = c.args.c.now.rig in
     let i : ℕ = c.args.i in
-    let n = c.instances.ensures in
+    let n = c.keeps.ensures in
     let f = c.requires.fits in
     let next = subst (IsNext old i) c.in-End.is c.requires.next in
     let stands = ended-loser (txns_at old i) c.in-End.t next.1.2 in

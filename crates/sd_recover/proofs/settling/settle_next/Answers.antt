@@ -1,7 +1,7 @@
 use Rattle.std.proofs.Common.{inl, inr, ⊎_elim, ℕ, ◌≤◌, ap, arith, false, slice_set, sym, ◌∙◌}
 use Rattle.std.specs.Prelude.{Err}
 use Rattle.std.proofs.lemmas.Bool.{cases_eq}
-use Rattle.sd_settle.specs.declared.settling.Unsettled.{Unsettled}
+use Rattle.sd_moves.specs.declared.reread.Unsettled.{Unsettled}
 use Rattle.sd_world.specs.Serving.{telling}
 use Rattle.sd_fits.proofs.Falling.{fallen-down}
 use Rattle.sd_state.specs.Complexes.{parts}
@@ -16,7 +16,7 @@ returns-in-Ok-clause-served g c =
     let old = c.args.c.now in
     let new = c.settle.new.c in
     let dev : ℕ = c.args.dev in
-    let n = c.instances.ensures in
+    let n = c.keeps.ensures in
     let s = c.in-Ok.ensures in
     ⊎_elim
     (λ zero. disk-served tell old new c.args.i c.args.by dev n.low n.high c.requires.recovers s.less s.reads
@@ -51,12 +51,12 @@ returns-in-Err-Unsynced-clause-served g c =
     let r = g.G.Rig in
     let tell = telling r.seen r.leaves r.moment r.since r.faults in
     let new = c.settle.new.c in
-    let n = c.instances.ensures in
+    let n = c.keeps.ensures in
     let s = c.in-Err-Unsynced.ensures in
     let why = ap (λ (e : Unsettled). Err e) c.in-Err-Unsynced.field-0-is in
     unsynced-served tell c.args.c.now new c.args.i c.args.by c.args.dev n.low n.high c.requires.recovers s.less s.reads
     (λ d le. g.met.G.Rig.leaves_seen new.rig d le) s.images s.time
-    c.instances-2.ensures.low c.instances-2.ensures.high (s.unsynced why) (s.fallen why) (s.good_fallen why) (s.cause (inl why))
+    c.keeps-2.ensures.low c.keeps-2.ensures.high (s.unsynced why) (s.fallen why) (s.good_fallen why) (s.cause (inl why))
 
 pub returns-in-Err-Unsynced-clause-left : goal.returns-in-Err-Unsynced-clause-left
 returns-in-Err-Unsynced-clause-left g c =
@@ -68,7 +68,7 @@ returns-in-Err-Unread-clause-served g c =
     let r = g.G.Rig in
     let tell = telling r.seen r.leaves r.moment r.since r.faults in
     let new = c.settle.new.c in
-    let n = c.instances.ensures in
+    let n = c.keeps.ensures in
     let s = c.in-Err-Unread.ensures in
     let why = ap (λ (e : Unsettled). Err e) c.in-Err-Unread.field-0-is in
     reread-failed tell c.args.c.now new c.args.i c.args.by c.args.dev n.low n.high c.requires.recovers s.less s.reads
@@ -79,7 +79,7 @@ returns-in-Err-Memory-clause-served g c =
     let r = g.G.Rig in
     let tell = telling r.seen r.leaves r.moment r.since r.faults in
     let new = c.settle.new.c in
-    let n = c.instances.ensures in
+    let n = c.keeps.ensures in
     let s = c.in-Err-Memory.ensures in
     let why = ap (λ (e : Unsettled). Err e) c.in-Err-Memory.field-0-is in
     short-served tell c.args.c.now new c.args.i c.args.by c.args.dev n.low n.high c.requires.recovers s.less s.reads

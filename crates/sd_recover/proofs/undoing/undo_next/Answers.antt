@@ -10,21 +10,21 @@ use Rattle.sd_fits.specs.Serving.{Serving}
 use Rattle.sd_model.specs.declared.event.Event.TheVariants.{RecoverStep}
 use Rattle.sd_model.specs.declared.event.Reply.TheVariants as reply
 use Rattle.sd_pagelock.specs.Directory.{entry_at}
-use Rattle.sd_places.specs.Places.{owns}
+use Rattle.sd_pagelock.specs.Places.{owns}
 use Rattle.sd_state.specs.Complexes.{parts}
-use Rattle.sd_sound.specs.Logs.{all_at}
+use Rattle.sd_chain.specs.Logs.{all_at}
 use Rattle.sd_state.specs.Parts.{Parts, log_at, txns_at}
 use Rattle.sd_state.specs.Tables.{RowIsLogged, tells_log}
 use Rattle.sd_state.specs.Values.{Pending}
-use Rattle.sd_losers.proofs.Deciding.{has-row}
+use Rattle.sd_update.proofs.Deciding.{has-row}
 use Rattle.sd_txn.specs.Transactions.{Transaction, Transactions, ids}
 use Rattle.sd_txn.specs.declared.state.TxnState.{TxnState}
 use Rattle.sd_world.specs.Serving.{Telling, answered, telling}
 use Rattle.sd_recover.specs.Recovering.{IsAway}
-use Rattle.sd_tasks.specs.Tasks.{tasks_in}
+use Rattle.sd_recover.specs.Tasks.{tasks_in}
 use Rattle.sd_recover.proofs.Left.{row-some, undone-fewer}
 use Rattle.sd_recover.proofs.Away.{page-away}
-use Rattle.sd_tasks.proofs.Owns.{its-top}
+use Rattle.sd_recover.proofs.Owns.{its-top}
 use Rattle.sd_recover.proofs.Steps.{force-spares, rises}
 use Rattle.sd_recover.proofs.UndoFails.{left-due, left-serves}
 use Rattle.sd_recover.proofs.UndoSteps.{undo-step}
@@ -41,7 +41,7 @@ returns-in_err-alone-clause-served g c =
     let tell : Telling _ = telling g.G.Rig.seen g.G.Rig.leaves g.G.Rig.moment g.G.Rig.since g.G.Rig.faults in
     let old = c.args.c.now in
     let t = c.args.t.now in
-    let n = c.instances.ensures in
+    let n = c.keeps.ensures in
     let r = c.requires in
     let p = err_from_is_err_and c.from_residual.result c.from_residual.ensures.1 in
     subst (λ (x : Result (Unit {0}) Refusal). Serving tell (RecoverStep (home t)) (answered (λ _. reply.Step) x) old old)
@@ -54,8 +54,8 @@ pub undo_forced-requires-clause-may : goal.undo_forced-requires-clause-may
 undo_forced-requires-clause-may g c =
     let old = c.args.c.now in
     let t = c.args.t.now in
-    let n = c.instances.ensures in
-    let k = c.instances-2.ensures in
+    let n = c.keeps.ensures in
+    let k = c.keeps-2.ensures in
     let r = c.requires in
     let row = has-row (txns_at (parts old) (home t)) t TxnState.Retained r.loser in
     record {
@@ -76,14 +76,14 @@ returns-in-Ok-clause-served g c =
     let tell : Telling _ = telling g.G.Rig.seen g.G.Rig.leaves g.G.Rig.moment g.G.Rig.since g.G.Rig.faults in
     let old = c.args.c.now in
     let t = c.args.t.now in
-    let n = c.instances.ensures in
-    let k = c.instances-2.ensures in
+    let n = c.keeps.ensures in
+    let k = c.keeps-2.ensures in
     let r = c.requires in
     let e = c.in-Ok.ensures in
     let u = e.undone in
     let held = subst (λ (q : ℕ). owns (entry_at (parts old).directory q) c.args.by ≡ true) r.last.2 c.in_ok-alone.ensures.alone in
     let once : IsDistinct same_txn (ids (txns_at (parts old) (home t))) =
-    subst (λ (tb : Transactions). IsDistinct same_txn (ids tb)) c.txns.ensures c.keeps.ensures.once in (
+    subst (λ (tb : Transactions). IsDistinct same_txn (ids tb)) c.txns.ensures c.keeps-3.ensures.once in (
       λ w f. undo-step tell c.args.by t old c.undo_forced.new.c n.low n.high k.low k.high r.recovers r.there r.loser r.last.0 r.last.1 held once
           e.good e.time e.images e.disk e.masters u.owes u.owes_is u.between u.undone u.forced w f,
       e.quiet,
@@ -94,8 +94,8 @@ returns-then-is_memory-clause-served g c =
     let tell : Telling _ = telling g.G.Rig.seen g.G.Rig.leaves g.G.Rig.moment g.G.Rig.since g.G.Rig.faults in
     let old = c.args.c.now in
     let t = c.args.t.now in
-    let n = c.instances.ensures in
-    let k = c.instances-2.ensures in
+    let n = c.keeps.ensures in
+    let k = c.keeps-2.ensures in
     let r = c.requires in
     let e = c.in-Err.ensures in
     let memory = err-is c.in-Err.refusal R.Memory (c.if-is_memory.ensures.0 refl) in
@@ -111,13 +111,13 @@ down-requires-clause-due g c =
     let tell : Telling _ = telling g.G.Rig.seen g.G.Rig.leaves g.G.Rig.moment g.G.Rig.since g.G.Rig.faults in
     let old = c.args.c.now in
     let t = c.args.t.now in
-    let n = c.instances.ensures in
-    let k = c.instances-2.ensures in
+    let n = c.keeps.ensures in
+    let k = c.keeps-2.ensures in
     let r = c.requires in
     let e = c.in-Err.ensures in
     let held = subst (λ (q : ℕ). owns (entry_at (parts old).directory q) c.args.by ≡ true) r.last.2 c.in_ok-alone.ensures.alone in
     let once : IsDistinct same_txn (ids (txns_at (parts old) (home t))) =
-    subst (λ (tb : Transactions). IsDistinct same_txn (ids tb)) c.txns.ensures c.keeps.ensures.once in
+    subst (λ (tb : Transactions). IsDistinct same_txn (ids tb)) c.txns.ensures c.keeps-3.ensures.once in
     let failed = err-is c.in-Err.refusal R.Failed (⊎_elim (λ x. x) (λ x. absurd (never (c.if-is_memory.ensures.1 x))) e.only) in
     left-due tell c.args.by t old c.undo_forced.new.c n.low n.high k.low k.high r.recovers r.there r.loser r.last.0 r.last.1 held once
     e.good e.time e.images e.disk e.masters (e.left failed) r.fits.0 r.fits.1
@@ -128,14 +128,14 @@ returns-else-is_memory-clause-served g c =
     let old = c.args.c.now in
     let mid = c.undo_forced.new.c in
     let t = c.args.t.now in
-    let n = c.instances.ensures in
-    let k = c.instances-2.ensures in
+    let n = c.keeps.ensures in
+    let k = c.keeps-2.ensures in
     let r = c.requires in
     let e = c.in-Err.ensures in
     let d = c.down.ensures in
     let held = subst (λ (q : ℕ). owns (entry_at (parts old).directory q) c.args.by ≡ true) r.last.2 c.in_ok-alone.ensures.alone in
     let once : IsDistinct same_txn (ids (txns_at (parts old) (home t))) =
-    subst (λ (tb : Transactions). IsDistinct same_txn (ids tb)) c.txns.ensures c.keeps.ensures.once in
+    subst (λ (tb : Transactions). IsDistinct same_txn (ids tb)) c.txns.ensures c.keeps-3.ensures.once in
     let failed = err-is c.in-Err.refusal R.Failed (⊎_elim (λ x. x) (λ x. absurd (never (c.if-is_memory.ensures.1 x))) e.only) in (
       λ w f. left-serves tell c.args.by t old mid n.low n.high k.low k.high r.recovers r.there r.loser r.last.0 r.last.1 held once
           e.good e.time e.images e.disk e.masters (e.left failed) w f c.down.new.c d.rig d.parts d.fallen d.good,
@@ -146,12 +146,12 @@ pub returns-in-Ok-clause-fewer : goal.returns-in-Ok-clause-fewer
 returns-in-Ok-clause-fewer g c =
     let old = c.args.c.now in
     let t = c.args.t.now in
-    let n = c.instances.ensures in
+    let n = c.keeps.ensures in
     let f = c.requires.fits in
     let u = c.in-Ok.ensures.undone in
     let h = u.undone in
     let once : IsDistinct same_txn (ids (txns_at (parts old) (home t))) =
-    subst (λ (tb : Transactions). IsDistinct same_txn (ids tb)) c.txns.ensures c.keeps.ensures.once in
+    subst (λ (tb : Transactions). IsDistinct same_txn (ids tb)) c.txns.ensures c.keeps-3.ensures.once in
     let there = row-some h.x t (all_at (log_at (parts old) (home t))) h.o h.last
     (subst (λ (q : Option Transaction). RowIsLogged q t (all_at (log_at (parts old) (home t)))) h.row
     ((f.1.good.told (home t) n.low n.high (ap tells_log c.requires.recovers) (c.requires.there.0 (home t) n.high)).rows t refl)) in

@@ -1,6 +1,6 @@
 use Rattle.std.proofs.Common.{List, ◌∙◌, subst}
-use Rattle.sd_analysis.specs.declared.losers.Loser.{Loser}
-use Rattle.sd_undone.specs.Reading.{AreLosersFrom}
+use Rattle.sd_recovered.specs.declared.losers.Loser.{Loser}
+use Rattle.sd_recovered.specs.UndoPass.{AreLosersFrom}
 use Rattle.sd_recovered.proofs.Sums.{first_and_rest, nothing, owed_none, owed_more}
 use Rattle.sd_recovered.proofs.ends.+owed_by.Goals as goal
 

@@ -1,7 +1,7 @@
 use Rattle.std.proofs.Common.{◌<◌, ◌+◌, ℕ, List, Err, Some, ap, length, slice_get, subst, sym, ◌∙◌}
 use Rattle.std.proofs.lemmas.Option.{slice_get-get_or}
 use Rattle.sd_base.specs.declared.refusal.Refusal.TheVariants as R
-use Rattle.sd_analysis.specs.declared.losers.AnalysisError.{AnalysisError}
+use Rattle.sd_recovered.specs.declared.losers.AnalysisError.{AnalysisError}
 use Rattle.sd_log.specs.declared.placed.Placed.{Placed}
 use Rattle.sd_log.specs.Logs.{flats}
 use Rattle.sd_chain.specs.Faults.{IsFirstMisplaced}
@@ -14,8 +14,8 @@ returns-in-Err-Disorder-clause-place c = λ dev at is.
     let found : Placed = c.index-placed-at.result in
     let log : List Placed = c.scan-placed.result.now in
     let lt : k < length log = c.in-Err-Disorder.ensures.place k (ap (λ (e : AnalysisError). Err e) c.in-Err-Disorder.field-0-is) in
-    let named = told_at c.damaged.result c.get.result (130 + found.place) dev at
-    (c.damaged.ensures ∙ ap (λ (p : Placed). R.Damaged c.get.result (130 + p.place)) (sym c.index-placed-at.is)) is in (
+    let named = told_at c.damaged_log.result c.get.result (130 + found.place) dev at
+    (c.damaged_log.ensures ∙ ap (λ (p : Placed). R.Damaged c.get.result (130 + p.place)) (sym c.index-placed-at.is)) is in (
       named.0 ∙ c.get.ensures.value,
       record {
         index = k;

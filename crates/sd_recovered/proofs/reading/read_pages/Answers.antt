@@ -6,9 +6,9 @@ use Rattle.sd_page.specs.Page.{Page}
 use Rattle.sd_log.specs.Logs.{LogState}
 use Rattle.sd_chain.specs.Bytes.{disk_page}
 use Rattle.sd_chain.specs.Storage.{Recovered}
-use Rattle.sd_newest.specs.FirstAbove.{IsFirstAbove}
-use Rattle.sd_undone.specs.Reading.{txns_of}
-use Rattle.sd_undone.proofs.Opened.{are-open}
+use Rattle.sd_recovered.specs.FirstAbove.{IsFirstAbove}
+use Rattle.sd_recovered.specs.UndoPass.{txns_of}
+use Rattle.sd_recovered.proofs.OpenStacks.{are-open}
 use Rattle.sd_recovered.specs.Ends.{IsPageLow, owed_in}
 use Rattle.sd_recovered.proofs.Refusals.{came, told_on}
 use Rattle.sd_recovered.proofs.Faults as faults

@@ -3,10 +3,10 @@ use Rattle.std.specs.Map.{update_all}
 use Rattle.std.specs.Prelude.{Option}
 use Rattle.std.proofs.lemmas.List.Sums.{fold-append}
 use Rattle.sd_base.specs.Ids.{same_txn}
-use Rattle.sd_book.specs.Booked.{entries_in}
+use Rattle.sd_model.specs.Booked.{entries_in}
 use Rattle.sd_model.specs.declared.event.Entry.{Entry}
-use Rattle.sd_replies.specs.Names.{name_in}
-use Rattle.sd_replies.specs.Words.{NamesOf, no_names}
+use Rattle.sd_report.specs.Names.{name_in}
+use Rattle.sd_report.specs.Words.{NamesOf, no_names}
 use Rattle.sd_report.specs.Report.{entries_of, gathered, given, given_last, names_of, upto}
 use Rattle.sd_report.proofs.LineOrder.{parted_none, parted_more, some_number, gathered_more}
 use Rattle.sd_report.proofs.naming.known_names.Goals as goal

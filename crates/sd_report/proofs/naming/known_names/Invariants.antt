@@ -1,7 +1,7 @@
 use Rattle.std.proofs.Common.{◌≡◌, ℕ, take}
 use Rattle.sd_base.specs.declared.ids.TxnId.{TxnId}
-use Rattle.sd_book.specs.Booked.{entries_in}
-use Rattle.sd_replies.specs.Names.{name_in}
+use Rattle.sd_model.specs.Booked.{entries_in}
+use Rattle.sd_report.specs.Names.{name_in}
 use Rattle.sd_report.specs.Report.{names_of}
 use Rattle.sd_report.proofs.LineOrder.{Parted}
 use Rattle.sd_report.proofs.naming.known_names.Given as goal

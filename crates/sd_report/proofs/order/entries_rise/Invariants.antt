@@ -1,6 +1,6 @@
 use Rattle.std.proofs.Common.{length}
 use Rattle.std.specs.Prelude.{◌↔◌}
-use Rattle.sd_book.specs.Booked.{entries_in}
+use Rattle.sd_model.specs.Booked.{entries_in}
 use Rattle.sd_report.specs.Report.{AreFrom}
 use Rattle.sd_report.proofs.order.entries_rise.Given as goal
 

@@ -1,15 +1,12 @@
 use Rattle.std.proofs.Common.{◌≡◌, ◌≤◌, List, arith, ap, sym, ◌∙◌}
 use Rattle.std.specs.Prelude.{option_map}
 use Rattle.std.proofs.lemmas.Bool.{lt-ltb}
-use Rattle.sd_short.specs.declared.noted.Noted.{Noted}
-use Rattle.sd_short.specs.Shorts.{line_entry}
-use Rattle.sd_book.specs.Booked.{entries_in, seen_entry, unpacked}
+use Rattle.sd_model.specs.declared.packed.Noted.{Noted}
+use Rattle.sd_model.specs.Shorts.{line_entry}
+use Rattle.sd_model.specs.Booked.{entries_in, seen_entry, unpacked}
 use Rattle.sd_report.proofs.Notes.{no_items, reads_help, reads_line, reads_no_line, reads_no_whole, reads_whole}
 use Rattle.sd_report.proofs.OneLine.{early_behind, last_none, last_or_before, last_upto, later_last, other_last, own_last}
-use Rattle.sd_report.proofs.parting.part_at.Goals.{in_default, in-len1-up+in-Line+in-empty}
-use Rattle.sd_report.proofs.parting.part_at.Goals.{in-len1-up+in-Line+in-len1-up-lines+then-line-number}
-use Rattle.sd_report.proofs.parting.part_at.Goals.{in-len1-up+in-Whole+in-empty-whole}
-use Rattle.sd_report.proofs.parting.part_at.Goals.{in-len1-up+in-Whole+in-len1-up-whole+then-entry-number}
+use Rattle.sd_report.proofs.parting.part_at.Goals.{in_default, in-len1-up+in-Line+in-empty, in-len1-up+in-Line+in-len1-up-lines+then-line-number, in-len1-up+in-Whole+in-empty-whole, in-len1-up+in-Whole+in-len1-up-whole+then-entry-number}
 use Rattle.sd_report.proofs.parting.part_at.Goals as goal
 
 -- all that is left stands unnoted

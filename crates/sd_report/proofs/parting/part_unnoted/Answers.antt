@@ -1,7 +1,7 @@
 use Rattle.std.proofs.Common.{◌≡◌, arith, ap, sym, ◌∙◌}
 use Rattle.std.specs.Prelude.{option_map}
 use Rattle.std.proofs.lemmas.Bool.{lt-ltb}
-use Rattle.sd_book.specs.Booked.{seen_entry}
+use Rattle.sd_model.specs.Booked.{seen_entry}
 use Rattle.sd_report.proofs.Notes.{by_first, no_items}
 use Rattle.sd_report.proofs.OneLine.{early_behind, last_or_before, last_upto, later_last, other_last, own_last}
 use Rattle.sd_report.proofs.parting.part_unnoted.Goals.{in_default, in-len1-up+then-entry-number}

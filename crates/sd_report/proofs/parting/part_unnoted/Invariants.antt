@@ -1,6 +1,6 @@
 use Rattle.std.proofs.Common.{◌≡◌, length}
 use Rattle.std.specs.Prelude.{option_map}
-use Rattle.sd_book.specs.Booked.{seen_entry}
+use Rattle.sd_model.specs.Booked.{seen_entry}
 use Rattle.sd_report.specs.Report.{behind}
 use Rattle.sd_report.proofs.OneLine.{last_upto}
 use Rattle.sd_report.proofs.parting.part_unnoted.Given as goal

@@ -3,10 +3,10 @@ use Rattle.std.specs.Prelude.{Result, Ok, Err, IfOk}
 use Rattle.sd_base.specs.declared.ids.TxnId.{TxnId}
 use Rattle.sd_base.specs.declared.refusal.Memory.{Memory}
 use Rattle.sd_model.specs.declared.event.Entry.{Entry}
-use Rattle.sd_forms.specs.declared.line.Line.{Line}
-use Rattle.sd_replies.specs.declared.txn_names.TxnNames.{TxnNames}
-use Rattle.sd_book.specs.Booked.{entries_in}
-use Rattle.sd_replies.specs.Names.{name_in}
+use Rattle.sd_script.specs.declared.line.Line.{Line}
+use Rattle.sd_report.specs.declared.txn_names.TxnNames.{TxnNames}
+use Rattle.sd_model.specs.Booked.{entries_in}
+use Rattle.sd_report.specs.Names.{name_in}
 use Rattle.sd_report.specs.Report.{gathered, report, reported, names_of}
 use Rattle.sd_report.proofs.FewBytes.{none_tells}
 use Rattle.sd_report.proofs.Unnamed.{same_report}

@@ -1,8 +1,8 @@
 use Rattle.std.proofs.Common.{ap, sym, ◌∙◌}
 use Rattle.std.specs.Prelude.{Some}
 use Rattle.std.specs.Option.{option_map}
-use Rattle.sd_book.specs.Booked.{entries_in, seen_entry}
-use Rattle.sd_book.specs.declared.told.Seen.{Seen}
+use Rattle.sd_model.specs.Booked.{entries_in, seen_entry}
+use Rattle.sd_model.specs.declared.told.Seen.{Seen}
 use Rattle.sd_report.specs.Report.{upto}
 use Rattle.sd_report.proofs.OneLine.{no_help}
 use Rattle.sd_report.proofs.report.push_line.Goals as goal

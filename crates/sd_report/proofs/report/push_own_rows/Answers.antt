@@ -1,7 +1,7 @@
 use Rattle.std.proofs.Common.{◌≡◌, ◌++◌, ◌+◌, ℕ, List, [], length, arith, sym, ap, ◌∙◌}
 use Rattle.std.specs.List.{flat_map}
 use Rattle.sd_base.specs.declared.ids.Rid.{Rid}
-use Rattle.sd_book.specs.Booked.{entries_in, seen_entry}
+use Rattle.sd_model.specs.Booked.{entries_in, seen_entry}
 use Rattle.sd_report.specs.Report.{entries_of, row_line, rows_in, table_rows, upto}
 use Rattle.sd_report.proofs.OneLine.{later_rows, own_rows, other_rows, rows_text, rows_count, rows_end}
 use Rattle.sd_report.proofs.report.push_own_rows.Goals as goal

@@ -1,6 +1,6 @@
 use Rattle.std.proofs.Common.{◌≡◌, ◌+◌, ◌≤◌, ◌++◌, length, vec_len}
 use Rattle.std.specs.List.{flat_map}
-use Rattle.sd_book.specs.Booked.{entries_in}
+use Rattle.sd_model.specs.Booked.{entries_in}
 use Rattle.sd_report.specs.Report.{entries_of, row_line, table_rows, upto}
 use Rattle.sd_report.proofs.report.push_own_rows.Given as goal
 

@@ -1,6 +1,6 @@
 use Rattle.std.proofs.Common.{arith}
 use Rattle.sd_report.specs.Report.{row_line}
-use Rattle.sd_replies.proofs.Growing.{text_more}
+use Rattle.sd_report.proofs.Growing.{text_more}
 use Rattle.sd_report.proofs.report.push_rows.Goals as goal
 
 pub loop-rid-preserved : goal.loop-rid-preserved

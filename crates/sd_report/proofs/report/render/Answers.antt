@@ -1,8 +1,8 @@
 use Rattle.std.proofs.Common.{◌≡◌, ◌++◌, ℕ, List, take, refl, sym, ap, ◌∙◌}
 use Rattle.std.proofs.lemmas.List.{take_all}
-use Rattle.sd_forms.specs.declared.line.Line.{Line}
-use Rattle.sd_book.specs.Booked.{entries_in}
-use Rattle.sd_replies.specs.Names.{name_in}
+use Rattle.sd_script.specs.declared.line.Line.{Line}
+use Rattle.sd_model.specs.Booked.{entries_in}
+use Rattle.sd_report.specs.Names.{name_in}
 use Rattle.sd_report.specs.Report.{entries_of, gathered, reported, upto}
 use Rattle.sd_report.proofs.LineOrder.{parted_none, parted_more, some_number, gathered_more}
 use Rattle.sd_report.proofs.report.render.Goals as goal

@@ -1,6 +1,6 @@
 use Rattle.std.proofs.Common.{◌≡◌, ℕ, take}
-use Rattle.sd_book.specs.Booked.{entries_in}
-use Rattle.sd_replies.specs.Names.{name_in}
+use Rattle.sd_model.specs.Booked.{entries_in}
+use Rattle.sd_report.specs.Names.{name_in}
 use Rattle.sd_report.specs.Report.{gathered, reported}
 use Rattle.sd_report.proofs.LineOrder.{Parted}
 use Rattle.sd_report.proofs.report.render.Given as goal

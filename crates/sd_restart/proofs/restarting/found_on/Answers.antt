@@ -6,24 +6,24 @@ use Rattle.sd_restart.specs.Devices.{AgreeOnNine, images_of}
 use Rattle.sd_restart.proofs.Alike.{sound-same}
 use Rattle.sd_restart.proofs.Calm.{calm-same, calm-then}
 use Rattle.sd_restart.proofs.Failing.{fails-same, opened-same}
-use Rattle.sd_found.proofs.Found.{apart, eight, found-opens, masters-count, of-losers}
+use Rattle.sd_restart.proofs.Found.{apart, eight, found-opens, masters-count, of-losers}
 use Rattle.sd_restart.proofs.Reopened.{agree, left-only, recovered-on, same-devices}
 use Rattle.sd_restart.proofs.restarting.found_on.Goals as goal
 
-pub found_of-requires-clause-eight : goal.found_of-requires-clause-eight
-found_of-requires-clause-eight g c =
+pub restored_of-requires-clause-eight : goal.restored_of-requires-clause-eight
+restored_of-requires-clause-eight g c =
     eight (images_of (g.G.Rig.seen c.settle_devices.new.rig)) c.in_ok-opened.opened c.in_ok-opened.ensures.read
 
-pub found_of-requires-clause-masters : goal.found_of-requires-clause-masters
-found_of-requires-clause-masters g c =
+pub restored_of-requires-clause-masters : goal.restored_of-requires-clause-masters
+restored_of-requires-clause-masters g c =
     masters-count (images_of (g.G.Rig.seen c.settle_devices.new.rig)) c.in_ok-opened.opened c.in_ok-opened.ensures.read
 
-pub found_of-requires-clause-losers : goal.found_of-requires-clause-losers
-found_of-requires-clause-losers g c =
+pub restored_of-requires-clause-losers : goal.restored_of-requires-clause-losers
+restored_of-requires-clause-losers g c =
     of-losers (images_of (g.G.Rig.seen c.settle_devices.new.rig)) c.in_ok-opened.opened c.in_ok-opened.ensures.read
 
-pub found_of-requires-clause-apart : goal.found_of-requires-clause-apart
-found_of-requires-clause-apart g c =
+pub restored_of-requires-clause-apart : goal.restored_of-requires-clause-apart
+restored_of-requires-clause-apart g c =
     apart (images_of (g.G.Rig.seen c.settle_devices.new.rig)) c.in_ok-opened.opened c.in_ok-opened.ensures.read
 
 pub returns-clause-sound : goal.returns-clause-sound
@@ -42,7 +42,7 @@ returns-clause-recovered g c =
     let mid = c.settle_devices.new.rig in
     let images : List (List ℕ) = images_of (r.seen mid) in
     let same : AgreeOnNine (devices_of images) (r.seen old) = agree (r.seen old) (r.seen mid) c.in_ok-settle_devices.ensures.calms.reads in
-    subst (IsRecovered (r.seen old)) (sym c.in_ok-found_of.ensures.table)
+    subst (IsRecovered (r.seen old)) (sym c.in_ok-restored_of.ensures.table)
     (recovered-on (devices_of images) (r.seen old) same c.in_ok-opened.opened.table c.in_ok-opened.ensures.recovered)
 
 pub returns-clause-found : goal.returns-clause-found
@@ -53,7 +53,7 @@ returns-clause-found g c = λ frames.
     let images : List (List ℕ) = images_of (r.seen mid) in
     let same : AgreeOnNine (devices_of images) (r.seen old) = agree (r.seen old) (r.seen mid) c.in_ok-settle_devices.ensures.calms.reads in
     opened-same (devices_of images) (r.seen old) same frames _
-    (found-opens images c.in_ok-opened.opened c.in_ok-found_of.field-0.0 frames c.in_ok-opened.ensures.read c.in_ok-found_of.ensures.made)
+    (found-opens images c.in_ok-opened.opened c.in_ok-restored_of.field-0.0 frames c.in_ok-opened.ensures.read c.in_ok-restored_of.ensures.made)
 
 pub returns-clause-settled : goal.returns-clause-settled
 returns-clause-settled g c = λ d le.
@@ -72,8 +72,8 @@ returns-clause-calms g c =
     (calm-same (r.seen mid) (r.seen new) (r.leaves mid) (r.leaves new) (r.moment mid) (r.moment new) (r.since mid) (r.since new)
     (λ img s. g.met.G.Rig.only_now mid img s) c.in_ok-opened.ensures.stays)
 
-pub returns-in_err-found_of-clause-calms : goal.returns-in_err-found_of-clause-calms
-returns-in_err-found_of-clause-calms g c =
+pub returns-in_err-restored_of-clause-calms : goal.returns-in_err-restored_of-clause-calms
+returns-in_err-restored_of-clause-calms g c =
     let r = g.G.Rig in
     let old = c.args.rig.now in
     let mid = c.settle_devices.new.rig in

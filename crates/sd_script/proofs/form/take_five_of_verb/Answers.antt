@@ -1,5 +1,5 @@
 use Rattle.std.proofs.Common.{[], ◌∷◌}
-use Rattle.sd_forms.specs.Known.{known}
+use Rattle.sd_script.specs.Known.{known}
 use Rattle.sd_script.proofs.Taking.{by_ordinals}
 use Rattle.sd_script.proofs.form.take_five_of_verb.Goals as goal
 

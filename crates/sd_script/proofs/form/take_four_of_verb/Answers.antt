@@ -2,7 +2,7 @@ use Rattle.std.proofs.Common.{ℕ, List, [], ◌∷◌, sym, subst}
 use Rattle.std.specs.Prelude.{codes, IfOk}
 use Rattle.sd_script.specs.Order.{begun, ordinal_of}
 use Rattle.sd_script.specs.Remembered.{IsTakenOf}
-use Rattle.sd_forms.proofs.Refused.{is_word}
+use Rattle.sd_script.proofs.Refused.{is_word}
 use Rattle.sd_script.proofs.form.take_four_of_verb.Goals as goal
 
 pub take_other-requires-clause-form : goal.take_other-requires-clause-form

@@ -4,9 +4,9 @@ use Rattle.std.specs.Fmt.{decimal}
 use Rattle.sd_script.specs.Order.{begun, ordinal_of}
 use Rattle.sd_script.specs.Remembered.{IsTakenOf}
 use Rattle.std.specs.Option.{option_copied}
-use Rattle.sd_forms.specs.Words.{words_behind}
-use Rattle.sd_forms.proofs.Words.{parted, some_word}
-use Rattle.sd_forms.proofs.Refused.{inst_alone, inst_long}
+use Rattle.sd_script.specs.Words.{words_behind}
+use Rattle.sd_script.proofs.Words.{parted, some_word}
+use Rattle.sd_script.proofs.Refused.{inst_alone, inst_long}
 use Rattle.sd_script.proofs.Readings.{ordinal_known}
 use Rattle.sd_script.proofs.form.take_of_inst.Goals as goal
 

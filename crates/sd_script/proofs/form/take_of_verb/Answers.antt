@@ -3,9 +3,9 @@ use Rattle.std.specs.Prelude.{IfOk}
 use Rattle.sd_script.specs.Order.{begun, ordinal_of}
 use Rattle.sd_script.specs.Remembered.{IsTakenOf}
 use Rattle.std.specs.Option.{option_copied}
-use Rattle.sd_forms.specs.Words.{words_behind}
-use Rattle.sd_forms.proofs.Words.{parted, some_word}
-use Rattle.sd_forms.proofs.Refused.{no_six}
+use Rattle.sd_script.specs.Words.{words_behind}
+use Rattle.sd_script.proofs.Words.{parted, some_word}
+use Rattle.sd_script.proofs.Refused.{no_six}
 use Rattle.sd_script.proofs.Readings.{ordinal_known}
 use Rattle.sd_script.proofs.form.take_of_verb.Goals as goal
 

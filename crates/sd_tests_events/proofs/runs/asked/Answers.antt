@@ -1,7 +1,7 @@
 use Rattle.std.proofs.Common.{subst}
 use Rattle.std.specs.Prelude.{IfSome, Option}
 use Rattle.sd_model.specs.declared.event.Event.{Event}
-use Rattle.sd_hall.specs.Passed.{IsServed}
+use Rattle.sd_hall.specs.Served.{IsServed}
 use Rattle.sd_tests_events.proofs.runs.asked.Goals as goal
 
 pub returns : goal.returns

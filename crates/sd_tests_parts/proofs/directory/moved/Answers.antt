@@ -1,6 +1,6 @@
 use Rattle.std.proofs.Common.{◌≡◌, true, rules, subst}
-use Rattle.sd_places.specs.Places.{PageEntry, seen}
-use Rattle.sd_places.specs.Moves.{IsMove}
+use Rattle.sd_pagelock.specs.Places.{PageEntry, seen}
+use Rattle.sd_pagelock.specs.Moves.{IsMove}
 use Rattle.sd_tests_parts.proofs.directory.moved.Goals as goal
 
 pub set-requires-clause-lawful : goal.set-requires-clause-lawful

@@ -1,9 +1,10 @@
 use Rattle.std.proofs.Common.{◌∙◌, ap, arith, refl, subst, sym}
 use Rattle.std.specs.Prelude.{ℕ, None}
 use Rattle.sd_fits.specs.Opened.{opening_core}
-use Rattle.sd_drive.specs.Passed.{Hall, Keeps}
+use Rattle.sd_hall.specs.declared.hall.Hall.{Hall}
+use Rattle.sd_hall.specs.Keeping.{Keeps}
 use Rattle.sd_world.specs.Serving.{Telling, telling}
-use Rattle.sd_status.specs.Sides.{SinkSide}
+use Rattle.sd_top.specs.Sides.{SinkSide}
 use Rattle.sd_top.specs.Opening.{frames_of}
 use Rattle.sd_top.proofs.Answered.{answers_same, answers_unread, before_opening}
 use Rattle.sd_top.proofs.Scripts.{script_complex}

@@ -2,10 +2,10 @@ use Rattle.std.proofs.Common.{◌∙◌, arith, refl, subst}
 use Rattle.std.specs.Prelude.{None}
 use Rattle.sd_world.specs.Serving.{Core, Telling, telling}
 use Rattle.sd_fits.specs.Opened.{opening_core}
-use Rattle.sd_drive.specs.Passed.Running.{Breaks, Start}
-use Rattle.sd_drive.specs.Passed.Driven.{IsIn}
-use Rattle.sd_drive.specs.Passed.{begin_of}
-use Rattle.sd_status.specs.Sides.{SinkSide}
+use Rattle.sd_drive.specs.Running.{Breaks, Start}
+use Rattle.sd_drive.specs.Driven.{IsIn}
+use Rattle.sd_drive.specs.Rising.{begin_of}
+use Rattle.sd_top.specs.Sides.{SinkSide}
 use Rattle.sd_top.specs.Opening.{frames_of}
 use Rattle.sd_top.proofs.Answered.{answers_same, answers_unopened, fails_later, led_in, opened_by, opens_as}
 use Rattle.sd_top.proofs.Scripts.{script_complex}

@@ -1,9 +1,9 @@
 use Rattle.std.proofs.Common.{refl, ap, subst}
 use Rattle.std.specs.Prelude.{OnOk, Some}
 use Rattle.sd_world.specs.Serving.{Telling, telling}
-use Rattle.sd_drive.specs.Passed.Driving.{IsTold}
-use Rattle.sd_status.specs.declared.status.Status.TheVariants as status
-use Rattle.sd_status.specs.Sides.{SinkSide}
+use Rattle.sd_drive.specs.Driving.{IsTold}
+use Rattle.sd_top.specs.declared.status.Status.TheVariants as status
+use Rattle.sd_top.specs.Sides.{SinkSide}
 use Rattle.sd_top.proofs.Answered.{answers_partial, answers_same, answers_told}
 use Rattle.sd_top.proofs.Rising.{entries-rise}
 use Rattle.sd_report.proofs.Scripts.{script_above}

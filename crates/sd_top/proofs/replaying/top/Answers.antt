@@ -1,8 +1,8 @@
 use Rattle.std.proofs.Common.{◌≡◌, ◌∙◌, inl, inr, refl, sym}
 use Rattle.std.proofs.lemmas.Bool.{false≢true}
 use Rattle.sd_world.specs.Serving.{Telling, telling}
-use Rattle.sd_status.specs.Sides.{SourceSide}
-use Rattle.sd_status.specs.declared.status.Status.TheVariants as status
+use Rattle.sd_top.specs.Sides.{SourceSide}
+use Rattle.sd_top.specs.declared.status.Status.TheVariants as status
 use Rattle.sd_top.specs.Outcome.{Ends}
 use Rattle.sd_top.proofs.Answered.{answers_unbegun, completes, damages, tells_no_usage, tells_unsound, untaken}
 use Rattle.sd_top.proofs.replaying.top.Goals as goal

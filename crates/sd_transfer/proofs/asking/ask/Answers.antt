@@ -8,14 +8,13 @@ use Rattle.sd_state.specs.Values.{Pending}
 use Rattle.sd_transfer.specs.Asking.{IsUnserved}
 use Rattle.sd_fits.specs.Serving.{Serving}
 use Rattle.sd_model.specs.declared.event.Event.TheVariants.{Ask}
-use Rattle.sd_places.specs.Places.{Formed, PageEntry, holds_as, is_free, is_lost, passes}
-use Rattle.sd_places.specs.Rows.{may_raise}
-use Rattle.sd_places.proofs.Uses.{free-is}
+use Rattle.sd_pagelock.specs.Places.{Formed, PageEntry, holds_as, is_free, is_lost, passes}
+use Rattle.sd_pagelock.specs.Rows.{may_raise}
+use Rattle.sd_pagelock.proofs.Uses.{free-is}
 use Rattle.sd_world.specs.Pages.{answerer}
 use Rattle.sd_world.specs.Serving.{answered, had_or_asked, telling}
 use Rattle.sd_transfer.proofs.Asked.{had-lacks, had-pool, stays-there}
-use Rattle.sd_transfer.proofs.Fetched.{ask-refused, ask-spared, has-served, queued-served, raised-served, unchanged-here}
-use Rattle.sd_transfer.proofs.Fetched.{unchanged-to}
+use Rattle.sd_transfer.proofs.Fetched.{ask-refused, ask-spared, has-served, queued-served, raised-served, unchanged-here, unchanged-to}
 use Rattle.sd_transfer.proofs.Told.{err-same, not-refused}
 use Rattle.sd_transfer.proofs.asking.ask.Goals as goal
 
@@ -26,14 +25,14 @@ returns-in_err-place-clause-served g c =
     let p = err_from_is_err_and c.from_residual.result c.from_residual.ensures.1 in
     subst (λ (r : Result (Option ℕ) Refusal). Serving tell (Ask c.args.i c.args.p c.args.mode) (answered had_or_asked r) old old)
     (sym (p.1 ∙ ap (λ (n : Refusal). Err n) p.2))
-    (ask-refused tell old c.args.i c.args.p c.args.mode c.instances.ensures.low c.instances.ensures.high
+    (ask-refused tell old c.args.i c.args.p c.args.mode c.keeps.ensures.low c.keeps.ensures.high
     (λ img since. g.met.G.Rig.only_now old.rig img since) c.in_err-place.field-0.0 c.in_err-place.ensures.refused)
 
 pub returns-then-holds_as-clause-served : goal.returns-then-holds_as-clause-served
 returns-then-holds_as-clause-served g c =
     let old = c.args.c.now in
     let tell = telling g.G.Rig.seen g.G.Rig.leaves g.G.Rig.moment g.G.Rig.since g.G.Rig.faults in
-    has-served tell old c.args.i c.args.p c.args.mode c.instances.ensures.low c.instances.ensures.high
+    has-served tell old c.args.i c.args.p c.args.mode c.keeps.ensures.low c.keeps.ensures.high
     (λ img since. g.met.G.Rig.only_now old.rig img since) c.in_ok-place.ensures.may
     (ap (λ (e : PageEntry). holds_as c.args.mode e c.args.i) (sym c.in_ok-place.ensures.place)
     ∙ sym c.holds_as.ensures ∙ c.if-holds_as.true)
@@ -48,7 +47,7 @@ returns-then-may_raise-clause-served g c =
     let tell = telling g.G.Rig.seen g.G.Rig.leaves g.G.Rig.moment g.G.Rig.since g.G.Rig.faults in
     let at = sym c.in_ok-place.ensures.place in
     let raised = c.raise.ensures in
-    raised-served tell old c.args.i c.args.p c.args.mode c.instances.ensures.low c.instances.ensures.high
+    raised-served tell old c.args.i c.args.p c.args.mode c.keeps.ensures.low c.keeps.ensures.high
     (λ img since. g.met.G.Rig.only_now old.rig img since) c.in_ok-place.ensures.may
     (ap (λ (e : PageEntry). holds_as c.args.mode e c.args.i) at ∙ sym c.holds_as.ensures ∙ c.if-holds_as.false)
     (ap is_free at ∙ sym c.is_free.ensures ∙ c.if-is_free.false)
@@ -63,7 +62,7 @@ returns-then-may_raise-clause-still g c =
 
 pub answerer-of-requires-clause-formed : goal.answerer-of-requires-clause-formed
 answerer-of-requires-clause-formed g c = subst Formed (sym c.in_ok-place.ensures.place)
-    (c.keeps.ensures.formed c.args.p)
+    (c.keeps-2.ensures.formed c.args.p)
 
 pub answerer-of-requires-clause-rests : goal.answerer-of-requires-clause-rests
 answerer-of-requires-clause-rests g c =
@@ -81,7 +80,7 @@ returns-in_err-queue_ask-clause-served g c =
     subst (λ (r : Result (Option ℕ) Refusal). Serving tell (Ask c.args.i c.args.p c.args.mode) (answered had_or_asked r) old
     c.queue_ask.new.c)
     (sym (p.1 ∙ ap (λ (n : Refusal). Err n) p.2))
-    (ask-spared tell old c.args.i c.args.p c.args.mode c.instances.ensures.low c.instances.ensures.high
+    (ask-spared tell old c.args.i c.args.p c.args.mode c.keeps.ensures.low c.keeps.ensures.high
     (λ img since. g.met.G.Rig.only_now old.rig img since) c.in_ok-place.ensures.may
     (ap (λ (e : PageEntry). holds_as c.args.mode e c.args.i) at ∙ sym c.holds_as.ensures ∙ c.if-holds_as.false)
     (ap is_free at ∙ sym c.is_free.ensures ∙ c.if-is_free.false)
@@ -93,7 +92,7 @@ returns-clause-served g c =
     let tell = telling g.G.Rig.seen g.G.Rig.leaves g.G.Rig.moment g.G.Rig.since g.G.Rig.faults in
     let at = sym c.in_ok-place.ensures.place in
     let queue = c.queue_ask.ensures in
-    queued-served tell old c.args.i c.args.p c.args.mode c.instances.ensures.low c.instances.ensures.high
+    queued-served tell old c.args.i c.args.p c.args.mode c.keeps.ensures.low c.keeps.ensures.high
     (λ img since. g.met.G.Rig.only_now old.rig img since) c.in_ok-place.ensures.may
     (ap (λ (e : PageEntry). holds_as c.args.mode e c.args.i) at ∙ sym c.holds_as.ensures ∙ c.if-holds_as.false)
     (ap is_free at ∙ sym c.is_free.ensures ∙ c.if-is_free.false)

@@ -19,7 +19,7 @@ pub returns-then-lacks_frame-clause-served : goal.returns-then-lacks_frame-claus
 returns-then-lacks_frame-clause-served g c =
     let old = c.args.c.now in
     let tell = telling g.G.Rig.seen g.G.Rig.leaves g.G.Rig.moment g.G.Rig.since g.G.Rig.faults in
-    full-served tell old c.args.i c.args.p c.args.mode c.instances.ensures.low c.instances.ensures.high
+    full-served tell old c.args.i c.args.p c.args.mode c.keeps.ensures.low c.keeps.ensures.high
     (λ img since. g.met.G.Rig.only_now old.rig img since) c.requires.may c.requires.free c.lacks_frame.ensures.pool
     c.lacks_frame.ensures.past (c.lacks_frame.ensures.full.0 c.if-lacks_frame.true)
 
@@ -32,7 +32,7 @@ returns-in_err-image-clause-served g c =
     subst (λ (r : Result (Unit {0}) Refusal). Serving tell (Ask c.args.i c.args.p c.args.mode) (answered (λ x. reply.Have) r) old
     c.read_disk.new.self)
     (sym (p.1 ∙ ap (λ (n : Refusal). Err n) p.2))
-    (read-refused tell old c.args.i c.args.p c.args.mode c.instances.ensures.low c.instances.ensures.high
+    (read-refused tell old c.args.i c.args.p c.args.mode c.keeps.ensures.low c.keeps.ensures.high
     (λ img since. g.met.G.Rig.only_now old.rig img since) c.requires.may c.requires.free c.lacks_frame.ensures.pool
     c.lacks_frame.ensures.past (λ lacks. unlike c.if-lacks_frame.false (c.lacks_frame.ensures.full.1 lacks))
     c.read_disk.new.self read.stays read.parts read.good c.in_err-image.field-0.0 c.in_err-image.ensures.refusals)
@@ -62,7 +62,7 @@ returns-in_err-lock_free-clause-served g c =
     subst (λ (r : Result (Unit {0}) Refusal). Serving tell (Ask c.args.i c.args.p c.args.mode) (answered (λ x. reply.Have) r) old
     c.lock_free.new.self)
     (sym (p.1 ∙ ap (λ (n : Refusal). Err n) p.2))
-    (read-spared tell old c.args.i c.args.p c.args.mode c.instances.ensures.low c.instances.ensures.high
+    (read-spared tell old c.args.i c.args.p c.args.mode c.keeps.ensures.low c.keeps.ensures.high
     (λ img since. g.met.G.Rig.only_now old.rig img since) c.requires.may c.requires.free c.lacks_frame.ensures.pool
     c.lacks_frame.ensures.past (λ lacks. unlike c.if-lacks_frame.false (c.lacks_frame.ensures.full.1 lacks))
     c.lock_free.new.self (unchanged-to tell old.rig c.read_disk.new.self.rig c.lock_free.new.self.rig lock.rig read.stays)
@@ -75,7 +75,7 @@ returns-clause-served g c =
     let tell = telling g.G.Rig.seen g.G.Rig.leaves g.G.Rig.moment g.G.Rig.since g.G.Rig.faults in
     let read = c.read_disk.ensures in
     let lock = c.lock_free.ensures in
-    fetched tell old c.args.i c.args.p c.args.mode c.instances.ensures.low c.instances.ensures.high
+    fetched tell old c.args.i c.args.p c.args.mode c.keeps.ensures.low c.keeps.ensures.high
     (λ img since. g.met.G.Rig.only_now old.rig img since) c.requires.may c.requires.free c.lacks_frame.ensures.pool
     c.lacks_frame.ensures.past (λ lacks. unlike c.if-lacks_frame.false (c.lacks_frame.ensures.full.1 lacks))
     c.read_disk.new.self read.stays read.parts read.good c.lock_free.new.self c.in_ok-image.image.value lock.rig

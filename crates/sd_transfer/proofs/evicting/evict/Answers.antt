@@ -20,7 +20,7 @@ returns-in_err-may_go-clause-served g c =
     let p = err_from_is_err_and c.from_residual.result c.from_residual.ensures.1 in
     subst (λ (r : Result (Unit {0}) Refusal). Serving tell (Evict c.args.i c.args.p) (did r) old old)
     (sym (p.1 ∙ ap (λ (n : Refusal). Err n) p.2))
-    (evict-refused tell old c.args.i c.args.p c.instances.ensures.low c.instances.ensures.high
+    (evict-refused tell old c.args.i c.args.p c.keeps.ensures.low c.keeps.ensures.high
     (λ img since. g.met.G.Rig.only_now old.rig img since) c.in_err-may_go.field-0.0 c.in_err-may_go.ensures.refused)
 
 pub returns-clause-served : goal.returns-clause-served
@@ -28,7 +28,7 @@ returns-clause-served g c =
     let old = c.args.c.now in
     let tell = telling g.G.Rig.seen g.G.Rig.leaves g.G.Rig.moment g.G.Rig.since g.G.Rig.faults in
     let drop = c.drop_copy.ensures in
-    evicted tell old c.args.i c.args.p c.instances.ensures.low c.instances.ensures.high
+    evicted tell old c.args.i c.args.p c.keeps.ensures.low c.keeps.ensures.high
     (λ img since. g.met.G.Rig.only_now old.rig img since) c.drop_copy.new.c drop.rig drop.parts drop.place drop.good
     c.in_ok-may_go.ensures.active c.in_ok-may_go.ensures.spare
 

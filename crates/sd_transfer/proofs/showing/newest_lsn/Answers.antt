@@ -1,6 +1,6 @@
 use Rattle.std.proofs.Common.{◌∙◌, ap, eq-eqb, refl, subst, sym}
 use Rattle.sd_base.specs.declared.place.Place.{Place}
-use Rattle.sd_places.specs.Places.{Formed, PageEntry, holds, passes, seen}
+use Rattle.sd_pagelock.specs.Places.{Formed, PageEntry, holds, passes, seen}
 use Rattle.sd_state.specs.Complexes.{parts}
 use Rattle.sd_state.specs.Laws.{newest_of}
 use Rattle.sd_world.specs.Pages.{number_shown}

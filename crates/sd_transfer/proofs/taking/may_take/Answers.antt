@@ -1,6 +1,6 @@
 use Rattle.std.proofs.Common.{◌∙◌, ap, sym}
-use Rattle.sd_places.specs.Places.{is_lost, receives}
-use Rattle.sd_state.specs.Parts.{active_as}
+use Rattle.sd_pagelock.specs.Places.{is_lost, receives}
+use Rattle.sd_base.specs.Standing.{active_as}
 use Rattle.sd_transfer.proofs.taking.may_take.Goals as goal
 
 pub status-requires : goal.status-requires

@@ -17,14 +17,14 @@ returns-in_err-may_take-clause-served g c =
     let p = err_from_is_err_and c.from_residual.result c.from_residual.ensures.1 in
     subst (λ (r : Result (Unit {0}) Refusal). Serving tell (Take c.args.i c.args.p) (did r) old old)
     (sym (p.1 ∙ ap (λ (n : Refusal). Err n) p.2))
-    (take-refused tell old c.args.i c.args.p c.instances.ensures.low c.instances.ensures.high
+    (take-refused tell old c.args.i c.args.p c.keeps.ensures.low c.keeps.ensures.high
     (λ img since. g.met.G.Rig.only_now old.rig img since) c.in_err-may_take.field-0.0 c.in_err-may_take.ensures.refused)
 
 pub returns-then-lacks_frame-clause-served : goal.returns-then-lacks_frame-clause-served
 returns-then-lacks_frame-clause-served g c =
     let old = c.args.c.now in
     let tell = telling g.G.Rig.seen g.G.Rig.leaves g.G.Rig.moment g.G.Rig.since g.G.Rig.faults in
-    full-served tell old c.args.i c.args.p c.instances.ensures.low c.instances.ensures.high
+    full-served tell old c.args.i c.args.p c.keeps.ensures.low c.keeps.ensures.high
     (λ img since. g.met.G.Rig.only_now old.rig img since) c.in_ok-may_take.ensures.may c.lacks_frame.ensures.pool
     c.lacks_frame.ensures.past (c.lacks_frame.ensures.full.0 c.if-lacks_frame.true)
 
@@ -43,7 +43,7 @@ returns-in_err-take_copy-clause-served g c =
     let lacks = c.in_err-take_copy.ensures in
     subst (λ (r : Result (Unit {0}) Refusal). Serving tell (Take c.args.i c.args.p) (did r) old c.take_copy.new.c)
     (sym (p.1 ∙ ap (λ (n : Refusal). Err n) p.2))
-    (take-spared tell old c.args.i c.args.p c.instances.ensures.low c.instances.ensures.high
+    (take-spared tell old c.args.i c.args.p c.keeps.ensures.low c.keeps.ensures.high
     (λ img since. g.met.G.Rig.only_now old.rig img since) c.take_copy.new.c took.rig lacks.stays took.good lacks.asks)
 
 pub returns-clause-served : goal.returns-clause-served
@@ -53,10 +53,10 @@ returns-clause-served g c =
     let took = c.take_copy.ensures in
     let done = c.in_ok-take_copy.ensures in
     let fits = c.requires.fits in
-    taken-served tell old c.args.i c.args.p c.instances.ensures.low c.instances.ensures.high
+    taken-served tell old c.args.i c.args.p c.keeps.ensures.low c.keeps.ensures.high
     (λ img since. g.met.G.Rig.only_now old.rig img since) c.in_ok-may_take.ensures.may c.lacks_frame.ensures.pool
     c.lacks_frame.ensures.past
-    (c.keeps.ensures.formed c.args.p)
+    (c.keeps-2.ensures.formed c.args.p)
     (λ lacks. unlike c.if-lacks_frame.false (c.lacks_frame.ensures.full.1 lacks))
     c.take_copy.new.c took.rig took.good _ done.parts done.place fits.0 fits.1
 

@@ -4,9 +4,9 @@ use Rattle.std.proofs.lemmas.Result.{err_from_is_err_and}
 use Rattle.sd_base.specs.declared.ids.TxnId.{TxnId}
 use Rattle.sd_model.specs.declared.event.Event.TheVariants as event
 use Rattle.sd_world.specs.Serving.{Telling, telling}
-use Rattle.sd_rise.specs.Passed.Replies.{began_by}
+use Rattle.sd_model.specs.Replies.{began_by}
 use Rattle.sd_drive.proofs.Doing.{begin-came, begin-due, begin-lost, begin-some}
-use Rattle.sd_rise.proofs.Passed.Operating.{came-some}
+use Rattle.sd_drive.proofs.Operating.{came-some}
 use Rattle.sd_drive.proofs.driver.Driver.begin.Goals as goal
 
 pub operate-requires-clause-served : goal.operate-requires-clause-served

@@ -3,10 +3,10 @@ use Rattle.std.specs.Prelude.{Option}
 use Rattle.std.proofs.lemmas.Result.{err_from_is_err_and}
 use Rattle.sd_model.specs.declared.event.Event.{Event}
 use Rattle.sd_world.specs.Serving.{Telling, telling}
-use Rattle.sd_rise.specs.Passed.Lines.{Names, event_of}
+use Rattle.sd_drive.specs.Lines.{Names, event_of}
 use Rattle.sd_drive.specs.Reaching.{Knows}
 use Rattle.sd_drive.proofs.Doing.{event-came, event-due, event-named, event-passed, event-served, event-some, nothing-came, ordinal-known, short-there}
-use Rattle.sd_rise.proofs.Passed.Helps.{on-err-then, on-ok-then}
+use Rattle.sd_drive.proofs.Helps.{on-err-then, on-ok-then}
 use Rattle.sd_drive.proofs.driver.Driver.event.Goals as goal
 
 pub event_of-requires-clause-known : goal.event_of-requires-clause-known

@@ -2,10 +2,10 @@ use Rattle.std.proofs.Common.{refl, sym, ap, ◌∙◌}
 use Rattle.std.proofs.lemmas.Result.{err_from_is_err_and}
 use Rattle.sd_model.specs.declared.event.Event.TheVariants as event
 use Rattle.sd_world.specs.Serving.{Telling, telling}
-use Rattle.sd_rise.specs.Passed.Driving.{is_up}
-use Rattle.sd_rise.specs.Passed.Replies.{is_joined}
+use Rattle.sd_base.specs.Standing.{is_up}
+use Rattle.sd_model.specs.Replies.{is_joined}
 use Rattle.sd_drive.proofs.Joining.{joined, joins-due, joins-fit, joins-some, joins-up}
-use Rattle.sd_rise.proofs.Passed.Operating.{came-some}
+use Rattle.sd_drive.proofs.Operating.{came-some}
 use Rattle.sd_drive.proofs.driver.Driver.join_absent.Goals as goal
 
 pub status_of-requires : goal.status_of-requires

@@ -1,5 +1,5 @@
 use Rattle.std.proofs.Common.{⊎_elim, ap}
-use Rattle.sd_rise.specs.Passed.Lines.{rolls_back}
+use Rattle.sd_drive.specs.Lines.{rolls_back}
 use Rattle.sd_drive.proofs.Lines.{plain-else}
 use Rattle.sd_drive.proofs.driver.Driver.line.Goals as goal
 

@@ -1,9 +1,9 @@
 use Rattle.std.proofs.Common.{refl, sym, ap, ◌∙◌, subst}
 use Rattle.std.proofs.lemmas.Result.{err_from_is_err_and}
 use Rattle.sd_world.specs.Serving.{Telling, telling}
-use Rattle.sd_rise.specs.Passed.Outcome.{Outcome}
-use Rattle.sd_rise.specs.Passed.Driving.{is_down}
-use Rattle.sd_rise.specs.Passed.Recoveries.{RecoversTo}
+use Rattle.sd_drive.specs.declared.recovery.Outcome.{Outcome}
+use Rattle.sd_base.specs.Standing.{is_down}
+use Rattle.sd_drive.specs.Recoveries.{RecoversTo}
 use Rattle.sd_drive.proofs.Recovering.{owner-of, recover-due, recover-some, recovered, recovers-fit, recovers-not, not-ended}
 use Rattle.sd_drive.proofs.driver.Driver.recover_down.Goals as goal
 

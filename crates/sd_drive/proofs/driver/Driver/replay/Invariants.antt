@@ -1,9 +1,9 @@
 use Rattle.std.proofs.Common.{◌≤◌, length}
 use Rattle.sd_world.specs.Serving.{telling}
-use Rattle.sd_rise.specs.Passed.Driving.{World}
+use Rattle.sd_drive.specs.Driving.{World}
 use Rattle.sd_drive.specs.Reaching.{IsSame, Reached}
 use Rattle.sd_drive.proofs.driver.Driver.replay.Given as goal
-use Rattle.sd_rise.specs.Passed.Running.{Start}
+use Rattle.sd_drive.specs.Running.{Start}
 
 -- the lines before this one are done, wherever the driver began
 abbrev pub invariant-loop-line : goal.invariant-loop-line

@@ -1,11 +1,11 @@
 use Rattle.std.proofs.Common.{refl, sym, ap, ◌∙◌}
 use Rattle.std.proofs.lemmas.Result.{err_from_is_err_and}
 use Rattle.sd_world.specs.Serving.{Telling, telling}
-use Rattle.sd_rise.specs.Passed.Driven.{is_did}
+use Rattle.sd_model.specs.Replies.{is_did}
 use Rattle.sd_drive.proofs.Backs.{back-all, back-due, back-in, back-named, back-not, back-part, back-served, back-some, none-is, roll-none, rolls-named}
 use Rattle.sd_drive.proofs.Doing.{nothing-came, ordinal-known, short-there}
-use Rattle.sd_rise.proofs.Passed.Helps.{on-err-then, on-ok-then}
-use Rattle.sd_rise.proofs.Passed.Operating.{came-some}
+use Rattle.sd_drive.proofs.Helps.{on-err-then, on-ok-then}
+use Rattle.sd_drive.proofs.Operating.{came-some}
 use Rattle.sd_drive.proofs.driver.Driver.roll_back.Goals as goal
 
 pub txn_of-requires : goal.txn_of-requires

@@ -3,9 +3,9 @@ use Rattle.std.proofs.lemmas.Result.{err_from_is_err_and}
 use Rattle.sd_model.specs.declared.event.Event.{Event}
 use Rattle.sd_model.specs.declared.event.Event.TheVariants as event
 use Rattle.sd_world.specs.Serving.{Telling, telling}
-use Rattle.sd_rise.specs.Passed.Operating.{DueIn, Operates, OperatesSome}
-use Rattle.sd_rise.specs.Passed.Replies.{is_rows}
-use Rattle.sd_rise.proofs.Passed.Operating.{came-some}
+use Rattle.sd_drive.specs.Operating.{DueIn, Operates, OperatesSome}
+use Rattle.sd_model.specs.Replies.{is_rows}
+use Rattle.sd_drive.proofs.Operating.{came-some}
 use Rattle.sd_drive.proofs.Tables.{table-due, table-first, table-last, table-next, table-fits, table-refused, table-some}
 use Rattle.sd_drive.proofs.driver.Driver.table.Goals as goal
 

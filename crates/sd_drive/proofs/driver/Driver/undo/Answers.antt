@@ -2,8 +2,8 @@ use Rattle.std.proofs.Common.{ℕ, ◌≤◌, refl, sym, ap, ◌∙◌, subst}
 use Rattle.std.proofs.lemmas.Result.{err_from_is_err_and}
 use Rattle.sd_model.specs.declared.event.Event.TheVariants as event
 use Rattle.sd_world.specs.Serving.{Telling, telling}
-use Rattle.sd_rise.specs.Passed.Replies.{is_step}
-use Rattle.sd_rise.proofs.Passed.Operating.{came-some}
+use Rattle.sd_model.specs.Replies.{is_step}
+use Rattle.sd_drive.proofs.Operating.{came-some}
 use Rattle.sd_drive.proofs.Undoing.{undo-due, undo-some, undone}
 use Rattle.sd_drive.proofs.driver.Driver.undo.Goals as goal
 
@@ -31,8 +31,8 @@ last-requires g c =
 pub returns-clause-undone : goal.returns-clause-undone
 returns-clause-undone g c =
     let tell : Telling _ = telling g.G.Rig.seen g.G.Rig.leaves g.G.Rig.moment g.G.Rig.since g.G.Rig.faults in
-    let i = c.get-inst.ensures in
+    let i = c.keeps.ensures in
     undone tell c.args.self.now c.args.line.now c.args.txn.now (record c.args.self.now { hall = c.operate.new.hall }) (refl, refl) refl
     c.in_ok-operate.ensures.done c.is_step.result
     (λ before r noted. sym (ap is_step (c.last.ensures before _ noted)) ∙ sym c.is_step.ensures)
-    (subst (λ (n : ℕ). 1 ≤ n) i.value i.low) (subst (λ (n : ℕ). n ≤ 8) i.value i.high) c.requires.at
+    i.low i.high c.requires.at

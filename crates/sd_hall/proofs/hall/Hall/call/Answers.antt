@@ -4,8 +4,8 @@ use Rattle.sd_model.specs.declared.event.Entry.{Entry}
 use Rattle.sd_model.specs.declared.event.Reply.{Reply}
 use Rattle.sd_world.specs.Serving.{Telling, telling}
 use Rattle.sd_state.specs.declared.complex.Shape.{Shape}
-use Rattle.sd_owed.specs.Passed.Bodies.{IsAwaited, IsAwaitedIn, IsWorked, IsWorkedIn, ServesIn, fits_in}
-use Rattle.sd_owed.proofs.Bodies.{spared-in}
+use Rattle.sd_hall.specs.Bodies.{IsAwaited, IsAwaitedIn, IsWorked, IsWorkedIn, ServesIn, fits_in}
+use Rattle.sd_hall.proofs.LedgerBodies.{spared-in}
 use Rattle.sd_hall.proofs.Keeping.{awaited-of, has-room, keeps-more, keeps-same, more-one, no-place, same-reply, worked-of}
 use Rattle.sd_hall.proofs.hall.Hall.call.Goals as goal
 

@@ -5,8 +5,8 @@ use Rattle.sd_state.specs.Complexes.{parts}
 use Rattle.sd_world.specs.Leading.{Leads}
 use Rattle.sd_world.specs.Serving.{Telling, telling}
 use Rattle.sd_fits.specs.Opened.{opening_core}
-use Rattle.sd_owed.proofs.Passed.Opening.{opened-on, opening-fits}
-use Rattle.sd_owed.proofs.Opening.{opening-owes}
+use Rattle.sd_hall.proofs.Opening.{opened-on, opening-fits}
+use Rattle.sd_hall.proofs.LedgerOpening.{opening-owes}
 use Rattle.sd_hall.proofs.hall.Hall.open.Goals as goal
 
 pub returns-clause-keeps : goal.returns-clause-keeps

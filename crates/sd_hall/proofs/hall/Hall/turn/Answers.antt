@@ -1,8 +1,8 @@
 use Rattle.std.proofs.Common.{Some, refl, sym, subst}
 use Rattle.sd_world.specs.Serving.{Telling, telling}
-use Rattle.sd_owed.specs.Passed.Bodies.{AwaitsIn, HasWorkedIn, ServesIn, fits_in}
-use Rattle.sd_owed.specs.Passed.Served.{told_in}
-use Rattle.sd_owed.proofs.Passed.Bodies.{neither}
+use Rattle.sd_hall.specs.Bodies.{AwaitsIn, HasWorkedIn, ServesIn, fits_in}
+use Rattle.sd_hall.specs.Served.{told_in}
+use Rattle.sd_hall.proofs.Bodies.{neither}
 use Rattle.sd_hall.proofs.hall.Hall.turn.Goals as goal
 
 pub serve_body-requires : goal.serve_body-requires

@@ -1,7 +1,7 @@
 use Rattle.std.proofs.Common.{◌≡◌, ◌⊎◌, ℕ, ◌+◌, ◌∙◌, false, true, List, [], ◌∷◌, ◌++◌, length, ap, subst, arith, length-append}
 use Rattle.std.specs.Prelude.{OnOk}
 use Rattle.sd_base.specs.Twin.{body_at, is_open}
-use Rattle.sd_gate.specs.Gates.{Fills}
+use Rattle.sd_rig.specs.Gates.{Fills}
 use Rattle.sd_logrec.specs.Spelling.{four}
 use Rattle.sd_logrec.proofs.Lengths.{length-four}
 use Rattle.sd_rig.specs.Devices.{AgreesOutside, Span}

@@ -5,7 +5,7 @@ use Rattle.sd_logrec.specs.Kept.{Whole, area, reading, spelled}
 use Rattle.sd_rig.specs.Devices.{AgreesOutside, LeavesOnly}
 use Rattle.sd_rig.specs.Spans.{span-weaker}
 use Rattle.sd_log.specs.Buffers.{framed}
-use Rattle.sd_gate.specs.Gates.{Fills}
+use Rattle.sd_rig.specs.Gates.{Fills}
 use Rattle.sd_log.specs.Forces.{Forces}
 use Rattle.sd_log.specs.WrittenStates.{WrittenState}
 use Rattle.sd_log.specs.LogInside.{log_view}
@@ -116,13 +116,13 @@ returns-clause-stands g c some =
     (moved (λ d p x. body_at (5 + length x) (130 + p) (r.seen one d) ≡ framed x) c.get.result c.gate-gate.result c.tail-tail.result.now log.inst log.gate (spelled log.tail) dev gate text filled.1) in
     let inside = subst (λ (s : LogState). reading s.start (area (r.seen one log.inst)) ≡ Whole (s.groups ++ tail_group s ∷ []) (s.gate + 5 + tail_len s)) (sym c.self.view_is) read in
     let len : tail_len (log_view l) ≡ length c.tail-tail.result.now = sym (ap length c.tail-tail.ensures) in
-    subst (λ (j : WrittenState). reading j.start (area (r.seen one log.inst)) ≡ Whole j.groups j.gate) (sym c.settle.ensures)
+    subst (λ (j : WrittenState). reading j.start (area (r.seen one log.inst)) ≡ Whole j.groups j.gate) (sym c.close_group.ensures)
     (subst (λ n. reading l.written.start (area (r.seen one log.inst)) ≡ Whole (l.written.groups ++ tail_group (log_view l) ∷ []) (l.written.gate + 5 + n)) len inside)
 
 pub invariant_of-self-2 : goal.invariant_of-self-2
 invariant_of-self-2 g c =
-    closed_log c.self.inside (length c.tail-tail.result.now) c.settle.new.self c.write.new.self c.self.invariant record {
-      written_is = c.settle.ensures;
+    closed_log c.self.inside (length c.tail-tail.result.now) c.close_group.new.self c.write.new.self c.self.invariant record {
+      written_is = c.close_group.ensures;
       len_is = ap length c.tail-tail.ensures;
       some = omega (arith, c.if-len-eq0.false);
       room = c.write.ensures.room;
@@ -235,7 +235,7 @@ returns-clause-ok g c =
     let size = ap length c.tail-tail.ensures in
     let t = tailed_of l c.args.self.now c.self.invariant c.self.view_is (λ none. c.if-len-eq0.false (size ∙ none)) in
     let some : l.written.tail ≡ [] → ⊥ = λ none. t.some (sym (ap (λ (s : LogState). s.tail) c.self.view_is) ∙ none) in
-    closed_forced l c.settle.new.self c.write.new.self (length c.tail-tail.result.now) c.settle.ensures size some
+    closed_forced l c.close_group.new.self c.write.new.self (length c.tail-tail.result.now) c.close_group.ensures size some
     ∙ ap forced c.self.view_is
 
 pub returns-clause-durable : goal.returns-clause-durable

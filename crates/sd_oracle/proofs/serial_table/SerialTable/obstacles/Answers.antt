@@ -2,8 +2,8 @@ use Rattle.std.proofs.Common.{◌↔◌, subst}
 use Rattle.std.specs.List.{Contains}
 use Rattle.std.specs.Result.{IfOk}
 use Rattle.sd_base.specs.declared.ids.TxnId.{TxnId}
-use Rattle.sd_lists.specs.Lists.{Journal, state_of}
-use Rattle.sd_causes.specs.Claimers.{Obstructs}
+use Rattle.sd_oracle.specs.Lists.{Journal, state_of}
+use Rattle.sd_oracle.specs.Claimers.{Obstructs}
 use Rattle.sd_oracle.proofs.serial_table.SerialTable.obstacles.Goals as goal
 
 pub returns : goal.returns

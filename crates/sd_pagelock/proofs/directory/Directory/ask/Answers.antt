@@ -1,6 +1,6 @@
 use Rattle.std.proofs.Common.{⊎_elim, refl, sym, ap, ◌∙◌}
 use Rattle.std.proofs.lemmas.Bool.{cases_eq}
-use Rattle.sd_asks.specs.Asks.{asks_for}
+use Rattle.sd_pagelock.specs.Asks.{asks_for}
 use Rattle.sd_pagelock.proofs.Rooms.{room-left, room-put}
 use Rattle.sd_pagelock.proofs.directory.Directory.ask.Goals as goal
 

@@ -1,10 +1,10 @@
 use Rattle.std.proofs.Common.{⊎_elim, ℕ, ◌*◌, ◌+◌, ◌<◌, ◌≤◌, cond, List, None, Option, sym, ap, ◌∙◌, arith}
 use Rattle.std.proofs.lemmas.Bool.{cases_lt}
 use Rattle.sd_base.specs.declared.place.Place as coded
-use Rattle.sd_places.specs.Places.{PageEntry, place_at, receives, uses}
+use Rattle.sd_pagelock.specs.Places.{PageEntry, place_at, receives, uses}
 use Rattle.sd_pagelock.specs.Directory.{DirectoryState, entry_at, moving_image_at}
-use Rattle.sd_places.proofs.Unused.{receives-unused}
-use Rattle.sd_asks.specs.Asks.{asks_without, open_asks}
+use Rattle.sd_pagelock.proofs.Unused.{receives-unused}
+use Rattle.sd_pagelock.specs.Asks.{asks_without, open_asks}
 use Rattle.sd_pagelock.proofs.Kept.{kept-fallen}
 use Rattle.sd_pagelock.proofs.Rooms.{room-left}
 use Rattle.sd_pagelock.proofs.directory.Directory.fall.Goals.{then-may_use, else-may_use}

@@ -1,5 +1,5 @@
 use Rattle.std.proofs.Common.{ap, ◌∙◌}
-use Rattle.sd_asks.specs.Asks.{asks_without}
+use Rattle.sd_pagelock.specs.Asks.{asks_without}
 use Rattle.sd_pagelock.proofs.Rooms.{room-left}
 use Rattle.sd_pagelock.proofs.directory.Directory.forget.Goals as goal
 

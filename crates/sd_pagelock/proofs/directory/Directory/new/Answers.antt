@@ -1,7 +1,7 @@
 use Rattle.std.proofs.Common.{◌∙◌, ap, length, None, Option}
 use Rattle.std.proofs.lemmas.List.{length-replicate}
-use Rattle.sd_asks.specs.Asks.{Queues, asks_for}
-use Rattle.sd_placetable.proofs.Kept.{blank}
+use Rattle.sd_pagelock.specs.Asks.{Queues, asks_for}
+use Rattle.sd_pagelock.proofs.TableKept.{blank}
 use Rattle.sd_pagelock.proofs.Kept.{kept-new}
 use Rattle.sd_pagelock.proofs.directory.Directory.new.Goals as goal
 

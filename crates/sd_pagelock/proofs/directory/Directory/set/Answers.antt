@@ -1,10 +1,10 @@
 use Rattle.std.proofs.Common.{◌≡◌, ℕ, Bool, true, false, cond, Option, None, ⊎_elim, refl, sym, ap, ◌∙◌}
 use Rattle.std.specs.Prelude.{is_some}
 use Rattle.std.proofs.lemmas.Bool.{cases_eq}
-use Rattle.sd_places.specs.Places.{changed, seen}
+use Rattle.sd_pagelock.specs.Places.{changed, seen}
 use Rattle.sd_pagelock.specs.Directory.{entry_at, rec_lsn_at}
-use Rattle.sd_places.proofs.Forms.{formed-move}
-use Rattle.sd_asks.specs.Asks.{asks_for, open_asks}
+use Rattle.sd_pagelock.proofs.Forms.{formed-move}
+use Rattle.sd_pagelock.specs.Asks.{asks_for, open_asks}
 use Rattle.sd_pagelock.proofs.Rooms.{room-left}
 use Rattle.sd_pagelock.proofs.directory.Directory.set.Goals as goal
 

@@ -1,7 +1,7 @@
 use Rattle.std.proofs.Common.{⊎_elim, ℕ, cond, List, None, Option, sym, ap, ◌∙◌, arith}
 use Rattle.std.proofs.lemmas.Bool.{cases_eq}
 use Rattle.sd_base.specs.declared.place.Place as coded
-use Rattle.sd_places.specs.Places.{place_at, receives}
+use Rattle.sd_pagelock.specs.Places.{place_at, receives}
 use Rattle.sd_pagelock.specs.Directory.{DirectoryState, entry_at, moving_image_at}
 use Rattle.sd_pagelock.proofs.directory.Directory.stop_in.Goals.{in-Some, in-None}
 use Rattle.sd_pagelock.proofs.directory.Directory.stop_in.Goals as goal

@@ -1,5 +1,5 @@
 use Rattle.std.proofs.Common.{◌≡◌, ◌*◌, ◌<◌, ◌≤◌, ℕ, cond, None, Option}
-use Rattle.sd_places.specs.Places.{receives}
+use Rattle.sd_pagelock.specs.Places.{receives}
 use Rattle.sd_pagelock.specs.Directory.{entry_at, moving_image_at}
 use Rattle.sd_pagelock.proofs.directory.Directory.stop_in.Given as goal
 

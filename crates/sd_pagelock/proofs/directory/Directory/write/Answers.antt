@@ -1,5 +1,5 @@
 use Rattle.std.proofs.Common.{length, sym, ap, ◌∙◌}
-use Rattle.sd_places.specs.Places.{place_at, seen}
+use Rattle.sd_pagelock.specs.Places.{place_at, seen}
 use Rattle.sd_pagelock.proofs.Kept.{kept-write}
 use Rattle.sd_pagelock.proofs.directory.Directory.write.Goals as goal
 

@@ -5,7 +5,7 @@ use Rattle.sd_base.specs.declared.ids.TxnId.{TxnId}
 use Rattle.sd_base.specs.Ids.{same_txn}
 use Rattle.sd_reclock.specs.Locks.{Modes, ClashesIn}
 use Rattle.sd_reclock.specs.Holding.{with_first}
-use Rattle.sd_cycle.specs.Reaching.{AreThose}
+use Rattle.sd_reclock.specs.Reaching.{AreThose}
 use Rattle.sd_reclock.proofs.Clashing.{apart_by, same_by}
 use Rattle.sd_reclock.proofs.Firsts.{First, was_row, clash_past, clash_more}
 use Rattle.sd_reclock.proofs.holders.Holders.clashing.Goals as goal

@@ -1,6 +1,6 @@
 use Rattle.std.proofs.Common.{◌≡◌, ◌++◌, ◌∷◌, [], ap, ◌∙◌}
 use Rattle.sd_base.proofs.Results.{on_ok, on_err}
-use Rattle.sd_cycle.specs.Waiting.{wait_of}
+use Rattle.sd_reclock.specs.Waiting.{wait_of}
 use Rattle.sd_reclock.specs.Locks.{Held}
 use Rattle.sd_reclock.proofs.Joining.{Raises, raised_few, raised_many, added_few, apart_fewer, apart_after_add, apart_after_put, agree_after, stands_many}
 use Rattle.sd_reclock.proofs.locks.Locks.put.Goals as goal

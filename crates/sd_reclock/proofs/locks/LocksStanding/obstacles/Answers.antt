@@ -3,9 +3,9 @@ use Rattle.std.proofs.lemmas.Bool.{true≢false}
 use Rattle.std.proofs.lemmas.Result.{IfOk-weaker}
 use Rattle.std.specs.Option.{is_some, MatchOption}
 use Rattle.sd_base.specs.declared.ids.TxnId.{TxnId}
-use Rattle.sd_cycle.specs.Waiting.{wait_of}
+use Rattle.sd_reclock.specs.Waiting.{wait_of}
 use Rattle.sd_reclock.specs.Locks.{ClashesIn, StandsIn}
-use Rattle.sd_cycle.specs.Reaching.{AreThose}
+use Rattle.sd_reclock.specs.Reaching.{AreThose}
 use Rattle.sd_reclock.proofs.Clashing.{stand_all, stand_none, those_none}
 use Rattle.sd_reclock.proofs.locks.LocksStanding.obstacles.Goals as goal
 

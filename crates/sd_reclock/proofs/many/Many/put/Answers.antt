@@ -1,7 +1,7 @@
 use Rattle.std.proofs.Common.{Some, refl, sym, subst, Result, Ok, Err}
 use Rattle.std.specs.Result.{OnOk}
 use Rattle.sd_base.specs.declared.ids.TxnId.{TxnId}
-use Rattle.sd_cycle.specs.Waiting.{wait_of}
+use Rattle.sd_reclock.specs.Waiting.{wait_of}
 use Rattle.sd_reclock.specs.Locks.{Held, Agree, StandsIn, held_in, raised}
 use Rattle.sd_reclock.specs.Indexing.{IsIndexed}
 use Rattle.sd_reclock.specs.Marking.{AreMarked}

@@ -2,7 +2,7 @@ use Rattle.std.proofs.Common.{refl, sym, subst}
 use Rattle.std.proofs.lemmas.Bool.{true≢false}
 use Rattle.sd_base.specs.Ids.{same_txn}
 use Rattle.sd_reclock.specs.Locks.{Modes, ClashesIn}
-use Rattle.sd_cycle.specs.Reaching.{AreThose}
+use Rattle.sd_reclock.specs.Reaching.{AreThose}
 use Rattle.sd_reclock.proofs.Clashing.{IsGathered, gathered_none, gathered_more, gathered_past, gathered_all, apart_by, same_by}
 use Rattle.sd_reclock.proofs.others.Others.clashing.Goals as goal
 use Rattle.sd_reclock.proofs.others.Others.clashing.Goals.{else-ne-via-then-ne+else-clashes, else-ne-via-else-ne}

@@ -1,8 +1,7 @@
-use Rattle.std.proofs.Common.{subst, sym, ◌∙◌}
+use Rattle.std.proofs.Common.{subst, sym, ◌∙◌, List, Some, None}
 use Rattle.sd_reclock.specs.Locks.{mode_of, AgreeAmong, IsOwner}
 use Rattle.sd_base.specs.declared.ids.TxnId.{TxnId}
 use Rattle.sd_base.specs.declared.place.Mode.{Mode}
-use Rattle.std.proofs.Common.{List, Some, None}
 use Rattle.sd_reclock.proofs.Owners.{owner_first, owner_shared}
 use Rattle.sd_reclock.proofs.others.Others.owner.Goals as goal
 

@@ -9,6 +9,6 @@ pub put-requires : goal.put-requires
 put-requires c = record { free = subst (λ (table : LockTable). IsFree (stands table) c.args.t.now (wait_for c.args.r.now c.args.mode)) (sym c.self.view_is) c.requires.free }
 
 pub returns-clause-given : goal.returns-clause-given
-returns-clause-given c = λ u q. c.settle.ensures.held u q
+returns-clause-given c = λ u q. c.make_place.ensures.held u q
     ∙ subst (λ (table : LockTable). held_in c.put.new.self u q ≡ cond {A = Option Mode} (same_txn c.args.t.now u && same_rid c.args.r.now q)
     (Some (raised (held_in table.locks c.args.t.now c.args.r.now) c.args.mode)) (held_in table.locks u q)) c.self.view_is (c.in_ok-put.ensures.put u q)

@@ -2,10 +2,10 @@ use Rattle.std.proofs.Common.{◌≡◌, None, Option, not, nat_eq, cond, subst,
 use Rattle.std.proofs.lemmas.Map.Made.{filter_same_pairs}
 use Rattle.sd_base.specs.declared.ids.TxnId.{TxnId}
 use Rattle.sd_base.specs.Waits.{Wait}
-use Rattle.sd_cycle.specs.declared.wait.Asked.{Asked}
-use Rattle.sd_cycle.specs.Waiting.{waits_in}
+use Rattle.sd_reclock.specs.declared.wait.Asked.{Asked}
+use Rattle.sd_reclock.specs.Waiting.{waits_in}
 use Rattle.sd_reclock.specs.Locks.{LockTable, waits}
-use Rattle.sd_cycle.proofs.Noting.{waits_kept}
+use Rattle.sd_reclock.proofs.Noting.{waits_kept}
 use Rattle.sd_reclock.proofs.table.RecordLocks.retain.Goals as goal
 
 pub returns-clause-waits : goal.returns-clause-waits

@@ -1,8 +1,8 @@
 use Rattle.std.proofs.Common.{◌≡◌, Some, subst}
 use Rattle.sd_base.specs.Waits.{with_wait}
-use Rattle.sd_cycle.specs.Waiting.{waits_in}
+use Rattle.sd_reclock.specs.Waiting.{waits_in}
 use Rattle.sd_reclock.specs.Locks.{LockTable, waits, wait_for}
-use Rattle.sd_cycle.proofs.Noting.{waits_change}
+use Rattle.sd_reclock.proofs.Noting.{waits_change}
 use Rattle.sd_reclock.proofs.table.RecordLocks.wait.Goals as goal
 use Rattle.sd_base.proofs.Orders.{put-txn}
 

@@ -2,8 +2,8 @@ use Rattle.std.proofs.Common.{List, length, sym, ap, ◌∙◌, subst}
 use Rattle.std.specs.Prelude.{All}
 use Rattle.std.proofs.lemmas.Result.{err_from_is_err_and}
 use Rattle.sd_log.specs.Logs.{AreSpelled, LogState, scanned}
-use Rattle.sd_analysis.specs.declared.losers.Loser.{Loser}
-use Rattle.sd_undone.specs.Reading.{AreLosersOf}
+use Rattle.sd_recovered.specs.declared.losers.Loser.{Loser}
+use Rattle.sd_recovered.specs.UndoPass.{AreLosersOf}
 use Rattle.sd_recovered.specs.Reading.{AreRead}
 use Rattle.sd_recovered.proofs.Covers.{all_spelled}
 use Rattle.sd_recovered.proofs.Growing.{count-read}

@@ -2,9 +2,9 @@ use Rattle.std.proofs.Common.{◌≡◌, ℕ, ◌+◌, inl, inr, ⊎_elim, List,
 use Rattle.std.specs.Prelude.{IfSome, Option, map}
 use Rattle.std.proofs.lemmas.Result.{err_from_is_err_and}
 use Rattle.sd_log.specs.Logs.{LogState}
-use Rattle.sd_analysis.specs.declared.losers.Loser.{Loser}
+use Rattle.sd_recovered.specs.declared.losers.Loser.{Loser}
 use Rattle.sd_chain.specs.Faults.{LogFailsAt}
-use Rattle.sd_scan.specs.Masters.{said}
+use Rattle.sd_recovered.specs.Masters.{said}
 use Rattle.sd_recovered.specs.Reading.{AreRead, IsUnread, LogIsRead}
 use Rattle.sd_recovered.proofs.Growing.{logs-more, masters-more}
 use Rattle.sd_recovered.proofs.Refusals.{came, told_on}

@@ -1,6 +1,6 @@
 use Rattle.std.proofs.Common.{◌≡◌, false, true, List, ◌∷◌, [], ◌++◌, length, refl, sym, ap, ◌∙◌, subst, arith}
-use Rattle.sd_forms.specs.declared.line.Line.{Line}
-use Rattle.sd_forms.specs.Known.{known}
+use Rattle.sd_script.specs.declared.line.Line.{Line}
+use Rattle.sd_script.specs.Known.{known}
 use Rattle.sd_script.specs.Order.{Follows}
 use Rattle.sd_script.specs.Remembered.{IsFresh}
 use Rattle.sd_script.proofs.Remembering.{remembers_push, begun_few, fresh_unknown, unknown_fresh}

@@ -1,7 +1,7 @@
 use Rattle.std.proofs.Common.{◌≡◌, true, false, List, Option, refl, length, ap, subst, arith}
-use Rattle.sd_forms.specs.declared.line.Form.{Form}
-use Rattle.sd_forms.specs.declared.line.Line.{Line}
-use Rattle.sd_forms.specs.Forms.{IsFormOf}
+use Rattle.sd_script.specs.declared.line.Form.{Form}
+use Rattle.sd_script.specs.declared.line.Line.{Line}
+use Rattle.sd_script.specs.Forms.{IsFormOf}
 use Rattle.sd_script.specs.Order.{begun, ordinal_of}
 use Rattle.sd_script.proofs.Taking.{none_fits, taken}
 use Rattle.sd_script.proofs.reader.Reader.take_form.Goals as goal

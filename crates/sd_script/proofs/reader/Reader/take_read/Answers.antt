@@ -1,7 +1,7 @@
 use Rattle.std.proofs.Common.{List, [], ◌∷◌, subst}
 use Rattle.std.specs.Prelude.{codes}
-use Rattle.sd_forms.specs.declared.line.Line.{Line}
-use Rattle.sd_forms.specs.Known.{known}
+use Rattle.sd_script.specs.declared.line.Line.{Line}
+use Rattle.sd_script.specs.Known.{known}
 use Rattle.sd_script.specs.Remembered.{AreOrdinals}
 use Rattle.sd_script.proofs.Taking.{by_ordinals}
 use Rattle.sd_script.proofs.reader.Reader.take_read.Goals as goal

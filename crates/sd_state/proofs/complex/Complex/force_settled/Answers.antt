@@ -5,9 +5,9 @@ use Rattle.sd_log.specs.Logs.{LogState, StandsOn, forced}
 use Rattle.sd_log.specs.Forces.{Forces, forced_at, forced_len}
 use Rattle.sd_rig.specs.Devices.{AgreesOutside, Elapses, LeavesOnly, LeavesSame, Span}
 use Rattle.sd_rig.specs.Spans.{span-weaker}
-use Rattle.sd_sound.specs.Laws.{MayForce}
-use Rattle.sd_sound.proofs.Kept.{forced-idle}
-use Rattle.sd_sound.proofs.Outcomes.{failed-outcomes}
+use Rattle.sd_chain.specs.ChecksKept.{MayForce}
+use Rattle.sd_chain.proofs.Kept.{forced-idle}
+use Rattle.sd_chain.proofs.Outcomes.{failed-outcomes}
 use Rattle.sd_state.specs.Complexes.{parts}
 use Rattle.sd_state.specs.Forcing.{IsForced, IsHalfForced, KeepMasters, with_failed}
 use Rattle.sd_state.specs.Good.{Good, IsSettledAt}

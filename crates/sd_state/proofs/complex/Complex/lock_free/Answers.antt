@@ -1,8 +1,8 @@
 use Rattle.std.proofs.Common.{◌≡◌, ℕ, ◌-◌, ◌≤◌, List, refl, ap, sym, ◌∙◌, subst, arith, slice_set}
 use Rattle.std.specs.Prelude.{None}
-use Rattle.sd_places.specs.Moves.{IsMove}
-use Rattle.sd_places.specs.Places.{PageEntry, is_free}
-use Rattle.sd_places.specs.Rows.{locked}
+use Rattle.sd_pagelock.specs.Moves.{IsMove}
+use Rattle.sd_pagelock.specs.Places.{PageEntry, is_free}
+use Rattle.sd_pagelock.specs.Rows.{locked}
 use Rattle.sd_pagelock.specs.Directory.{DirectoryState}
 use Rattle.sd_page.specs.Page.{Page}
 use Rattle.sd_pool.specs.Buffers.{Buffers, with_page}

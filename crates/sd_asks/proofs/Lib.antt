@@ -1,4 +1,0 @@
-mod Finds
-mod Lookups
-pub mod Queues
-pub mod Raised

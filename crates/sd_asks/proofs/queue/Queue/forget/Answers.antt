@@ -1,8 +1,0 @@
-use Rattle.std.proofs.Common.{◌∙◌, ap, eqb, not, rules}
-use Rattle.std.proofs.lemmas.Fn.{filter_same}
-use Rattle.sd_asks.specs.declared.queue.Ask.{Ask}
-use Rattle.sd_asks.specs.Asks.{asks_without}
-use Rattle.sd_asks.proofs.queue.Queue.forget.Goals as goal
-
-pub returns : goal.returns
-returns c = filter_same _ (λ (ask : Ask). not (eqb ask.by c.args.i)) _ (λ x b f' t. search rules) _ _ c.retain.ensures.filtered ∙ ap (asks_without c.args.i) c.self.view_is

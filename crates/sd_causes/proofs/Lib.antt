@@ -1,4 +1,0 @@
-pub mod Search
-pub mod SlotClaims
-pub mod Firsts
-pub mod NumberSums

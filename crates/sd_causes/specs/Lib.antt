@@ -1,2 +1,0 @@
-pub mod Claimers
-pub mod Firsts

@@ -1,0 +1,13 @@
+use Rattle.sd_chain.proofs.Lsns.{next_lsn-there}
+use Rattle.sd_chain.proofs.Room.{undo-room}
+use Rattle.sd_chain.proofs.Reserved.{undo-keeps}
+use Rattle.sd_chain.proofs.soundness_laws.undo.Goals as goal
+
+pub returns-clause-keeps : goal.returns-clause-keeps
+returns-clause-keeps g c = undo-keeps g.M.Moment.leaves
+
+pub returns-clause-room : goal.returns-clause-room
+returns-clause-room g c = undo-room
+
+pub returns-clause-lsn : goal.returns-clause-lsn
+returns-clause-lsn g c = next_lsn-there g.M.Moment.leaves

@@ -1,6 +1,0 @@
-use Rattle.std.proofs.Common.{refl}
-use Rattle.sd_places.specs.Moves.{IsMove}
-use Rattle.sd_changes.proofs.changing.mark.Goals as goal
-
-pub set-requires-clause-lawful : goal.set-requires-clause-lawful
-set-requires-clause-lawful c = IsMove.change c.args.i c.requires.owns refl

@@ -1,0 +1,25 @@
+use Rattle.std.proofs.Common.{ℕ, ◌≤◌, sym, ◌∙◌, subst}
+use Rattle.std.specs.Prelude.{Some}
+use Rattle.sd_fits.specs.declared.body.Body.{Body}
+use Rattle.sd_world.specs.Serving.{Telling, telling}
+use Rattle.sd_drive.proofs.Bodies.{status-is}
+use Rattle.sd_drive.proofs.recovery.awaited_in.Goals as goal
+
+pub returns-in-Some : goal.returns-in-Some
+returns-in-Some g c = λ w fits.
+    let tell : Telling _ = telling g.G.Rig.seen g.G.Rig.leaves g.G.Rig.moment g.G.Rig.since g.G.Rig.faults in
+    let i = c.keeps.ensures in
+    let there = c.status.ensures ∙ status-is tell (Some (Body.Open c.args.c.now)) w fits c.args.inst
+    i.low i.high in
+    (sym there ∙ c.in-Recovering.is, c.in-Some.ensures.claimed w c.in-Recovering.by fits (sym c.status.ensures ∙ c.in-Recovering.is))
+
+pub returns-in-None : goal.returns-in-None
+returns-in-None g c = λ w by fits awaits is. c.in-None.ensures.none awaits.0 awaits.1 awaits.2
+
+pub returns-in_default : goal.returns-in_default
+returns-in_default g c = λ w by fits awaits is.
+    let tell : Telling _ = telling g.G.Rig.seen g.G.Rig.leaves g.G.Rig.moment g.G.Rig.since g.G.Rig.faults in
+    let i = c.keeps.ensures in
+    let there = c.status.ensures ∙ status-is tell (Some (Body.Open c.args.c.now)) w fits c.args.inst
+    i.low i.high in
+    c.in_default.not-Recovering by (there ∙ is)

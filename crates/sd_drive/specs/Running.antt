@@ -1,0 +1,89 @@
+-- What a run is known to have done: to the book, to the complex, and to the devices all the while.
+use Rattle.std.specs.Prelude.{◌≡◌, ◌⊎◌, ℕ, true, false, List, [], ◌∷◌, ◌++◌}
+use Rattle.sd_base.specs.declared.ids.Rid.{Rid}
+use Rattle.sd_base.specs.Streams.{Rises}
+use Rattle.sd_base.specs.declared.place.Status.TheVariants as S
+use Rattle.sd_chain.specs.Bytes.{disk_page}
+use Rattle.sd_pagelock.specs.Places.{changed}
+use Rattle.sd_rig.specs.Devices.{DeviceImages, Elapses, Leaves, Span}
+use Rattle.sd_model.specs.State.{State}
+use Rattle.sd_model.specs.declared.event.Entry.{Entry}
+use Rattle.sd_world.specs.Serving.{FaultsAre, Passes, Telling}
+use Rattle.sd_fits.specs.Serving.{stands_for}
+use Rattle.sd_fits.specs.Bodies.{fits_body, rig_of}
+use Rattle.sd_fits.specs.declared.body.Body.{Body}
+use Rattle.sd_drive.specs.Driving.{Advances, Drives, World}
+
+-- where a run began: in this world, with these devices and this table
+pub record Start (G : Type 0) : Type 0 where
+  pub world : World
+  pub rig : G
+  pub table : List (Rid × List ℕ)
+
+-- the count of faults goes up entry by entry, as each reply tells
+abbrev pub FaultsOf : List Entry → ℕ → ℕ → Type 0
+FaultsOf [] old new = new ≡ old
+FaultsOf (e ∷ es) old new = (next : ℕ) × FaultsAre e.event e.reply old next × FaultsOf es next new
+
+-- The image stands for the state of a world on the way: a front of the entries leads to it, and the rest on to the last world.
+pub record StandsOnWay (start : World) (entries : List Entry) (last : World) (img : DeviceImages) : Type 0 where
+  pub front : List Entry
+  pub rest : List Entry
+  pub parts : entries ≡ front ++ rest
+  pub world : World
+  pub before : Drives start front world
+  pub behind : Drives world rest last
+  pub stands : stands_for img world.core.scene.state
+
+-- The entry was served on these devices: meanwhile a crash left what stands for the world before it or behind it, and whatever it may
+-- leave then stands for that behind it. A fault is told by the entry in which it came.
+pub record ServesEntry {G : Type 0} (tell : Telling G) (e : Entry) (rig mid : G) (w next : World) : Type 0 where
+  pub passes : Passes tell stands_for rig mid w.core.scene.state next.core.scene.state
+  pub told : FaultsAre e.event e.reply (tell.faults rig) (tell.faults mid)
+  pub left : (img : DeviceImages) → Leaves (tell.leaves mid) img → stands_for img next.core.scene.state
+  -- while the complex is open, a page that is told as clean is on the data device, with the LSN that is told
+  pub clean : ((next.core.scene.state.inst 1).status ≡ S.Closed → ⊥) → (p : ℕ) → changed (next.core.pages.entry p) ≡ false
+      → (bytes : List ℕ) → tell.leaves mid 0 bytes → (disk_page bytes p).lsn ≡ next.core.pages.number p
+
+-- A call that found no memory passed: the devices stood for the same world meanwhile.
+pub record Rests {G : Type 0} (tell : Telling G) (rig rig' : G) (w : World) : Type 0 where
+  pub passes : Passes tell stands_for rig rig' w.core.scene.state w.core.scene.state
+  pub quiet : tell.faults rig' ≡ tell.faults rig
+
+-- From entry to entry the devices went on, and behind each they stood for its world.
+abbrev pub Goes : {G : Type 0} → Telling G → World → G → List Entry → World → G → Type 0
+Goes tell w rig [] w' rig' = (w ≡ w') × ((rig' ≡ rig) ⊎ Rests tell rig rig' w)
+Goes {G} tell w rig (e ∷ es) w' rig' = (next : World) × (mid : G) × Advances w e next × ServesEntry tell e rig mid w next × Goes tell next mid es w' rig'
+
+-- The devices are `rig` now: since the start time went on, no entry tells a fault that wasn't there, none is untold but those of a failure
+-- of all, and each image that a crash may have left at any moment stands for the state of a world on the way.
+pub record RunsOn {G : Type 0} (tell : Telling G) (start : Start G) (rig : G) (entries : List Entry) (last : World) : Type 0 where
+  pub time : Elapses (tell.moment start.rig) (tell.moment rig) (tell.since start.rig) (tell.since rig)
+  pub moments : Span (tell.moment start.rig) (tell.since rig) (StandsOnWay start.world entries last)
+  pub faults : FaultsOf entries (tell.faults start.rig) (tell.faults rig)
+  pub goes : Goes tell start.world start.rig entries last rig
+
+-- The entries lead from the start to a world that the complex fits, open or closed.
+pub record Ran {G : Type 0} (tell : Telling G) (start : Start G) (body : Body G) (entries : List Entry) (last : World) : Type 0 where
+  pub drives : Drives start.world entries last
+  pub fits : fits_body tell.seen tell.leaves body last.core
+  pub runs : RunsOn tell start (rig_of body) entries last
+
+-- What the devices read, and whatever a crash may leave of them, stands for the state.
+pub record AllStand {G : Type 0} (tell : Telling G) (rig : G) (m : State) : Type 0 where
+  pub reads : stands_for (tell.seen rig) m
+  pub left : (img : DeviceImages) → Leaves (tell.leaves rig) img → stands_for img m
+
+-- The entries lead from the start to the last world, for which the devices stand.
+pub record Led {G : Type 0} (tell : Telling G) (start : Start G) (rig : G) (entries : List Entry) (last : World) : Type 0 where
+  pub drives : Drives start.world entries last
+  pub runs : RunsOn tell start rig entries last
+  pub stand : AllStand tell rig last.core.scene.state
+
+-- A device failed in the opening: the entries lead to a world in which that is told, and for which the devices stand.
+pub record Breaks {G : Type 0} (tell : Telling G) (start : Start G) (rig : G) : Type 0 where
+  pub entries : List Entry
+  pub last : World
+  pub led : Led tell start rig entries last
+  pub failed : last.told.failed ≡ true
+  pub faults : Rises (tell.faults start.rig) (tell.faults rig)

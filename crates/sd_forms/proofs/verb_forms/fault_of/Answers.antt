@@ -1,5 +1,0 @@
-use Rattle.sd_forms.proofs.Refused.{fault_none}
-use Rattle.sd_forms.proofs.verb_forms.fault_of.Goals as goal
-
-pub returns-in_default : goal.returns-in_default
-returns-in_default c = λ known. fault_none known c.args.call.now c.in_default.ensures.none

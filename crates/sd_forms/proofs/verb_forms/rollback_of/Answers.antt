@@ -1,6 +1,0 @@
-use Rattle.sd_forms.proofs.Refused.{rollback_none}
-use Rattle.sd_forms.specs.Known.{known}
-use Rattle.sd_forms.proofs.verb_forms.rollback_of.Goals as goal
-
-pub returns-in_default : goal.returns-in_default
-returns-in_default c = rollback_none (known c.args.begun.now) c.args.name.now c.in_default.ensures.none

@@ -1,9 +1,0 @@
--- The ordinals that are known of names.
-use Rattle.std.specs.Prelude.{ℕ, List, Option}
-use Rattle.sd_forms.specs.declared.names.Names.{Names}
-use Rattle.sd_forms.specs.Ordinals.{ordinal_at}
-use Rattle.sd_forms.specs.Packed.{packed_of}
-
--- the ordinal of a name
-abbrev pub known : Names → List ℕ → Option ℕ
-known names name = ordinal_at names.rising.items names.others (packed_of name)

@@ -1,6 +1,0 @@
-use Rattle.std.proofs.Common.{◌≡◌, map, take}
-use Rattle.sd_found.specs.Reading.{count_of}
-use Rattle.sd_found.proofs.parts.counts_of.Given as goal
-
-abbrev pub invariant-loop-master : goal.invariant-loop-master
-invariant-loop-master l = l.counts.items ≡ map count_of (take l.master-index l.masters)

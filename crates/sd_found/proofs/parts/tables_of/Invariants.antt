@@ -1,6 +1,0 @@
-use Rattle.std.proofs.Common.{take}
-use Rattle.sd_found.specs.Reading.{AreTables}
-use Rattle.sd_found.proofs.parts.tables_of.Given as goal
-
-abbrev pub invariant-loop-i : goal.invariant-loop-i
-invariant-loop-i l = AreTables (take l.i l.logs) l.tables.items

@@ -1,3 +1,0 @@
-pub mod Gates
-pub mod Numbers
-pub mod Parts

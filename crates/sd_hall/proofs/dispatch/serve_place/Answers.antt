@@ -1,0 +1,77 @@
+use Rattle.std.proofs.Common.{◌≡◌, refl, ap}
+use Rattle.std.specs.Prelude.{Some}
+use Rattle.sd_model.specs.declared.event.Event.{Event}
+use Rattle.sd_model.specs.declared.event.Event.TheVariants as event
+use Rattle.sd_model.specs.declared.event.Reply.{Reply}
+use Rattle.sd_model.specs.declared.event.Reply.TheVariants as reply
+use Rattle.sd_world.specs.Serving.{Telling, telling}
+use Rattle.sd_hall.specs.Served.{IsOfPlace}
+use Rattle.sd_hall.proofs.Answering.{served-as}
+use Rattle.sd_hall.proofs.dispatch.serve_place.Goals as goal
+
+pub unreachable-requires : goal.unreachable-requires
+unreachable-requires g c = none c.args.e.now c.requires.place refl
+  where
+    none : (e : Event) → IsOfPlace e → c.args.e.now ≡ e → ⊥
+    none (event.Ask i p mode) of is = c.in_default.not-Ask i p mode is
+    none (event.Give i p) of is = c.in_default.not-Give i p is
+    none (event.Take i p) of is = c.in_default.not-Take i p is
+    none (event.Evict i p) of is = c.in_default.not-Evict i p is
+    none (event.Flush i p) of is = c.in_default.not-Flush i p is
+    none (event.Force i) of is = c.in_default.not-Force i is
+    none (event.RecoverBegin i by) of is = c.in_default.not-RecoverBegin i by is
+    none (event.Join i) of is = c.in_default.not-Join i is
+    none (event.Arm trouble) of is = c.in_default.not-Arm trouble is
+    none (event.Show p) of is = c.in_default.not-Show p is
+    none e of is = of
+
+pub returns-in-Ask : goal.returns-in-Ask
+returns-in-Ask g c =
+    let tell : Telling _ = telling g.G.Rig.seen g.G.Rig.leaves g.G.Rig.moment g.G.Rig.since g.G.Rig.faults in
+    served-as tell c.args.c.now c.ask.new.c _ _ _ _ c.in-Ask.is c.as_asked.ensures c.ask.ensures.served
+
+pub returns-in-Give : goal.returns-in-Give
+returns-in-Give g c =
+    let tell : Telling _ = telling g.G.Rig.seen g.G.Rig.leaves g.G.Rig.moment g.G.Rig.since g.G.Rig.faults in
+    served-as tell c.args.c.now c.give.new.c _ _ _ _ c.in-Give.is c.as_gave.ensures c.give.ensures.served
+
+pub returns-in-Take : goal.returns-in-Take
+returns-in-Take g c =
+    let tell : Telling _ = telling g.G.Rig.seen g.G.Rig.leaves g.G.Rig.moment g.G.Rig.since g.G.Rig.faults in
+    served-as tell c.args.c.now c.take.new.c _ _ _ _ c.in-Take.is c.as_did.ensures c.take.ensures.served
+
+pub returns-in-Evict : goal.returns-in-Evict
+returns-in-Evict g c =
+    let tell : Telling _ = telling g.G.Rig.seen g.G.Rig.leaves g.G.Rig.moment g.G.Rig.since g.G.Rig.faults in
+    served-as tell c.args.c.now c.evict.new.c _ _ _ _ c.in-Evict.is c.as_did-in-Evict.ensures c.evict.ensures.served
+
+pub returns-in-Flush : goal.returns-in-Flush
+returns-in-Flush g c =
+    let tell : Telling _ = telling g.G.Rig.seen g.G.Rig.leaves g.G.Rig.moment g.G.Rig.since g.G.Rig.faults in
+    served-as tell c.args.c.now c.write_page.new.c _ _ _ _ c.in-Flush.is c.as_did-in-Flush.ensures c.write_page.ensures.served
+
+pub returns-in-Force : goal.returns-in-Force
+returns-in-Force g c =
+    let tell : Telling _ = telling g.G.Rig.seen g.G.Rig.leaves g.G.Rig.moment g.G.Rig.since g.G.Rig.faults in
+    served-as tell c.args.c.now c.force.new.c _ _ _ _ c.in-Force.is c.as_did-in-Force.ensures c.force.ensures.served
+
+pub returns-in-RecoverBegin : goal.returns-in-RecoverBegin
+returns-in-RecoverBegin g c =
+    let tell : Telling _ = telling g.G.Rig.seen g.G.Rig.leaves g.G.Rig.moment g.G.Rig.since g.G.Rig.faults in
+    served-as tell c.args.c.now c.recover_begin.new.c _ _ _ _ c.in-RecoverBegin.is c.as_did-in-RecoverBegin.ensures c.recover_begin.ensures.served
+
+pub returns-in-Join : goal.returns-in-Join
+returns-in-Join g c =
+    let tell : Telling _ = telling g.G.Rig.seen g.G.Rig.leaves g.G.Rig.moment g.G.Rig.since g.G.Rig.faults in
+    served-as tell c.args.c.now c.join.new.c _ _ _ _ c.in-Join.is c.as_joined.ensures c.join.ensures.served
+
+pub returns-in-Arm : goal.returns-in-Arm
+returns-in-Arm g c =
+    let tell : Telling _ = telling g.G.Rig.seen g.G.Rig.leaves g.G.Rig.moment g.G.Rig.since g.G.Rig.faults in
+    served-as tell c.args.c.now c.arm.new.c _ (event.Arm c.in-Arm.trouble) (Some c.args.answer.now) (Some reply.Did) c.in-Arm.is
+    (ap (λ (r : Reply). Some r) c.requires.fresh) c.arm.ensures.served
+
+pub returns-in-Show : goal.returns-in-Show
+returns-in-Show g c =
+    let tell : Telling _ = telling g.G.Rig.seen g.G.Rig.leaves g.G.Rig.moment g.G.Rig.since g.G.Rig.faults in
+    served-as tell c.args.c.now c.args.c.now _ _ _ _ c.in-Show.is c.as_shown.ensures c.show.ensures.served

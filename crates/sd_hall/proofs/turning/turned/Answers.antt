@@ -1,0 +1,13 @@
+use Rattle.sd_world.specs.Serving.{Telling, telling}
+use Rattle.sd_hall.proofs.Bodies.{frames-in, neither}
+use Rattle.sd_hall.proofs.turning.turned.Goals as goal
+
+pub fail_all-requires : goal.fail_all-requires
+fail_all-requires g c =
+    let tell : Telling _ = telling g.G.Rig.seen g.G.Rig.leaves g.G.Rig.moment g.G.Rig.since g.G.Rig.faults in
+    let fits = c.requires.fits in
+    record { frames = frames-in tell c.args.body fits.0 c.args.shape.frames fits.1 fits.2 }
+
+pub unreachable-requires : goal.unreachable-requires
+unreachable-requires g c =
+    c.requires.over (neither c.args.e.now (λ pick is. c.in_default.not-FailAll pick is) (λ is. c.in_default.not-Reopen is))

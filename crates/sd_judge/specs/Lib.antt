@@ -1,3 +1,0 @@
-pub mod Scenes
-pub mod Exactly
-pub mod Watches

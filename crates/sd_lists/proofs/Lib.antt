@@ -1,4 +1,0 @@
-pub mod Loops
-pub mod Scans
-pub mod Parts
-pub mod OneByOne

@@ -1,8 +1,0 @@
-use Rattle.std.proofs.Common.{◌≡◌, take}
-use Rattle.sd_base.specs.declared.ids.TxnId.{TxnId}
-use Rattle.sd_lists.specs.Lists.{part_in}
-use Rattle.sd_lists.specs.Wholes.{changed_part}
-use Rattle.sd_lists.proofs.wholes.changed_parts.Given as goal
-
-abbrev pub invariant-loop-txn : goal.invariant-loop-txn
-invariant-loop-txn l = (t : TxnId) → part_in l.all.items t ≡ changed_part l.change t (part_in (take l.txn-index l.parts) t)

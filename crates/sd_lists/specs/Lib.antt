@@ -1,4 +1,0 @@
-pub mod Lists
-pub mod Wholes
-pub mod Answers
-pub mod Joins

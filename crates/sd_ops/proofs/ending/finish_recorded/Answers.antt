@@ -1,0 +1,177 @@
+use Rattle.std.proofs.Common.{inr, refl, sym, subst}
+use Rattle.std.specs.Prelude.{IsOk, None}
+use Rattle.sd_base.proofs.Results.{when_ok}
+use Rattle.sd_chain.specs.Records.{home}
+use Rattle.sd_txn.specs.declared.state.TxnState.{TxnState}
+use Rattle.sd_state.specs.Complexes.{parts}
+use Rattle.sd_state.specs.Values.{Pending}
+use Rattle.sd_world.specs.Serving.{Telling, telling}
+use Rattle.sd_fits.proofs.Disk.{disk-leaves, disk-same}
+use Rattle.sd_fits.proofs.Heads.{some-there}
+use Rattle.sd_ops.proofs.Finishing.{ending, failed-due, failed-served, forced-bare, forced-idle, forced-rolls, forced-served, forced-tail, forced-up, may-end}
+use Rattle.sd_fits.proofs.Falling.{fallen-down}
+use Rattle.sd_ops.proofs.ending.finish_recorded.Goals as goal
+
+pub seal_end-requires-clause-numbered : goal.seal_end-requires-clause-numbered
+seal_end-requires-clause-numbered g c =
+    let t = c.args.t.now in
+    let rig = c.args.c.now.rig in
+    let f = c.requires.fits.1 in
+    let n = c.keeps.ensures in
+    let number = f.good.numbered t (some-there (g.G.Rig.seen rig) (g.G.Rig.leaves rig) Pending.Idle (parts c.args.c.now)
+    c.requires.fits.0.scene.state f.good t (TxnState.Rolling None) n.low n.high c.requires.rolls) in
+    record { low = n.low; high = n.high; epoch = (number.0, n.epoch); seq = (number.1, n.seq) }
+
+pub seal_end-requires-clause-may : goal.seal_end-requires-clause-may
+seal_end-requires-clause-may g c = may-end c.args.t.now (parts c.args.c.now) c.requires.up c.requires.rolls c.requires.empty c.requires.there
+
+pub unwrap-requires : goal.unwrap-requires
+unwrap-requires g c = subst IsOk (sym (c.seal_end.ensures.there c.requires.up)) refl
+
+pub force_log-requires-clause-good : goal.force_log-requires-clause-good
+force_log-requires-clause-good g c =
+    let m = c.requires.fits.0.scene.state in
+    (Pending.Idle, m, c.seal_end.ensures.good m c.requires.fits.1.good)
+
+pub rolled_back-requires-clause-good : goal.rolled_back-requires-clause-good
+rolled_back-requires-clause-good g c =
+    let m = c.requires.fits.0.scene.state in
+    (m, c.in-Ok.ensures.good Pending.Idle m (c.seal_end.ensures.good m c.requires.fits.1.good))
+
+pub down-requires-clause-good : goal.down-requires-clause-good
+down-requires-clause-good g c =
+    let m = c.requires.fits.0.scene.state in
+    (Pending.Idle, m, c.in-Err.ensures.good Pending.Idle m (c.seal_end.ensures.good m c.requires.fits.1.good))
+
+pub rolled_back-requires-clause-idle : goal.rolled_back-requires-clause-idle
+rolled_back-requires-clause-idle g c =
+    let tell : Telling _ = telling g.G.Rig.seen g.G.Rig.leaves g.G.Rig.moment g.G.Rig.since g.G.Rig.faults in
+    let t = c.args.t.now in
+    let n = c.keeps.ensures in
+    let r = c.requires in
+    let s = c.seal_end.ensures in
+    let e = c.in-Ok.ensures in
+    let ends = when_ok c.seal_end.result tt _ (s.there r.up) s.parts in
+    let k = ending tell t c.args.c.now c.seal_end.new.c c.force_log.new.self n.low n.high r.up r.rolls r.empty r.there
+    (λ dev few. g.met.G.Rig.leaves_seen c.args.c.now.rig dev few) s.rig ends s.good e.good e.images e.time e.others e.masters in
+    forced-idle tell t c.args.c.now c.seal_end.new.c c.force_log.new.self k e.forced r.fits.0 r.fits.1
+
+pub rolled_back-requires-clause-up : goal.rolled_back-requires-clause-up
+rolled_back-requires-clause-up g c =
+    let tell : Telling _ = telling g.G.Rig.seen g.G.Rig.leaves g.G.Rig.moment g.G.Rig.since g.G.Rig.faults in
+    let t = c.args.t.now in
+    let n = c.keeps.ensures in
+    let r = c.requires in
+    let s = c.seal_end.ensures in
+    let e = c.in-Ok.ensures in
+    let ends = when_ok c.seal_end.result tt _ (s.there r.up) s.parts in
+    let k = ending tell t c.args.c.now c.seal_end.new.c c.force_log.new.self n.low n.high r.up r.rolls r.empty r.there
+    (λ dev few. g.met.G.Rig.leaves_seen c.args.c.now.rig dev few) s.rig ends s.good e.good e.images e.time e.others e.masters in
+    forced-up tell t c.args.c.now c.seal_end.new.c c.force_log.new.self k e.forced r.fits.0 r.fits.1
+
+pub rolled_back-requires-clause-rolls : goal.rolled_back-requires-clause-rolls
+rolled_back-requires-clause-rolls g c =
+    let tell : Telling _ = telling g.G.Rig.seen g.G.Rig.leaves g.G.Rig.moment g.G.Rig.since g.G.Rig.faults in
+    let t = c.args.t.now in
+    let n = c.keeps.ensures in
+    let r = c.requires in
+    let s = c.seal_end.ensures in
+    let e = c.in-Ok.ensures in
+    let ends = when_ok c.seal_end.result tt _ (s.there r.up) s.parts in
+    let k = ending tell t c.args.c.now c.seal_end.new.c c.force_log.new.self n.low n.high r.up r.rolls r.empty r.there
+    (λ dev few. g.met.G.Rig.leaves_seen c.args.c.now.rig dev few) s.rig ends s.good e.good e.images e.time e.others e.masters in
+    forced-rolls tell t c.args.c.now c.seal_end.new.c c.force_log.new.self k e.forced r.fits.0 r.fits.1
+
+pub rolled_back-requires-clause-bare : goal.rolled_back-requires-clause-bare
+rolled_back-requires-clause-bare g c =
+    let tell : Telling _ = telling g.G.Rig.seen g.G.Rig.leaves g.G.Rig.moment g.G.Rig.since g.G.Rig.faults in
+    let t = c.args.t.now in
+    let n = c.keeps.ensures in
+    let r = c.requires in
+    let s = c.seal_end.ensures in
+    let e = c.in-Ok.ensures in
+    let ends = when_ok c.seal_end.result tt _ (s.there r.up) s.parts in
+    let k = ending tell t c.args.c.now c.seal_end.new.c c.force_log.new.self n.low n.high r.up r.rolls r.empty r.there
+    (λ dev few. g.met.G.Rig.leaves_seen c.args.c.now.rig dev few) s.rig ends s.good e.good e.images e.time e.others e.masters in
+    forced-bare tell t c.args.c.now c.seal_end.new.c c.force_log.new.self k e.forced r.fits.0 r.fits.1
+
+pub rolled_back-requires-clause-ended : goal.rolled_back-requires-clause-ended
+rolled_back-requires-clause-ended g c =
+    let tell : Telling _ = telling g.G.Rig.seen g.G.Rig.leaves g.G.Rig.moment g.G.Rig.since g.G.Rig.faults in
+    let t = c.args.t.now in
+    let n = c.keeps.ensures in
+    let r = c.requires in
+    let s = c.seal_end.ensures in
+    let e = c.in-Ok.ensures in
+    let ends = when_ok c.seal_end.result tt _ (s.there r.up) s.parts in
+    let k = ending tell t c.args.c.now c.seal_end.new.c c.force_log.new.self n.low n.high r.up r.rolls r.empty r.there
+    (λ dev few. g.met.G.Rig.leaves_seen c.args.c.now.rig dev few) s.rig ends s.good e.good e.images e.time e.others e.masters in
+    inr (forced-tail tell t c.args.c.now c.seal_end.new.c c.force_log.new.self k e.forced r.fits.0 r.fits.1)
+
+pub returns-in-Ok-clause-served : goal.returns-in-Ok-clause-served
+returns-in-Ok-clause-served g c =
+    let tell : Telling _ = telling g.G.Rig.seen g.G.Rig.leaves g.G.Rig.moment g.G.Rig.since g.G.Rig.faults in
+    let t = c.args.t.now in
+    let n = c.keeps.ensures in
+    let r = c.requires in
+    let s = c.seal_end.ensures in
+    let e = c.in-Ok.ensures in
+    let ends = when_ok c.seal_end.result tt _ (s.there r.up) s.parts in
+    let k = ending tell t c.args.c.now c.seal_end.new.c c.force_log.new.self n.low n.high r.up r.rolls r.empty r.there
+    (λ dev few. g.met.G.Rig.leaves_seen c.args.c.now.rig dev few) s.rig ends s.good e.good e.images e.time e.others e.masters in
+    let d = c.rolled_back.ensures in
+    forced-served tell t c.args.c.now c.seal_end.new.c c.force_log.new.self k e.forced c.rolled_back.new.self d.rig e.quiet d.parts d.waits d.good
+
+pub down-requires-clause-due : goal.down-requires-clause-due
+down-requires-clause-due g c =
+    let tell : Telling _ = telling g.G.Rig.seen g.G.Rig.leaves g.G.Rig.moment g.G.Rig.since g.G.Rig.faults in
+    let t = c.args.t.now in
+    let n = c.keeps.ensures in
+    let r = c.requires in
+    let s = c.seal_end.ensures in
+    let e = c.in-Err.ensures in
+    let ends = when_ok c.seal_end.result tt _ (s.there r.up) s.parts in
+    let k = ending tell t c.args.c.now c.seal_end.new.c c.force_log.new.self n.low n.high r.up r.rolls r.empty r.there
+    (λ dev few. g.met.G.Rig.leaves_seen c.args.c.now.rig dev few) s.rig ends s.good e.good e.images e.time e.others e.masters in
+    failed-due tell t c.args.c.now c.seal_end.new.c c.force_log.new.self k e.failed r.fits.0 r.fits.1
+
+pub returns-in-Err-clause-served : goal.returns-in-Err-clause-served
+returns-in-Err-clause-served g c =
+    let tell : Telling _ = telling g.G.Rig.seen g.G.Rig.leaves g.G.Rig.moment g.G.Rig.since g.G.Rig.faults in
+    let t = c.args.t.now in
+    let n = c.keeps.ensures in
+    let r = c.requires in
+    let s = c.seal_end.ensures in
+    let e = c.in-Err.ensures in
+    let ends = when_ok c.seal_end.result tt _ (s.there r.up) s.parts in
+    let k = ending tell t c.args.c.now c.seal_end.new.c c.force_log.new.self n.low n.high r.up r.rolls r.empty r.there
+    (λ dev few. g.met.G.Rig.leaves_seen c.args.c.now.rig dev few) s.rig ends s.good e.good e.images e.time e.others e.masters in
+    let d = c.down.ensures in
+    failed-served tell t c.args.c.now c.seal_end.new.c c.force_log.new.self k e.failed c.down.new.c d.rig d.parts d.fallen d.good e.cause
+
+pub returns-in-Ok-clause-disk : goal.returns-in-Ok-clause-disk
+returns-in-Ok-clause-disk g c =
+    let tell : Telling _ = telling g.G.Rig.seen g.G.Rig.leaves g.G.Rig.moment g.G.Rig.since g.G.Rig.faults in
+    disk-same tell (home c.args.t.now) c.keeps.ensures.low c.args.c.now c.seal_end.new.c c.force_log.new.self c.rolled_back.new.self
+    c.seal_end.ensures.rig c.rolled_back.ensures.rig c.in-Ok.ensures.others
+
+pub returns-in-Ok-clause-disk_leaves : goal.returns-in-Ok-clause-disk_leaves
+returns-in-Ok-clause-disk_leaves g c =
+    let tell : Telling _ = telling g.G.Rig.seen g.G.Rig.leaves g.G.Rig.moment g.G.Rig.since g.G.Rig.faults in
+    disk-leaves tell (home c.args.t.now) c.keeps.ensures.low c.args.c.now c.seal_end.new.c c.force_log.new.self c.rolled_back.new.self
+    c.seal_end.ensures.rig c.rolled_back.ensures.rig c.in-Ok.ensures.others_leave
+
+pub returns-in-Err-clause-disk : goal.returns-in-Err-clause-disk
+returns-in-Err-clause-disk g c =
+    let tell : Telling _ = telling g.G.Rig.seen g.G.Rig.leaves g.G.Rig.moment g.G.Rig.since g.G.Rig.faults in
+    disk-same tell (home c.args.t.now) c.keeps.ensures.low c.args.c.now c.seal_end.new.c c.force_log.new.self c.down.new.c
+    c.seal_end.ensures.rig c.down.ensures.rig c.in-Err.ensures.others
+
+pub returns-in-Err-clause-disk_leaves : goal.returns-in-Err-clause-disk_leaves
+returns-in-Err-clause-disk_leaves g c =
+    let tell : Telling _ = telling g.G.Rig.seen g.G.Rig.leaves g.G.Rig.moment g.G.Rig.since g.G.Rig.faults in
+    disk-leaves tell (home c.args.t.now) c.keeps.ensures.low c.args.c.now c.seal_end.new.c c.force_log.new.self c.down.new.c
+    c.seal_end.ensures.rig c.down.ensures.rig c.in-Err.ensures.others_leave
+
+pub returns-in-Err-clause-down : goal.returns-in-Err-clause-down
+returns-in-Err-clause-down g c = λ e. fallen-down (home c.args.t.now) (parts c.force_log.new.self) (parts c.down.new.c) c.down.ensures.fallen

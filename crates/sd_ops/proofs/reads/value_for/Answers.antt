@@ -1,0 +1,13 @@
+use Rattle.std.proofs.Common.{refl, ◌∙◌}
+use Rattle.std.specs.Prelude.{None}
+use Rattle.sd_model.specs.declared.event.Event.TheVariants as event
+use Rattle.sd_model.specs.declared.event.Reply.TheVariants as reply
+use Rattle.sd_world.specs.Serving.{telling}
+use Rattle.sd_ops.proofs.WaitEnded.{half-serves}
+use Rattle.sd_ops.proofs.reads.value_for.Goals as goal
+
+pub returns-clause-served : goal.returns-clause-served
+returns-clause-served g c = half-serves (telling g.G.Rig.seen g.G.Rig.leaves g.G.Rig.moment g.G.Rig.since g.G.Rig.faults) None
+    (event.Read c.args.t.now c.args.r.now) c.args.c.now c.look-done.new.c c.end_wait.new.c (λ img since. g.met.G.Rig.only_now c.args.c.now.rig img since)
+    (c.end_wait.ensures.rig ∙ c.look-done.ensures.rig) (λ v. reply.Value v) (λ v. record { after = λ asked. refl; waits = λ e wanted asks. refl })
+    c.look-done.result c.look-done.ensures.half c.end_wait.ensures.ended

@@ -1,0 +1,17 @@
+use Rattle.std.proofs.Common.{◌≡◌, arith}
+use Rattle.sd_base.specs.declared.ids.Rid.{Rid}
+use Rattle.sd_model.specs.declared.act.Claim.{Claim}
+use Rattle.sd_model.specs.declared.act.Claim.TheVariants.{Excl}
+use Rattle.sd_oracle.specs.Lists.{claims_in}
+use Rattle.sd_oracle.proofs.Search.{any-next, any-end, excl-any, not_true}
+use Rattle.sd_oracle.proofs.changers.has_excl.Goals as goal
+
+pub loop-rid-init : goal.loop-rid-init
+loop-rid-init c = λ h. excl-any c.args.claims.now c.args.page h
+
+pub loop-rid-preserved : goal.loop-rid-preserved
+loop-rid-preserved c = λ h. any-next (λ (x : Rid × Claim). (x.0.page ≡ c.args.page) × (claims_in c.args.claims.now x.0 ≡ Excl)) c.args.claims.now c.loop-rid.rid-index c.loop-rid-item.result
+    c.loop-rid-test.true c.loop-rid-item.is (λ p. not_true (c.if-is_excl.ensures.1 p)) (c.loop-rid.invariant h)
+
+pub returns : goal.returns
+returns c = (λ f. absurd (not_true f), λ h. absurd (any-end (λ (x : Rid × Claim). (x.0.page ≡ c.args.page) × (claims_in c.args.claims.now x.0 ≡ Excl)) c.args.claims.now c.loop-rid.rid-index (omega arith) (c.loop-rid.invariant h)))

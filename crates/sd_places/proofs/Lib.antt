@@ -1,9 +1,0 @@
-pub mod Alone
-pub mod Drops
-pub mod Members
-pub mod Falls
-pub mod Forms
-pub mod Losses
-pub mod Rowwise
-pub mod Unused
-pub mod Uses

@@ -1,4 +1,0 @@
-mod Counts
-pub mod Firsts
-mod Groups
-pub mod Kept

@@ -1,6 +1,0 @@
-pub mod Held
-mod Rows
-mod Lists
-mod Used
-pub mod Asking
-mod Reading

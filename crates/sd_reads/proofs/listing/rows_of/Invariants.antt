@@ -1,6 +1,0 @@
-use Rattle.std.proofs.Common.{◌≡◌}
-use Rattle.sd_reads.specs.Listing.{rows_below}
-use Rattle.sd_reads.proofs.listing.rows_of.Given as goal
-
-abbrev pub invariant-loop-slot : goal.invariant-loop-slot
-invariant-loop-slot l = l.rows.items ≡ rows_below l.p l.image.slots l.slot

@@ -1,4 +1,0 @@
-pub mod Stacked
-pub mod Walking
-pub mod Relisted
-pub mod Owing

@@ -1,5 +1,0 @@
-use Rattle.sd_relist.proofs.Stacked.{Reopening}
-use Rattle.sd_relist.proofs.relisting.reopen.Given as goal
-
-abbrev pub invariant-loop-at : goal.invariant-loop-at
-invariant-loop-at l = Reopening l.log l.loser l.fn.table l.table l.at-index

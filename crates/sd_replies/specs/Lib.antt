@@ -1,5 +1,0 @@
-pub mod Words
-pub mod Refusals
-pub mod Places
-pub mod Replies
-pub mod Names

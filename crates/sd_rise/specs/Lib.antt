@@ -1,5 +1,0 @@
-pub mod Rising
-pub mod Going
-pub mod Emptying
-pub mod Restarting
-pub mod Passed

@@ -1,6 +1,0 @@
-mod Calms
-mod Outs
-mod Turned
-pub mod Undone
-mod Ends
-mod Finishing

@@ -1,4 +1,0 @@
-pub mod Faults
-pub mod Follows
-pub mod Scans
-pub mod Slots

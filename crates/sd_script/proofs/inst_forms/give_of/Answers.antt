@@ -1,0 +1,5 @@
+use Rattle.sd_script.proofs.Refused.{give_none}
+use Rattle.sd_script.proofs.inst_forms.give_of.Goals as goal
+
+pub returns-in_default : goal.returns-in_default
+returns-in_default c = λ known. give_none known c.args.inst c.args.page.now c.requires c.in_default.ensures.none

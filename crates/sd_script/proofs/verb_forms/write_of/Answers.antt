@@ -1,0 +1,7 @@
+use Rattle.sd_script.proofs.Refused.{write_none}
+use Rattle.sd_script.specs.Known.{known}
+use Rattle.sd_script.proofs.verb_forms.write_of.Goals as goal
+
+pub returns-in_default : goal.returns-in_default
+returns-in_default c = write_none (known c.args.begun.now) c.args.name.now c.args.rid.now c.args.value.now
+    (λ is. c.in_default.ensures.none)

@@ -1,5 +1,0 @@
-use Rattle.sd_settle.proofs.SettledStanding.{HasFirst}
-use Rattle.sd_settle.proofs.settling.states_of.Given as goal
-
-abbrev pub invariant-loop-t : goal.invariant-loop-t
-invariant-loop-t l = HasFirst l.table l.t-index l.states.entries

@@ -1,8 +1,0 @@
-use Rattle.sd_sound.proofs.Blank.{blank-sound, zeros-blank}
-use Rattle.sd_sound.proofs.laws.blank.Goals as goal
-
-pub returns-clause-sound : goal.returns-clause-sound
-returns-clause-sound g c = blank-sound g.M.Moment.leaves
-
-pub returns-clause-zeros : goal.returns-clause-zeros
-returns-clause-zeros g c = zeros-blank

@@ -1,4 +1,0 @@
-pub mod Rows
-pub mod Owns
-mod Nexts
-pub mod Awaited

@@ -1,0 +1,37 @@
+-- When an instance may give a page, and why it doesn't.
+use Rattle.std.specs.Prelude.{◌≡◌, ℕ, true, false, [], None, Some}
+use Rattle.sd_base.specs.declared.place.Mode.{Mode}
+use Rattle.sd_base.specs.declared.refusal.Refusal.{Refusal}
+use Rattle.sd_base.specs.declared.refusal.Refusal.TheVariants as R
+use Rattle.sd_pagelock.specs.Asks.{oldest}
+use Rattle.sd_pagelock.specs.Directory.{asks_at, entry_at}
+use Rattle.sd_pagelock.specs.Places.{holds, is_lost, owns, passes, receives, seen}
+use Rattle.sd_state.specs.Parts.{Parts, is_active, is_loose, log_at}
+
+-- The instance is active and has a copy of the page, which is neither lost nor on its way; `to` asks in this mode, and no other's
+-- ask is older.
+pub record MayGive (c : Parts) (j p to : ℕ) (mode : Mode) : Type 0 where
+  pub active : is_active c j ≡ true
+  pub found : is_lost (entry_at c.directory p) ≡ false
+  pub still : passes (entry_at c.directory p) ≡ false
+  pub held : holds (entry_at c.directory p) j ≡ true
+  pub asked : oldest j (asks_at c.directory p) ≡ Some (to, mode)
+
+-- instance j doesn't give page p for this cause, and no cause before it applies
+abbrev pub IsUngiven : Parts → ℕ → ℕ → Refusal → Type 0
+IsUngiven c j p R.Down = is_active c j ≡ false
+IsUngiven c j p R.Lost = (is_active c j ≡ true) × (is_lost (entry_at c.directory p) ≡ true)
+IsUngiven c j p (R.MovingTo to) =
+    (is_active c j ≡ true) × (is_lost (entry_at c.directory p) ≡ false) × (passes (entry_at c.directory p) ≡ true)
+    × (receives (entry_at c.directory p) to ≡ true)
+IsUngiven c j p (R.NeedPage place) =
+    (is_active c j ≡ true) × (is_lost (entry_at c.directory p) ≡ false) × (passes (entry_at c.directory p) ≡ false)
+    × (holds (entry_at c.directory p) j ≡ false) × (seen place ≡ entry_at c.directory p)
+IsUngiven c j p R.NotAsked =
+    (is_active c j ≡ true) × (is_lost (entry_at c.directory p) ≡ false) × (passes (entry_at c.directory p) ≡ false)
+    × (holds (entry_at c.directory p) j ≡ true) × (oldest j (asks_at c.directory p) ≡ None)
+IsUngiven c j p n = ⊥
+
+-- where the instance has the page alone, its log is forced, unless that isn't settled
+abbrev pub IsForcedFor : Parts → ℕ → ℕ → Parts → Type 0
+IsForcedFor old j p new = owns (entry_at old.directory p) j ≡ true → is_loose old j ≡ false → (log_at new j).tail ≡ []

@@ -1,8 +1,0 @@
-use Rattle.std.proofs.Common.{◌≡◌}
-use Rattle.sd_base.specs.declared.ids.Rid.{Rid}
-use Rattle.sd_model.specs.Tables.{contents}
-use Rattle.sd_undone.proofs.Rows.{pages_upto}
-use Rattle.sd_undone.proofs.table.table_of.Given as goal
-
-abbrev pub invariant-loop-p : goal.invariant-loop-p
-invariant-loop-p l = (r : Rid) → contents l.table r ≡ pages_upto l.pages l.p r

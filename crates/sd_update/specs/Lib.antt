@@ -1,0 +1,4 @@
+pub mod Changing
+pub mod Undoing
+pub mod Sealing
+pub mod UndoingFor
