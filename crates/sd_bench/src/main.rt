@@ -5,8 +5,8 @@
 //! Promises: nothing but that it does nothing undefined.
 //! Refuses: words that name no loop, by exit status 2; a loop that a layer stops, by exit status 1.
 //! Knows nothing of: time, which `benches/` takes from outside.
-//! Stands on: sd_base, sd_model, sd_book, sd_rig, sd_gate, sd_filerig, sd_page, sd_logrec, sd_log, sd_pool, sd_reclock,
-//! sd_places, sd_pagelock, sd_state, sd_recovered, sd_script, sd_report, sd_one.
+//! Stands on: sd_base, sd_model, sd_page, sd_logrec, sd_rig, sd_filerig, sd_log, sd_pool, sd_reclock, sd_pagelock, sd_recovered,
+//! sd_state, sd_script, sd_report, sd_one.
 //!
 //! To change:
 //! - free: all

@@ -1,6 +1,7 @@
 pub mod Lists
 pub mod Stacks
 pub mod Whose
+pub mod SameRecords
 pub mod Members
 pub mod Slots
 pub mod Chains

@@ -1,7 +1,6 @@
 -- A put of a master, Ok or failed: each image has the old start place or the new one. For the law `put_master`.
 use Rattle.std.proofs.Common.{◌≡◌, ◌≢◌, ◌⊎◌, inl, inr, ⊎_elim, ℕ, ◌≤◌, List, Option, Some, refl, sym, ap, ◌∙◌, subst, arith}
 use Rattle.std.specs.Prelude.{is_some}
-use Rattle.std.specs.List.{list_any}
 use Rattle.sd_base.specs.Twin.{chosen_body}
 use Rattle.sd_logrec.specs.Kept.{Master, area, master, master_of, reading}
 use Rattle.sd_page.specs.Page.{Page}
@@ -9,12 +8,11 @@ use Rattle.sd_log.specs.Logs.{LogState, StandsOn, forced}
 use Rattle.sd_rig.specs.Devices.{AgreesOutside}
 use Rattle.sd_rig.specs.Devices as rig
 use Rattle.sd_rig.specs.Puts.{Puts}
-use Rattle.sd_chain.specs.Checks.{is_end_check}
 use Rattle.sd_chain.proofs.Devices.{part_behind}
 use Rattle.sd_chain.proofs.Narrowed.{narrowed-safe}
-use Rattle.sd_chain.specs.Logs.{Outcomes, may_of, past_at, records_at, tails_of}
+use Rattle.sd_chain.specs.Logs.{Outcomes, may_of, tails_of}
 use Rattle.sd_chain.specs.Soundly.{IsReady}
-use Rattle.sd_chain.specs.Starts.{IsLater, NamesLater, only_if}
+use Rattle.sd_chain.specs.Starts.{IsLater, NamesLater, Says, only_if}
 use Rattle.sd_chain.specs.ChecksKept.{MasterPutKeeps, MasterPutLeavesSound}
 use Rattle.sd_chain.proofs.Ready.{log-same}
 use Rattle.sd_chain.proofs.Changed.{changed-soundly, lsns-same, may-less}
@@ -35,7 +33,7 @@ stands_same l old new a s = ap (reading l.start) a ∙ s
 -- what a put of the master leaves of the device: the log from its old place, or from the later one
 pub master-outcome : (i : ℕ) (l l' : LogState) (body : List ℕ) (seen : rig.DeviceImages) (leaves : Outcomes) (img : rig.DeviceImages)
     → NamesLater (seen i) l l' body → IsReady i (seen i) l
-    → Puts i 0 64 body seen leaves img → IsReady i (img i) l ⊎ IsLater (master (seen i)) l l' (img i)
+    → Puts i 0 64 body seen leaves img → IsReady i (img i) l ⊎ IsLater (seen i) l l' (img i)
 master-outcome i l l' body seen leaves img names r f =
     let slots = puts-slots i body seen leaves img names.well r.slots f in
     let same = area_same (seen i) (img i) f.outside in
@@ -56,9 +54,7 @@ master-outcome i l l' body seen leaves img names r f =
     inr (record {
       chosen = ap (λ (o : Option (List ℕ)). is_some o) new;
       start = ap (λ (x : Master). x.start) m ∙ names.start;
-      epoch = ap (λ (x : Master). x.epoch) m ∙ names.epoch;
-      check = subst (λ (x : Master). (past_at (master (seen i)) l).lsn ≤ x.check) (sym m) names.check;
-      ended = ap (λ (x : Master). list_any (is_end_check x.check) (records_at l')) m ∙ names.ended;
+      says = subst (Says (seen i) l l') (sym m) names.says;
       stands = stands_same l' (seen i) (img i) same names.stands;
       slots = slots;
     }))
@@ -68,12 +64,12 @@ master-outcome i l l' body seen leaves img names r f =
 pub master_put-keeps : (leaves leaves' : Outcomes) → MasterPutKeeps leaves leaves'
 master_put-keeps leaves leaves' i gone body old new seen left s less at short names outcome = record {
   either = λ bytes l. let o = outcome bytes l in
-      subst (λ (b : List ℕ). IsReady i b (old i) ⊎ IsLater (master (seen i)) (old i) (new i) b) o.1
+      subst (λ (b : List ℕ). IsReady i b (old i) ⊎ IsLater (seen i) (old i) (new i) b) o.1
       (master-outcome i (old i) (new i) body seen leaves o.0 names (s.ready i at.low at.high (seen i) left) o.2);
   first = changed-soundly i leaves old_place old old at.low s (λ d ne b l. less d ne b l.0) (λ j ne. refl) (λ b l. l.1 refl)
       (λ keeps. lsns-same (tails_of old) (tails_of old) (may_of leaves) (may_of old_place) keeps keeps (λ j. refl)
       (may-less i leaves old_place at.low (λ d ne b l. less d ne b l.0)) (s.lsns keeps));
-  second = later-keeps leaves (only_if i (IsLater (master (seen i)) (old i) (new i)) leaves') i gone old new (seen i) left s
+  second = later-keeps leaves (only_if i (IsLater (seen i) (old i) (new i)) leaves') i gone old new (seen i) left s
       (λ d ne b l. less d ne b l.0) at short (λ b l. l.1 refl);
 }
   where
@@ -83,7 +79,7 @@ master_put-keeps leaves leaves' i gone body old new seen left s less at short na
 -- an image that a put of the master may leave passes all seven checks
 pub master_put-left : (leaves : Outcomes) → MasterPutLeavesSound leaves
 master_put-left leaves i gone body old new seen img left s at short names a f =
-    two_places-left here (λ bytes. IsReady i bytes (old i)) (IsLater (master (seen i)) (old i) (new i)) i old new img at.high
+    two_places-left here (λ bytes. IsReady i bytes (old i)) (IsLater (seen i) (old i) (new i)) i old new img at.high
     (master_put-keeps leaves here i gone body old new seen left s (λ d ne b l. l.0 ne) at short names
     (λ b l. (img, sym (l.1 refl), f)))
     (record {

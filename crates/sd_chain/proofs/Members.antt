@@ -1,5 +1,5 @@
 -- The transactions of a log and those it leaves open, each once, and sums over lists with the same members: for the goals of
--- `losers`, and lent to sd_analysis.
+-- `losers`, and lent to sd_recovered.
 use Rattle.std.proofs.Common.{◌≡◌, ◌≢◌, inl, inr, ⊎_elim, ℕ, ◌+◌, Bool, true, false, not, ◌&&◌, ◌||◌, List, [], ◌∷◌, filter, sum_by, refl, sym, ap, ◌∙◌, subst, arith}
 use Rattle.std.specs.List.{list_any}
 use Rattle.std.proofs.lemmas.Bool.{cases_Bool}

@@ -1,22 +1,23 @@
 -- A log that is read from a later place, and the slots of a master that is put: for the law `later_start`.
-use Rattle.std.proofs.Common.{◌≡◌, ◌≢◌, ⊎_elim, ℕ, ◌+◌, ◌^◌, ◌<◌, ◌≤◌, Bool, true, false, ◌&&◌, ◌||◌, cond, List, [], ◌∷◌, ◌++◌, Option, Some, None, map, length, sum_by, refl, sym, ap, ◌∙◌, subst, arith}
+use Rattle.std.proofs.Common.{◌≡◌, ◌≢◌, inl, inr, ⊎_elim, ℕ, ◌+◌, ◌^◌, ◌<◌, ◌≤◌, Bool, true, false, ◌&&◌, ◌||◌, cond, List, [], ◌∷◌, ◌++◌, Option, Some, None, map, length, sum_by, refl, sym, ap, ◌∙◌, subst, arith}
 use Rattle.std.specs.Prelude.{is_some, IfSome, IsTrue}
 use Rattle.std.proofs.lemmas.List.Folds.{list_any-append}
 use Rattle.std.specs.List.{list_any}
 use Rattle.std.proofs.lemmas.Bool.{cases_eq}
+use Rattle.std.proofs.lemmas.List.{map-append}
 use Rattle.sd_base.specs.declared.ids.TxnId.{TxnId}
 use Rattle.sd_base.specs.Ids.{same_txn}
 use Rattle.sd_base.specs.Twin.{chosen_body}
 use Rattle.sd_logrec.specs.declared.record.Record.{Record}
-use Rattle.sd_logrec.specs.Kept.{Group, Whole, master}
+use Rattle.sd_logrec.specs.declared.record.Record.TheVariants as records
+use Rattle.sd_logrec.specs.Kept.{Master, Whole, master}
 use Rattle.sd_logrec.specs.View.{Rec, Kind, flat}
 use Rattle.sd_logrec.specs.View.Kind.{Update, Clr, Commit, End, Plain}
 use Rattle.sd_base.specs.Values.{size}
 use Rattle.sd_log.specs.Logs.{LogState}
 use Rattle.sd_rig.specs.Devices as rig
 use Rattle.sd_rig.specs.Puts.{IsFrom, Puts}
-use Rattle.sd_chain.specs.Bytes.{records_of}
-use Rattle.sd_chain.specs.Checks.{Follow, IsMaster, IsSlot, is_end_check, open_in, owed, past_of, reserve}
+use Rattle.sd_chain.specs.Checks.{Follow, IsMaster, IsSlot, Past, StartFits, after_record, is_end_check, open_in, owed, past_of, placed_of, reserve, starts_by}
 use Rattle.sd_chain.specs.Images.{Keeps}
 use Rattle.sd_chain.specs.Order.{of_txn, speaks}
 use Rattle.sd_chain.specs.Records.{Each, ends, stack, stack_from}
@@ -29,7 +30,7 @@ use Rattle.sd_chain.specs.Soundly.{HasLsns, LogIsSound, SlotsAreSound}
 use Rattle.sd_chain.specs.Starts.{IsClosed, IsLater, IsShorter}
 use Rattle.sd_chain.specs.ChecksKept.{LaterKeeps}
 use Rattle.sd_chain.proofs.Sums.{sum-one}
-use Rattle.sd_chain.proofs.Kept.{base-append, grouped, grouped-append, no-tail}
+use Rattle.sd_chain.proofs.Kept.{flat-records, no-tail}
 use Rattle.sd_chain.proofs.Follows.{not-both}
 use Rattle.sd_chain.proofs.Epochs.{epoch-later, follow-later}
 use Rattle.sd_chain.proofs.Owing.{each-of, sum-same, total}
@@ -111,49 +112,87 @@ if_any : (o : Option (List ℕ)) (b : Bool) → b ≡ true → IfSome o (λ _. I
 if_any None b e = tt
 if_any (Some x) b e = e
 
-later-base : (gone : List Group) (l l' : LogState) → IsShorter gone l l'
-    → base_at l ≡ records_of (Whole gone l.gate) ++ base_at l'
-later-base gone l l' w = ap (λ (g : List Group). records_of (Whole g l.gate)) w.groups
-    ∙ base-append gone l'.groups l.gate l.gate l'.gate
+later-base : (gone : List Record) (l l' : LogState) → IsShorter gone l l' → base_at l ≡ map flat gone ++ base_at l'
+later-base gone l l' w = sym (flat-records (placed_of (Whole l.groups l.gate))) ∙ ap (map flat) w.records
+    ∙ map-append flat gone (records_at l') ∙ ap (λ (x : List Rec). map flat gone ++ x) (flat-records (placed_of (Whole l'.groups l'.gate)))
 
-later-records : (gone : List Group) (l l' : LogState) → IsShorter gone l l' → records_at l ≡ grouped gone ++ records_at l'
-later-records gone l l' short = ap grouped short.groups ∙ grouped-append gone l'.groups
+-- the master says of them what the former one says: they follow one another as before
+again-follow : (j : ℕ) (chosen : Bool) (m m' : Master) (past : Past) (rs : List Record) → m'.epoch ≡ m.epoch → m'.check ≡ m.check
+    → Follow j chosen m past rs → Follow j chosen m' past rs
+again-follow j chosen m m' past [] epoch check f = tt
+again-follow j chosen m m' past (r ∷ rs) epoch check f = (
+  f.0, f.1, again r f.2, again-follow j chosen m m' (after_record past r) rs epoch check f.3)
+  where
+    again : (r : Record) → StartFits chosen m past r rs → StartFits chosen m' past r rs
+    again (records.Start l e) s = (
+      λ is le. let old = s.0 is (subst (λ (n : ℕ). l ≤ n) check le) in record {
+        rises = old.rises;
+        within = subst (λ (n : ℕ). e ≤ n) (sym epoch) old.within;
+        last = λ none. old.last (subst (λ (n : ℕ). list_any (starts_by n) rs ≡ false) check none) ∙ sym epoch;
+      },
+      λ off. s.1 (⊎_elim (λ no. inl no) (λ lt. inr (subst (λ (n : ℕ). n < l) check lt)) off),
+    )
+    again (records.Update l txn prev page slot capacity before after) s = tt
+    again (records.Clr l txn prev undo_next page slot after) s = tt
+    again (records.Commit l txn prev) s = tt
+    again (records.End l txn prev) s = tt
+    again (records.BeginCheck l) s = tt
+    again (records.EndCheck l begin spans recs) s = tt
 
--- behind the later master the shorter log is sound
-pub later-log-sound : (j : ℕ) (was bytes : List ℕ) (gone : List Group) (l l' : LogState) → IsShorter gone l l'
-    → IsLater (master was) l l' bytes → LogIsSound j was l → LogIsSound j bytes l'
+some-any : (o : Option (List ℕ)) (b : Bool) → is_some o ≡ true → IfSome o (λ _. IsTrue b) → b ≡ true
+some-any None b e h = absurd (cc)
+some-any (Some x) b e h = h
+
+-- behind the other master the log is sound
+pub later-log-sound : (j : ℕ) (was bytes : List ℕ) (gone : List Record) (l l' : LogState) → IsShorter gone l l'
+    → IsLater was l l' bytes → LogIsSound j was l → LogIsSound j bytes l'
 later-log-sound j was bytes gone l l' short w s =
-    let parts = later-records gone l l' short in
+    let parts = short.records in
     let same = ap reserve (later-base gone l l' short)
-    ∙ total-later (λ s. 31 + sum_by (λ x. 47 + size x.before) s) (records_of (Whole gone l.gate))
-    (base_at l') short.closed in
+    ∙ total-later (λ s. 31 + sum_by (λ x. 47 + size x.before) s) (map flat gone) (base_at l') short.closed in
     let room = s.room in let gate = short.gate in
-    record {
-      ended = if_any (chosen_body 0 64 bytes) (list_any (is_end_check (master bytes).check) (records_at l')) w.ended;
+    ⊎_elim
+    (λ e. record {
+      ended = if_any (chosen_body 0 64 bytes) (list_any (is_end_check (master bytes).check) (records_at l')) e.ended;
       follow = subst (λ (b : Bool). Follow j b (master bytes) (past_of (master bytes)) (records_at l')) (sym w.chosen)
-          (follow-later j (is_some (chosen_body 0 64 was)) (master was) (master bytes) (grouped gone) (records_at l')
+          (follow-later j (is_some (chosen_body 0 64 was)) (master was) (master bytes) gone (records_at l')
           (subst (Follow j (is_some (chosen_body 0 64 was)) (master was) (past_of (master was))) parts s.follow)
-          (w.epoch ∙ ap (λ (rs : List Record). (after_records (past_of (master was)) rs).epoch) parts)
-          (subst (λ (rs : List Record). (after_records (past_of (master was)) rs).lsn ≤ (master bytes).check) parts w.check));
+          (e.epoch ∙ ap (λ (rs : List Record). (after_records (past_of (master was)) rs).epoch) parts)
+          (subst (λ (rs : List Record). (after_records (past_of (master was)) rs).lsn ≤ (master bytes).check) parts e.check));
       room = omega (arith, gate, same, room);
-    }
+    })
+    (λ a. record {
+      ended = if_any (chosen_body 0 64 bytes) (list_any (is_end_check (master bytes).check) (records_at l'))
+          (ap (λ (n : ℕ). list_any (is_end_check n) (records_at l')) a.check
+          ∙ ap (list_any (is_end_check (master was).check)) a.records
+          ∙ some-any (chosen_body 0 64 was) (list_any (is_end_check (master was).check) (records_at l)) a.chosen s.ended);
+      follow = subst (λ (b : Bool). Follow j b (master bytes) (past_of (master bytes)) (records_at l')) (a.chosen ∙ sym w.chosen)
+          (again-follow j (is_some (chosen_body 0 64 was)) (master was) (master bytes) (past_of (master bytes)) (records_at l') a.epoch a.check
+          (subst (λ (n : ℕ). Follow j (is_some (chosen_body 0 64 was)) (master was) (record { lsn = 0; epoch = n; started = false }) (records_at l'))
+          (sym a.epoch)
+          (subst (Follow j (is_some (chosen_body 0 64 was)) (master was) (past_of (master was))) (sym a.records) s.follow)));
+      room = omega (arith, gate, same, room);
+    })
+    w.says
 
 -- the epoch that the log is in stays
-pub later-epoch : (was bytes : List ℕ) (gone : List Group) (l l' : LogState) → IsShorter gone l l'
-    → IsLater (master was) l l' bytes → (past_at (master bytes) l').epoch ≡ (past_at (master was) l).epoch
+pub later-epoch : (was bytes : List ℕ) (gone : List Record) (l l' : LogState) → IsShorter gone l l'
+    → IsLater was l l' bytes → (past_at (master bytes) l').epoch ≡ (past_at (master was) l).epoch
 later-epoch was bytes gone l l' short w =
-    let parts = later-records gone l l' short in
-    let same = ap (λ (rs : List Record). (after_records (past_of (master was)) rs).epoch) parts in
-    epoch-later (master was) (master bytes) (grouped gone) (records_at l') (w.epoch ∙ same)
-    ∙ sym same
+    let same = ap (λ (rs : List Record). (after_records (past_of (master was)) rs).epoch) short.records in
+    ⊎_elim
+    (λ e. epoch-later (master was) (master bytes) gone (records_at l') (e.epoch ∙ same) ∙ sym same)
+    (λ a. ap (λ (n : ℕ). (after_records (record { lsn = 0; epoch = n; started = false }) (records_at l')).epoch) a.epoch
+    ∙ ap (λ (rs : List Record). (after_records (past_of (master was)) rs).epoch) a.records)
+    w.says
 
-module _ (i : ℕ) (gone : List Group) (logs logs' : Logs) (at : ReplacesLog i (logs' i) logs logs')
+module _ (i : ℕ) (gone : List Record) (logs logs' : Logs) (at : ReplacesLog i (logs' i) logs logs')
     (one : IsShorter gone (logs i) (logs' i)) where
   shorter : (keeps : Keeps)
-      → kept_logs (tails_of logs) keeps i ≡ records_of (Whole gone (logs i).gate) ++ kept_logs (tails_of logs') keeps i
+      → kept_logs (tails_of logs) keeps i ≡ map flat gone ++ kept_logs (tails_of logs') keeps i
   shorter keeps = ap (λ (t : List Record). base_at (logs i) ++ cond (keeps i) (map flat t) []) one.tail
       ∙ no-tail (keeps i) (base_at (logs i)) ∙ later-base gone (logs i) (logs' i) one
-      ∙ ap (λ (x : List Rec). records_of (Whole gone (logs i).gate) ++ x)
+      ∙ ap (λ (x : List Rec). map flat gone ++ x)
       (sym (ap (λ (t : List Record). base_at (logs' i) ++ cond (keeps i) (map flat t) []) one.tail'
       ∙ no-tail (keeps i) (base_at (logs' i))))
 
@@ -169,8 +208,8 @@ module _ (i : ℕ) (gone : List Group) (logs logs' : Logs) (at : ReplacesLog i (
       let sum = sum-one (λ j. owed (kept_logs (tails_of logs') keeps j)) (λ j. owed (kept_logs (tails_of logs) keeps j)) i
       (λ j ne. ap owed (elsewhere keeps j ne)) at.low at.high in
       let here : owed (kept_logs (tails_of logs) keeps i) ≡ owed (kept_logs (tails_of logs') keeps i) =
-      ap owed (shorter keeps ∙ ap (λ (x : List Rec). records_of (Whole gone (logs i).gate) ++ x) (bare keeps))
-      ∙ total-later (λ s. 1 + length s) (records_of (Whole gone (logs i).gate)) (base_at (logs' i)) one.closed
+      ap owed (shorter keeps ∙ ap (λ (x : List Rec). map flat gone ++ x) (bare keeps))
+      ∙ total-later (λ s. 1 + length s) (map flat gone) (base_at (logs' i)) one.closed
       ∙ ap owed (sym (bare keeps)) in
       omega (arith, sum, here)
 
@@ -189,7 +228,7 @@ later-keeps leaves leaves' i gone logs logs' was left s less at one now =
       logs = λ j lo hi. ⊎_elim
           (λ e. subst (λ (k : ℕ). Each (HasLsns (tails_of logs') keeps) (kept_logs (tails_of logs') keeps k)) (sym e)
           (weaker (kept_logs (tails_of logs') keeps i)
-          (Each-back (HasLsns (tails_of logs) keeps) (records_of (Whole gone (logs i).gate))
+          (Each-back (HasLsns (tails_of logs) keeps) (map flat gone)
           (kept_logs (tails_of logs') keeps i)
           (subst (Each (HasLsns (tails_of logs) keeps)) (shorter i gone logs logs' at one keeps)
           ((s.lsns keeps).logs i at.low at.high)))))

@@ -1,5 +1,5 @@
 -- Whose a record is, and what a log leaves of a transaction with more records behind it: for the proofs of Order, StartMoved
--- and Fates, and lent to sd_analysis.
+-- and Fates, and lent to sd_recovered.
 use Rattle.std.proofs.Common.{◌≡◌, ◌≢◌, ⊎_elim, Bool, true, false, cond, ◌&&◌, ◌||◌, List, [], ◌∷◌, ◌++◌, refl, sym, ap, ◌∙◌}
 use Rattle.std.specs.List.{list_any}
 use Rattle.std.proofs.lemmas.Bool.{cases_Bool}

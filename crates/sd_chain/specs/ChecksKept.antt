@@ -2,11 +2,11 @@
 --
 -- In each law `leaves d bytes` says that a crash may leave these bytes of device d, `leaves'` says so of the time after the
 -- event, and `logs`, or `old` and `new`, are the logs in memory. `version` gives each page's newest version by the tails that
--- are kept, as in sd_chain, whose laws keep IsSafe.
+-- are kept, as in `Laws.antt`, whose laws keep IsSafe.
 use Rattle.std.specs.Prelude.{◌≡◌, ◌≢◌, ℕ, suc, ◌+◌, ◌^◌, ◌<◌, ◌≤◌, Bool, true, false, List, [], ◌∷◌, ◌++◌, length, replicate}
 use Rattle.sd_logrec.specs.declared.record.Record.{Record}
 use Rattle.sd_logrec.specs.declared.record.Record.TheVariants as records
-use Rattle.sd_logrec.specs.Kept.{Group, Master, master}
+use Rattle.sd_logrec.specs.Kept.{Master, master}
 use Rattle.sd_logrec.specs.Spelling.{spelling}
 use Rattle.sd_logrec.specs.View.{Rec, flat}
 use Rattle.sd_logrec.specs.View.Kind.{Clr, Plain, Update}
@@ -133,8 +133,8 @@ StartMovesEpoch = (m : Master) (l : LogState) (lsn epoch spare : ℕ)
 
 -- A later start place keeps it.
 abbrev pub LaterKeepsEpoch : Type 0
-LaterKeepsEpoch = (was bytes : List ℕ) (gone : List Group) (l l' : LogState) → IsShorter gone l l'
-    → IsLater (master was) l l' bytes → (past_at (master bytes) l').epoch ≡ (past_at (master was) l).epoch
+LaterKeepsEpoch = (was bytes : List ℕ) (gone : List Record) (l l' : LogState) → IsShorter gone l l'
+    → IsLater was l l' bytes → (past_at (master bytes) l').epoch ≡ (past_at (master was) l).epoch
 
 -- ---- a force
 
@@ -249,9 +249,9 @@ OpenedIsSound leaves = (logs : Logs) (seen : rig.DeviceImages) → DevicesAreSou
 
 -- A put of the master is Ok, and the groups before the new place are forgotten.
 abbrev pub LaterKeeps : Outcomes → Outcomes → Type 0
-LaterKeeps leaves leaves' = (i : ℕ) (gone : List Group) (old new : Logs) (was : List ℕ) → leaves i was
+LaterKeeps leaves leaves' = (i : ℕ) (gone : List Record) (old new : Logs) (was : List ℕ) → leaves i was
     → IsSoundly leaves old → LessElsewhere i leaves leaves' → ReplacesLog i (new i) old new → IsShorter gone (old i) (new i)
-    → ((bytes : List ℕ) → leaves' i bytes → IsLater (master was) (old i) (new i) bytes) → IsSoundly leaves' new
+    → ((bytes : List ℕ) → leaves' i bytes → IsLater was (old i) (new i) bytes) → IsSoundly leaves' new
 
 -- Two states of the logs are safe, each with its newest versions.
 pub record AreSafe (may : ℕ → Page → Type 0) (one other : Logs) : Type 0 where
@@ -264,19 +264,19 @@ pub record AreSafe (may : ℕ → Page → Type 0) (one other : Logs) : Type 0 w
 
 -- While the master is put, each image has the one place or the other.
 abbrev pub MasterPutLeavesSound : Outcomes → Type 0
-MasterPutLeavesSound leaves = (i : ℕ) (gone : List Group) (body : List ℕ) (old new : Logs) (seen img : rig.DeviceImages)
+MasterPutLeavesSound leaves = (i : ℕ) (gone : List Record) (body : List ℕ) (old new : Logs) (seen img : rig.DeviceImages)
     → leaves i (seen i) → IsSoundly leaves old → ReplacesLog i (new i) old new → IsShorter gone (old i) (new i)
     → NamesLater (seen i) (old i) (new i) body → AreSafe (may_of leaves) old new → Puts i 0 64 body seen leaves img
     → DevicesAreSound img
 
 -- After the put, whatever it answered, there are two start places.
 abbrev pub MasterPutKeeps : Outcomes → Outcomes → Type 0
-MasterPutKeeps leaves leaves' = (i : ℕ) (gone : List Group) (body : List ℕ) (old new : Logs) (seen : rig.DeviceImages)
+MasterPutKeeps leaves leaves' = (i : ℕ) (gone : List Record) (body : List ℕ) (old new : Logs) (seen : rig.DeviceImages)
     → leaves i (seen i) → IsSoundly leaves old → LessElsewhere i leaves leaves' → ReplacesLog i (new i) old new
     → IsShorter gone (old i) (new i) → NamesLater (seen i) (old i) (new i) body
     → ((bytes : List ℕ) → leaves' i bytes → IsPut i 0 64 body seen leaves bytes)
     → IsSoundlyTwice i (λ bytes. IsReady i bytes (old i))
-    (λ bytes. IsLater (master (seen i)) (old i) (new i) bytes) leaves' old new
+    (λ bytes. IsLater (seen i) (old i) (new i) bytes) leaves' old new
 
 -- ---- two start places: P and Q say how device i is left with the one and with the other
 

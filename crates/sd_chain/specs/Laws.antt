@@ -12,10 +12,10 @@ use Rattle.sd_chain.specs.Undoing.{undo_all, stacks_of, EachFound, Member, Apart
 use Rattle.sd_chain.specs.Records.{Val, at, of_page, changes, ends, Each, home, stack, IsOpen}
 use Rattle.sd_chain.specs.Pages.{FitAll, replay}
 use Rattle.sd_chain.specs.Storage.{Storage, Open, Sound, Recovered, newest, now, opens, sorted}
-use Rattle.sd_chain.specs.Order.{Tidy, speaks}
+use Rattle.sd_chain.specs.Order.{Tidy, of_txn, speaks}
 use Rattle.sd_chain.specs.Bytes.{PutsTwin, ForcesLog, stable}
 use Rattle.sd_chain.specs.Checks.{DevicesAreSound}
-use Rattle.sd_chain.specs.Fates.{Fate, fate_in}
+use Rattle.sd_chain.specs.Fates.{Fate, fate, fate_in}
 use Rattle.sd_chain.specs.Losers.{OwnLogs, losers_in, table_in}
 use Rattle.sd_chain.specs.Crashes.{CrashLeaves, StandsFor, DuringForce, DuringPut}
 use Rattle.sd_chain.specs.Images.{Tails, Keeps, IsSafe, Gives, Allowed, Grows, Redone, Commits, Settled, Shortened, MayChange, MayUndo, MaySeal, all_kept, kept_at, log, or_written}
@@ -230,3 +230,9 @@ abbrev pub LogIsForced : May → Type 0
 LogIsForced may = (i : ℕ) (tails : Tails) (before after : rig.DeviceImages) → i ≢ 0 → CrashLeaves tails may (stable before)
     → ForcesLog i tails before after
     → DuringForce i tails may (stable after)
+
+-- A log that is read from a later place has all records of each transaction that is open in it, or was.
+abbrev pub ShorteningKeepsRecords : (ℕ → Page → Type 0) → Type 0
+ShorteningKeepsRecords may = (i : ℕ) (gone : List Rec) (old new : Tails) → Shortened i gone old new may → (t : TxnId)
+    → (fate t (old.base (home t)) ≡ Fate.Open) ⊎ (fate t (new.base (home t)) ≡ Fate.Open)
+    → filter (of_txn t) (new.base (home t)) ≡ filter (of_txn t) (old.base (home t))

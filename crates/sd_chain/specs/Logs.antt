@@ -48,7 +48,7 @@ tail_at log = map flat log.tail
 abbrev pub all_at : LogState → List Rec
 all_at log = base_at log ++ tail_at log
 
--- all logs, as sd_chain sees them
+-- all logs, as the laws of safety see them
 abbrev pub tails_of : Logs → Tails
 tails_of logs = record { base = λ j. base_at (logs j); tail = λ j. tail_at (logs j) }
 

@@ -41,7 +41,7 @@ pub record LsnsFit (tails : Tails) (may : ℕ → Page → Type 0) (keeps : Keep
   pub logs : (j : ℕ) → 1 ≤ j → j ≤ 8 → Each (HasLsns tails keeps) (kept_logs tails keeps j)
   pub pages : (p : ℕ) (x : Page) → may p x → x.lsn + owed_with tails keeps < 2 ^ 62
 
--- What a crash may leave of each device is sound: checks 1, 2, 4 and 7. Checks 3, 5 and 6 are those of `IsSafe` (sd_chain).
+-- What a crash may leave of each device is sound: checks 1, 2, 4 and 7. Checks 3, 5 and 6 are those of `IsSafe`.
 pub record IsSoundly (leaves : Outcomes) (logs : Logs) : Type 0 where
   pub ready : (j : ℕ) → 1 ≤ j → j ≤ 8 → (bytes : List ℕ) → leaves j bytes → IsReady j bytes (logs j)
   pub twins : (p : ℕ) → p < 1024 → (bytes : List ℕ) → leaves 0 bytes → TwinIsSound p bytes

@@ -1,5 +1,5 @@
 -- The first number that passes a test, and the first instance that is down. It serves the goals of `restart` and `let_go` in opening.rt, and
--- those of sd_drive.
+-- those of driver.rt.
 use Rattle.std.proofs.Common.{◌≡◌, ℕ, zero, suc, ◌+◌, ◌-◌, ◌≤◌, Bool, true, false, cond, ap, ◌∙◌, arith}
 use Rattle.std.specs.Prelude.{Option, None, Some}
 use Rattle.sd_model.specs.State.{State}

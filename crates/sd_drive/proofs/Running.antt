@@ -28,7 +28,7 @@ use Rattle.sd_fits.proofs.Served.{fits-left}
 use Rattle.sd_fits.specs.Bodies.{ServingHall, fits_body, rig_of}
 use Rattle.sd_fits.specs.declared.body.Body.{Body}
 use Rattle.sd_drive.specs.Driving.{Advances, Drives, World}
-use Rattle.sd_drive.specs.Running.{AllStand, Breaks, FaultsOf, Goes, Led, Ran, Rests, RunsOn, ServesEntry, StandsOnWay, Start}
+use Rattle.sd_drive.specs.Running.{AllStand, Breaks, FaultsOf, Goes, Led, Ran, Stays, RunsOn, ServesEntry, StandsOnWay, Start}
 
 -- ---- runs put together
 
@@ -113,13 +113,13 @@ module _ {G : Type 0} (tell : Telling G) where
     };
   }
 
-  goes-rest : (es : List Entry) (w w' : World) (rig a b : G) → KeepsEarlier tell b → Goes tell w rig es w' a → Rests tell a b w'
+  goes-rest : (es : List Entry) (w w' : World) (rig a b : G) → KeepsEarlier tell b → Goes tell w rig es w' a → Stays tell a b w'
       → Goes tell w rig es w' b
   goes-rest [] w w' rig a b earlier g r = (
     g.0,
     inr (⊎_elim
-        (λ same. subst (λ (d : G). Rests tell d b w) same (subst (λ (v : World). Rests tell a b v) (sym g.0) r))
-        (λ before. let here : Rests tell a b w = subst (λ (v : World). Rests tell a b v) (sym g.0) r in record {
+        (λ same. subst (λ (d : G). Stays tell d b w) same (subst (λ (v : World). Stays tell a b v) (sym g.0) r))
+        (λ before. let here : Stays tell a b w = subst (λ (v : World). Stays tell a b v) (sym g.0) r in record {
           passes = rests-pass rig a b w.core.scene.state w.core.scene.state earlier before.passes here.passes;
           quiet = here.quiet ∙ before.quiet;
         })

@@ -46,13 +46,13 @@ pub record ServesEntry {G : Type 0} (tell : Telling G) (e : Entry) (rig mid : G)
       → (bytes : List ℕ) → tell.leaves mid 0 bytes → (disk_page bytes p).lsn ≡ next.core.pages.number p
 
 -- A call that found no memory passed: the devices stood for the same world meanwhile.
-pub record Rests {G : Type 0} (tell : Telling G) (rig rig' : G) (w : World) : Type 0 where
+pub record Stays {G : Type 0} (tell : Telling G) (rig rig' : G) (w : World) : Type 0 where
   pub passes : Passes tell stands_for rig rig' w.core.scene.state w.core.scene.state
   pub quiet : tell.faults rig' ≡ tell.faults rig
 
 -- From entry to entry the devices went on, and behind each they stood for its world.
 abbrev pub Goes : {G : Type 0} → Telling G → World → G → List Entry → World → G → Type 0
-Goes tell w rig [] w' rig' = (w ≡ w') × ((rig' ≡ rig) ⊎ Rests tell rig rig' w)
+Goes tell w rig [] w' rig' = (w ≡ w') × ((rig' ≡ rig) ⊎ Stays tell rig rig' w)
 Goes {G} tell w rig (e ∷ es) w' rig' = (next : World) × (mid : G) × Advances w e next × ServesEntry tell e rig mid w next × Goes tell next mid es w' rig'
 
 -- The devices are `rig` now: since the start time went on, no entry tells a fault that wasn't there, none is untold but those of a failure

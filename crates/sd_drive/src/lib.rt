@@ -1,19 +1,24 @@
-//! The lines of a script, one after another: each is driven through the hall.
+//! A script driven through the hall: its opening and its lines, one after another, with the pulls of the pages that they need.
 //!
-//! Meaning: `Reached` (`specs/Reaching.antt`) says that the first lines have their replies, by entries that the script is due
-//! (`Drives` of sd_pull).
-//! Keeps: that the hall is in a world to which its entries drive (`IsIn` of sd_pull), whether its complex is open or closed.
-//! Promises: the entries are those that the lines are due, with the pulls of their pages and the undos of their rollbacks, and no
-//! others (`Driver::replay`, `told`, `memory`). A line that joins or recovers all looks at each instance, and goes on up to the
-//! first refusal.
-//! Refuses: `Memory`, after which what was noted was due.
-//! Knows nothing of: text, reports, what is done before the first line (sd_rise), what an event does, how a page comes.
-//! Stands on: sd_base, sd_model, sd_book, sd_rig, sd_places, sd_world, sd_forms, sd_script, sd_rise.
-//! Held by the caller: that the lines stand as the grammar of scripts has them (`AreDriven`).
+//! Meaning: a world is a core and what is told of the script (`specs/Driving.antt`): `Drives` says that each entry turns the core,
+//! and is the one that the script is due; `HasRisen` (`specs/Rising.antt`), that the opening is done; `Reached`
+//! (`specs/Reaching.antt`), that the first lines have their replies.
+//! Keeps: that the hall is in a world to which its entries drive (`IsIn`, `specs/Driven.antt`), its complex open or closed.
+//! Promises: the entries are those that the script is due, and no others (`told`, `memory`). In the opening each instance that is
+//! down recovers itself, in rising order, then the instances join, and then each one that isn't up lets its pages go
+//! (`Rise::opening`). A line's event is done once, and once more behind the pull of the page that it wants (`operate`); a line that
+//! joins or recovers all goes on up to the first refusal (`Driver::replay`). A recovery goes on step by step, and pulls the page
+//! that is undone next (`recover`). A pull ends: each of its rounds brings the page nearer (`distance`, `specs/Measure.antt`).
+//! Refuses: `Memory`, after which what was noted was due; in the opening `Failed`, where the rig's count of faults rose (`breaks`).
+//! Knows nothing of: text, reports, what an event does.
+//! Stands on: sd_base, sd_model, sd_page, sd_logrec, sd_rig, sd_pool, sd_txn, sd_pagelock, sd_chain, sd_world, sd_state, sd_update,
+//! sd_fits, sd_recover, sd_script, sd_hall.
+//! Held by the caller: that nothing has happened in the hall, and that the lines stand as the grammar of scripts has them
+//! (`AreDriven`).
 //!
 //! To change:
 //! - free: bodies, proofs
-//! - dear: the clauses of `replay`
+//! - dear: `Tells`, `Drives`, the clauses of `opening`, `replay`, `operate` and `recover`
 //! - frozen: nothing
 #![tactic(auto)]
 

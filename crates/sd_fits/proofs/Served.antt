@@ -207,7 +207,7 @@ module _ (locks : LockTable) (seen : DeviceImages) (leaves : Outcomes) (pend : P
     locks = λ t r. same t r ∙ g.locks t r;
     gone = g.gone;
     asks = g.asks;
-    checking = λ k b is. let old = g.checking k b is in record { takes = old.takes; low = old.low; begun = old.begun };
+    checking = λ k b is. let old = g.checking k b is in record { takes = old.takes; spelled = old.spelled; begun = old.begun };
   }
     where
       underway : (u : Pending) → IsUnderWay c m u → IsUnderWay relocked m u

@@ -8,14 +8,14 @@
 //! and one opened from sound devices, fits its world, and so on through a closing and a reopening (`laws.rt`).
 //! Refuses: nothing.
 //! Knows nothing of: the calls of events.
-//! Stands on: sd_base, sd_model, sd_page, sd_logrec, sd_rig, sd_gate, sd_log, sd_pool, sd_txn, sd_reclock, sd_places, sd_asks,
-//! sd_pagelock, sd_chain, sd_sound, sd_coherent, sd_world, sd_state, sd_undos, sd_changes, sd_opened, sd_falls.
+//! Stands on: sd_base, sd_model, sd_page, sd_logrec, sd_rig, sd_log, sd_pool, sd_txn, sd_reclock, sd_pagelock, sd_chain, sd_world,
+//! sd_state, sd_update, sd_moves.
 //! Lends: in `proofs` the lemma of each law (Fitting), and how a complex goes on fitting: where nothing or locks alone change
-//! (Served, Still), where transactions work, turn and end (Heads, Worked, Taking, Turning, Leaving), where pages move, are put or
-//! rebuilt (Places, Passing, Frames, Putting, Rebuilding), where a log grows, is forced (Recording, Changing, Undoing, Sealing,
-//! Forcing) or is full (Room), where an instance falls (Falling); of a record (Values, Unclaimed), of who stands in the way of a
-//! lock (Looking), of a refusal (Refused), of a row (Known), of the data device (Disk), the sums (Sums) and frames (Framed); how
-//! a complex is closed and opened (Closing, Reopening, Opening, Opened), and events on one that is open or closed (Bodies).
+//! (Served, Still), where transactions work, turn and end (Heads, Worked, Taking, Turning, Leaving), where pages come and go
+//! (Places, Frames), where a log grows or is forced (Recording, Changing, Undoing, Sealing, Forcing), where an instance falls or is
+//! recovered (Falling, Recovering); of a record (Values, Unclaimed, Doubts), of who stands in the way of a lock (Looking), of a
+//! refusal (Refused), of a row (Known), of the data device (Disk), the sums (Sums) and frames (Framed); how a complex is closed and
+//! opened (Closing, Reopening, Opening, Opened), and events on one that is open or closed (Bodies).
 //!
 //! To change:
 //! - free: proofs

@@ -1,4 +1,4 @@
--- An undo that a device fails has taken its instance down. It serves the goals of `call` in hall.rt of sd_hall.
+-- An undo that a device fails has taken its instance down. It serves the goals of `call` in hall.rt.
 use Rattle.std.proofs.Common.{◌≡◌, ⊎_elim, ℕ, zero, suc, ◌≤◌, length, Some, sym, ap, ◌∙◌, arith}
 use Rattle.std.proofs.lemmas.Bool.{cases_lt}
 use Rattle.std.proofs.lemmas.List.{get_or_past}

@@ -1,5 +1,5 @@
 -- A hall's complex, open or closed: what fits it, and what a call makes of it. It serves the goals of ledger.rt, and of
--- hall.rt of sd_hall.
+-- hall.rt.
 use Rattle.std.proofs.Common.{◌≡◌, ◌+◌, ◌≤◌, Option, None, Some, refl, sym, ap, ◌∙◌, subst}
 use Rattle.sd_base.specs.declared.place.Status.TheVariants as S
 use Rattle.sd_rig.specs.Devices.{DeviceImages, Leaves}

@@ -1,4 +1,4 @@
--- What a hall owes as it opens. It serves the goals of `open` in hall.rt of sd_hall.
+-- What a hall owes as it opens. It serves the goals of `open` in hall.rt.
 use Rattle.std.proofs.Common.{◌≡◌, Bool, true, false, cond, refl}
 use Rattle.sd_base.specs.declared.ids.Rid.{Rid}
 use Rattle.sd_base.specs.declared.place.Status.{Status}

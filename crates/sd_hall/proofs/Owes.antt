@@ -1,4 +1,4 @@
--- The entries that a hall owes, through each event. It serves the goals of `call` in hall.rt of sd_hall.
+-- The entries that a hall owes, through each event. It serves the goals of `call` in hall.rt.
 use Rattle.std.proofs.Common.{◌≡◌, ◌≢◌, ◌⊎◌, inl, inr, ⊎_elim, ℕ, zero, suc, ◌+◌, ◌≤◌, Bool, true, false, cond, eqb, List, [], ◌∷◌, ◌++◌, length, refl, sym, ap, ◌∙◌, subst, arith, eq-eqb, ne_eqb}
 use Rattle.std.specs.List.{sum_by}
 use Rattle.std.specs.Prelude.{Option, None, Some}

@@ -1,4 +1,4 @@
--- What the hall owes less once an event has come that was owed. It serves the goals of `call` in hall.rt of sd_hall.
+-- What the hall owes less once an event has come that was owed. It serves the goals of `call` in hall.rt.
 use Rattle.std.proofs.Common.{◌≡◌, ◌≢◌, inl, inr, ⊎_elim, ℕ, zero, suc, ◌+◌, ◌<◌, ◌≤◌, Bool, true, false, cond, eqb, List, [], ◌∷◌, ◌++◌, length, refl, sym, ap, ◌∙◌, subst, arith, eq-eqb}
 use Rattle.std.specs.List.{sum_by}
 use Rattle.std.specs.Prelude.{Option}

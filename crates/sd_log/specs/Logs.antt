@@ -82,6 +82,15 @@ forced_with log (r ∷ rs) = record {
 abbrev pub forced : LogState → LogState
 forced log = forced_with log log.tail
 
+-- there are some records
+abbrev pub are_there : List Record → Bool
+are_there [] = false
+are_there (r ∷ rs) = true
+
+-- the log has records that aren't forced
+abbrev pub has_tail : LogState → Bool
+has_tail log = are_there log.tail
+
 -- the log without its tail
 abbrev pub without_tail : LogState → LogState
 without_tail log = record { inst = log.inst; start = log.start; gate = log.gate; groups = log.groups; tail = []; spare = log.spare }

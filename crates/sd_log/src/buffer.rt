@@ -77,6 +77,7 @@ impl Buffer {
         ensures cause { OnErr result (Rises (G.faults rig.old) (G.faults rig.new)) }
         ensures quiet { OnOk result (G.faults rig.new ≡ G.faults rig.old) }
         ensures tick { OnOk result (G.moment rig.new ≡ G.moment rig.old + 4) }
+        ensures most { G.moment rig.new ≤ G.moment rig.old + 4 }
         ensures count { G.faults rig.old ≤ G.faults rig.new }
     {
         frame(&mut self.bytes, text);

@@ -13,7 +13,7 @@
 //! Refuses: `LogFull` in `append`, as `lacks_room` tells before; `BadLog` and `BadRecord` in `read_in`, and as what
 //! `of_area` found; `Failed` only where the rig's count of faults rose.
 //! Knows nothing of: what pages hold, transactions, other logs, which record may follow which.
-//! Stands on: sd_base, sd_rig, sd_logrec, sd_gate.
+//! Stands on: sd_base, sd_logrec, sd_rig.
 //! Held by the caller: a crash leaves of the device what it reads, and the log's groups stand there (`force`).
 //!
 //! To change:

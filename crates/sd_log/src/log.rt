@@ -11,7 +11,7 @@ ghost use Rattle.sd_rig.specs.Devices.{AgreesOutside, Elapses, LeavesOnly, Leave
 ghost use Rattle.sd_log.specs.ByPage.{changed_pages, places_of};
 ghost use Rattle.sd_log.specs.Forces.{Forces, StandsEither, forced_at, forced_len};
 ghost use Rattle.sd_log.specs.LogInside.{AreForced};
-ghost use Rattle.sd_log.specs.Logs.{AreSpelled, IsStartFor, StandsOn, forced, last_lsn, lsn_of, needed, placed_groups, placed_tail, scanned, tail_len, with_record, without_tail};
+ghost use Rattle.sd_log.specs.Logs.{AreSpelled, IsStartFor, StandsOn, forced, has_tail, last_lsn, lsn_of, needed, placed_groups, placed_tail, scanned, tail_len, with_record, without_tail};
 ghost use Rattle.sd_log.specs.Parts.{text_of};
 
 use crate::buffer::Buffer;
@@ -223,6 +223,7 @@ impl Log {
         ensures cause { OnErr result (Rises (G.faults rig.old) (G.faults rig.new)) }
         ensures quiet { OnOk result (G.faults rig.new ≡ G.faults rig.old) }
         ensures tick { self.old.tail ≢ [] → OnOk result (G.moment rig.new ≡ G.moment rig.old + 4) }
+        ensures most { G.moment rig.new ≤ G.moment rig.old + 4 }
         ensures count { G.faults rig.old ≤ G.faults rig.new }
     {
         let tail = self.written.tail();
@@ -273,6 +274,13 @@ impl Log {
         ensures { IfOk result (λ found. found.items ≡ places_of page 0 (changed_pages (scanned self.now))) }
     {
         self.pages.of_page(alloc, page)
+    }
+
+    /// Whether there are records that aren't forced.
+    pub fn has_tail(&self) -> bool
+        ensures { result ≡ has_tail self.now }
+    {
+        self.written.tail().len() != 0
     }
 
     /// Forgets the tail.

@@ -19,6 +19,7 @@ pub mod MovesRun
 pub mod Among
 pub mod Listed
 pub mod Counting
+pub mod Few
 pub mod Stays
 pub mod Opened
 pub mod Marks

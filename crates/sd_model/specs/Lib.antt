@@ -19,6 +19,7 @@ pub mod ViewLaws
 pub mod RunLaws
 pub mod Lives
 pub mod Listed
+pub mod Few
 pub mod Opened
 pub mod StayLaws
 pub mod Marks

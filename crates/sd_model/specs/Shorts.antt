@@ -46,7 +46,7 @@ entry_of session page inst deed answer named = record {
 abbrev pub made : ℕ → ℕ → Event → Reply → Entry
 made session line e r = record { session = session; line = line; event = e; reply = r }
 
--- the entry of a help; what is kept elsewhere reads as no event
+-- the entry of a help; made up for what is kept elsewhere: that case doesn't come, since a book shows only helps so
 abbrev pub help_entry : Noted → Entry
 help_entry noted.Whole = made 0 0 event.Reopen reply.Did
 help_entry noted.Line = made 0 0 event.Reopen reply.Did

@@ -14,7 +14,7 @@ use std::alloc::Global;
 use std::marker::Model;
 use std::mem::ManuallyDrop;
 
-/// The opening table, the entries since, and how many more there is room for (`History` of `sd_model`). A help takes 8 bytes, a
+/// The opening table, the entries since, and how many more there is room for (`History`). A help takes 8 bytes, a
 /// short entry of a transaction 48, and each other stands whole besides (`specs/Booked.antt`).
 #[derive(Drop)]
 pub struct Book {

@@ -166,7 +166,7 @@ fn reply_by(answer: Answer, named: InstNo) -> Reply
 }
 
 impl Noted {
-    /// The help whole; what is kept elsewhere reads as no event.
+    /// The help whole; made up for what is kept elsewhere.
     pub fn entry(&self) -> Entry
         ensures { result ≡ help_entry self.now }
     {

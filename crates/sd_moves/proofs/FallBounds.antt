@@ -1,5 +1,5 @@
 -- Versions, LSNs and what is owed behind a fall, told by what was before: for those who keep sums of them.
-use Rattle.std.proofs.Common.{◌≡◌, ◌≢◌, ◌⊎◌, inl, inr, ⊎_elim, ℕ, zero, suc, ◌-◌, ◌^◌, ◌≤◌, Bool, true, false, cond, List, [], ◌∷◌, ◌++◌, refl, sym, ap, ap₂, ◌∙◌, subst, arith, ne_eqb}
+use Rattle.std.proofs.Common.{◌≡◌, ◌≢◌, ◌⊎◌, inl, inr, ⊎_elim, ℕ, zero, suc, ◌-◌, ◌^◌, ◌≤◌, Bool, true, false, cond, ◌&&◌, List, [], ◌∷◌, ◌++◌, refl, sym, ap, ap₂, ◌∙◌, subst, arith, ne_eqb}
 use Rattle.std.specs.Prelude.{Option, None, Some, is_none, is_some, max, min, slice_set}
 use Rattle.std.specs.Option.{option_map_or}
 use Rattle.std.proofs.lemmas.Bool.{cases_Bool, cases_eq}
@@ -10,7 +10,7 @@ use Rattle.sd_base.specs.declared.place.Status.TheVariants as S
 use Rattle.sd_logrec.specs.Kept.{Master, master}
 use Rattle.sd_logrec.specs.View.{Rec}
 use Rattle.sd_logrec.specs.declared.record.Record.{Record}
-use Rattle.sd_log.specs.Logs.{LogState, forced, last_lsn, scanned, without_tail}
+use Rattle.sd_log.specs.Logs.{LogState, forced, has_tail, last_lsn, scanned, without_tail}
 use Rattle.sd_model.specs.State.{State}
 use Rattle.sd_page.specs.Page.{Page}
 use Rattle.sd_rig.specs.Devices as rig
@@ -179,7 +179,7 @@ module _ (i : ℕ) (seen : rig.DeviceImages) (leaves : Outcomes) (pend : Pending
           (λ falls. let is = fallen j falls in let own = f.owed j in let least = most (unsettles_at i c j) j in omega (arith, is, own, least))
           (λ stays.
           let ne : j ≢ i = λ e. (let clash : true ≡ false = sym (falls-itself i (status_at c i)) ∙ ap (falls_at i c) (sym e) ∙ stays in absurd (cc)) in
-          let un : unsettles_at i c j ≡ false = counted j ne ∙ stays in
+          let un : unsettles_at i c j ≡ false = counted j ne ∙ ap (λ (b : Bool). b && has_tail (log_at c j)) stays in
           let loose = f.loose j ∙ ap (λ (b : Bool). cond b true (is_loose c j)) un in
           let own = f.owed j ∙ ap (λ (b : Bool). cond b (owed_unsettled c j) (owed_at c j)) un in
           let status = f.status j ∙ ap (λ (b : Bool). cond {A = Status} b S.Down (status_at c j)) stays in
@@ -190,8 +190,8 @@ module _ (i : ℕ) (seen : rig.DeviceImages) (leaves : Outcomes) (pend : Pending
           omega (arith, same))
           (cases_Bool (falls_at i c j))
         where
-          counted : (j : ℕ) → j ≢ i → unsettles_at i c j ≡ falls_at i c j
-          counted j ne = ap (λ (b : Bool). cond b (is_none o) (falls_at i c j)) (ne_eqb i j (λ e. ne (sym e)))
+          counted : (j : ℕ) → j ≢ i → unsettles_at i c j ≡ (falls_at i c j && has_tail (log_at c j))
+          counted j ne = ap (λ (b : Bool). cond b (is_none o) (falls_at i c j && has_tail (log_at c j))) (ne_eqb i j (λ e. ne (sym e)))
 
   -- the versions are those without the tail that is dropped
   pub fallen-versions : (moved keeps : Keeps) (disk : ℕ → Page) (p : ℕ) → version_of (tails_of (log_by new moved)) disk keeps p

@@ -43,7 +43,7 @@ use Rattle.sd_chain.specs.Logs.{Logs, Outcomes, all_at, base_at, eight, kept_log
 use Rattle.sd_chain.specs.Soundly.{IsReady, LogIsSound, LsnsFit}
 use Rattle.sd_state.specs.Good.{Good, Half, IsInstance, IsOfBegun, IsSettledAt, IsTold, OwesAtMost, base_of, dir_of}
 use Rattle.sd_state.specs.Images.{IsClaimed, IsEpochOf, IsOpenIn, begun_at, leaves_by, log_by}
-use Rattle.sd_state.specs.Parts.{Begun, Parts, check_at, count_at, epoch_at, is_active, is_loose, log_at, no_log, other_at, owed_at, status_at, txns_at}
+use Rattle.sd_state.specs.Parts.{Begun, Parts, check_at, count_at, epoch_at, is_active, is_loose, log_at, no_log, other_at, owed_at, status_at, txns_at, low_of}
 use Rattle.sd_base.specs.Standing.{active_as}
 use Rattle.sd_state.specs.Tables.{GoesOn, NamesLife, RowIsLive, RowIsLogged, StandsAs, tells_log}
 use Rattle.sd_state.specs.Values.{Pending, rid_of, values}
@@ -210,8 +210,8 @@ module _ (i owes : ℕ) (seen : rig.DeviceImages) (leaves : Outcomes) (logs logs
     held = held;
     epochs = epochs;
     checks = λ k b is. let old = h.checks k b is in (
-      cover-settles (may_of leaves) (may_of leaves) b.low k i false old_base (base_of seen leaves logs' new) settles (λ p x may. may) old.0,
-      close-settles b.low k i false (tails_of logs) (tails_of logs') settles
+      cover-settles (may_of leaves) (may_of leaves) (low_of b) k i false old_base (base_of seen leaves logs' new) settles (λ p x may. may) old.0,
+      close-settles (low_of b) k i false (tails_of logs) (tails_of logs') settles
           (λ e. absurd (unchecked b (subst (λ (n : ℕ). check_at c n ≡ Some b) e is))) old.1,
     );
   }
@@ -409,7 +409,7 @@ module _ (i owes : ℕ) (seen : rig.DeviceImages) (leaves : Outcomes) (c : Parts
     asks = g.asks;
     checking = λ k b is. let old = g.checking k b is in record {
       takes = old.takes;
-      low = old.low;
+      spelled = old.spelled;
       begun = subst (λ (l : LogState). b.begin ≤ last_lsn (scanned l)) (sym (log-else k (⊎_elim (λ up. up-other k up)
           (λ re e. let clash = sym down ∙ ap (status_at c) (sym e) ∙ re in absurd (cc)) old.takes))) old.begun;
     };

@@ -1,41 +1,57 @@
 -- What `down` and `cut` of src/crash.rt leave, of plain values: with the tail of a settled log dropped.
-use Rattle.std.proofs.Common.{◌≡◌, ◌≢◌, ⊎_elim, ℕ, ◌-◌, ◌≤◌, Bool, true, false, cond, eqb, List, get_or, length, refl, sym, ap, ◌∙◌, subst, arith, eq-eqb, ne_eqb}
-use Rattle.std.specs.Prelude.{Option, None, Some, is_none, slice_set}
+use Rattle.std.proofs.Common.{◌≡◌, ◌≢◌, ◌⊎◌, inl, inr, ⊎_elim, ℕ, ◌-◌, ◌≤◌, Bool, true, false, cond, eqb, ◌&&◌, ◌||◌, List, [], ◌∷◌, get_or, length, refl, sym, ap, ◌∙◌, subst, arith, eq-eqb, ne_eqb}
+use Rattle.std.specs.Prelude.{Option, None, Some, is_none, not, slice_set}
 use Rattle.std.proofs.lemmas.Bool.{cases_eq}
 use Rattle.std.proofs.lemmas.List.{get_or-set_other, get_or-set_same}
 use Rattle.sd_base.specs.declared.place.Status.{Status}
 use Rattle.sd_base.specs.declared.place.Status.TheVariants as S
+use Rattle.sd_base.specs.Standing.{is_up}
+use Rattle.sd_log.specs.Logs.{are_there, forced_with, has_tail}
+use Rattle.sd_logrec.specs.Kept.{master}
+use Rattle.sd_logrec.specs.declared.record.Record.{Record}
 use Rattle.sd_model.specs.State.{State}
 use Rattle.sd_rig.specs.Devices as rig
 use Rattle.sd_txn.specs.Transactions.{Transactions}
-use Rattle.sd_chain.specs.Logs.{Outcomes}
+use Rattle.sd_chain.specs.Logs.{Outcomes, past_at}
 use Rattle.sd_state.specs.Good.{Good}
 use Rattle.sd_state.specs.Parts.{IsShape, Parts, is_loose, log_at, no_txns, owed_at, status_at, txns_at}
 use Rattle.sd_state.specs.Values.{Pending}
 use Rattle.sd_state.proofs.Items.{item-kept, item-set}
-use Rattle.sd_moves.specs.Falling.{FallLeaves, IsFallen, IsLeft, dropped_by, falls_at, is_recovered_by, logs_by, owed_as_up, owed_dropped, owed_unsettled, unsettles_at, with_dropped, with_fallen, with_left, with_lost}
+use Rattle.sd_moves.specs.Falling.{FallLeaves, IsFallen, IsLeft, dropped_by, falls_at, is_recovered_by, logs_by, owed_dropped, owed_unsettled, unsettles, unsettles_at, with_dropped, with_fallen, with_left, with_lost}
 use Rattle.sd_moves.proofs.FallDropped.{dropped-good}
 use Rattle.sd_moves.proofs.FallEpochs.{epoch-forced}
 use Rattle.sd_moves.proofs.FallLeft.{fallen-parts, fallen-table}
-use Rattle.sd_moves.proofs.FallStatus.{falls-itself}
+use Rattle.sd_moves.proofs.FallStatus.{falls-itself, unsettles-itself}
 
 -- when a tail is dropped
-when-up : (s : Status) (n owes : ℕ) → owed_as_up s n ≡ Some owes → (s ≡ S.Up) × (n ≡ owes)
-when-up S.Up n owes e = (refl, cc)
-when-up S.Down n owes e = absurd (cc)
-when-up (S.Recovering by) n owes e = absurd (cc)
-when-up S.Clean n owes e = absurd (cc)
-when-up S.Restarting n owes e = absurd (cc)
-when-up S.Closed n owes e = absurd (cc)
+not-there : (rs : List Record) → not (are_there rs) ≡ true → rs ≡ []
+not-there [] e = refl
+not-there (r ∷ rs) e = absurd (cc)
+
+when-up : (s : Status) (tail : List Record) → (is_up s || not (are_there tail)) ≡ true → (s ≡ S.Up) ⊎ (tail ≡ [])
+when-up S.Up tail e = inl refl
+when-up S.Down tail e = inr (not-there tail e)
+when-up (S.Recovering by) tail e = inr (not-there tail e)
+when-up S.Clean tail e = inr (not-there tail e)
+when-up S.Restarting tail e = inr (not-there tail e)
+when-up S.Closed tail e = inr (not-there tail e)
 
 pub when-dropped : (i owes : ℕ) (c : Parts) → owed_dropped i c ≡ Some owes
-    → (is_loose c i ≡ false) × (status_at c i ≡ S.Up) × (owes ≡ owed_at c i)
+    → (is_loose c i ≡ false) × ((status_at c i ≡ S.Up) ⊎ ((log_at c i).tail ≡ [])) × (owes ≡ owed_at c i)
 when-dropped i owes c e = by (is_loose c i) e
   where
-    by : (b : Bool) → cond {A = Option ℕ} b None (owed_as_up (status_at c i) (owed_at c i)) ≡ Some owes
-        → (b ≡ false) × (status_at c i ≡ S.Up) × (owes ≡ owed_at c i)
+    drops : Bool
+    drops = is_up (status_at c i) || not (has_tail (log_at c i))
+
+    settled : (d : Bool) → drops ≡ d → cond {A = Option ℕ} d (Some (owed_at c i)) None ≡ Some owes
+        → ((status_at c i ≡ S.Up) ⊎ ((log_at c i).tail ≡ [])) × (owes ≡ owed_at c i)
+    settled true is e = (when-up (status_at c i) (log_at c i).tail is, cc)
+    settled false is e = absurd (cc)
+
+    by : (b : Bool) → cond {A = Option ℕ} b None (cond {A = Option ℕ} drops (Some (owed_at c i)) None) ≡ Some owes
+        → (b ≡ false) × ((status_at c i ≡ S.Up) ⊎ ((log_at c i).tail ≡ [])) × (owes ≡ owed_at c i)
     by true e = absurd (cc)
-    by false e = let up = when-up (status_at c i) (owed_at c i) owes e in (refl, up.0, sym up.1)
+    by false e = let w = settled drops refl e in (refl, w.0, w.1)
 
 -- the shape of what is left
 pub left-shape : (i : ℕ) (c mid : Parts) → IsShape c → IsLeft i c mid → mid ≡ with_left i mid c → length mid.pools ≡ 8
@@ -108,18 +124,21 @@ module _ (i n : ℕ) (table : Transactions) (old x : Parts) (low : 1 ≤ i) (hig
           ∙ ap (λ (q : Option ℕ). record (with_fallen i (with_dropped i owes lost) old) { logs = logs_by i q old }) (sym e)
 
   -- who falls counts once
-  as-falls : (b z : Bool) → cond b true (cond b true z) ≡ cond b true z
-  as-falls true z = refl
-  as-falls false z = refl
+  as-falls : (b z tail : Bool) → cond b true (cond b true z && tail) ≡ (cond b true z && (b || tail))
+  as-falls true z tail = refl
+  as-falls false z tail = refl
 
-  counts : o ≡ None → (j : ℕ) → unsettles_at i old j ≡ falls_at i old j
-  counts e j = ap (λ (q : Option ℕ). cond (eqb i j) (is_none q) (falls_at i old j)) e ∙ as-falls (eqb i j) (is_recovered_by i (status_at old j))
+  counts : o ≡ None → (j : ℕ) → unsettles_at i old j ≡ (falls_at i old j && unsettles i old j)
+  counts e j = ap (λ (q : Option ℕ). cond (eqb i j) (is_none q) (falls_at i old j && has_tail (log_at old j))) e
+      ∙ as-falls (eqb i j) (is_recovered_by i (status_at old j)) (has_tail (log_at old j))
 
-  counts-else : (j : ℕ) → j ≢ i → unsettles_at i old j ≡ falls_at i old j
-  counts-else j ne = ap (λ (b : Bool). cond b (is_none o) (falls_at i old j)) (ne_eqb i j (λ e. ne (sym e)))
+  counts-else : (j : ℕ) → j ≢ i → unsettles_at i old j ≡ (falls_at i old j && unsettles i old j)
+  counts-else j ne = ap (λ (b : Bool). cond b (is_none o) (falls_at i old j && has_tail (log_at old j))) (ne_eqb i j (λ e. ne (sym e)))
+      ∙ sym (ap (λ (b : Bool). falls_at i old j && (b || has_tail (log_at old j))) (ne_eqb i j (λ e. ne (sym e))))
 
   stays-here : (owes : ℕ) → o ≡ Some owes → unsettles_at i old i ≡ false
-  stays-here owes e = ap (λ (b : Bool). cond b (is_none o) (falls_at i old i)) (eq-eqb i i refl) ∙ ap (λ (q : Option ℕ). is_none q) e
+  stays-here owes e = ap (λ (b : Bool). cond b (is_none o) (falls_at i old i && has_tail (log_at old i))) (eq-eqb i i refl)
+      ∙ ap (λ (q : Option ℕ). is_none q) e
 
   pub final-fallen : IsFallen i old (dropped_by i o lost)
   final-fallen = by o refl
@@ -173,6 +192,8 @@ module _ (i n : ℕ) (table : Transactions) (old x : Parts) (low : 1 ≤ i) (hig
           let falls = falls-itself i (status_at old i) in
           dropped-good i owes seen leaves lost m' low high now
           ((left.left.each i).status ∙ ap (λ (b : Bool). cond {A = Status} b S.Down (status_at old i)) falls)
-          ((left.left.each i).loose ∙ ap (λ (b : Bool). cond b true (is_loose old i)) falls)
-          refl at.only at.stands at.one_place at.counted (epoch-forced seen leaves pend old m i low high was d.0 d.1)
+          ((left.left.each i).loose ∙ ap (λ (b : Bool). cond b true (is_loose old i)) (unsettles-itself i old))
+          refl at.only at.stands at.one_place at.counted
+          (⊎_elim (λ up. epoch-forced seen leaves pend old m i low high was d.0 up)
+          (λ none. ap (λ (rs : List Record). (past_at (master (seen i)) (forced_with (log_at old i) rs)).epoch) (sym none) ∙ at.epoch) d.1)
           (d.2 ∙ was.owed i low high d.0)

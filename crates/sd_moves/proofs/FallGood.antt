@@ -1,5 +1,5 @@
 -- An instance that falls: what held of the complex holds of it then, with the state that the serial table has. For src/crash.rt.
-use Rattle.std.proofs.Common.{◌≡◌, ◌≢◌, ◌⊎◌, inl, inr, ⊎_elim, ℕ, ◌-◌, ◌≤◌, Bool, true, false, cond, eqb, List, refl, sym, ap, ap₂, ◌∙◌, subst, arith, ne_eqb}
+use Rattle.std.proofs.Common.{◌≡◌, ◌≢◌, ◌⊎◌, inl, inr, ⊎_elim, ℕ, ◌-◌, ◌≤◌, Bool, true, false, cond, eqb, ◌&&◌, ◌||◌, List, [], ◌∷◌, refl, sym, ap, ap₂, ◌∙◌, subst, arith, ne_eqb}
 use Rattle.std.specs.Prelude.{Option, None, Some}
 use Rattle.std.proofs.lemmas.Bool.{cases_Bool, cases_eq}
 use Rattle.std.proofs.lemmas.List.{length-set}
@@ -26,6 +26,8 @@ use Rattle.sd_chain.specs.Cuts.{cut}
 use Rattle.sd_chain.specs.Fates.{fate}
 use Rattle.sd_chain.specs.Storage.{Recovered}
 use Rattle.sd_chain.specs.Images.{Gives, Keeps, with_disk}
+use Rattle.sd_log.specs.Logs.{are_there, has_tail}
+use Rattle.sd_logrec.specs.declared.record.Record.{Record}
 use Rattle.sd_chain.specs.Records.{Each, IsOpen, home, stack}
 use Rattle.sd_chain.proofs.Lists.{Each-weaker}
 use Rattle.sd_chain.specs.AppendedRecords as changes_law
@@ -44,11 +46,11 @@ use Rattle.sd_base.specs.Standing.{active_as}
 use Rattle.sd_state.specs.Tables.{GoesOn, NamedOnce, NamesLife, RowIsLive, RowIsLogged, lock_of, tells_log}
 use Rattle.sd_state.specs.Values.{Pending, rid_of, values}
 use Rattle.sd_state.proofs.Items.{item-kept, item-set}
-use Rattle.sd_moves.specs.Falling.{IsLeft, emptied_pool, falls_at, falls_with, owed_unsettled, with_lost}
+use Rattle.sd_moves.specs.Falling.{IsLeft, emptied_pool, falls_at, falls_with, owed_unsettled, unsettles, with_lost}
 use Rattle.sd_moves.proofs.FallCoherent.{IsLoosened, loosened, loosened-keeps}
 use Rattle.sd_moves.proofs.FallModel.{IsFall}
 use Rattle.sd_moves.proofs.FallOwed.{owes-either}
-use Rattle.sd_moves.proofs.FallStatus.{active-fallen, asks-left, closed-then, falls-itself, falls-recovered, settled-then, status-fallen, up-fallen, up-then}
+use Rattle.sd_moves.proofs.FallStatus.{active-fallen, asks-left, closed-then, falls-itself, falls-recovered, settled-then, status-fallen, unsettles-itself, up-fallen, up-then}
 use Rattle.sd_txn.specs.declared.state.TxnState.{TxnState}
 
 -- who is at work no more has no further records
@@ -96,9 +98,30 @@ module _ (i : ℕ) (table : Transactions) (n c : Parts) (seen : rig.DeviceImages
   status-still : (j : ℕ) → falls_at i c j ≡ false → status_at new j ≡ status_at c j
   status-still j stays = status-there j ∙ ap (λ (b : Bool). cond {A = Status} b S.Down (status_at c j)) stays
 
-  -- a log that is settled then was, and its instance doesn't fall
-  was-settled : (j : ℕ) → is_loose new j ≡ false → (falls_at i c j ≡ false) × (is_loose c j ≡ false)
-  was-settled j e = settled-then (falls_at i c j) (is_loose c j) (sym (f.each j).loose ∙ e)
+  -- it falls, and its log isn't settled then
+  abbrev marks : ℕ → Bool
+  marks j = falls_at i c j && unsettles i c j
+
+  -- a log that is settled then was, and its instance doesn't fall, or there is no tail
+  was-settled : (j : ℕ) → is_loose new j ≡ false → (marks j ≡ false) × (is_loose c j ≡ false)
+  was-settled j e = settled-then (marks j) (is_loose c j) (sym (f.each j).loose ∙ e)
+
+  -- whose table tells what its log owes doesn't fall
+  not-down : (j : ℕ) → tells_log (status_at new j) ≡ true → falls_at i c j ≡ false
+  not-down j tells = ⊎_elim
+      (λ down. let clash : false ≡ true = sym (ap tells_log (status-there j ∙ ap (λ (b : Bool). cond {A = Status} b S.Down (status_at c j)) down)) ∙ tells in
+      absurd (cc))
+      (λ stays. stays)
+      (cases_Bool (falls_at i c j))
+
+  -- whose log isn't settled falls, and another has a tail
+  no-tail : (j : ℕ) → falls_at i c j ≡ true → marks j ≡ false → (log_at c j).tail ≡ []
+  no-tail j down none = by (eqb i j) (log_at c j).tail (sym (ap (λ (b : Bool). b && unsettles i c j) down) ∙ none)
+    where
+      by : (b : Bool) (rs : List Record) → (b || are_there rs) ≡ false → rs ≡ []
+      by true rs e = absurd (cc)
+      by false [] e = refl
+      by false (r ∷ rs) e = absurd (cc)
 
   -- who is up then was, and doesn't fall
   was-up : (j : ℕ) → status_at new j ≡ S.Up → (falls_at i c j ≡ false) × (status_at c j ≡ S.Up)
@@ -144,7 +167,8 @@ module _ (i : ℕ) (table : Transactions) (n c : Parts) (seen : rig.DeviceImages
   still-active j ne active = active-there j ∙ ap (λ (b : Bool). cond b false (is_active c j)) (ne_eqb j i ne) ∙ active
 
   disk-same : is_loose new 0 ≡ is_loose c 0
-  disk-same = (f.each 0).loose ∙ ap (λ (b : Bool). cond (cond b true false) true (is_loose c 0)) (ne_eqb i 0 (λ e. omega (arith, low, e)))
+  disk-same = (f.each 0).loose
+      ∙ ap (λ (b : Bool). cond (cond b true false && (b || has_tail (log_at c 0))) true (is_loose c 0)) (ne_eqb i 0 (λ e. omega (arith, low, e)))
 
   -- ---- coherence
 
@@ -171,17 +195,21 @@ module _ (i : ℕ) (table : Transactions) (n c : Parts) (seen : rig.DeviceImages
     loosened-at : (j : ℕ) → IsLoosened (is_loose new) (fell i base) j
     loosened-at j = ⊎_elim
         (λ same. inl ((f.each j).loose ∙ ap (λ (b : Bool). cond b true (is_loose c j))
-        (ap (falls_at i c) same ∙ falls-itself i (status_at c i)) ∙ sym (put_here i true (is_loose c) j same)))
+        (ap marks same ∙ unsettles-itself i c) ∙ sym (put_here i true (is_loose c) j same)))
         (λ ne. ⊎_elim
-        (λ down. let off = falls-recovered i j (status_at c j) ne down in inr (
+        (λ marked. let off = falls-recovered i j (status_at c j) ne (both-first (falls_at i c j) (unsettles i c j) marked) in inr (
           put_other i false (is_active c) j ne ∙ off.0,
           put_other i false (is_up c) j ne ∙ off.1,
-          (f.each j).loose ∙ ap (λ (b : Bool). cond b true (is_loose c j)) down,
+          (f.each j).loose ∙ ap (λ (b : Bool). cond b true (is_loose c j)) marked,
         ))
         (λ stays. inl ((f.each j).loose ∙ ap (λ (b : Bool). cond b true (is_loose c j)) stays
         ∙ sym (put_other i true (is_loose c) j ne)))
-        (cases_Bool (falls_at i c j)))
+        (cases_Bool (marks j)))
         (cases_eq j i)
+      where
+        both-first : (a b : Bool) → (a && b) ≡ true → a ≡ true
+        both-first true b e = refl
+        both-first false b e = absurd (cc)
 
     rests : changes_law.Rests (loosened (is_loose new) (fell i base)) (base_of seen leaves' (log_by new moved) new)
     rests = record {
@@ -237,12 +265,12 @@ module _ (i : ℕ) (table : Transactions) (n c : Parts) (seen : rig.DeviceImages
 
     owed-loose : (j : ℕ) → 1 ≤ j → j ≤ 8 → is_loose new j ≡ true → OwesAtMost (owed_at new j) (log_by new moved j)
     owed-loose j lo hi loose = ⊎_elim
-        (λ down. subst (λ (k : ℕ). OwesAtMost k (log_by c moved j))
-        (sym ((f.each j).owed ∙ ap (λ (b : Bool). cond b (owed_unsettled c j) (owed_at c j)) down)) (unsettled (is_loose c j) refl))
+        (λ marked. subst (λ (k : ℕ). OwesAtMost k (log_by c moved j))
+        (sym ((f.each j).owed ∙ ap (λ (b : Bool). cond b (owed_unsettled c j) (owed_at c j)) marked)) (unsettled (is_loose c j) refl))
         (λ stays. subst (λ (k : ℕ). OwesAtMost k (log_by c moved j))
         (sym ((f.each j).owed ∙ ap (λ (b : Bool). cond b (owed_unsettled c j) (owed_at c j)) stays))
         (g.owed_loose moved j lo hi (sym ((f.each j).loose ∙ ap (λ (b : Bool). cond b true (is_loose c j)) stays) ∙ loose)))
-        (cases_Bool (falls_at i c j))
+        (cases_Bool (marks j))
       where
         unsettled : (b : Bool) → is_loose c j ≡ b → OwesAtMost (owed_unsettled c j) (log_by c moved j)
         unsettled true is = subst (λ (k : ℕ). OwesAtMost k (log_by c moved j))
@@ -285,9 +313,9 @@ module _ (i : ℕ) (table : Transactions) (n c : Parts) (seen : rig.DeviceImages
 
   told-there : (k : ℕ) → 1 ≤ k → k ≤ 8 → tells_log (status_at new k) ≡ true → is_loose new k ≡ false → IsTold new m' k
   told-there k lo hi tells e =
-      let w = was-settled k e in
-      let old = g.told k lo hi (sym (ap tells_log (status-still k w.0)) ∙ tells) w.1 in
-      let same = table-else k (not-fallen k w.0) in
+      let stays = not-down k tells in
+      let old = g.told k lo hi (sym (ap tells_log (status-still k stays)) ∙ tells) (was-settled k e).1 in
+      let same = table-else k (not-fallen k stays) in
       record {
         rows = λ t is. subst (λ (tb : Transactions). RowIsLogged (txn_at tb t) t (all_at (log_at c k))) (sym same) (old.rows t is);
         owes = ap owed_of same ∙ old.owes;
@@ -353,8 +381,10 @@ module _ (i : ℕ) (table : Transactions) (n c : Parts) (seen : rig.DeviceImages
     not_closed = λ closed. g.not_closed (closed-then i (eqb i 1) (m.inst 1).status (sym (s.status 1) ∙ closed));
     instances = instance-there;
     told = told-there;
-    at_rest = λ k lo hi tells e. let w = was-settled k e in
-        g.at_rest k lo hi (sym (ap tells_log (status-still k w.0)) ∙ tells) w.1;
+    at_rest = λ k lo hi tells e. let w = was-settled k e in ⊎_elim
+        (λ down. no-tail k down w.0)
+        (λ stays. g.at_rest k lo hi (sym (ap tells_log (status-still k stays)) ∙ tells) w.1)
+        (cases_Bool (falls_at i c k));
     begun = λ k lo hi up. Each-weaker (IsOfBegun (m.inst k)) (IsOfBegun (m'.inst k)) (λ (x : Rec) was speaks at.
         let same = s.epoch k in let most = s.begins k in
         let least : x.txn.seq ≤ (m.inst k).begins = was speaks (at ∙ same) in omega (arith, most, least))
@@ -369,5 +399,5 @@ module _ (i : ℕ) (table : Transactions) (n c : Parts) (seen : rig.DeviceImages
     locks = λ t r. f.locks t r ∙ g.locks t r ∙ sym (ap (λ (q : Claims). lock_of (q r)) (s.claims t));
     asks = asks-there;
     checking = λ k b is. let w = check-there k b is in let was = g.checking k b w.1 in
-        record { takes = takes-still k w.0 was.takes; low = was.low; begun = was.begun };
+        record { takes = takes-still k w.0 was.takes; spelled = was.spelled; begun = was.begun };
   }

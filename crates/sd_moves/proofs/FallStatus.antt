@@ -1,5 +1,5 @@
 -- Statuses, rows and asks behind a fall, one by one. For the falls of src/crash.rt.
-use Rattle.std.proofs.Common.{◌≡◌, ◌≢◌, inl, inr, ⊎_elim, ℕ, Bool, true, false, cond, eqb, List, [], ◌∷◌, refl, sym, ap, ◌∙◌, subst, eq-eqb, ne_eqb}
+use Rattle.std.proofs.Common.{◌≡◌, ◌≢◌, inl, inr, ⊎_elim, ℕ, Bool, true, false, cond, eqb, ◌&&◌, ◌||◌, List, [], ◌∷◌, refl, sym, ap, ap₂, ◌∙◌, subst, eq-eqb, ne_eqb}
 use Rattle.std.specs.Prelude.{Option, None, Some, filter, not, option_map}
 use Rattle.std.proofs.lemmas.Bool.{cases_eq, eqb-true}
 use Rattle.sd_base.specs.declared.place.Status.{Status}
@@ -13,10 +13,11 @@ use Rattle.sd_chain.specs.Fates.{Fate}
 use Rattle.sd_chain.specs.Records.{Each}
 use Rattle.sd_txn.specs.Transactions.{Transaction}
 use Rattle.sd_txn.specs.declared.state.TxnState.{TxnState}
-use Rattle.sd_state.specs.Parts.{up_as}
+use Rattle.sd_state.specs.Parts.{Parts, log_at, status_at, up_as}
 use Rattle.sd_base.specs.Standing.{active_as}
 use Rattle.sd_state.specs.Tables.{IsInDoubt, NamesLife, StandsAs}
-use Rattle.sd_moves.specs.Falling.{falls_with, is_recovered_by, lost_row, lost_state}
+use Rattle.sd_log.specs.Logs.{has_tail}
+use Rattle.sd_moves.specs.Falling.{falls_at, falls_with, is_recovered_by, lost_row, lost_state, unsettles}
 
 -- ---- statuses
 
@@ -36,6 +37,10 @@ status-fallen i j s = by (eqb i j) s
 -- i itself falls
 pub falls-itself : (i : ℕ) (s : Status) → falls_with i i s ≡ true
 falls-itself i s = ap (λ (b : Bool). cond b true (is_recovered_by i s)) (eq-eqb i i refl)
+
+-- and its log isn't settled then
+pub unsettles-itself : (i : ℕ) (c : Parts) → (falls_at i c i && unsettles i c i) ≡ true
+unsettles-itself i c = ap₂ (λ (a b : Bool). a && (b || has_tail (log_at c i))) (falls-itself i (status_at c i)) (eq-eqb i i refl)
 
 -- and another only from its recovery by i, where it is neither active nor up
 pub falls-recovered : (i j : ℕ) (s : Status) → j ≢ i → falls_with i j s ≡ true → (active_as j s ≡ false) × (up_as s ≡ false)

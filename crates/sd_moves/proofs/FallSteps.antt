@@ -1,5 +1,5 @@
 -- The instances that fall, one after another, and the parts that a fall leaves. For the falls of src/crash.rt.
-use Rattle.std.proofs.Common.{◌≡◌, ◌≢◌, ⊎_elim, ℕ, zero, suc, ◌+◌, ◌-◌, ◌^◌, ◌<◌, ◌≤◌, Bool, true, false, cond, leb, ◌&&◌, refl, sym, ap, ap₂, ◌∙◌, subst, arith, ne_eqb}
+use Rattle.std.proofs.Common.{◌≡◌, ◌≢◌, ⊎_elim, ℕ, zero, suc, ◌+◌, ◌-◌, ◌^◌, ◌<◌, ◌≤◌, Bool, true, false, cond, eqb, leb, ◌&&◌, ◌||◌, refl, sym, ap, ap₂, ◌∙◌, subst, arith, ne_eqb}
 use Rattle.std.specs.Prelude.{max, min}
 use Rattle.std.proofs.lemmas.Bool.{cases_eq, le-leb, leb-true}
 use Rattle.std.proofs.lemmas.Bool.Decides.{leb_tells}
@@ -9,9 +9,10 @@ use Rattle.sd_base.specs.declared.place.Status.TheVariants as S
 use Rattle.sd_txn.specs.Owing.{owed_of}
 use Rattle.sd_txn.specs.Transactions.{Transactions}
 use Rattle.sd_state.specs.Forcing.{owed_as}
-use Rattle.sd_state.specs.Parts.{IsShape, Parts, is_loose, owed_at, status_at, txns_at}
+use Rattle.sd_state.specs.Parts.{IsShape, Parts, is_loose, log_at, owed_at, status_at, txns_at}
 use Rattle.sd_state.proofs.Items.{item-kept, item-set}
-use Rattle.sd_moves.specs.Falling.{GoesDown, HaveFallen, downed, falls_at, falls_with, fell_at, owed_unsettled}
+use Rattle.sd_log.specs.Logs.{has_tail}
+use Rattle.sd_moves.specs.Falling.{GoesDown, HaveFallen, downed, falls_at, falls_with, fell_at, owed_unsettled, unsettles}
 
 above : (a b : ℕ) → b < a → leb a b ≡ false
 above a b lt = ⊎_elim (λ e. absurd (let le = e.1 in omega (arith, le, lt))) (λ e. e.0) (leb_tells a b)
@@ -32,10 +33,10 @@ none-fallen i c low shape = record {
   loose = shape.loose;
 }
   where
-    stays : (j : ℕ) (b : Bool) → b ≡ false → GoesDown b j c c
-    stays j b e = subst (λ (b : Bool). GoesDown b j c c) (sym e) (record { status = refl; loose = refl; owed = refl })
+    stays : (j : ℕ) (b : Bool) → b ≡ false → GoesDown b i j c c
+    stays j b e = subst (λ (b : Bool). GoesDown b i j c c) (sym e) (record { status = refl; loose = refl; owed = refl })
 
-    each : (j : ℕ) → GoesDown (leb j 0 && falls_at i c j) j c c
+    each : (j : ℕ) → GoesDown (leb j 0 && falls_at i c j) i j c c
     each zero = stays 0 (leb 0 0 && falls_at i c 0) (ap (λ (b : Bool). b && falls_at i c 0) (le-leb 0 0 (omega arith)) ∙ nobody i c low)
     each (suc j) = stays (suc j) (leb (suc j) 0 && falls_at i c (suc j))
         (ap (λ (b : Bool). b && falls_at i c (suc j)) (above (suc j) 0 (omega arith)))
@@ -50,14 +51,17 @@ module _ (i n : ℕ) (c x : Parts) (few : n < 8) (h : HaveFallen i n c x) where
   next = fell_at i j x
 
   -- it hasn't fallen yet
-  untouched : GoesDown false j c x
-  untouched = subst (λ (b : Bool). GoesDown b j c x) (ap (λ (b : Bool). b && falls_at i c j) (above j n (omega arith))) (h.each j)
+  untouched : GoesDown false i j c x
+  untouched = subst (λ (b : Bool). GoesDown b i j c x) (ap (λ (b : Bool). b && falls_at i c j) (above j n (omega arith))) (h.each j)
 
   txns-same : txns_at x j ≡ txns_at c j
   txns-same = ap (λ (p : Parts). txns_at p j) h.same
 
   falls-same : falls_at i x j ≡ falls_at i c j
   falls-same = ap (falls_with i j) untouched.status
+
+  unsettles-same : unsettles i x j ≡ unsettles i c j
+  unsettles-same = ap (λ (p : Parts). eqb i j || has_tail (log_at p j)) h.same
 
   owed-same : owed_unsettled x j ≡ owed_unsettled c j
   owed-same = ap₂ (λ (b : Bool) (n : ℕ). cond b n (max n (owed_as (status_at x j) (min (owed_of (txns_at x j)) (2 ^ 64 - 1)) n))) untouched.loose untouched.owed
@@ -66,18 +70,30 @@ module _ (i n : ℕ) (c x : Parts) (few : n < 8) (h : HaveFallen i n c x) where
 
   -- ---- where it falls
 
-  down-here : GoesDown true j c (downed j x)
-  down-here = record {
+  down-here : (b : Bool) → b ≡ unsettles i c j → GoesDown true i j c (downed b j x)
+  down-here true is = record {
     status = item-set S.Closed x.statuses j S.Down (omega arith) (omega (arith, few)) h.statuses;
-    loose = get_or-set_same x.loose j true true (let nine = h.loose in omega (arith, few, nine));
-    owed = item-set 0 x.owed j (owed_unsettled x j) (omega arith) (omega (arith, few)) h.owed ∙ owed-same;
+    loose = get_or-set_same x.loose j true true (let nine = h.loose in omega (arith, few, nine))
+        ∙ ap (λ (b : Bool). cond b true (is_loose c j)) is;
+    owed = item-set 0 x.owed j (owed_unsettled x j) (omega arith) (omega (arith, few)) h.owed ∙ owed-same
+        ∙ ap (λ (b : Bool). cond b (owed_unsettled c j) (owed_at c j)) is;
+  }
+  down-here false is = record {
+    status = item-set S.Closed x.statuses j S.Down (omega arith) (omega (arith, few)) h.statuses;
+    loose = untouched.loose ∙ ap (λ (b : Bool). cond b true (is_loose c j)) is;
+    owed = untouched.owed ∙ ap (λ (b : Bool). cond b (owed_unsettled c j) (owed_at c j)) is;
   }
 
-  down-else : (b : Bool) (k : ℕ) → k ≢ j → GoesDown b k c x → GoesDown b k c (downed j x)
-  down-else b k ne g = record {
+  down-else : (d b : Bool) (k : ℕ) → k ≢ j → GoesDown b i k c x → GoesDown b i k c (downed d j x)
+  down-else true b k ne g = record {
     status = item-kept S.Closed x.statuses j S.Down (omega arith) k ne ∙ g.status;
     loose = get_or-set_other x.loose j k true true ne ∙ g.loose;
     owed = item-kept 0 x.owed j (owed_unsettled x j) (omega arith) k ne ∙ g.owed;
+  }
+  down-else false b k ne g = record {
+    status = item-kept S.Closed x.statuses j S.Down (omega arith) k ne ∙ g.status;
+    loose = g.loose;
+    owed = g.owed;
   }
 
   -- who isn't this one is among the first ones as before
@@ -88,28 +104,42 @@ module _ (i n : ℕ) (c x : Parts) (few : n < 8) (h : HaveFallen i n c x) where
       by true is = le-leb k j (let le = leb-true k n is in omega (arith, le))
       by false is = above k j (let lt = below k n is in omega (arith, lt, ne))
 
-  pub fallen-else : (y : Parts) → ((b : Bool) (k : ℕ) → k ≢ j → GoesDown b k c x → GoesDown b k c y)
-      → GoesDown (falls_at i c j) j c y → (k : ℕ) → GoesDown (leb k j && falls_at i c k) k c y
+  pub fallen-else : (y : Parts) → ((b : Bool) (k : ℕ) → k ≢ j → GoesDown b i k c x → GoesDown b i k c y)
+      → GoesDown (falls_at i c j) i j c y → (k : ℕ) → GoesDown (leb k j && falls_at i c k) i k c y
   fallen-else y others here k = ⊎_elim
-      (λ e. subst (λ (b : Bool). GoesDown (b && falls_at i c k) k c y) (sym (le-leb k j (omega (arith, e))))
-      (subst (λ (z : ℕ). GoesDown (falls_at i c z) z c y) (sym e) here))
-      (λ ne. subst (λ (b : Bool). GoesDown (b && falls_at i c k) k c y) (sym (leb-other k ne)) (others (leb k n && falls_at i c k) k ne (h.each k)))
+      (λ e. subst (λ (b : Bool). GoesDown (b && falls_at i c k) i k c y) (sym (le-leb k j (omega (arith, e))))
+      (subst (λ (z : ℕ). GoesDown (falls_at i c z) i z c y) (sym e) here))
+      (λ ne. subst (λ (b : Bool). GoesDown (b && falls_at i c k) i k c y) (sym (leb-other k ne)) (others (leb k n && falls_at i c k) k ne (h.each k)))
       (cases_eq k j)
 
   pub one-fallen : HaveFallen i j c next
   one-fallen = by (falls_at i x j) falls-same
     where
-      by : (b : Bool) → b ≡ falls_at i c j → HaveFallen i j c (cond {A = Parts} b (downed j x) x)
-      by true is = record {
-        same = ap (λ (p : Parts). record p { statuses = (downed j x).statuses; owed = (downed j x).owed; loose = (downed j x).loose }) h.same;
-        each = fallen-else (downed j x) down-else (subst (λ (b : Bool). GoesDown b j c (downed j x)) is down-here);
+      marks : (d : Bool) → d ≡ unsettles i c j → true ≡ falls_at i c j → HaveFallen i j c (downed d j x)
+      marks true loose is = record {
+        same = ap (λ (p : Parts). record p {
+          statuses = (downed true j x).statuses;
+          owed = (downed true j x).owed;
+          loose = (downed true j x).loose;
+        }) h.same;
+        each = fallen-else (downed true j x) (down-else true) (subst (λ (b : Bool). GoesDown b i j c (downed true j x)) is (down-here true loose));
         statuses = length-set x.statuses (j - 1) S.Down ∙ h.statuses;
         owed = length-set x.owed (j - 1) (owed_unsettled x j) ∙ h.owed;
         loose = length-set x.loose j true ∙ h.loose;
       }
+      marks false loose is = record {
+        same = ap (λ (p : Parts). record p { statuses = (downed false j x).statuses; owed = x.owed; loose = x.loose }) h.same;
+        each = fallen-else (downed false j x) (down-else false) (subst (λ (b : Bool). GoesDown b i j c (downed false j x)) is (down-here false loose));
+        statuses = length-set x.statuses (j - 1) S.Down ∙ h.statuses;
+        owed = h.owed;
+        loose = h.loose;
+      }
+
+      by : (b : Bool) → b ≡ falls_at i c j → HaveFallen i j c (cond {A = Parts} b (downed (unsettles i x j) j x) x)
+      by true is = marks (unsettles i x j) unsettles-same is
       by false is = record {
         same = h.same;
-        each = fallen-else x (λ b k ne g. g) (subst (λ (b : Bool). GoesDown b j c x) is untouched);
+        each = fallen-else x (λ b k ne g. g) (subst (λ (b : Bool). GoesDown b i j c x) is untouched);
         statuses = h.statuses;
         owed = h.owed;
         loose = h.loose;
@@ -137,10 +167,10 @@ pub fallen-more : (i n : ℕ) (c x y : Parts) → n < 8 → HaveFallen i n c x �
 fallen-more i n c x y few h is = subst (HaveFallen i (n + 1) c) (sym is) (one-fallen i n c x few h)
 
 -- all eight have had their turn
-pub all-fallen : (i : ℕ) (c x : Parts) → 1 ≤ i → i ≤ 8 → IsShape c → HaveFallen i 8 c x → (j : ℕ) → GoesDown (falls_at i c j) j c x
+pub all-fallen : (i : ℕ) (c x : Parts) → 1 ≤ i → i ≤ 8 → IsShape c → HaveFallen i 8 c x → (j : ℕ) → GoesDown (falls_at i c j) i j c x
 all-fallen i c x low high shape h j = ⊎_elim
-    (λ e. subst (λ (b : Bool). GoesDown b j c x) (ap (λ (b : Bool). b && falls_at i c j) e.0) (h.each j))
-    (λ e. subst (λ (b : Bool). GoesDown b j c x) (ap (λ (b : Bool). b && falls_at i c j) e.0 ∙ sym (far e.1)) (h.each j))
+    (λ e. subst (λ (b : Bool). GoesDown b i j c x) (ap (λ (b : Bool). b && falls_at i c j) e.0) (h.each j))
+    (λ e. subst (λ (b : Bool). GoesDown b i j c x) (ap (λ (b : Bool). b && falls_at i c j) e.0 ∙ sym (far e.1)) (h.each j))
     (leb_tells j 8)
   where
     out : (z : ℕ) → 8 < z → status_at c z ≡ S.Closed

@@ -1,5 +1,5 @@
 -- A lost page that device 0 has in its newest version is called free: what held of the complex holds of it then. For the goals of
--- `rebuilt`.
+-- `rebuild`.
 use Rattle.std.proofs.Common.{◌≡◌, ℕ, false, None, ap, subst, ◌∙◌, sym, ◌||◌, arith}
 use Rattle.sd_page.specs.Page.{Page}
 use Rattle.sd_model.specs.State.{State}

@@ -1,4 +1,4 @@
--- Blank devices open to the fresh state, and a fresh complex is what is opened from them: so what `opened` asks for can be met.
+-- Blank devices open to the fresh state, and a fresh complex is what is opened from them: so what `assemble` asks for can be met.
 use Rattle.std.proofs.Common.{◌≡◌, ℕ, zero, suc, ◌≤◌, Bool, true, false, ltb, ◌&&◌, ◌||◌, cond, List, [], refl, sym, ap, ap₂, ◌∙◌, subst, arith, ⊎_elim, inl}
 use Rattle.std.specs.Prelude.{is_some}
 use Rattle.std.specs.List.{list_any}

@@ -1,4 +1,4 @@
--- A complex that is opened is as each state of the serial table says to which its devices open: for `opened`.
+-- A complex that is opened is as each state of the serial table says to which its devices open: for `assemble`.
 use Rattle.std.proofs.lemmas.List.Elements.{recursion_from_All}
 use Rattle.sd_chain.proofs.Lsns.{log-records, scanned-records}
 use Rattle.sd_log.specs.declared.placed.Placed.{Placed}

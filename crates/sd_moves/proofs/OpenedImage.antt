@@ -1,4 +1,4 @@
--- What an image leaves open, and which of its pages are lost, as a complex that is opened from it has it: for `opened`.
+-- What an image leaves open, and which of its pages are lost, as a complex that is opened from it has it: for `assemble`.
 use Rattle.std.proofs.Common.{◌≡◌, inl, ⊎_elim, ℕ, Bool, true, false, ◌&&◌, ◌||◌, cond, List, [], ◌∷◌, ◌++◌, map, filter, refl, sym, ap, ◌∙◌, subst, append-nil, eq-eqb}
 use Rattle.std.specs.Prelude.{Option, None, Some}
 use Rattle.std.specs.List.{list_any}

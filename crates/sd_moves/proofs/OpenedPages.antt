@@ -1,4 +1,4 @@
--- A page that an image doesn't call lost is on disk; above the last page of the data device none is changed: for `opened`.
+-- A page that an image doesn't call lost is on disk; above the last page of the data device none is changed: for `assemble`.
 use Rattle.std.proofs.Common.{◌≡◌, ⊎_elim, ℕ, ◌<◌, ◌≤◌, Bool, true, false, ◌&&◌, ltb, List, [], ◌∷◌, map, refl, sym, ap, subst, arith, lt-ltb, ltb-false, ne_eqb}
 use Rattle.std.specs.Prelude.{Some}
 use Rattle.std.proofs.lemmas.Bool.{cases_lt}

@@ -163,7 +163,7 @@ module _ (pools : List Buffers) (places : DirectoryState Page) (seen : rig.Devic
     locks = g.locks;
     gone = g.gone;
     asks = asks;
-    checking = λ k b is. let old = g.checking k b is in record { takes = old.takes; low = old.low; begun = old.begun };
+    checking = λ k b is. let old = g.checking k b is in record { takes = old.takes; spelled = old.spelled; begun = old.begun };
   }
     where
       underway : (u : Pending) → IsUnderWay c m u → IsUnderWay turned m u

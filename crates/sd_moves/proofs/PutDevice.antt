@@ -1,5 +1,5 @@
 -- Device 0 is otherwise, with the marks of what is settled and the page directory: what held of the complex holds of it then. For
--- the goals of `settle_disk`, `write_copy` and `put_page`.
+-- the goals of `settle_disk`, `put_image` and `put_page`.
 use Rattle.std.proofs.Common.{◌≡◌, ◌≢◌, ◌⊎◌, ℕ, zero, suc, ◌≤◌, Bool, true, false, List, length, get_or, sym, ap, ◌∙◌, subst, arith}
 use Rattle.std.specs.Prelude.{Some, IfSome}
 use Rattle.sd_base.specs.Twin.{chosen_body, number_of}
@@ -115,7 +115,7 @@ module _ (marks : List Bool) (places : DirectoryState Page) (seen seen' : rig.De
     locks = g.locks;
     gone = g.gone;
     asks = asks;
-    checking = λ k b is. let old = g.checking k b is in record { takes = old.takes; low = old.low; begun = old.begun };
+    checking = λ k b is. let old = g.checking k b is in record { takes = old.takes; spelled = old.spelled; begun = old.begun };
   }
     where
       places-there : (j place : ℕ) → other_at new j ≡ Some place → (bytes : List ℕ) → leaves' j bytes

@@ -1,5 +1,5 @@
 -- Which image of a page may be put onto device 0: the copy of who has the write of it, and of a lost page its newest version. For
--- the goals of `write_newest`, `put_image` and `rebuilt`.
+-- the goals of `write_newest`, `put_image` and `rebuild`.
 use Rattle.std.proofs.Common.{◌≡◌, ◌≢◌, ⊎_elim, ℕ, zero, suc, ◌≤◌, Bool, true, false, List, None, Some, refl, sym, ap, ◌∙◌, subst, arith, eqb-true, map}
 use Rattle.std.proofs.lemmas.Bool.{cases_lt}
 use Rattle.std.proofs.lemmas.List.{get_or_past}

@@ -39,7 +39,7 @@ use Rattle.sd_chain.proofs.Puts.{puts-disk, puts-twins}
 use Rattle.sd_state.specs.Good.{Good, Half, IsKnownLsn, base_of, dir_of, reaches}
 use Rattle.sd_state.specs.Images.{Stands, leaves_by, log_by}
 use Rattle.sd_state.specs.Laws.{newest_of}
-use Rattle.sd_state.specs.Parts.{Parts, is_loose}
+use Rattle.sd_state.specs.Parts.{Parts, is_loose, low_of}
 use Rattle.sd_state.specs.Values.{Pending}
 use Rattle.sd_state.proofs.LockReads.{named-well}
 use Rattle.sd_state.proofs.Standing.{left-stands}
@@ -263,7 +263,7 @@ module _ (p : ℕ) (im : Page) (seen : rig.DeviceImages) (leaves : Outcomes) (pe
         held = (half moved).held;
         epochs = λ j lo hi bytes l. (half moved).epochs j lo hi bytes (less j lo bytes l);
         checks = λ k b is. let old = (half moved).checks k b is in (
-          cover-puts (may_of (wide moved)) (may_of narrow) b.low k p (base moved) (base_of seen' narrow (logs moved) put_parts)
+          cover-puts (may_of (wide moved)) (may_of narrow) (low_of b) k p (base moved) (base_of seen' narrow (logs moved) put_parts)
               (dir_of c) (half moved).coherent or-put refl old.0,
           old.1,
         );

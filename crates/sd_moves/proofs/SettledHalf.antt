@@ -36,7 +36,7 @@ use Rattle.sd_chain.specs.Soundly.{IsSoundly}
 use Rattle.sd_chain.proofs.Kept.{forced-idle, no-tail}
 use Rattle.sd_state.specs.Good.{Half, base_of, dir_of}
 use Rattle.sd_state.specs.Images.{IsClaimed, IsEpochOf, IsOpenIn}
-use Rattle.sd_state.specs.Parts.{Begun, Parts, check_at, is_loose}
+use Rattle.sd_state.specs.Parts.{Begun, Parts, check_at, is_loose, low_of}
 use Rattle.sd_state.specs.Values.{Pending, rid_of, values}
 use Rattle.sd_moves.specs.Settling.{with_reread}
 
@@ -167,8 +167,8 @@ module _ (i : ℕ) (kept : Bool) (seen : rig.DeviceImages) (leaves leaves' : Out
     held = held;
     epochs = epochs;
     checks = λ k b is. let old = h.checks k b is in (
-      cover-settles (may_of leaves) (may_of leaves') b.low k i kept old_base new_base s may-less old.0,
-      close-settles b.low k i kept (tails_of logs) (tails_of logs') s
+      cover-settles (may_of leaves) (may_of leaves') (low_of b) k i kept old_base new_base s may-less old.0,
+      close-settles (low_of b) k i kept (tails_of logs) (tails_of logs') s
           (λ e. let clash : None ≡ Some b = sym unchecked ∙ ap (check_at c) (sym e) ∙ is in absurd (cc)) old.1,
     );
   }

@@ -254,7 +254,7 @@ module _ (i : ℕ) (seen : rig.DeviceImages) (leaves : Outcomes) (c found : Part
     asks = g.asks;
     checking = λ k b is. let old = g.checking k b is in record {
       takes = old.takes;
-      low = old.low;
+      spelled = old.spelled;
       begun = subst (λ (l : LogState). b.begin ≤ last_lsn (scanned l)) (sym (log-others k (λ e. let clash : None ≡ Some b = sym (unchecked i seen leaves c found m low high g was_loose idle only reads read)
           ∙ ap (check_at c) (sym e) ∙ is in absurd (cc)))) old.begun;
     };

@@ -1,10 +1,11 @@
 -- An instance falls: what is left of a complex then.
-use Rattle.std.specs.Prelude.{◌≡◌, ◌≢◌, ℕ, ◌-◌, Bool, true, false, List, [], Option, None, Some, cond, eqb, is_none, leb, ◌&&◌, length, option_map, slice_set}
+use Rattle.std.specs.Prelude.{◌≡◌, ◌≢◌, ℕ, ◌-◌, Bool, true, false, List, [], Option, None, Some, cond, eqb, is_none, leb, not, ◌&&◌, ◌||◌, length, option_map, slice_set}
 use Rattle.sd_base.specs.declared.ids.TxnId.{TxnId}
 use Rattle.sd_base.specs.declared.ids.Rid.{Rid}
+use Rattle.sd_base.specs.Standing.{is_up}
 use Rattle.sd_base.specs.declared.place.Status.{Status}
 use Rattle.sd_base.specs.declared.place.Status.TheVariants as S
-use Rattle.sd_log.specs.Logs.{LogState, without_tail}
+use Rattle.sd_log.specs.Logs.{LogState, has_tail, without_tail}
 use Rattle.sd_page.specs.Page.{Page}
 use Rattle.sd_pagelock.specs.Asks.{asks_without, open_asks}
 use Rattle.sd_pagelock.specs.Directory as directory
@@ -40,28 +41,32 @@ falls_at i c j = falls_with i j (status_at c j)
 abbrev pub owed_unsettled : Parts → ℕ → ℕ
 owed_unsettled c j = cond (is_loose c j) (owed_at c j) (owed_either c j)
 
--- Instance j, where it falls, is down, and its log isn't settled; otherwise it is as it was.
-pub record GoesDown (falls : Bool) (j : ℕ) (c new : Parts) : Type 0 where
-  pub status : status_at new j ≡ cond falls S.Down (status_at c j)
-  pub loose : is_loose new j ≡ cond falls true (is_loose c j)
-  pub owed : owed_at new j ≡ cond falls (owed_unsettled c j) (owed_at c j)
+-- the log of instance j, where that falls with i, counts as unsettled: it is i's own, or it has a tail
+abbrev pub unsettles : ℕ → Parts → ℕ → Bool
+unsettles i c j = eqb i j || has_tail (log_at c j)
 
--- instance j is down, and its log isn't settled
-abbrev pub downed : ℕ → Parts → Parts
-downed j c = record c {
-  statuses = slice_set c.statuses (j - 1) S.Down;
-  owed = slice_set c.owed (j - 1) (owed_unsettled c j);
-  loose = slice_set c.loose j true;
-}
+-- Instance j, where it falls with i, is down, and its log isn't settled where it is i's own or has a tail; otherwise it is as it was.
+pub record GoesDown (falls : Bool) (i j : ℕ) (c new : Parts) : Type 0 where
+  pub status : status_at new j ≡ cond falls S.Down (status_at c j)
+  pub loose : is_loose new j ≡ cond (falls && unsettles i c j) true (is_loose c j)
+  pub owed : owed_at new j ≡ cond (falls && unsettles i c j) (owed_unsettled c j) (owed_at c j)
+
+-- log j isn't settled from here on
+abbrev pub marked : ℕ → Parts → Parts
+marked j c = record c { owed = slice_set c.owed (j - 1) (owed_unsettled c j); loose = slice_set c.loose j true }
+
+-- instance j is down; its log isn't settled where that is so
+abbrev pub downed : Bool → ℕ → Parts → Parts
+downed loose j c = record (cond {A = Parts} loose (marked j c) c) { statuses = slice_set c.statuses (j - 1) S.Down }
 
 -- where it falls with i
 abbrev pub fell_at : ℕ → ℕ → Parts → Parts
-fell_at i j c = cond {A = Parts} (falls_at i c j) (downed j c) c
+fell_at i j c = cond {A = Parts} (falls_at i c j) (downed (unsettles i c j) j c) c
 
 -- Of the first n instances those are down that fall with i; all else is as it was.
 pub record HaveFallen (i n : ℕ) (c new : Parts) : Type 0 where
   pub same : new ≡ record c { statuses = new.statuses; owed = new.owed; loose = new.loose }
-  pub each : (j : ℕ) → GoesDown (leb j n && falls_at i c j) j c new
+  pub each : (j : ℕ) → GoesDown (leb j n && falls_at i c j) i j c new
   pub statuses : length new.statuses ≡ 8
   pub owed : length new.owed ≡ 8
   pub loose : length new.loose ≡ 9
@@ -124,7 +129,7 @@ with_dropped i owes c = record c {
 
 -- Of these `new` has what the fall of i leaves, while logs have their tails.
 pub record IsLeft (i : ℕ) (c new : Parts) : Type 0 where
-  pub each : (j : ℕ) → GoesDown (falls_at i c j) j c new
+  pub each : (j : ℕ) → GoesDown (falls_at i c j) i j c new
   pub statuses : length new.statuses ≡ 8
   pub owed : length new.owed ≡ 8
   pub loose : length new.loose ≡ 9
@@ -141,18 +146,10 @@ pub record IsLeft (i : ℕ) (c new : Parts) : Type 0 where
 
 -- ---- with the tail of a log that is settled
 
--- what the log of an instance in this status owes without its tail, where that may be dropped as the instance falls
-abbrev pub owed_as_up : Status → ℕ → Option ℕ
-owed_as_up S.Up owes = Some owes
-owed_as_up S.Down owes = None
-owed_as_up (S.Recovering by) owes = None
-owed_as_up S.Clean owes = None
-owed_as_up S.Restarting owes = None
-owed_as_up S.Closed owes = None
-
--- So it is where the instance is up and the log is settled.
+-- what the log of i owes without its tail, where that is dropped as i falls: the log is settled, and i was up, or there is no tail
 abbrev pub owed_dropped : ℕ → Parts → Option ℕ
-owed_dropped i c = cond {A = Option ℕ} (is_loose c i) None (owed_as_up (status_at c i) (owed_at c i))
+owed_dropped i c = cond {A = Option ℕ} (is_loose c i) None
+    (cond {A = Option ℕ} (is_up (status_at c i) || not (has_tail (log_at c i))) (Some (owed_at c i)) None)
 
 abbrev pub dropped_by : ℕ → Option ℕ → Parts → Parts
 dropped_by i None c = c
@@ -163,12 +160,13 @@ abbrev pub logs_by : ℕ → Option ℕ → Parts → List LogState
 logs_by i None c = c.logs
 logs_by i (Some owes) c = slice_set c.logs (i - 1) (without_tail (log_at c i))
 
--- the log of instance j counts as unsettled from here on, if it was settled
+-- The log of instance j counts as unsettled from here on, if it was settled: that of i where its tail isn't dropped, and that of
+-- another which falls with i where it has a tail.
 abbrev pub unsettles_at : ℕ → Parts → ℕ → Bool
-unsettles_at i c j = cond (eqb i j) (is_none (owed_dropped i c)) (falls_at i c j)
+unsettles_at i c j = cond (eqb i j) (is_none (owed_dropped i c)) (falls_at i c j && has_tail (log_at c j))
 
 -- The parts of a complex behind the fall of i: the pool of i is empty, it has begun no checkpoint, no fall is due, and the tail
--- of its log is dropped where the log is settled and i was up. Of its table, of statuses, of what isn't settled and what logs owe
+-- of its log is dropped where the log is settled and i was up or there is none. Of its table, of statuses, of what isn't settled and what logs owe
 -- then, of the directory and of locks there is what `new` has.
 abbrev pub with_fallen : ℕ → Parts → Parts → Parts
 with_fallen i new c = record c {
@@ -185,7 +183,7 @@ with_fallen i new c = record c {
 }
 
 -- Of these `new` has what the fall of i leaves: i is down, and so is each instance that it was recovering; a log that isn't
--- settled any more owes what it owes with its tail or without it.
+-- settled any more owes what it owes with its tail or without it. No log without a tail counts as unsettled that didn't before.
 pub record IsFallen (i : ℕ) (c new : Parts) : Type 0 where
   pub status : (j : ℕ) → status_at new j ≡ cond (falls_at i c j) S.Down (status_at c j)
   pub loose : (j : ℕ) → is_loose new j ≡ cond (unsettles_at i c j) true (is_loose c j)

@@ -23,9 +23,9 @@ use std::cmp;
 
 /// An instance falls: its pool, its asks, its waits, what moved to it and the checkpoint that it had begun are gone; its
 /// transactions that ran or rolled back are losers, whose locks stay; no fall is due any more. It is down, and so is each
-/// instance that it was recovering. Where it was up and its log is settled, the tail of that log is dropped; otherwise the logs
-/// of those that went down count as unsettled, with their tails, until they are read again. A join that was under way has
-/// failed. It takes no memory and makes no device call.
+/// instance that it was recovering. Where it was up and its log is settled, the tail of that log is dropped; a log of another that
+/// went down counts as unsettled, with its tail, until it is read again, and one without a tail stays as it is. A join that was
+/// under way has failed. It takes no memory and makes no device call.
 pub fn down<G: Rig>(c: &mut Complex<G>, i: InstNo)
     requires good { (pend : Pending) × (m : State) × Good (G.seen c.old.rig) (G.leaves c.old.rig) pend (parts c.old) m }
     requires due { ((parts c.old).due ≡ None)
@@ -73,7 +73,7 @@ fn fall<G>(c: &mut Complex<G>, i: InstNo)
     drop_tail(c, i, owed);
 }
 
-// What the log owes without its tail, where the instance is up and the log is settled: the device hasn't the tail.
+// What the log owes without its tail, where that is settled, and the instance is up or there is no tail: the device hasn't the tail.
 fn owed_dropped<G>(c: &Complex<G>, i: InstNo) -> Option<u64>
     requires { IsShape (parts c.now) }
     ensures { result ≡ owed_dropped i (parts c.now) }
@@ -82,9 +82,10 @@ fn owed_dropped<G>(c: &Complex<G>, i: InstNo) -> Option<u64>
     if c.loose[at + 1] {
         return None;
     }
-    match c.statuses[at] {
-        Status::Up => Some(c.owed[at]),
-        _ => None,
+    if c.statuses[at].is_up() || !c.logs[at].has_tail() {
+        Some(c.owed[at])
+    } else {
+        None
     }
 }
 
@@ -102,7 +103,8 @@ fn drop_tail<G>(c: &mut Complex<G>, i: InstNo, owed: Option<u64>)
     }
 }
 
-// The same while logs have their tails: each that was settled counts as unsettled.
+// The same while the log of the instance has its tail: it counts as unsettled, and so does that of each other one that goes down with a
+// tail.
 fn leave<G>(c: &mut Complex<G>, i: InstNo)
     requires shape { IsShape (parts c.old) }
     ensures parts { parts c.new ≡ with_left i (parts c.new) (parts c.old) }
@@ -137,7 +139,8 @@ fn fall_at<G>(c: &mut Complex<G>, i: InstNo, at: usize)
     ensures rig { c.new.rig ≡ c.old.rig }
 {
     if falls_with(i, at, c.statuses[at]) {
-        go_down(c, at);
+        let loose = i.get() as usize == at + 1 || c.logs[at].has_tail();
+        go_down(c, at, loose);
     }
 }
 
@@ -155,15 +158,17 @@ fn falls_with(i: InstNo, at: usize, status: Status) -> bool
     }
 }
 
-// The instance with this index is down, and its log isn't settled.
-fn go_down<G>(c: &mut Complex<G>, at: usize)
+// The instance with this index is down, and its log isn't settled where that is `loose`.
+fn go_down<G>(c: &mut Complex<G>, at: usize, loose: bool)
     requires shape { IsShape (parts c.old) }
     requires few { at < 8 }
-    ensures parts { parts c.new ≡ downed (at + 1) (parts c.old) }
+    ensures parts { parts c.new ≡ downed loose (at + 1) (parts c.old) }
     ensures rig { c.new.rig ≡ c.old.rig }
 {
-    c.owed[at] = owed_unsettled(c, at);
-    c.loose[at + 1] = true;
+    if loose {
+        c.owed[at] = owed_unsettled(c, at);
+        c.loose[at + 1] = true;
+    }
     c.statuses[at] = Status::Down;
 }
 

@@ -1,22 +1,26 @@
-//! The moves of a page between pools, each keeping the complex good.
+//! Moves without a log record: a page passes, is put or rebuilt, an instance falls, a device is settled, a complex is made.
 //!
-//! Meaning: what a call leaves of the parts of a complex stands in `specs/`: of a page's place (Places), and of a page that
-//! passes from pool to pool (Passing). What that means is the invariant of sd_state.
-//! Keeps: nothing; each call takes a complex.
-//! Promises: each call keeps the complex good for each state of the serial table for which it is (`good`), and the rig as it is
-//! (`rig`). The newest version of each page stays what it was.
-//! Refuses: `Memory`, by `queue_ask` and `take_copy` alone.
-//! Knows nothing of: devices, scripts, replies, who may ask for a move, and which page a pool is to give up.
-//! Stands on: sd_base, sd_model, sd_page, sd_logrec, sd_rig, sd_pool, sd_places, sd_asks, sd_pagelock, sd_chain, sd_sound,
-//! sd_coherent, sd_state.
-//! Lends: in `proofs`, how `Good` goes through a change of pools and directory (Placed, Passed), and that each copy which a pool
-//! or the directory lends is the newest version (Copies).
-//! Held by the caller: that the row of the directory's table may be taken; that the log of the instance is forced which gives a
-//! page that it has alone.
+//! Meaning: `specs/` says what a call leaves of the parts of a complex: of a page's place (Places), of a page that passes
+//! (Passing), is put (`with_written`) or rebuilt (`MayRebuild`), of a fall (`IsFallen`), of a log that is read again (`IsReread`).
+//! `OpensTo` (Opening) says to which states of the serial table devices open.
+//! Keeps: nothing; each call takes a complex, or makes one (`fresh`, `assemble`).
+//! Promises: each call keeps the complex good for each state for which it is, and a fall for the state in which the instance fell
+//! (`good`); a move, a put and a rebuild leave each page's newest version. `put_page`, `rebuild`, `newest_image` and `settle` alone
+//! call devices: each image meanwhile stands for that (`images`), and the data device has what was put or rebuilt (`clean`).
+//! Refuses: `Memory` in `queue_ask`, `take_copy`, `newest_image` and `settle`, and in `fresh` and `assemble`, which hand the
+//! devices back; `Unread`, `Unwritten`, `Unsynced` and `Failed` only where the rig's count of faults rose. A fall takes no memory.
+//! Knows nothing of: events, scripts, replies; who may ask for a move, why an instance falls, how a log is forced.
+//! Stands on: sd_base, sd_model, sd_page, sd_logrec, sd_rig, sd_log, sd_pool, sd_txn, sd_reclock, sd_pagelock, sd_chain, sd_redo,
+//! sd_recovered, sd_world, sd_state.
+//! Lends: in `proofs`, how `Good` goes through the moves of a page (Placed, Passed, PutCleaned, Freed), a fall (FallGood, FallDown)
+//! and a log read again (SettledWhole), and what sums see of it (FallBounds, SettledBounds); of copies (Copies) and of opening
+//! again (OpenedAgain).
+//! Held by the caller: that the row of the directory may be taken; that the log is forced of who gives or puts a page; that the
+//! instance falls after a failed force or `Unwritten`.
 //!
 //! To change:
-//! - free: bodies, proofs
-//! - dear: the clauses: events are proved against them
+//! - free: bodies, private helpers, proofs
+//! - dear: the clauses, `IsFallen`, `Restored`, `OpensTo`: events and restarts are proved against them
 //! - frozen: nothing
 #![tactic(auto)]
 

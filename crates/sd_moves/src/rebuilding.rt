@@ -1,6 +1,6 @@
 //! A lost page is rebuilt.
 
-ghost use Rattle.std.specs.Prelude.{◌≡◌, ◌≢◌, ◌⊎◌, ℕ, ◌≤◌, None, length, All, IfErr, IfOk, OnErr, OnOk};
+ghost use Rattle.std.specs.Prelude.{◌≡◌, ◌≢◌, ◌⊎◌, ℕ, ◌+◌, ◌≤◌, None, length, All, IfErr, IfOk, OnErr, OnOk};
 ghost use Rattle.sd_base.specs.Streams.{Rises};
 ghost use Rattle.sd_base.specs.declared.refusal.Refusal.TheVariants as R;
 ghost use Rattle.sd_chain.specs.Bytes.{disk_page, twin_at};
@@ -51,6 +51,8 @@ pub fn rebuild<G: Rig>(c: &mut Complex<G>, p: PageNo, im: &Image) -> Result<(), 
     ensures place { OnOk result (IsSet p PageEntry.Free None (parts c.old).directory (parts c.new).directory) }
     ensures moving { (q : ℕ) → moving_image_at (parts c.new).directory q ≡ moving_image_at (parts c.old).directory q }
     ensures clean { OnOk result (disk_page (G.seen c.new.rig 0) p ≡ im.now) }
+    ensures idle { (disk_page (G.seen c.old.rig 0) p).lsn ≡ im.now.lsn → OnOk result (G.moment c.new.rig ≡ G.moment c.old.rig) }
+    ensures tick { OnOk result (G.moment c.new.rig ≤ G.moment c.old.rig + 6) }
     ensures errors { IfErr result (λ e. parts c.new ≡ left_after e (parts c.old)) }
 
     ensures unread { IfErr result (λ e. ReadsAfter e (G.seen c.old.rig) (G.seen c.new.rig)) }

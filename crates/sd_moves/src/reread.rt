@@ -1,6 +1,6 @@
 //! A device that isn't settled: it is synced, and a log is read again.
 
-ghost use Rattle.std.specs.Prelude.{◌≡◌, ◌≢◌, ◌⊎◌, ◌↔◌, ℕ, ◌≤◌, ◌<◌, ◌-◌, ◌^◌, true, false, None, Some, [], Contains, Err, IfErr, IfOk, OnErr, OnOk, length, map, min};
+ghost use Rattle.std.specs.Prelude.{◌≡◌, ◌≢◌, ◌⊎◌, ◌↔◌, ℕ, ◌+◌, ◌≤◌, ◌<◌, ◌-◌, ◌^◌, true, false, None, Some, [], Contains, Err, IfErr, IfOk, OnErr, OnOk, length, map, min};
 ghost use Rattle.std.specs.Map.{lookup};
 ghost use Rattle.sd_base.specs.Ids.{same_txn};
 ghost use Rattle.sd_base.specs.Streams.{Rises};
@@ -100,6 +100,7 @@ pub fn settle<G: Rig>(c: &mut Complex<G>, dev: u8, by: InstNo) -> Result<(), Uns
 
     ensures reads { (d : ℕ) → G.seen c.new.rig d ≡ G.seen c.old.rig d }
     ensures durable { result ≢ Err U.Unsynced → LeavesOnly (G.seen c.old.rig dev) (G.leaves c.new.rig dev) }
+    ensures tick { result ≢ Err U.Unsynced → G.moment c.new.rig ≡ G.moment c.old.rig + 1 }
     ensures others_leave { (d : ℕ) → d ≢ dev → LeavesSame (G.leaves c.old.rig d) (G.leaves c.new.rig d) }
     ensures less { Less (G.leaves c.old.rig) (G.leaves c.new.rig) }
 
@@ -135,6 +136,7 @@ fn sync_device<G: Rig>(c: &mut Complex<G>, dev: u8) -> Result<(), Failed>
     ensures parts { parts c.new ≡ parts c.old }
     ensures reads { (d : ℕ) → G.seen c.new.rig d ≡ G.seen c.old.rig d }
     ensures durable { OnOk result (LeavesOnly (G.seen c.old.rig dev) (G.leaves c.new.rig dev)) }
+    ensures tick { OnOk result (G.moment c.new.rig ≡ G.moment c.old.rig + 1) }
     ensures others_leave { (d : ℕ) → d ≢ dev → LeavesSame (G.leaves c.old.rig d) (G.leaves c.new.rig d) }
     ensures less { Less (G.leaves c.old.rig) (G.leaves c.new.rig) }
 

@@ -1,6 +1,6 @@
 //! A page that is put onto the data device.
 
-ghost use Rattle.std.specs.Prelude.{◌≡◌, ◌≢◌, ℕ, ◌<◌, ◌≤◌, Some, None, [], true, false, length, IfErr, IfSome, IsSome, OnErr, OnOk};
+ghost use Rattle.std.specs.Prelude.{◌≡◌, ◌≢◌, ℕ, ◌+◌, ◌<◌, ◌≤◌, Ok, Some, None, [], true, false, length, IfErr, IfSome, IsSome, OnErr, OnOk};
 ghost use Rattle.std.specs.Option.{option_map_or};
 ghost use Rattle.sd_base.specs.Streams.{Rises};
 ghost use Rattle.sd_base.specs.Twin as twin_bytes;
@@ -66,6 +66,8 @@ pub fn put_page<G: Rig>(c: &mut Complex<G>, p: PageNo, i: InstNo) -> Result<(), 
     ensures moving { (q : ℕ) → moving_image_at (parts c.new).directory q ≡ moving_image_at (parts c.old).directory q }
     ensures clean { OnOk result (disk_page (G.seen c.new.rig 0) p
         ≡ newest_of (G.seen c.old.rig) (G.leaves c.old.rig) (parts c.old) p) }
+    ensures tick { is_loose (parts c.old) 0 ≡ false → OnOk result (G.moment c.new.rig ≤ G.moment c.old.rig + 6) }
+    ensures tock { OnOk result (G.moment c.new.rig ≤ G.moment c.old.rig + 7) }
     ensures errors { IfErr result (λ e. parts c.new ≡ left_after e (parts c.old)) }
 
     ensures unread { IfErr result (λ e. ReadsAfter e (G.seen c.old.rig) (G.seen c.new.rig)) }
@@ -99,6 +101,8 @@ fn settle_disk<G: Rig>(c: &mut Complex<G>) -> Result<(), Failed>
         → Span (G.moment c.old.rig) (G.since c.new.rig) (Stands m pend) }
     ensures time { Elapses (G.moment c.old.rig) (G.moment c.new.rig) (G.since c.old.rig) (G.since c.new.rig) }
 
+    ensures idle { is_loose (parts c.old) 0 ≡ false → (result ≡ Ok tt) × (c.new.rig ≡ c.old.rig) }
+    ensures tick { is_loose (parts c.old) 0 ≡ true → OnOk result (G.moment c.new.rig ≡ G.moment c.old.rig + 1) }
     ensures settled { OnOk result (parts c.new ≡ with_loose_disk false (parts c.old)) }
     ensures unsettled { OnErr result (parts c.new ≡ with_loose_disk true (parts c.old)) }
     ensures directory { c.new.directory ≡ c.old.directory }
@@ -137,6 +141,7 @@ fn write_newest<G: Rig>(c: &mut Complex<G>, p: PageNo, i: InstNo) -> Result<(), 
     ensures directory { c.new.directory ≡ c.old.directory }
     ensures there { OnOk result (disk_page (G.seen c.new.rig 0) p
         ≡ newest_of (G.seen c.old.rig) (G.leaves c.old.rig) (parts c.old) p) }
+    ensures tick { OnOk result (G.moment c.new.rig ≤ G.moment c.old.rig + 6) }
 
     ensures unread { IfErr result (λ e. ReadsAfter e (G.seen c.old.rig) (G.seen c.new.rig)) }
     ensures outside { AgreesOutside (twin_at p) 2050 (G.seen c.old.rig 0) (G.seen c.new.rig 0) }
@@ -171,6 +176,8 @@ pub(crate) fn put_image<G: Rig>(
 
     ensures there { OnOk result (disk_page (G.seen rig.new 0) p ≡ im.now) }
     ensures marks { loose.new.items ≡ marks_after result loose.old.items }
+    ensures idle { (disk_page (G.seen rig.old 0) p).lsn ≡ im.now.lsn → OnOk result (G.moment rig.new ≡ G.moment rig.old) }
+    ensures tick { OnOk result (G.moment rig.new ≤ G.moment rig.old + 6) }
 
     ensures unread { IfErr result (λ e. ReadsAfter e (G.seen rig.old) (G.seen rig.new)) }
     ensures outside { AgreesOutside (twin_at p) 2050 (G.seen rig.old 0) (G.seen rig.new 0) }
@@ -216,6 +223,7 @@ fn put_over<G: Rig>(
 
     ensures there { OnOk result (disk_page (G.seen rig.new 0) p ≡ im.now) }
     ensures marks { loose.new.items ≡ marks_after result loose.old.items }
+    ensures tick { OnOk result (G.moment rig.new ≤ G.moment rig.old + 6) }
 
     ensures unread { IfErr result (λ e. ReadsAfter e (G.seen rig.old) (G.seen rig.new)) }
     ensures outside { AgreesOutside (twin_at p) 2050 (G.seen rig.old 0) (G.seen rig.new 0) }

@@ -2,14 +2,16 @@
 //!
 //! Meaning: `IsReady` is the invariant of sd_state with nothing under way and no fall due, for some state of the serial table
 //! (`specs/Ready.antt`).
-//! Keeps: nothing; each call is one or several of sd_state, of instance 1 for the transactions that it began.
+//! Keeps: nothing; each call is one or several of sd_state, sd_update and sd_moves, of instance 1 for the transactions that it
+//! began.
 //! Promises: a complex that is ready is so after each call, but for one whose force failed; what a call needs and code can see is
-//! tested (`standing.rt`), so nothing but `IsReady` is asked for.
-//! Refuses: what sd_state refuses, and `Odd` what doesn't stand as the call needs it; both leave the complex ready, but for `Failed`
-//! by a force.
+//! tested (`standing.rt`), so nothing but `IsReady` is asked for. `begun` and `written` make their call once more where there was
+//! no memory.
+//! Refuses: what these crates refuse, and `Odd` what doesn't stand as the call needs it; both leave the complex ready, but for
+//! `Failed` by a force.
 //! Knows nothing of: which state of the serial table it is, replies, other instances, recovery.
-//! Stands on: sd_base, sd_model, sd_page, sd_logrec, sd_rig, sd_log, sd_pool, sd_txn, sd_reclock, sd_places, sd_pagelock,
-//! sd_chain, sd_sound, sd_state, sd_seals, sd_undos, sd_changes, sd_opened.
+//! Stands on: sd_base, sd_model, sd_page, sd_logrec, sd_rig, sd_log, sd_pool, sd_txn, sd_reclock, sd_pagelock, sd_chain, sd_state,
+//! sd_update, sd_moves.
 //! Beside the house: tests and benches hold it, and no part of the program is to stand on it.
 //!
 //! To change:

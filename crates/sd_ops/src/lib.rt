@@ -1,19 +1,24 @@
-//! The records of transactions: changed, inserted, deleted.
+//! Transactions: begun, marked, committed and rolled back, and the records that they lock, read and change.
 //!
-//! Meaning: a call of an event promises `Serving` of sd_fits: from each world that the complex fits, it turns to one that it fits then,
-//! as the reply says.
+//! Meaning: a call of an event promises `Serving` of sd_fits: from each world that the complex fits, it turns to one that it fits
+//! then, as the reply says. `HalfServed` says the same of a call before it ends the transaction's wait (`specs/Halves.antt`).
 //! Keeps: nothing.
-//! Promises: each call answers as the serial table and the pages allow, names exactly who stands in the way of a lock, and makes no
-//! device call (`served`, `rig`).
-//! Refuses: in the order of the causes of sd_model; `Memory` comes wherever a call finds none, and changes nothing.
-//! Knows nothing of: scripts, sessions, how a page comes to an instance.
-//! Stands on: sd_base, sd_model, sd_page, sd_logrec, sd_rig, sd_pool, sd_txn, sd_reclock, sd_places, sd_pagelock, sd_chain,
-//! sd_sound, sd_world, sd_state, sd_changes, sd_fits, sd_work, sd_reads.
+//! Promises: each event is answered as the serial table and the pages allow (`served`), and `ask` names exactly who stands in the
+//! way of a lock. A commit, and an undo, which writes one compensation record, leave the data device as it was (`disk`); the others
+//! make no device call (`rig`). A transaction's locks go once its Commit or End is forced, where it has a record. Room, LSNs and
+//! memory are reserved for that: a full log can be rolled back, and no commit, undo or begin of a rollback wants memory (`there`).
+//! Refuses: in the order of the causes of sd_model; `Memory` comes wherever another call finds none, and changes nothing. Where the
+//! force of a commit or an End failed the instance has fallen (`CutCommit`, `Failed`).
+//! Knows nothing of: scripts, sessions, whose turn it is, how a page comes to an instance.
+//! Stands on: sd_base, sd_model, sd_page, sd_logrec, sd_rig, sd_log, sd_pool, sd_txn, sd_reclock, sd_pagelock, sd_chain, sd_world,
+//! sd_state, sd_update, sd_moves, sd_fits.
+//! Lends: in `proofs`, how a call on a record is refused (Work), and how one whose wait is ended is served (WaitEnded); what holds
+//! of a page that an instance has (Held), and of a lock that is refused (Asking).
 //! Held by the caller: that the complex fits a world.
 //!
 //! To change:
 //! - free: bodies, proofs
-//! - dear: nothing
+//! - dear: `HalfServed`, `LacksPage`, the clauses of `copy`
 //! - frozen: nothing
 #![tactic(auto)]
 

@@ -145,7 +145,7 @@ fn commit_recorded<G: Rig>(c: &mut Complex<G>, t: &TxnId) -> Result<(), Refusal>
     }
 }
 
-// The force of its Commit failed: its instance falls, and the transaction is in doubt.
+// The force of its Commit failed: its instance falls, and the transaction is in doubt. A goal of its own.
 fn fall_in_commit<G: Rig>(c: &mut Complex<G>, t: &TxnId)
     requires good { (m : State) × Good (G.seen c.old.rig) (G.leaves c.old.rig) (Pending.Commits t.now) (parts c.old) m }
     requires due { ((parts c.old).due ≡ None)

@@ -2,7 +2,7 @@
 
 ghost use Rattle.std.specs.Prelude.{◌≡◌, IfOk, OnErr, None};
 
-use crate::obstacles::Table;
+use crate::blockers::Table;
 use crate::watch::Watch;
 use crate::{Outcome, SerialTable, Verdict};
 use sd_base::{Memory, Rid, TxnId};

@@ -1,16 +1,23 @@
-//! A plain program of the serial table: it says of a reply whether the table allows it.
+//! A plain program of the serial table: it says of a reply whether the table allows it, and whether it names who stands in the way.
 //!
-//! Meaning: a `SerialTable` is a journal of lists, and `state_of` it a state of sd_model (`Lists.antt` of sd_lists).
-//! Keeps: nothing; any lists stand for a state.
-//! Promises: a verdict is the step of sd_model, both ways (`SerialTable::step`, `Judges`).
-//! Refuses: nothing but for want of memory; what it doesn't judge it says (`Verdict::Unjudged`).
+//! Meaning: `Lists` hold a journal of changes, of which the last one counts, and `state_of` it is a state of sd_model
+//! (`specs/Lists.antt`); a `SerialTable` stands for a state, a `Judge` for a scene: a state, and what each transaction waits for
+//! (`specs/Scenes.antt`).
+//! Keeps: nothing; any lists stand for a state, and any waits may stand beside it.
+//! Promises: each change is that of sd_model's definition (`begin`, `take`, `commit`, `turn`, `undo`, `fall`, `cut`, `sweep`), and
+//! each answer on causes its definition, both ways (`first_of`, `passes_all`, `tells`, `may_fall`). A verdict is the step of
+//! sd_model, both ways (`SerialTable::step`, `Judges`); of a judge `Blocked` and `Deadlock` follow exactly where sd_base's
+//! `IsBlocked` and `IsDeadlock` hold (`Judge::step`, `JudgesExactly`). Of a join all stands in one place (`joins.rt`).
+//! Refuses: nothing but for want of memory, after which the state is as before; what it doesn't judge it says
+//! (`Verdict::Unjudged`).
 //! Knows nothing of: pages' bytes, pools, logs, devices, scripts; how a complex comes to its replies.
-//! Stands on: sd_base, sd_model, sd_lists, sd_causes.
+//! Stands on: sd_base, sd_model, sd_reclock.
 //! Beside the house: tests hold it, and no part of the program is to stand on it.
 //!
 //! To change:
 //! - free: bodies, proofs
-//! - dear: `Judges`; an event more is one more answer in its room (`records.rt`, `rollbacks.rt`, `instances.rt`, `pages.rt`)
+//! - dear: `Lists`, `Standing`, `Judges`, `JudgesExactly`; an event more is one more answer in its file (`records.rt`,
+//!   `rollbacks.rt`, `instances.rt`, `pages.rt`), a cause more one more arm of `says`
 //! - frozen: nothing
 #![tactic(auto)]
 
@@ -28,7 +35,7 @@ mod joins;
 mod judge;
 mod lists;
 mod locks;
-mod obstacles;
+mod blockers;
 mod outcome;
 mod page_causes;
 mod pages;

@@ -13,7 +13,7 @@ use std::alloc::Global;
 use std::marker::Model;
 
 /// A complex as one table and a list of committed transactions. Contracts see its lists, and `state_of` them is its
-/// state (`Lists.antt` of sd_lists).
+/// state (`specs/Lists.antt`).
 #[derive(Drop)]
 pub struct SerialTable {
     lists: Lists,

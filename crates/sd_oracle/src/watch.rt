@@ -12,7 +12,7 @@ ghost use Rattle.sd_oracle.specs.Exactly.{JudgesExactly};
 ghost use Rattle.sd_oracle.specs.Watches.{scene, IsBlocking};
 
 use crate::asked::{asked_of, claim_of, wait_after};
-use crate::obstacles::Table;
+use crate::blockers::Table;
 use crate::{Outcome, SerialTable, Verdict, txn_of};
 use sd_base::{Cycle, Memory, Refusal, Rid, TxnId};
 use sd_model::{Event, Reply};

@@ -1,4 +1,4 @@
--- What follows of a place from who holds it, and what rows leave. It serves sd_coherent.
+-- What follows of a place from who holds it, and what rows leave. It serves sd_chain.
 use Rattle.std.proofs.Common.{◌≡◌, ◌≢◌, ⊎_elim, ℕ, Bool, true, false, cond, eqb, List, [], ◌∷◌, refl, sym, ap, ◌∙◌, eq-eqb, ne_eqb, eqb-true}
 use Rattle.std.specs.Prelude.{is_some, ◌||◌}
 use Rattle.std.proofs.lemmas.Bool.{cases_eq}

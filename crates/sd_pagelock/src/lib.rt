@@ -1,21 +1,22 @@
 //! The page directory: who holds the newest image of each page, since when its disk image is old, and who asks for it.
 //!
-//! Meaning: `DirectoryState`, what the directory says of each page (`specs/Directory.antt`); `Place`, a page's place as laws see
-//! it, is of sd_places.
-//! Keeps: a shared page has a holder, and its writer is one; the receiver of a page holds no copy of it; a page has a
-//! RecLSN exactly where its place is changed; an instance asks once for a page; a copy of a page that is asked for has room in
-//! which it can set out.
-//! Promises: a page's place changes by a row of the table (`set`, `lawful`), which never loses it (`laws::only_copy`), or by a
-//! fall (`fall`); a changed page keeps its RecLSN (`set`, `rec_lsn`); `oldest_ask`, `first_for` and `first_lost` answer exactly
-//! (`value`; `found`, `lowest`, `none`).
-//! Refuses: nothing but want of memory, in `new` and `ask`.
-//! Knows nothing of: how one place becomes another; pools, logs, devices; what an image is; which instances run.
-//! Lends: `rows`, `laws` and `is_lawful` of sd_places, to those who move pages.
-//! Stands on: sd_base, sd_places, sd_placetable, sd_asks.
+//! Meaning: `PageEntry`, a page's place as laws see it (`specs/Places.antt`); a row, what an event asks of the place and the place
+//! that it leaves (`specs/Rows.antt`); `IsMove`, a lawful move (`specs/Moves.antt`); `DirectoryState`, what the directory says of
+//! each page (`specs/Directory.antt`).
+//! Keeps: a shared page has a holder, and its writer is one; the receiver of a page holds no copy of it; a page has a RecLSN
+//! exactly where its place is changed; an instance asks once for a page; a copy of a page that is asked for has room in which it
+//! can set out.
+//! Promises: each function of `rows` is the row of its name, and `is_lawful` decides exactly. A page's place changes by a row
+//! (`set`, `lawful`), which never loses it (`laws::only_copy`), or by a fall (`fall`); a changed page keeps its RecLSN (`set`,
+//! `rec_lsn`); `oldest_ask`, `first_for` and `first_lost` answer exactly (`found`, `lowest`, `none`).
+//! Refuses: nothing but want of memory, in `new` and in asks.
+//! Knows nothing of: pools, logs, devices; what an image is; which instances run.
+//! Lends: `rows`, `laws` and `is_lawful`, to those who move pages; `repeated` and `nothing`, vectors with one value for each page.
+//! Stands on: sd_base.
 //!
 //! To change:
-//! - free: bodies and private helpers
-//! - dear: the clauses of `set` and `fall`
+//! - free: bodies and private helpers, how many pages a group has (`noted.rt`), when queues without asks are taken off (`asks.rt`)
+//! - dear: the rows (`rows`) and the laws (`laws`), the clauses of `set` and `fall`, the definitions of `specs/Asks.antt`
 //! - frozen: nothing
 #![tactic(auto)]
 

@@ -78,7 +78,7 @@ pub(crate) fn at_rest<G: Rig>(c: &mut Complex<G>, i: InstNo, by: InstNo) -> Resu
     }
 }
 
-// Whether the log has a Commit of the transaction.
+// Whether the log has a Commit of the transaction. A goal of its own.
 fn has_commit(log: &Log, t: &TxnId) -> bool
     ensures { result ≡ list_any (λ p. commits t.now (flat p.rec)) (scanned log.now) }
 {

@@ -1,24 +1,26 @@
-//! An instance that fell is recovered, step by step.
+//! Failures and recovery: instances fail, are recovered step by step and join, and a complex is closed (ARIES, section 6).
 //!
-//! Meaning: each call is an event of the serial table, and serves it as `Serving` of sd_fits says; `HasCleared` and `HasOneLess`
-//! are what a step leaves (`specs/Recovering.antt`).
+//! Meaning: each call but those of `tasks.rt` is an event of the serial table, and serves it as `Serving` of sd_fits says, or
+//! `ServingHall` where it closes the complex. `IsNext` says which task of a recovery is the first that there is
+//! (`specs/Tasks.antt`), `HasCleared` and `HasOneLess` what a step leaves (`specs/Recovering.antt`).
 //! Keeps: nothing.
-//! Promises: from each world that the complex fits, the answer leads to one that it fits then (`beginning.rt`, `recovering.rt`).
-//! A begin takes no memory. A step does its next task (`next_task` of sd_tasks): a device is settled (`settling.rt`), a lost
-//! page rebuilt (`rebuilding.rt`), the transaction in doubt decided (`deciding.rt`), a loser's last open record undone
-//! (`undoing.rt`), its End put; or nothing is left, and the recovery ends (`ending.rt`). All instances stand after it as they did,
-//! but where it was the last, or a device failed and the recoverer fell.
-//! Refuses: what the order of the event's causes says, the first that applies; `Memory` leaves a recovery where it was.
-//! Knows nothing of: which task is next, how an instance falls or joins, whose turn it is, what is noted of an answer.
-//! Stands on: sd_base, sd_model, sd_page, sd_logrec, sd_rig, sd_log, sd_pool, sd_txn, sd_reclock, sd_places, sd_asks,
-//! sd_pagelock, sd_chain, sd_merge, sd_coherent, sd_sound, sd_world, sd_state, sd_seals, sd_undos, sd_changes, sd_losers,
-//! sd_moves, sd_falls, sd_puts, sd_settle, sd_fits, sd_writer, sd_tasks.
-//! Lends: nothing.
-//! Held by the caller: that no fall is due, which `Fits` says.
+//! Promises: from each world that the complex fits, the answer leads to one that it fits then (`served`). `next_task` is exact, and
+//! a step does that task: the lowest device that isn't settled is settled (`settling.rt`), the lowest lost page rebuilt
+//! (`rebuilding.rt`), the transaction in doubt decided (`deciding.rt`), of the losers' open records the one with the greatest LSN
+//! undone (`undoing.rt`), the first loser's End put; or nothing is left, and the recovery ends (`ending.rt`). A failure, a begin
+//! and an arming call no device and take no memory. Once all instances have failed, whatever a crash leaves of the devices stands
+//! for the serial table as it is then (`fail_all`).
+//! Refuses: what the order of the event's causes says, the first that applies; `Memory` leaves a recovery where it was; a closed
+//! complex, each event but its reopening and an arming as `Down` (`on_closed`).
+//! Knows nothing of: whose turn it is, what is noted of an answer, how a complex opens again.
+//! Stands on: sd_base, sd_model, sd_page, sd_logrec, sd_rig, sd_log, sd_pool, sd_txn, sd_reclock, sd_pagelock, sd_chain, sd_redo,
+//! sd_world, sd_state, sd_update, sd_moves, sd_fits, sd_transfer.
+//! Lends: in `proofs`, what the rows say of a task (Rows, Owns), and that the page of an undo is needed (Awaited).
+//! Held by the caller: that no fall is due, which `Fits` says; the shape in which a closed complex opens again.
 //!
 //! To change:
 //! - free: bodies, proofs
-//! - dear: nothing
+//! - dear: `IsNext`, `tasks_in`
 //! - frozen: nothing
 #![tactic(auto)]
 

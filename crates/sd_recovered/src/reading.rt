@@ -145,6 +145,7 @@ fn read_pages(
         → FailsFirstAt (devices_of (bytes.now ∷ devices)) dev at }
 {
     let pages = newest_pages(alloc, bytes, logs)?;
+    // Check 7 looks at the pages' LSNs here, since check 6 takes the pages; it is told behind that one, in its turn.
     let low = are_low(&pages.images, owed_by(losers));
     let table = take_back(alloc, pages.images, logs, losers)?;
     check_ends(logs, losers, low)?;

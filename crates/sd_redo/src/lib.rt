@@ -1,20 +1,23 @@
-//! A log record redone on the image of its page (ARIES, section 5.2).
+//! Redo: the records of all logs that change a page, put in their order and redone on its image (ARIES, sections 5.2 and 6.2).
 //!
-//! Meaning: `FitsPage` says when a page is as a record found it, `redo` and `replay` what records leave of a page
-//! (`specs/Pages.antt` of sd_chain).
+//! Meaning: a change is a record of a log that changes a page; a page's changes are merged where they are those of the logs by LSN
+//! (`IsChange`, `IsMerged`, `specs/Changes.antt`). `FitsPage` says when a page is as a record found it, `redo` and `replay` what
+//! records leave of a page (`specs/Pages.antt` of sd_chain).
 //! Keeps: nothing.
-//! Promises: `fits` tells whether a page is as a record found it, `redo` does what the record says, `try_replay` redoes a
-//! chain of placed records as far as it fits (`fit`, `stopped`; `specs/Replayed.antt`), and `replay` one that fits. None of
-//! them takes memory.
-//! Refuses: nothing.
-//! Knows nothing of: where an image is kept, which records a page has, places of records.
+//! Promises: `merged_changes` has each change of all logs that were read, by page and then by LSN, and lends its record;
+//! `merge_page` has the forced records of one page in live logs by LSN, those of one LSN in the order of the logs (`turns`). Where
+//! LSNs rise in each log a page's are its chain (`chains`, `chain`), and a page costs what its own records cost. `fits` tells
+//! whether a page is as a record found it, `redo` does what the record says, `try_replay` redoes a chain as far as it fits (`fit`,
+//! `stopped`; `specs/Replayed.antt`), and `replay` one that fits; these take no memory.
+//! Refuses: nothing but for want of memory, in `merged_changes` and `merge_page`.
+//! Knows nothing of: where an image is kept, twins, transactions.
 //! Stands on: sd_base, sd_page, sd_logrec, sd_log, sd_chain.
-//! Held by the caller: a record that is redone is of the page and fits it; the records of a chain change a page (`pages`),
-//! and those of `replay` fit one after another (`joins`).
+//! Held by the caller: each record is one of the grammar (`spelled`); one that is redone is of the page and fits it; the records of
+//! a chain change a page (`pages`), and those of `replay` fit one after another (`joins`).
 //!
 //! To change:
 //! - free: bodies, private helpers
-//! - dear: the clauses of `fits`, `redo` and both replays
+//! - dear: `Change`, `IsMerged`, the clauses of `merged_changes`, `merge_page`, `fits`, `redo` and both replays
 //! - frozen: nothing
 #![tactic(auto)]
 

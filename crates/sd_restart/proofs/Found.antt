@@ -1,4 +1,4 @@
--- What is made of what was read are the parts of a complex that opens: for the goals of sd_restart.
+-- What is made of what was read are the parts of a complex that opens: for the goals of restarting.rt.
 use Rattle.std.proofs.Common.{◌≡◌, ◌⊎◌, inl, inr, ⊎_elim, ℕ, zero, suc, ◌^◌, ◌<◌, ◌≤◌, Bool, true, false, cond, ◌&&◌, ◌||◌, List, [], ◌∷◌, length, map, get_or, Option, None, Some, refl, sym, ap, ap₂, ◌∙◌, subst, arith, w64}
 use Rattle.std.specs.Prelude.{Contains, IfSome, is_some, slice_get, sum_by, unwrap_or}
 use Rattle.std.specs.List.{list_any}

@@ -33,7 +33,7 @@ pub fn settle_devices<G: Rig>(rig: &mut G) -> Result<(), Failed>
     Ok(())
 }
 
-// Syncs a device.
+// Syncs a device. A goal of its own.
 fn settle<G: Rig>(rig: &mut G, dev: u8) -> Result<(), Failed>
     requires { dev ≤ 8 }
     ensures calms { Calms (G.seen rig.old) (G.seen rig.new) (G.leaves rig.old) (G.leaves rig.new)
@@ -139,7 +139,7 @@ fn read_next<G: Rig>(
     logs.next(alloc, bytes)
 }
 
-// The bytes of a device.
+// The bytes of a device. A goal of its own.
 fn read_device<G: Rig>(rig: &mut G, dev: u8, bytes: &mut [u8]) -> Result<(), Failed>
     requires device { dev ≤ 8 }
     requires size { length bytes.old ≡ device_len dev }

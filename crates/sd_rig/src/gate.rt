@@ -35,6 +35,7 @@ fn write_synced<G: Rig>(rig: &mut G, dev: u8, at: u32, bytes: &[u8]) -> Result<(
     ensures others_leave { (d : ℕ) → d ≢ dev → LeavesSame (G.leaves rig.old d) (G.leaves rig.new d) }
     ensures time { Elapses (G.moment rig.old) (G.moment rig.new) (G.since rig.old) (G.since rig.new) }
     ensures tick { OnOk result (G.moment rig.new ≡ G.moment rig.old + 2) }
+    ensures most { G.moment rig.new ≤ G.moment rig.old + 2 }
     ensures cause { OnErr result (Rises (G.faults rig.old) (G.faults rig.new)) }
     ensures quiet { OnOk result (G.faults rig.new ≡ G.faults rig.old) }
     ensures count { G.faults rig.old ≤ G.faults rig.new }
@@ -58,6 +59,7 @@ pub fn close<G: Rig>(rig: &mut G, dev: u8, gate: u32) -> Result<(), Failed>
     ensures others_leave { (d : ℕ) → d ≢ dev → LeavesSame (G.leaves rig.old d) (G.leaves rig.new d) }
     ensures time { Elapses (G.moment rig.old) (G.moment rig.new) (G.since rig.old) (G.since rig.new) }
     ensures tick { OnOk result (G.moment rig.new ≡ G.moment rig.old + 2) }
+    ensures most { G.moment rig.new ≤ G.moment rig.old + 2 }
     ensures cause { OnErr result (Rises (G.faults rig.old) (G.faults rig.new)) }
     ensures quiet { OnOk result (G.faults rig.new ≡ G.faults rig.old) }
     ensures count { G.faults rig.old ≤ G.faults rig.new }
@@ -82,6 +84,7 @@ pub fn fill<G: Rig>(rig: &mut G, dev: u8, gate: u32, body: &[u8]) -> Result<(), 
     ensures others_leave { (d : ℕ) → d ≢ dev → LeavesSame (G.leaves rig.old d) (G.leaves rig.new d) }
     ensures time { Elapses (G.moment rig.old) (G.moment rig.new) (G.since rig.old) (G.since rig.new) }
     ensures tick { OnOk result (G.moment rig.new ≡ G.moment rig.old + 4) }
+    ensures most { G.moment rig.new ≤ G.moment rig.old + 4 }
     ensures cause { OnErr result (Rises (G.faults rig.old) (G.faults rig.new)) }
     ensures quiet { OnOk result (G.faults rig.new ≡ G.faults rig.old) }
     ensures count { G.faults rig.old ≤ G.faults rig.new }

@@ -190,6 +190,7 @@ impl Rig for MemRig {
         ensures armed { armed self.new ≡ after_call (armed self.old) }
         ensures faults { fault_count self.new ≡ (if is_ok result then fault_count self.old else raised (fault_count self.old)) }
         ensures tick { OnOk result (length (done self.new) ≡ length (done self.old) + 1) }
+        ensures most { length (done self.new) ≤ length (done self.old) + 1 }
         ensures cause { OnErr result (Rises (fault_count self.old) (fault_count self.new)) }
         ensures quiet { OnOk result (fault_count self.new ≡ fault_count self.old) }
         ensures count { fault_count self.old ≤ fault_count self.new }
@@ -221,6 +222,7 @@ impl Rig for MemRig {
         ensures armed { armed self.new ≡ after_call (armed self.old) }
         ensures faults { fault_count self.new ≡ (if is_ok result then fault_count self.old else raised (fault_count self.old)) }
         ensures tick { OnOk result (length (done self.new) ≡ length (done self.old) + 1) }
+        ensures most { length (done self.new) ≤ length (done self.old) + 1 }
         ensures cause { OnErr result (Rises (fault_count self.old) (fault_count self.new)) }
         ensures quiet { OnOk result (fault_count self.new ≡ fault_count self.old) }
         ensures count { fault_count self.old ≤ fault_count self.new }

@@ -27,6 +27,7 @@ fn make_closed<G: Rig>(rig: &mut G, dev: u8, gate: u32, is_open: bool) -> Result
     ensures others_leave { (d : ℕ) → d ≢ dev → LeavesSame (G.leaves rig.old d) (G.leaves rig.new d) }
     ensures time { Elapses (G.moment rig.old) (G.moment rig.new) (G.since rig.old) (G.since rig.new) }
     ensures tick { OnOk result (G.moment rig.new ≡ G.moment rig.old + (if is_open then 2 else 0)) }
+    ensures most { G.moment rig.new ≤ G.moment rig.old + 2 }
     ensures cause { OnErr result (Rises (G.faults rig.old) (G.faults rig.new)) }
     ensures quiet { OnOk result (G.faults rig.new ≡ G.faults rig.old) }
     ensures count { G.faults rig.old ≤ G.faults rig.new }
@@ -79,6 +80,7 @@ pub fn put<G: Rig>(rig: &mut G, t: Twin, old: Chosen, body: &[u8]) -> Result<(),
     ensures time { Elapses (G.moment rig.old) (G.moment rig.new) (G.since rig.old) (G.since rig.new) }
 
     ensures tick { OnOk result (G.moment rig.new ≡ G.moment rig.old + (if filled_open (slot old) then 6 else 4)) }
+    ensures most { G.moment rig.new ≤ G.moment rig.old + 6 }
     ensures cause { OnErr result (Rises (G.faults rig.old) (G.faults rig.new)) }
     ensures quiet { OnOk result (G.faults rig.new ≡ G.faults rig.old) }
     ensures count { G.faults rig.old ≤ G.faults rig.new }

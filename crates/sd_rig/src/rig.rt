@@ -63,6 +63,7 @@ pub trait Rig {
         ensures time { Elapses (moment self.old) (moment self.new) (since self.old) (since self.new) }
         ensures step { IsOneStep (moment self.old) (since self.new) (leaves self.old) (leaves self.new) }
         ensures tick { OnOk result (moment self.new ≡ moment self.old + 1) }
+        ensures most { moment self.new ≤ moment self.old + 1 }
         ensures cause { OnErr result (Rises (faults self.old) (faults self.new)) }
         ensures quiet { OnOk result (faults self.new ≡ faults self.old) }
         ensures count { faults self.old ≤ faults self.new };
@@ -77,6 +78,7 @@ pub trait Rig {
         ensures time { Elapses (moment self.old) (moment self.new) (since self.old) (since self.new) }
         ensures step { IsOneStep (moment self.old) (since self.new) (leaves self.old) (leaves self.new) }
         ensures tick { OnOk result (moment self.new ≡ moment self.old + 1) }
+        ensures most { moment self.new ≤ moment self.old + 1 }
         ensures cause { OnErr result (Rises (faults self.old) (faults self.new)) }
         ensures quiet { OnOk result (faults self.new ≡ faults self.old) }
         ensures count { faults self.old ≤ faults self.new };

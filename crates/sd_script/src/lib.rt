@@ -1,18 +1,20 @@
-//! The reader of scripts: a text becomes lines, or the first bad line is told.
+//! Scripts: a text becomes lines, each of the form that its words spell, or the first bad line is told.
 //!
-//! Meaning: a `Script` is a list of lines; `IsScript` and `IsBadAt` (`specs/Reading.antt`) say which text is which.
-//! Keeps: nothing behind a call.
-//! Promises: `Script::read` reads each script and nothing else (`found`, `exact`); it names the first bad line
-//! (`bad`, `exact_bad`); a text has one reading (`one_reading`, `no_bad_script`, `one_bad_line`).
-//! A line of a transaction tells it by the ordinal of its begin line (`Follows`).
+//! Meaning: a `Form` is what a line asks for; `form_words` and `IsForm` (`specs/Forms.antt`) say by which words, and what its parts
+//! may be. A `Script` is a list of lines; `IsScript` and `IsBadAt` (`specs/Reading.antt`) say which text is which.
+//! Keeps: in `Names` the ordinal of each name that was begun (`known`); nothing behind a call.
+//! Promises: `Script::read` reads each script and nothing else (`found`, `exact`); it names the first bad line (`bad`,
+//! `exact_bad`); a text has one reading (`one_reading`, `no_bad_script`, `one_bad_line`). Words are read as the form that they
+//! spell and no other, and as none only where they spell none; no two forms have the same words (`proofs/OneForm.antt`). A line of
+//! a transaction tells it by the ordinal of its begin line (`Follows`).
 //! Refuses: `BadLine` with the cause `Word`, and `Memory`.
-//! Knows nothing of: how a form is spelled, what a line does, replies, devices.
-//! Stands on: sd_base, sd_forms.
+//! Knows nothing of: what a line does, replies, devices.
+//! Stands on: sd_base.
 //!
 //! To change:
-//! - free: bodies, the reader inside (`reader.rt`)
-//! - dear: the clauses of `Script::read`, `IsScript`
-//! - frozen: which lines may follow which (`specs/Order.antt`)
+//! - free: bodies, the reader inside (`reader.rt`), how names are kept (`names.rt`)
+//! - dear: the clauses of `Script::read`, `IsScript`, `IsFormOf`, `IsForm`
+//! - frozen: the words of the forms (`specs/Forms.antt`), which lines may follow which (`specs/Order.antt`)
 #![tactic(auto)]
 
 mod form;

@@ -38,7 +38,7 @@ use Rattle.sd_state.specs.Values.{Pending}
 use Rattle.sd_state.specs.Forcing.{ForcesNow, IsHalfForced, owed_either, with_failed}
 use Rattle.sd_state.specs.Good.{IsUnderWay, Good, Half, IsSettledAt, OwesAtMost, base_of, dir_of}
 use Rattle.sd_state.specs.Images.{IsEpochOf, leaves_by, log_by}
-use Rattle.sd_state.specs.Parts.{Parts, acting, actor, count_at, is_loose, log_at, other_at, owed_at, status_at, up_as}
+use Rattle.sd_state.specs.Parts.{Parts, acting, actor, count_at, is_loose, log_at, other_at, owed_at, status_at, up_as, low_of}
 use Rattle.sd_base.specs.Standing.{active_as}
 use Rattle.sd_state.proofs.Items.{item-kept, item-set}
 use Rattle.sd_state.proofs.Owed.{owed-forced}
@@ -138,7 +138,7 @@ module _ (i : ℕ) (seen seen' : rig.DeviceImages) (leaves leaves' : Outcomes) (
     held = h.held;
     epochs = epochs;
     checks = λ k b is. let old = h.checks k b is in (
-      cover-stays (may_of leaves) (may_of leaves') b.low k old_base (base_of seen' leaves' logs new) refl may_less old.0,
+      cover-stays (may_of leaves) (may_of leaves') (low_of b) k old_base (base_of seen' leaves' logs new) refl may_less old.0,
       old.1,
     );
   }
@@ -275,7 +275,7 @@ module _ (i : ℕ) (seen seen' : rig.DeviceImages) (leaves leaves' : Outcomes) (
     locks = g.locks;
     gone = g.gone;
     asks = g.asks;
-    checking = λ k b is. let old = g.checking k b is in record { takes = old.takes; low = old.low; begun = old.begun };
+    checking = λ k b is. let old = g.checking k b is in record { takes = old.takes; spelled = old.spelled; begun = old.begun };
   }
     where
       pending-there : (q : Pending) → IsUnderWay c m q → IsUnderWay failed_parts m q

@@ -56,7 +56,7 @@ use Rattle.sd_txn.specs.declared.state.TxnState.{TxnState}
 use Rattle.sd_txn.specs.Transactions.{Transaction, txn_at}
 use Rattle.sd_model.specs.declared.act.Life.{Life}
 use Rattle.sd_model.specs.declared.act.Claim.{Claim}
-use Rattle.sd_state.specs.Parts.{Begun, Parts, among, count_at, is_loose, log_at, no_log, no_pool, other_at, owed_at, txns_at, up_as, epoch_at}
+use Rattle.sd_state.specs.Parts.{Begun, Parts, among, count_at, is_loose, log_at, no_log, no_pool, other_at, owed_at, txns_at, up_as, epoch_at, low_of}
 use Rattle.sd_base.specs.Standing.{active_as}
 use Rattle.sd_state.proofs.Items.{item-kept, item-set}
 use Rattle.sd_state.proofs.Standing.{no-place, one-place}
@@ -213,8 +213,8 @@ module _ (i : ℕ) (seen seen' : rig.DeviceImages) (leaves leaves' : Outcomes) (
     epochs = epochs;
     checks = λ k b is.
         let old = h.checks k b (ap (λ (l : List (Option Begun)). among {A = Option Begun} None l k) (sym checks) ∙ is) in (
-          cover-settles (may_of leaves) (may_of leaves') b.low k i true old_base (base_of seen' leaves' logs' c') settles may_less old.0,
-          close-settles b.low k i true (tails_of logs) (tails_of logs') settles (λ e. refl) old.1,
+          cover-settles (may_of leaves) (may_of leaves') (low_of b) k i true old_base (base_of seen' leaves' logs' c') settles may_less old.0,
+          close-settles (low_of b) k i true (tails_of logs) (tails_of logs') settles (λ e. refl) old.1,
         );
   }
 
@@ -511,7 +511,7 @@ module _ (i : ℕ) (seen seen' : rig.DeviceImages) (leaves leaves' : Outcomes) (
     asks = g.asks;
     checking = λ k b is. let old = g.checking k b is in record {
       takes = old.takes;
-      low = old.low;
+      spelled = old.spelled;
       begun = subst (λ (n : ℕ). b.begin ≤ n) (sym (last-same k)) old.begun;
     };
   }

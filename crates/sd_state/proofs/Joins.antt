@@ -364,7 +364,7 @@ module _ (i : ℕ) (seen : rig.DeviceImages) (leaves : Outcomes) (c : Parts) (m 
         record {
           takes = ⊎_elim (λ e. inl (ap (status_at new) e ∙ status-here))
               (λ ne. ⊎_elim (λ up. inl (status-else k ne ∙ up)) (λ re. inr (status-else k ne ∙ re)) old.takes) (cases_eq k i);
-          low = old.low;
+          spelled = old.spelled;
           begun = old.begun;
         };
   }

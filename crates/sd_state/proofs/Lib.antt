@@ -6,6 +6,7 @@ pub mod Items
 pub mod Answered
 pub mod Lasts
 pub mod Begun
+pub mod Lows
 pub mod Standing
 pub mod Forced
 pub mod Masters

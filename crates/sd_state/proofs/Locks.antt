@@ -164,7 +164,7 @@ module _ (p i : ℕ) (to : PageEntry) (rec : Option ℕ) (pool : Buffers) (place
     locks = g.locks;
     gone = g.gone;
     asks = asks-there;
-    checking = λ k b is. let old = g.checking k b is in record { takes = old.takes; low = old.low; begun = old.begun };
+    checking = λ k b is. let old = g.checking k b is in record { takes = old.takes; spelled = old.spelled; begun = old.begun };
   }
     where
       underway : (u : Pending) → IsUnderWay c m u → IsUnderWay new m u

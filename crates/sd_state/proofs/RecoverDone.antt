@@ -1,4 +1,4 @@
--- The rows of which nothing is left to do, and what the serial table makes of them as a recovery ends: for `recovered`.
+-- The rows of which nothing is left to do, and what the serial table makes of them as a recovery ends: for `end_recovery`.
 use Rattle.std.proofs.Common.{◌≡◌, ◌≢◌, ◌⊎◌, inl, inr, ⊎_elim, ℕ, ◌+◌, Bool, true, false, cond, List, [], ◌∷◌, ◌++◌, ◌&&◌, length, map, refl, sym, ap, ap₂, ◌∙◌, arith}
 use Rattle.std.specs.Prelude.{Option, None, Some, filter, is_some, sum_by, if◌then◌else◌}
 use Rattle.std.specs.List.{AllByRecursion, IsDistinct}

@@ -281,7 +281,7 @@ module _ (i by : ℕ) (seen : rig.DeviceImages) (leaves : Outcomes) (c : Parts) 
               (λ up. inl (status-else k (λ e. let clash = sym down ∙ ap (status_at c) (sym e) ∙ up in absurd (cc)) ∙ up))
               (λ re. inr (status-else k (λ e. let clash = sym down ∙ ap (status_at c) (sym e) ∙ re in absurd (cc)) ∙ re))
               old.takes;
-          low = old.low;
+          spelled = old.spelled;
           begun = old.begun;
         };
   }

@@ -328,5 +328,5 @@ module _ (t : TxnId) (txns : List Transactions) (locks : LockTable) (seen : rig.
         (cases_txn u t);
     locks = locks-there;
     asks = g.asks;
-    checking = λ k b is. let old = g.checking k b is in record { takes = old.takes; low = old.low; begun = old.begun };
+    checking = λ k b is. let old = g.checking k b is in record { takes = old.takes; spelled = old.spelled; begun = old.begun };
   }

@@ -10,7 +10,7 @@ use Rattle.sd_state.specs.declared.complex.Due.{Due}
 use Rattle.sd_state.specs.Parts.{Begun, Parts}
 
 abbrev pub begun_of : Checkpoint → Begun
-begun_of k = record { begin = k.begin; low = k.low }
+begun_of k = record { begin = k.begin; spans = k.spans; recs = k.recs }
 
 abbrev pub due_of : Due → ℕ × ℕ
 due_of due = (due.inst, due.log)

@@ -42,9 +42,10 @@ use Rattle.sd_chain.specs.World.{Base, Dir}
 use Rattle.sd_chain.specs.Logs.{Logs, Outcomes, all_at, base_at, kept_logs, may_of, past_at, tails_of}
 use Rattle.sd_chain.specs.Soundly.{IsSoundly}
 use Rattle.sd_state.specs.Images.{IsClaimed, IsEpochOf, IsOpenIn, leaves_by, log_by}
-use Rattle.sd_state.specs.Parts.{Begun, IsShape, Parts, check_at, count_at, epoch_at, is_active, is_loose, is_up, log_at, other_at, owed_at, pool_at, status_at, txns_at}
+use Rattle.sd_state.specs.Parts.{Begun, IsShape, Parts, check_at, count_at, epoch_at, is_active, is_loose, is_up, log_at, other_at, owed_at, pool_at, status_at, txns_at, low_of}
 use Rattle.sd_state.specs.Tables.{GoesOn, NamedOnce, NamesLife, RowIsLive, RowIsLogged, lock_of, tells_log}
 use Rattle.sd_state.specs.Values.{Pending, is_committed, rid_of, values}
+use Rattle.sd_logrec.specs.Spelling.{AreRecs, AreSpans}
 
 -- ---- the complex as coherence sees it
 
@@ -84,7 +85,7 @@ pub record Half (seen : rig.DeviceImages) (leaves : Outcomes) (logs : Logs) (pen
   pub epochs : (j : ℕ) → 1 ≤ j → j ≤ 8 → (bytes : List ℕ) → leaves j bytes
       → IsEpochOf m pend j (past_at (master bytes) (logs j)).epoch × IsEpochOf m pend j (past_at (master bytes) (forced (logs j))).epoch
   pub checks : (i : ℕ) (k : Begun) → check_at c i ≡ Some k
-      → Covered k.low i (base_of seen leaves logs c) × Closed k.low i (tails_of logs)
+      → Covered (low_of k) i (base_of seen leaves logs c) × Closed (low_of k) i (tails_of logs)
 
 -- ---- devices in memory
 
@@ -162,10 +163,10 @@ IsUnderWay c m (Pending.Starts i) = IsStarting c m i
 abbrev pub TakesCheck : Status → Type 0
 TakesCheck s = (s ≡ S.Up) ⊎ (s ≡ S.Restarting)
 
--- A checkpoint that is begun: its instance takes it, its low isn't above its begin, and that was put into the log.
+-- A checkpoint that is begun: its instance takes it, its tables have a spelling, and its begin was put into the log.
 pub record IsChecking (c : Parts) (i : ℕ) (k : Begun) : Type 0 where
   pub takes : TakesCheck (status_at c i)
-  pub low : k.low ≤ k.begin
+  pub spelled : AreSpans k.spans × AreRecs k.recs
   pub begun : k.begin ≤ last_lsn (scanned (log_at c i))
 
 -- The log owes so many records at most, with its tail and without.

@@ -1,8 +1,10 @@
 -- What clauses read of a complex: its parts, those of the instances by their numbers.
-use Rattle.std.specs.Prelude.{ℕ, zero, suc, ◌≤◌, Bool, true, false, List, [], Option, None, get_or, eqb, length, ◌≡◌}
+use Rattle.std.specs.Prelude.{ℕ, zero, suc, ◌≤◌, Bool, true, false, List, [], Option, None, get_or, eqb, length, ◌≡◌, ◌∷◌, ◌++◌, map, min}
+use Rattle.sd_base.specs.Standing.{active_as}
 use Rattle.sd_base.specs.declared.place.Status.{Status}
 use Rattle.sd_base.specs.declared.place.Status.TheVariants as S
 use Rattle.sd_log.specs.Logs.{LogState}
+use Rattle.sd_logrec.specs.Spelling.{Changed, Span}
 use Rattle.sd_page.specs.Page.{Page}
 use Rattle.sd_pagelock.specs.Directory.{DirectoryState}
 use Rattle.sd_pool.specs.Buffers.{Buffers}
@@ -10,10 +12,20 @@ use Rattle.sd_reclock.specs.Locks.{LockTable}
 use Rattle.sd_chain.specs.Logs.{Logs}
 use Rattle.sd_txn.specs.Transactions.{Transactions}
 
--- a checkpoint that is begun: the LSN of its begin, and the low below which its log isn't needed once it ends
+-- a checkpoint that is begun: the LSN of its begin, and its tables: who was there with the span of its records, and the RecLSNs of pages
 pub record Begun : Type 0 where
   pub begin : ℕ
-  pub low : ℕ
+  pub spans : List Span
+  pub recs : List Changed
+
+-- the least of n and these
+abbrev pub least_of : ℕ → List ℕ → ℕ
+least_of n [] = n
+least_of n (x ∷ xs) = min x (least_of n xs)
+
+-- The low below which its log isn't needed once it ends: the least of its begin, of the first LSNs of its transactions, and of its RecLSNs.
+unfoldable pub low_of : Begun → ℕ
+low_of k = least_of k.begin (map (λ s. s.1) k.spans ++ map (λ r. r.1) k.recs)
 
 pub record Parts : Type 0 where
   -- of instances 1 to 8, that of instance 1 first

@@ -9,12 +9,11 @@ use sd_pool::Pool;
 use sd_reclock::RecordLocks;
 use sd_txn::TxnTable;
 
-/// A checkpoint that an instance has begun: the LSN of its begin, the low below which the log isn't needed once it ends, and
-/// the tables of its begin (ARIES, section 5.4).
+/// A checkpoint that an instance has begun: the LSN of its begin, and the tables of its begin, of transactions and of RecLSNs
+/// (ARIES, section 5.4). The log before the least LSN of these isn't needed once it ends.
 #[derive(Drop)]
 pub struct Checkpoint {
     pub begin: Lsn,
-    pub low: Lsn,
     pub spans: Spans,
     pub recs: Recs,
 }

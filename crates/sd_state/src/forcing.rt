@@ -1,6 +1,6 @@
 //! The force of a log.
 
-ghost use Rattle.std.specs.Prelude.{◌≡◌, ◌≢◌, ◌≤◌, ℕ, List, None, true, false, Ok, OnErr, OnOk};
+ghost use Rattle.std.specs.Prelude.{◌≡◌, ◌≢◌, ◌≤◌, ℕ, ◌+◌, List, [], None, true, false, Ok, OnErr, OnOk};
 ghost use Rattle.sd_base.specs.Streams.{Rises};
 ghost use Rattle.sd_log.specs.Logs.{forced};
 ghost use Rattle.sd_model.specs.State.{State};
@@ -37,6 +37,9 @@ impl<G: Rig> Complex<G> {
         ensures loose { is_loose (parts self.old) i ≡ true → (parts self.new ≡ parts self.old) × (self.new.rig ≡ self.old.rig) × (result ≡ Ok tt) }
         ensures forced { is_loose (parts self.old) i ≡ false → OnOk result
             (parts self.new ≡ with_forced i (forced (log_at (parts self.old) i)) (owed_at (parts self.new) i) (parts self.old)) }
+        ensures idle { (log_at (parts self.old) i).tail ≡ [] → (result ≡ Ok tt) × (self.new.rig ≡ self.old.rig) }
+        ensures tick { is_loose (parts self.old) i ≡ false → (log_at (parts self.old) i).tail ≢ []
+            → OnOk result (G.moment self.new.rig ≡ G.moment self.old.rig + 4) }
         ensures failed { OnErr result (parts self.new ≡ with_failed (actor (parts self.old) i) i (parts self.old)) }
 
         ensures cause { OnErr result (Rises (G.faults self.old.rig) (G.faults self.new.rig)) }
@@ -67,6 +70,8 @@ impl<G: Rig> Complex<G> {
 
         ensures forced { OnOk result
             (parts self.new ≡ with_settled i (forced (log_at (parts self.old) i)) (owed_at (parts self.new) i) (parts self.old)) }
+        ensures idle { (log_at (parts self.old) i).tail ≡ [] → (result ≡ Ok tt) × (self.new.rig ≡ self.old.rig) }
+        ensures tick { (log_at (parts self.old) i).tail ≢ [] → OnOk result (G.moment self.new.rig ≡ G.moment self.old.rig + 4) }
         ensures failed { OnErr result (parts self.new ≡ with_failed (actor (parts self.old) i) i (parts self.old)) }
 
         ensures cause { OnErr result (Rises (G.faults self.old.rig) (G.faults self.new.rig)) }

@@ -1,7 +1,6 @@
 //! Runs of what reads devices: what no clause of its crates shows.
 //!
-//! Stands on: sd_base, sd_model, sd_page, sd_logrec, sd_rig, sd_log, sd_txn, sd_chain, sd_merge, sd_redo, sd_scan, sd_analysis,
-//! sd_relist, sd_recovered.
+//! Stands on: sd_base, sd_model, sd_page, sd_logrec, sd_rig, sd_log, sd_txn, sd_chain, sd_redo, sd_recovered.
 #![tactic(auto)]
 
 #[cfg(test)]

@@ -1,6 +1,6 @@
 //! Runs of scripts and of the programs that judge runs: what no clause of their crates shows.
 //!
-//! Stands on: sd_base, sd_model, sd_book, sd_script, sd_report, sd_oracle, sd_judge.
+//! Stands on: sd_base, sd_model, sd_script, sd_report, sd_oracle.
 #![tactic(auto)]
 
 #[cfg(test)]

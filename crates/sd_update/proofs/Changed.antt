@@ -69,7 +69,7 @@ use Rattle.sd_chain.proofs.Reserved.{tested-keeps}
 use Rattle.sd_update.specs.Changing.{Change, ChangeKeepsGood, HasRoom, IsChanged, MayAppend, MayWrite, changed_log, changed_row, flat_of, putting, update, with_changed}
 use Rattle.sd_state.specs.Good.{Good, Half, IsChecking, IsInstance, IsOfBegun, IsSettledAt, IsTold, OwesAtMost, RowsAreLive, base_of, dir_of}
 use Rattle.sd_state.specs.Images.{IsClaimed, IsEpochOf, IsOpenIn, begun_at, leaves_by, log_by}
-use Rattle.sd_state.specs.Parts.{Begun, Parts, check_at, is_active, is_loose, log_at, no_log, no_pool, no_txns, other_at, owed_at, pool_at, status_at, txns_at, up_as}
+use Rattle.sd_state.specs.Parts.{Begun, Parts, check_at, is_active, is_loose, log_at, no_log, no_pool, no_txns, other_at, owed_at, pool_at, status_at, txns_at, up_as, low_of}
 use Rattle.sd_state.specs.Sums.{owed_in_all, owes_most}
 use Rattle.sd_state.specs.Tables.{GoesOn, IsLive, IsLogged, NamedOnce, NamesLife, RowIsLive, RowIsLogged, StandsAs, goes_on_as, lock_of, tells_log}
 use Rattle.sd_state.specs.Values.{Pending, as_done, is_doubt, rid_of, values}
@@ -81,6 +81,7 @@ use Rattle.sd_state.proofs.Lasts.{last-grows, last-more}
 use Rattle.sd_state.proofs.Owing.{most-in-all, owes-at-most, settled-owes}
 use Rattle.sd_state.proofs.Begun.{began-there, begun-more}
 use Rattle.sd_state.proofs.Standing.{no-place, one-place, bases-by, known-still, others-still}
+use Rattle.sd_state.proofs.Lows.{low-begin}
 
 -- ---- what a crash may leave, with logs that begin somewhere: outcomes and logs stand for any that have the record
 
@@ -213,8 +214,8 @@ module _ (i : ℕ) (k : Change) (x : Transaction) (image : Page) (spare great : 
   rises = let e = a.lsn in omega (arith, e)
 
   -- a begun checkpoint's low is below the record
-  begun-low : (b : Begun) → check_at c i ≡ Some b → b.low ≤ k.lsn
-  begun-low b is = let ck = g.checking i b is in let low = ck.low in let begin = ck.begun in let lsn = a.lsn in
+  begun-low : (b : Begun) → check_at c i ≡ Some b → (low_of b) ≤ k.lsn
+  begun-low b is = let ck = g.checking i b is in let low = low-begin b in let begin = ck.begun in let lsn = a.lsn in
       omega (arith, low, begin, lsn)
 
   -- ---- wherever logs begin
@@ -491,20 +492,20 @@ module _ (i : ℕ) (k : Change) (x : Transaction) (image : Page) (spare great : 
             (λ e. ap (λ (n : ℕ). f (new_logs n)) e ∙ ap f here ∙ own ∙ ap (λ (n : ℕ). f (old_logs n)) (sym e))
             (λ ne. ap f (elsewhere j ne)) (cases_eq j i)
 
-    checks : (q : ℕ) (b : Begun) → check_at c q ≡ Some b → Covered b.low q new_base × Closed b.low q (tails_of new_logs)
+    checks : (q : ℕ) (b : Begun) → check_at c q ≡ Some b → Covered (low_of b) q new_base × Closed (low_of b) q (tails_of new_logs)
     checks q b is = let old = h.checks q b is in ⊎_elim
         (λ e.
         let le = begun-low b (ap (check_at c) (sym e) ∙ is) in
-        let was : Covered b.low i old_base × Closed b.low i (tails_of old_logs) =
-        subst (λ (n : ℕ). Covered b.low n old_base × Closed b.low n (tails_of old_logs)) e old in
-        let both : Covered b.low i new_base × Closed b.low i (tails_of new_logs) = (
-          cover-grows (may_of left) (may_of left) b.low i y old_base new_base grows (λ p z may. may) le was.0,
-          close-grows b.low i y (tails_of old_logs) (tails_of new_logs) grows le was.1,
+        let was : Covered (low_of b) i old_base × Closed (low_of b) i (tails_of old_logs) =
+        subst (λ (n : ℕ). Covered (low_of b) n old_base × Closed (low_of b) n (tails_of old_logs)) e old in
+        let both : Covered (low_of b) i new_base × Closed (low_of b) i (tails_of new_logs) = (
+          cover-grows (may_of left) (may_of left) (low_of b) i y old_base new_base grows (λ p z may. may) le was.0,
+          close-grows (low_of b) i y (tails_of old_logs) (tails_of new_logs) grows le was.1,
         ) in
-        subst (λ (n : ℕ). Covered b.low n new_base × Closed b.low n (tails_of new_logs)) (sym e) both)
+        subst (λ (n : ℕ). Covered (low_of b) n new_base × Closed (low_of b) n (tails_of new_logs)) (sym e) both)
         (λ ne. (
-          cover-stays (may_of left) (may_of left) b.low q old_base new_base (ap all_at (elsewhere q ne)) (λ p z may. may) old.0,
-          close-stays b.low q (tails_of old_logs) (tails_of new_logs) (ap base_at (elsewhere q ne)) (ap tail_at
+          cover-stays (may_of left) (may_of left) (low_of b) q old_base new_base (ap all_at (elsewhere q ne)) (λ p z may. may) old.0,
+          close-stays (low_of b) q (tails_of old_logs) (tails_of new_logs) (ap base_at (elsewhere q ne)) (ap tail_at
               (elsewhere q ne)) old.1,
         ))
         (cases_eq q i)
@@ -733,7 +734,7 @@ module _ (i : ℕ) (k : Change) (x : Transaction) (image : Page) (spare great : 
   checking-there : (q : ℕ) (b : Begun) → check_at c q ≡ Some b → IsChecking new q b
   checking-there q b is = let old = g.checking q b is in record {
     takes = old.takes;
-    low = old.low;
+    spelled = old.spelled;
     begun = ⊎_elim
         (λ e. let own = subst (λ (n : ℕ). b.begin ≤ last_lsn (scanned (log_at c n))) e old.begun in
         let last = last-more (log_at c i) (update k) spare in let lsn = a.lsn in

@@ -1,4 +1,4 @@
--- A transaction in doubt that is decided: what held of the complex holds of it then. For `decided`.
+-- A transaction in doubt that is decided: what held of the complex holds of it then. For `decide`.
 use Rattle.std.proofs.Common.{◌≡◌, ◌≢◌, inl, inr, ⊎_elim, ℕ, ◌+◌, ◌-◌, ◌≤◌, Bool, true, false, List, [], ◌++◌, map, refl, sym, ap, ◌∙◌, subst, arith, append-nil}
 use Rattle.std.specs.Prelude.{Option, None, Some, option_map}
 use Rattle.std.specs.List.{IsDistinct, list_any}
@@ -237,5 +237,5 @@ module _ (t : TxnId) (x : Transaction) (committed : Bool) (table : Transactions)
     locks = g.locks;
     gone = g.gone;
     asks = g.asks;
-    checking = λ k b is. let old = g.checking k b is in record { takes = old.takes; low = old.low; begun = old.begun };
+    checking = λ k b is. let old = g.checking k b is in record { takes = old.takes; spelled = old.spelled; begun = old.begun };
   }

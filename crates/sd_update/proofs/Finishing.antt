@@ -1,4 +1,4 @@
--- A recovery that ends: what held of the complex holds of it then, with the state that the serial table has. For `recovered`.
+-- A recovery that ends: what held of the complex holds of it then, with the state that the serial table has. For `end_recovery`.
 use Rattle.std.proofs.Common.{◌≡◌, ◌≢◌, ◌⊎◌, inl, inr, ⊎_elim, ℕ, ◌-◌, ◌≤◌, Bool, true, false, cond, eqb, List, [], ◌++◌, length, map, refl, sym, ap, ap₂, ◌∙◌, subst, arith, append-nil, eq-eqb, ne_eqb}
 use Rattle.std.specs.Prelude.{Option, None, Some, is_some, option_map}
 use Rattle.std.specs.List.{IsDistinct, list_any}
@@ -505,7 +505,7 @@ module _ (i : ℕ) (locks : LockTable) (seen : rig.DeviceImages) (leaves : Outco
               (λ up. inl (status-else k (λ e. let clash = sym may.recovering ∙ ap (status_at c) (sym e) ∙ up in absurd (cc)) ∙ up))
               (λ re. inr (status-else k (λ e. let clash = sym may.recovering ∙ ap (status_at c) (sym e) ∙ re in absurd (cc)) ∙ re))
               old.takes;
-          low = old.low;
+          spelled = old.spelled;
           begun = old.begun;
         };
   }

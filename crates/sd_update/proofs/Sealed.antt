@@ -40,7 +40,7 @@ use Rattle.sd_chain.specs.Soundly.{IsSoundly}
 use Rattle.sd_chain.proofs.Appends.{appended-log, kept-elsewhere, kept-old, kept-with, kept-without}
 use Rattle.sd_state.specs.Good.{Half, base_of, dir_of}
 use Rattle.sd_state.specs.Images.{IsClaimed, IsEpochOf, IsOpenIn}
-use Rattle.sd_state.specs.Parts.{Begun, Parts, check_at}
+use Rattle.sd_state.specs.Parts.{Begun, Parts, check_at, low_of}
 use Rattle.sd_update.specs.Sealing.{with_ended}
 use Rattle.sd_state.specs.Values.{Pending, as_done, is_committed, rid_of, undecided, values}
 use Rattle.sd_model.specs.Acts.{after}
@@ -107,7 +107,7 @@ module _ (i : ℕ) (y : Record) (seen : rig.DeviceImages) (leaves : Outcomes) (l
     (reads : leaves 0 (seen 0))
     (no_page : changes (flat y).kind ≡ false) (own : speaks (flat y).kind ≡ true → home (flat y).txn ≡ i)
     (follows : speaks (flat y).kind ≡ true → MayFollow (all_at (logs i)) (flat y)) (numbered : 0 < lsn_of y)
-    (above : (k : Begun) → check_at c i ≡ Some k → k.low ≤ lsn_of y) where
+    (above : (k : Begun) → check_at c i ≡ Some k → (low_of k) ≤ lsn_of y) where
   abbrev new : Parts
   new = with_came i l table epochs c
 
@@ -261,18 +261,18 @@ module _ (i : ℕ) (y : Record) (seen : rig.DeviceImages) (leaves : Outcomes) (l
         (later j (past_at (master bytes) (logs j)).epoch old.0, later j (past_at (master bytes) (forced (logs j))).epoch old.1))
         (cases_eq j i);
     checks = λ k b is. let old = h.checks k b is in ⊎_elim
-        (λ e. subst (λ (j : ℕ). Covered b.low j (base_of seen leaves logs' new) × Closed b.low j (tails_of logs')) (sym e) (
-          cover-grows (may_of leaves) (may_of leaves) b.low i (flat y) old_base (base_of seen leaves logs' new) grows
+        (λ e. subst (λ (j : ℕ). Covered (low_of b) j (base_of seen leaves logs' new) × Closed (low_of b) j (tails_of logs')) (sym e) (
+          cover-grows (may_of leaves) (may_of leaves) (low_of b) i (flat y) old_base (base_of seen leaves logs' new) grows
               (λ p x may. may)
-              (above b (subst (λ (j : ℕ). check_at c j ≡ Some b) e is)) (subst (λ (j : ℕ). Covered b.low j old_base) e old.0),
-          close-grows b.low i (flat y) (tails_of logs) (tails_of logs') grows
+              (above b (subst (λ (j : ℕ). check_at c j ≡ Some b) e is)) (subst (λ (j : ℕ). Covered (low_of b) j old_base) e old.0),
+          close-grows (low_of b) i (flat y) (tails_of logs) (tails_of logs') grows
               (above b (subst (λ (j : ℕ). check_at c j ≡ Some b) e is))
-              (subst (λ (j : ℕ). Closed b.low j (tails_of logs)) e old.1),
+              (subst (λ (j : ℕ). Closed (low_of b) j (tails_of logs)) e old.1),
         ))
         (λ ne. (
-          cover-stays (may_of leaves) (may_of leaves) b.low k old_base (base_of seen leaves logs' new)
+          cover-stays (may_of leaves) (may_of leaves) (low_of b) k old_base (base_of seen leaves logs' new)
               (ap all_at (a.log.others k ne)) (λ p x may. may) old.0,
-          close-stays b.low k (tails_of logs) (tails_of logs') (ap base_at (a.log.others k ne))
+          close-stays (low_of b) k (tails_of logs) (tails_of logs') (ap base_at (a.log.others k ne))
               (ap tail_at (a.log.others k ne)) old.1,
         ))
         (cases_eq k i);

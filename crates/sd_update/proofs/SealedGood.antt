@@ -34,7 +34,7 @@ use Rattle.sd_chain.specs.Soundly.{IsSoundly}
 use Rattle.sd_chain.proofs.Appends.{appended-log}
 use Rattle.sd_state.specs.Good.{IsOlder, IsOfBegun, Good, Half, IsChecking, IsInstance, IsKnownLsn, IsSettledAt, IsTold, IsUnderWay, OwesAtMost}
 use Rattle.sd_state.specs.Images.{IsEpochOf, begun_at, leaves_by, log_by}
-use Rattle.sd_state.specs.Parts.{Begun, Parts, among, check_at, epoch_at, is_loose, log_at, no_log, no_txns, other_at, owed_at, status_at, txns_at}
+use Rattle.sd_state.specs.Parts.{Begun, Parts, among, check_at, epoch_at, is_loose, log_at, no_log, no_txns, other_at, owed_at, status_at, txns_at, low_of}
 use Rattle.sd_update.specs.Sealing.{MaySeal}
 use Rattle.sd_state.specs.Tables.{GoesOn, IsInDoubt, NamesLife, RowIsLive, RowIsLogged, StandsAs, tells_log}
 use Rattle.sd_state.specs.Values.{Pending, put_of, values}
@@ -44,6 +44,7 @@ use Rattle.sd_update.proofs.Sealed.{commits-same, half-sealed, stack-same, with_
 use Rattle.sd_state.proofs.Begun.{began-there, begun-more, older-more}
 use Rattle.sd_state.proofs.Standing.{no-place, one-place, bases-by, known-still, others-still}
 use Rattle.sd_page.specs.Page.{Page}
+use Rattle.sd_state.proofs.Lows.{low-begin}
 
 -- who stands so in a table stands so by other records, if they don't commit one in doubt
 stands-sealed : (s : TxnState) (life : Life) (f w w' : Fate) → (IsInDoubt life → w ≢ Fate.Committed → w' ≢ Fate.Committed)
@@ -131,9 +132,9 @@ module _ (i spare : ℕ) (y : Record) (table : Transactions) (epochs : List ℕ)
   pub numbered : 0 < lsn_of y
   numbered = let lsn = may.lsn in omega (arith, lsn)
 
-  pub above : (k : Begun) → check_at c i ≡ Some k → k.low ≤ lsn_of y
+  pub above : (k : Begun) → check_at c i ≡ Some k → (low_of k) ≤ lsn_of y
   above k is = let old = g.checking i k is in
-      let low = old.low in let begun = old.begun in let lsn = may.lsn in omega (arith, low, begun, lsn)
+      let low = low-begin k in let begun = old.begun in let lsn = may.lsn in omega (arith, low, begun, lsn)
 
   at-i : IsSettledAt seen leaves c i
   at-i = g.settled i may.low may.high may.settled
@@ -273,7 +274,7 @@ module _ (i spare : ℕ) (y : Record) (table : Transactions) (epochs : List ℕ)
   checks-there : (j : ℕ) (k : Begun) → check_at c j ≡ Some k → IsChecking new j k
   checks-there j k is = let old = g.checking j k is in record {
     takes = old.takes;
-    low = old.low;
+    spelled = old.spelled;
     begun = ⊎_elim
         (λ e. subst (λ (n : ℕ). k.begin ≤ last_lsn (scanned (log_at new n))) (sym e)
         (subst (λ (l : LogState). k.begin ≤ last_lsn (scanned l)) (sym log-here)

@@ -63,6 +63,7 @@ use Rattle.sd_state.proofs.Standing.{no-place, one-place, bases-by, known-still,
 use Rattle.sd_update.proofs.UndoneHalf.{acting_base, half-undone}
 use Rattle.sd_update.proofs.UndoneTop as top-of-all
 use Rattle.sd_update.proofs.UndoneRows.{IsTop, span-push, span-there}
+use Rattle.sd_state.proofs.Lows.{low-begin}
 
 -- a row that the one log tells the other tells, where both have the same of its transaction
 row-same : (row : Option Transaction) (u : TxnId) (one other : List Rec) → (IsOpen u one → IsOpen u other)
@@ -208,7 +209,7 @@ module _ (a : ℕ) (t : TxnId) (x : Transaction) (o : OpenRec) (image : Page) (l
       (subst (StandsOn (log_at c i)) (sym ((at-i.only bytes).0 l.0)) at-i.stands))
       one (one-place new moved i at-i.one_place ∙ log-here)
       (λ j ne. ap (λ (l : LogState). cond (moved j) (option_map_or (λ place. begun_at place l) (other_at c j) l) l)
-      (log-else j ne)) undo (λ k is. let old = g.checking i k is in let low = old.low in let begun = old.begun in
+      (log-else j ne)) undo (λ k is. let old = g.checking i k is in let low = low-begin k in let begun = old.begun in
       omega (arith, low, begun)))
 
   -- ---- what the log and the table say of each transaction
@@ -473,7 +474,7 @@ module _ (a : ℕ) (t : TxnId) (x : Transaction) (o : OpenRec) (image : Page) (l
   checking-there : (k : ℕ) (b : Begun) → check_at c k ≡ Some b → IsChecking new k b
   checking-there k b is = let old = g.checking k b is in record {
     takes = old.takes;
-    low = old.low;
+    spelled = old.spelled;
     begun = ⊎_elim
         (λ e.
         let was = ap (λ (j : ℕ). last_lsn (scanned (log_at c j))) e in let here = ap (λ (j : ℕ). last_lsn (scanned (log_at new j))) e in

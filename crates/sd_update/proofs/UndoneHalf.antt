@@ -57,7 +57,7 @@ use Rattle.sd_chain.proofs.Owing.{stack-there}
 use Rattle.sd_chain.proofs.Reserved.{undo-keeps}
 use Rattle.sd_state.specs.Good.{Half, base_of, dir_of}
 use Rattle.sd_state.specs.Images.{IsClaimed, IsEpochOf, IsOpenIn}
-use Rattle.sd_state.specs.Parts.{Begun, Parts, check_at, is_loose, log_at, no_pool, pool_at}
+use Rattle.sd_state.specs.Parts.{Begun, Parts, check_at, is_loose, log_at, no_pool, pool_at, low_of}
 use Rattle.sd_update.specs.Undoing.{HasTop, IsUndone, clr_at, with_undone_by}
 use Rattle.sd_state.specs.Values.{Pending, as_done, decided, is_committed, is_doubt, rid_of, values}
 use Rattle.sd_state.proofs.Items.{item-kept, item-set}
@@ -137,7 +137,7 @@ module _ (a : ℕ) (t : TxnId) (x : Transaction) (o : OpenRec) (image : Page) (l
     (stands : (bytes : List ℕ) → leaves (home t) bytes → StandsOn (logs (home t)) bytes)
     (one : logs (home t) ≡ log_at c (home t)) (here : logs' (home t) ≡ log) (elsewhere : (j : ℕ) → j ≢ home t → logs' j ≡ logs j)
     (undo_there : IsUndo (flat (clr_at t x o image c)) top below (all_at (log_at c (home t))))
-    (lows : (k : Begun) → check_at c (home t) ≡ Some k → k.low ≤ last_lsn (scanned (log_at c (home t)))) where
+    (lows : (k : Begun) → check_at c (home t) ≡ Some k → (low_of k) ≤ last_lsn (scanned (log_at c (home t)))) where
   abbrev i : ℕ
   i = home t
 
@@ -417,24 +417,24 @@ module _ (a : ℕ) (t : TxnId) (x : Transaction) (o : OpenRec) (image : Page) (l
   log-else : (j : ℕ) → j ≢ i → images.log (tails_of logs') j ≡ images.log (tails_of logs) j
   log-else j ne = ap all_at (elsewhere j ne)
 
-  lows-there : (g : Begun) → g.low ≤ last_lsn (scanned (log_at c i)) → g.low ≤ y.lsn
+  lows-there : (g : Begun) → (low_of g) ≤ last_lsn (scanned (log_at c i)) → (low_of g) ≤ y.lsn
   lows-there g low = omega (arith, low)
 
-  checks : (k : ℕ) (g : Begun) → check_at c k ≡ Some g → Covered g.low k b' × Closed g.low k (tails_of logs')
+  checks : (k : ℕ) (g : Begun) → check_at c k ≡ Some g → Covered (low_of g) k b' × Closed (low_of g) k (tails_of logs')
   checks k g is =
       let old = h.checks k g is in
       ⊎_elim
       (λ e.
       let low = lows-there g (lows g (ap (check_at c) (sym e) ∙ is)) in
-      subst (λ (j : ℕ). Covered g.low j b' × Closed g.low j (tails_of logs')) (sym e) (
-        cover-grows (may_of leaves) (may_of leaves) g.low i y b b' grows (λ p v l. l) low
-            (subst (λ (j : ℕ). Covered g.low j b) e old.0),
-        close-grows g.low i y (tails_of logs) (tails_of logs') grows low
-            (subst (λ (j : ℕ). Closed g.low j (tails_of logs)) e old.1),
+      subst (λ (j : ℕ). Covered (low_of g) j b' × Closed (low_of g) j (tails_of logs')) (sym e) (
+        cover-grows (may_of leaves) (may_of leaves) (low_of g) i y b b' grows (λ p v l. l) low
+            (subst (λ (j : ℕ). Covered (low_of g) j b) e old.0),
+        close-grows (low_of g) i y (tails_of logs) (tails_of logs') grows low
+            (subst (λ (j : ℕ). Closed (low_of g) j (tails_of logs)) e old.1),
       ))
       (λ ne. (
-        cover-stays (may_of leaves) (may_of leaves) g.low k b b' (log-else k ne) (λ p v l. l) old.0,
-        close-stays g.low k (tails_of logs) (tails_of logs') (bases k) (ap tail_at (elsewhere k ne)) old.1,
+        cover-stays (may_of leaves) (may_of leaves) (low_of g) k b b' (log-else k ne) (λ p v l. l) old.0,
+        close-stays (low_of g) k (tails_of logs) (tails_of logs') (bases k) (ap tail_at (elsewhere k ne)) old.1,
       ))
       (cases_eq k i)
 

@@ -6,7 +6,7 @@
 //! devices are those of the folder, is told by this text and by runs of the program.
 //! Refuses: what `top` refuses; a folder that can't be used as a device that failed.
 //! Knows nothing of: scripts, events, replies.
-//! Stands on: sd_base, sd_rig, sd_filerig, sd_command, sd_top.
+//! Stands on: sd_base, sd_rig, sd_filerig, sd_top.
 //!
 //! To change:
 //! - free: bodies

@@ -122,6 +122,21 @@ put_over-requires-clause-differs g c =
     λ e. c.if-lsn-lsn_of.false (c.lsn.ensures ∙ sym e
     ∙ ap (λ (bytes : List ℕ). (disk_page bytes c.args.p).lsn) (c.choose.ensures.stays.reads 0) ∙ sym lsn)
 
+-- nothing is written where the device has its LSN
+pub returns-clause-idle : goal.returns-clause-idle
+returns-clause-idle g c =
+    let r = g.G.Rig in
+    let laws = g.met.G.Rig in
+    let old = c.args.rig.now in
+    let may = c.requires.may in
+    let sound : TwinIsSound c.args.p (r.seen old 0) =
+    seen-sound (r.seen old) (r.leaves old) may.1 may.0 may.2 may.3.good (laws.leaves_seen old 0 (omega arith)) c.args.p
+    c.twin_of.ensures.range in
+    let lsn : c.lsn_of.result ≡ (disk_page (r.seen old 0) c.args.p).lsn =
+    read-lsn c.args.p c.lsn_of.result (r.seen old) c.twin_of.result c.in-Ok.chosen c.choose.new.out c.twin_of.ensures.twin sound
+    c.in-Ok.ensures.body c.lsn_of.ensures in
+    λ e. absurd (c.if-lsn-lsn_of.false (c.lsn.ensures ∙ sym e ∙ sym lsn))
+
 pub returns-clause-good : goal.returns-clause-good
 returns-clause-good g c k pend m can =
     let r = g.G.Rig in

@@ -6,7 +6,7 @@ use Rattle.sd_state.specs.Complexes.{parts}
 use Rattle.sd_state.specs.Forcing.{KeepMasters}
 use Rattle.sd_state.specs.Good.{Good}
 use Rattle.sd_state.specs.Images.{Stands}
-use Rattle.sd_state.specs.Parts.{Parts, owed_at}
+use Rattle.sd_state.specs.Parts.{Parts, owed_at, status_at}
 use Rattle.std.specs.Prelude.{Some}
 use Rattle.sd_update.specs.Undoing.{HasUndone}
 use Rattle.sd_state.specs.Values.{Pending}
@@ -55,6 +55,14 @@ force_settled-requires-clause-good g c =
     subst (λ x. Good (r.seen x) (r.leaves x) Pending.Idle (parts c.undo_due.new.c) m) (sym c.undo_due.ensures.rig)
     (c.in_ok-undo_due.ensures.good m (c.force_log.ensures.good Pending.Idle m good)) in
     (Pending.Idle, m, mid)
+
+pub force_settled-requires-clause-now : goal.force_settled-requires-clause-now
+force_settled-requires-clause-now g c =
+    let i : ℕ = c.args.t.now.inst in
+    let made = c.in_ok-undo_due.ensures.made in
+    let is = c.in_ok-force_log.ensures.forced c.requires.may.own_settled in
+    inr (c.args.by, ap (λ (q : Parts). status_at q i) made.rest ∙ ap (λ (q : Parts). status_at q i) is ∙ c.requires.may.recovers,
+        ap (λ (q : Parts). q.due) made.rest)
 
 pub returns-in_err-force_settled-clause-good : goal.returns-in_err-force_settled-clause-good
 returns-in_err-force_settled-clause-good g c m good =
