@@ -30,25 +30,28 @@ master_by bytes o e = ap master_of e
 stands_same : (l : LogState) (old new : List ℕ) → area new ≡ area old → StandsOn l old → StandsOn l new
 stands_same l old new a s = ap (reading l.start) a ∙ s
 
--- what a put of the master leaves of the device: the log from its old place, or from the later one
-pub master-outcome : (i : ℕ) (l l' : LogState) (body : List ℕ) (seen : rig.DeviceImages) (leaves : Outcomes) (img : rig.DeviceImages)
+-- what a put of the master leaves of the device: the former master, with the log ready behind it, or the log from the later place
+pub put-outcome : (i : ℕ) (l l' : LogState) (body : List ℕ) (seen : rig.DeviceImages) (leaves : Outcomes) (img : rig.DeviceImages)
     → NamesLater (seen i) l l' body → IsReady i (seen i) l
-    → Puts i 0 64 body seen leaves img → IsReady i (img i) l ⊎ IsLater (seen i) l l' (img i)
-master-outcome i l l' body seen leaves img names r f =
+    → Puts i 0 64 body seen leaves img → ((master (img i) ≡ master (seen i)) × IsReady i (img i) l) ⊎ IsLater (seen i) l l' (img i)
+put-outcome i l l' body seen leaves img names r f =
     let slots = puts-slots i body seen leaves img names.well r.slots f in
     let same = area_same (seen i) (img i) f.outside in
     ⊎_elim
     (λ old.
     let m : master (img i) ≡ master (seen i) = master_by (img i) (chosen_body 0 64 (seen i)) old
     ∙ sym (master_by (seen i) (chosen_body 0 64 (seen i)) refl) in
-    inl (record {
-      start = ap (λ (x : Master). x.start) m ∙ r.start;
-      either = ⊎_elim (λ s. inl (stands_same l (seen i) (img i) same s))
-          (λ s. inr (stands_same (forced l) (seen i) (img i) same s)) r.either;
-      slots = slots;
-      sound = log-same i (seen i) (img i) l old m r.sound;
-      sound_forced = log-same i (seen i) (img i) (forced l) old m r.sound_forced;
-    }))
+    inl (
+      m,
+      record {
+        start = ap (λ (x : Master). x.start) m ∙ r.start;
+        either = ⊎_elim (λ s. inl (stands_same l (seen i) (img i) same s))
+            (λ s. inr (stands_same (forced l) (seen i) (img i) same s)) r.either;
+        slots = slots;
+        sound = log-same i (seen i) (img i) l old m r.sound;
+        sound_forced = log-same i (seen i) (img i) (forced l) old m r.sound_forced;
+      },
+    ))
     (λ new.
     let m : master (img i) ≡ master_of (Some body) = master_by (img i) (Some body) new in
     inr (record {
@@ -59,6 +62,12 @@ master-outcome i l l' body seen leaves img names r f =
       slots = slots;
     }))
     f.whole
+
+-- the log from its old place, or from the later one
+pub master-outcome : (i : ℕ) (l l' : LogState) (body : List ℕ) (seen : rig.DeviceImages) (leaves : Outcomes) (img : rig.DeviceImages)
+    → NamesLater (seen i) l l' body → IsReady i (seen i) l
+    → Puts i 0 64 body seen leaves img → IsReady i (img i) l ⊎ IsLater (seen i) l l' (img i)
+master-outcome i l l' body seen leaves img names r f = ⊎_elim (λ old. inl old.1) (λ new. inr new) (put-outcome i l l' body seen leaves img names r f)
 
 -- after a put of the master, whatever it answered
 pub master_put-keeps : (leaves leaves' : Outcomes) → MasterPutKeeps leaves leaves'

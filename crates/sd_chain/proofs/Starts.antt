@@ -121,7 +121,11 @@ again-follow : (j : ℕ) (chosen : Bool) (m m' : Master) (past : Past) (rs : Lis
     → Follow j chosen m past rs → Follow j chosen m' past rs
 again-follow j chosen m m' past [] epoch check f = tt
 again-follow j chosen m m' past (r ∷ rs) epoch check f = (
-  f.0, f.1, again r f.2, again-follow j chosen m m' (after_record past r) rs epoch check f.3)
+  f.0,
+  f.1,
+  again r f.2,
+  again-follow j chosen m m' (after_record past r) rs epoch check f.3,
+)
   where
     again : (r : Record) → StartFits chosen m past r rs → StartFits chosen m' past r rs
     again (records.Start l e) s = (

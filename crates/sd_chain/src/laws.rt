@@ -6,7 +6,7 @@ ghost use Rattle.std.specs.Prelude.{ℕ};
 ghost use Rattle.sd_base.specs.declared.ids.TxnId.{TxnId};
 ghost use Rattle.sd_page.specs.Page.{Page};
 ghost use Rattle.sd_chain.specs.Fates.{UnknownHasNone, OpenIsOpen, ClosedHasEnd, CommittedHasCommit, EndedHasEnd, OthersKeepFate, CommittedStays, EndedStays, OwnMakesFate};
-ghost use Rattle.sd_chain.specs.Laws.{SoundOpens, NarrowedIsSafe, NarrowedGives, NarrowedLeaves, LosersAreOpen, LosersHaveFateOpen, OpeningRecovers, OpeningIsSafe, OpeningGives, ChangeIsSafe, ChangeGives, UndoIsSafe, UndoGives, SealIsSafe, PlainGives, EndGives, CommitGives, SettlingIsSafe, SettlingGives, WriteIsSafe, WriteGives, ShorteningIsSafe, ShorteningGives, RecoveredIsOne, MergedFit, MergedReplay, UndoingRecovers, UndoingFinds, LocksKeepApart, LeftStands, ForceLeaves, PutLeaves, TwinIsPut, LogIsForced};
+ghost use Rattle.sd_chain.specs.Laws.{SoundOpens, NarrowedIsSafe, NarrowedGives, NarrowedLeaves, LosersAreOpen, LosersHaveFateOpen, OpeningRecovers, OpeningIsSafe, OpeningGives, ChangeIsSafe, ChangeGives, UndoIsSafe, UndoGives, SealIsSafe, PlainGives, EndGives, CommitGives, SettlingIsSafe, SettlingGives, WriteIsSafe, WriteGives, ShorteningIsSafe, ShorteningGives, ShorteningKeepsRecords, RecoveredIsOne, MergedFit, MergedReplay, UndoingRecovers, UndoingFinds, LocksKeepApart, LeftStands, ForceLeaves, PutLeaves, TwinIsPut, LogIsForced};
 
 /// What a crash may leave as the disk image of each page.
 pub trait Crashes {
@@ -60,6 +60,7 @@ pub fn page_write<C: Crashes>()
 pub fn start_place<C: Crashes>()
     ensures safe { ShorteningIsSafe C.may }
     ensures gives { ShorteningGives C.may }
+    ensures records { ShorteningKeepsRecords C.may }
 {}
 
 /// What a crash leaves at any moment, told log by log and page by page.

@@ -80,7 +80,7 @@ abbrev core : Pages → Core
 core w = record {
   scene = record { state = joined 1 1 fresh; waits = λ u. None };
   pages = w;
-  bounds = record { slots = λ p. []; reach = λ i. 0; lsns = 0; masters = λ i. 0 };
+  bounds = record { slots = λ p. []; least = λ p. []; reach = λ i. 0; lsns = 0; masters = λ i. 0 };
 }
 
 abbrev own : Line → Event → Reply → Entry

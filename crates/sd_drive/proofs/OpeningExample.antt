@@ -47,7 +47,7 @@ abbrev pub core : Status → Status → Pages → Core
 core s1 s2 w = record {
   scene = record { state = state s1 s2; waits = λ u. None };
   pages = w;
-  bounds = record { slots = λ p. []; reach = λ i. 0; lsns = 0; masters = λ i. 0 };
+  bounds = record { slots = λ p. []; least = λ p. []; reach = λ i. 0; lsns = 0; masters = λ i. 0 };
 }
 
 abbrev pub helps : Event → Reply → Entry

@@ -26,7 +26,7 @@ use Rattle.sd_rig.specs.Devices as rig
 use Rattle.sd_chain.specs.Checks.{DevicesAreSound}
 use Rattle.sd_chain.specs.Logs.{Outcomes}
 use Rattle.sd_world.specs.Answers.{Fails}
-use Rattle.sd_world.specs.Bounds.{bounds_after}
+use Rattle.sd_world.specs.Bounds.{TellsNoPlace, bounds_after}
 use Rattle.sd_world.specs.PageCauses.{NoneSays}
 use Rattle.sd_world.specs.Serving.{Core, FewFaults, Passes, Telling, Turns}
 use Rattle.sd_state.specs.Complexes.{parts}
@@ -50,12 +50,12 @@ use Rattle.sd_fits.proofs.Sums.{sums-stay}
 abbrev pub later_core : Core → Event → Reply → Core
 later_core w e r = record w { bounds = bounds_after w.bounds e r }
 
-pub closed-later : (leaves leaves' : Outcomes) (w : Core) (e : Event) (r : Reply) → FitsClosed leaves w → NoneMore leaves leaves'
+pub closed-later : (leaves leaves' : Outcomes) (w : Core) (e : Event) (r : Reply) → TellsNoPlace r → FitsClosed leaves w → NoneMore leaves leaves'
     → FitsClosed leaves' (later_core w e r)
-closed-later leaves leaves' w e r f less = let k = closed-stays leaves leaves' w f less in record {
+closed-later leaves leaves' w e r told f less = let k = closed-stays leaves leaves' w f less in record {
   closed = k.closed;
   stands = k.stands;
-  sums = λ img left. sums-stay img w.bounds e r (k.sums img left);
+  sums = λ img left. sums-stay img w.bounds e r told (k.sums img left);
   kept = k.kept;
   placed = k.placed;
   listed = k.listed;
@@ -229,7 +229,7 @@ module _ {G : Type 0} (tell : Telling G) where
       record {
         turns = shut-turns (tell.leaves d) w f.fits e out;
         fits_then = record {
-          fits = closed-later (tell.leaves d) (tell.leaves d) w e (reply.Refused R.Down) f.fits (λ k le bytes left. left);
+          fits = closed-later (tell.leaves d) (tell.leaves d) w e (reply.Refused R.Down) tt f.fits (λ k le bytes left. left);
           frames_are = f.frames_are;
         };
         passes = calm-passes d d w.scene.state w.scene.state (calm-still d now) f.fits.stands;
@@ -255,7 +255,7 @@ module _ {G : Type 0} (tell : Telling G) where
           sums = refl;
         };
         fits_then = record {
-          fits = closed-later (tell.leaves old) (tell.leaves new) w (Arm trouble) reply.Did f.fits calm.less;
+          fits = closed-later (tell.leaves old) (tell.leaves new) w (Arm trouble) reply.Did tt f.fits calm.less;
           frames_are = f.frames_are;
         };
         passes = calm-passes old new w.scene.state w.scene.state calm f.fits.stands;
@@ -293,7 +293,7 @@ module _ {G : Type 0} (tell : Telling G) where
       record {
         turns = failed-turns (tell.leaves old) w f.fits;
         fits_then = record {
-          fits = closed-later (tell.leaves old) (tell.leaves new) w Reopen (reply.Refused R.Failed) f.fits calm.less;
+          fits = closed-later (tell.leaves old) (tell.leaves new) w Reopen (reply.Refused R.Failed) tt f.fits calm.less;
           frames_are = f.frames_are;
         };
         passes = calm-passes old new w.scene.state w.scene.state calm f.fits.stands;

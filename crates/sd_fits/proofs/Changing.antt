@@ -1,5 +1,5 @@
 -- A change of a record: how the complex goes on fitting. For the calls on records.
-use Rattle.std.proofs.Common.{◌≡◌, ⊎_elim, ℕ, zero, suc, ◌+◌, ◌^◌, ◌<◌, ◌≤◌, Bool, true, false, cond, eqb, eq-eqb, List, [], ◌∷◌, length, map, max, refl, sym, ap, ◌∙◌, subst, arith}
+use Rattle.std.proofs.Common.{◌≡◌, ◌≢◌, ⊎_elim, ℕ, zero, suc, ◌+◌, ◌^◌, ◌<◌, ◌≤◌, Bool, true, false, cond, eqb, eq-eqb, List, [], ◌∷◌, length, map, max, refl, sym, ap, ◌∙◌, subst, arith}
 use Rattle.std.specs.Prelude.{Option, IsSome, option_and_then, is_some}
 use Rattle.std.proofs.lemmas.Bool.{cases_eq, ne_eqb}
 use Rattle.sd_base.specs.Values.{size}
@@ -25,12 +25,12 @@ use Rattle.sd_txn.specs.Transactions.{Transaction, Transactions, span_at}
 use Rattle.sd_chain.specs.Bytes.{disk_page}
 use Rattle.sd_chain.specs.Checks.{reserve}
 use Rattle.sd_chain.specs.Images.{Keeps, all_kept}
-use Rattle.sd_chain.specs.Pages.{redo, write}
+use Rattle.sd_chain.specs.Pages.{capacity, redo, write}
 use Rattle.sd_chain.specs.Records.{Val, home}
 use Rattle.sd_chain.specs.Named.{version_of}
 use Rattle.sd_chain.specs.Logs.{Outcomes, all_at, tails_of}
 use Rattle.sd_chain.proofs.Kept.{forced-gate}
-use Rattle.sd_world.specs.Bounds.{Bounds, bounds_after, cost, counts, with_slot}
+use Rattle.sd_world.specs.Bounds.{Bounds, bounds_after, cost, counts, with_least, with_slot}
 use Rattle.sd_world.specs.Pages.{Pages, numbered, page_placed}
 use Rattle.sd_world.specs.Serving.{Core}
 use Rattle.sd_update.specs.Changing.{Change, IsMade, LacksLsns, LacksRoom, change_of, changed_log, flat_of, image_for, owed_then, row_for, update, with_changed}
@@ -42,11 +42,12 @@ use Rattle.sd_state.specs.Tables.{tells_log}
 use Rattle.sd_state.specs.Values.{Pending}
 use Rattle.sd_update.proofs.ChangeCalls.{owed-more, reserve-more}
 use Rattle.sd_state.proofs.Standing.{one-place}
-use Rattle.sd_fits.specs.Fits.{AreWithin, Fits, FitsBounds, ReachesAtMost, capacities}
+use Rattle.sd_fits.specs.Fits.{AreAtLeast, AreWithin, Fits, FitsBounds, ReachesAtMost, capacities}
 use Rattle.sd_fits.proofs.Recording.{Records}
 use Rattle.sd_fits.proofs.Recording as rec
 use Rattle.sd_fits.proofs.Sealing.{gate-more}
-use Rattle.sd_fits.proofs.Served.{bounds-stay}
+use Rattle.sd_fits.proofs.Fronts.{IsFront, front-least, front-on, front-write, version-front}
+use Rattle.sd_fits.proofs.Served.{bounds-with, slots-within}
 use Rattle.sd_fits.proofs.Taking.{GoesOnAs, on-stays}
 
 -- ---- capacities of slots
@@ -64,6 +65,22 @@ caps-new [] c v [] within = (omega arith, tt)
 caps-new [] c v (b ∷ bounds) within = (omega arith, tt)
 caps-new (x ∷ xs) c v [] within = elim within [ ]
 caps-new (x ∷ xs) c v (b ∷ bounds) within = (within.0, caps-new xs c v bounds within.1)
+
+pub least-new : (slots : List Slot) (c : ℕ) (v : Val) (least : List ℕ) → AreAtLeast (map (λ slot. slot.0) slots) least
+    → AreAtLeast (map (λ slot. slot.0) (write slots (length slots) c v)) (with_least least (length slots) c)
+least-new [] c v [] at = (omega arith, tt)
+least-new [] c v (n ∷ least) at = (omega arith, tt)
+least-new (x ∷ xs) c v [] at = elim at [ ]
+least-new (x ∷ xs) c v (n ∷ least) at = (at.0, least-new xs c v least at.1)
+
+-- a dead slot that is taken has as much as is asked for
+pub least-taken : (slots : List Slot) (s c asked : ℕ) (v : Val) (least : List ℕ) → s < length slots → asked ≤ capacity slots s
+    → AreAtLeast (map (λ slot. slot.0) slots) least → AreAtLeast (map (λ slot. slot.0) (write slots s c v)) (with_least least s asked)
+least-taken [] s c asked v least lt enough at = absurd (omega (arith, lt))
+least-taken (x ∷ xs) s c asked v [] lt enough at = elim at [ ]
+least-taken (x ∷ xs) zero c asked v (n ∷ least) lt enough at = (enough, at.1)
+least-taken (x ∷ xs) (suc s) c asked v (n ∷ least) lt enough at =
+    (at.0, least-taken xs s c asked v least (omega (arith, lt)) enough at.1)
 
 -- ---- numbers
 
@@ -170,7 +187,7 @@ module _ (k : Change) (seen : DeviceImages) (leaves : Outcomes) (c after : Parts
     slots-kept e r lt = subst (λ (l : List ℕ). AreWithin l ((bounds_after w.bounds e r).slots p))
         (sym (caps-set image.slots k.rid.slot k.capacity k.after lt))
         (subst (λ (z : Page). AreWithin (capacities z) ((bounds_after w.bounds e r).slots p)) (sym image-is)
-        ((bounds-stay seen c w.bounds e r f.bounds).slots still all_kept p))
+        (slots-within _ w.bounds.slots e r p (f.bounds.slots still all_kept p)))
 
     -- a slot that is new stands behind them
     pub slots-new : k.rid.slot ≡ length image.slots → AreWithin (capacities (redo image y)) (with_slot (w.bounds.slots p) k.rid.slot k.capacity)
@@ -178,15 +195,49 @@ module _ (k : Change) (seen : DeviceImages) (leaves : Outcomes) (c after : Parts
         (sym is) (caps-new image.slots k.capacity k.after (w.bounds.slots p)
         (subst (λ (z : Page). AreWithin (capacities z) (w.bounds.slots p)) (sym image-is) (f.bounds.slots still all_kept p)))
 
+    -- so it is with what they have at least
+    pub least-stays : k.rid.slot < length image.slots → AreAtLeast (capacities (redo image y)) (w.bounds.least p)
+    least-stays lt = subst (λ (l : List ℕ). AreAtLeast l (w.bounds.least p)) (sym (caps-set image.slots k.rid.slot k.capacity k.after lt))
+        (subst (λ (z : Page). AreAtLeast (capacities z) (w.bounds.least p)) (sym image-is) (f.bounds.least still all_kept p))
+
+    pub least-added : k.rid.slot ≡ length image.slots → AreAtLeast (capacities (redo image y)) (with_least (w.bounds.least p) k.rid.slot k.capacity)
+    least-added is = subst (λ (n : ℕ). AreAtLeast (map (λ slot. slot.0) (write image.slots n k.capacity k.after)) (with_least (w.bounds.least p) n k.capacity))
+        (sym is) (least-new image.slots k.capacity k.after (w.bounds.least p)
+        (subst (λ (z : Page). AreAtLeast (capacities z) (w.bounds.least p)) (sym image-is) (f.bounds.least still all_kept p)))
+
+    -- and a slot that was dead has what is asked for
+    pub least-filled : (asked : ℕ) → k.rid.slot < length image.slots → asked ≤ capacity image.slots k.rid.slot
+        → AreAtLeast (capacities (redo image y)) (with_least (w.bounds.least p) k.rid.slot asked)
+    least-filled asked lt enough = least-taken image.slots k.rid.slot k.capacity asked k.after (w.bounds.least p) lt enough
+        (subst (λ (z : Page). AreAtLeast (capacities z) (w.bounds.least p)) (sym image-is) (f.bounds.least still all_kept p))
+
     module _ (e : Event) (r : Reply) (whose : inst_of e ≡ i) (costs : cond (counts e r) (cost e) 0 ≡ 900)
         (before_small : size k.before ≤ 256) (after_small : size k.after ≤ 256)
-        (slots_grow : AreWithin (capacities (redo image y)) ((bounds_after w.bounds e r).slots p)) where
+        (slots_grow : AreWithin (capacities (redo image y)) ((bounds_after w.bounds e r).slots p))
+        (least_there : AreAtLeast (capacities (redo image y)) ((bounds_after w.bounds e r).least p))
+        (least_else : (q : ℕ) → q ≢ p → (bounds_after w.bounds e r).least q ≡ w.bounds.least q) where
       abbrev bounds_then : Bounds
       bounds_then = bounds_after w.bounds e r
 
+      -- a version that a crash leaves has a front of the slots that the page has with the change
+      least-was : (moved keeps : Keeps) (q : ℕ)
+          → AreAtLeast (capacities (version_of (tails_of (log_by c moved)) (disk_page (seen 0)) keeps q)) (bounds_then.least q)
+      least-was moved keeps q = ⊎_elim
+          (λ same. subst (λ (n : ℕ). AreAtLeast (capacities (version_of (tails_of (log_by c moved)) (disk_page (seen 0)) keeps n)) (bounds_then.least n))
+          (sym same)
+          (front-least (capacities (version_of (tails_of (log_by c moved)) (disk_page (seen 0)) keeps p)) (capacities (redo image y)) (bounds_then.least p)
+          (front-on (capacities (version_of (tails_of (log_by c moved)) (disk_page (seen 0)) keeps p)) (capacities image) (capacities (redo image y))
+          (subst (λ (z : Page). IsFront (capacities (version_of (tails_of (log_by c moved)) (disk_page (seen 0)) keeps p)) (capacities z))
+          (sym (rec.image-is i (update k) made.put.spare image made.put.table made.put.pool made.put.places seen leaves c m' w f records good moved))
+          (version-front seen leaves Pending.Idle c w.scene.state f.good moved keeps p))
+          (front-write image.slots k.rid.slot k.capacity k.after))
+          least_there))
+          (λ ne. subst (AreAtLeast _) (sym (least_else q ne)) (f.bounds.least moved keeps q))
+          (cases_eq q p)
+
       -- what was within the sums
       old : FitsBounds seen leaves c bounds_then
-      old = bounds-stay seen c w.bounds e r f.bounds
+      old = bounds-with seen c w.bounds e r least-was f.bounds
 
       reach-more : bounds_then.reach i ≡ 900 + w.bounds.reach i
       reach-more = ap (λ (b : Bool). cond b (cond (counts e r) (cost e) 0) 0 + w.bounds.reach i) (eq-eqb (inst_of e) i whose)
@@ -280,7 +331,7 @@ module _ (k : Change) (seen : DeviceImages) (leaves : Outcomes) (c after : Parts
         waiting = λ u off. f.waiting u (ap is_running (sym (on.lives u)) ∙ off);
         put = put-then on puts;
         pages = rec.pages-fit i (update k) made.put.spare image made.put.table made.put.pool made.put.places seen leaves c m' w f records good;
-        bounds = rec.bounds-fit i (update k) made.put.spare image made.put.table made.put.pool made.put.places seen leaves c m' w f records good bounds_then old slots_grow reach-here lsns-then;
+        bounds = rec.bounds-fit i (update k) made.put.spare image made.put.table made.put.pool made.put.places seen leaves c m' w f records good bounds_then old slots_grow least_there reach-here lsns-then;
         doubts = rec.doubts-fit i (update k) made.put.spare image made.put.table made.put.pool made.put.places seen leaves c m' w f records good (on-stays w.scene.state m' on);
       })
 

@@ -107,7 +107,7 @@ module _ (leaves leaves' : Outcomes) (w : Core) (less : NoneMore leaves leaves')
   fits = record {
     closed = λ i. refl;
     stands = λ img left. closed-stands m img (stands img (was-left img left));
-    sums = λ img left. sums-stay img w.bounds (FailAll pick) reply.Did (sums img (was-left img left));
+    sums = λ img left. sums-stay img w.bounds (FailAll pick) reply.Did tt (sums img (was-left img left));
     kept = row-kept m (FailAll pick) reply.Did (closed m) tt refl kept;
     placed = step-placed m (FailAll pick) reply.Did (closed m) step placed;
     listed = step-listed m (FailAll pick) reply.Did (closed m) step listed;

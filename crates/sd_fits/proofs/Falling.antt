@@ -24,7 +24,7 @@ use Rattle.sd_chain.specs.Bytes.{disk_page}
 use Rattle.sd_chain.specs.Checks.{reserve}
 use Rattle.sd_chain.specs.Images.{Keeps}
 use Rattle.sd_chain.specs.Records.{IsOpen, home}
-use Rattle.sd_log.specs.Logs.{LogState, without_tail}
+use Rattle.sd_log.specs.Logs.{LogState, begun_at, without_tail}
 use Rattle.sd_logrec.specs.View.{Rec}
 use Rattle.sd_pagelock.specs.Asks.{asks_without, open_asks}
 use Rattle.sd_pagelock.specs.Places.{PageEntry}
@@ -39,7 +39,7 @@ use Rattle.sd_world.specs.Bounds.{Bounds, Within, bounds_after}
 use Rattle.sd_world.specs.Pages.{Pages, fell}
 use Rattle.sd_world.specs.Serving.{Core, Turns}
 use Rattle.sd_state.specs.Good.{Good}
-use Rattle.sd_state.specs.Images.{begun_at, log_by}
+use Rattle.sd_state.specs.Images.{log_by}
 use Rattle.sd_state.specs.Laws.{newest_of}
 use Rattle.sd_state.specs.Parts.{Begun, Parts, check_at, count_at, log_at, no_log, no_pool, no_txns, other_at, pool_at, status_at, txns_at}
 use Rattle.sd_state.specs.Values.{Pending, is_doubt}
@@ -49,7 +49,7 @@ use Rattle.sd_moves.specs.Falling.{IsFallen, emptied_pool, is_recovered_by, logs
 use Rattle.sd_moves.proofs.FallBounds.{fallen-great, fallen-log, fallen-owes, fallen-versions, kept_by}
 use Rattle.sd_moves.proofs.FallDropped.{kept-all}
 use Rattle.sd_moves.proofs.FallFinal.{when-dropped}
-use Rattle.sd_fits.specs.Fits.{AreWithin, Fits, FitsBounds, FitsDoubts, FitsPages, ReachesAtMost, capacities}
+use Rattle.sd_fits.specs.Fits.{AreAtLeast, AreWithin, Fits, FitsBounds, FitsDoubts, FitsPages, ReachesAtMost, capacities}
 use Rattle.sd_fits.proofs.Doubts.{DoubtsStay, doubts-kept}
 
 -- the waits once those of instance i are gone
@@ -151,6 +151,9 @@ module _ (i : ℕ) (seen : rig.DeviceImages) (leaves : Outcomes) (pend : Pending
     slots = λ moved keeps p. subst (λ (x : Page). AreWithin (capacities x) (b.slots p))
         (sym (fallen-versions i seen leaves pend c new m low high g is f moved keeps (disk_page (seen 0)) p))
         (fits.slots moved (kept_by i (owed_dropped i c) keeps) p);
+    least = λ moved keeps p. subst (λ (x : Page). AreAtLeast (capacities x) (b.least p))
+        (sym (fallen-versions i seen leaves pend c new m low high g is f moved keeps (disk_page (seen 0)) p))
+        (fits.least moved (kept_by i (owed_dropped i c) keeps) p);
     reach = λ moved j lo hi. ⊎_elim
         (λ same. subst (ReachesAtMost (b.reach j)) (sym same) (fits.reach moved j lo hi))
         (λ without. subst (ReachesAtMost (b.reach j)) (sym without) (reach-without (b.reach j) (log_by c moved j) (fits.reach moved j lo hi)))

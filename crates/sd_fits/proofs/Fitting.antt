@@ -11,7 +11,7 @@ use Rattle.sd_txn.specs.Owing.{owed_of}
 use Rattle.sd_chain.specs.Images.{all_kept}
 use Rattle.sd_chain.specs.Logs.{IsBlank, Outcomes}
 use Rattle.sd_chain.proofs.Blank.{master_blank}
-use Rattle.sd_fits.specs.Fits.{AreWithin, Fits, FitsBounds, FitsPages, FitsStands, FreshFits, ReachesAtMost, capacities, fresh_core}
+use Rattle.sd_fits.specs.Fits.{AreAtLeast, AreWithin, Fits, FitsBounds, FitsPages, FitsStands, FreshFits, ReachesAtMost, capacities, fresh_core}
 use Rattle.sd_state.specs.Fresh.{AreBlank, IsFresh, empty_pool}
 use Rattle.sd_state.specs.Parts.{Parts, among, is_loose, log_at, no_pool, status_at}
 use Rattle.sd_state.specs.Sums.{most_to, owes_most, sum_to}
@@ -80,6 +80,8 @@ module _ (leaves : Outcomes) (seen : rig.DeviceImages) (frames : ℕ) (c : Parts
   bounds-there : FitsBounds seen leaves c (fresh_core frames).bounds
   bounds-there = record {
     slots = λ moved keeps p. subst (λ (x : Page). AreWithin (capacities x) [])
+        (sym (now-empty seen leaves frames c devices f moved keeps p)) tt;
+    least = λ moved keeps p. subst (λ (x : Page). AreAtLeast (capacities x) [])
         (sym (now-empty seen leaves frames c devices f moved keeps p)) tt;
     reach = λ moved i low high. subst (ReachesAtMost 0)
         (sym (same-log seen leaves frames c devices f moved i ∙ log-is seen leaves frames c devices f i low high))

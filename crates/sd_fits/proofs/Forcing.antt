@@ -5,7 +5,7 @@ use Rattle.std.specs.Option.{option_map_or}
 use Rattle.std.proofs.lemmas.Bool.{cases_eq}
 use Rattle.std.proofs.lemmas.List.{get_or-set_other, get_or-set_same}
 use mathlib.Core.Path.{fun_ext}
-use Rattle.sd_log.specs.Logs.{LogState, forced, last_lsn, scanned}
+use Rattle.sd_log.specs.Logs.{LogState, begun_at, forced, last_lsn, scanned}
 use Rattle.sd_logrec.specs.Kept.{Master, master}
 use Rattle.sd_logrec.specs.View.{Rec, flat}
 use Rattle.sd_logrec.specs.declared.record.Record.{Record}
@@ -22,7 +22,7 @@ use Rattle.sd_chain.specs.Logs.{Logs, Outcomes, all_at, base_at, kept_logs, tail
 use Rattle.sd_chain.proofs.Kept.{forced-base, forced-idle, forced-tail, no-tail}
 use Rattle.sd_state.specs.Forcing.{KeepMasters, owed_either, with_failed, with_forced}
 use Rattle.sd_state.specs.Good.{Good}
-use Rattle.sd_state.specs.Images.{begun_at, log_by}
+use Rattle.sd_state.specs.Images.{log_by}
 use Rattle.sd_state.specs.Laws.{newest_of}
 use Rattle.sd_state.specs.Parts.{Parts, is_loose, log_at, no_log, other_at, owed_at, status_at, txns_at}
 use Rattle.sd_state.specs.Sums.{great_of, most_to, owed_in_all, owes_most}
@@ -33,7 +33,7 @@ use Rattle.sd_state.proofs.Lasts.{last-forced}
 use Rattle.sd_state.proofs.Standing.{one-place}
 use Rattle.sd_world.specs.Bounds.{Bounds}
 use Rattle.sd_world.specs.Pages.{Pages}
-use Rattle.sd_fits.specs.Fits.{AreWithin, FitsBounds, FitsDoubts, FitsPages, ReachesAtMost, capacities}
+use Rattle.sd_fits.specs.Fits.{AreAtLeast, AreWithin, FitsBounds, FitsDoubts, FitsPages, ReachesAtMost, capacities}
 use Rattle.sd_fits.proofs.Doubts.{doubts-kept, same-doubts}
 use Rattle.sd_moves.proofs.FallBounds.{sum-less, told-most}
 
@@ -184,6 +184,10 @@ module _ (i owes : ℕ) (seen seen' : rig.DeviceImages) (leaves leaves' : Outcom
         (sym (versions-same (tails_of (log_by c moved)) (tails_of (log_by new moved)) (disk_page (seen 0)) (disk_page (seen' 0))
         (kept_at i true keeps) keeps p (kept-by (log_by c moved) (log_by new moved) (here-by moved) (else-by moved) keeps) page-same))
         (f.slots moved (kept_at i true keeps) p);
+    least = λ moved keeps p. subst (λ (x : Page). AreAtLeast (capacities x) (b.least p))
+        (sym (versions-same (tails_of (log_by c moved)) (tails_of (log_by new moved)) (disk_page (seen 0)) (disk_page (seen' 0))
+        (kept_at i true keeps) keeps p (kept-by (log_by c moved) (log_by new moved) (here-by moved) (else-by moved) keeps) page-same))
+        (f.least moved (kept_at i true keeps) p);
     reach = λ moved j lo hi. reaches (b.reach j) moved j (f.reach moved j lo hi);
     lsns = subst (λ (n : ℕ). n + owed_in_all new ≤ b.lsns) (sym great-same)
         (no-more (great_of c) (owed_in_all new) (owed_in_all c) b.lsns (sum-less (owes_most new) (owes_most c) 8 (λ j lo hi. owes-most j)) f.lsns);
@@ -240,6 +244,8 @@ module _ (a i : ℕ) (seen seen' : rig.DeviceImages) (leaves leaves' : Outcomes)
   failed-bounds kept b f = record {
     slots = λ moved keeps p. subst (λ (bytes : List ℕ). AreWithin (capacities (version_of (tails_of (log_by c moved)) (disk_page bytes) keeps p)) (b.slots p))
         (sym disk) (f.slots moved keeps p);
+    least = λ moved keeps p. subst (λ (bytes : List ℕ). AreAtLeast (capacities (version_of (tails_of (log_by c moved)) (disk_page bytes) keeps p)) (b.least p))
+        (sym disk) (f.least moved keeps p);
     reach = f.reach;
     lsns = no-more (great_of c) (owed_in_all failed) (owed_in_all c) b.lsns
         (sum-less (owes_most failed) (owes_most c) 8 (λ j lo hi. owes-failed j lo)) f.lsns;

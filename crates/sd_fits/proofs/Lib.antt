@@ -1,6 +1,7 @@
 pub mod Doubts
 pub mod Fitting
 pub mod Served
+pub mod Fronts
 pub mod Heads
 pub mod Worked
 pub mod Still

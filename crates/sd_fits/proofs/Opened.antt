@@ -45,7 +45,7 @@ use Rattle.sd_state.specs.Sums.{most_to}
 use Rattle.sd_state.proofs.Summed.{most-at}
 use Rattle.sd_moves.proofs.OpenedAgain.{down-lost, some-any}
 use Rattle.sd_moves.proofs.OpenedImage.{left-open}
-use Rattle.sd_fits.specs.Fits.{AreWithin}
+use Rattle.sd_fits.specs.Fits.{AreAtLeast, AreWithin}
 use Rattle.sd_fits.specs.Opened.{OpenedFits, opening_state, sums_of, top_lsn, top_page}
 use Rattle.sd_fits.specs.Sums.{IsWithinSums}
 use Rattle.sd_fits.proofs.Opening.{opened-fits}
@@ -55,6 +55,10 @@ use Rattle.sd_fits.proofs.Opening.{opened-fits}
 within-itself : (xs : List ℕ) → AreWithin xs xs
 within-itself [] = tt
 within-itself (x ∷ xs) = (omega arith, within-itself xs)
+
+least-itself : (xs : List ℕ) → AreAtLeast xs xs
+least-itself [] = tt
+least-itself (x ∷ xs) = (omega arith, least-itself xs)
 
 below-top : (xs : List Rec) (n : ℕ) → top_lsn xs ≤ n → Each (λ x. x.lsn ≤ n) xs
 below-top [] n le = tt
@@ -73,6 +77,7 @@ page-below disk (suc n) p lt = ⊎_elim
 pub own-sums : (devices : rig.DeviceImages) → IsWithinSums devices (sums_of devices)
 own-sums devices = record {
   slots = λ p. within-itself _;
+  least = λ p. least-itself _;
   reach = λ i low high. omega arith;
   lsns = record {
     owed = some (top_page (disk_page (devices 0)) 1024) tops owes;

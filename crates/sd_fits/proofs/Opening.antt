@@ -43,7 +43,7 @@ use Rattle.sd_moves.proofs.OpenedImage.{no-doubt}
 use Rattle.sd_state.proofs.Standing.{one-place}
 use Rattle.sd_moves.proofs.FallBounds.{sum-less}
 use Rattle.sd_fits.specs.Opened.{IsOpenedOn, opened_core, opened_pages}
-use Rattle.sd_fits.specs.Fits.{AreWithin, Fits, FitsBounds, FitsPages, ReachesAtMost, capacities}
+use Rattle.sd_fits.specs.Fits.{AreAtLeast, AreWithin, Fits, FitsBounds, FitsPages, ReachesAtMost, capacities}
 use Rattle.sd_fits.specs.Sums.{IsWithinSums}
 use Rattle.sd_fits.proofs.Recording.{most-within}
 
@@ -160,6 +160,7 @@ module _ (seen : rig.DeviceImages) (leaves : Outcomes) (frames : ℕ) (c : Parts
   bounds : FitsBounds seen leaves c b
   bounds = record {
     slots = λ moved keeps p. subst (λ (x : Page). AreWithin (capacities x) (b.slots p)) (sym (newest-is moved keeps p)) (s.slots p);
+    least = λ moved keeps p. subst (λ (x : Page). AreAtLeast (capacities x) (b.least p)) (sym (newest-is moved keeps p)) (s.least p);
     reach = reach;
     lsns = let g = great in let o = owes in sum (great_of c) (owed_in_all c) (owed_by_all seen) b.lsns g o;
     masters = λ i low high. let is = counts i low high in let le = s.masters i low high in omega (arith, is, le);

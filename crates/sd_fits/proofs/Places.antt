@@ -35,7 +35,7 @@ use Rattle.sd_state.specs.Parts.{Parts, log_at, no_pool, pool_at}
 use Rattle.sd_state.specs.Values.{Pending}
 use Rattle.sd_state.specs.declared.complex.Complex.{Complex}
 use Rattle.sd_state.proofs.Items.{item-kept, item-set}
-use Rattle.sd_fits.specs.Fits.{AreWithin, Fits, FitsBounds, FitsPages, capacities}
+use Rattle.sd_fits.specs.Fits.{AreAtLeast, AreWithin, Fits, FitsBounds, FitsPages, capacities}
 use Rattle.sd_fits.specs.Serving.{fits_by, stands_for}
 use Rattle.sd_fits.proofs.Doubts.{doubts-kept, same-doubts}
 use Rattle.sd_fits.proofs.Served.{fits-left}
@@ -80,7 +80,7 @@ module _ (pools : List Buffers) (places : DirectoryState Page) (seen : rig.Devic
     waiting = f.waiting;
     put = f.put;
     pages = there;
-    bounds = record { slots = b.slots; reach = b.reach; lsns = b.lsns; masters = b.masters; left_masters = b.left_masters };
+    bounds = record { slots = b.slots; least = b.least; reach = b.reach; lsns = b.lsns; masters = b.masters; left_masters = b.left_masters };
     doubts = f.doubts;
   }
 
@@ -167,6 +167,9 @@ module _ {G : Type 0} (tell : Telling G) (old new : G)
           slots = λ moved keeps q. subst
               (λ (bytes : List ℕ). AreWithin (capacities (version_of (tails_of (log_by c moved)) (disk_page bytes) keeps q)) (w.bounds.slots q))
               (sym (u.reads 0)) (b.slots moved keeps q);
+          least = λ moved keeps q. subst
+              (λ (bytes : List ℕ). AreAtLeast (capacities (version_of (tails_of (log_by c moved)) (disk_page bytes) keeps q)) (w.bounds.least q))
+              (sym (u.reads 0)) (b.least moved keeps q);
           reach = b.reach;
           lsns = b.lsns;
           masters = b.masters;

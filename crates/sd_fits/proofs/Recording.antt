@@ -12,7 +12,7 @@ use Rattle.sd_base.specs.declared.ids.TxnId.{TxnId}
 use Rattle.sd_base.specs.declared.place.Status.TheVariants as S
 use Rattle.sd_logrec.specs.View.{Rec, flat}
 use Rattle.sd_logrec.specs.declared.record.Record.{Record}
-use Rattle.sd_log.specs.Logs.{LogState, last_lsn, scanned, with_record}
+use Rattle.sd_log.specs.Logs.{LogState, begun_at, last_lsn, scanned, with_record}
 use Rattle.sd_model.specs.State.{State}
 use Rattle.sd_page.specs.Page.{Page}
 use Rattle.sd_pagelock.specs.Asks.{open_asks}
@@ -44,7 +44,7 @@ use Rattle.sd_world.specs.Pages.{Pages, numbered, page_placed, put}
 use Rattle.sd_world.specs.Serving.{Core}
 use Rattle.sd_update.specs.Changing.{with_changed}
 use Rattle.sd_state.specs.Good.{Good, Half, base_of, dir_of}
-use Rattle.sd_state.specs.Images.{begun_at, leaves_by, log_by}
+use Rattle.sd_state.specs.Images.{leaves_by, log_by}
 use Rattle.sd_state.specs.Laws.{newest_of}
 use Rattle.sd_state.specs.Parts.{Parts, is_loose, log_at, no_log, no_pool, no_txns, other_at, pool_at, status_at, txns_at, up_as}
 use Rattle.sd_state.specs.Sums.{great_of, most_to, owed_in_all}
@@ -55,7 +55,7 @@ use Rattle.sd_update.proofs.ChangeLsns.{image-low}
 use Rattle.sd_state.proofs.Items.{item-kept, item-set}
 use Rattle.sd_state.proofs.Lasts.{last-more}
 use Rattle.sd_state.proofs.Standing.{one-place}
-use Rattle.sd_fits.specs.Fits.{AreWithin, Fits, FitsBounds, FitsDoubts, FitsPages, ReachesAtMost, capacities}
+use Rattle.sd_fits.specs.Fits.{AreAtLeast, AreWithin, Fits, FitsBounds, FitsDoubts, FitsPages, ReachesAtMost, capacities}
 use Rattle.sd_fits.proofs.Doubts.{DoubtsStay, HadCommit, commits-more, doubts-on}
 
 -- who is committed without a tail is it with it
@@ -319,17 +319,18 @@ module _ (i : ℕ) (rec : Record) (spare : ℕ) (image : Page) (table : Transact
 
     -- ---- sums
 
-    -- a version of each page has such capacities, where the page that is redone has
-    slots-then : (slots : ℕ → List ℕ) → ((moved keeps : Keeps) (q : ℕ) → AreWithin (capacities (version_of (was moved) (disk_page (seen 0)) keeps q)) (slots q))
-        → AreWithin (capacities (redo image y)) (slots p) → (moved keeps : Keeps) (q : ℕ)
-        → AreWithin (capacities (version_of (is moved) (disk_page (seen 0)) keeps q)) (slots q)
-    slots-then slots old grown moved keeps q = ⊎_elim
+    -- the capacities of a version of each page are so bounded, where those of the page that is redone are
+    slots-then : (Bound : List ℕ → List ℕ → Type 0) (slots : ℕ → List ℕ)
+        → ((moved keeps : Keeps) (q : ℕ) → Bound (capacities (version_of (was moved) (disk_page (seen 0)) keeps q)) (slots q))
+        → Bound (capacities (redo image y)) (slots p) → (moved keeps : Keeps) (q : ℕ)
+        → Bound (capacities (version_of (is moved) (disk_page (seen 0)) keeps q)) (slots q)
+    slots-then Bound slots old grown moved keeps q = ⊎_elim
         (λ on. ⊎_elim
-        (λ same. subst (λ (n : ℕ). AreWithin (capacities (version_of (is moved) (disk_page (seen 0)) keeps n)) (slots n)) (sym same)
-        (subst (λ (z : Page). AreWithin (capacities z) (slots p)) (sym (version-redone moved keeps on)) grown))
-        (λ ne. subst (λ (z : Page). AreWithin (capacities z) (slots q)) (sym (version-else moved keeps on q ne)) (old moved keeps q))
+        (λ same. subst (λ (n : ℕ). Bound (capacities (version_of (is moved) (disk_page (seen 0)) keeps n)) (slots n)) (sym same)
+        (subst (λ (z : Page). Bound (capacities z) (slots p)) (sym (version-redone moved keeps on)) grown))
+        (λ ne. subst (λ (z : Page). Bound (capacities z) (slots q)) (sym (version-else moved keeps on q ne)) (old moved keeps q))
         (cases_eq q p))
-        (λ off. subst (λ (z : Page). AreWithin (capacities z) (slots q)) (sym (version-without moved keeps off q)) (old moved keeps q))
+        (λ off. subst (λ (z : Page). Bound (capacities z) (slots q)) (sym (version-without moved keeps off q)) (old moved keeps q))
         (cases_Bool (keeps i))
 
     reach-then : (reach : ℕ → ℕ) → ((moved : Keeps) (j : ℕ) → 1 ≤ j → j ≤ 8 → ReachesAtMost (reach j) (log_by c moved j))
@@ -369,10 +370,12 @@ module _ (i : ℕ) (rec : Record) (spare : ℕ) (image : Page) (table : Transact
             (cases_eq j i)
 
     -- sums that were above all before are, where they are above what the record adds
-    pub bounds-fit : (b : Bounds) → FitsBounds seen leaves c b → AreWithin (capacities (redo image y)) (b.slots p) → ReachesAtMost (b.reach i) log
+    pub bounds-fit : (b : Bounds) → FitsBounds seen leaves c b → AreWithin (capacities (redo image y)) (b.slots p)
+        → AreAtLeast (capacities (redo image y)) (b.least p) → ReachesAtMost (b.reach i) log
         → great_of new + owed_in_all new ≤ b.lsns → FitsBounds seen leaves new b
-    bounds-fit b old slots reach lsns = record {
-      slots = slots-then b.slots old.slots slots;
+    bounds-fit b old slots least reach lsns = record {
+      slots = slots-then AreWithin b.slots old.slots slots;
+      least = slots-then AreAtLeast b.least old.least least;
       reach = reach-then b.reach old.reach reach;
       lsns = lsns;
       masters = old.masters;

@@ -92,6 +92,7 @@ module _ (i by : ℕ) (seen : DeviceImages) (leaves : Outcomes) (c : Parts) (w :
   begun-bounds : (b : Bounds) → FitsBounds seen leaves c b → FitsBounds seen leaves begun b
   begun-bounds b f = record {
     slots = f.slots;
+    least = f.least;
     reach = f.reach;
     lsns = no-more (great_of c) (owed_in_all begun) (owed_in_all c) b.lsns (sum-less (owes_most begun) (owes_most c) 8 owes) f.lsns;
     masters = f.masters;
@@ -114,7 +115,7 @@ module _ (i by : ℕ) (seen : DeviceImages) (leaves : Outcomes) (c : Parts) (w :
       begun = f.pages.begun;
     };
     bounds = begun-bounds (bounds_after w.bounds (RecoverBegin i by) reply.Did)
-        (bounds-stay seen c w.bounds (RecoverBegin i by) reply.Did f.bounds);
+        (bounds-stay seen c w.bounds (RecoverBegin i by) reply.Did tt f.bounds);
     doubts = f.doubts;
   }
 

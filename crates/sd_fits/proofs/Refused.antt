@@ -107,5 +107,5 @@ refused-serves {G} tell c now w f e n cause is = (
   passed w w.scene.waits e (reply.Refused n),
   still-serves tell e (reply.Refused n) c c w (passed w w.scene.waits e (reply.Refused n)) refl now f
       (refused-turns (tell.seen c.rig) (tell.leaves c.rig) (parts c) w f e n cause is)
-      (nothing-fits (parts c).locks w.scene.waits e (reply.Refused n) (tell.seen c.rig) (tell.leaves c.rig) (parts c) w f),
+      (nothing-fits (parts c).locks w.scene.waits e (reply.Refused n) (tell.seen c.rig) (tell.leaves c.rig) (parts c) w f tt),
 )

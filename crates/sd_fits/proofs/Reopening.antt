@@ -144,7 +144,7 @@ module _ (devices : rig.DeviceImages) (leaves : Outcomes) (w : Core) (f : FitsCl
   pub reopened-fits : (leaves' : Outcomes) (c : Parts) → IsOpenedOn w.pages.frames devices leaves' c
       → Fits devices leaves' c (reopened_core devices w)
   reopened-fits leaves' c on = opened-fits devices leaves' w.pages.frames c then on reopens-to (reopened_core devices w).bounds
-      (sums-stay devices w.bounds Reopen reply.Did (f.sums devices left))
+      (sums-stay devices w.bounds Reopen reply.Did tt (f.sums devices left))
 
 pub closed-reopens : (leaves leaves' : Outcomes) → ClosedReopens leaves leaves'
 closed-reopens leaves leaves' devices c w f left on = (reopened-turns devices leaves w f left, reopened-fits devices leaves w f left leaves' c on)

@@ -8,7 +8,7 @@ use Rattle.std.proofs.lemmas.Bool.{cases_Bool, cases_eq}
 use Rattle.std.proofs.lemmas.List.{length-append, map-append}
 use Rattle.std.proofs.lemmas.List.Elements.{filter-append}
 use Rattle.std.proofs.lemmas.List.Folds.{list_any-append}
-use Rattle.sd_log.specs.Logs.{LogState, forced, forced_with, last_lsn, scanned, tail_len, with_record}
+use Rattle.sd_log.specs.Logs.{LogState, begun_at, forced, forced_with, last_lsn, scanned, tail_len, with_record}
 use Rattle.sd_log.proofs.Parted.{spelled-more}
 use Rattle.sd_logrec.specs.Kept.{spelled}
 use Rattle.sd_logrec.specs.Spelling.{spelling}
@@ -39,7 +39,7 @@ use Rattle.sd_chain.specs.Logs.{Logs, Outcomes, all_at, base_at, kept_logs, next
 use Rattle.sd_chain.proofs.Appends.{appended-log}
 use Rattle.sd_chain.proofs.Kept.{forced-gate}
 use Rattle.sd_state.specs.Good.{Good}
-use Rattle.sd_state.specs.Images.{begun_at, log_by}
+use Rattle.sd_state.specs.Images.{log_by}
 use Rattle.sd_state.specs.Parts.{Parts, among, is_loose, log_at, no_log, no_txns, other_at, owed_at, status_at, txns_at}
 use Rattle.sd_state.specs.Sums.{great_of, most_to, owed_in_all, owes_most}
 use Rattle.sd_state.specs.Tables.{tells_log}
@@ -49,7 +49,7 @@ use Rattle.sd_state.proofs.Lasts.{last-more}
 use Rattle.sd_state.proofs.Standing.{one-place}
 use Rattle.sd_world.specs.Bounds.{Bounds}
 use Rattle.sd_world.specs.Pages.{Pages}
-use Rattle.sd_fits.specs.Fits.{AreWithin, FitsBounds, FitsDoubts, FitsPages, HaveSlots, ReachesAtMost, capacities}
+use Rattle.sd_fits.specs.Fits.{AreAtLeast, AreWithin, FitsBounds, FitsDoubts, FitsPages, HaveSlots, ReachesAtMost, capacities}
 use Rattle.sd_fits.proofs.Doubts.{commits-more, doubts-on, placed-slots, same-doubts, slots-kept}
 use Rattle.sd_moves.proofs.FallBounds.{sum-less}
 
@@ -91,6 +91,7 @@ owes-less false false was told told' less = omega arith
 -- Sums to which log i's may grow by so many bytes, and LSNs by one.
 pub record AreMore (i extra : ℕ) (b b' : Bounds) : Type 0 where
   pub slots : (p : ℕ) → b'.slots p ≡ b.slots p
+  pub least : (p : ℕ) → b'.least p ≡ b.least p
   pub here : b.reach i + extra ≤ b'.reach i
   pub reach : (j : ℕ) → b.reach j ≤ b'.reach j
   pub lsns : b.lsns + 1 ≤ b'.lsns
@@ -200,6 +201,10 @@ module _ (i spare extra : ℕ) (y : Record) (txns : List Transactions) (epochs :
         (subst (λ (x : Page). AreWithin (capacities x) (b.slots p))
         (sym (version-same (log_by c moved) (log_by new moved) (here-by moved) (else-by moved) (disk_page (seen 0)) keeps p))
         (f.slots moved keeps p));
+    least = λ moved keeps p. subst (AreAtLeast _) (sym (a.least p))
+        (subst (λ (x : Page). AreAtLeast (capacities x) (b.least p))
+        (sym (version-same (log_by c moved) (log_by new moved) (here-by moved) (else-by moved) (disk_page (seen 0)) keeps p))
+        (f.least moved keeps p));
     reach = λ moved j lo hi. reaches b b' a moved j (f.reach moved j lo hi);
     lsns = let was = f.lsns in let more = a.lsns in let great = great-next in
         let owed = sum-less (owes_most new) (owes_most c) 8

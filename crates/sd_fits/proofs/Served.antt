@@ -17,18 +17,23 @@ use Rattle.sd_model.specs.declared.event.Event.TheVariants.{Insert, CheckEnd}
 use Rattle.sd_model.specs.declared.event.Reply.{Reply}
 use Rattle.sd_model.specs.declared.event.Reply.TheVariants as reply
 use Rattle.sd_reclock.specs.Locks.{LockTable, held, waits}
-use Rattle.sd_chain.specs.Logs.{Outcomes}
+use Rattle.sd_chain.specs.Bytes.{disk_page}
+use Rattle.sd_chain.specs.Images.{Keeps}
+use Rattle.sd_chain.specs.Logs.{Outcomes, tails_of}
+use Rattle.sd_chain.specs.Named.{version_of}
 use Rattle.sd_world.specs.Answers.{Moves}
-use Rattle.sd_world.specs.Bounds.{Bounds, Within, bounds_after, cost, counts, masters_after, slots_after, with_slot}
+use Rattle.sd_world.specs.Bounds.{Bounds, TellsNoPlace, Within, bounds_after, cost, counts, masters_after, slots_after, with_slot}
+use Rattle.sd_world.proofs.Sums.{least-kept}
 use Rattle.sd_world.specs.Serving.{Core, Passes, Serves, Spares, Telling, Turns}
 use Rattle.sd_state.specs.Complexes.{parts}
 use Rattle.sd_state.specs.Good.{Good, HasNumber, IsUnderWay}
+use Rattle.sd_state.specs.Images.{log_by}
 use Rattle.sd_state.specs.Parts.{Parts}
 use Rattle.sd_state.specs.Values.{Pending}
 use Rattle.sd_state.specs.Working.{with_locks}
 use Rattle.sd_state.specs.declared.complex.Complex.{Complex}
 use Rattle.sd_state.proofs.Standing.{left-stands}
-use Rattle.sd_fits.specs.Fits.{AreWithin, Fits, FitsBounds}
+use Rattle.sd_fits.specs.Fits.{AreAtLeast, AreWithin, Fits, FitsBounds, capacities}
 use Rattle.sd_fits.specs.Serving.{fits_by, stands_for}
 
 -- ---- sums after any event
@@ -61,11 +66,15 @@ masters-most old (CheckEnd j) i n f = go (cond (eqb j i) 1 0)
     go k = omega (arith, f)
 masters-most old e i n f = f
 
--- what was within the sums is within those after any event
-pub bounds-stay : (seen : DeviceImages) {leaves : Outcomes} (c : Parts) (b : Bounds) (e : Event) (r : Reply) → FitsBounds seen leaves c b
-    → FitsBounds seen leaves c (bounds_after b e r)
-bounds-stay seen c b e r f = record {
+-- what was within the sums is within those after any event that leaves the slots as they are, or whose slots aren't below what they
+-- have at least then
+pub bounds-with : (seen : DeviceImages) {leaves : Outcomes} (c : Parts) (b : Bounds) (e : Event) (r : Reply)
+    → ((moved keeps : Keeps) (p : ℕ)
+    → AreAtLeast (capacities (version_of (tails_of (log_by c moved)) (disk_page (seen 0)) keeps p)) ((bounds_after b e r).least p))
+    → FitsBounds seen leaves c b → FitsBounds seen leaves c (bounds_after b e r)
+bounds-with seen c b e r least f = record {
   slots = λ moved keeps p. slots-within _ b.slots e r p (f.slots moved keeps p);
+  least = least;
   reach = λ moved i low high.
       let more : b.reach i ≤ (bounds_after b e r).reach i = go (cond (eqb _ i) (cond (counts e r) (cost e) 0) 0) (b.reach i) in
       let f = f.reach moved i low high in
@@ -77,6 +86,11 @@ bounds-stay seen c b e r f = record {
   where
     go : (x y : ℕ) → y ≤ x + y
     go x y = omega arith
+
+pub bounds-stay : (seen : DeviceImages) {leaves : Outcomes} (c : Parts) (b : Bounds) (e : Event) (r : Reply) → TellsNoPlace r
+    → FitsBounds seen leaves c b → FitsBounds seen leaves c (bounds_after b e r)
+bounds-stay seen c b e r told f = bounds-with seen c b e r
+    (λ moved keeps p. subst (AreAtLeast _) (sym (least-kept b.least e r told p)) (f.least moved keeps p)) f
 
 -- ---- waits
 
@@ -228,10 +242,10 @@ passed w asks e r = record {
 module _ (locks : LockTable) (asks : Waits) (e : Event) (r : Reply) (seen : DeviceImages) (leaves : Outcomes) (c : Parts) (w : Core)
     (f : Fits seen leaves c w) where
   -- A call that changes locks alone, and these in their waits alone: the complex fits on.
-  pub stays-fitting : ((t : TxnId) (q : Rid) → held locks t q ≡ held c.locks t q) → ((t : TxnId) → waits locks t ≡ asks t)
+  pub stays-fitting : TellsNoPlace r → ((t : TxnId) (q : Rid) → held locks t q ≡ held c.locks t q) → ((t : TxnId) → waits locks t ≡ asks t)
       → ((t : TxnId) → is_running (w.scene.state.part t).life ≡ false → asks t ≡ None)
       → Fits seen leaves (with_locks locks c) (passed w asks e r)
-  stays-fitting same now running = record {
+  stays-fitting told same now running = record {
     good = relocked-good locks seen leaves Pending.Idle c w.scene.state f.good same;
     idle = f.idle;
     rolling = f.rolling;
@@ -245,16 +259,16 @@ module _ (locks : LockTable) (asks : Waits) (e : Event) (r : Reply) (seen : Devi
       number = f.pages.number;
       begun = f.pages.begun;
     };
-    bounds = relock-bounds (bounds-stay seen c w.bounds e r f.bounds);
+    bounds = relock-bounds (bounds-stay seen c w.bounds e r told f.bounds);
     doubts = f.doubts;
   }
     where
       relock-bounds : FitsBounds seen leaves c (bounds_after w.bounds e r) → FitsBounds seen leaves (with_locks locks c) (bounds_after w.bounds e r)
-      relock-bounds b = record { slots = b.slots; reach = b.reach; lsns = b.lsns; masters = b.masters; left_masters = b.left_masters }
+      relock-bounds b = record { slots = b.slots; least = b.least; reach = b.reach; lsns = b.lsns; masters = b.masters; left_masters = b.left_masters }
 
   -- One that changes nothing at all, of an event that sets no wait.
-  pub nothing-fits : Fits seen leaves c (passed w w.scene.waits e r)
-  nothing-fits = record {
+  pub nothing-fits : TellsNoPlace r → Fits seen leaves c (passed w w.scene.waits e r)
+  nothing-fits told = record {
     good = f.good;
     idle = f.idle;
     rolling = f.rolling;
@@ -262,7 +276,7 @@ module _ (locks : LockTable) (asks : Waits) (e : Event) (r : Reply) (seen : Devi
     waiting = f.waiting;
     put = f.put;
     pages = f.pages;
-    bounds = bounds-stay seen c w.bounds e r f.bounds;
+    bounds = bounds-stay seen c w.bounds e r told f.bounds;
     doubts = f.doubts;
   }
 

@@ -3,6 +3,7 @@ use Rattle.std.proofs.Common.{◌≡◌, sym, subst}
 use Rattle.sd_rig.specs.Devices.{DeviceImages, Leaves}
 use Rattle.sd_model.specs.declared.event.Event.{Event}
 use Rattle.sd_model.specs.declared.event.Reply.{Reply}
+use Rattle.sd_world.specs.Bounds.{TellsNoPlace}
 use Rattle.sd_world.specs.Serving.{Core, Passes, Serves, Spares, Telling, Turns}
 use Rattle.sd_state.specs.Complexes.{parts}
 use Rattle.sd_state.specs.declared.complex.Complex.{Complex}
@@ -22,11 +23,11 @@ module _ {G : Type 0} (tell : Telling G) (old new : Complex G) (same : new.rig �
     kept-fits w' f' = moved-fits w' (subst (λ c. Fits (tell.seen old.rig) (tell.leaves old.rig) c w') (sym stays) f')
 
     -- the event turns the world so, and nothing changes but its sums
-    pub kept-serves : (e : Event) (r : Reply) → Turns w e r (passed w w.scene.waits e r)
+    pub kept-serves : (e : Event) (r : Reply) → TellsNoPlace r → Turns w e r (passed w w.scene.waits e r)
         → Serves {C = Complex G} tell stands_for (λ c. c.rig) (fits_by tell.seen tell.leaves) e r old new w (passed w w.scene.waits e r)
-    kept-serves e r turns = still-serves tell e r old new w (passed w w.scene.waits e r) (sym same) now f turns
+    kept-serves e r told turns = still-serves tell e r old new w (passed w w.scene.waits e r) (sym same) now f turns
         (kept-fits (passed w w.scene.waits e r)
-        (nothing-fits (parts old).locks w.scene.waits e r (tell.seen old.rig) (tell.leaves old.rig) (parts old) w f))
+        (nothing-fits (parts old).locks w.scene.waits e r (tell.seen old.rig) (tell.leaves old.rig) (parts old) w f told))
 
     -- want of memory spares all
     pub kept-spares : Spares {C = Complex G} tell stands_for (λ c. c.rig) (fits_by tell.seen tell.leaves) old new w

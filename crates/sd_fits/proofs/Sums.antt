@@ -35,17 +35,19 @@ use Rattle.sd_state.proofs.Standing.{left-by, which}
 use Rattle.sd_model.specs.Fields.{inst_of}
 use Rattle.sd_model.specs.declared.event.Event.{Event}
 use Rattle.sd_model.specs.declared.event.Reply.{Reply}
-use Rattle.sd_world.specs.Bounds.{Bounds, bounds_after, cost, counts}
+use Rattle.sd_world.proofs.Sums.{least-kept}
+use Rattle.sd_world.specs.Bounds.{Bounds, TellsNoPlace, bounds_after, cost, counts}
 use Rattle.sd_world.specs.Serving.{Core}
-use Rattle.sd_fits.specs.Fits.{AreWithin, Fits, capacities}
+use Rattle.sd_fits.specs.Fits.{AreAtLeast, AreWithin, Fits, capacities}
 use Rattle.sd_fits.proofs.Served.{masters-most, slots-within}
 use Rattle.sd_fits.specs.Sums.{HaveLsnsTo, IsWithinSums, LeftIsWithinSums}
 
--- what is within the sums is within those after any event
-pub sums-stay : (devices : rig.DeviceImages) (b : Bounds) (e : Event) (r : Reply) → IsWithinSums devices b
+-- what is within the sums is within those after any event that leaves the slots as they are
+pub sums-stay : (devices : rig.DeviceImages) (b : Bounds) (e : Event) (r : Reply) → TellsNoPlace r → IsWithinSums devices b
     → IsWithinSums devices (bounds_after b e r)
-sums-stay devices b e r s = record {
+sums-stay devices b e r told s = record {
   slots = λ p. slots-within _ b.slots e r p (s.slots p);
+  least = λ p. subst (AreAtLeast _) (sym (least-kept b.least e r told p)) (s.least p);
   reach = λ i low high. let was = s.reach i low high in
       more (cond (eqb (inst_of e) i) (cond (counts e r) (cost e) 0) 0) (b.reach i) _ was;
   lsns = record {
@@ -179,6 +181,7 @@ module _ (leaves : Outcomes) (seen img : rig.DeviceImages) (c : Parts) (w : Core
   pub left-sums : IsWithinSums img w.bounds
   left-sums = record {
     slots = λ p. subst (λ (x : Page). AreWithin (capacities x) (w.bounds.slots p)) (sym (newest-is p)) (f.bounds.slots moved keeps p);
+    least = λ p. subst (λ (x : Page). AreAtLeast (capacities x) (w.bounds.least p)) (sym (newest-is p)) (f.bounds.least moved keeps p);
     reach = reach;
     lsns = lsns;
     masters = λ i low high. f.bounds.left_masters i low high (img i) (left i high);

@@ -163,6 +163,7 @@ module _ (table : LockTable) (asks : Waits) (m' : State) (b : Bounds) (seen : De
     };
     bounds = record {
       slots = bounds.slots;
+      least = bounds.least;
       reach = bounds.reach;
       lsns = bounds.lsns;
       masters = bounds.masters;

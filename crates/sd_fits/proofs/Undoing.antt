@@ -60,7 +60,7 @@ use Rattle.sd_update.proofs.UndoneTop.{clr-falls, finds-place}
 use Rattle.sd_state.proofs.WorkingGood.{working-settled}
 use Rattle.sd_state.proofs.WorkingTurns.{as-many}
 use Rattle.sd_moves.proofs.FallBounds.{sum-less}
-use Rattle.sd_fits.specs.Fits.{AreWithin, Fits, FitsBounds, ReachesAtMost, capacities}
+use Rattle.sd_fits.specs.Fits.{AreAtLeast, AreWithin, Fits, FitsBounds, ReachesAtMost, capacities}
 use Rattle.sd_fits.proofs.Changing.{caps-set}
 use Rattle.sd_fits.proofs.Recording.{Records}
 use Rattle.sd_fits.proofs.Recording as rec
@@ -256,7 +256,7 @@ module _ (t : TxnId) (to : Option ℕ) (seen : DeviceImages) (leaves : Outcomes)
   sums = bounds_after w.bounds (Undo t) reply.Step
 
   old : FitsBounds seen leaves c sums
-  old = bounds-stay seen c w.bounds (Undo t) reply.Step f.bounds
+  old = bounds-stay seen c w.bounds (Undo t) reply.Step tt f.bounds
 
   abbrev still : Keeps
   still j = false
@@ -269,6 +269,12 @@ module _ (t : TxnId) (to : Option ℕ) (seen : DeviceImages) (leaves : Outcomes)
       (sym (caps-set h.image.slots h.o.rid.slot (flat y).cap h.o.before
       (finds-place a t h.x h.o h.image seen leaves c s f.good top-there).slot.place))
       (subst (λ (z : Page). AreWithin (capacities z) (sums.slots p)) (sym copy-newest) (old.slots still all_kept p))
+
+  least-fit : AreAtLeast (capacities (redo h.image (flat y))) (sums.least p)
+  least-fit = subst (λ (l : List ℕ). AreAtLeast l (sums.least p))
+      (sym (caps-set h.image.slots h.o.rid.slot (flat y).cap h.o.before
+      (finds-place a t h.x h.o h.image seen leaves c s f.good top-there).slot.place))
+      (subst (λ (z : Page). AreAtLeast (capacities z) (sums.least p)) (sym copy-newest) (old.least still all_kept p))
 
   reach-here : ReachesAtMost (sums.reach a) log
   reach-here =
@@ -314,7 +320,7 @@ module _ (t : TxnId) (to : Option ℕ) (seen : DeviceImages) (leaves : Outcomes)
         put = put-then;
         pages = rec.pages-fit a y h.undone.spare h.image table pool new.directory seen leaves c (undid t s) w f records made-good;
         bounds = rec.bounds-fit a y h.undone.spare h.image table pool new.directory seen leaves c (undid t s) w f records made-good sums old slots-fit
-            reach-here lsns-fit;
+            least-fit reach-here lsns-fit;
         doubts = rec.doubts-fit a y h.undone.spare h.image table pool new.directory seen leaves c (undid t s) w f records made-good
             (on-stays s (undid t s) on);
       })

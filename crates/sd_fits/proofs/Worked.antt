@@ -24,13 +24,14 @@ module _ (txns : List Transactions) (locks : LockTable) (seen : rig.DeviceImages
       → FitsBounds seen leaves worked b
   worked-bounds b owes f = record {
     slots = f.slots;
+    least = f.least;
     reach = f.reach;
     lsns = let most : owed_in_all worked ≤ owed_in_all c = sum-less (owes_most worked) (owes_most c) 8 owes in
         let was : great_of c + owed_in_all c ≤ b.lsns = f.lsns in
-        least (great_of c) (owed_in_all worked) (owed_in_all c) b.lsns most was;
+        few (great_of c) (owed_in_all worked) (owed_in_all c) b.lsns most was;
     masters = f.masters;
     left_masters = f.left_masters;
   }
     where
-      least : (g a o n : ℕ) → a ≤ o → g + o ≤ n → g + a ≤ n
-      least g a o n le was = omega arith
+      few : (g a o n : ℕ) → a ≤ o → g + o ≤ n → g + a ≤ n
+      few g a o n le was = omega arith

@@ -49,6 +49,12 @@ AreWithin [] ys = Unit {0}
 AreWithin (x ∷ xs) [] = ⊥
 AreWithin (x ∷ xs) (y ∷ ys) = (x ≤ y) × AreWithin xs ys
 
+-- the first list is no longer than the second, each number at least that of its place there
+abbrev pub AreAtLeast : List ℕ → List ℕ → Type 0
+AreAtLeast [] ys = Unit {0}
+AreAtLeast (x ∷ xs) [] = ⊥
+AreAtLeast (x ∷ xs) (y ∷ ys) = (y ≤ x) × AreAtLeast xs ys
+
 -- the capacities of a page's slots
 abbrev pub capacities : Page → List ℕ
 capacities x = map (λ slot. slot.0) x.slots
@@ -57,10 +63,12 @@ capacities x = map (λ slot. slot.0) x.slots
 abbrev pub ReachesAtMost : ℕ → LogState → Type 0
 ReachesAtMost n log = (log.gate + reserve (base_at log) ≤ n) × ((forced log).gate + reserve (all_at log) ≤ n)
 
--- No real number is above the world's sums, whatever a crash leaves.
+-- No real number is above the world's sums, and no slot below what it has at least, whatever a crash leaves.
 pub record FitsBounds (seen : rig.DeviceImages) (leaves : Outcomes) (c : Parts) (b : Bounds) : Type 0 where
   pub slots : (moved keeps : Keeps) (p : ℕ)
       → AreWithin (capacities (version_of (tails_of (log_by c moved)) (disk_page (seen 0)) keeps p)) (b.slots p)
+  pub least : (moved keeps : Keeps) (p : ℕ)
+      → AreAtLeast (capacities (version_of (tails_of (log_by c moved)) (disk_page (seen 0)) keeps p)) (b.least p)
   pub reach : (moved : Keeps) (i : ℕ) → 1 ≤ i → i ≤ 8 → ReachesAtMost (b.reach i) (log_by c moved i)
   pub lsns : great_of c + owed_in_all c ≤ b.lsns
   pub masters : (i : ℕ) → 1 ≤ i → i ≤ 8 → count_at c i ≤ b.masters i
@@ -99,7 +107,7 @@ abbrev pub fresh_core : ℕ → Core
 fresh_core frames = record {
   scene = record { state = fresh; waits = λ t. None };
   pages = record { frames = frames; entry = λ p. PageEntry.Free; asks = λ p. []; number = λ p. 0; begun = λ i. false };
-  bounds = record { slots = λ p. []; reach = λ i. 0; lsns = 0; masters = λ i. 0 };
+  bounds = record { slots = λ p. []; least = λ p. []; reach = λ i. 0; lsns = 0; masters = λ i. 0 };
 }
 
 -- A fresh complex fits it.

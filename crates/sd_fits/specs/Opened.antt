@@ -64,6 +64,7 @@ top_page disk (suc n) = max (disk n).lsn (top_page disk n)
 abbrev pub sums_of : rig.DeviceImages → Bounds
 sums_of devices = record {
   slots = λ p. capacities (newest (stable devices) p);
+  least = λ p. capacities (newest (stable devices) p);
   reach = λ i. gate_of (kept (devices i)) + reserve (log_of devices i);
   lsns = max (top_page (disk_page (devices 0)) 1024) (most_to (λ j. top_lsn (log_of devices j)) 8) + owed_by_all devices;
   masters = λ i. (master (devices i)).count;

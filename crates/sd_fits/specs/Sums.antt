@@ -10,7 +10,7 @@ use Rattle.sd_chain.specs.Logs.{Outcomes}
 use Rattle.sd_world.specs.Bounds.{Bounds}
 use Rattle.sd_world.specs.Serving.{Core}
 use Rattle.sd_state.specs.Parts.{Parts}
-use Rattle.sd_fits.specs.Fits.{AreWithin, Fits, capacities}
+use Rattle.sd_fits.specs.Fits.{AreAtLeast, AreWithin, Fits, capacities}
 
 -- no LSN of these devices, with the records that are owed, is above n
 pub record HaveLsnsTo (n : ℕ) (devices : rig.DeviceImages) : Type 0 where
@@ -19,9 +19,10 @@ pub record HaveLsnsTo (n : ℕ) (devices : rig.DeviceImages) : Type 0 where
   pub pages : (p : ℕ) → p < 1024 → (disk_page (devices 0) p).lsn + owed_by_all devices ≤ n
 
 -- The slots of each page's newest version, each log with what it reserves, all LSNs, and the counts of masters are within the
--- sums.
+-- sums, and those slots aren't below what they have at least.
 pub record IsWithinSums (devices : rig.DeviceImages) (b : Bounds) : Type 0 where
   pub slots : (p : ℕ) → AreWithin (capacities (newest (stable devices) p)) (b.slots p)
+  pub least : (p : ℕ) → AreAtLeast (capacities (newest (stable devices) p)) (b.least p)
   pub reach : (i : ℕ) → 1 ≤ i → i ≤ 8 → gate_of (kept (devices i)) + reserve (log_of devices i) ≤ b.reach i
   pub lsns : HaveLsnsTo b.lsns devices
   pub masters : (i : ℕ) → 1 ≤ i → i ≤ 8 → (master (devices i)).count ≤ b.masters i

@@ -1,8 +1,8 @@
--- Nine bytes for each forced record lie before the gate, and each is one of the grammar. It serves the goals of log.rt.
-use Rattle.std.proofs.Common.{◌≡◌, inl, inr, ℕ, zero, suc, ◌+◌, ◌*◌, ◌<◌, ◌≤◌, Bool, true, false, List, [], ◌∷◌, ◌++◌, length, take, drop, refl, sym, ap, ◌∙◌, subst, arith, length-append}
+-- The groups stand one behind the other, and each record is one of the grammar. It serves the goals of log.rt.
+use Rattle.std.proofs.Common.{◌≡◌, inl, inr, ℕ, zero, suc, ◌+◌, ◌<◌, ◌≤◌, Bool, true, false, List, [], ◌∷◌, ◌++◌, length, take, drop, refl, sym, ap, ◌∙◌, subst, arith, length-append}
 use Rattle.std.specs.Prelude.{map}
 use Rattle.std.specs.List.{AllByRecursion}
-use Rattle.std.proofs.lemmas.List.{append-nil, length-map, length-take}
+use Rattle.std.proofs.lemmas.List.{append-nil, length-take}
 use Rattle.std.proofs.lemmas.List.Elements.{All-append, All-from_recursion, All-nil}
 use Rattle.sd_base.specs.Twin.{is_open}
 use Rattle.sd_logrec.specs.declared.record.Record.{Record}
@@ -14,21 +14,19 @@ use Rattle.sd_log.specs.declared.log.Log.TheInside.{Inside}
 use Rattle.sd_log.specs.declared.placed.Placed.{Placed}
 use Rattle.sd_log.specs.Buffers.{BufferState}
 use Rattle.sd_log.specs.WrittenStates.{WrittenState, all_in, closed}
-use Rattle.sd_log.specs.LogInside.{AreForced, IsLog, log_view}
-use Rattle.sd_log.specs.Logs.{AreSpelled, placed, placed_groups, placed_tail, scanned}
+use Rattle.sd_log.specs.LogInside.{IsLog, log_view}
+use Rattle.sd_log.specs.Logs.{AreForced, ArePlaced, AreSpelled, placed, placed_groups, placed_tail, scanned}
 use Rattle.sd_log.specs.ByPage.{changed_pages}
 use Rattle.sd_log.proofs.Changes.{pages-closed}
 use Rattle.sd_log.proofs.Parted.{placed_groups-more}
 use Rattle.sd_log.specs.Parts.{record_of, text_of}
 use Rattle.sd_log.specs.Spellings.{record_in}
-use Rattle.sd_log.proofs.Spelled.{within_bytes, within_text}
-use Rattle.sd_log.proofs.Tails.{least_spelling, least_text, no_text}
+use Rattle.sd_log.proofs.Places.{first_place, placed_bytes, placed_more}
+use Rattle.sd_log.proofs.Spelled.{within_text}
+use Rattle.sd_log.proofs.Spelling.{records_placed}
+use Rattle.sd_log.proofs.Tails.{least_bytes, least_text, no_text}
 
 -- ---- records of a tail
-
-least_bytes : (rs : List Record) → 9 * length rs ≤ length (spelled rs)
-least_bytes [] = omega arith
-least_bytes (r ∷ rs) = omega (arith, least_bytes rs, least_spelling r, length-append (spelling r) (spelled rs))
 
 length-placed : (is_forced : Bool) (at : ℕ) (rs : List Record) → length (map (placed is_forced) (placed_from at rs)) ≡ length rs
 length-placed is_forced at [] = refl
@@ -44,18 +42,20 @@ placed_spelled is_forced at rs h = All-from_recursion (λ (p : Placed). HasSpell
 -- ---- forced records
 
 pub forced_none : (at : ℕ) → AreForced at at []
-forced_none at = record { bytes = omega arith; spelled = All-nil (λ (p : Placed). HasSpelling p.rec) }
+forced_none at = record { places = refl; spelled = All-nil (λ (p : Placed). HasSpelling p.rec) }
 
 -- a tail that becomes a group
 pub forced_more : (start gate len : ℕ) (groups : List Group) (tail : List Record) → AreForced start gate groups → AllByRecursion HasSpelling tail → len ≡ length (spelled tail)
     → AreForced start (gate + 5 + len) (groups ++ record { at = gate; records = placed_from (gate + 5) tail } ∷ [])
 forced_more start gate len groups tail h fits size =
+    let group : Group = record { at = gate; records = placed_from (gate + 5) tail } in
     let more : List Placed = map (placed true) (placed_from (gate + 5) tail) in
-    let all = placed_groups-more groups (record { at = gate; records = placed_from (gate + 5) tail }) in
-    let bytes = h.bytes in
+    let text : length (spelled (map record_in (placed_from (gate + 5) tail))) ≡ len =
+    ap (λ (rs : List Record). length (spelled rs)) (records_placed (gate + 5) tail) ∙ sym size in
     record {
-      bytes = omega (arith, ap length all, length-append (placed_groups groups) more, length-placed true (gate + 5) tail, least_bytes tail);
-      spelled = subst AreSpelled (sym all) (All-append (λ (p : Placed). HasSpelling p.rec) (placed_groups groups) more h.spelled (placed_spelled true (gate + 5) tail fits));
+      places = placed_more start gate (gate + 5 + len) groups group h.places refl (omega arith);
+      spelled = subst AreSpelled (sym (placed_groups-more groups group))
+          (All-append (λ (p : Placed). HasSpelling p.rec) (placed_groups groups) more h.spelled (placed_spelled true (gate + 5) tail fits));
     }
 
 -- what forcing makes of the parts
@@ -96,21 +96,27 @@ closed_log l len written buffer h p =
 
 -- ---- groups that are read
 
-read_bytes : (n at : ℕ) (bytes : List ℕ) (groups : List Group) (gate : ℕ) → IsBytes bytes → groups_within n at bytes ≡ Whole groups gate → at + 9 * length (placed_groups groups) ≤ gate
+read_placed : (n at : ℕ) (bytes : List ℕ) (groups : List Group) (gate : ℕ) → IsBytes bytes → groups_within n at bytes ≡ Whole groups gate → ArePlaced at gate groups
 unfolding groups_within
-read_bytes zero at bytes groups gate are e =
+read_placed zero at bytes groups gate are e =
     let none : groups ≡ [] = cc in
-    let here : gate ≡ at = cc in
-    omega (arith, ap (λ (gs : List Group). length (placed_groups gs)) none)
-read_bytes (suc n) at bytes groups gate are e =
+    let here : at ≡ gate = cc in
+    subst (ArePlaced at gate) (sym none) here
+read_placed (suc n) at bytes groups gate are e =
     let len : ℕ = group_len bytes in
     let body : List ℕ = take len (drop 5 bytes) in
     elim (step_of (is_open 0 bytes) (fits_area at len) at (records_at (at + 5) body) (groups_within n (at + 5 + len) (drop (5 + len) bytes)) groups gate e) [
-      | inl h ↦ omega (arith, h.2, ap (λ (gs : List Group). length (placed_groups gs)) h.1)
+      | inl h ↦ subst (ArePlaced at gate) (sym h.1) (sym h.2)
       | inr h ↦
-          let more = read_bytes n (at + 5 + len) (drop (5 + len) bytes) h.1 gate (IsBytes-drop (5 + len) bytes are) h.5 in
-          let first : 9 * length h.0 ≤ length body = within_bytes (length body) (at + 5) body h.0 (IsBytes-take len (drop 5 bytes) (IsBytes-drop 5 bytes are)) h.4 in
-          omega (arith, more, first, length-take len (drop 5 bytes), ap (λ (gs : List Group). length (placed_groups gs)) h.6, length-append (map (placed true) h.0) (placed_groups h.1), length-map h.0 (placed true))
+          let more = read_placed n (at + 5 + len) (drop (5 + len) bytes) h.1 gate (IsBytes-drop (5 + len) bytes are) h.5 in
+          let place = first_place (at + 5 + len) gate h.1 more in
+          let first : length (spelled (map record_in h.0)) ≡ length body =
+          within_text (length body) (at + 5) body h.0 (IsBytes-take len (drop 5 bytes) (IsBytes-drop 5 bytes are)) h.4 in
+          subst (ArePlaced at gate) (sym h.6) (
+            refl,
+            omega (arith, place, first, length-take len (drop 5 bytes)),
+            subst (λ n. ArePlaced n gate h.1) (sym place) more,
+          )
     ]
 
 -- the bytes of all records lie between them
@@ -145,7 +151,7 @@ read_within (suc n) at bytes groups gate are e =
 pub read_forced : (start gate : ℕ) (bytes : List ℕ) (groups : List Group) (tail : List Record) → IsBytes bytes → groups_within (length bytes) start bytes ≡ Whole groups gate → tail ≡ []
     → AreSpelled (placed_groups groups ++ placed_tail gate tail) → AreForced start gate groups
 read_forced start gate bytes groups tail are e none spelled_ones = record {
-  bytes = read_bytes (length bytes) start bytes groups gate are e;
+  places = read_placed (length bytes) start bytes groups gate are e;
   spelled = subst AreSpelled (append-nil (placed_groups groups)) (subst (λ (rs : List Record). AreSpelled (placed_groups groups ++ placed_tail gate rs)) none spelled_ones);
 }
 
@@ -162,9 +168,9 @@ all_spelled l h = All-append (λ (p : Placed). HasSpelling p.rec) (placed_groups
 
 few_of : (start gate : ℕ) (groups : List Group) (tail : List Record) → AreForced start gate groups → gate < 1048576 → ((tail ≡ [] → ⊥) → gate + 5 + length (spelled tail) + 1 ≤ 1048576)
     → length (placed_groups groups ++ placed_tail gate tail) ≤ 116508
-few_of start gate groups [] h within fits = let bytes = h.bytes in omega (arith, length-append (placed_groups groups) (placed_tail gate []))
+few_of start gate groups [] h within fits = let bytes = placed_bytes start gate groups h.places in omega (arith, length-append (placed_groups groups) (placed_tail gate []))
 few_of start gate groups (r ∷ rs) h within fits =
-    let bytes = h.bytes in
+    let bytes = placed_bytes start gate groups h.places in
     let room = fits (λ none. cc) in
     omega (arith, room, length-append (placed_groups groups) (placed_tail gate (r ∷ rs)), length-placed false (gate + 5) (r ∷ rs), least_bytes (r ∷ rs))
 

@@ -1,5 +1,5 @@
 -- A record that comes behind others that marks part, and a tail that becomes a group.
-use Rattle.std.proofs.Common.{◌≡◌, inl, inr, ℕ, ◌+◌, ◌-◌, ◌<◌, max, true, false, List, [], ◌∷◌, ◌++◌, length, take, drop, sym, ap, ◌∙◌, subst, arith, length-append, length-drop}
+use Rattle.std.proofs.Common.{◌≡◌, inl, inr, ℕ, ◌+◌, ◌-◌, ◌<◌, true, false, List, [], ◌∷◌, ◌++◌, length, take, drop, sym, ap, ◌∙◌, subst, arith, length-append, length-drop}
 use Rattle.std.specs.Prelude.{map}
 use Rattle.std.proofs.lemmas.List.{drop-append-le, length-map, length-take-le, map-append, take-append-drop, take-append-le, take_all}
 use Rattle.std.proofs.Math.ListN.{drop_of_length-le}
@@ -9,7 +9,7 @@ use Rattle.sd_logrec.specs.Kept.{Records, placed_from, spelled}
 use Rattle.sd_log.specs.declared.placed.Placed.{Placed}
 use Rattle.sd_log.specs.declared.marks.Mark.{Mark}
 use Rattle.sd_log.specs.Logs.{placed, placed_groups, placed_tail}
-use Rattle.sd_log.specs.Marks.{AreMarks, MarksState, as_forced, counted, end_of, entry, greatest_lsn, grouped, high_of}
+use Rattle.sd_log.specs.Marks.{AreMarks, MarksState, as_forced, counted, end_of, entry, greatest_lsn, grouped}
 use Rattle.sd_log.specs.Parts.{IsParted, groups_of, record_of, tail_of}
 use Rattle.sd_log.proofs.Parted.{AreMarks-more, as_forced-all, counted-more, end_of-more, entry-all, greatest-forced, grouped-more, placed_groups-more, placed_tail-more}
 
@@ -21,7 +21,7 @@ none_parted m none zero_is here =
       within = omega (arith, zero_is);
       count = zero_is ∙ sym (ap counted none);
       gate_is = here ∙ sym (ap (end_of m.start) none);
-      marks_are = subst (λ (ms : List Mark). AreMarks m.start 0 ms (take m.forced [])) (sym none) tt;
+      marks_are = subst (λ (ms : List Mark). AreMarks m.start ms (take m.forced [])) (sym none) tt;
       forced_ones = taken ∙ sym (ap (λ (ms : List Mark). placed_groups (grouped m.start ms (take m.forced []))) none);
       tail_ones = left ∙ sym (ap (λ (l : List Placed). placed_tail m.gate (map record_of l)) left);
     }
@@ -57,7 +57,7 @@ module _ (m : MarksState) (ps : List Placed) (r : Record) (place : ℕ) (h : IsP
         within = omega (arith, length-append ps (last ∷ []));
         count = h.count;
         gate_is = h.gate_is;
-        marks_are = subst (λ (l : List Placed). AreMarks m.start 0 m.marks l) (sym front_stays) h.marks_are;
+        marks_are = subst (λ (l : List Placed). AreMarks m.start m.marks l) (sym front_stays) h.marks_are;
         forced_ones = subst (λ (l : List Placed). l ≡ placed_groups (grouped m.start m.marks l)) (sym front_stays) h.forced_ones;
         tail_ones = back_more ∙ ap (λ (l : List Placed). l ++ last ∷ []) h.tail_ones
             ∙ ap (λ n. placed_tail m.gate (tail_of m ps) ++ placed false (n, r) ∷ []) here
@@ -81,7 +81,7 @@ all_forced m ps = take m.forced ps ++ map as_forced (drop m.forced ps)
 pub record Closes (m n : MarksState) (ps : List Placed) (len : ℕ) : Type 0 where
   pub start_is : n.start ≡ m.start
   pub gate_is : n.gate ≡ m.gate + 5 + len
-  pub marks_is : n.marks ≡ m.marks ++ record { end = m.gate + 5 + len; count = length ps - m.forced; high = max (high_of 0 m.marks) (greatest_lsn (drop m.forced ps)) } ∷ []
+  pub marks_is : n.marks ≡ m.marks ++ record { end = m.gate + 5 + len; count = length ps - m.forced; high = greatest_lsn (drop m.forced ps) } ∷ []
   pub forced_is : n.forced ≡ m.forced + (length ps - m.forced)
 
 module _ (m n : MarksState) (ps : List Placed) (len : ℕ) (h : IsParted m ps) (c : Closes m n ps len) where
@@ -92,7 +92,7 @@ module _ (m n : MarksState) (ps : List Placed) (len : ℕ) (h : IsParted m ps) (
   back = map as_forced (drop m.forced ps)
 
   abbrev mark : Mark
-  mark = record { end = m.gate + 5 + len; count = length ps - m.forced; high = max (high_of 0 m.marks) (greatest_lsn (drop m.forced ps)) }
+  mark = record { end = m.gate + 5 + len; count = length ps - m.forced; high = greatest_lsn (drop m.forced ps) }
 
   front_len : length front ≡ m.forced
   front_len = let within = h.within in length-take-le m.forced ps (omega arith)
@@ -138,11 +138,11 @@ module _ (m n : MarksState) (ps : List Placed) (len : ℕ) (h : IsParted m ps) (
         within = omega arith;
         count = omega (arith, c.forced_is, h.count, ap counted c.marks_is, counted-more m.marks mark);
         gate_is = c.gate_is ∙ sym (end_of-more n.start m.marks mark) ∙ sym (ap (end_of n.start) c.marks_is);
-        marks_are = subst (λ (l : List Placed). AreMarks n.start 0 n.marks l) (sym taken)
-            (subst (λ start. AreMarks start 0 n.marks (front ++ back)) (sym c.start_is)
-            (subst (λ (ms : List Mark). AreMarks m.start 0 ms (front ++ back)) (sym c.marks_is)
-            (AreMarks-more m.start 0 m.marks mark front back h.marks_are (sym h.count ∙ sym front_len) (sym back_len) (omega arith) (omega arith)
-            (ap (max (high_of 0 m.marks)) (sym (greatest-forced (drop m.forced ps)))))));
+        marks_are = subst (λ (l : List Placed). AreMarks n.start n.marks l) (sym taken)
+            (subst (λ start. AreMarks start n.marks (front ++ back)) (sym c.start_is)
+            (subst (λ (ms : List Mark). AreMarks m.start ms (front ++ back)) (sym c.marks_is)
+            (AreMarks-more m.start m.marks mark front back h.marks_are (sym h.count ∙ sym front_len) (sym back_len) (omega arith) (omega arith)
+            (sym (greatest-forced (drop m.forced ps))))));
         forced_ones = taken ∙ ap (λ (l : List Placed). l ++ back) h.forced_ones ∙ ap (λ (l : List Placed). placed_groups (groups_of m ps) ++ l) back_is
             ∙ sym (placed_groups-more (groups_of m ps) (record { at = m.gate; records = placed_from (m.gate + 5) (tail_of m ps) })) ∙ ap placed_groups (sym closed_groups);
         tail_ones = left ∙ sym (ap (λ (l : List Placed). placed_tail n.gate (map record_of l)) left);
@@ -170,7 +170,7 @@ module _ (m : MarksState) (ps : List Placed) (h : IsParted m ps) where
         within = omega (arith, length-take-le m.forced ps within);
         count = h.count;
         gate_is = h.gate_is;
-        marks_are = subst (λ (l : List Placed). AreMarks m.start 0 m.marks l) (sym front_all) h.marks_are;
+        marks_are = subst (λ (l : List Placed). AreMarks m.start m.marks l) (sym front_all) h.marks_are;
         forced_ones = front_all ∙ h.forced_ones ∙ ap placed_groups (sym dropped_groups);
         tail_ones = none_left ∙ sym (ap (λ (l : List Placed). placed_tail m.gate (map record_of l)) none_left);
       }

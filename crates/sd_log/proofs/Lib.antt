@@ -1,11 +1,16 @@
+pub mod Behind
+pub mod Begun
 pub mod Changes
 pub mod Counted
 pub mod Forcing
+pub mod Forgetting
 pub mod Fronts
 pub mod Items
 pub mod Journaling
 pub mod Linked
+pub mod Lowered
 pub mod Paging
+pub mod Places
 pub mod Parted
 pub mod Bodies
 pub mod Spelled

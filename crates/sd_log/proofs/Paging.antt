@@ -1,18 +1,18 @@
 -- One record more or less in the chains of pages, and the walk through one. It serves the goals of pages.rt.
-use Rattle.std.proofs.Common.{◌≡◌, inl, inr, ℕ, suc, ◌+◌, ◌-◌, ◌<◌, ◌≤◌, Bool, true, false, ◌==◌, List, [], ◌∷◌, ◌++◌, length, take, get_or, set, refl, sym, ap, ◌∙◌, subst, arith, append_assoc, eqb-true, eq-eqb, vec_len}
+use Rattle.std.proofs.Common.{◌≡◌, inl, inr, ℕ, suc, ◌+◌, ◌-◌, ◌<◌, ◌≤◌, Bool, true, false, ◌==◌, List, [], ◌∷◌, ◌++◌, length, take, drop, get_or, set, refl, sym, ap, ◌∙◌, subst, arith, append_assoc, eqb-true, eq-eqb, vec_len}
 use Rattle.std.specs.Prelude.{Some, map, min, option_map, reverse, slice_get, if◌then◌else◌}
 use Rattle.std.specs.Global.{Vec}
-use Rattle.std.proofs.lemmas.List.{append-nil, get_or-set_other, length-map, length-take, length-take-le, map-append, reverse-append, take-take, take_all}
+use Rattle.std.proofs.lemmas.List.{append-nil, drop-map, get_or-map, get_or-set_other, length-map, length-take, length-take-le, map-append, reverse-append, take-take, take_all}
 use Rattle.std.proofs.lemmas.Bool.{cases_lt}
 use Rattle.std.proofs.lemmas.Option.{slice_get-map}
 use Rattle.std.proofs.Math.Seq.{take-length}
 use Rattle.std.proofs.lemmas.Grind.{get_or-set_at}
 use Rattle.sd_base.proofs.Lists.{slice_get-take}
 use Rattle.sd_log.specs.ByPage.{places_of}
-use Rattle.sd_log.specs.PagesInside.{AreLinked, IsPages, chain_of, last_of}
+use Rattle.sd_log.specs.PagesInside.{AreLinked, IsPages, chain_of, last_of, lowered}
 use Rattle.sd_log.specs.declared.pages.Link.{Link}
 use Rattle.sd_log.specs.declared.pages.PageChains.TheInside.{Inside}
-use Rattle.sd_log.proofs.Linked.{IsLast, ends, last-le, last-more, linked-at, linked-less, linked-more}
+use Rattle.sd_log.proofs.Linked.{IsLast, chains-lower, ends, last-drop, last-le, last-more, linked-at, linked-drop, linked-less, linked-more}
 
 -- the chains of links and one more
 chains-more : (ls : List Link) (l : Link) → map chain_of (ls ++ l ∷ []) ≡ map chain_of ls ++ l.chain ∷ []
@@ -67,6 +67,23 @@ popped_pages p v w l h e written same =
 
 pub popped_low : (p : Inside) (v : Vec Link) (l : Link) → IsPages p → p.links.items ≡ v.items ++ l ∷ [] → l.chain < vec_len p.last
 popped_low p v l h e = let heads = h.heads in let low = (linked-less [] v.items l (subst (AreLinked []) e h.linked)).1 in omega (arith, low)
+
+-- without the first records
+pub forgot_chains : (p : Inside) (v : Vec Link) (n : ℕ) → v.items ≡ map (lowered n) (drop n p.links.items) → map chain_of v.items ≡ drop n (map chain_of p.links.items)
+forgot_chains p v n links = ap (map chain_of) links ∙ chains-lower n (drop n p.links.items) ∙ sym (drop-map chain_of n p.links.items)
+
+pub forgot_pages : (p : Inside) (v : Vec Link) (w : Vec ℕ) (n : ℕ) → IsPages p → n ≤ length p.links.items → v.items ≡ map (lowered n) (drop n p.links.items)
+    → w.items ≡ map (λ k. k - n) p.last.items → vec_len w ≡ vec_len p.last → IsPages (record { last = w; links = v })
+forgot_pages p v w n h le links ends same =
+    let heads = h.heads in
+    let chains : map chain_of v.items ≡ drop n (map chain_of p.links.items) = forgot_chains p v n links in
+    record {
+      heads = same ∙ h.heads;
+      head_is = λ x low.
+          ap (λ (ys : List ℕ). get_or ys x 0) ends ∙ get_or-map (λ k. k - n) p.last.items x 0 0 (omega (arith, p.last.ok.0)) ∙ ap (λ k. k - n) (h.head_is x low)
+          ∙ sym (last-drop x n (map chain_of p.links.items) (omega (arith, length-map p.links.items chain_of))) ∙ ap (last_of x 0 0) (sym chains);
+      linked = subst (AreLinked []) (sym links) (linked-drop n p.links.items le h.linked);
+    }
 
 -- The walk from a chain's end: what is found so far stands behind a front, and the chain's end in that front comes next.
 pub record Walks (x at : ℕ) (chains found : List ℕ) : Type 0 where

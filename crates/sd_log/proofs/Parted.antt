@@ -1,6 +1,6 @@
 -- Lists of records parted by marks, and one more group behind them. It serves the goals of journal.rt.
-use Rattle.std.proofs.Common.{◌≡◌, ℕ, zero, suc, ◌+◌, ◌-◌, ◌<◌, ◌≤◌, max, Bool, true, false, List, [], ◌∷◌, ◌++◌, length, take, drop, get_or, set, refl, sym, ap, ◌∙◌, subst, arith, append_assoc, length-append, length-drop}
-use Rattle.std.specs.Prelude.{Some, map, slice_get}
+use Rattle.std.proofs.Common.{◌≡◌, ℕ, suc, ◌+◌, ◌-◌, ◌<◌, ◌≤◌, max, Bool, true, false, List, [], ◌∷◌, ◌++◌, length, take, drop, get_or, set, refl, sym, ap, ◌∙◌, subst, arith, append_assoc, length-append, length-drop}
+use Rattle.std.specs.Prelude.{map}
 use Rattle.std.proofs.lemmas.List.{append-nil, drop-append-le, get_or-drop, get_or_at, length-map, length-take-le, map-append, take-append-le}
 use Rattle.std.proofs.lemmas.Grind.{flat_map-append}
 use Rattle.std.proofs.Math.Seq.{drop-cons, set-append_seam, take-length, take-suc}
@@ -10,20 +10,9 @@ use Rattle.sd_logrec.specs.Spelling.{spelling}
 use Rattle.sd_log.specs.declared.placed.Placed.{Placed}
 use Rattle.sd_log.specs.declared.marks.Mark.{Mark}
 use Rattle.sd_log.specs.Logs.{lsn_of, placed, placed_groups, placed_tail}
-use Rattle.sd_log.specs.Marks.{AreMarks, as_forced, counted, end_of, entry, greatest_lsn, grouped, high_of}
+use Rattle.sd_log.specs.Marks.{AreMarks, as_forced, counted, end_of, entry, greatest_lsn, grouped}
 
 -- ---- marks
-
-last_high : (h i : ℕ) (ms : List Mark) (m : Mark) → i + 1 ≡ length ms → slice_get ms i ≡ Some m → m.high ≡ high_of h ms
-last_high h i [] m e at = absurd (cc)
-last_high h zero (m0 ∷ []) m e at = let same : m0 ≡ m = cc in sym (ap (λ (x : Mark). x.high) same)
-last_high h (suc i) (m0 ∷ []) m e at = absurd (cc)
-last_high h zero (m0 ∷ m1 ∷ ms) m e at = absurd (omega arith)
-last_high h (suc i) (m0 ∷ m1 ∷ ms) m e at = last_high m0.high i (m1 ∷ ms) m (omega arith) at
-
-pub high_at_end : (ms : List Mark) (m : Mark) → Some m ≡ slice_get ms (length ms - 1) → m.high ≡ high_of 0 ms
-high_at_end [] m e = absurd (cc)
-high_at_end (m0 ∷ ms) m e = let place : length (m0 ∷ ms) - 1 + 1 ≡ length (m0 ∷ ms) = omega arith in last_high 0 (length (m0 ∷ ms) - 1) (m0 ∷ ms) m place (sym e)
 
 -- the marks and one more
 pub counted-more : (ms : List Mark) (m : Mark) → counted (ms ++ m ∷ []) ≡ counted ms + m.count
@@ -48,13 +37,13 @@ grouped-more at (x ∷ ms) m front back e n =
     ∙ ap (λ (l : List Placed). record { at = at; records = map entry (take x.count front) } ∷ grouped x.end (ms ++ m ∷ []) l) t.1
     ∙ ap (λ (l : List Group). record { at = at; records = map entry (take x.count front) } ∷ l) (grouped-more x.end ms m (drop x.count front) back t.2 n)
 
-pub AreMarks-more : (at high : ℕ) (ms : List Mark) (m : Mark) (front back : List Placed) → AreMarks at high ms front → counted ms ≡ length front → m.count ≡ length back
-    → end_of at ms < m.end → 0 < m.count → m.high ≡ max (high_of high ms) (greatest_lsn back) → AreMarks at high (ms ++ m ∷ []) (front ++ back)
-AreMarks-more at high [] m [] back are e n end some h = (end, some, h ∙ ap (λ (l : List Placed). max high (greatest_lsn l)) (sym (ap (λ i. take i back) n ∙ take-length back)), tt)
-AreMarks-more at high [] m (p ∷ front) back are e n end some h = absurd (cc)
-AreMarks-more at high (x ∷ ms) m front back are e n end some h =
+pub AreMarks-more : (at : ℕ) (ms : List Mark) (m : Mark) (front back : List Placed) → AreMarks at ms front → counted ms ≡ length front → m.count ≡ length back
+    → end_of at ms < m.end → 0 < m.count → m.high ≡ greatest_lsn back → AreMarks at (ms ++ m ∷ []) (front ++ back)
+AreMarks-more at [] m [] back are e n end some h = (end, some, h ∙ ap greatest_lsn (sym (ap (λ i. take i back) n ∙ take-length back)), tt)
+AreMarks-more at [] m (p ∷ front) back are e n end some h = absurd (cc)
+AreMarks-more at (x ∷ ms) m front back are e n end some h =
     let t = first_taken x.count (counted ms) front back e in
-    (are.0, are.1, are.2 ∙ ap (λ (l : List Placed). max high (greatest_lsn l)) (sym t.0), subst (λ (l : List Placed). AreMarks x.end x.high (ms ++ m ∷ []) l) (sym t.1) (AreMarks-more x.end x.high ms m (drop x.count front) back are.3 t.2 n end some h))
+    (are.0, are.1, are.2 ∙ ap greatest_lsn (sym t.0), subst (λ (l : List Placed). AreMarks x.end (ms ++ m ∷ []) l) (sym t.1) (AreMarks-more x.end ms m (drop x.count front) back are.3 t.2 n end some h))
 
 -- ---- records of a tail
 

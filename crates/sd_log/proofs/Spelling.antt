@@ -1,9 +1,9 @@
 -- Records that are kept as their bytes, each with a slot. It serves the goals of spellings.rt.
-use Rattle.std.proofs.Common.{◌≡◌, ◌⊎◌, inl, inr, ℕ, zero, suc, ◌+◌, ◌<◌, ◌≤◌, List, [], ◌∷◌, ◌++◌, length, take, drop, get_or, refl, sym, ap, subst, ◌∙◌, arith, append_assoc, length-append}
+use Rattle.std.proofs.Common.{◌≡◌, ◌⊎◌, inl, inr, ℕ, zero, suc, ◌+◌, ◌-◌, ◌<◌, ◌≤◌, List, [], ◌∷◌, ◌++◌, length, take, drop, get_or, refl, sym, ap, subst, ◌∙◌, arith, append_assoc, length-append}
 use Rattle.std.specs.Prelude.{Option, Some, Result, Ok, Err, map, slice_get, vec_len}
 use Rattle.std.specs.Global.{Vec}
 use Rattle.std.specs.List.{AllByRecursion}
-use Rattle.std.proofs.lemmas.List.{drop-map, drop_all, drop_at, map-append, take_all, take_at, take_more}
+use Rattle.std.proofs.lemmas.List.{drop-map, drop_all, drop_at, length-map, map-append, take_all, take_at, take_more}
 use Rattle.std.proofs.lemmas.List.Elements.{recursion_from_All}
 use Rattle.std.proofs.lemmas.Option.{slice_get-get_or, slice_get_cases}
 use Rattle.sd_base.specs.declared.refusal.Refusal.{Refusal}
@@ -18,7 +18,7 @@ use Rattle.sd_log.specs.Logs.{AreSpelled}
 use Rattle.sd_log.specs.Marks.{entry}
 use Rattle.sd_log.specs.Parts.{record_of}
 use Rattle.sd_log.specs.Spellings.{SpellingsState, record_in}
-use Rattle.sd_log.specs.SpellingsInside.{AreSlots, IsSpellings, at_slots, read_of, records_of, spellings_view}
+use Rattle.sd_log.specs.SpellingsInside.{AreSlots, IsSpellings, at_slots, lowered, read_of, records_of, spellings_view}
 use Rattle.sd_log.specs.declared.spellings.Slot.{Slot}
 use Rattle.sd_log.specs.declared.spellings.Spellings.TheInside.{Inside}
 use Rattle.sd_log.proofs.Parted.{spelled-more}
@@ -291,3 +291,81 @@ pub cut_entries : (b : Inside) (v : SpellingsState) (bytes : Vec ℕ) (slots : V
 cut_entries b v bytes slots s i h e there text fewer =
     view_of slots.items bytes.items (take i h.rs) (cut_text b bytes.items s i h there text) (each_front HasSpelling i h.rs h.each)
     ∙ ap (λ (l : List Slot). at_slots l (take i h.rs)) fewer ∙ entries_front i b.slots.items h.rs ∙ ap (take i) (sym (entries_are b v h e))
+
+-- ---- without the first ones
+
+slots_behind : (at i : ℕ) (ss : List Slot) (rs : List Record) → AreSlots at ss rs → AreSlots (at + length (spelled (take i rs))) (drop i ss) (drop i rs)
+slots_behind at zero ss rs are = let none : at ≡ at + 0 = omega arith in subst (λ n. AreSlots n ss rs) none are
+slots_behind at (suc i) [] [] are = tt
+slots_behind at (suc i) [] (r ∷ rs) are = absurd are
+slots_behind at (suc i) (s ∷ ss) [] are = absurd are
+slots_behind at (suc i) (s ∷ ss) (r ∷ rs) are =
+    let place : at + length (spelling r) + length (spelled (take i rs)) ≡ at + length (spelled (take (suc i) (r ∷ rs))) =
+    omega (arith, length-append (spelling r) (spelled (take i rs))) in
+    subst (λ n. AreSlots n (drop i ss) (drop i rs)) place (slots_behind (at + length (spelling r)) i ss rs are.2)
+
+slots_lower : (at gone n : ℕ) (ss : List Slot) (rs : List Record) → n ≡ at + gone → AreSlots n ss rs → AreSlots at (map (lowered gone) ss) rs
+slots_lower at gone n [] [] e are = tt
+slots_lower at gone n [] (r ∷ rs) e are = absurd are
+slots_lower at gone n (s ∷ ss) [] e are = absurd are
+slots_lower at gone n (s ∷ ss) (r ∷ rs) e are =
+    let here : s.at ≡ n = are.0 in
+    let place : s.at - gone ≡ at = omega arith in
+    (place, are.1, slots_lower (at + length (spelling r)) gone (n + length (spelling r)) ss rs (omega arith) are.2)
+
+entries_behind : (gone i : ℕ) (ss : List Slot) (rs : List Record) → at_slots (map (lowered gone) (drop i ss)) (drop i rs) ≡ drop i (at_slots ss rs)
+entries_behind gone zero [] rs = refl
+entries_behind gone zero (s ∷ ss) [] = refl
+entries_behind gone zero (s ∷ ss) (r ∷ rs) = ap (λ (l : Records). (s.place, r) ∷ l) (entries_behind gone zero ss rs)
+entries_behind gone (suc i) [] rs = none (drop (suc i) rs)
+  where
+    none : (xs : List Record) → at_slots [] xs ≡ []
+    none xs = refl
+entries_behind gone (suc i) (s ∷ ss) [] = empty (map (lowered gone) (drop i ss))
+  where
+    empty : (xs : List Slot) → at_slots xs [] ≡ []
+    empty [] = refl
+    empty (x ∷ xs) = refl
+entries_behind gone (suc i) (s ∷ ss) (r ∷ rs) = entries_behind gone i ss rs
+
+-- the bytes in front of an index are those of the records in front of it
+pub start_is : (b : Inside) (h : IsSpellings b) (i n : ℕ) (ss : List Slot) (all : ℕ) → ss ≡ b.slots.items → all ≡ vec_len b.bytes
+    → ((s : Slot) → slice_get ss i ≡ Some s → n ≡ s.at) → (length ss ≤ i → n ≡ all) → n ≡ length (spelled (take i h.rs))
+start_is b h i n ss all same len slot end =
+    elim ((slice_get_cases b.slots.items i).1) [
+      | inl x ↦
+          let t = tells 0 i b.slots.items h.rs x.0 h.slots_are x.2 in
+          let at : n ≡ x.0.at = slot x.0 (ap (λ (l : List Slot). slice_get l i) same ∙ x.2) in
+          omega (arith, t.start, at)
+      | inr x ↦
+          let at : n ≡ length b.bytes.items = end (omega (arith, x.0, ap length same)) ∙ len ∙ b.bytes.ok.0 in
+          let few : length h.rs ≤ i =
+          omega (arith, x.0, slots_count 0 b.slots.items h.rs h.slots_are, ap length (slots_records 0 b.slots.items h.rs h.slots_are), length-map (at_slots b.slots.items h.rs) record_in) in
+          at ∙ ap length h.text_is ∙ ap (λ (l : List Record). length (spelled l)) (sym (take_all i h.rs few))
+    ]
+
+-- what is left of the parts
+pub record Forgets (b : Inside) (i n : ℕ) (bytes : Vec ℕ) (slots : Vec Slot) : Type 0 where
+  pub text : bytes.items ≡ drop n b.bytes.items
+  pub fewer : slots.items ≡ map (lowered n) (drop i b.slots.items)
+
+pub forgot_text : (b : Inside) (h : IsSpellings b) (i n : ℕ) (bytes : Vec ℕ) (slots : Vec Slot) → n ≡ length (spelled (take i h.rs)) → Forgets b i n bytes slots
+    → bytes.items ≡ spelled (drop i h.rs)
+forgot_text b h i n bytes slots start f =
+    f.text ∙ ap (λ m. drop m b.bytes.items) start ∙ ap (drop (length (spelled (take i h.rs)))) h.text_is ∙ spelled_behind i h.rs
+
+pub forgot : (b : Inside) (h : IsSpellings b) (i n : ℕ) (bytes : Vec ℕ) (slots : Vec Slot) → n ≡ length (spelled (take i h.rs)) → Forgets b i n bytes slots
+    → IsSpellings (record { bytes = bytes; slots = slots })
+forgot b h i n bytes slots start f = record {
+  rs = drop i h.rs;
+  text_is = forgot_text b h i n bytes slots start f;
+  each = each_behind HasSpelling i h.rs h.each;
+  slots_are = subst (λ (l : List Slot). AreSlots 0 l (drop i h.rs)) (sym f.fewer)
+      (slots_lower 0 n (0 + length (spelled (take i h.rs))) (drop i b.slots.items) (drop i h.rs) (omega arith) (slots_behind 0 i b.slots.items h.rs h.slots_are));
+}
+
+pub forgot_entries : (b : Inside) (v : SpellingsState) (h : IsSpellings b) (i n : ℕ) (bytes : Vec ℕ) (slots : Vec Slot) → spellings_view b ≡ v
+    → n ≡ length (spelled (take i h.rs)) → Forgets b i n bytes slots → at_slots slots.items (records_of bytes.items) ≡ drop i v.entries
+forgot_entries b v h i n bytes slots e start f =
+    view_of slots.items bytes.items (drop i h.rs) (forgot_text b h i n bytes slots start f) (each_behind HasSpelling i h.rs h.each)
+    ∙ ap (λ (l : List Slot). at_slots l (drop i h.rs)) f.fewer ∙ entries_behind n i b.slots.items h.rs ∙ ap (drop i) (sym (entries_are b v h e))

@@ -9,9 +9,9 @@ use Rattle.sd_logrec.proofs.Lengths.{length-spelling}
 use Rattle.sd_log.specs.declared.log.Log.TheInside.{Inside}
 use Rattle.sd_log.specs.Buffers.{BufferState}
 use Rattle.sd_log.specs.WrittenStates.{WrittenState, all_in}
-use Rattle.sd_log.specs.LogInside.{AreForced, IsLog}
+use Rattle.sd_log.specs.LogInside.{IsLog}
 use Rattle.sd_logrec.specs.View.{is_closing}
-use Rattle.sd_log.specs.Logs.{placed_groups, placed_tail}
+use Rattle.sd_log.specs.Logs.{AreForced, placed_groups, placed_tail}
 use Rattle.sd_log.specs.ByPage.{changed_page, changed_pages}
 use Rattle.sd_log.specs.PagesInside.{PagesState}
 use Rattle.sd_log.proofs.Changes.{pages-more}
@@ -132,3 +132,8 @@ no_text (r ∷ rs) e = let some = least_spelling r in absurd (omega (arith, e, l
 pub least_text : (rs : List Record) → (length (spelled rs) ≡ 0 → ⊥) → 9 ≤ length (spelled rs)
 least_text [] some = absurd (some refl)
 least_text (r ∷ rs) some = omega (arith, least_spelling r, length-append (spelling r) (spelled rs))
+
+-- each record has nine
+pub least_bytes : (rs : List Record) → 9 * length rs ≤ length (spelled rs)
+least_bytes [] = omega arith
+least_bytes (r ∷ rs) = omega (arith, least_bytes rs, least_spelling r, length-append (spelling r) (spelled rs))

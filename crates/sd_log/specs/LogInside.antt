@@ -1,19 +1,14 @@
 -- What is inside a log, and what it stands for.
-use Rattle.std.specs.Prelude.{◌≡◌, ℕ, ◌+◌, ◌*◌, ◌<◌, ◌≤◌, List, length}
+use Rattle.std.specs.Prelude.{◌≡◌, ◌+◌, ◌*◌, ◌<◌, ◌≤◌, length}
 use Rattle.std.specs.List.{AllByRecursion}
-use Rattle.sd_logrec.specs.Kept.{Group, spelled}
+use Rattle.sd_logrec.specs.Kept.{spelled}
 use Rattle.sd_logrec.specs.Spelling.{HasSpelling}
 use Rattle.sd_log.specs.ByPage.{changed_pages}
 use Rattle.sd_log.specs.declared.log.Log.TheInside.{Inside}
-use Rattle.sd_log.specs.Logs.{AreSpelled, LogState, placed_groups, scanned}
+use Rattle.sd_log.specs.Logs.{AreForced, LogState, scanned}
 
 abbrev pub log_view : Inside → LogState
 log_view l = record { inst = l.inst; start = l.written.start; gate = l.written.gate; groups = l.written.groups; tail = l.written.tail; spare = l.spare }
-
--- Nine bytes for each record of these groups lie between the log's start and the next gate, and each is one of the grammar.
-pub record AreForced (start gate : ℕ) (groups : List Group) : Type 0 where
-  pub bytes : start + 9 * length (placed_groups groups) ≤ gate
-  pub spelled : AreSpelled (placed_groups groups)
 
 -- The tail fits into the area, the pages are those of all records, and the tail and what is to spare find memory.
 pub record IsLog (l : Inside) : Type 0 where

@@ -1,5 +1,5 @@
 -- What contracts see of a log: the groups that are forced, and the records of the tail.
-use Rattle.std.specs.Prelude.{◌≡◌, ℕ, zero, suc, ◌+◌, ◌-◌, ◌<◌, Bool, true, false, List, [], ◌∷◌, ◌++◌, All, length, map, slice_get}
+use Rattle.std.specs.Prelude.{◌≡◌, ℕ, zero, suc, ◌+◌, ◌-◌, ◌<◌, ◌≤◌, Bool, true, false, List, [], ◌∷◌, ◌++◌, All, filter, leb, length, map, slice_get}
 use Rattle.std.specs.List.{AllByRecursion, flat_map}
 use Rattle.std.specs.Option.{option_map_or}
 use Rattle.sd_logrec.specs.declared.record.Record.{Record}
@@ -7,6 +7,7 @@ use Rattle.sd_logrec.specs.Kept.{Group, Records, Whole, area, placed_from, readi
 use Rattle.sd_logrec.specs.Spelling.{HasSpelling}
 use Rattle.sd_logrec.specs.View.{Rec, flat}
 use Rattle.sd_log.specs.declared.placed.Placed.{Placed}
+use Rattle.sd_log.specs.Spellings.{record_in}
 
 -- The instance; the place where the log begins, and the place of the next gate, from the area's start; the forced groups
 -- between them; the records of the tail; and how many bytes of records find memory.
@@ -115,6 +116,25 @@ AreBelow low rs = AllByRecursion (λ r. (flat r.1).lsn < low) rs
 abbrev pub boundary : List Group → ℕ → ℕ
 boundary [] gate = gate
 boundary (g ∷ gs) gate = g.at
+
+-- The place is where one of these groups begins, or the next gate.
+abbrev pub IsBoundary : ℕ → List Group → ℕ → Type 0
+IsBoundary place groups gate = (before behind : List Group) × (groups ≡ before ++ behind) × (place ≡ boundary behind gate)
+
+-- the log from this place on
+abbrev pub begun_at : ℕ → LogState → LogState
+begun_at place log = record log { start = place; groups = filter (λ g. leb place g.at) log.groups }
+
+-- The groups stand one behind the other, the first at this place and the gate behind the last, each where its gate, its length
+-- and its records have room.
+abbrev pub ArePlaced : ℕ → ℕ → List Group → Type 0
+ArePlaced start gate [] = start ≡ gate
+ArePlaced start gate (g ∷ gs) = (g.at ≡ start) × (start + 5 + length (spelled (map record_in g.records)) ≤ boundary gs gate) × ArePlaced (boundary gs gate) gate gs
+
+-- So they stand, and each record is one of the grammar.
+pub record AreForced (start gate : ℕ) (groups : List Group) : Type 0 where
+  pub places : ArePlaced start gate groups
+  pub spelled : AreSpelled (placed_groups groups)
 
 -- the first of these groups, if there is one, has a record whose LSN isn't below this one
 abbrev pub BeginsAtOrAbove : ℕ → List Group → Type 0

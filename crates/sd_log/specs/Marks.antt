@@ -1,5 +1,6 @@
--- Marks: where each group ends, how many records it has, and the greatest LSN up to there. They part a list of records into groups.
-use Rattle.std.specs.Prelude.{◌≡◌, ℕ, ◌+◌, ◌<◌, true, max, List, [], ◌∷◌, take, drop, map}
+-- Marks: where each group ends, how many records it has, and the greatest LSN of these. They part a list of records into groups.
+use Rattle.std.specs.Prelude.{◌≡◌, ℕ, ◌+◌, ◌<◌, true, max, List, [], ◌∷◌, take, drop, map, nat_lt}
+use Rattle.std.specs.List.{position_or_len}
 use Rattle.sd_logrec.specs.declared.record.Record.{Record}
 use Rattle.sd_logrec.specs.Kept.{Group}
 use Rattle.sd_log.specs.declared.placed.Placed.{Placed}
@@ -30,15 +31,14 @@ abbrev pub greatest_lsn : List Placed → ℕ
 greatest_lsn [] = 0
 greatest_lsn (p ∷ ps) = max (lsn_of p) (greatest_lsn ps)
 
--- The groups stand one behind the other, each has a record, and each mark has the greatest LSN up to it.
-abbrev pub AreMarks : ℕ → ℕ → List Mark → List Placed → Type 0
-AreMarks at high [] ps = Unit {0}
-AreMarks at high (m ∷ ms) ps = (at < m.end) × (0 < m.count) × (m.high ≡ max high (greatest_lsn (take m.count ps))) × AreMarks m.end m.high ms (drop m.count ps)
+-- The groups stand one behind the other, each has a record, and each mark has the greatest LSN of its group.
+abbrev pub AreMarks : ℕ → List Mark → List Placed → Type 0
+AreMarks at [] ps = Unit {0}
+AreMarks at (m ∷ ms) ps = (at < m.end) × (0 < m.count) × (m.high ≡ greatest_lsn (take m.count ps)) × AreMarks m.end ms (drop m.count ps)
 
--- the greatest LSN up to the last mark
-abbrev pub high_of : ℕ → List Mark → ℕ
-high_of high [] = high
-high_of high (m ∷ ms) = high_of m.high ms
+-- how many groups stand in front of the first one that ends behind this place
+abbrev pub gone_before : ℕ → List Mark → ℕ
+gone_before place ms = position_or_len (λ m. nat_lt place m.end) ms
 
 -- the same record, forced
 abbrev pub as_forced : Placed → Placed

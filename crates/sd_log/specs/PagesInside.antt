@@ -11,6 +11,10 @@ pub record PagesState : Type 0 where
 abbrev pub chain_of : Link → ℕ
 chain_of l = l.chain
 
+-- a link behind records of which so many in front are gone
+abbrev pub lowered : ℕ → Link → Link
+lowered gone l = record { chain = l.chain; before = l.before - gone }
+
 abbrev pub pages_view : Inside → PagesState
 pages_view p = record { chains = map chain_of p.links.items; room = vec_capacity p.links - vec_len p.links }
 

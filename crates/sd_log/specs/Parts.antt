@@ -20,7 +20,7 @@ pub record IsParted (m : MarksState) (ps : List Placed) : Type 0 where
   pub within : m.forced ≤ length ps
   pub count : m.forced ≡ counted m.marks
   pub gate_is : m.gate ≡ end_of m.start m.marks
-  pub marks_are : AreMarks m.start 0 m.marks (take m.forced ps)
+  pub marks_are : AreMarks m.start m.marks (take m.forced ps)
   pub forced_ones : take m.forced ps ≡ placed_groups (groups_of m ps)
   pub tail_ones : drop m.forced ps ≡ placed_tail m.gate (tail_of m ps)
 

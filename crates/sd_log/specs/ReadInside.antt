@@ -1,8 +1,7 @@
 -- What is inside a log that was read, and what it stands for.
 use Rattle.std.specs.Prelude.{◌≡◌, ◌+◌, ◌<◌, ◌≤◌, [], length}
 use Rattle.sd_log.specs.ByPage.{changed_pages}
-use Rattle.sd_log.specs.LogInside.{AreForced}
-use Rattle.sd_log.specs.Logs.{LogState, scanned}
+use Rattle.sd_log.specs.Logs.{AreForced, LogState, scanned}
 use Rattle.sd_log.specs.Parts.{text_of}
 use Rattle.sd_log.specs.declared.read.ReadLog.TheInside.{Inside}
 

@@ -17,6 +17,10 @@ read_of (Err place) = []
 abbrev pub records_of : List ℕ → List Record
 records_of bytes = read_of (records_at 0 bytes)
 
+-- a slot behind bytes of which so many in front are gone
+abbrev pub lowered : ℕ → Slot → Slot
+lowered gone s = record { lsn = s.lsn; place = s.place; at = s.at - gone }
+
 -- each record with the place that its slot tells
 abbrev pub at_slots : List Slot → List Record → Records
 at_slots [] rs = []

@@ -16,12 +16,12 @@ written_view w = record {
   room = w.room;
 }
 
--- The marks part the records, whose bytes lie before the gate where they are forced, and there is room.
+-- The marks part the records, of which the forced ones have no more bytes than lie before the gate, and there is room.
 pub record IsWritten (w : Inside) : Type 0 where
   pub forced_there : w.marks.forced ≤ length w.records.entries
   pub parted : IsParted w.marks (items_of w.marks.forced w.records.entries)
   pub gate_small : w.marks.gate < 2 ^ 32
-  pub forced_text : w.marks.start + length (spelled (map record_in (take w.marks.forced w.records.entries))) ≤ w.marks.gate
+  pub forced_text : length (spelled (map record_in (take w.marks.forced w.records.entries))) ≤ w.marks.gate
   pub room_there : w.room ≤ w.records.room
   pub marks_room : w.room ≤ w.marks.room
   pub next_mark : w.marks.forced < length w.records.entries → w.room + 1 ≤ w.marks.room

@@ -4,12 +4,12 @@
 //! its device stands for is `reading` (`specs/Kept.antt` of sd_logrec), and `StandsOn` says that it is these groups. It
 //! keeps its records as their bytes, of which `record` reads one and `lsn` tells the LSN; a `ReadLog` is the same of groups
 //! that were just read, with each record by itself in memory and the bytes of all beside them, which `into_log` takes over.
-//! Keeps: a closed gate stands behind the last group that is forced; no group passes the area's end, and records of at
-//! least 9 bytes each are few (`keeps`).
+//! Keeps: groups stand one behind the other from the log's start place on, and a closed gate behind the last one that is
+//! forced; no group passes the area's end, and records of at least 9 bytes each are few (`keeps`).
 //! Promises: a crash at any moment of `force` leaves the log with its tail or without it (`any_moment`), and with it
 //! after `Ok` (`stands`, `durable`); `read_in` answers what the device stands for, and `of_area` what an area in memory
 //! does (`whole`, `bad_log`, `bad_record`), with the records in front of what breaks the format (`front`); `of_page`
-//! answers which records change a page, and looks at no others.
+//! answers which records change a page, and looks at no others; `begin_at` leaves the groups from a boundary on.
 //! Refuses: `LogFull` in `append`, as `lacks_room` tells before; `BadLog` and `BadRecord` in `read_in`, and as what
 //! `of_area` found; `Failed` only where the rig's count of faults rose.
 //! Knows nothing of: what pages hold, transactions, other logs, which record may follow which.

@@ -10,8 +10,7 @@ ghost use Rattle.sd_logrec.specs.View.{is_closing, is_commit_of};
 ghost use Rattle.sd_rig.specs.Devices.{AgreesOutside, Elapses, LeavesOnly, LeavesSame, Span};
 ghost use Rattle.sd_log.specs.ByPage.{changed_pages, places_of};
 ghost use Rattle.sd_log.specs.Forces.{Forces, StandsEither, forced_at, forced_len};
-ghost use Rattle.sd_log.specs.LogInside.{AreForced};
-ghost use Rattle.sd_log.specs.Logs.{AreSpelled, IsStartFor, StandsOn, forced, has_tail, last_lsn, lsn_of, needed, placed_groups, placed_tail, scanned, tail_len, with_record, without_tail};
+ghost use Rattle.sd_log.specs.Logs.{AreSpelled, IsStartFor, StandsOn, forced, has_tail, last_lsn, lsn_of, needed, placed_groups, placed_tail, scanned, tail_len, with_record, without_tail, AreForced, IsBoundary, begun_at};
 ghost use Rattle.sd_log.specs.Parts.{text_of};
 
 use crate::buffer::Buffer;
@@ -105,12 +104,13 @@ impl Log {
         self.last_lsn().max(page_lsn).min(MAX_LSN - 1) + 1
     }
 
-    /// What holds of every log: it begins at or before the next gate, which lies in the area; the tail, where it isn't
-    /// empty, fits behind it as a group with a gate of its own behind; each record is one of the grammar, of 9 bytes at
-    /// least, so there are at most 116,508.
+    /// What holds of every log: its groups stand one behind the other, from its start place to the next gate, which lies in
+    /// the area; the tail, where it isn't empty, fits behind them as a group with a gate of its own behind; each record is one
+    /// of the grammar, of 9 bytes at least, so there are at most 116,508.
     pub fn keeps(&self)
         ensures gate { self.now.gate < AREA_LEN }
         ensures start { self.now.start ≤ self.now.gate }
+        ensures placed { AreForced self.now.start self.now.gate self.now.groups }
         ensures fits { self.now.tail ≢ [] → self.now.gate + GROUP_HEAD + tail_len self.now + 1 ≤ AREA_LEN }
         ensures spelled { AreSpelled (scanned self.now) }
         ensures few { length (scanned self.now) ≤ 116508 }
@@ -194,6 +194,17 @@ impl Log {
         ensures start { self.now.start ≤ result }
     {
         self.written.start_for(low)
+    }
+
+    /// Forgets the groups in front of this place, where one of them begins or the next gate is, of a log without a tail. It
+    /// takes no memory.
+    pub fn begin_at(&mut self, place: u32)
+        requires bare { self.old.tail ≡ [] }
+        requires boundary { IsBoundary place self.old.groups self.old.gate }
+        ensures { self.new ≡ begun_at place self.old }
+    {
+        let gone = self.written.forget(place);
+        self.pages.forget(gone);
     }
 
     /// Forces the tail: makes it a group behind the others. Where it is empty no device call is made; else there are four:

@@ -1,9 +1,9 @@
 //! Where the groups of a log stand, with a mark for each. It knows nothing of the records themselves.
 
-ghost use Rattle.std.specs.Prelude.{◌≡◌, [], ◌∷◌, ◌++◌, ◌+◌, ◌^◌, ◌-◌, ◌<◌, ◌≤◌, List, max, IsOk, OnOk};
+ghost use Rattle.std.specs.Prelude.{◌≡◌, [], ◌∷◌, ◌++◌, ◌+◌, ◌^◌, ◌-◌, ◌<◌, ◌≤◌, List, drop, nat_le, nat_lt, position, take, IsOk, OnOk};
 ghost use Rattle.sd_log.specs.declared.placed.Placed.{Placed};
 ghost use Rattle.sd_log.specs.Logs.{IsStartFor};
-ghost use Rattle.sd_log.specs.Marks.{MarksState, high_of};
+ghost use Rattle.sd_log.specs.Marks.{MarksState, counted, gone_before};
 ghost use Rattle.sd_log.specs.Parts.{IsParted, groups_of};
 
 use sd_base::{Lsn, Memory};
@@ -11,7 +11,7 @@ use sd_logrec::GROUP_HEAD;
 use std::alloc::Global;
 use std::marker::Model;
 
-/// A group: where it ends, how many records it has, and the greatest LSN of the log up to its end.
+/// A group: where it ends, how many records it has, and the greatest LSN of these.
 #[derive(Clone, Copy)]
 pub struct Mark {
     pub end: u32,
@@ -84,14 +84,16 @@ impl Marks {
         requires few { self.old.forced + count < 2 ^ 64 }
         ensures start { self.new.start ≡ self.old.start }
         ensures gate { self.new.gate ≡ self.old.gate + GROUP_HEAD + len }
-        ensures marks { self.new.marks ≡ self.old.marks
-            ++ record { end = self.old.gate + GROUP_HEAD + len; count = count; high = max (high_of 0 self.old.marks) greatest } ∷ [] }
+        ensures marks { self.new.marks ≡ self.old.marks ++ record { end = self.old.gate + GROUP_HEAD + len; count = count; high = greatest } ∷ [] }
         ensures forced { self.new.forced ≡ self.old.forced + count }
         ensures room { self.old.room ≤ self.new.room + 1 }
     {
-        let high = high_of(&self.marks).max(greatest);
         let end = self.gate + GROUP_HEAD as u32 + len;
-        self.marks.push_reserved(Mark { end, count, high });
+        self.marks.push_reserved(Mark {
+            end,
+            count,
+            high: greatest,
+        });
         self.gate = end;
         self.forced += count;
     }
@@ -101,20 +103,55 @@ impl Marks {
         ensures exact { (ps : List Placed) → IsParted self.now ps → IsStartFor low (groups_of self.now ps) self.now.gate result }
         ensures start { (ps : List Placed) → IsParted self.now ps → self.now.start ≤ result }
     {
-        let n = self.marks.partition_point(|mark| mark.high < low);
-        if n == 0 {
-            return self.start;
+        match first_from(&self.marks, low) {
+            None => self.gate,
+            Some(0) => self.start,
+            Some(n) => self.marks[n - 1].end,
         }
-        self.marks[n - 1].end
+    }
+
+    /// Forgets the groups that end at this place or before it, and tells how many records they had. It takes no memory.
+    pub fn forget(&mut self, place: u32) -> usize
+        requires count { counted self.old.marks ≤ self.old.forced }
+        requires few { self.old.forced < 2 ^ 64 }
+        ensures count { result ≡ counted (take (gone_before place self.old.marks) self.old.marks) }
+        ensures start { self.new.start ≡ place }
+        ensures gate { self.new.gate ≡ self.old.gate }
+        ensures marks { self.new.marks ≡ drop (gone_before place self.old.marks) self.old.marks }
+        ensures forced { self.new.forced + result ≡ self.old.forced }
+        ensures room { self.old.room ≤ self.new.room }
+    {
+        let gone = first_behind(&self.marks, place).unwrap_or(self.marks.len());
+        let count = counted(&self.marks[..gone]);
+        self.marks.drain(..gone);
+        self.start = place;
+        self.forced -= count;
+        count
     }
 }
 
-// The greatest LSN up to the last mark, or 0.
-fn high_of(marks: &[Mark]) -> Lsn
-    ensures { result ≡ high_of 0 marks.now }
+// Where the first of these groups stands that has an LSN from `low` on.
+fn first_from(marks: &[Mark], low: Lsn) -> Option<usize>
+    ensures { result ≡ position (λ m. nat_le low m.high) marks.now }
 {
-    match marks.last() {
-        None => 0,
-        Some(mark) => mark.high,
+    marks.iter().position(|mark| mark.high >= low)
+}
+
+// Where the first of these groups stands that ends behind this place.
+fn first_behind(marks: &[Mark], place: u32) -> Option<usize>
+    ensures { result ≡ position (λ m. nat_lt place m.end) marks.now }
+{
+    marks.iter().position(|mark| mark.end > place)
+}
+
+// How many records these groups have.
+fn counted(marks: &[Mark]) -> usize
+    requires { counted marks.now < 2 ^ 64 }
+    ensures { result ≡ counted marks.now }
+{
+    let mut count = 0;
+    for mark in marks {
+        count += mark.count;
     }
+    count
 }

@@ -1,8 +1,8 @@
 //! The records of each page, found without a look at the others.
 
-ghost use Rattle.std.specs.Prelude.{◌≡◌, [], ◌∷◌, ◌++◌, ◌+◌, ◌-◌, ◌^◌, ◌<◌, ◌≤◌, length, take, IfOk, IsOk, OnOk};
+ghost use Rattle.std.specs.Prelude.{◌≡◌, [], ◌∷◌, ◌++◌, ◌+◌, ◌-◌, ◌^◌, ◌<◌, ◌≤◌, drop, length, map, take, IfOk, IsOk, OnOk};
 ghost use Rattle.sd_log.specs.ByPage.{changed_page, changed_pages, places_of};
-ghost use Rattle.sd_log.specs.PagesInside.{PagesState};
+ghost use Rattle.sd_log.specs.PagesInside.{PagesState, lowered};
 
 use crate::placed::Placed;
 use sd_base::{Memory, PAGES, PageNo};
@@ -109,6 +109,18 @@ impl PageChains {
         }
     }
 
+    /// Forgets the first `count` records. It takes no memory.
+    pub fn forget(&mut self, count: usize)
+        requires there { count ≤ length self.old.chains }
+        requires few { count < 2 ^ 32 }
+        ensures chains { self.new.chains ≡ drop count self.old.chains }
+        ensures room { self.old.room ≤ self.new.room }
+    {
+        self.links.drain(..count);
+        lower_links(&mut self.links, count as u32);
+        lower(&mut self.last, count as u32);
+    }
+
     // How many records there are.
     fn len(&self) -> usize
         ensures { result ≡ length self.now.chains }
@@ -140,5 +152,23 @@ fn chain_of(rec: &Lent) -> u16
     match rec.page() {
         Some(page) => page.get(),
         None => PAGES,
+    }
+}
+
+// Tells links of records of which so many in front are gone.
+fn lower_links(links: &mut [Link], gone: u32)
+    ensures { links.new ≡ map (lowered gone) links.old }
+{
+    for link in links.iter_mut() {
+        link.before = link.before.saturating_sub(gone);
+    }
+}
+
+// Tells the ends of chains of records of which so many in front are gone.
+fn lower(ends: &mut [u32], gone: u32)
+    ensures { ends.new ≡ map (λ n. n - gone) ends.old }
+{
+    for end in ends.iter_mut() {
+        *end = end.saturating_sub(gone);
     }
 }

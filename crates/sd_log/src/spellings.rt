@@ -9,7 +9,7 @@ ghost use Rattle.sd_log.specs.Logs.{AreSpelled};
 ghost use Rattle.sd_log.specs.Marks.{entry};
 ghost use Rattle.sd_log.specs.Parts.{record_of};
 ghost use Rattle.sd_log.specs.Spellings.{SpellingsState, record_in};
-ghost use Rattle.sd_log.specs.SpellingsInside.{AreSlots, at_slots};
+ghost use Rattle.sd_log.specs.SpellingsInside.{AreSlots, at_slots, lowered};
 ghost use Rattle.sd_log.specs.declared.spellings.Slot.{Slot};
 
 use crate::placed::Placed;
@@ -126,6 +126,20 @@ impl Spellings {
         }
     }
 
+    /// Forgets the first `count` records. It takes no memory.
+    pub fn forget(&mut self, count: usize)
+        requires there { count ≤ length self.old.entries }
+        requires small { length (spelled (map record_in self.old.entries)) < 2 ^ 32 }
+        ensures entries { self.new.entries ≡ drop count self.old.entries }
+        ensures text { self.old.text ≤ self.new.text }
+        ensures room { self.old.room ≤ self.new.room }
+    {
+        let at = start_of(&self.slots, count, self.bytes.len());
+        self.bytes.drain(..at);
+        self.slots.drain(..count);
+        lower(&mut self.slots, at as u32);
+    }
+
     /// The LSN of the record of this index.
     pub fn lsn(&self, index: usize) -> Lsn
         requires { index < length self.now.entries }
@@ -186,4 +200,13 @@ fn slots_of(alloc: Global, placed: &[Placed]) -> Result<Vec<Slot>, Memory>
         at += p.rec.len();
     }
     Ok(slots)
+}
+
+// Tells slots of records of which so many bytes in front are gone.
+fn lower(slots: &mut [Slot], gone: u32)
+    ensures { slots.new ≡ map (lowered gone) slots.old }
+{
+    for slot in slots.iter_mut() {
+        slot.at = slot.at.saturating_sub(gone);
+    }
 }

@@ -6,9 +6,9 @@ ghost use Rattle.sd_logrec.specs.Kept.{spelled};
 ghost use Rattle.sd_logrec.specs.Spelling.{HasSpelling, spelling};
 ghost use Rattle.sd_logrec.specs.View.{is_commit_of};
 ghost use Rattle.sd_log.specs.declared.placed.Placed.{Placed};
-ghost use Rattle.sd_log.specs.Logs.{AreSpelled, IsStartFor, last_lsn, lsn_of, placed_groups};
+ghost use Rattle.sd_log.specs.Logs.{AreSpelled, IsBoundary, IsStartFor, last_lsn, lsn_of, placed_groups};
 ghost use Rattle.sd_log.specs.Parts.{text_of};
-ghost use Rattle.sd_log.specs.WrittenStates.{WrittenState, all_in, closed, dropped, greatest_in, put};
+ghost use Rattle.sd_log.specs.WrittenStates.{Forgets, WrittenState, all_in, closed, dropped, greatest_in, put};
 
 use crate::journal::{Journal, WIDE};
 use crate::marks::Marks;
@@ -169,6 +169,18 @@ impl Written {
         let count = self.records.len() - from;
         let greatest = greatest_from(&self.records, from);
         self.marks.close(len, count, greatest);
+    }
+
+    /// Forgets the groups in front of this place, of a log without a tail, and tells how many records they had. It takes no
+    /// memory.
+    pub fn forget(&mut self, place: u32) -> usize
+        requires bare { self.old.tail ≡ [] }
+        requires boundary { IsBoundary place self.old.groups self.old.gate }
+        ensures { Forgets place result self.old self.new }
+    {
+        let count = self.marks.forget(place);
+        self.records.forget(count);
+        count
     }
 
     /// Forgets the tail.

@@ -1,3 +1,4 @@
+pub mod Behind
 mod Commits
 pub mod Example
 pub mod Formats

@@ -172,9 +172,12 @@ fall-fewer : (i : ℕ) (m : State) → Fewer m (fall i m)
 fall-fewer i m = calm-fewer m (fall i m) (fall-calm i m) (λ k. refl)
 
 doubted-fewer : (m : State) (t : TxnId) → (m.part t).life ≡ Running → Fewer m (doubted t m)
-doubted-fewer m t runs i up = (up, counted-less m (doubted t m) refl
-    (each_txn t (λ u (p : Part). p.life ≢ Gone → (m.part u).life ≢ Gone) (in_doubt (m.part t)) m.part
-    (λ _ g. let c = sym runs ∙ g in absurd (cc)) (λ u _ ne. ne)) i)
+doubted-fewer m t runs i up = (
+  up,
+  counted-less m (doubted t m) refl
+      (each_txn t (λ u (p : Part). p.life ≢ Gone → (m.part u).life ≢ Gone) (in_doubt (m.part t)) m.part
+      (λ _ g. let c = sym runs ∙ g in absurd (cc)) (λ u _ ne. ne)) i,
+)
 
 refused-fewer : (m : State) (e : Event) (c : Cause) (m' : State) → Refuses m e c m' → Fewer m m'
 refused-fewer m e NoRecord m' h = subst (Fewer m) (sym h) (part-fewer m (txn_of e) _ refl)

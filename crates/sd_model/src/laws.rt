@@ -1,5 +1,6 @@
 //! Laws of the serial table, for proofs above: each call does nothing, and its clauses hold of all states.
 
+ghost use Rattle.sd_model.specs.Few.{FewSteps};
 ghost use Rattle.sd_model.specs.StepLaws.{JoinedSteps, BeganSteps, InsertedSteps, FullSteps, TooLongSteps, NoTxnSteps, CommittedSteps, ListedSteps};
 ghost use Rattle.sd_model.specs.ViewLaws.{PartHere, PartElsewhere, ViewAfterWrite, NowAfterWrite, NowAfterCommit, ViewAfterBegin, NoneCounted};
 ghost use Rattle.sd_model.specs.RunLaws.{RunGrows, RunSplits, RunsJoin};
@@ -138,4 +139,9 @@ pub fn scenes()
     ensures grows { SceneRunGrows }
     ensures states { ScenesGiveRun }
     ensures exist { RunHasScenes }
+{}
+
+/// An instance that is up or restarting has at most 64 unresolved transactions: each step keeps that.
+pub fn few()
+    ensures { FewSteps }
 {}

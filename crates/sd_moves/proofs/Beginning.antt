@@ -9,7 +9,7 @@ use Rattle.sd_base.specs.declared.place.Status.{Status}
 use Rattle.sd_base.specs.declared.place.Status.TheVariants as S
 use Rattle.sd_logrec.specs.Kept.{Master, master}
 use Rattle.sd_logrec.specs.View.{Rec}
-use Rattle.sd_log.specs.Logs.{LogState, StandsOn, forced, last_lsn, scanned}
+use Rattle.sd_log.specs.Logs.{LogState, StandsOn, begun_at, forced, last_lsn, scanned}
 use Rattle.sd_page.specs.Page.{Page, empty_page}
 use Rattle.sd_model.specs.State.{fresh}
 use Rattle.sd_model.specs.declared.act.Claim.{Claim}
@@ -44,7 +44,7 @@ use Rattle.sd_state.specs.Values.{Pending, rid_of}
 use Rattle.sd_state.specs.Fresh.{AreBlank, IsFresh, empty_pool, empty_table, for_each}
 use Rattle.sd_state.specs.Good.{Good, Half, IsInstance, IsKnownLsn, IsSettledAt, IsTold, OwesAtMost, base_of, dir_of}
 use Rattle.sd_state.specs.Tables.{NamesLife, RowIsLogged, tells_log}
-use Rattle.sd_state.specs.Images.{IsEpochOf, begun_at, leaves_by, log_by}
+use Rattle.sd_state.specs.Images.{IsEpochOf, leaves_by, log_by}
 use Rattle.sd_state.specs.Parts.{Begun, Parts, check_at, count_at, is_active, is_loose, is_up, log_at, no_log, no_pool, no_txns, other_at, owed_at, pool_at, status_at, txns_at, among, up_as, epoch_at}
 use Rattle.sd_state.proofs.Items.{at-any, at-each}
 

@@ -10,7 +10,7 @@ use Rattle.sd_base.specs.declared.place.Status.TheVariants as S
 use Rattle.sd_logrec.specs.Kept.{Master, master}
 use Rattle.sd_logrec.specs.View.{Rec}
 use Rattle.sd_logrec.specs.declared.record.Record.{Record}
-use Rattle.sd_log.specs.Logs.{LogState, forced, has_tail, last_lsn, scanned, without_tail}
+use Rattle.sd_log.specs.Logs.{LogState, forced, has_tail, last_lsn, scanned, without_tail, begun_at}
 use Rattle.sd_model.specs.State.{State}
 use Rattle.sd_page.specs.Page.{Page}
 use Rattle.sd_rig.specs.Devices as rig
@@ -27,7 +27,7 @@ use Rattle.sd_chain.proofs.Kept.{forced-records}
 use Rattle.sd_chain.proofs.Lsns.{last-is}
 use Rattle.sd_state.specs.Forcing.{owed_as, owed_either}
 use Rattle.sd_state.specs.Good.{Good}
-use Rattle.sd_state.specs.Images.{begun_at, leaves_by, log_by}
+use Rattle.sd_state.specs.Images.{leaves_by, log_by}
 use Rattle.sd_state.specs.Parts.{Parts, is_loose, log_at, no_log, no_txns, other_at, owed_at, status_at, txns_at}
 use Rattle.sd_state.specs.Sums.{great_of, most_to, owed_in_all, owes_most, sum_to}
 use Rattle.sd_state.specs.Tables.{tells_log}

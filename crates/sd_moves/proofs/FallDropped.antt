@@ -12,7 +12,7 @@ use Rattle.sd_base.specs.declared.place.Status.{Status}
 use Rattle.sd_base.specs.declared.place.Status.TheVariants as S
 use Rattle.sd_logrec.specs.Kept.{master}
 use Rattle.sd_logrec.specs.View.{Rec}
-use Rattle.sd_log.specs.Logs.{LogState, StandsOn, forced, last_lsn, scanned, without_tail}
+use Rattle.sd_log.specs.Logs.{LogState, StandsOn, begun_at, forced, last_lsn, scanned, without_tail}
 use Rattle.sd_model.specs.Lives.{SuitsStatus}
 use Rattle.sd_model.specs.State.{Part, State}
 use Rattle.sd_model.specs.declared.act.Claim.{Claim}
@@ -42,7 +42,7 @@ use Rattle.sd_chain.proofs.Named.{settle-named}
 use Rattle.sd_chain.specs.Logs.{Logs, Outcomes, all_at, base_at, eight, kept_logs, may_of, past_at, tail_at, tails_of}
 use Rattle.sd_chain.specs.Soundly.{IsReady, LogIsSound, LsnsFit}
 use Rattle.sd_state.specs.Good.{Good, Half, IsInstance, IsOfBegun, IsSettledAt, IsTold, OwesAtMost, base_of, dir_of}
-use Rattle.sd_state.specs.Images.{IsClaimed, IsEpochOf, IsOpenIn, begun_at, leaves_by, log_by}
+use Rattle.sd_state.specs.Images.{IsClaimed, IsEpochOf, IsOpenIn, leaves_by, log_by}
 use Rattle.sd_state.specs.Parts.{Begun, Parts, check_at, count_at, epoch_at, is_active, is_loose, log_at, no_log, other_at, owed_at, status_at, txns_at, low_of}
 use Rattle.sd_base.specs.Standing.{active_as}
 use Rattle.sd_state.specs.Tables.{GoesOn, NamesLife, RowIsLive, RowIsLogged, StandsAs, tells_log}

@@ -8,6 +8,7 @@ use Rattle.std.specs.Option.{option_map_or}
 use Rattle.sd_base.specs.Sets.{has}
 use Rattle.sd_base.specs.declared.place.Mode.{Mode}
 use Rattle.sd_base.specs.declared.place.Mode.TheVariants as modes
+use Rattle.sd_log.specs.Logs.{begun_at}
 use Rattle.sd_page.specs.Page.{Page}
 use Rattle.sd_model.specs.State.{State}
 use Rattle.sd_pagelock.specs.declared.queue.Ask.{Ask}
@@ -34,7 +35,7 @@ use Rattle.sd_chain.proofs.Moves.{drop-keeps, raise-keeps, row_keeps-rec}
 use Rattle.sd_chain.specs.Logs.{Outcomes, may_of}
 use Rattle.sd_state.specs.Complexes.{unboxed}
 use Rattle.sd_state.specs.Good.{Good, Half, IsUnderWay, base_of, dir_of}
-use Rattle.sd_state.specs.Images.{begun_at, leaves_by, log_by}
+use Rattle.sd_state.specs.Images.{leaves_by, log_by}
 use Rattle.sd_state.specs.Locking.{IsSet, with_place}
 use Rattle.sd_state.specs.Parts.{Parts, is_active, log_at, no_pool, other_at, pool_at}
 use Rattle.sd_state.specs.Values.{Pending}

@@ -5,7 +5,7 @@ use Rattle.std.specs.Prelude.{None, Option, Some, IfSome}
 use Rattle.std.specs.Option.{option_map_or}
 use Rattle.std.proofs.lemmas.Bool.{cases_eq}
 use Rattle.sd_logrec.specs.Kept.{Reading, kept, master}
-use Rattle.sd_log.specs.Logs.{LogState, StandsOn}
+use Rattle.sd_log.specs.Logs.{LogState, StandsOn, begun_at}
 use Rattle.sd_model.specs.State.{State}
 use Rattle.sd_rig.specs.Devices as rig
 use Rattle.sd_rig.specs.Devices.{LeavesOnly}
@@ -16,7 +16,7 @@ use Rattle.sd_chain.specs.Soundly.{IsSoundly}
 use Rattle.sd_chain.proofs.Forces.{settled-keeps}
 use Rattle.sd_chain.proofs.Kept.{kept-is}
 use Rattle.sd_state.specs.Good.{Good, Half, base_of, dir_of}
-use Rattle.sd_state.specs.Images.{IsEpochOf, Stands as ImageStands, begun_at, leaves_by, log_by}
+use Rattle.sd_state.specs.Images.{IsEpochOf, Stands as ImageStands, leaves_by, log_by}
 use Rattle.sd_state.specs.Parts.{Begun, Parts, check_at, is_loose, log_at, no_log, other_at, status_at, up_as}
 use Rattle.sd_chain.proofs.OneUpdater.{up-settled}
 use Rattle.sd_state.specs.Values.{Pending}

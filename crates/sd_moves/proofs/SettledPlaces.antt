@@ -9,9 +9,10 @@ use Rattle.std.proofs.lemmas.List.Concat.{flat_map-cons}
 use Rattle.std.proofs.lemmas.List.Folds.{list_any-append}
 use Rattle.sd_logrec.specs.Kept.{Group}
 use Rattle.sd_logrec.specs.View.{Rec, flat}
+use Rattle.sd_log.specs.Logs.{begun_at}
 use Rattle.sd_chain.specs.Images.{Keeps}
 use Rattle.sd_chain.specs.Logs.{base_at, tail_at}
-use Rattle.sd_state.specs.Images.{begun_at, log_by}
+use Rattle.sd_state.specs.Images.{log_by}
 use Rattle.sd_state.specs.Parts.{Parts, log_at, other_at}
 
 -- the records of groups

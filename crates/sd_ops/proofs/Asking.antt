@@ -126,7 +126,7 @@ module _ (seen : DeviceImages) (leaves : Outcomes) (c new : Parts) (e : Event) (
         (taken-fits new.locks (with_wait (txn_of e) (asked_of e wanted) w.scene.waits) m
         (bounds_after w.bounds e (reply.Refused (R.Blocked by))) seen leaves c w f
         (relocked-good new.locks seen leaves Pending.Idle c m f.good (λ u q. ap (λ (l : Held). held_in l u q) n.locks))
-        (same-on m) (bounds-stay seen c w.bounds e (reply.Refused (R.Blocked by)) f.bounds) (waits-then n) only-running)
+        (same-on m) (bounds-stay seen c w.bounds e (reply.Refused (R.Blocked by)) tt f.bounds) (waits-then n) only-running)
 
   -- The refusal of a lock is right: it names just who stands in the way.
   pub asked-half : (n : Refusal) → IsRefused (locks.stands c.locks) (waits c.locks) t wait n → NotesWait t wait n c new
@@ -145,7 +145,7 @@ module _ (seen : DeviceImages) (leaves : Outcomes) (c new : Parts) (e : Event) (
         let k = may w f (deadlock-locked w.scene.state w.scene.waits t wait cycle d) in (
           refused_to w e wanted (R.Deadlock cycle) w.scene.state,
           refused-turns wanted w e (R.Deadlock cycle) k.cause w.scene.state (deadlock-for w f cycle d k),
-          nothing-fits c.locks w.scene.waits e (reply.Refused (R.Deadlock cycle)) seen leaves c w f,
+          nothing-fits c.locks w.scene.waits e (reply.Refused (R.Deadlock cycle)) seen leaves c w f tt,
         ),
     λ fault. fault,
   )

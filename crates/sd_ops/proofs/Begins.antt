@@ -230,7 +230,7 @@ module _ (i : ℕ) (t : TxnId) (seen : DeviceImages) (leaves : Outcomes) (c new 
     pages = subst (λ (p : Parts). FitsPages seen leaves p w.pages) (sym b.is)
         (worked-pages (with_working i (txns_at new i) new.locks c).txns new.locks seen leaves c w.pages f.pages);
     bounds = subst (λ (p : Parts). FitsBounds seen leaves p (bounds_after w.bounds (Begin i) (reply.Began t))) (sym b.is)
-        (bounds-stay seen (with_working i (txns_at new i) new.locks c) w.bounds (Begin i) (reply.Began t)
+        (bounds-stay seen (with_working i (txns_at new i) new.locks c) w.bounds (Begin i) (reply.Began t) tt
         (worked-bounds (with_working i (txns_at new i) new.locks c).txns new.locks seen leaves c w.bounds owes f.bounds));
     doubts = subst (λ (p : Parts). FitsDoubts seen p later) (sym b.is)
         (doubts-kept seen seen c (with_working i (txns_at new i) new.locks c) state later f.doubts
@@ -264,7 +264,7 @@ module _ {G : Type 0} (tell : Telling G) (i : ℕ) (old new : Complex G) (b : Be
       (λ e. subst (λ (k : Refusal). Serving tell (Begin i) (refused k) old new) (sym e) (
         λ w f. (
           passed w w.scene.waits (Begin i) (reply.Refused R.TooManyTxns),
-          kept-serves tell old new b.same stays b.now w f (Begin i) (reply.Refused R.TooManyTxns)
+          kept-serves tell old new b.same stays b.now w f (Begin i) (reply.Refused R.TooManyTxns) tt
               (many-turns i (tell.seen old.rig) (tell.leaves old.rig) was w f b.low b.high b.up b.once (many e)),
         ),
         ap tell.faults b.same,
@@ -273,7 +273,7 @@ module _ {G : Type 0} (tell : Telling G) (i : ℕ) (old new : Complex G) (b : Be
       (λ e. subst (λ (k : Refusal). Serving tell (Begin i) (refused k) old new) (sym e) (
         λ w f. (
           passed w w.scene.waits (Begin i) (reply.Refused R.LsnEnd),
-          kept-serves tell old new b.same stays b.now w f (Begin i) (reply.Refused R.LsnEnd)
+          kept-serves tell old new b.same stays b.now w f (Begin i) (reply.Refused R.LsnEnd) tt
               (ends-turns i (tell.seen old.rig) (tell.leaves old.rig) was w f b.low b.high b.up b.once (ends e).0 (ends e).1),
         ),
         ap tell.faults b.same,
@@ -329,7 +329,7 @@ module _ {G : Type 0} (tell : Telling G) (i : ℕ) (old : Complex G) (low : 1 �
   down-served down = (
     λ w f. (
       passed w w.scene.waits (Begin i) (reply.Refused R.Down),
-      kept-serves tell old old refl refl now w f (Begin i) (reply.Refused R.Down)
+      kept-serves tell old old refl refl now w f (Begin i) (reply.Refused R.Down) tt
           (down-turns i (tell.seen old.rig) (tell.leaves old.rig) (parts old) w f low high down),
     ),
     refl,

@@ -19,7 +19,7 @@ use Rattle.sd_reclock.specs.Locks.{Held, held_in, waits}
 use Rattle.sd_rig.specs.Devices.{DeviceImages, Leaves}
 use Rattle.sd_chain.specs.Logs.{Outcomes}
 use Rattle.sd_world.specs.Answers.{Moves}
-use Rattle.sd_world.specs.Bounds.{Within, bounds_after}
+use Rattle.sd_world.specs.Bounds.{TellsNoPlace, Within, bounds_after}
 use Rattle.sd_world.specs.Serving.{Core, Serves, Telling, Turns}
 use Rattle.sd_state.specs.Complexes.{parts}
 use Rattle.sd_state.specs.Parts.{Parts}
@@ -77,9 +77,9 @@ module _ (t : TxnId) (seen : DeviceImages) (leaves : Outcomes) (c : Parts) (w : 
         ∙ ap (λ (o : Option Wait). of_running m (with_wait t o w.scene.waits) u) none))
         a.exact a.unused a.moves a.within
 
-    pub calm-fits : (new : Parts) → IsCalmed t c new → Fits seen leaves new next
-    calm-fits new k = subst (λ (q : Parts). Fits seen leaves q next) (sym k.rest)
-        (stays-fitting new.locks (with_wait t None w.scene.waits) e r seen leaves c w f
+    pub calm-fits : TellsNoPlace r → (new : Parts) → IsCalmed t c new → Fits seen leaves new next
+    calm-fits told new k = subst (λ (q : Parts). Fits seen leaves q next) (sym k.rest)
+        (stays-fitting new.locks (with_wait t None w.scene.waits) e r seen leaves c w f told
         (λ u q. ap (λ (l : Held). held_in l u q) k.locks)
         (λ u. k.waits u ∙ ap (λ (o : Option Wait). cond {A = Option Wait} (same_txn t u) None o) (f.waits u))
         (λ u rests. none-waits (same_txn t u) (w.scene.waits u) (f.waiting u rests)))
@@ -101,15 +101,15 @@ module _ (t : TxnId) (seen : DeviceImages) (leaves : Outcomes) (c : Parts) (w : 
 -- the call that leaves all but the wait serves the event
 pub calm-serves : {G : Type 0} (tell : Telling G) (t : TxnId) (e : Event) (r : Reply) (old new : Complex G) → new.rig ≡ old.rig
     → ((img : DeviceImages) → tell.since old.rig (tell.moment old.rig) img → Leaves (tell.leaves old.rig) img) → txn_of e ≡ t
-    → wait_after (asked_of e None) r ≡ None → (w : Core) → fits_by tell.seen tell.leaves old w
+    → wait_after (asked_of e None) r ≡ None → TellsNoPlace r → (w : Core) → fits_by tell.seen tell.leaves old w
     → IsCalmed t (parts old) (parts new) → IsAnswer w e r
     → (w' : Core) × Serves {C = Complex G} tell stands_for (λ c. c.rig) (fits_by tell.seen tell.leaves) e r old new w w'
-calm-serves tell t e r old new same now whose none w f k a = (
+calm-serves tell t e r old new same now whose none told w f k a = (
   passed w (with_wait t None w.scene.waits) e r,
   still-serves tell e r old new w (passed w (with_wait t None w.scene.waits) e r) (sym same) now f
       (calm-turns t (tell.seen old.rig) (tell.leaves old.rig) (parts old) w f e r whose none a)
       (moved-fits tell old new same (passed w (with_wait t None w.scene.waits) e r)
-      (calm-fits t (tell.seen old.rig) (tell.leaves old.rig) (parts old) w f e r whose none (parts new) k)),
+      (calm-fits t (tell.seen old.rig) (tell.leaves old.rig) (parts old) w f e r whose none told (parts new) k)),
 )
 
 -- and the call that turns the transaction does

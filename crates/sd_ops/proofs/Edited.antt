@@ -29,6 +29,7 @@ use Rattle.sd_txn.specs.Transactions.{state_at}
 use Rattle.sd_txn.specs.declared.state.TxnState.{TxnState}
 use Rattle.sd_world.specs.Answers.{changes}
 use Rattle.sd_world.specs.Bounds.{bounds_after, cost, counts}
+use Rattle.sd_world.proofs.Sums.{least-kept}
 use Rattle.sd_world.specs.PageCauses.{NoneSays}
 use Rattle.sd_world.specs.Pages.{Pages}
 use Rattle.sd_world.specs.Serving.{Core, did, refused}
@@ -45,7 +46,7 @@ use Rattle.sd_ops.specs.Halves.{HalfServed, HalfTurns}
 use Rattle.sd_ops.specs.Puts.{IsLowered, IsPutThere}
 use Rattle.sd_ops.proofs.Editing.{from-head, passes-both, ready-here, unlocked}
 use Rattle.sd_ops.proofs.Owning.{not-lost, owned-there, sees}
-use Rattle.sd_ops.proofs.Putted.{is-change, lowered-fits, put-fits, slots-stay}
+use Rattle.sd_ops.proofs.Putted.{is-change, least-stay, lowered-fits, put-fits, slots-stay}
 use Rattle.sd_ops.proofs.Spoiling.{here-not-none, is-number, is-short, sum-number}
 use Rattle.sd_ops.proofs.Work.{IsFor, refused-turns, refused_to}
 
@@ -301,7 +302,10 @@ module _ (t : TxnId) (r : Rid) (edit : Edit) (short : IsLongEdit edit → ⊥) (
       put-fits t r capacity after seen_by leaves c new up free mine put w f (runs-here w f) (event_of t r edit) reply.Did (whose edit) (costs edit)
           (subst (λ (x : Parts). size (value (image_for t r.page x).slots r.slot) ≤ 256) (sym put.granted.rest) before-small) after-small
           (slots-stay t r capacity after seen_by leaves c new up free mine put w f (runs-here w f) (event_of t r edit) reply.Did
-          (subst (λ (x : Parts). r.slot < length (image_for t r.page x).slots) (sym put.granted.rest) sets.place)),
+          (subst (λ (x : Parts). r.slot < length (image_for t r.page x).slots) (sym put.granted.rest) sets.place))
+          (least-stay t r capacity after seen_by leaves c new up free mine put w f (runs-here w f) (event_of t r edit) reply.Did tt
+          (subst (λ (x : Parts). r.slot < length (image_for t r.page x).slots) (sym put.granted.rest) sets.place))
+          (λ q ne. least-kept w.bounds.least (event_of t r edit) reply.Did tt q),
     ),
     λ fault. fault,
   )
@@ -314,7 +318,7 @@ module _ (t : TxnId) (r : Rid) (edit : Edit) (short : IsLongEdit edit → ⊥) (
       refused-turns None w (event_of t r edit) R.LogFull Cause.Log w.scene.state (full-for w f edit short sets.makes
           (full-told t r capacity after seen_by leaves c w f low high up before-small after-small lacks)),
       lowered-fits seen_by leaves c new lowered w f (bounds_after w.bounds (event_of t r edit) (reply.Refused R.LogFull))
-          (bounds-stay seen_by c w.bounds (event_of t r edit) (reply.Refused R.LogFull) f.bounds),
+          (bounds-stay seen_by c w.bounds (event_of t r edit) (reply.Refused R.LogFull) tt f.bounds),
     ),
     λ fault. fault,
   )
@@ -327,7 +331,7 @@ module _ (t : TxnId) (r : Rid) (edit : Edit) (short : IsLongEdit edit → ⊥) (
       refused-turns None w (event_of t r edit) R.LsnEnd Cause.Lsn w.scene.state (ends-for w f edit short sets.makes
           (ends-told t r capacity after seen_by leaves c w f low high up lacks)),
       lowered-fits seen_by leaves c new lowered w f (bounds_after w.bounds (event_of t r edit) (reply.Refused R.LsnEnd))
-          (bounds-stay seen_by c w.bounds (event_of t r edit) (reply.Refused R.LsnEnd) f.bounds),
+          (bounds-stay seen_by c w.bounds (event_of t r edit) (reply.Refused R.LsnEnd) tt f.bounds),
     ),
     λ fault. fault,
   )

@@ -1,5 +1,5 @@
 -- A write, an add or a delete before its wait is ended: each refusal that leaves the serial table as it was. For `carry`.
-use Rattle.std.proofs.Common.{◌≡◌, ◌≤◌, true, false, List, [], ◌∷◌, ◌++◌, refl, sym, ap, ◌∙◌}
+use Rattle.std.proofs.Common.{◌≡◌, inl, ◌≤◌, true, false, List, [], ◌∷◌, ◌++◌, refl, sym, ap, ◌∙◌}
 use Rattle.std.specs.Prelude.{None, Some}
 use Rattle.sd_base.specs.declared.ids.Rid.{Rid}
 use Rattle.sd_base.specs.declared.ids.TxnId.{TxnId}
@@ -106,7 +106,7 @@ module _ (t : TxnId) (r : Rid) (seen_by : DeviceImages) (leaves : Outcomes) (c :
     says = λ b. absurd (cc);
     place = tt;
     leaves = refl;
-    allows = tt;
+    allows = inl long;
     whom = tt;
     unused = tt;
     near = tt;

@@ -1,7 +1,7 @@
 -- An insert at its end: the record is made, or its change is refused. For `fill`.
 use Rattle.std.proofs.Common.{◌≡◌, ◌≢◌, ◌⊎◌, inl, inr, ⊎_elim, ℕ, ◌+◌, ◌^◌, ◌<◌, ◌≤◌, Bool, true, false, cond, eq-eqb, List, [], ◌∷◌, ◌++◌, length, refl, sym, ap, ◌∙◌, subst, arith}
 use Rattle.std.specs.Prelude.{None, Some, Result, Ok, Err, IfErr, IfOk, OnErr}
-use Rattle.std.proofs.lemmas.Bool.{cases_lt}
+use Rattle.std.proofs.lemmas.Bool.{cases_lt, ne_eqb}
 use Rattle.sd_base.specs.Values.{size}
 use Rattle.sd_base.specs.declared.ids.Rid.{Rid}
 use Rattle.sd_base.specs.declared.ids.TxnId.{TxnId}
@@ -25,19 +25,19 @@ use Rattle.sd_reclock.specs.Answers.{IsFree}
 use Rattle.sd_reclock.specs.Locks.{stands, wait_for}
 use Rattle.sd_rig.specs.Devices.{DeviceImages}
 use Rattle.sd_chain.specs.Logs.{Outcomes}
-use Rattle.sd_chain.specs.Pages.{redo, value}
+use Rattle.sd_chain.specs.Pages.{capacity, redo, value}
 use Rattle.sd_chain.specs.Records.{home}
 use Rattle.sd_txn.specs.Transactions.{state_at}
 use Rattle.sd_txn.specs.declared.state.TxnState.{TxnState}
 use Rattle.sd_world.specs.Answers.{changes}
-use Rattle.sd_world.specs.Bounds.{bounds_after, with_slot}
+use Rattle.sd_world.specs.Bounds.{bounds_after, with_least, with_slot}
 use Rattle.sd_world.specs.Pages.{Pages}
 use Rattle.sd_world.specs.Serving.{Core, refused}
 use Rattle.sd_update.specs.Changing.{LacksLsns, LacksRoom, change_of, flat_of, image_for}
 use Rattle.sd_state.specs.Parts.{Parts, status_at, txns_at}
 use Rattle.sd_state.specs.Values.{Pending}
 use Rattle.sd_state.proofs.WorkingTakes.{free-claims}
-use Rattle.sd_fits.specs.Fits.{AreWithin, Fits, capacities}
+use Rattle.sd_fits.specs.Fits.{AreAtLeast, AreWithin, Fits, capacities}
 use Rattle.sd_fits.proofs.Changing.{ends-told, full-told}
 use Rattle.sd_fits.proofs.Served.{bounds-stay}
 use Rattle.sd_fits.proofs.Taking.{turned_to}
@@ -47,7 +47,7 @@ use Rattle.sd_ops.specs.Vacancies.{IsLongFor, IsVacant}
 use Rattle.sd_ops.proofs.Editing.{head_causes}
 use Rattle.sd_ops.proofs.Filling.{insert-head, near-slot, owned-page, ready-insert, there-page}
 use Rattle.sd_ops.proofs.Owning.{sees}
-use Rattle.sd_ops.proofs.Putted.{is-change, lowered-fits, put-fits, slots-added, slots-stay}
+use Rattle.sd_ops.proofs.Putted.{is-change, least-add, least-fill, lowered-fits, put-fits, slots-added, slots-stay}
 use Rattle.sd_ops.proofs.Work.{IsFor, refused-turns, refused_to}
 
 not-held-free : (claim : Claim) → (Holds claim → ⊥) → claim ≡ Claim.Free
@@ -183,6 +183,26 @@ module _ (t : TxnId) (p : ℕ) (v : List ℕ) (asked : ℕ) (seen_by : DeviceIma
         (slots-added t r own (Some v) seen_by leaves c new up free mine there w f (runs-here w f) (place-mid next))))
         vacant.chosen.0
 
+    least-then : (w : Core) (f : Fits seen_by leaves c w)
+        → AreAtLeast (capacities (redo (image_for t p there.mid) (flat_of (change_of t r own (Some v) there.mid))))
+        ((bounds_after w.bounds e (reply.At r)).least p)
+    least-then w f = subst (λ (b : Bool). AreAtLeast
+        (capacities (redo (image_for t p there.mid) (flat_of (change_of t r own (Some v) there.mid))))
+        (cond {A = List ℕ} b (with_least (w.bounds.least p) slot asked) (w.bounds.least p))) (sym (eq-eqb p p refl))
+        (⊎_elim
+        (λ dead. least-fill t r own (Some v) seen_by leaves c new up free mine there w f (runs-here w f) asked
+        (subst (λ (x : Parts). slot < length (image_for t p x).slots) (sym there.granted.rest) dead.place)
+        (subst (λ (x : Parts). asked ≤ capacity (image_for t p x).slots slot) (sym there.granted.rest) dead.enough))
+        (λ next. subst (λ (n : ℕ). AreAtLeast
+        (capacities (redo (image_for t p there.mid) (flat_of (change_of t r own (Some v) there.mid))))
+        (with_least (w.bounds.least p) slot n)) (vacant.asks next)
+        (least-add t r own (Some v) seen_by leaves c new up free mine there w f (runs-here w f) (place-mid next)))
+        vacant.chosen.0)
+
+    least-else : (w : Core) (q : ℕ) → q ≢ p → (bounds_after w.bounds e (reply.At r)).least q ≡ w.bounds.least q
+    least-else w q ne = ap (λ (b : Bool). cond {A = List ℕ} b (with_least (w.bounds.least q) slot asked) (w.bounds.least q))
+        (ne_eqb p q (λ same. ne (sym same)))
+
     pub filled-half : HalfServed seen_by leaves (Some r) e (Some (reply.At r)) c new
     filled-half = (
       λ w f. (
@@ -191,7 +211,7 @@ module _ (t : TxnId) (p : ℕ) (v : List ℕ) (asked : ℕ) (seen_by : DeviceIma
         put-fits t r own (Some v) seen_by leaves c new up free mine there w f (runs-here w f) e (reply.At r) refl refl
             (subst (λ (x : Parts). size (value (image_for t p x).slots slot) ≤ 256) (sym there.granted.rest) before-small)
             after-small
-            (slots-then w f),
+            (slots-then w f) (least-then w f) (least-else w),
       ),
       λ fault. fault,
     )
@@ -204,7 +224,7 @@ module _ (t : TxnId) (p : ℕ) (v : List ℕ) (asked : ℕ) (seen_by : DeviceIma
         refused-turns None w e R.LogFull Cause.Log w.scene.state (full-for w f
             (full-told t r own (Some v) seen_by leaves c w f low high up before-small after-small lacks)),
         lowered-fits seen_by leaves c new lowered w f (bounds_after w.bounds e (reply.Refused R.LogFull))
-            (bounds-stay seen_by c w.bounds e (reply.Refused R.LogFull) f.bounds),
+            (bounds-stay seen_by c w.bounds e (reply.Refused R.LogFull) tt f.bounds),
       ),
       λ fault. fault,
     )
@@ -216,7 +236,7 @@ module _ (t : TxnId) (p : ℕ) (v : List ℕ) (asked : ℕ) (seen_by : DeviceIma
         refused-turns None w e R.LsnEnd Cause.Lsn w.scene.state (ends-for w f
             (ends-told t r own (Some v) seen_by leaves c w f low high up lacks)),
         lowered-fits seen_by leaves c new lowered w f (bounds_after w.bounds e (reply.Refused R.LsnEnd))
-            (bounds-stay seen_by c w.bounds e (reply.Refused R.LsnEnd) f.bounds),
+            (bounds-stay seen_by c w.bounds e (reply.Refused R.LsnEnd) tt f.bounds),
       ),
       λ fault. fault,
     )

@@ -1,5 +1,5 @@
 -- An insert before its wait is ended: each refusal. For `fill`.
-use Rattle.std.proofs.Common.{◌≡◌, ⊎_elim, ℕ, ◌+◌, ◌*◌, ◌≤◌, Bool, true, false, cond, eq-eqb, List, [], ◌∷◌, ◌++◌, length, map, refl, sym, ap, ◌∙◌, subst, arith}
+use Rattle.std.proofs.Common.{◌≡◌, inl, ⊎_elim, ℕ, ◌+◌, ◌*◌, ◌≤◌, Bool, true, false, cond, eq-eqb, List, [], ◌∷◌, ◌++◌, length, map, refl, sym, ap, ◌∙◌, subst, arith}
 use Rattle.std.specs.Prelude.{Option, None, Some, sum, sum_by}
 use Rattle.std.proofs.lemmas.Bool.{cases_lt}
 use Rattle.std.proofs.lemmas.List.Sums.{sum-map, sum_by-cons}
@@ -124,7 +124,7 @@ module _ (t : TxnId) (p : ℕ) (v : List ℕ) (asked : ℕ) (seen_by : DeviceIma
     says = λ b. absurd (cc);
     place = tt;
     leaves = refl;
-    allows = tt;
+    allows = inl long;
     whom = tt;
     unused = tt;
     near = tt;

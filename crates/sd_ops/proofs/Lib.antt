@@ -11,6 +11,7 @@ pub mod Filled
 pub mod Begins
 pub mod Work
 pub mod WaitEnded
+mod Lasts
 pub mod Commits
 pub mod Underway
 pub mod Committing

@@ -31,7 +31,7 @@ use Rattle.sd_reclock.specs.Locks.{IsLowestOwner, OwnsIn, held}
 use Rattle.sd_chain.specs.Logs.{Outcomes}
 use Rattle.sd_chain.specs.Pages.{value}
 use Rattle.sd_chain.proofs.Slots.{value-at}
-use Rattle.sd_world.specs.Bounds.{bounds_after}
+use Rattle.sd_world.specs.Bounds.{TellsNoPlace, bounds_after}
 use Rattle.sd_world.specs.Serving.{Core, Serves, Telling, Turns, refused}
 use Rattle.sd_state.specs.Complexes.{parts}
 use Rattle.sd_state.specs.Good.{Good}
@@ -223,15 +223,15 @@ used-frames pool p None = refl
 used-frames pool p (Some image) = refl
 
 module _ {G : Type 0} (tell : Telling G) (i p : ℕ) (c : Complex G) (b : Lists tell i c) where
-  by-turns : (r : Reply)
+  by-turns : (r : Reply) → TellsNoPlace r
       → ((w : Core) → Fits (tell.seen c.rig) (tell.leaves c.rig) (parts c) w
       → Turns w (event.List i p) r (passed w w.scene.waits (event.List i p) r)) → (w : Core) → Fits (tell.seen c.rig) (tell.leaves c.rig) (parts c) w
       → (w' : Core) × Serves {C = Complex G} tell stands_for (λ x. x.rig) (fits_by tell.seen tell.leaves) (event.List i p) r c c w w'
-  by-turns r turns w f = (passed w w.scene.waits (event.List i p) r, kept-serves tell c c refl refl b.now w f (event.List i p) r (turns w f))
+  by-turns r told turns w f = (passed w w.scene.waits (event.List i p) r, kept-serves tell c c refl refl b.now w f (event.List i p) r told (turns w f))
 
   pub list-down : (status_at (parts c) i ≡ S.Up → ⊥) → Serving tell (event.List i p) (refused R.Down) c c
   list-down down = (
-    by-turns (reply.Refused R.Down)
+    by-turns (reply.Refused R.Down) tt
         (λ w f. down-turns i p (tell.seen c.rig) (tell.leaves c.rig) (parts c) w f b.low b.high down),
     refl,
   )
@@ -256,7 +256,7 @@ module _ {G : Type 0} (tell : Telling G) (i p : ℕ) (c : Complex G) (b : Lists 
               (frames-kept (parts c) i pool (parts c).directory b.low b.high f.good.shape.pools
               (used-frames (pool_at (parts c) i) p (image_at (pool_at (parts c) i) p)))
               (λ q. refl) (λ q. refl))
-              (bounds-stay (tell.seen c.rig) (parts c) w.bounds (event.List i p) (reply.Rows rows) f.bounds)),
+              (bounds-stay (tell.seen c.rig) (parts c) w.bounds (event.List i p) (reply.Rows rows) tt f.bounds)),
         ),
     ap tell.faults same,
   )
@@ -266,17 +266,17 @@ module _ {G : Type 0} (tell : Telling G) (i p : ℕ) (c : Complex G) (b : Lists 
 
   pub list-refused : status_at (parts c) i ≡ S.Up → (n : Refusal) → IsUnlisted i p (parts c) n → Serving tell (event.List i p) (refused n) c c
   list-refused up R.Lost lost = (
-    by-turns (reply.Refused R.Lost)
+    by-turns (reply.Refused R.Lost) tt
         (λ w f. lost-turns i p (tell.seen c.rig) (tell.leaves c.rig) (parts c) w f b.low b.high up lost),
     refl,
   )
   list-refused up (R.NeedPage at) h = (
-    by-turns (reply.Refused (R.NeedPage at))
+    by-turns (reply.Refused (R.NeedPage at)) tt
         (λ w f. away-turns i p (tell.seen c.rig) (tell.leaves c.rig) (parts c) w f b.low b.high up at h.0 h.1 h.2),
     refl,
   )
   list-refused up (R.Busy by) h = (
-    by-turns (reply.Refused (R.Busy by))
+    by-turns (reply.Refused (R.Busy by)) tt
         (λ w f. busy-turns i p (tell.seen c.rig) (tell.leaves c.rig) (parts c) w f b.low b.high up h.0 by h.1),
     refl,
   )

@@ -95,7 +95,7 @@ module _ (t : TxnId) (name : List ℕ) (seen : DeviceImages) (leaves : Outcomes)
                 waits = f.waits;
                 waiting = each_txn t (λ u (q : Part). is_running q.life ≡ false → w.scene.waits u ≡ None) part m.part
                     (λ off. let clash = sym off ∙ ap is_running runs in absurd (cc)) (λ u ne off. f.waiting u off);
-              }) then (bounds-stay seen c w.bounds (Save t name) reply.Did f.bounds)),
+              }) then (bounds-stay seen c w.bounds (Save t name) reply.Did tt f.bounds)),
         ),
     λ fault. fault,
   )

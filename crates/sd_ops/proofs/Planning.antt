@@ -1,5 +1,5 @@
 -- What an edit comes to in a slot of a page. For `plan_in` and `plan_sum`.
-use Rattle.std.proofs.Common.{◌≡◌, ℕ, zero, suc, ◌<◌, ◌≤◌, List, [], ◌∷◌, length, refl, sym, ap, ◌∙◌, arith, Bor, inr}
+use Rattle.std.proofs.Common.{◌≡◌, ℕ, zero, suc, ◌<◌, ◌≤◌, List, [], ◌∷◌, length, refl, sym, ap, ◌∙◌, subst, arith, Bor, inr}
 use Rattle.std.specs.Prelude.{Option, None, Some, IsSome, option_copied, ℤ}
 use Rattle.std.specs.List.{AllByRecursion}
 use Rattle.sd_base.specs.Values.{size}
@@ -69,7 +69,13 @@ module _ (page : Page) (s own : ℕ) (u : List ℕ) (fits : PageFits page) (foun
   }
 
   spoiled : (edit : Edit) (n : Refusal) → Spoils edit u own n → IsSpoiled page s edit n
-  spoiled edit n why = record { u = u; capacity = own; found = value-is; room = room; why = why }
+  spoiled edit n why = record {
+    u = u;
+    found = value-is;
+    place = place;
+    room = let had = room in let is = own-is in omega (arith, had, is);
+    why = subst (λ (k : ℕ). Spoils edit u k n) own-is why;
+  }
 
   pub to-planned : (v : Bor (List ℕ)) (plan : Plan) → IsFitted own v.now plan → IsPlan page s (To v) plan
   to-planned v (Put new after) f =

@@ -1,5 +1,5 @@
 -- An edit that is made, or finds no room in its log, no LSN or no memory. For `carry`.
-use Rattle.std.proofs.Common.{◌≡◌, ℕ, ◌<◌, ◌≤◌, Bool, true, false, cond, List, [], ◌∷◌, ◌++◌, length, refl, sym, ap, ◌∙◌, subst, arith}
+use Rattle.std.proofs.Common.{◌≡◌, ◌≢◌, ℕ, ◌<◌, ◌≤◌, Bool, true, false, cond, List, [], ◌∷◌, ◌++◌, length, refl, sym, ap, ◌∙◌, subst, arith}
 use Rattle.sd_base.specs.Values.{size}
 use Rattle.sd_base.specs.declared.ids.Rid.{Rid}
 use Rattle.sd_base.specs.declared.ids.TxnId.{TxnId}
@@ -24,18 +24,19 @@ use Rattle.sd_reclock.specs.Locks.{stands, wait_for, waits_in}
 use Rattle.sd_reclock.specs.declared.wait.Asked.{Asked}
 use Rattle.sd_rig.specs.Devices.{DeviceImages}
 use Rattle.sd_chain.specs.Logs.{Outcomes}
-use Rattle.sd_chain.specs.Pages.{redo}
+use Rattle.sd_chain.specs.Pages.{capacity as capacity_of, redo}
 use Rattle.sd_chain.specs.Records.{home}
 use Rattle.sd_world.specs.Answers.{changes}
-use Rattle.sd_world.specs.Bounds.{Bounds, bounds_after, cost, counts, with_slot}
+use Rattle.sd_world.specs.Bounds.{Bounds, TellsNoPlace, bounds_after, cost, counts, with_least, with_slot}
+use Rattle.sd_world.proofs.Sums.{least-kept}
 use Rattle.sd_world.specs.Pages.{Pages, numbered, page_placed}
 use Rattle.sd_world.specs.Serving.{Core}
 use Rattle.sd_update.specs.Changing.{Change, change_of, changed_log, flat_of, image_for, putting, with_changed}
 use Rattle.sd_state.specs.Good.{Good}
 use Rattle.sd_state.specs.Parts.{Parts, status_at}
 use Rattle.sd_state.specs.Values.{Pending}
-use Rattle.sd_fits.specs.Fits.{AreWithin, Fits, FitsBounds, capacities}
-use Rattle.sd_fits.proofs.Changing.{changed-fits, slots-kept, slots-new}
+use Rattle.sd_fits.specs.Fits.{AreAtLeast, AreWithin, Fits, FitsBounds, capacities}
+use Rattle.sd_fits.proofs.Changing.{changed-fits, least-added, least-filled, least-stays, slots-kept, slots-new}
 use Rattle.sd_fits.proofs.Served.{relocked-good}
 use Rattle.sd_fits.proofs.Taking.{GoesOnAs, same-on, taken-fits, took-lives, took-on, took-twice, turned_to}
 use Rattle.sd_fits.proofs.Values.{copy-newest}
@@ -117,19 +118,35 @@ module _ (t : TxnId) (r : Rid) (capacity : ℕ) (after : Content) (seen_by : Dev
   -- The complex fits the world in which the value is put.
   pub put-fits : (e : Event) (reply_is : Reply) → inst_of e ≡ home t → cond (counts e reply_is) (cost e) 0 ≡ 900 → size k.before ≤ 256
       → size after ≤ 256 → AreWithin (capacities (redo (image_for t r.page mid) (flat_of k))) ((bounds_after w.bounds e reply_is).slots r.page)
+      → AreAtLeast (capacities (redo (image_for t r.page mid) (flat_of k))) ((bounds_after w.bounds e reply_is).least r.page)
+      → ((q : ℕ) → q ≢ r.page → (bounds_after w.bounds e reply_is).least q ≡ w.bounds.least q)
       → Fits seen_by leaves new (turned_to w put_state w.scene.waits pages_then e reply_is)
-  put-fits e reply_is whose costs before_small after_small slots =
+  put-fits e reply_is whose costs before_small after_small slots least else =
       changed-fits k seen_by leaves mid new put_state mid_core mid-fits there.made good-changed e reply_is whose costs before_small after_small
-      slots goes-on has-put
+      slots least else goes-on has-put
 
   pub slots-stay : (e : Event) (reply_is : Reply) → r.slot < length (image_for t r.page mid).slots
       → AreWithin (capacities (redo (image_for t r.page mid) (flat_of k))) ((bounds_after w.bounds e reply_is).slots r.page)
   slots-stay e reply_is lt = slots-kept k seen_by leaves mid new put_state mid_core mid-fits there.made good-changed e reply_is lt
 
+  pub least-stay : (e : Event) (reply_is : Reply) → TellsNoPlace reply_is → r.slot < length (image_for t r.page mid).slots
+      → AreAtLeast (capacities (redo (image_for t r.page mid) (flat_of k))) ((bounds_after w.bounds e reply_is).least r.page)
+  least-stay e reply_is told lt = subst (AreAtLeast _) (sym (least-kept w.bounds.least e reply_is told r.page))
+      (least-stays k seen_by leaves mid new put_state mid_core mid-fits there.made good-changed lt)
+
   -- and where the slot is new, one more
   pub slots-added : r.slot ≡ length (image_for t r.page mid).slots
       → AreWithin (capacities (redo (image_for t r.page mid) (flat_of k))) (with_slot (w.bounds.slots r.page) r.slot capacity)
   slots-added is = slots-new k seen_by leaves mid new put_state mid_core mid-fits there.made good-changed is
+
+  pub least-add : r.slot ≡ length (image_for t r.page mid).slots
+      → AreAtLeast (capacities (redo (image_for t r.page mid) (flat_of k))) (with_least (w.bounds.least r.page) r.slot capacity)
+  least-add is = least-added k seen_by leaves mid new put_state mid_core mid-fits there.made good-changed is
+
+  -- a dead one has what is asked for
+  pub least-fill : (asked : ℕ) → r.slot < length (image_for t r.page mid).slots → asked ≤ capacity_of (image_for t r.page mid).slots r.slot
+      → AreAtLeast (capacities (redo (image_for t r.page mid) (flat_of k))) (with_least (w.bounds.least r.page) r.slot asked)
+  least-fill asked lt enough = least-filled k seen_by leaves mid new put_state mid_core mid-fits there.made good-changed asked lt enough
 
 -- ---- what is left by a refusal of the change
 

@@ -188,7 +188,7 @@ module _ (t : TxnId) (r : Rid) (seen_by : DeviceImages) (leaves : Outcomes) (c :
             (taken-fits new.locks w.scene.waits (read_at t r v m) (bounds_after w.bounds (event.Read t r) (reply.Value v)) seen_by leaves c w f
             (noted-good seen_by leaves c m t r modes.Shared v new.locks f.good f.idle up (ready-here w f).runs free sees given)
             (took-on t r Claim.Shared (Act.Read r v ∷ []) m (ready-here w f).runs)
-            (bounds-stay seen_by c w.bounds (event.Read t r) (reply.Value v) f.bounds)
+            (bounds-stay seen_by c w.bounds (event.Read t r) (reply.Value v) tt f.bounds)
             (λ u. ap (λ (l : List (TxnId × Asked)). waits_in l u) same_waits ∙ f.waits u) f.waiting)
 
       pub read-done : HalfServed seen_by leaves None (event.Read t r) (Some (reply.Value v)) c new

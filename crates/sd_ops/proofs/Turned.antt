@@ -208,7 +208,7 @@ module _ {G : Type 0} (tell : Telling G) (t : TxnId) (mark : Option (List ℕ)) 
       → (w' : Core) × Serves {C = Complex G} tell stands_for (λ c. c.rig) (fits_by tell.seen tell.leaves) (Back t mark) (reply.Refused n) old new w w'
   each n stays calm w f =
       let cause = back-refused t (tell.seen old.rig) (tell.leaves old.rig) (parts old) low high w f mark n stays in
-      calm-serves tell t (Back t mark) (reply.Refused n) old new same now refl (no-wait (reply.Refused n)) w f calm
+      calm-serves tell t (Back t mark) (reply.Refused n) old new same now refl (no-wait (reply.Refused n)) tt w f calm
       (refused-answer w (Back t mark) n cause.0 cause.1)
 
   pub back-out : (n : Refusal) → StaysPut t mark (parts old) n → IsCalmed t (parts old) (parts new)
@@ -248,7 +248,7 @@ module _ {G : Type 0} (tell : Telling G) (t : TxnId) (mark : Option (List ℕ)) 
           rolls = λ e. opens t seen leaves c low high w f up work;
           waits = λ u. h.waits u ∙ ap (λ (o : Option Wait). cond {A = Option Wait} (same_txn t u) None o) (f.waits u);
           waiting = ended-asks t (with_life (Life.Rolling to) (m.part t)) seen leaves c w f;
-        }) then (bounds-stay seen c w.bounds (Back t mark) reply.Did f.bounds) in
+        }) then (bounds-stay seen c w.bounds (Back t mark) reply.Did tt f.bounds) in
         turn-serves tell t (with_life (Life.Rolling to) (m.part t)) (Back t mark) reply.Did old new same now refl refl w f
         (subst (λ (q : Parts). Fits seen leaves q (turned_core t (with_life (Life.Rolling to) (m.part t)) (with_wait t None w.scene.waits)
         (bounds_after w.bounds (Back t mark) reply.Did) w))

@@ -266,7 +266,7 @@ module _ {G : Type 0} (tell : Telling G) (t : TxnId) (old new : Complex G) (same
       → ((w : Core) → fits_by tell.seen tell.leaves old w → (cause : Cause) × IsCause w (Undo t) n cause) → (w : Core)
       → fits_by tell.seen tell.leaves old w
       → (w' : Core) × Serves {C = Complex G} tell stands_for (λ c. c.rig) (fits_by tell.seen tell.leaves) (Undo t) (reply.Refused n) old new w w'
-  quiet-served n calm cause w f = calm-serves tell t (Undo t) (reply.Refused n) old new same now refl (no-wait (reply.Refused n)) w f calm
+  quiet-served n calm cause w f = calm-serves tell t (Undo t) (reply.Refused n) old new same now refl (no-wait (reply.Refused n)) tt w f calm
       (refused-answer w (Undo t) n (cause w f).0 (cause w f).1)
 
   -- of one that doesn't roll back
@@ -274,7 +274,7 @@ module _ {G : Type 0} (tell : Telling G) (t : TxnId) (old new : Complex G) (same
       → ((to : Option ℕ) → state ≢ TxnState.Rolling to) → IsCalmed t (parts old) (parts new)
       → Serving tell (Undo t) (Some reply.Finished) old new
   nothing-served state up stands off calm = (
-    λ w f. calm-serves tell t (Undo t) reply.Finished old new same now refl refl w f calm
+    λ w f. calm-serves tell t (Undo t) reply.Finished old new same now refl refl tt w f calm
         (nothing-answer t (tell.seen old.rig) (tell.leaves old.rig) (parts old) low high w f state up stands off),
     ap tell.faults same,
   )
@@ -310,7 +310,7 @@ module _ {G : Type 0} (tell : Telling G) (t : TxnId) (old new : Complex G) (same
           rolls = λ e. absurd (cc);
           waits = λ u. calm.waits u ∙ ap (λ (o : Option Wait). cond {A = Option Wait} (same_txn t u) None o) (f.waits u);
           waiting = ended-asks t part seen_by leaves c w f;
-        }) (good m f.good) (bounds-stay seen_by c w.bounds (Undo t) reply.Finished f.bounds) in
+        }) (good m f.good) (bounds-stay seen_by c w.bounds (Undo t) reply.Finished tt f.bounds) in
         turn-serves tell t part (Undo t) reply.Finished old new same now refl refl w f
         (subst (λ (q : Parts). Fits seen_by leaves q (turned_core t part (with_wait t None w.scene.waits) sums w)) (sym is) fits)
         (mark-step t seen_by leaves c low high w f n up stands few) tt tt
@@ -391,7 +391,7 @@ module _ {G : Type 0} (tell : Telling G) (t : TxnId) (c : Complex G)
       let seen_by = tell.seen c.rig in
       let leaves = tell.leaves c.rig in
       let cause = lacks-cause t seen_by leaves (parts c) low high w f to up above.rolls o last above.above n lacks in
-      calm-serves tell t (Undo t) (reply.Refused n) c c refl now refl (no-wait (reply.Refused n)) w f
+      calm-serves tell t (Undo t) (reply.Refused n) c c refl now refl (no-wait (reply.Refused n)) tt w f
       (calm-already t seen_by leaves (parts c) w f (at-rest t seen_by leaves (parts c) low high w f to up above.rolls))
       (refused-answer w (Undo t) n cause.0 cause.1)
 

@@ -89,7 +89,7 @@ refused-half seen leaves c wanted e n cause none is fault = (
     refused_to w e wanted n w.scene.state,
     refused-turns wanted w e n cause w.scene.state (is w f),
     subst (λ (asks : Waits). Fits seen leaves c (turned_to w w.scene.state asks w.pages e (reply.Refused n))) (sym (none w.scene.waits))
-        (nothing-fits c.locks w.scene.waits e (reply.Refused n) seen leaves c w f),
+        (nothing-fits c.locks w.scene.waits e (reply.Refused n) seen leaves c w f tt),
   ),
   fault,
 )

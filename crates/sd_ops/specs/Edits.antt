@@ -4,7 +4,7 @@ use Rattle.sd_base.specs.declared.ids.Rid.{Rid}
 use Rattle.sd_base.specs.declared.ids.TxnId.{TxnId}
 use Rattle.sd_base.specs.declared.refusal.Refusal.{Refusal}
 use Rattle.sd_base.specs.declared.refusal.Refusal.TheVariants as R
-use Rattle.sd_chain.specs.Pages.{FitsUpdate, value}
+use Rattle.sd_chain.specs.Pages.{FitsUpdate, capacity as capacity_of, value}
 use Rattle.sd_model.specs.declared.event.Event.{Event}
 use Rattle.sd_model.specs.declared.event.Event.TheVariants as event
 use Rattle.sd_model.specs.Numbers.{HasLongSum, IsNumber, Sums}
@@ -56,13 +56,13 @@ pub record Sets (page : Page) (s : ℕ) (edit : Edit) (capacity : ℕ) (after : 
   pub small : capacity ≤ 256
   pub had_small : length u ≤ 256
 
--- The record is there, and gets none.
+-- The record is there, and gets none, by what its slot takes.
 pub record IsSpoiled (page : Page) (s : ℕ) (edit : Edit) (n : Refusal) : Type 0 where
   pub u : List ℕ
-  pub capacity : ℕ
   pub found : value page.slots s ≡ Some u
-  pub room : length u ≤ capacity
-  pub why : Spoils edit u capacity n
+  pub place : s < length page.slots
+  pub room : length u ≤ capacity_of page.slots s
+  pub why : Spoils edit u (capacity_of page.slots s) n
 
 -- why an edit is refused, once the record's lock is given
 abbrev pub IsVain : Page → ℕ → Edit → Refusal → Type 0

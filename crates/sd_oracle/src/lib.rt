@@ -23,6 +23,7 @@
 
 mod arguments;
 mod asked;
+mod blockers;
 mod causes;
 mod changers;
 mod devices;
@@ -35,7 +36,6 @@ mod joins;
 mod judge;
 mod lists;
 mod locks;
-mod blockers;
 mod outcome;
 mod page_causes;
 mod pages;

@@ -44,7 +44,7 @@ module _ {G : Type 0} (tell : Telling G) (c new : Complex G) (trouble : Trouble)
           next,
           read-serves tell event reply.Did c new w next u now f (turns w f)
               (nothing-fits (parts new).locks w.scene.waits event reply.Did (tell.seen new.rig) (tell.leaves new.rig) (parts new) w
-              (fits-then w f)),
+              (fits-then w f) tt),
         )),
     quiet,
   )

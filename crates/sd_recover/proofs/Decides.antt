@@ -72,6 +72,7 @@ module _ (i by : ℕ) (table : Transactions) (seen : DeviceImages) (leaves : Out
   table-bounds : (b : Bounds) → FitsBounds seen leaves c b → FitsBounds seen leaves then b
   table-bounds b f = record {
     slots = f.slots;
+    least = f.least;
     reach = f.reach;
     lsns = no-more (great_of c) (owed_in_all then) (owed_in_all c) b.lsns (sum-less (owes_most then) (owes_most c) 8 owes) f.lsns;
     masters = f.masters;
@@ -93,7 +94,7 @@ module _ (i by : ℕ) (table : Transactions) (seen : DeviceImages) (leaves : Out
         number = f.pages.number;
         begun = f.pages.begun;
       })
-      (table-bounds (step_sums i w) (bounds-stay seen c w.bounds (RecoverStep i) reply.Step f.bounds)) f.doubts
+      (table-bounds (step_sums i w) (bounds-stay seen c w.bounds (RecoverStep i) reply.Step tt f.bounds)) f.doubts
 
 -- ---- the decision
 

@@ -134,6 +134,7 @@ module _ (t : TxnId) (by : ℕ) (seen : DeviceImages) (leaves : Outcomes) (c : P
   more : AreMore i 0 w.bounds (step_sums i w)
   more = record {
     slots = λ p. refl;
+    least = λ p. refl;
     here = grown (cond (eqb i i) 0 0) (w.bounds.reach i);
     reach = λ j. raised (cond (eqb i j) 0 0) (w.bounds.reach j);
     lsns = omega arith;

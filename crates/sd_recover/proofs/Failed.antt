@@ -77,7 +77,7 @@ module _ {G : Type 0} (tell : Telling G) (c : Complex G) (i : ℕ) (low : 1 ≤ 
           (parts c) (parts c) (parts new) m m w low high f f.good
           (record { logs = λ j ne. refl; txns = λ j ne. refl; waits = λ t. refl })
           is fallen (λ t ne. refl) (bounds_after w.bounds event reply.Did) f.pages
-          (bounds-stay (tell.seen c.rig) (parts c) w.bounds event reply.Did f.bounds) f.doubts
+          (bounds-stay (tell.seen c.rig) (parts c) w.bounds event reply.Did tt f.bounds) f.doubts
           (subst (λ (d : G). Good (tell.seen d) (tell.leaves d) Pending.Idle (parts new) (fall i m)) same (good m f.good))
 
       turns : Turns w event reply.Did next

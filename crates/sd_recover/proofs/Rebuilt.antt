@@ -138,7 +138,7 @@ module _ {G : Type 0} (tell : Telling G) (c : Complex G) (i by p : ℕ) (low : 1
         versions kept w f (bounds_after w.bounds event reply.Step)
         (subst (λ (k : Parts). Good (tell.seen new.rig) (tell.leaves new.rig) Pending.Idle k w.scene.state) parts-then
         (good Pending.Idle w.scene.state f.good))
-        (bounds-stay (tell.seen c.rig) (parts c) w.bounds event reply.Step f.bounds))
+        (bounds-stay (tell.seen c.rig) (parts c) w.bounds event reply.Step tt f.bounds))
 
     pub rebuild-served : Serving tell event (Some reply.Step) c new
     rebuild-served = (

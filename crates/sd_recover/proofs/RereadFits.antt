@@ -36,7 +36,7 @@ use Rattle.sd_moves.proofs.SettledBounds.{kept-again, reach-again, reread-great,
 use Rattle.sd_moves.proofs.SettledGood.{by-else, by-here, half-kept, log-else, was_at}
 use Rattle.sd_moves.proofs.SettledTold.{not-up}
 use Rattle.sd_moves.proofs.SettledWhole.{reread-good}
-use Rattle.sd_fits.specs.Fits.{AreWithin, Fits, FitsBounds, FitsDoubts, FitsPages, HaveSlots, ReachesAtMost, capacities}
+use Rattle.sd_fits.specs.Fits.{AreAtLeast, AreWithin, Fits, FitsBounds, FitsDoubts, FitsPages, HaveSlots, ReachesAtMost, capacities}
 use Rattle.sd_fits.proofs.Falling.{numbers_of}
 use Rattle.sd_fits.proofs.Forcing.{versions-same}
 
@@ -87,6 +87,8 @@ module _ (i : ℕ) (seen : rig.DeviceImages) (leaves : Outcomes) (c found : Part
   reread-bounds b f = record {
     slots = λ moved keeps p. subst (λ (x : Page). AreWithin (capacities x) (b.slots p)) (sym (same-version moved keeps p))
         (f.slots (was moved) (kept moved keeps) p);
+    least = λ moved keeps p. subst (λ (x : Page). AreAtLeast (capacities x) (b.least p)) (sym (same-version moved keeps p))
+        (f.least (was moved) (kept moved keeps) p);
     reach = λ moved j lo hi. ⊎_elim
         (λ e. subst (λ (k : ℕ). ReachesAtMost (b.reach k) (log_by new moved k)) (sym e)
         (subst (ReachesAtMost (b.reach i)) (sym (by-here i seen leaves c found m low high g was_loose idle only reads read moved))
@@ -176,6 +178,7 @@ less-fits seen seen' leaves leaves' c w f less same reads = subst (λ (s : rig.D
   };
   bounds = record {
     slots = f.bounds.slots;
+    least = f.bounds.least;
     reach = f.bounds.reach;
     lsns = f.bounds.lsns;
     masters = f.bounds.masters;

@@ -114,7 +114,7 @@ module _ {G : Type 0} (tell : Telling G) (c new : Complex G) (i by dev : ℕ) (l
         record {
           turns = refused-turns (tell.seen c.rig) (tell.leaves c.rig) (parts c) w f event R.Failed Cause.Rig (failed-for w f);
           fits_then = subst (λ (k : Parts). Fits seen' leaves' k (passed w w.scene.waits event (reply.Refused R.Failed))) (sym same)
-              (nothing-fits (parts c).locks w.scene.waits event (reply.Refused R.Failed) seen' leaves' (parts c) w (on w f));
+              (nothing-fits (parts c).locks w.scene.waits event (reply.Refused R.Failed) seen' leaves' (parts c) w (on w f) tt);
           passes = passes-on w f w.scene.state;
         },
       ),
@@ -168,7 +168,7 @@ module _ {G : Type 0} (tell : Telling G) (c new : Complex G) (i by dev : ℕ) (l
         (λ j lo bytes left. (bytes, left, refl)) w then w.pages (step_sums i w)
         (subst (λ (k : Parts). Good seen' leaves' Pending.Idle k w.scene.state) is (good w.scene.state f.good))
         then.pages
-        (bounds-stay seen' (parts c) w.bounds event reply.Step then.bounds)))
+        (bounds-stay seen' (parts c) w.bounds event reply.Step tt then.bounds)))
 
     -- or a log, which is read again
     pub log-served : 1 ≤ dev → dev ≤ 8 → is_loose (parts c) dev ≡ true → LeavesOnly (tell.seen c.rig dev) (leaves' dev)
@@ -182,4 +182,4 @@ module _ {G : Type 0} (tell : Telling G) (c new : Complex G) (i by dev : ℕ) (l
         (reread-fits dev seen' leaves' (parts c) (parts new) w lo hi then loose
         (subst (λ bytes. LeavesOnly bytes (leaves' dev)) (sym (reads dev)) only) there
         (subst (λ bytes. IsReread dev bytes (parts c) (parts new)) (sym (reads dev)) read)
-        (step_sums i w) (bounds-stay seen' (parts c) w.bounds event reply.Step then.bounds)))
+        (step_sums i w) (bounds-stay seen' (parts c) w.bounds event reply.Step tt then.bounds)))

@@ -65,6 +65,7 @@ start-takes log lsn epoch =
 join-more : (b : Bounds) (i : ℕ) (r : Reply) → AreMore i 900 b (bounds_after b (Join i) r)
 join-more b i r = record {
   slots = λ p. refl;
+  least = λ p. refl;
   here = let own = ap {B = ℕ} (λ (e : Bool). cond e 900 0 + b.reach i) (eq-eqb i i refl) in omega (arith, own);
   reach = λ j. more (cond (eqb i j) 900 0) (b.reach j);
   lsns = omega arith;
@@ -179,6 +180,7 @@ module _ (i lsn epoch spare : ℕ) (seen : rig.DeviceImages) (leaves : Outcomes)
       joined-bounds = let b = done-bounds in
           record {
             slots = b.slots;
+            least = b.least;
             reach = b.reach;
             lsns = no-more (great_of done) (owed_in_all new) (owed_in_all done) sums.lsns
                 (sum-less (owes_most new) (owes_most done) 8 (λ j lo hi. let same = owes-same j in omega (arith, same))) b.lsns;

@@ -145,6 +145,7 @@ module _ (i by : ℕ) (seen : DeviceImages) (leaves : Outcomes) (c : Parts) (w :
   swept-bounds : (b : Bounds) → FitsBounds seen leaves c b → FitsBounds seen leaves made b
   swept-bounds b f = record {
     slots = f.slots;
+    least = f.least;
     reach = f.reach;
     lsns = no-more (great_of c) (owed_in_all made) (owed_in_all c) b.lsns (sum-less (owes_most made) (owes_most c) 8 owes) f.lsns;
     masters = f.masters;
@@ -191,7 +192,7 @@ module _ (i by : ℕ) (seen : DeviceImages) (leaves : Outcomes) (c : Parts) (w :
       begun = f.pages.begun;
     };
     bounds = swept-bounds (bounds_after w.bounds (RecoverStep i) reply.Finished)
-        (bounds-stay seen c w.bounds (RecoverStep i) reply.Finished f.bounds);
+        (bounds-stay seen c w.bounds (RecoverStep i) reply.Finished tt f.bounds);
     doubts = doubts-kept seen seen c made m m' f.doubts stays (λ keeps. keeps) (λ moved keeps j. refl) (λ moved keeps p. refl);
   })
 

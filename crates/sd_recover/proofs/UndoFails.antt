@@ -90,7 +90,7 @@ module _ {G : Type 0} (tell : Telling G) (a : ℕ) (t : TxnId) (old mid : Comple
       (λ own.
       let all = failed-all (actor (parts old) a) a (tell.seen old.rig) (tell.seen mid.rig) (tell.leaves old.rig) (tell.leaves mid.rig)
       (parts old) (parts mid) m f.good a_low a_high (there.0 a a_high) disk kept own w.pages (step_sums i w) f.pages
-      (bounds-stay (tell.seen old.rig) (parts old) w.bounds (RecoverStep i) reply.Step f.bounds) f.doubts in
+      (bounds-stay (tell.seen old.rig) (parts old) w.bounds (RecoverStep i) reply.Step tt f.bounds) f.doubts in
       breaks tell i a old low high recovers mid good time span a_low a_high new same fell fallen down w f w.pages
       (failed-aside (actor (parts old) a) a (tell.seen old.rig) (tell.seen mid.rig) (tell.leaves old.rig) (tell.leaves mid.rig)
       (parts old) (parts mid) m f.good a_low a_high (there.0 a a_high) disk kept own i (parts old) (same-aside i (parts old)))

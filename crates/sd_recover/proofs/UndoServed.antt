@@ -96,6 +96,7 @@ module _ (a : ℕ) (t : TxnId) (seen seen' : DeviceImages) (leaves leaves' : Out
 pub step-more : (i : ℕ) (w : Core) → AreMore i 0 w.bounds (step_sums i w)
 step-more i w = record {
   slots = λ p. refl;
+  least = λ p. refl;
   here = grown (cond (eqb i i) 0 0) (w.bounds.reach i);
   reach = λ j. raised (cond (eqb i j) 0 0) (w.bounds.reach j);
   lsns = omega arith;

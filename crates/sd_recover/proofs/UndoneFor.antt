@@ -11,7 +11,7 @@ use Rattle.sd_base.specs.declared.place.Status.TheVariants as S
 use Rattle.sd_logrec.specs.Spelling.{spelling}
 use Rattle.sd_logrec.specs.View.{Rec, flat}
 use Rattle.sd_logrec.specs.declared.record.Record.{Record}
-use Rattle.sd_log.specs.Logs.{LogState, forced, last_lsn, scanned, with_record}
+use Rattle.sd_log.specs.Logs.{LogState, begun_at, forced, last_lsn, scanned, with_record}
 use Rattle.sd_model.specs.State.{State}
 use Rattle.sd_page.specs.Page.{Page}
 use Rattle.sd_pagelock.specs.Directory.{entry_at}
@@ -42,7 +42,7 @@ use Rattle.sd_world.specs.Bounds.{Bounds}
 use Rattle.sd_world.specs.Serving.{Core}
 use Rattle.sd_state.specs.Forcing.{KeepMasters}
 use Rattle.sd_state.specs.Good.{Good, Half, base_of, dir_of}
-use Rattle.sd_state.specs.Images.{begun_at, leaves_by, log_by}
+use Rattle.sd_state.specs.Images.{leaves_by, log_by}
 use Rattle.sd_state.specs.Parts.{Parts, is_loose, log_at, no_log, no_pool, other_at, pool_at, status_at, txns_at}
 use Rattle.sd_state.specs.Sums.{great_of, most_to, owed_in_all, owes_most}
 use Rattle.sd_state.specs.Tables.{tells_log}
@@ -56,7 +56,7 @@ use Rattle.sd_state.proofs.Lasts.{last-forced, last-more}
 use Rattle.sd_state.proofs.Standing.{one-place}
 use Rattle.sd_update.proofs.UndoneTop.{clr-falls, finds-place}
 use Rattle.sd_moves.proofs.FallBounds.{sum-less}
-use Rattle.sd_fits.specs.Fits.{AreWithin, Fits, FitsBounds, FitsDoubts, ReachesAtMost, capacities}
+use Rattle.sd_fits.specs.Fits.{AreAtLeast, AreWithin, Fits, FitsBounds, FitsDoubts, ReachesAtMost, capacities}
 use Rattle.sd_fits.proofs.Changing.{caps-set}
 use Rattle.sd_fits.proofs.Doubts.{HadCommit, doubts-on, same-doubts}
 use Rattle.sd_fits.proofs.Forcing.{forced-bounds, forced-doubts, masters-left, versions-same}
@@ -414,25 +414,26 @@ module _ (a : ℕ) (t : TxnId) (seen seen' : DeviceImages) (leaves leaves' : Out
 
       -- ---- sums
 
-      slots-fit : (b : Bounds) → FitsBounds seen leaves c b → AreWithin (capacities (redo h.image y)) (b.slots p)
-      slots-fit b old = subst (λ (xs : List ℕ). AreWithin xs (b.slots p))
-          (sym (caps-set h.image.slots h.o.rid.slot y.cap h.o.before
-          (finds-place a t h.x h.o h.image seen leaves c m f.good top-there).slot.place))
-          (subst (λ (z : Page). AreWithin (capacities z) (b.slots p)) (sym (image-is (λ j. false)))
-          ((e-bounds b old).slots (λ j. false) all_kept p))
+      -- what bounds the capacities of a version of each page bounds them then
+      module _ (Bound : List ℕ → List ℕ → Type 0) (slots : ℕ → List ℕ)
+          (old : (moved keeps : Keeps) (q : ℕ) → Bound (capacities (version_of (was moved) (disk_page (seen 0)) keeps q)) (slots q)) where
+        slots-fit : Bound (capacities (redo h.image y)) (slots p)
+        slots-fit = subst (λ (xs : List ℕ). Bound xs (slots p))
+            (sym (caps-set h.image.slots h.o.rid.slot y.cap h.o.before
+            (finds-place a t h.x h.o h.image seen leaves c m f.good top-there).slot.place))
+            (subst (λ (z : Page). Bound (capacities z) (slots p)) (sym (image-is (λ j. false))) (old (λ j. false) all_kept p))
 
-      slots-then : (b : Bounds) → FitsBounds seen leaves c b → (moved keeps : Keeps) (q : ℕ)
-          → AreWithin (capacities (version_of (is moved) (disk_page (seen' 0)) keeps q)) (b.slots q)
-      slots-then b old moved keeps q = ⊎_elim
-          (λ on. ⊎_elim
-          (λ same. subst (λ (n : ℕ). AreWithin (capacities (version_of (is moved) (disk_page (seen' 0)) keeps n)) (b.slots n)) (sym same)
-          (subst (λ (z : Page). AreWithin (capacities z) (b.slots p)) (sym (version-redone moved keeps on)) (slots-fit b old)))
-          (λ ne. subst (λ (z : Page). AreWithin (capacities z) (b.slots q)) (sym (version-else moved keeps on q ne))
-          ((e-bounds b old).slots moved (with_it moved keeps) q))
-          (cases_eq q p))
-          (λ same. subst (λ (z : Page). AreWithin (capacities z) (b.slots q)) (sym (version-without moved keeps same q))
-          ((e-bounds b old).slots moved keeps q))
-          (either moved keeps)
+        slots-then : (moved keeps : Keeps) (q : ℕ) → Bound (capacities (version_of (is moved) (disk_page (seen' 0)) keeps q)) (slots q)
+        slots-then moved keeps q = ⊎_elim
+            (λ on. ⊎_elim
+            (λ same. subst (λ (n : ℕ). Bound (capacities (version_of (is moved) (disk_page (seen' 0)) keeps n)) (slots n)) (sym same)
+            (subst (λ (z : Page). Bound (capacities z) (slots p)) (sym (version-redone moved keeps on)) slots-fit))
+            (λ ne. subst (λ (z : Page). Bound (capacities z) (slots q)) (sym (version-else moved keeps on q ne))
+            (old moved (with_it moved keeps) q))
+            (cases_eq q p))
+            (λ same. subst (λ (z : Page). Bound (capacities z) (slots q)) (sym (version-without moved keeps same q))
+            (old moved keeps q))
+            (either moved keeps)
 
       reach-L : (n : ℕ) → ReachesAtMost n l → ReachesAtMost n L
       reach-L n r =
@@ -491,7 +492,8 @@ module _ (a : ℕ) (t : TxnId) (seen seen' : DeviceImages) (leaves leaves' : Out
       pub undone-bounds : (b b' : Bounds) → AreMore i 0 b b' → FitsBounds seen leaves c b
           → ((j : ℕ) → 1 ≤ j → j ≤ 8 → owes_most made j ≤ owes_most e j) → FitsBounds seen' leaves' made b'
       undone-bounds b b' more old owes = record {
-        slots = λ moved keeps q. subst (AreWithin _) (sym (more.slots q)) (slots-then b old moved keeps q);
+        slots = λ moved keeps q. subst (AreWithin _) (sym (more.slots q)) (slots-then AreWithin b.slots (e-bounds b old).slots moved keeps q);
+        least = λ moved keeps q. subst (AreAtLeast _) (sym (more.least q)) (slots-then AreAtLeast b.least (e-bounds b old).least moved keeps q);
         reach = λ moved j lo hi. let r = reach-then b old moved j lo hi in (up-to _ _ _ r.0 (more.reach j), up-to _ _ _ r.1 (more.reach j));
         lsns = sums (great_of made) (great_of e) (owed_in_all made) (owed_in_all e) b.lsns b'.lsns great-then
             (sum-less (owes_most made) (owes_most e) 8 owes) (e-bounds b old).lsns more.lsns;

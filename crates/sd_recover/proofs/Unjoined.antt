@@ -179,7 +179,7 @@ module _ {G : Type 0} (tell : Telling G) (c new : Complex G) (i : ℕ) (low : 1 
       × Serves {C = Complex G} tell stands_for (λ k. k.rig) (fits_by tell.seen tell.leaves) (Join i) (reply.Refused n) c new w w'
   refuses n cause is w f = (
     passed w w.scene.waits (Join i) (reply.Refused n),
-    kept-serves tell c new same stays now w f (Join i) (reply.Refused n)
+    kept-serves tell c new same stays now w f (Join i) (reply.Refused n) tt
         (refused-turns (tell.seen c.rig) (tell.leaves c.rig) (parts c) w f (Join i) n cause (is w f)),
   )
 

@@ -25,7 +25,7 @@ FailsAt inst bytes at = ((MasterPasses bytes → ⊥) × (at ≡ 0)) ⊎ (Master
 
 -- ---- sound groups don't fail
 
-strays_not : (inst : ℕ) (chosen : Bool) (m : Master) (past : Past) (rs : Records) (place : ℕ) → StraysAt inst chosen m past rs place → Follow inst chosen m past (map (λ x. x.1) rs) → ⊥
+pub strays_not : (inst : ℕ) (chosen : Bool) (m : Master) (past : Past) (rs : Records) (place : ℕ) → StraysAt inst chosen m past rs place → Follow inst chosen m past (map (λ x. x.1) rs) → ⊥
 strays_not inst chosen m past [] place s f = s
 strays_not inst chosen m past (r ∷ rs) place (inl x) f = x.0 (f.0, f.1, f.2)
 strays_not inst chosen m past (r ∷ rs) place (inr x) f = strays_not inst chosen m (after_record past r.1) rs place x.1 f.3

@@ -55,5 +55,6 @@ pub mod FirstMisfit
 pub mod Lists
 pub mod Newest
 pub mod Noted
+pub mod OnePlace
 pub mod PageSlots
 pub mod RedoSteps

@@ -1,9 +1,11 @@
 -- What the slots of a master say, and which counts. It serves the goals of master.rt.
-use Rattle.std.proofs.Common.{◌≡◌, ℕ, ◌<◌, Bool, true, List, drop, refl, sym, ap, ◌∙◌, subst}
+use Rattle.std.proofs.Common.{◌≡◌, ℕ, ◌<◌, ◌^◌, Bool, true, List, arith, drop, refl, sym, ap, ◌∙◌, subst}
 use Rattle.std.specs.Prelude.{◌↔◌, IsTrue, Option, Some, None, is_some, map, option_map, slice_range}
+use Rattle.std.specs.Int.{w32, w64, w8}
 use Rattle.std.specs.Option.{unwrap_or}
+use Rattle.std.proofs.lemmas.Nat.{from_be_bytes-to_be_bytes_4, from_be_bytes-to_be_bytes_8}
 use Rattle.sd_base.specs.Twin.{Slot, Neither, First, Second, Same, body_at, chosen_body, chosen_slot, is_open}
-use Rattle.sd_logrec.specs.Kept.{Master, master, master_of}
+use Rattle.sd_logrec.specs.Kept.{Master, master, master_of, number_in}
 use Rattle.sd_rig.specs.declared.slots.Chosen.{Chosen}
 use Rattle.sd_rig.specs.declared.slots.Chosen.TheVariants as C
 use Rattle.sd_rig.specs.Slots.{named_body, slot}
@@ -11,7 +13,7 @@ use Rattle.sd_rig.proofs.SlotBytes.{body_read, chosen_read}
 use Rattle.sd_chain.specs.Checks.{IsMaster, IsSlot}
 use Rattle.sd_chain.specs.Faults.{SlotsAreSound}
 use Rattle.sd_recovered.specs.declared.master.MasterRecord as memory
-use Rattle.sd_recovered.specs.Masters.{as_master, kept_master, master_in, said}
+use Rattle.sd_recovered.specs.Masters.{as_master, kept_master, master_in, said, spelled_master}
 
 -- ---- a slot
 
@@ -74,3 +76,16 @@ chosen_as None None blank b e = (refl, b)
 chosen_as None (Some body) blank b e = absurd (cc)
 chosen_as (Some x) None blank b e = absurd (cc)
 chosen_as (Some x) (Some body) blank b e = (refl, cc)
+
+-- ---- a body that is spelled
+
+pub spelled_is : (m : memory.MasterRecord) → m.count < 2 ^ 64 → m.epoch < 2 ^ 32 → m.check < 2 ^ 64 → m.start < 2 ^ 32 → master_in (spelled_master m) ≡ kept_master m
+spelled_is m count epoch check start =
+    let body : List ℕ = spelled_master m in
+    let says : ℕ → ℕ → ℕ → ℕ → ℕ → Master = λ n a e k s. record { count = n; log_area = a; epoch = e; check = k; start = s } in
+    let area : number_in w8 8 body ≡ m.area = omega arith in
+    ap (λ n. says n (number_in w8 8 body) (number_in w32 9 body) (number_in w64 13 body) (number_in w32 21 body)) (from_be_bytes-to_be_bytes_8 m.count count)
+    ∙ ap (λ n. says m.count n (number_in w32 9 body) (number_in w64 13 body) (number_in w32 21 body)) area
+    ∙ ap (λ n. says m.count m.area n (number_in w64 13 body) (number_in w32 21 body)) (from_be_bytes-to_be_bytes_4 m.epoch epoch)
+    ∙ ap (λ n. says m.count m.area m.epoch n (number_in w32 21 body)) (from_be_bytes-to_be_bytes_8 m.check check)
+    ∙ ap (λ n. says m.count m.area m.epoch m.check n) (from_be_bytes-to_be_bytes_4 m.start start)

@@ -22,7 +22,7 @@ use Rattle.sd_recovered.proofs.Kept.{kept_records}
 use Rattle.sd_base.proofs.SameIds.{cases_txn, ne-same}
 
 -- a record that has a transaction has one of this instance
-abbrev IsOf : ℕ → Record → Type 0
+abbrev pub IsOf : ℕ → Record → Type 0
 IsOf inst r = speaks (flat r).kind ≡ true → home (flat r).txn ≡ inst
 
 is_of : (inst : ℕ) (past : Past) (r : Record) → MayCome inst past r → IsOf inst r
@@ -34,7 +34,7 @@ is_of inst past (records.End l txn prev) may = λ is. may.0
 is_of inst past (records.BeginCheck l) may = λ is. absurd (cc)
 is_of inst past (records.EndCheck l begin spans recs) may = λ is. absurd (cc)
 
-are_of : (inst : ℕ) (chosen : Bool) (m : Master) (past : Past) (rs : List Record) → Follow inst chosen m past rs → Each (IsOf inst) rs
+pub are_of : (inst : ℕ) (chosen : Bool) (m : Master) (past : Past) (rs : List Record) → Follow inst chosen m past rs → Each (IsOf inst) rs
 are_of inst chosen m past [] follow = tt
 are_of inst chosen m past (r ∷ rs) follow = (is_of inst past r follow.1, are_of inst chosen m (after_record past r) rs follow.3)
 

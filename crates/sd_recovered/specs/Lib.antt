@@ -20,3 +20,4 @@ pub mod Misfits
 pub mod ReadPages
 pub mod Redone
 pub mod Twins
+pub mod Laws

@@ -1,5 +1,6 @@
 -- A master in memory, and what the one that counts on a device says.
-use Rattle.std.specs.Prelude.{ℕ, List, Option, None, Some, option_map}
+use Rattle.std.specs.Prelude.{ℕ, List, ◌∷◌, ◌++◌, Option, None, Some, option_map, replicate}
+use Rattle.std.specs.Int.{to_be_bytes, w32, w64}
 use Rattle.sd_logrec.specs.Kept.{Master, master_of}
 use Rattle.sd_recovered.specs.declared.master.MasterRecord as memory
 
@@ -19,3 +20,7 @@ as_master (Some m) = kept_master m
 -- the master that a body says
 abbrev pub master_in : List ℕ → Master
 master_in body = master_of (Some body)
+
+-- the bytes of a body that says this
+abbrev pub spelled_master : memory.MasterRecord → List ℕ
+spelled_master m = to_be_bytes w64 m.count ++ (m.area ∷ (to_be_bytes w32 m.epoch ++ (to_be_bytes w64 m.check ++ (to_be_bytes w32 m.start ++ replicate 39 0))))

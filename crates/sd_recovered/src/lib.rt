@@ -5,10 +5,11 @@
 //! `image_of` (`specs/ReadPages.antt`), what redo reads; `NewestAreRead` (`specs/UndoPass.antt`), what undo stands on.
 //! Keeps: nothing.
 //! Promises: `recovered` answers the table where the devices are sound (`sound`, `recovered`), and else `Damaged` (`unsound`) at
-//! the first place that fails (`place`); it changes nothing on them. `ReadLogs` reads the same of one device at a time: `next` of a
-//! log device, `finish` of the data device. Pass by pass: `scan` has a device's log and its master (`kept`, `counts`), `analyse`
-//! the losers in rising order (`losers`), `newest_pages` each page's newest version (`newest`), `undone` the table with what losers
-//! changed taken back (`values`). `relist` makes a transaction table of a log, which owes what the log does (`rows`, `owes`).
+//! the first place that fails (`place`), of which there is one (`laws.rt`); it changes nothing on them. `ReadLogs` reads the same of
+//! one device at a time: `next` of a log device, `finish` of the data device. Pass by pass: `scan` has a device's log and its master
+//! (`kept`, `counts`), `analyse` the losers in rising order (`losers`), `newest_pages` each page's newest version (`newest`),
+//! `undone` the table with what losers changed taken back (`values`). `relist` makes a transaction table of a log, which owes what
+//! the log does (`rows`, `owes`).
 //! Refuses: `Damaged`, and want of memory; `Unsound` in `read_master`, `Disorder` in `analyse`, `Misfit` in `undone`.
 //! Knows nothing of: rigs, pools, locks, running transactions. Analysis sees one log and no page, undo no device.
 //! Stands on: sd_base, sd_model, sd_page, sd_logrec, sd_rig, sd_log, sd_txn, sd_chain, sd_redo.
@@ -24,6 +25,7 @@ mod closed;
 mod ends;
 mod following;
 mod last_changes;
+pub mod laws;
 mod logs;
 mod losers;
 mod master;

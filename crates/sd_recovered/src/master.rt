@@ -1,11 +1,11 @@
 //! The master of a log device: two slots, of which one counts. It sees no group.
 
-ghost use Rattle.std.specs.Prelude.{◌≡◌, ◌↔◌, ◌+◌, ◌≤◌, length, map, option_map, IfOk, IsOk, IsTrue};
-ghost use Rattle.sd_base.specs.Twin.{chosen_body};
+ghost use Rattle.std.specs.Prelude.{◌≡◌, ◌↔◌, ◌+◌, ◌<◌, ◌≤◌, length, map, option_map, IfOk, IsOk, IsTrue};
+ghost use Rattle.sd_base.specs.Twin.{chosen_body, number_of};
 ghost use Rattle.sd_logrec.specs.Kept.{master};
 ghost use Rattle.sd_chain.specs.Checks.{IsMaster, IsSlot};
 ghost use Rattle.sd_chain.specs.Faults.{SlotsAreSound};
-ghost use Rattle.sd_recovered.specs.Masters.{as_master, kept_master, master_in, said};
+ghost use Rattle.sd_recovered.specs.Masters.{as_master, kept_master, master_in, said, spelled_master};
 
 use byteorder::{BigEndian, ByteOrder};
 use sd_base::Lsn;
@@ -39,6 +39,17 @@ impl MasterRecord {
         check: 0,
         start: 0,
     };
+
+    /// The body of a slot that says this.
+    pub fn spell(&self) -> [u8; MASTER_BODY]
+        requires area { self.now.area ≡ 0 }
+        requires place { self.now.start < AREA_LEN }
+        ensures is { master_in result ≡ kept_master self.now }
+        ensures well { IsMaster result }
+        ensures number { number_of result ≡ self.now.count }
+    {
+        body_of(self.count, self.area, self.epoch, self.check, self.start)
+    }
 }
 
 /// The slots of a master aren't well formed, or both are open with equal counts.
@@ -107,4 +118,17 @@ fn master_of(body: &[u8]) -> MasterRecord
         check: BigEndian::read_u64(&body[13..]),
         start: BigEndian::read_u32(&body[21..]),
     }
+}
+
+// The fields, one behind the other, and zeros behind them.
+fn body_of(count: u64, area: u8, epoch: u32, check: Lsn, start: u32) -> [u8; MASTER_BODY]
+    ensures { result ≡ spelled_master (record { count = count; area = area; epoch = epoch; check = check; start = start }) }
+{
+    let mut body = [0; MASTER_BODY];
+    body[..8].copy_from_slice(&count.to_be_bytes());
+    body[8] = area;
+    body[9..13].copy_from_slice(&epoch.to_be_bytes());
+    body[13..21].copy_from_slice(&check.to_be_bytes());
+    body[21..FIELDS].copy_from_slice(&start.to_be_bytes());
+    body
 }

@@ -1,3 +1,4 @@
 pub mod Replayed
 pub mod Changes
 pub mod Spots
+pub mod PageReplays

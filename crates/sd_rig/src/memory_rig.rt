@@ -183,6 +183,7 @@ impl Rig for MemRig {
         ensures short { short_count self.old < short_count self.new → IsErr result }
         ensures done { OnOk result (Does (Wrote dev at bytes.now true) self.old self.new) }
         ensures fails { OnErr result ((IsTrue (meets (armed self.old)) × Does (Wrote dev at bytes.now false) self.old self.new) ⊎ Lacks self.old self.new) }
+        // The record of a call counts as its bytes and 32 beside them; it takes no memory, so there is always room for it.
         ensures found { length bytes.now + 32 ≤ spare self.old → Does (Wrote dev at bytes.now (is_ok result)) self.old self.new }
         ensures not_short { length bytes.now + 32 ≤ spare self.old → short_count self.new ≡ short_count self.old }
         ensures spare { spare self.old ≤ spare self.new + (length bytes.now + 32) }

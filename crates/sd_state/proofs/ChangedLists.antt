@@ -25,10 +25,11 @@ use Rattle.sd_chain.specs.Fates.{commits}
 use Rattle.sd_chain.specs.Order.{Sofar, advance, after_all, none_yet, of_txn, span_from, span_of, spanned}
 use Rattle.sd_logrec.specs.Kept.{Group}
 use Rattle.sd_logrec.specs.declared.record.Record.{Record}
-use Rattle.sd_state.specs.Images.{begun_at, log_by}
+use Rattle.sd_state.specs.Images.{log_by}
 use Rattle.sd_state.specs.Parts.{Parts, log_at, other_at}
 use Rattle.std.proofs.lemmas.List.{map-append}
 use Rattle.sd_base.specs.declared.place.Mode.TheVariants as modes
+use Rattle.sd_log.specs.Logs.{begun_at}
 use Rattle.sd_model.specs.declared.act.Claim.{Claim}
 use Rattle.sd_state.specs.Tables.{lock_of}
 use Rattle.sd_state.specs.Good.{reaches}

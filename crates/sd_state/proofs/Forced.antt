@@ -12,7 +12,7 @@ use Rattle.sd_base.specs.Twin.{chosen_body, number_of}
 use Rattle.sd_logrec.specs.Kept.{Master, Whole, area, master, reading}
 use Rattle.sd_logrec.specs.View.{Rec, flat}
 use Rattle.sd_logrec.specs.declared.record.Record.{Record}
-use Rattle.sd_log.specs.Logs.{LogState, StandsOn, forced, forced_with, last_lsn, scanned}
+use Rattle.sd_log.specs.Logs.{LogState, StandsOn, begun_at, forced, forced_with, last_lsn, scanned}
 use Rattle.sd_log.specs.Forces.{forced_at, forced_len}
 use Rattle.sd_page.specs.Page.{Page}
 use Rattle.sd_model.specs.State.{State}
@@ -50,7 +50,7 @@ use Rattle.sd_chain.proofs.Outcomes.{less-same}
 use Rattle.sd_chain.proofs.Changed.{may-less}
 use Rattle.sd_state.specs.Forcing.{ForcesNow, IsForced, with_settled}
 use Rattle.sd_state.specs.Good.{IsOlder, Good, Half, IsInstance, IsKnownLsn, IsUnderWay, IsOfBegun, IsSettledAt, IsTold, OwesAtMost, base_of, dir_of, reaches}
-use Rattle.sd_state.specs.Images.{IsClaimed, IsEpochOf, IsOpenIn, begun_at, leaves_by, log_by}
+use Rattle.sd_state.specs.Images.{IsClaimed, IsEpochOf, IsOpenIn, leaves_by, log_by}
 use Rattle.sd_state.specs.Tables.{NamesLife, RowIsLive, RowIsLogged, StandsAs}
 use Rattle.sd_txn.specs.declared.state.TxnState.{TxnState}
 use Rattle.sd_txn.specs.Transactions.{Transaction, txn_at}

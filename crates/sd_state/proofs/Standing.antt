@@ -8,7 +8,7 @@ use mathlib.Core.Path.{fun_ext}
 use Rattle.sd_logrec.specs.Kept.{Master, Whole, kept, master}
 use Rattle.sd_logrec.specs.View.{Rec}
 use Rattle.sd_log.specs.Forces.{Forces, StandsEither, forced_at, forced_len}
-use Rattle.sd_log.specs.Logs.{LogState, forced}
+use Rattle.sd_log.specs.Logs.{LogState, begun_at, forced}
 use Rattle.sd_rig.specs.Devices.{AgreesOutside}
 use Rattle.sd_model.specs.State.{State}
 use Rattle.sd_rig.specs.Devices as rig
@@ -29,7 +29,7 @@ use Rattle.sd_chain.proofs.Kept.{forced-start, kept-is, master-same}
 use Rattle.sd_chain.proofs.Ready.{forced-ready}
 use Rattle.sd_chain.proofs.ChecksPass.{between-left, logs-ready}
 use Rattle.sd_state.specs.Good.{Good, Half, IsKnownLsn, NoneIsFound, base_of, dir_of, reaches}
-use Rattle.sd_state.specs.Images.{IsClaimed, IsEpochOf, Stands, begun_at, kept_epoch, leaves_by, log_by}
+use Rattle.sd_state.specs.Images.{IsClaimed, IsEpochOf, Stands, kept_epoch, leaves_by, log_by}
 use Rattle.sd_state.specs.Laws.{EachCopyIsNewest, ForceLeftStands, LeftStands, OneMayUpdate}
 use Rattle.sd_state.specs.Parts.{Parts, is_loose, log_at, other_at, txns_at}
 use Rattle.sd_state.specs.Values.{Pending, values}

@@ -1,10 +1,10 @@
 -- What an image of the nine devices stands for, and the ways in which a crash may leave the logs' start places.
-use Rattle.std.specs.Prelude.{◌≡◌, ◌≢◌, ℕ, ◌+◌, ◌≤◌, List, IfSome, cond, filter, leb}
+use Rattle.std.specs.Prelude.{◌≡◌, ◌≢◌, ℕ, ◌+◌, ◌≤◌, List, IfSome, cond}
 use Rattle.std.specs.Option.{option_map_or}
 use Rattle.sd_base.specs.declared.ids.TxnId.{TxnId}
 use Rattle.sd_logrec.specs.Kept.{master}
 use Rattle.sd_logrec.specs.View.{Rec}
-use Rattle.sd_log.specs.Logs.{LogState}
+use Rattle.sd_log.specs.Logs.{begun_at}
 use Rattle.sd_model.specs.declared.act.Claim.{Claim}
 use Rattle.sd_model.specs.declared.act.Life.{Life}
 use Rattle.sd_model.specs.State.{State}
@@ -46,10 +46,6 @@ pub record Stands (m : State) (pend : Pending) (img : rig.DeviceImages) : Type 0
   pub epochs : (j : ℕ) → 1 ≤ j → j ≤ 8 → IsEpochOf m pend j (kept_epoch (img j))
 
 -- ---- where logs begin
-
--- the log from this place on
-abbrev pub begun_at : ℕ → LogState → LogState
-begun_at place log = record log { start = place; groups = filter (λ g. leb place g.at) log.groups }
 
 -- where log j begins: where it does in memory, or, where `moved` says so, at its other place, if it has one
 abbrev pub log_by : Parts → Keeps → Logs

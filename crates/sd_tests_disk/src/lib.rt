@@ -8,6 +8,8 @@ mod bytes_by_hand;
 #[cfg(test)]
 mod devices;
 #[cfg(test)]
+mod many_pages;
+#[cfg(test)]
 mod merging;
 #[cfg(test)]
 mod recovered;

@@ -7,7 +7,7 @@ use crate::bytes_by_hand::*;
 use crate::devices::{Patch, bytes_at, devices, log};
 use sd_base::{PageNo, Refusal, Rid};
 use sd_model::Table;
-use sd_recovered::{Opened, open, recovered};
+use sd_recovered::{ReadDevices, open, recovered};
 use std::alloc::Global;
 use std::test::Fail;
 
@@ -26,14 +26,14 @@ struct Stood<'a> {
     counts: [u64; 2],
 }
 
-fn count(opened: &Opened, log: usize) -> u64 {
+fn count(opened: &ReadDevices, log: usize) -> u64 {
     match opened.masters.get(log) {
         Some(Some(master)) => master.count,
         _ => 0,
     }
 }
 
-fn holds(opened: &Opened, stood: &Stood<'_>) -> bool {
+fn holds(opened: &ReadDevices, stood: &Stood<'_>) -> bool {
     let [zero, one, two] = stood.values;
     let [first, fifth] = stood.counts;
     value(&opened.table, 0, 0) == zero

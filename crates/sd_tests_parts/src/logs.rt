@@ -1,6 +1,6 @@
 //! Logs by hand: their bytes, forces that are stopped, and areas that are damaged.
 
-ghost use Rattle.std.specs.Prelude.{◌≡◌, ℕ, ◌^◌, ◌<◌, ◌≤◌, option_copied, IfOk};
+ghost use Rattle.std.specs.Prelude.{◌≡◌, [], ℕ, ◌^◌, ◌<◌, ◌≤◌, option_copied, IfOk};
 ghost use Rattle.sd_logrec.specs.Lent.{update_record};
 ghost use Rattle.sd_logrec.specs.Spelling.{HasSpelling, IsValue, spelling};
 ghost use Rattle.sd_rig.specs.Devices.{LeavesOnly};
@@ -27,6 +27,7 @@ const TWO_GROUPS: [u8; 91] = [
 fn open<G: Rig>(alloc: Global, rig: &mut G, inst: InstNo) -> Result<Log, Refusal>
     ensures stands { IfOk result (λ log. StandsOn log (G.seen rig.new log.inst)) }
     ensures stable { IfOk result (λ log. LeavesOnly (G.seen rig.new log.inst) (G.leaves rig.new log.inst)) }
+    ensures bare { IfOk result (λ log. log.tail ≡ []) }
 {
     rig.sync(inst.get())?;
     Ok(ReadLog::read_in(alloc, rig, inst, 0)?.into_log(alloc)?)
@@ -118,6 +119,62 @@ fn stand_anew(alloc: Global) -> Result<bool, Refusal> {
 #[test]
 fn groups_stand_byte_for_byte_and_their_pages_are_known(rt: HostRuntime) {
     assert!(rt; matches!(stand_anew(rt.alloc()), Ok(true)));
+}
+
+// Writes one more group, in which transaction 1.1.1 puts `red` once more.
+fn write_more<G: Rig>(alloc: Global, rig: &mut G, inst: InstNo) -> Result<(), Refusal> {
+    let mut log = open(alloc, rig, inst)?;
+    let change = Update {
+        lsn: 4,
+        prev: 2,
+        ..red(inst)
+    };
+    log.append(&Lent::update(&change), 78)?;
+    log.force(rig)?;
+    Ok(())
+}
+
+// Whether a log begins at these places where the records from the LSNs 1, 2, 4 and 5 on are needed.
+fn starts_at(log: &Log, places: [u32; 4]) -> bool {
+    let [one, two, four, five] = places;
+    log.start_for(1) == one
+        && log.start_for(2) == two
+        && log.start_for(4) == four
+        && log.start_for(5) == five
+}
+
+// Whether a log of three groups has those behind the first one alone, once it begins at the second.
+fn begins_later(alloc: Global, rig: &mut MemRig, inst: InstNo) -> Result<bool, Refusal> {
+    write_log(alloc, rig, inst)?;
+    write_more(alloc, rig, inst)?;
+    let mut log = open(alloc, rig, inst)?;
+    let before = starts_at(&log, [0, 18, 90, 136]);
+    let place = log.start_for(2);
+    log.begin_at(place);
+    let after = starts_at(&log, [18, 18, 90, 136]);
+    let page = log.of_page(alloc, PageNo::new(0).unwrap())?;
+    let known = page.as_slice() == [0, 2].as_slice();
+    Ok(before && after && known && has_last_records(&log)?)
+}
+
+// Whether a log has the records behind its first group, and no others.
+fn has_last_records(log: &Log) -> Result<bool, Memory> {
+    if log.count() != 3 {
+        return Ok(false);
+    }
+    let (first, last) = (log.record(0)?, log.record(2)?);
+    Ok(
+        (first.place, first.rec.lsn(), first.forced) == (23, 2, true)
+            && (last.place, last.rec.lsn(), last.forced) == (95, 4, true)
+            && log.lsn(1) == 3,
+    )
+}
+
+#[test]
+fn a_log_that_begins_later_has_the_groups_behind(rt: HostRuntime) {
+    let one = InstNo::new(1).unwrap();
+    let mut rig = MemRig::blank(rt.alloc()).expect(&rt, "memory for devices");
+    assert!(rt; matches!(begins_later(rt.alloc(), &mut rig, one), Ok(true)));
 }
 
 // Whether a force of two more records is stopped by the trouble.

@@ -1,11 +1,10 @@
 -- What the world says of an ask: for the goals of asking.rt.
-use Rattle.std.proofs.Common.{◌≡◌, ℕ, ◌≤◌, Bool, true, false, cond, refl, sym, ap, ◌∙◌, inl}
+use Rattle.std.proofs.Common.{◌≡◌, ℕ, ◌≤◌, Bool, true, false, cond, [], ◌∷◌, refl, sym, ap, ◌∙◌, inl}
 use Rattle.std.specs.Prelude.{◌||◌}
 use Rattle.sd_base.specs.declared.place.Mode.{Mode}
 use Rattle.sd_base.specs.declared.place.Mode.TheVariants as modes
 use Rattle.sd_base.specs.declared.refusal.Refusal.TheVariants as R
-use Rattle.sd_rig.specs.Devices.{DeviceImages}
-use Rattle.sd_model.specs.Applies.{Clear, MayServe}
+use Rattle.sd_model.specs.Applies.{Clear}
 use Rattle.sd_model.specs.Causes.{order}
 use Rattle.sd_model.specs.State.{State}
 use Rattle.sd_model.specs.declared.cause.Cause.{Cause}
@@ -13,20 +12,21 @@ use Rattle.sd_model.specs.declared.event.Event.{Event}
 use Rattle.sd_model.specs.declared.event.Event.TheVariants.{Ask}
 use Rattle.sd_model.specs.declared.event.Reply.TheVariants as reply
 use Rattle.sd_pagelock.specs.Directory.{entry_at}
-use Rattle.sd_pagelock.specs.Places.{PageEntry, holds_as, is_free, is_lost, passes, receives, rests}
+use Rattle.sd_pagelock.specs.Places.{PageEntry, holds_as, is_free, is_lost, passes, rests}
 use Rattle.sd_pagelock.specs.Rows.{locked, may_raise, raised}
 use Rattle.sd_pagelock.proofs.Uses.{free-is}
-use Rattle.sd_chain.specs.Logs.{Outcomes}
 use Rattle.sd_world.specs.Answers.{Fails, Gets, Queues}
-use Rattle.sd_world.specs.PageCauses.{IsLostFor, IsUnderWay, NoneSays, PoolIsFull}
+use Rattle.sd_world.specs.PageCauses.{IsUnderWay, NoneSays, PoolIsFull}
 use Rattle.sd_world.specs.Pages.{Pages, had, held_count, is_had, page_placed}
-use Rattle.sd_world.specs.Serving.{Core, Turns}
-use Rattle.sd_state.specs.Parts.{Parts, is_active}
-use Rattle.sd_fits.specs.Fits.{Fits}
+use Rattle.sd_world.specs.Serving.{Core, Telling, Turns}
+use Rattle.sd_state.specs.Complexes.{parts}
+use Rattle.sd_state.specs.declared.complex.Complex.{Complex}
+use Rattle.sd_fits.specs.Serving.{fits_by}
 use Rattle.sd_fits.proofs.Places.{repaged, turns-repaged}
 use Rattle.sd_fits.proofs.Served.{none-ended}
 use Rattle.sd_transfer.specs.Asking.{MayAsk}
-use Rattle.sd_fits.proofs.Refused.{IsFor, active-serves, idle-refuses, unlike}
+use Rattle.sd_fits.proofs.Refused.{IsFor, unlike}
+use Rattle.sd_transfer.proofs.Barred.{IsPaging, IsUnbarred, unbarred}
 
 -- ---- places that an instance has so at once
 
@@ -91,8 +91,23 @@ stays-there PageEntry.Lost pooled there still = absurd (cc)
 
 -- ---- causes
 
-module _ (seen : DeviceImages) (leaves : Outcomes) (c : Parts) (i p : ℕ) (mode : Mode) (low : 1 ≤ i) (high : i ≤ 8)
-    (w : Core) (f : Fits seen leaves c w) where
+-- an ask is an event of its page
+pub of-ask : (i p : ℕ) (mode : Mode) → IsPaging (Ask i p mode) i p
+of-ask i p mode = record {
+  rest = Cause.Moving ∷ Cause.Frame ∷ Cause.Rig ∷ [];
+  order = refl;
+  nobodys = refl;
+  serve = λ m active. active;
+  serves = λ m active. active;
+  page = λ m. tt;
+  lose = λ m w lost. lost;
+  loses = λ m w lost. lost;
+  unused = λ m r. tt;
+  quiet = λ n. refl;
+}
+
+module _ {G : Type 0} (tell : Telling G) (c : Complex G) (i p : ℕ) (mode : Mode) (low : 1 ≤ i) (high : i ≤ 8)
+    (w : Core) (f : fits_by tell.seen tell.leaves c w) where
   abbrev m : State
   m = w.scene.state
 
@@ -100,68 +115,16 @@ module _ (seen : DeviceImages) (leaves : Outcomes) (c : Parts) (i p : ℕ) (mode
   event = Ask i p mode
 
   abbrev here : PageEntry
-  here = entry_at c.directory p
-
-  stands : is_active c i ≡ true → (MayServe m event → ⊥) → ⊥
-  stands active none = none (active-serves seen leaves c w f i low high active)
-
-  found : is_lost here ≡ false → IsLostFor m w.pages event → ⊥
-  found is lost = unlike is (sym (ap is_lost (f.pages.entry p)) ∙ lost)
+  here = entry_at (parts c).directory p
 
   still : passes here ≡ false → IsUnderWay w.pages event → ⊥
   still is moves = unlike is (sym (ap passes (f.pages.entry p)) ∙ moves)
 
-  pub down : is_active c i ≡ false → IsFor m w event R.Down Cause.Down
-  down idle = record {
-    waits = refl;
-    whom = tt;
-    unused = tt;
-    allowed = tt;
-    names = refl;
-    tells = tt;
-    first = (refl, (f.good.not_closed, tt), idle-refuses seen leaves c w f i low high idle);
-    refuses = refl;
-    passes = (tt, tt);
-    says = λ never. absurd (cc);
-    place = tt;
-    left = refl;
-  }
-
-  pub lost : is_active c i ≡ true → is_lost here ≡ true → IsFor m w event R.Lost Cause.Lost
-  lost active is = record {
-    waits = refl;
-    whom = tt;
-    unused = tt;
-    allowed = tt;
-    names = refl;
-    tells = tt;
-    first = (refl, (f.good.not_closed, (stands active, tt)), tt);
-    refuses = refl;
-    passes = (tt, (tt, tt));
-    says = λ yes. ap is_lost (f.pages.entry p) ∙ is;
-    place = tt;
-    left = refl;
-  }
-
-  pub moving : (to : ℕ) → is_active c i ≡ true → is_lost here ≡ false → passes here ≡ true → receives here to ≡ true
-      → IsFor m w event (R.MovingTo to) Cause.Moving
-  moving to active not_lost moves takes = record {
-    waits = refl;
-    whom = tt;
-    unused = tt;
-    allowed = tt;
-    names = refl;
-    tells = tt;
-    first = (refl, (f.good.not_closed, (stands active, (tt, tt))), tt);
-    refuses = refl;
-    passes = (tt, (tt, (found not_lost, tt)));
-    says = λ yes. ap passes (f.pages.entry p) ∙ moves;
-    place = ap (λ (x : PageEntry). receives x to) (f.pages.entry p) ∙ takes;
-    left = refl;
-  }
-
   -- the page may be asked for
-  module _ (may : MayAsk c i p) where
+  module _ (may : MayAsk (parts c) i p) where
+    its : IsUnbarred m w.pages event
+    its = unbarred (of-ask i p mode) tell c low high w f may.active may.found
+
     pub full : is_free here ≡ true → w.pages.frames ≤ held_count w.pages.entry i 1024 → IsFor m w event R.PoolFull Cause.Frame
     full free all = record {
       waits = refl;
@@ -170,9 +133,9 @@ module _ (seen : DeviceImages) (leaves : Outcomes) (c : Parts) (i p : ℕ) (mode
       allowed = tt;
       names = refl;
       tells = tt;
-      first = (refl, (f.good.not_closed, (stands may.active, (tt, (tt, tt)))), tt);
+      first = (refl, (f.good.not_closed, (its.serves, (tt, (tt, tt)))), tt);
       refuses = refl;
-      passes = (tt, (tt, (found may.found, (still may.still, tt))));
+      passes = (tt, (tt, (its.found, (still may.still, tt))));
       says = λ yes. (ap is_free (f.pages.entry p) ∙ free, all);
       place = tt;
       left = refl;
@@ -187,28 +150,28 @@ module _ (seen : DeviceImages) (leaves : Outcomes) (c : Parts) (i p : ℕ) (mode
         allowed = tt;
         names = refl;
         tells = tt;
-        first = (refl, (f.good.not_closed, (stands may.active, (tt, (tt, (tt, tt))))), tt);
+        first = (refl, (f.good.not_closed, (its.serves, (tt, (tt, (tt, tt))))), tt);
         refuses = inl refl;
-        passes = (tt, (tt, (found may.found, (still may.still, (room, tt)))));
+        passes = (tt, (tt, (its.found, (still may.still, (room, tt)))));
         says = λ never. absurd (cc);
         place = tt;
         left = Fails.stays refl refl;
       }
 
       clear : Clear m event
-      clear = (f.good.not_closed, (stands may.active, (tt, (tt, (tt, (tt, tt))))))
+      clear = (f.good.not_closed, (its.serves, (tt, (tt, (tt, (tt, tt))))))
 
       none : NoneSays m w.pages event (order event)
-      none = (tt, (tt, (found may.found, (still may.still, (room, (tt, tt))))))
+      none = (tt, (tt, (its.found, (still may.still, (room, (tt, tt))))))
 
       -- the instance has the page then
       pub have-turns : (pages : Pages) → Gets i p mode w.pages pages → Turns w event reply.Have (repaged w pages event reply.Have)
       have-turns pages gets = turns-repaged w pages event reply.Have (clear, refl) (λ t. sym
-          (none-ended seen leaves c w f t)) tt tt
+          (none-ended (tell.seen c.rig) (tell.leaves c.rig) (parts c) w f t)) tt tt
           (none, gets) tt
 
       -- or has asked another for it
       pub asked-turns : (of : ℕ) (pages : Pages) → Queues i p mode of w.pages pages
           → Turns w event (reply.Asked of) (repaged w pages event (reply.Asked of))
       asked-turns of pages queues = turns-repaged w pages event (reply.Asked of) (clear, refl)
-          (λ t. sym (none-ended seen leaves c w f t)) tt tt (none, queues) tt
+          (λ t. sym (none-ended (tell.seen c.rig) (tell.leaves c.rig) (parts c) w f t)) tt tt (none, queues) tt

@@ -61,7 +61,7 @@ module _ {G : Type 0} (tell : Telling G) (c mid new : Complex G) (i : ℕ) (low 
   fits-then = fallen-fits i (tell.seen c.rig) (tell.seen mid.rig) (tell.leaves c.rig) (tell.leaves mid.rig) Pending.Idle
       (parts c) (parts mid) (parts new) m m w low high f good else is fallen (λ t ne. refl) (bounds_after w.bounds e answer)
       pages
-      (bounds-stay (tell.seen mid.rig) (parts mid) w.bounds e answer bounds) doubts good-there
+      (bounds-stay (tell.seen mid.rig) (parts mid) w.bounds e answer tt bounds) doubts good-there
 
   kept : (u : TxnId) → of_running m (with_wait (txn_of e) None w.scene.waits) u ≡ w.scene.waits u
   kept u = ap (λ (t : TxnId). of_running m (with_wait t None w.scene.waits) u) breaks.nobodys

@@ -1,11 +1,9 @@
 -- An eviction serves its event: for the goals of `evict`.
-use Rattle.std.proofs.Common.{◌≡◌, ℕ, ◌-◌, ◌≤◌, Bool, true, false, refl, sym, ap, ◌∙◌, subst, slice_set}
+use Rattle.std.proofs.Common.{◌≡◌, ℕ, ◌-◌, ◌≤◌, Bool, true, false, [], ◌∷◌, refl, sym, ap, ◌∙◌, subst, slice_set}
 use Rattle.std.specs.Prelude.{None, Some}
-use Rattle.sd_base.specs.declared.place.Place.{Place}
 use Rattle.sd_base.specs.declared.refusal.Refusal.{Refusal}
 use Rattle.sd_base.specs.declared.refusal.Refusal.TheVariants as R
 use Rattle.sd_rig.specs.Devices.{DeviceImages, Leaves}
-use Rattle.sd_model.specs.Applies.{MayServe}
 use Rattle.sd_model.specs.Causes.{order}
 use Rattle.sd_model.specs.State.{State}
 use Rattle.sd_model.specs.declared.cause.Cause.{Cause}
@@ -13,12 +11,12 @@ use Rattle.sd_model.specs.declared.event.Event.{Event}
 use Rattle.sd_model.specs.declared.event.Event.TheVariants.{Evict}
 use Rattle.sd_model.specs.declared.event.Reply.TheVariants as reply
 use Rattle.sd_pagelock.specs.Directory.{entry_at}
-use Rattle.sd_pagelock.specs.Places.{PageEntry, holds, is_lost, seen}
+use Rattle.sd_pagelock.specs.Places.{PageEntry, holds, is_lost}
 use Rattle.sd_pagelock.specs.Rows.{fallen, may_evict}
 use Rattle.sd_pagelock.proofs.Uses.{held-found, lost-is}
 use Rattle.sd_pool.specs.Buffers.{without_page}
 use Rattle.sd_world.specs.Bounds.{bounds_after}
-use Rattle.sd_world.specs.PageCauses.{IsAway, IsLostFor, IsOnlyCopy, NoneSays}
+use Rattle.sd_world.specs.PageCauses.{IsAway, IsOnlyCopy, NoneSays}
 use Rattle.sd_world.specs.Pages.{Pages, page_placed}
 use Rattle.sd_world.specs.Serving.{Core, Serves, Telling, Turns, refused}
 use Rattle.sd_state.specs.Complexes.{parts}
@@ -32,7 +30,23 @@ use Rattle.sd_fits.proofs.Places.{frames-kept, moved-fits, placed-pages, repaged
 use Rattle.sd_fits.proofs.Served.{bounds-stay, none-ended, still-serves}
 use Rattle.sd_moves.proofs.Placed.{evicts-held}
 use Rattle.sd_transfer.specs.Evicting.{StaysFor}
-use Rattle.sd_fits.proofs.Refused.{IsFor, active-serves, idle-refuses, refused-serves, unlike}
+use Rattle.sd_fits.proofs.Refused.{IsFor, refused-serves, unlike}
+use Rattle.sd_transfer.proofs.Barred.{IsPaging, IsUnbarred, away-served, barred-served, unbarred}
+
+-- an eviction is an event of its page
+pub of-evict : (i p : ℕ) → IsPaging (Evict i p) i p
+of-evict i p = record {
+  rest = Cause.Away ∷ Cause.Dirty ∷ [];
+  order = refl;
+  nobodys = refl;
+  serve = λ m active. active;
+  serves = λ m active. active;
+  page = λ m. tt;
+  lose = λ m w lost. lost;
+  loses = λ m w lost. lost;
+  unused = λ m r. tt;
+  quiet = λ n. refl;
+}
 
 module _ {G : Type 0} (tell : Telling G) (c : Complex G) (i p : ℕ) (low : 1 ≤ i) (high : i ≤ 8)
     (now : (img : DeviceImages) → tell.since c.rig (tell.moment c.rig) img → Leaves (tell.leaves c.rig) img) where
@@ -48,14 +62,8 @@ module _ {G : Type 0} (tell : Telling G) (c : Complex G) (i p : ℕ) (low : 1 �
     abbrev m : State
     m = w.scene.state
 
-    stands : is_active (parts c) i ≡ true → (MayServe m event → ⊥) → ⊥
-    stands active none = none (active-serves (tell.seen c.rig) (tell.leaves c.rig) (parts c) w f i low high active)
-
-    falls : is_active (parts c) i ≡ false → MayServe m event → ⊥
-    falls idle is = idle-refuses (tell.seen c.rig) (tell.leaves c.rig) (parts c) w f i low high idle is
-
-    found : is_lost here ≡ false → IsLostFor m w.pages event → ⊥
-    found is lost = unlike is (sym (ap is_lost (f.pages.entry p)) ∙ lost)
+    its : is_active (parts c) i ≡ true → is_lost here ≡ false → IsUnbarred m w.pages event
+    its active not_lost = unbarred (of-evict i p) tell c low high w f active not_lost
 
     there : holds here i ≡ true → IsAway m w.pages event → ⊥
     there is away = unlike away (ap (λ (e : PageEntry). holds e i) (f.pages.entry p) ∙ is)
@@ -72,55 +80,6 @@ module _ {G : Type 0} (tell : Telling G) (c : Complex G) (i p : ℕ) (low : 1 �
     refused-so : (n : Refusal) (cause : Cause) → IsFor m w event n cause → Refuses n
     refused-so n cause is = refused-serves tell c now w f event n cause is
 
-    down : is_active (parts c) i ≡ false → IsFor m w event R.Down Cause.Down
-    down idle = record {
-      waits = refl;
-      whom = tt;
-      unused = tt;
-      allowed = tt;
-      names = refl;
-      tells = tt;
-      first = (refl, (f.good.not_closed, tt), falls idle);
-      refuses = refl;
-      passes = (tt, tt);
-      says = λ never. absurd (cc);
-      place = tt;
-      left = refl;
-    }
-
-    lost : is_active (parts c) i ≡ true → is_lost here ≡ true → IsFor m w event R.Lost Cause.Lost
-    lost active is = record {
-      waits = refl;
-      whom = tt;
-      unused = tt;
-      allowed = tt;
-      names = refl;
-      tells = tt;
-      first = (refl, (f.good.not_closed, (stands active, tt)), tt);
-      refuses = refl;
-      passes = (tt, (tt, tt));
-      says = λ yes. ap is_lost (f.pages.entry p) ∙ is;
-      place = tt;
-      left = refl;
-    }
-
-    away : (place : Place) → is_active (parts c) i ≡ true → is_lost here ≡ false → holds here i ≡ false → seen place ≡ here
-        → IsFor m w event (R.NeedPage place) Cause.Away
-    away place active not_lost lacks is = record {
-      waits = refl;
-      whom = tt;
-      unused = tt;
-      allowed = tt;
-      names = refl;
-      tells = tt;
-      first = (refl, (f.good.not_closed, (stands active, (tt, tt))), tt);
-      refuses = refl;
-      passes = (tt, (tt, (found not_lost, tt)));
-      says = λ yes. ap (λ (e : PageEntry). holds e i) (f.pages.entry p) ∙ lacks;
-      place = is ∙ sym (f.pages.entry p);
-      left = refl;
-    }
-
     dirty : is_active (parts c) i ≡ true → is_lost here ≡ false → holds here i ≡ true → may_evict i here ≡ false
         → IsFor m w event R.Dirty Cause.Dirty
     dirty active not_lost has only = record {
@@ -130,21 +89,19 @@ module _ {G : Type 0} (tell : Telling G) (c : Complex G) (i p : ℕ) (low : 1 �
       allowed = tt;
       names = refl;
       tells = tt;
-      first = (refl, (f.good.not_closed, (stands active, (tt, (tt, tt)))), tt);
+      first = (refl, (f.good.not_closed, ((its active not_lost).serves, (tt, (tt, tt)))), tt);
       refuses = refl;
-      passes = (tt, (tt, (found not_lost, (there has, tt))));
+      passes = (tt, (tt, ((its active not_lost).found, (there has, tt))));
       says = λ yes. ap (may_evict i) (f.pages.entry p) ∙ only;
       place = tt;
       left = refl;
     }
 
   pub evict-refused : (n : Refusal) → StaysFor (parts c) i p n → Serving tell event (refused n) c c
-  evict-refused R.Down why = ((λ w f. refused-so w f R.Down Cause.Down (down w f why)), refl)
-  evict-refused R.Lost why = ((λ w f. refused-so w f R.Lost Cause.Lost (lost w f why.0 why.1)), refl)
-  evict-refused (R.NeedPage place) why =
-      ((λ w f. refused-so w f (R.NeedPage place) Cause.Away (away w f place why.0 why.1 why.2 why.3)), refl)
+  evict-refused (R.NeedPage place) why = away-served (of-evict i p) tell c low high now refl place why.0 why.1
+      (λ w f. (ap (λ (e : PageEntry). holds e i) (f.pages.entry p) ∙ why.2, why.3 ∙ sym (f.pages.entry p)))
   evict-refused R.Dirty why = ((λ w f. refused-so w f R.Dirty Cause.Dirty (dirty w f why.0 why.1 why.2 why.3)), refl)
-  evict-refused n why = absurd why
+  evict-refused n why = barred-served (of-evict i p) tell c low high now n why
 
   -- ---- the copy goes
 
@@ -169,7 +126,7 @@ module _ {G : Type 0} (tell : Telling G) (c : Complex G) (i p : ℕ) (low : 1 �
           go true e = absurd (held-found i here held (lost-is here e))
 
       none : NoneSays (m w f) w.pages event (order event)
-      none = (tt, (tt, (found w f not_lost, (there w f held, (spare w f may, tt)))))
+      none = (tt, (tt, ((its w f active not_lost).found, (there w f held, (spare w f may, tt)))))
 
       fits-then : fits_by tell.seen tell.leaves new (repaged w pages event reply.Did)
       fits-then = moved-fits tell c new w f (slice_set (parts c).pools (i - 1) (without_page (pool_at (parts c) i) p))
@@ -181,11 +138,11 @@ module _ {G : Type 0} (tell : Telling G) (c : Complex G) (i p : ℕ) (low : 1 �
           p (fallen i (w.pages.entry p)) None
           (subst (λ (e : PageEntry). IsSet p (fallen i e) None (parts c).directory (parts new).directory) (sym (f.pages.entry p)) set)
           (λ there. ap is_lost (f.pages.entry p) ∙ not_lost))
-          (bounds-stay (tell.seen c.rig) (parts c) w.bounds event reply.Did f.bounds)
+          (bounds-stay (tell.seen c.rig) (parts c) w.bounds event reply.Did tt f.bounds)
 
       turns : Turns w event reply.Did (repaged w pages event reply.Did)
       turns = turns-repaged w pages event reply.Did
-          ((f.good.not_closed, (stands w f active, (tt, (tt, (tt, tt))))), refl)
+          ((f.good.not_closed, ((its w f active not_lost).serves, (tt, (tt, (tt, tt))))), refl)
           (λ t. sym (none-ended (tell.seen c.rig) (tell.leaves c.rig) (parts c) w f t))
           tt tt (none, refl) tt
 

@@ -15,7 +15,7 @@ use Rattle.sd_model.specs.declared.event.Reply.{Reply}
 use Rattle.sd_model.specs.declared.event.Reply.TheVariants as reply
 use Rattle.sd_pagelock.specs.Asks.{queued}
 use Rattle.sd_pagelock.specs.Directory.{asks_at, entry_at}
-use Rattle.sd_pagelock.specs.Places.{PageEntry, holds, holds_as, is_free, is_lost}
+use Rattle.sd_pagelock.specs.Places.{PageEntry, holds, holds_as, is_free, is_lost, passes, receives}
 use Rattle.sd_pagelock.specs.Rows.{locked, may_raise, raised}
 use Rattle.sd_pool.specs.Buffers as buffers
 use Rattle.sd_pool.specs.Buffers.{Buffers, IsPool, with_page}
@@ -38,6 +38,8 @@ use Rattle.sd_fits.proofs.Served.{bounds-stay, nothing-fits, passed, still-serve
 use Rattle.sd_moves.specs.Places.{IsAsked, with_directory}
 use Rattle.sd_transfer.specs.Asking.{IsUnserved, MayAsk}
 use Rattle.sd_transfer.proofs.Asked
+use Rattle.sd_transfer.proofs.Asked.{of-ask}
+use Rattle.sd_transfer.proofs.Barred.{barred-served, moving-served}
 use Rattle.sd_fits.proofs.Refused.{IsFor, refused-serves, refused-turns, unlike}
 
 -- what was read of devices stays, also once more is done to the complex
@@ -84,22 +86,9 @@ module _ {G : Type 0} (tell : Telling G) (c : Complex G) (i p : ℕ) (mode : Mod
   refused-so w f n cause is = refused-serves tell c now w f event n cause is
 
   pub ask-refused : (n : Refusal) → IsUnserved (parts c) i p n → Serving tell event (refused n) c c
-  ask-refused R.Down why = (
-    (λ w f. refused-so w f R.Down Cause.Down (Asked.down (tell.seen c.rig) (tell.leaves c.rig)
-        (parts c) i p mode low high w f why)),
-    refl,
-  )
-  ask-refused R.Lost why = (
-    (λ w f. refused-so w f R.Lost Cause.Lost
-        (Asked.lost (tell.seen c.rig) (tell.leaves c.rig) (parts c) i p mode low high w f why.0 why.1)),
-    refl,
-  )
-  ask-refused (R.MovingTo to) why = (
-    (λ w f. refused-so w f (R.MovingTo to) Cause.Moving
-        (Asked.moving (tell.seen c.rig) (tell.leaves c.rig) (parts c) i p mode low high w f to why.0 why.1 why.2 why.3)),
-    refl,
-  )
-  ask-refused n why = absurd why
+  ask-refused (R.MovingTo to) why = moving-served (of-ask i p mode) tell c low high now refl to why.0 why.1
+      (λ w f. (ap passes (f.pages.entry p) ∙ why.2, ap (λ (e : PageEntry). receives e to) (f.pages.entry p) ∙ why.3))
+  ask-refused n why = barred-served (of-ask i p mode) tell c low high now n why
 
   module _ (may : MayAsk (parts c) i p) where
     -- it has the page so
@@ -110,9 +99,9 @@ module _ {G : Type 0} (tell : Telling G) (c : Complex G) (i p : ℕ) (mode : Mod
           let room : PoolIsFull w.pages event → ⊥ = λ lacks. Asked.has-pool mode (w.pages.entry p) i there lacks.0 in (
             passed w w.scene.waits event reply.Have,
             still-serves tell event reply.Have c c w (passed w w.scene.waits event reply.Have) refl now f
-                (Asked.have-turns (tell.seen c.rig) (tell.leaves c.rig) (parts c) i p mode low high w f may room w.pages
+                (Asked.have-turns tell c i p mode low high w f may room w.pages
                 (Asked.gets-held i p mode w.pages there))
-                (nothing-fits (parts c).locks w.scene.waits event reply.Have (tell.seen c.rig) (tell.leaves c.rig) (parts c) w f),
+                (nothing-fits (parts c).locks w.scene.waits event reply.Have (tell.seen c.rig) (tell.leaves c.rig) (parts c) w f tt),
           )),
       refl,
     )
@@ -128,7 +117,7 @@ module _ {G : Type 0} (tell : Telling G) (c : Complex G) (i p : ℕ) (mode : Mod
       pub full-served : buffers.LacksFrame (pool_at (parts c) i) p → Serving tell event (Some (reply.Refused R.PoolFull)) c c
       full-served lacks = (
         (λ w f. refused-so w f R.PoolFull Cause.Frame
-            (Asked.full (tell.seen c.rig) (tell.leaves c.rig) (parts c) i p mode low high w f may (ap is_free free)
+            (Asked.full tell c i p mode low high w f may (ap is_free free)
             (frames-held (tell.seen c.rig) (tell.leaves c.rig) Pending.Idle
             (parts c) w.scene.state f.good w.pages f.pages i 1024 low high
             pool past lacks.1))),
@@ -172,10 +161,10 @@ module _ {G : Type 0} (tell : Telling G) (c : Complex G) (i p : ℕ) (mode : Mod
                   next,
                   read-serves tell event (reply.Refused R.Failed) c read w next u now f
                       (refused-turns (tell.seen c.rig) (tell.leaves c.rig) (parts c) w f event R.Failed Cause.Rig
-                      (Asked.failed (tell.seen c.rig) (tell.leaves c.rig) (parts c) i p mode low high w f may (roomy w f)))
+                      (Asked.failed tell c i p mode low high w f may (roomy w f)))
                       (nothing-fits (parts read).locks w.scene.waits event (reply.Refused R.Failed) (tell.seen read.rig)
                       (tell.leaves read.rig)
-                      (parts read) w (fits-read w f)),
+                      (parts read) w (fits-read w f) tt),
                 )),
             rises,
           )
@@ -207,7 +196,7 @@ module _ {G : Type 0} (tell : Telling G) (c : Complex G) (i p : ℕ) (mode : Mod
                 (frames-kept (parts read) i (with_page (pool_at (parts read) i) p image) (parts new).directory low high
                 f.good.shape.pools refl)
                 p (locked i mode) None set (λ there. ap is_lost (before.pages.entry p ∙ free)))
-                (bounds-stay (tell.seen read.rig) (parts read) w.bounds event reply.Have f.bounds)
+                (bounds-stay (tell.seen read.rig) (parts read) w.bounds event reply.Have tt f.bounds)
 
             pub fetched : Serving tell event (Some reply.Have) c new
             fetched = (
@@ -215,7 +204,7 @@ module _ {G : Type 0} (tell : Telling G) (c : Complex G) (i p : ℕ) (mode : Mod
                   let next : Core = repaged w (page_placed p (locked i mode) w.pages) event reply.Have in (
                     next,
                     read-serves tell event reply.Have c new w next (unchanged-to tell c.rig read.rig new.rig stays u) now f
-                        (Asked.have-turns (tell.seen c.rig) (tell.leaves c.rig) (parts c) i p mode low high w f may (roomy w f)
+                        (Asked.have-turns tell c i p mode low high w f may (roomy w f)
                         (page_placed p (locked i mode) w.pages) (Asked.gets-free i p mode w.pages (f.pages.entry p ∙ free)))
                         (fits-fetched w f),
                   )),
@@ -246,7 +235,7 @@ module _ {G : Type 0} (tell : Telling G) (c : Complex G) (i p : ℕ) (mode : Mod
                 let next : Core = repaged w (page_placed p to w.pages) event reply.Have in (
                   next,
                   still-serves tell event reply.Have c new w next (sym same) now f
-                      (Asked.have-turns (tell.seen c.rig) (tell.leaves c.rig) (parts c) i p mode low high w f may (no-need w f)
+                      (Asked.have-turns tell c i p mode low high w f may (no-need w f)
                       (page_placed p to w.pages) (Asked.gets-raised i p mode w.pages (lacking w f) (in-pool w f)
                       (ap (may_raise i) (f.pages.entry p) ∙ may_raise_it)))
                       (moved-fits tell c new w f (parts c).pools (parts new).directory same is
@@ -258,7 +247,7 @@ module _ {G : Type 0} (tell : Telling G) (c : Complex G) (i p : ℕ) (mode : Mod
                       (subst (λ (e : PageEntry). IsSet p (raised i e) None (parts c).directory (parts new).directory) (sym
                       (f.pages.entry p)) set)
                       (λ there. ap is_lost (f.pages.entry p) ∙ may.found))
-                      (bounds-stay (tell.seen c.rig) (parts c) w.bounds event reply.Have f.bounds)),
+                      (bounds-stay (tell.seen c.rig) (parts c) w.bounds event reply.Have tt f.bounds)),
                 )),
             ap tell.faults same,
           )
@@ -273,7 +262,7 @@ module _ {G : Type 0} (tell : Telling G) (c : Complex G) (i p : ℕ) (mode : Mod
                 let next : Core = repaged w (asked p i mode w.pages) event (reply.Asked of) in (
                   next,
                   still-serves tell event (reply.Asked of) c new w next (sym same) now f
-                      (Asked.asked-turns (tell.seen c.rig) (tell.leaves c.rig) (parts c) i p mode low high w f may
+                      (Asked.asked-turns tell c i p mode low high w f may
                       (no-need w f) of
                       (asked p i mode w.pages) (
                         Asked.not-had i p mode w.pages (lacking w f) (in-pool w f) (ap (may_raise i) (f.pages.entry p) ∙ alone),
@@ -286,7 +275,7 @@ module _ {G : Type 0} (tell : Telling G) (c : Complex G) (i p : ℕ) (mode : Mod
                       (asked-pages (parts c).pools (parts new).directory (tell.seen c.rig) (tell.leaves c.rig) (parts c) w f
                       (λ j. refl)
                       p i mode asks.in_place.entries asks.here asks.others)
-                      (bounds-stay (tell.seen c.rig) (parts c) w.bounds event (reply.Asked of) f.bounds)),
+                      (bounds-stay (tell.seen c.rig) (parts c) w.bounds event (reply.Asked of) tt f.bounds)),
                 )),
             ap tell.faults same,
           )

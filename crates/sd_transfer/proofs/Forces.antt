@@ -72,7 +72,7 @@ module _ {G : Type 0} (tell : Telling G) (c : Complex G) (i : ℕ) (low : 1 ≤ 
               tt tt ((tt, (tt, (tt, tt))), refl) tt;
           fits_then = nothing-fits (parts new).locks w.scene.waits event reply.Did (tell.seen new.rig) (tell.leaves new.rig)
               (parts new) w
-              spares.fits_still;
+              spares.fits_still tt;
           passes = spares.passes;
         },
       )

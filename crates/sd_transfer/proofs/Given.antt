@@ -1,12 +1,11 @@
 -- A give serves its event: for the goals of giving.rt.
-use Rattle.std.proofs.Common.{◌≡◌, ℕ, ◌≤◌, true, false, refl, sym, ap, ◌∙◌, subst}
+use Rattle.std.proofs.Common.{◌≡◌, ℕ, ◌≤◌, true, false, [], ◌∷◌, refl, sym, ap, ◌∙◌, subst}
 use Rattle.std.specs.Prelude.{None, Some, is_some}
 use Rattle.sd_base.specs.declared.place.Mode.{Mode}
 use Rattle.sd_base.specs.declared.place.Place.{Place}
 use Rattle.sd_base.specs.declared.refusal.Refusal.{Refusal}
 use Rattle.sd_base.specs.declared.refusal.Refusal.TheVariants as R
 use Rattle.sd_rig.specs.Devices.{DeviceImages, Leaves}
-use Rattle.sd_model.specs.Applies.{MayServe}
 use Rattle.sd_model.specs.Causes.{order}
 use Rattle.sd_model.specs.State.{State}
 use Rattle.sd_model.specs.declared.cause.Cause.{Cause}
@@ -16,7 +15,7 @@ use Rattle.sd_model.specs.declared.event.Reply.TheVariants as reply
 use Rattle.sd_pagelock.specs.Asks.{oldest}
 use Rattle.sd_pagelock.specs.Directory.{asks_at, entry_at}
 use Rattle.sd_pagelock.specs.Places.{PageEntry, holds, is_lost, owns, passes, receives, seen}
-use Rattle.sd_world.specs.PageCauses.{IsAway, IsLostFor, IsUnasked, IsUnderWay, NoneSays}
+use Rattle.sd_world.specs.PageCauses.{IsAway, IsUnasked, IsUnderWay, NoneSays}
 use Rattle.sd_world.specs.Pages.{given, page_placed}
 use Rattle.sd_world.specs.Serving.{Core, Serves, Telling, refused}
 use Rattle.sd_state.specs.Complexes.{parts}
@@ -26,14 +25,30 @@ use Rattle.sd_state.specs.Parts.{Parts, is_active, is_loose, log_at, pool_at}
 use Rattle.sd_state.specs.Values.{Pending}
 use Rattle.sd_state.specs.declared.complex.Complex.{Complex}
 use Rattle.sd_fits.specs.Serving.{Serving, fits_by, stands_for}
+use Rattle.sd_transfer.proofs.Barred.{IsPaging, IsUnbarred, barred-served, moving-served, unbarred}
 use Rattle.sd_transfer.proofs.PassFits.{passed-served}
 use Rattle.sd_fits.proofs.Places.{turns-repaged}
-use Rattle.sd_fits.proofs.Refused.{IsFor, active-serves, idle-refuses, refused-serves, unlike}
+use Rattle.sd_fits.proofs.Refused.{IsFor, refused-serves, unlike}
 use Rattle.sd_fits.proofs.Served.{none-ended}
 use Rattle.sd_transfer.specs.Giving.{IsForcedFor, IsUngiven, MayGive}
 use Rattle.sd_transfer.specs.Paging.{OnlyPages}
 use Rattle.sd_transfer.specs.Breaking.{BreaksBy}
 use Rattle.sd_transfer.specs.Forcing.{OnlyLogs}
+
+-- a give is an event of its page
+pub of-give : (j p : ℕ) → IsPaging (Give j p) j p
+of-give j p = record {
+  rest = Cause.Moving ∷ Cause.Away ∷ Cause.Asks ∷ Cause.Rig ∷ [];
+  order = refl;
+  nobodys = refl;
+  serve = λ m active. active;
+  serves = λ m active. active;
+  page = λ m. tt;
+  lose = λ m w lost. lost;
+  loses = λ m w lost. lost;
+  unused = λ m r. tt;
+  quiet = λ n. refl;
+}
 
 module _ {G : Type 0} (tell : Telling G) (c : Complex G) (j p : ℕ) (low : 1 ≤ j) (high : j ≤ 8)
     (now : (img : DeviceImages) → tell.since c.rig (tell.moment c.rig) img → Leaves (tell.leaves c.rig) img) where
@@ -49,14 +64,8 @@ module _ {G : Type 0} (tell : Telling G) (c : Complex G) (j p : ℕ) (low : 1 �
     abbrev m : State
     m = w.scene.state
 
-    stands : is_active (parts c) j ≡ true → (MayServe m event → ⊥) → ⊥
-    stands active none = none (active-serves (tell.seen c.rig) (tell.leaves c.rig) (parts c) w f j low high active)
-
-    falls : is_active (parts c) j ≡ false → MayServe m event → ⊥
-    falls idle is = idle-refuses (tell.seen c.rig) (tell.leaves c.rig) (parts c) w f j low high idle is
-
-    found : is_lost here ≡ false → IsLostFor m w.pages event → ⊥
-    found is lost = unlike is (sym (ap is_lost (f.pages.entry p)) ∙ lost)
+    its : is_active (parts c) j ≡ true → is_lost here ≡ false → IsUnbarred m w.pages event
+    its active not_lost = unbarred (of-give j p) tell c low high w f active not_lost
 
     rests : passes here ≡ false → IsUnderWay w.pages event → ⊥
     rests is moves = unlike is (sym (ap passes (f.pages.entry p)) ∙ moves)
@@ -77,55 +86,6 @@ module _ {G : Type 0} (tell : Telling G) (c : Complex G) (j p : ℕ) (low : 1 �
     refused-so : (n : Refusal) (cause : Cause) → IsFor m w event n cause → Refuses n
     refused-so n cause is = refused-serves tell c now w f event n cause is
 
-    down : is_active (parts c) j ≡ false → IsFor m w event R.Down Cause.Down
-    down idle = record {
-      waits = refl;
-      whom = tt;
-      unused = tt;
-      allowed = tt;
-      names = refl;
-      tells = tt;
-      first = (refl, (f.good.not_closed, tt), falls idle);
-      refuses = refl;
-      passes = (tt, tt);
-      says = λ never. absurd (cc);
-      place = tt;
-      left = refl;
-    }
-
-    lost : is_active (parts c) j ≡ true → is_lost here ≡ true → IsFor m w event R.Lost Cause.Lost
-    lost active is = record {
-      waits = refl;
-      whom = tt;
-      unused = tt;
-      allowed = tt;
-      names = refl;
-      tells = tt;
-      first = (refl, (f.good.not_closed, (stands active, tt)), tt);
-      refuses = refl;
-      passes = (tt, (tt, tt));
-      says = λ yes. ap is_lost (f.pages.entry p) ∙ is;
-      place = tt;
-      left = refl;
-    }
-
-    moving : (to : ℕ) → is_active (parts c) j ≡ true → is_lost here ≡ false → passes here ≡ true → receives here to ≡ true
-        → IsFor m w event (R.MovingTo to) Cause.Moving
-    moving to active not_lost moves takes = record {
-      waits = refl;
-      whom = tt;
-      unused = tt;
-      allowed = tt;
-      names = refl;
-      tells = tt;
-      first = (refl, (f.good.not_closed, (stands active, (tt, tt))), tt);
-      refuses = refl;
-      passes = (tt, (tt, (found not_lost, tt)));
-      says = λ yes. ap passes (f.pages.entry p) ∙ moves;
-      place = ap (λ (e : PageEntry). receives e to) (f.pages.entry p) ∙ takes;
-      left = refl;
-    }
-
     away : (place : Place) → is_active (parts c) j ≡ true → is_lost here ≡ false → passes here ≡ false → holds here j ≡ false
         → seen place ≡ here → IsFor m w event (R.NeedPage place) Cause.Away
     away place active not_lost still lacks is = record {
@@ -135,9 +95,9 @@ module _ {G : Type 0} (tell : Telling G) (c : Complex G) (j p : ℕ) (low : 1 �
       allowed = tt;
       names = refl;
       tells = tt;
-      first = (refl, (f.good.not_closed, (stands active, (tt, (tt, tt)))), tt);
+      first = (refl, (f.good.not_closed, ((its active not_lost).serves, (tt, (tt, tt)))), tt);
       refuses = refl;
-      passes = (tt, (tt, (found not_lost, (rests still, tt))));
+      passes = (tt, (tt, ((its active not_lost).found, (rests still, tt))));
       says = λ yes. ap (λ (e : PageEntry). holds e j) (f.pages.entry p) ∙ lacks;
       place = is ∙ sym (f.pages.entry p);
       left = refl;
@@ -152,24 +112,23 @@ module _ {G : Type 0} (tell : Telling G) (c : Complex G) (j p : ℕ) (low : 1 �
       allowed = tt;
       names = refl;
       tells = tt;
-      first = (refl, (f.good.not_closed, (stands active, (tt, (tt, (tt, tt))))), tt);
+      first = (refl, (f.good.not_closed, ((its active not_lost).serves, (tt, (tt, (tt, tt))))), tt);
       refuses = refl;
-      passes = (tt, (tt, (found not_lost, (rests still, (there has, tt)))));
+      passes = (tt, (tt, ((its active not_lost).found, (rests still, (there has, tt)))));
       says = λ yes. ap (oldest j) (f.pages.asks p) ∙ none;
       place = tt;
       left = refl;
     }
 
   pub give-refused : (n : Refusal) → IsUngiven (parts c) j p n → Serving tell event (refused n) c c
-  give-refused R.Down why = ((λ w f. refused-so w f R.Down Cause.Down (down w f why)), refl)
-  give-refused R.Lost why = ((λ w f. refused-so w f R.Lost Cause.Lost (lost w f why.0 why.1)), refl)
-  give-refused (R.MovingTo to) why =
-      ((λ w f. refused-so w f (R.MovingTo to) Cause.Moving (moving w f to why.0 why.1 why.2 why.3)), refl)
+  give-refused (R.MovingTo to) why = moving-served (of-give j p) tell c low high now refl
+      to why.0 why.1
+      (λ w f. (ap passes (f.pages.entry p) ∙ why.2, ap (λ (e : PageEntry). receives e to) (f.pages.entry p) ∙ why.3))
   give-refused (R.NeedPage place) why =
       ((λ w f. refused-so w f (R.NeedPage place) Cause.Away (away w f place why.0 why.1 why.2 why.3 why.4)), refl)
   give-refused R.NotAsked why =
       ((λ w f. refused-so w f R.NotAsked Cause.Asks (unasked w f why.0 why.1 why.2 why.3 why.4)), refl)
-  give-refused n why = absurd why
+  give-refused n why = barred-served (of-give j p) tell c low high now n why
 
   -- ---- the page may be given
 
@@ -180,15 +139,15 @@ module _ {G : Type 0} (tell : Telling G) (c : Complex G) (j p : ℕ) (low : 1 �
       nobodys = refl;
       falls = refl;
       uncounted = refl;
-      first = (refl, (f.good.not_closed, (stands w f may.active, (tt, (tt, (tt, (tt, tt)))))), tt);
-      passes = (tt, (tt, (found w f may.found, (rests w f may.still, (there w f may.held, (asked w f to mode may.asked, tt))))));
+      first = (refl, (f.good.not_closed, ((its w f may.active may.found).serves, (tt, (tt, (tt, (tt, tt)))))), tt);
+      passes = (tt, (tt, ((its w f may.active may.found).found, (rests w f may.still, (there w f may.held, (asked w f to mode may.asked, tt))))));
       did = refl;
       unused = tt;
     }
 
     none : (w : Core) (f : fits_by tell.seen tell.leaves c w) → NoneSays (m w f) w.pages event (order event)
     none w f =
-        (tt, (tt, (found w f may.found, (rests w f may.still, (there w f may.held, (asked w f to mode may.asked, (tt, tt)))))))
+        (tt, (tt, ((its w f may.active may.found).found, (rests w f may.still, (there w f may.held, (asked w f to mode may.asked, (tt, tt)))))))
 
     -- and else it is given
     pub given-served : (new : Complex G) → new.rig ≡ c.rig → OnlyPages (parts c) (parts new)
@@ -198,10 +157,10 @@ module _ {G : Type 0} (tell : Telling G) (c : Complex G) (j p : ℕ) (low : 1 �
         → IsSet p (given j (to, mode) here) None (parts c).directory (parts new).directory
         → Serving tell event (Some (reply.Gave to)) c new
     given-served new same only frames good set =
-        passed-served tell c new p (given j (to, mode)) same only frames good set may.found now event (reply.Gave to)
+        passed-served tell c new p (given j (to, mode)) same only frames good set may.found now event (reply.Gave to) tt
         (ap tell.faults same)
         (λ w f. turns-repaged w (page_placed p (given j (to, mode) (w.pages.entry p)) w.pages) event (reply.Gave to)
-        ((f.good.not_closed, (stands w f may.active, (tt, (tt, (tt, (tt, (tt, tt))))))), refl)
+        ((f.good.not_closed, ((its w f may.active may.found).serves, (tt, (tt, (tt, (tt, (tt, tt))))))), refl)
         (λ t. sym (none-ended (tell.seen c.rig) (tell.leaves c.rig) (parts c) w f t))
         tt tt (none w f, (mode, ap (oldest j) (f.pages.asks p) ∙ may.asked, refl)) tt)
 

@@ -1,5 +1,6 @@
 pub mod PassFits
 pub mod Told
+mod Barred
 pub mod Evicted
 pub mod Asked
 pub mod Fetched

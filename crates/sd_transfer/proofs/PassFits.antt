@@ -9,7 +9,7 @@ use Rattle.sd_model.specs.declared.event.Reply.{Reply}
 use Rattle.sd_pagelock.specs.Directory.{asks_at, entry_at}
 use Rattle.sd_pagelock.specs.Places.{PageEntry, is_lost}
 use Rattle.sd_rig.specs.Devices as rig
-use Rattle.sd_world.specs.Bounds.{bounds_after}
+use Rattle.sd_world.specs.Bounds.{TellsNoPlace, bounds_after}
 use Rattle.sd_world.specs.Pages.{Pages, page_placed}
 use Rattle.sd_world.specs.Serving.{Core, FaultsAre, Passes, Telling, Turns}
 use Rattle.sd_state.specs.Complexes.{parts}
@@ -35,25 +35,25 @@ module _ {G : Type 0} (tell : Telling G) (old new : Complex G) (p : ℕ) (row : 
   passed-pages w = page_placed p (row (w.pages.entry p)) w.pages
 
   -- a world whose page went so is fitted then,
-  pub passed-fits : (e : Event) (r : Reply) (w : Core) → fits_by tell.seen tell.leaves old w
+  pub passed-fits : (e : Event) (r : Reply) → TellsNoPlace r → (w : Core) → fits_by tell.seen tell.leaves old w
       → fits_by tell.seen tell.leaves new (repaged w (passed-pages w) e r)
-  passed-fits e r w f = moved-fits tell old new w f (parts new).pools (parts new).directory same only
+  passed-fits e r told w f = moved-fits tell old new w f (parts new).pools (parts new).directory same only
       (good Pending.Idle w.scene.state f.good) (passed-pages w) (bounds_after w.bounds e r)
       (placed-pages (parts new).pools (parts new).directory (tell.seen old.rig) (tell.leaves old.rig) (parts old) w f frames p
       (row (w.pages.entry p)) None
       (subst (λ (x : PageEntry). IsSet p (row x) None (parts old).directory (parts new).directory) (sym (f.pages.entry p)) set)
       (λ there. ap is_lost (f.pages.entry p) ∙ found))
-      (bounds-stay (tell.seen old.rig) (parts old) w.bounds e r f.bounds)
+      (bounds-stay (tell.seen old.rig) (parts old) w.bounds e r told f.bounds)
 
   -- and the event is served that turns it so
   pub passed-served : ((img : rig.DeviceImages) → tell.since old.rig (tell.moment old.rig) img → rig.Leaves (tell.leaves old.rig) img)
-      → (e : Event) (r : Reply) → FaultsAre e r (tell.faults old.rig) (tell.faults new.rig)
+      → (e : Event) (r : Reply) → TellsNoPlace r → FaultsAre e r (tell.faults old.rig) (tell.faults new.rig)
       → ((w : Core) → fits_by tell.seen tell.leaves old w → Turns w e r (repaged w (passed-pages w) e r))
       → Serving tell e (Some r) old new
-  passed-served now e r faults turns = (
+  passed-served now e r told faults turns = (
     (λ w f. (
       repaged w (passed-pages w) e r,
-      still-serves tell e r old new w (repaged w (passed-pages w) e r) (sym same) now f (turns w f) (passed-fits e r w f),
+      still-serves tell e r old new w (repaged w (passed-pages w) e r) (sym same) now f (turns w f) (passed-fits e r told w f),
     )),
     faults,
   )

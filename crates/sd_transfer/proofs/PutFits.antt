@@ -19,7 +19,7 @@ use Rattle.sd_state.specs.Parts.{Parts, owed_at, status_at, txns_at}
 use Rattle.sd_state.specs.Sums.{great_of, owed_in_all, owes_most}
 use Rattle.sd_state.specs.Tables.{tells_log}
 use Rattle.sd_state.specs.Values.{Pending}
-use Rattle.sd_fits.specs.Fits.{AreWithin, Fits, FitsBounds, FitsDoubts, FitsPages, capacities}
+use Rattle.sd_fits.specs.Fits.{AreAtLeast, AreWithin, Fits, FitsBounds, FitsDoubts, FitsPages, capacities}
 use Rattle.sd_fits.proofs.Doubts.{doubts-kept, same-doubts}
 use Rattle.sd_fits.proofs.Forcing.{masters-left, no-more}
 
@@ -52,6 +52,8 @@ module _ (loose : Bool) (places : DirectoryState Page) (seen seen' : rig.DeviceI
   put-bounds kept b f = record {
     slots = λ moved keeps p. subst (λ (x : Page). AreWithin (capacities x) (b.slots p)) (sym (versions moved keeps p))
         (f.slots moved keeps p);
+    least = λ moved keeps p. subst (λ (x : Page). AreAtLeast (capacities x) (b.least p)) (sym (versions moved keeps p))
+        (f.least moved keeps p);
     reach = f.reach;
     lsns = no-more (great_of c) (owed_in_all there) (owed_in_all c) b.lsns
         (sum-less (owes_most there) (owes_most c) 8 (λ j lo hi. owes-same j lo)) f.lsns;

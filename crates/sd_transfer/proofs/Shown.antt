@@ -68,7 +68,7 @@ module _ {G : Type 0} (tell : Telling G) (c : Complex G) (p : ℕ)
     (λ w f. (
       passed w w.scene.waits event answer,
       still-serves tell event answer c c w (passed w w.scene.waits event answer) refl now f (turns w f)
-          (nothing-fits (parts c).locks w.scene.waits event answer (tell.seen c.rig) (tell.leaves c.rig) (parts c) w f),
+          (nothing-fits (parts c).locks w.scene.waits event answer (tell.seen c.rig) (tell.leaves c.rig) (parts c) w f tt),
     )),
     refl,
   )

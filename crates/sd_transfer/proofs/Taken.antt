@@ -1,13 +1,11 @@
 -- A take serves its event: for the goals of taking.rt.
-use Rattle.std.proofs.Common.{◌≡◌, ℕ, ◌≤◌, true, false, refl, sym, ap, ◌∙◌, eqb-true}
+use Rattle.std.proofs.Common.{◌≡◌, ℕ, ◌≤◌, true, false, [], ◌∷◌, refl, sym, ap, ◌∙◌, eqb-true}
 use Rattle.std.specs.Prelude.{None, Some}
 use Rattle.sd_base.specs.Sets.{has}
-use Rattle.sd_base.specs.declared.place.Place.{Place}
 use Rattle.sd_base.specs.declared.refusal.Refusal.{Refusal}
 use Rattle.sd_base.specs.declared.refusal.Refusal.TheVariants as R
 use Rattle.sd_page.specs.Page.{Page}
 use Rattle.sd_rig.specs.Devices.{DeviceImages, Leaves}
-use Rattle.sd_model.specs.Applies.{MayServe}
 use Rattle.sd_model.specs.Causes.{order}
 use Rattle.sd_model.specs.State.{State}
 use Rattle.sd_model.specs.declared.cause.Cause.{Cause}
@@ -15,11 +13,11 @@ use Rattle.sd_model.specs.declared.event.Event.{Event}
 use Rattle.sd_model.specs.declared.event.Event.TheVariants.{Take}
 use Rattle.sd_model.specs.declared.event.Reply.TheVariants as reply
 use Rattle.sd_pagelock.specs.Directory.{asks_at, entry_at}
-use Rattle.sd_pagelock.specs.Places.{Formed, PageEntry, holds, is_lost, receives, seen}
+use Rattle.sd_pagelock.specs.Places.{Formed, PageEntry, holds, is_lost, receives}
 use Rattle.sd_pagelock.specs.Rows.{taken}
 use Rattle.sd_pool.specs.Buffers as buffers
 use Rattle.sd_pool.specs.Buffers.{Buffers, IsPool, with_page}
-use Rattle.sd_world.specs.PageCauses.{IsAway, IsLostFor, NoneSays, PoolIsFull}
+use Rattle.sd_world.specs.PageCauses.{IsAway, NoneSays, PoolIsFull}
 use Rattle.sd_world.specs.Pages.{held_count, page_placed}
 use Rattle.sd_world.specs.Serving.{Core, Serves, Telling, refused}
 use Rattle.sd_state.specs.Complexes.{parts}
@@ -32,11 +30,12 @@ use Rattle.sd_fits.specs.Serving.{Serving, fits_by, stands_for}
 use Rattle.sd_fits.proofs.Frames.{frames-held, frames-left}
 use Rattle.sd_transfer.proofs.PassFits.{kept-spared, passed-served}
 use Rattle.sd_fits.proofs.Places.{frames-kept, turns-repaged}
-use Rattle.sd_fits.proofs.Refused.{IsFor, active-serves, idle-refuses, refused-serves, unlike}
+use Rattle.sd_fits.proofs.Refused.{IsFor, refused-serves, unlike}
 use Rattle.sd_fits.proofs.Served.{none-ended}
 use Rattle.sd_moves.specs.Places.{IsAsked, with_directory}
 use Rattle.sd_transfer.specs.Paging.{OnlyPages}
 use Rattle.sd_transfer.specs.Taking.{IsUntaken, MayTake}
+use Rattle.sd_transfer.proofs.Barred.{IsPaging, IsUnbarred, away-served, barred-served, unbarred}
 use Rattle.sd_transfer.proofs.Fetched.{not-copied}
 
 -- the receiver of a page has no copy of it
@@ -50,6 +49,21 @@ receiver-lacks i PageEntry.Lost formed comes = absurd (cc)
 -- but for pools and directory a complex stays that is given both
 pub only-pages : (old new : Parts) (i : ℕ) (pool : Buffers) → new ≡ with_place i pool new.directory old → OnlyPages old new
 only-pages old new i pool is = is ∙ ap (λ (k : Parts). record old { pools = k.pools; directory = new.directory }) (sym is)
+
+-- a take is an event of its page
+pub of-take : (i p : ℕ) → IsPaging (Take i p) i p
+of-take i p = record {
+  rest = Cause.Away ∷ Cause.Frame ∷ [];
+  order = refl;
+  nobodys = refl;
+  serve = λ m active. active;
+  serves = λ m active. active;
+  page = λ m. tt;
+  lose = λ m w lost. lost;
+  loses = λ m w lost. lost;
+  unused = λ m r. tt;
+  quiet = λ n. refl;
+}
 
 module _ {G : Type 0} (tell : Telling G) (c : Complex G) (i p : ℕ) (low : 1 ≤ i) (high : i ≤ 8)
     (now : (img : DeviceImages) → tell.since c.rig (tell.moment c.rig) img → Leaves (tell.leaves c.rig) img) where
@@ -65,14 +79,8 @@ module _ {G : Type 0} (tell : Telling G) (c : Complex G) (i p : ℕ) (low : 1 �
     abbrev m : State
     m = w.scene.state
 
-    stands : is_active (parts c) i ≡ true → (MayServe m event → ⊥) → ⊥
-    stands active none = none (active-serves (tell.seen c.rig) (tell.leaves c.rig) (parts c) w f i low high active)
-
-    falls : is_active (parts c) i ≡ false → MayServe m event → ⊥
-    falls idle is = idle-refuses (tell.seen c.rig) (tell.leaves c.rig) (parts c) w f i low high idle is
-
-    found : is_lost here ≡ false → IsLostFor m w.pages event → ⊥
-    found is lost = unlike is (sym (ap is_lost (f.pages.entry p)) ∙ lost)
+    its : is_active (parts c) i ≡ true → is_lost here ≡ false → IsUnbarred m w.pages event
+    its active not_lost = unbarred (of-take i p) tell c low high w f active not_lost
 
     comes : receives here i ≡ true → IsAway m w.pages event → ⊥
     comes is away = unlike away (ap (λ (e : PageEntry). receives e i) (f.pages.entry p) ∙ is)
@@ -86,55 +94,6 @@ module _ {G : Type 0} (tell : Telling G) (c : Complex G) (i p : ℕ) (low : 1 �
     refused-so : (n : Refusal) (cause : Cause) → IsFor m w event n cause → Refuses n
     refused-so n cause is = refused-serves tell c now w f event n cause is
 
-    down : is_active (parts c) i ≡ false → IsFor m w event R.Down Cause.Down
-    down idle = record {
-      waits = refl;
-      whom = tt;
-      unused = tt;
-      allowed = tt;
-      names = refl;
-      tells = tt;
-      first = (refl, (f.good.not_closed, tt), falls idle);
-      refuses = refl;
-      passes = (tt, tt);
-      says = λ never. absurd (cc);
-      place = tt;
-      left = refl;
-    }
-
-    lost : is_active (parts c) i ≡ true → is_lost here ≡ true → IsFor m w event R.Lost Cause.Lost
-    lost active is = record {
-      waits = refl;
-      whom = tt;
-      unused = tt;
-      allowed = tt;
-      names = refl;
-      tells = tt;
-      first = (refl, (f.good.not_closed, (stands active, tt)), tt);
-      refuses = refl;
-      passes = (tt, (tt, tt));
-      says = λ yes. ap is_lost (f.pages.entry p) ∙ is;
-      place = tt;
-      left = refl;
-    }
-
-    away : (place : Place) → is_active (parts c) i ≡ true → is_lost here ≡ false → receives here i ≡ false → seen place ≡ here
-        → IsFor m w event (R.NeedPage place) Cause.Away
-    away place active not_lost lacks is = record {
-      waits = refl;
-      whom = tt;
-      unused = tt;
-      allowed = tt;
-      names = refl;
-      tells = tt;
-      first = (refl, (f.good.not_closed, (stands active, (tt, tt))), tt);
-      refuses = refl;
-      passes = (tt, (tt, (found not_lost, tt)));
-      says = λ yes. ap (λ (e : PageEntry). receives e i) (f.pages.entry p) ∙ lacks;
-      place = is ∙ sym (f.pages.entry p);
-      left = refl;
-    }
-
     full : MayTake (parts c) i p → w.pages.frames ≤ held_count w.pages.entry i 1024 → IsFor m w event R.PoolFull Cause.Frame
     full may all = record {
       waits = refl;
@@ -143,20 +102,18 @@ module _ {G : Type 0} (tell : Telling G) (c : Complex G) (i p : ℕ) (low : 1 �
       allowed = tt;
       names = refl;
       tells = tt;
-      first = (refl, (f.good.not_closed, (stands may.active, (tt, (tt, tt)))), tt);
+      first = (refl, (f.good.not_closed, ((its may.active may.found).serves, (tt, (tt, tt)))), tt);
       refuses = refl;
-      passes = (tt, (tt, (found may.found, (comes may.receiver, tt))));
+      passes = (tt, (tt, ((its may.active may.found).found, (comes may.receiver, tt))));
       says = λ yes. all;
       place = tt;
       left = refl;
     }
 
   pub take-refused : (n : Refusal) → IsUntaken (parts c) i p n → Serving tell event (refused n) c c
-  take-refused R.Down why = ((λ w f. refused-so w f R.Down Cause.Down (down w f why)), refl)
-  take-refused R.Lost why = ((λ w f. refused-so w f R.Lost Cause.Lost (lost w f why.0 why.1)), refl)
-  take-refused (R.NeedPage place) why =
-      ((λ w f. refused-so w f (R.NeedPage place) Cause.Away (away w f place why.0 why.1 why.2 why.3)), refl)
-  take-refused n why = absurd why
+  take-refused (R.NeedPage place) why = away-served (of-take i p) tell c low high now refl place why.0 why.1
+      (λ w f. (ap (λ (e : PageEntry). receives e i) (f.pages.entry p) ∙ why.2, why.3 ∙ sym (f.pages.entry p)))
+  take-refused n why = barred-served (of-take i p) tell c low high now n why
 
   -- ---- the page moves to the instance
 
@@ -184,7 +141,7 @@ module _ {G : Type 0} (tell : Telling G) (c : Complex G) (i p : ℕ) (low : 1 �
           i 1024 low high pool past (λ all. room (no-copy w f, all)) lacks
 
       none : (w : Core) (f : fits_by tell.seen tell.leaves c w) → NoneSays (m w f) w.pages event (order event)
-      none w f = (tt, (tt, (found w f may.found, (comes w f may.receiver, (roomy w f, tt)))))
+      none w f = (tt, (tt, ((its w f may.active may.found).found, (comes w f may.receiver, (roomy w f, tt)))))
 
       module _ (new : Complex G) (same : new.rig ≡ c.rig)
           (good : (pend : Pending) (m : State) → Good (tell.seen c.rig) (tell.leaves c.rig) pend (parts c) m
@@ -198,9 +155,9 @@ module _ {G : Type 0} (tell : Telling G) (c : Complex G) (i p : ℕ) (low : 1 �
             (only-pages (parts c) (parts new) i (with_page (pool_at (parts c) i) p image) is)
             (λ j. ap (λ (k : Parts). (pool_at k j).frames) is
             ∙ frames-kept (parts c) i (with_page (pool_at (parts c) i) p image) (parts new).directory low high f.good.shape.pools refl j)
-            good set may.found now event reply.Did (ap tell.faults same)
+            good set may.found now event reply.Did tt (ap tell.faults same)
             (λ w f. turns-repaged w (page_placed p (taken (w.pages.entry p)) w.pages) event reply.Did
-            ((f.good.not_closed, (stands w f may.active, (tt, (tt, (tt, tt))))), refl)
+            ((f.good.not_closed, ((its w f may.active may.found).serves, (tt, (tt, (tt, tt))))), refl)
             (λ t. sym (none-ended (tell.seen c.rig) (tell.leaves c.rig) (parts c) w f t))
             tt tt (none w f, refl) tt)
 

@@ -114,7 +114,7 @@ module _ {G : Type 0} (tell : Telling G) (c mid : Complex G) (i : ℕ) (e : Even
             (tell.leaves mid.rig) (parts c) versions kept w f w.pages (bounds_after w.bounds e answer)
             (subst (λ (k : Parts). Good (tell.seen mid.rig) (tell.leaves mid.rig) Pending.Idle k w.scene.state) is
             (good-then w f))
-            (same-pages w f) (bounds-stay (tell.seen c.rig) (parts c) w.bounds e answer f.bounds));
+            (same-pages w f) (bounds-stay (tell.seen c.rig) (parts c) w.bounds e answer tt f.bounds));
         passes = passes-on w f;
       },
     ),

@@ -2,12 +2,10 @@
 use Rattle.std.proofs.Common.{◌≡◌, ◌≢◌, inl, ⊎_elim, ℕ, ◌≤◌, Bool, true, false, cond, List, [], ◌∷◌, refl, sym, ap, ◌∙◌, subst, arith, eq-eqb, ne_eqb}
 use Rattle.std.specs.Prelude.{◌||◌, None, Some}
 use Rattle.std.proofs.lemmas.Bool.{cases_eq}
-use Rattle.sd_base.specs.declared.place.Place.{Place}
 use Rattle.sd_base.specs.declared.refusal.Refusal.{Refusal}
 use Rattle.sd_base.specs.declared.refusal.Refusal.TheVariants as R
 use Rattle.sd_rig.specs.Devices.{DeviceImages, Elapses, Leaves, LeavesSame, Span}
 use Rattle.sd_chain.specs.Records.{Each}
-use Rattle.sd_model.specs.Applies.{First, MayServe}
 use Rattle.sd_model.specs.State.{State}
 use Rattle.sd_model.specs.declared.cause.Cause.{Cause}
 use Rattle.sd_model.specs.declared.event.Event.{Event}
@@ -16,14 +14,14 @@ use Rattle.sd_model.specs.declared.event.Reply.TheVariants as reply
 use Rattle.sd_moves.specs.Putting.{SameVersions, with_written}
 use Rattle.sd_pagelock.specs.Asks.{is_open_ask, open_asks}
 use Rattle.sd_pagelock.specs.Directory.{asks_at, entry_at}
-use Rattle.sd_pagelock.specs.Places.{PageEntry, changed, is_lost, seen}
+use Rattle.sd_pagelock.specs.Places.{PageEntry, changed, is_lost}
 use Rattle.sd_pagelock.specs.Rows.{may_write, written}
 use Rattle.sd_pagelock.specs.declared.queue.Ask.{Ask}
 use Rattle.sd_pagelock.proofs.Uses.{clean-written}
 use Rattle.sd_world.specs.Bounds.{bounds_after}
-use Rattle.sd_world.specs.PageCauses.{IsAway, IsLostFor}
+use Rattle.sd_world.specs.PageCauses.{IsAway}
 use Rattle.sd_world.specs.Pages.{Pages, is_duty, page_placed, put}
-use Rattle.sd_world.specs.Serving.{Core, Passes, Serves, Telling, Turns, refused}
+use Rattle.sd_world.specs.Serving.{Core, Passes, Telling, Turns, refused}
 use Rattle.sd_state.specs.Complexes.{parts}
 use Rattle.sd_state.specs.Forcing.{KeepMasters}
 use Rattle.sd_state.specs.Good.{Good}
@@ -37,9 +35,10 @@ use Rattle.sd_fits.specs.Fits.{Fits, FitsPages}
 use Rattle.sd_fits.specs.Serving.{Serving, fits_by, stands_for}
 use Rattle.sd_fits.proofs.Places.{placed-pages, repaged, turns-repaged}
 use Rattle.sd_fits.proofs.Served.{bounds-stay, none-ended, still-serves}
-use Rattle.sd_fits.proofs.Refused.{IsFor, active-serves, idle-refuses, refused-serves, unlike}
+use Rattle.sd_fits.proofs.Refused.{unlike}
 use Rattle.sd_transfer.specs.Breaking.{BreaksBy}
 use Rattle.sd_transfer.specs.Writing.{IsWriters, IsWritten, StaysUnwritten}
+use Rattle.sd_transfer.proofs.Barred.{IsPaging, IsUnbarred, away-served, barred-served, unbarred}
 use Rattle.sd_transfer.proofs.PutFits.{put-fits}
 use Rattle.sd_transfer.proofs.Settled.{settled-page}
 
@@ -79,6 +78,21 @@ asks-stay active e (ask ∷ asks) all =
 
 -- ---- the event
 
+-- a page write is an event of its page
+pub of-flush : (i p : ℕ) → IsPaging (Flush i p) i p
+of-flush i p = record {
+  rest = Cause.Away ∷ Cause.Rig ∷ [];
+  order = refl;
+  nobodys = refl;
+  serve = λ m active. active;
+  serves = λ m active. active;
+  page = λ m. tt;
+  lose = λ m w lost. lost;
+  loses = λ m w lost. lost;
+  unused = λ m r. tt;
+  quiet = λ n. refl;
+}
+
 module _ {G : Type 0} (tell : Telling G) (c : Complex G) (i p : ℕ) (low : 1 ≤ i) (high : i ≤ 8) where
   abbrev here : PageEntry
   here = entry_at (parts c).directory p
@@ -92,74 +106,19 @@ module _ {G : Type 0} (tell : Telling G) (c : Complex G) (i p : ℕ) (low : 1 �
     abbrev m : State
     m = w.scene.state
 
-    stands : is_active (parts c) i ≡ true → (MayServe m event → ⊥) → ⊥
-    stands active none = none (active-serves (tell.seen c.rig) (tell.leaves c.rig) (parts c) w f i low high active)
-
-    found : is_lost here ≡ false → IsLostFor m w.pages event → ⊥
-    found is lost = unlike is (sym (ap is_lost (f.pages.entry p)) ∙ lost)
+    its : is_active (parts c) i ≡ true → is_lost here ≡ false → IsUnbarred m w.pages event
+    its active not_lost = unbarred (of-flush i p) tell c low high w f active not_lost
 
     there : is_duty i here ≡ true → IsAway m w.pages event → ⊥
     there is away = unlike away (ap (is_duty i) (f.pages.entry p) ∙ is)
-
-    down : is_active (parts c) i ≡ false → IsFor m w event R.Down Cause.Down
-    down idle = record {
-      waits = refl;
-      whom = tt;
-      unused = tt;
-      allowed = tt;
-      names = refl;
-      tells = tt;
-      first = (refl, (f.good.not_closed, tt), idle-refuses (tell.seen c.rig) (tell.leaves c.rig) (parts c) w f i low high idle);
-      refuses = refl;
-      passes = (tt, tt);
-      says = λ never. absurd (cc);
-      place = tt;
-      left = refl;
-    }
-
-    lost : is_active (parts c) i ≡ true → is_lost here ≡ true → IsFor m w event R.Lost Cause.Lost
-    lost active is = record {
-      waits = refl;
-      whom = tt;
-      unused = tt;
-      allowed = tt;
-      names = refl;
-      tells = tt;
-      first = (refl, (f.good.not_closed, (stands active, tt)), tt);
-      refuses = refl;
-      passes = (tt, (tt, tt));
-      says = λ yes. ap is_lost (f.pages.entry p) ∙ is;
-      place = tt;
-      left = refl;
-    }
-
-    away : (place : Place) → is_active (parts c) i ≡ true → is_lost here ≡ false → is_duty i here ≡ false → seen place ≡ here
-        → IsFor m w event (R.NeedPage place) Cause.Away
-    away place active not_lost lacks is = record {
-      waits = refl;
-      whom = tt;
-      unused = tt;
-      allowed = tt;
-      names = refl;
-      tells = tt;
-      first = (refl, (f.good.not_closed, (stands active, (tt, tt))), tt);
-      refuses = refl;
-      passes = (tt, (tt, (found not_lost, tt)));
-      says = λ yes. ap (is_duty i) (f.pages.entry p) ∙ lacks;
-      place = is ∙ sym (f.pages.entry p);
-      left = refl;
-    }
-
-    first-rig : is_active (parts c) i ≡ true → First m event Cause.Rig
-    first-rig active = (refl, (f.good.not_closed, (stands active, (tt, (tt, tt)))), tt)
 
     pub flush-breaks : IsWriters (parts c) i p → BreaksBy i event w
     flush-breaks may = record {
       nobodys = refl;
       falls = refl;
       uncounted = refl;
-      first = first-rig may.active;
-      passes = (tt, (tt, (found may.found, (there may.duty, tt))));
+      first = (refl, (f.good.not_closed, ((its may.active may.found).serves, (tt, (tt, tt)))), tt);
+      passes = (tt, (tt, ((its may.active may.found).found, (there may.duty, tt))));
       did = refl;
       unused = tt;
     }
@@ -170,25 +129,17 @@ module _ {G : Type 0} (tell : Telling G) (c : Complex G) (i p : ℕ) (low : 1 �
     -- the write is done, and the page is clean
     done-turns : IsWriters (parts c) i p → Turns w event reply.Did (repaged w pages event reply.Did)
     done-turns may = turns-repaged w pages event reply.Did
-        ((f.good.not_closed, (stands may.active, (tt, (tt, (tt, tt))))), refl)
+        ((f.good.not_closed, ((its may.active may.found).serves, (tt, (tt, (tt, tt))))), refl)
         (λ t. sym (none-ended (tell.seen c.rig) (tell.leaves c.rig) (parts c) w f t))
-        tt tt ((tt, (tt, (found may.found, (there may.duty, (tt, tt))))), refl) tt
+        tt tt ((tt, (tt, ((its may.active may.found).found, (there may.duty, (tt, tt))))), refl) tt
 
   -- ---- refused at once
 
   module _ (now : (img : DeviceImages) → tell.since c.rig (tell.moment c.rig) img → Leaves (tell.leaves c.rig) img) where
-    refused-so : (n : Refusal) (cause : Cause) (w : Core) (f : fits_by tell.seen tell.leaves c w) → IsFor w.scene.state w event
-        n cause
-        → (w' : Core) × Serves {C = Complex G} tell stands_for (λ k. k.rig) (fits_by tell.seen tell.leaves) event
-        (reply.Refused n) c c w w'
-    refused-so n cause w f is = refused-serves tell c now w f event n cause is
-
     pub flush-refused : (n : Refusal) → StaysUnwritten (parts c) i p n → Serving tell event (refused n) c c
-    flush-refused R.Down why = ((λ w f. refused-so R.Down Cause.Down w f (down w f why)), refl)
-    flush-refused R.Lost why = ((λ w f. refused-so R.Lost Cause.Lost w f (lost w f why.0 why.1)), refl)
-    flush-refused (R.NeedPage place) why =
-        ((λ w f. refused-so (R.NeedPage place) Cause.Away w f (away w f place why.0 why.1 why.2 why.3)), refl)
-    flush-refused n why = absurd why
+    flush-refused (R.NeedPage place) why = away-served (of-flush i p) tell c low high now refl place why.0 why.1
+        (λ w f. (ap (is_duty i) (f.pages.entry p) ∙ why.2, why.3 ∙ sym (f.pages.entry p)))
+    flush-refused n why = barred-served (of-flush i p) tell c low high now n why
 
     -- ---- a page that isn't changed
 
@@ -220,7 +171,7 @@ module _ {G : Type 0} (tell : Telling G) (c : Complex G) (i p : ℕ) (low : 1 �
           number = λ q there. f.pages.number q (ap is_lost (f.pages.entry q ∙ sym (entries q)) ∙ there);
           begun = f.pages.begun;
         };
-        bounds = bounds-stay (tell.seen c.rig) (parts c) w.bounds event reply.Did f.bounds;
+        bounds = bounds-stay (tell.seen c.rig) (parts c) w.bounds event reply.Did tt f.bounds;
         doubts = f.doubts;
       }
         where
@@ -280,7 +231,7 @@ module _ {G : Type 0} (tell : Telling G) (c : Complex G) (i p : ℕ) (low : 1 �
           (parts c)
           versions kept w f (pages w f) (bounds_after w.bounds event reply.Did)
           (subst (λ (k : Parts). Good (tell.seen mid.rig) (tell.leaves mid.rig) Pending.Idle k w.scene.state) is (good-then w f))
-          (done-pages w f) (bounds-stay (tell.seen c.rig) (parts c) w.bounds event reply.Did f.bounds))
+          (done-pages w f) (bounds-stay (tell.seen c.rig) (parts c) w.bounds event reply.Did tt f.bounds))
 
       pub put-served : Serving tell event (Some reply.Did) c mid
       put-served = (

@@ -7,6 +7,7 @@ use Rattle.sd_pagelock.specs.Asks.{oldest}
 use Rattle.sd_pagelock.specs.Directory.{asks_at, entry_at}
 use Rattle.sd_pagelock.specs.Places.{holds, is_lost, owns, passes, receives, seen}
 use Rattle.sd_state.specs.Parts.{Parts, is_active, is_loose, log_at}
+use Rattle.sd_transfer.specs.Barring.{IsBarred}
 
 -- The instance is active and has a copy of the page, which is neither lost nor on its way; `to` asks in this mode, and no other's
 -- ask is older.
@@ -19,8 +20,6 @@ pub record MayGive (c : Parts) (j p to : ℕ) (mode : Mode) : Type 0 where
 
 -- instance j doesn't give page p for this cause, and no cause before it applies
 abbrev pub IsUngiven : Parts → ℕ → ℕ → Refusal → Type 0
-IsUngiven c j p R.Down = is_active c j ≡ false
-IsUngiven c j p R.Lost = (is_active c j ≡ true) × (is_lost (entry_at c.directory p) ≡ true)
 IsUngiven c j p (R.MovingTo to) =
     (is_active c j ≡ true) × (is_lost (entry_at c.directory p) ≡ false) × (passes (entry_at c.directory p) ≡ true)
     × (receives (entry_at c.directory p) to ≡ true)
@@ -30,7 +29,7 @@ IsUngiven c j p (R.NeedPage place) =
 IsUngiven c j p R.NotAsked =
     (is_active c j ≡ true) × (is_lost (entry_at c.directory p) ≡ false) × (passes (entry_at c.directory p) ≡ false)
     × (holds (entry_at c.directory p) j ≡ true) × (oldest j (asks_at c.directory p) ≡ None)
-IsUngiven c j p n = ⊥
+IsUngiven c j p n = IsBarred c j p n
 
 -- where the instance has the page alone, its log is forced, unless that isn't settled
 abbrev pub IsForcedFor : Parts → ℕ → ℕ → Parts → Type 0

@@ -1,4 +1,5 @@
 pub mod Asking
+pub mod Barring
 pub mod Evicting
 pub mod Paging
 pub mod Taking

@@ -12,15 +12,14 @@ use Rattle.sd_chain.specs.Logs.{Outcomes, tail_at}
 use Rattle.sd_world.specs.Pages.{is_duty}
 use Rattle.sd_state.specs.Laws.{newest_of}
 use Rattle.sd_state.specs.Parts.{Parts, is_active, is_loose, log_at}
+use Rattle.sd_transfer.specs.Barring.{IsBarred}
 
 -- page p isn't written for instance i for this cause, and no cause before it applies
 abbrev pub StaysUnwritten : Parts → ℕ → ℕ → Refusal → Type 0
-StaysUnwritten c i p R.Down = is_active c i ≡ false
-StaysUnwritten c i p R.Lost = (is_active c i ≡ true) × (is_lost (entry_at c.directory p) ≡ true)
 StaysUnwritten c i p (R.NeedPage place) =
     (is_active c i ≡ true) × (is_lost (entry_at c.directory p) ≡ false) × (is_duty i (entry_at c.directory p) ≡ false)
     × (seen place ≡ entry_at c.directory p)
-StaysUnwritten c i p n = ⊥
+StaysUnwritten c i p n = IsBarred c i p n
 
 -- The instance is active, the page isn't lost, and its write is the instance's.
 pub record IsWriters (c : Parts) (i p : ℕ) : Type 0 where

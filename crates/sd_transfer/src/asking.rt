@@ -19,6 +19,7 @@ ghost use Rattle.sd_transfer.specs.Asking.{IsUnserved, MayAsk};
 ghost use Rattle.sd_world.specs.Pages.{answerer, lowest_of};
 ghost use Rattle.sd_world.specs.Serving.{Core, answered, had_or_asked, telling};
 
+use crate::barring::place_for;
 use sd_base::{InstNo, InstSet, Mode, PageNo, Place, Refusal};
 use sd_moves::{queue_ask, raise};
 use sd_pagelock::rows;
@@ -72,13 +73,7 @@ fn may_ask<G: Rig>(c: &Complex<G>, i: InstNo, p: PageNo) -> Result<Place, Refusa
     ensures may { OnOk result (MayAsk (parts c.now) i p) }
     ensures refused { IfErr result (λ n. IsUnserved (parts c.now) i p n) }
 {
-    if !c.status(i).is_active(i) {
-        return Err(Refusal::Down);
-    }
-    let place = c.entry(p);
-    if rows::is_lost(&place) {
-        return Err(Refusal::Lost);
-    }
+    let place = place_for(c, i, p)?;
     match place {
         Place::Moving { to, .. } => Err(Refusal::MovingTo { to }),
         _ => Ok(place),

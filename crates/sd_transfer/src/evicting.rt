@@ -12,6 +12,7 @@ ghost use Rattle.sd_state.specs.Parts.{is_active, IsShape};
 ghost use Rattle.sd_transfer.specs.Evicting.{StaysFor};
 ghost use Rattle.sd_world.specs.Serving.{Core, did, telling};
 
+use crate::barring::place_for;
 use sd_base::{InstNo, PageNo, Refusal};
 use sd_moves::drop_copy;
 use sd_pagelock::rows;
@@ -41,13 +42,7 @@ fn may_go<G: Rig>(c: &Complex<G>, i: InstNo, p: PageNo) -> Result<(), Refusal>
     ensures spare { OnOk result (may_evict i (entry_at (parts c.now).directory p) ≡ true) }
     ensures refused { IfErr result (λ n. StaysFor (parts c.now) i p n) }
 {
-    if !c.status(i).is_active(i) {
-        return Err(Refusal::Down);
-    }
-    let place = c.entry(p);
-    if rows::is_lost(&place) {
-        return Err(Refusal::Lost);
-    }
+    let place = place_for(c, i, p)?;
     if !rows::holds(&place, i) {
         return Err(Refusal::NeedPage { place });
     }

@@ -26,6 +26,7 @@ ghost use Rattle.sd_world.specs.Serving.{Core, gave, telling};
 ghost use Rattle.sd_transfer.specs.Breaking.{BreaksBy};
 ghost use Rattle.sd_transfer.specs.Forcing.{OnlyLogs};
 
+use crate::barring::place_for;
 use crate::force_or_fall;
 use sd_base::{InstNo, Mode, PageNo, Place, Refusal};
 use sd_moves::{drop_copy, move_copy, raise};
@@ -64,13 +65,7 @@ fn may_give<G: Rig>(c: &Complex<G>, j: InstNo, p: PageNo) -> Result<(InstNo, Mod
     ensures may { IfOk result (λ asker. MayGive (parts c.now) j p asker.0 asker.1) }
     ensures refused { IfErr result (λ n. IsUngiven (parts c.now) j p n) }
 {
-    if !c.status(j).is_active(j) {
-        return Err(Refusal::Down);
-    }
-    let place = c.entry(p);
-    if rows::is_lost(&place) {
-        return Err(Refusal::Lost);
-    }
+    let place = place_for(c, j, p)?;
     if let Place::Moving { to, .. } = place {
         return Err(Refusal::MovingTo { to });
     }

@@ -23,6 +23,7 @@
 #![tactic(auto)]
 
 mod asking;
+mod barring;
 mod evicting;
 mod forcing;
 mod giving;

@@ -10,6 +10,7 @@ ghost use Rattle.sd_transfer.specs.Taking.{IsUntaken, MayTake};
 ghost use Rattle.sd_world.specs.Serving.{Core, did, telling};
 
 use crate::asking::lacks_frame;
+use crate::barring::place_for;
 use sd_base::{InstNo, PageNo, Refusal};
 use sd_moves::take_copy;
 use sd_pagelock::rows;
@@ -43,13 +44,7 @@ fn may_take<G: Rig>(c: &Complex<G>, i: InstNo, p: PageNo) -> Result<(), Refusal>
     ensures may { OnOk result (MayTake (parts c.now) i p) }
     ensures refused { IfErr result (λ n. IsUntaken (parts c.now) i p n) }
 {
-    if !c.status(i).is_active(i) {
-        return Err(Refusal::Down);
-    }
-    let place = c.entry(p);
-    if rows::is_lost(&place) {
-        return Err(Refusal::Lost);
-    }
+    let place = place_for(c, i, p)?;
     if !rows::receives(&place, i) {
         return Err(Refusal::NeedPage { place });
     }

@@ -16,6 +16,7 @@ ghost use Rattle.sd_world.specs.Pages.{is_duty};
 ghost use Rattle.sd_world.specs.Serving.{Core, did, telling};
 ghost use Rattle.sd_transfer.specs.Writing.{IsUnread, IsWriters, IsWritten, StaysUnwritten};
 
+use crate::barring::place_for;
 use crate::forcing::force_or_fall;
 use sd_base::{InstNo, PageNo, Place, Refusal};
 use sd_moves::{Unput, down, put_page};
@@ -54,13 +55,7 @@ fn may_put<G: Rig>(c: &Complex<G>, i: InstNo, p: PageNo) -> Result<(), Refusal>
     ensures may { OnOk result (IsWriters (parts c.now) i p) }
     ensures refused { IfErr result (λ n. StaysUnwritten (parts c.now) i p n) }
 {
-    if !c.status(i).is_active(i) {
-        return Err(Refusal::Down);
-    }
-    let place = c.entry(p);
-    if rows::is_lost(&place) {
-        return Err(Refusal::Lost);
-    }
+    let place = place_for(c, i, p)?;
     if !is_duty(i, &place) {
         return Err(Refusal::NeedPage { place });
     }

@@ -12,7 +12,7 @@ use Rattle.sd_base.specs.declared.ids.TxnId.{TxnId}
 use Rattle.sd_base.specs.declared.place.Status.TheVariants as S
 use Rattle.sd_logrec.specs.Kept.{master}
 use Rattle.sd_logrec.specs.View.{Rec, flat}
-use Rattle.sd_log.specs.Logs.{LogState, StandsOn, forced, last_lsn, needed, scanned, with_record}
+use Rattle.sd_log.specs.Logs.{LogState, StandsOn, begun_at, forced, last_lsn, needed, scanned, with_record}
 use Rattle.sd_logrec.specs.Spelling.{spelling}
 use Rattle.sd_page.specs.Page.{Page}
 use Rattle.sd_model.specs.Acts.{after, live}
@@ -68,7 +68,7 @@ use Rattle.sd_chain.proofs.Next.{epoch-others}
 use Rattle.sd_chain.proofs.Reserved.{tested-keeps}
 use Rattle.sd_update.specs.Changing.{Change, ChangeKeepsGood, HasRoom, IsChanged, MayAppend, MayWrite, changed_log, changed_row, flat_of, putting, update, with_changed}
 use Rattle.sd_state.specs.Good.{Good, Half, IsChecking, IsInstance, IsOfBegun, IsSettledAt, IsTold, OwesAtMost, RowsAreLive, base_of, dir_of}
-use Rattle.sd_state.specs.Images.{IsClaimed, IsEpochOf, IsOpenIn, begun_at, leaves_by, log_by}
+use Rattle.sd_state.specs.Images.{IsClaimed, IsEpochOf, IsOpenIn, leaves_by, log_by}
 use Rattle.sd_state.specs.Parts.{Begun, Parts, check_at, is_active, is_loose, log_at, no_log, no_pool, no_txns, other_at, owed_at, pool_at, status_at, txns_at, up_as, low_of}
 use Rattle.sd_state.specs.Sums.{owed_in_all, owes_most}
 use Rattle.sd_state.specs.Tables.{GoesOn, IsLive, IsLogged, NamedOnce, NamesLife, RowIsLive, RowIsLogged, StandsAs, goes_on_as, lock_of, tells_log}

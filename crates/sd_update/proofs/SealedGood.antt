@@ -14,7 +14,7 @@ use Rattle.sd_base.specs.Ids.{same_txn}
 use Rattle.sd_logrec.specs.Kept.{Whole, area, master, reading}
 use Rattle.sd_logrec.specs.View.{Rec, flat}
 use Rattle.sd_logrec.specs.declared.record.Record.{Record}
-use Rattle.sd_log.specs.Logs.{LogState, StandsOn, forced, last_lsn, scanned, with_record}
+use Rattle.sd_log.specs.Logs.{LogState, StandsOn, begun_at, forced, last_lsn, scanned, with_record}
 use Rattle.sd_model.specs.State.{Part, State}
 use Rattle.sd_model.specs.declared.act.Life.{Life}
 use Rattle.sd_rig.specs.Devices as rig
@@ -33,7 +33,7 @@ use Rattle.sd_chain.specs.Logs.{Outcomes, all_at, base_at, kept_logs, may_of, pa
 use Rattle.sd_chain.specs.Soundly.{IsSoundly}
 use Rattle.sd_chain.proofs.Appends.{appended-log}
 use Rattle.sd_state.specs.Good.{IsOlder, IsOfBegun, Good, Half, IsChecking, IsInstance, IsKnownLsn, IsSettledAt, IsTold, IsUnderWay, OwesAtMost}
-use Rattle.sd_state.specs.Images.{IsEpochOf, begun_at, leaves_by, log_by}
+use Rattle.sd_state.specs.Images.{IsEpochOf, leaves_by, log_by}
 use Rattle.sd_state.specs.Parts.{Begun, Parts, among, check_at, epoch_at, is_loose, log_at, no_log, no_txns, other_at, owed_at, status_at, txns_at, low_of}
 use Rattle.sd_update.specs.Sealing.{MaySeal}
 use Rattle.sd_state.specs.Tables.{GoesOn, IsInDoubt, NamesLife, RowIsLive, RowIsLogged, StandsAs, tells_log}

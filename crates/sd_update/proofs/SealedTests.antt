@@ -14,7 +14,7 @@ use Rattle.sd_logrec.specs.View.{Rec, flat, is_closing}
 use Rattle.sd_logrec.specs.View.Kind.{Plain}
 use Rattle.sd_logrec.specs.declared.record.Record.{Record}
 use Rattle.sd_logrec.specs.declared.record.Record.TheVariants as records
-use Rattle.sd_log.specs.Logs.{LogState, forced, last_lsn, needed, scanned, with_record}
+use Rattle.sd_log.specs.Logs.{LogState, begun_at, forced, last_lsn, needed, scanned, with_record}
 use Rattle.sd_model.specs.State.{State}
 use Rattle.sd_page.specs.Page.{Page}
 use Rattle.sd_rig.specs.Devices as rig
@@ -30,7 +30,7 @@ use Rattle.sd_chain.proofs.Appends.{appended-log}
 use Rattle.sd_chain.proofs.Next.{next_epoch-other}
 use Rattle.sd_chain.proofs.Owing.{plain-owes}
 use Rattle.sd_state.specs.Good.{Good, IsTold, OwesAtMost}
-use Rattle.sd_state.specs.Images.{begun_at, log_by}
+use Rattle.sd_state.specs.Images.{log_by}
 use Rattle.sd_state.specs.Parts.{Parts, epoch_at, is_loose, log_at, no_log, other_at, owed_at, status_at, txns_at, up_as}
 use Rattle.sd_update.specs.Sealing.{IsTestedFor, MayCheck, MaySeal, NoLsnLeft, NoRoomFor, with_more, with_start}
 use Rattle.sd_state.specs.Sums.{great_of, most_to, owed_in_all, owed_where, owes_most, sum_to}

@@ -13,7 +13,7 @@ use Rattle.sd_base.proofs.SameIds.{cases_txn}
 use Rattle.sd_logrec.specs.Kept.{master}
 use Rattle.sd_logrec.specs.View.{Rec, flat}
 use Rattle.sd_logrec.specs.declared.record.Record.{Record}
-use Rattle.sd_log.specs.Logs.{LogState, StandsOn, forced, last_lsn, scanned, with_record}
+use Rattle.sd_log.specs.Logs.{LogState, StandsOn, begun_at, forced, last_lsn, scanned, with_record}
 use Rattle.sd_model.specs.State.{Part, State}
 use Rattle.sd_model.specs.Claims.{Claims}
 use Rattle.sd_model.specs.Kept.{Kept}
@@ -51,7 +51,7 @@ use Rattle.sd_chain.proofs.Next.{epoch-others}
 use Rattle.sd_chain.proofs.Owing.{stack-there, undo-owes}
 use Rattle.sd_chain.proofs.Room.{clr-len}
 use Rattle.sd_state.specs.Good.{Good, Half, IsChecking, IsInstance, IsKnownLsn, IsOfBegun, IsSettledAt, IsTold, OwesAtMost, dir_of}
-use Rattle.sd_state.specs.Images.{begun_at, leaves_by, log_by}
+use Rattle.sd_state.specs.Images.{leaves_by, log_by}
 use Rattle.sd_state.specs.Parts.{Begun, Parts, check_at, is_active, is_loose, log_at, no_log, no_txns, other_at, owed_at, status_at, txns_at}
 use Rattle.sd_state.specs.Tables.{GoesOn, IsLive, IsLogged, NamedOnce, NamesLife, RowIsLive, RowIsLogged, StandsAs, lock_of, tells_log}
 use Rattle.sd_update.specs.Undoing.{HasTop, IsUndone, clr_at, lsn_for, with_undone_by}

@@ -7,7 +7,7 @@ use mathlib.Core.Path.{fun_ext}
 use Rattle.sd_base.specs.Ids.{same_txn}
 use Rattle.sd_base.specs.declared.ids.TxnId.{TxnId}
 use Rattle.sd_logrec.specs.View.{Rec, flat}
-use Rattle.sd_log.specs.Logs.{LogState}
+use Rattle.sd_log.specs.Logs.{LogState, begun_at}
 use Rattle.sd_model.specs.Acts.{after}
 use Rattle.sd_model.specs.State.{State}
 use Rattle.sd_model.specs.declared.act.Life.{Life}
@@ -30,7 +30,7 @@ use Rattle.sd_chain.proofs.LogsSettled.{fail-keeps}
 use Rattle.sd_chain.proofs.OneUpdater.{inactive-none}
 use Rattle.sd_chain.specs.Logs.{Outcomes, all_at, base_at, may_of, tail_at}
 use Rattle.sd_state.specs.Good.{Good, base_of, dir_of}
-use Rattle.sd_state.specs.Images.{begun_at, leaves_by, log_by}
+use Rattle.sd_state.specs.Images.{leaves_by, log_by}
 use Rattle.sd_state.specs.Parts.{Parts, is_active, is_loose, is_up, log_at, other_at, up_as}
 use Rattle.sd_base.specs.Standing.{active_as}
 use Rattle.sd_state.specs.Tables.{IsInDoubt, NamesLife, StandsAs}

@@ -1,6 +1,8 @@
 -- An example: instance 1 reads page 5 alone and changes it, instance 2 asks for it, it is given, taken, written and evicted, or instance 1
 -- falls and the page is lost; and a refusal of each kind that the pages decide, or that the sums allow.
-use Rattle.std.proofs.Common.{◌≡◌, inl, true, false, [], ◌∷◌, None, Some, refl, ap, arith}
+use Rattle.std.proofs.Common.{◌≡◌, inl, inr, ℕ, true, false, List, [], ◌∷◌, length, None, Some, refl, sym, ap, ◌∙◌, subst, arith}
+use Rattle.std.specs.Prelude.{pos}
+use Rattle.sd_base.specs.Ids.{same_rid, same_txn}
 use Rattle.sd_base.specs.declared.ids.TxnId.{TxnId}
 use Rattle.sd_base.specs.declared.ids.Rid.{Rid}
 use Rattle.sd_base.specs.declared.place.Mode.TheVariants as modes
@@ -8,13 +10,17 @@ use Rattle.sd_base.specs.declared.place.Place.TheVariants as coded
 use Rattle.sd_base.specs.declared.place.Status.TheVariants as Status
 use Rattle.sd_base.specs.declared.refusal.Refusal.TheVariants as R
 use Rattle.sd_model.specs.declared.cause.Cause.{Cause}
-use Rattle.sd_model.specs.declared.event.Event.TheVariants.{Write, Read, Ask, Give, Take, Evict, Flush, Fail, CheckEnd, Insert}
+use Rattle.sd_model.specs.declared.event.Event.TheVariants.{Add, Write, Read, Ask, Give, Take, Evict, Flush, Fail, CheckEnd, Insert}
 use Rattle.sd_model.specs.declared.event.Reply.TheVariants as reply
-use Rattle.sd_model.specs.State.{State, begun_part, fall, fresh}
+use Rattle.sd_model.specs.declared.act.Act.TheVariants.{Put}
+use Rattle.sd_model.specs.declared.act.Claim.{Claim}
+use Rattle.sd_model.specs.Numbers.{IsLongSum, IsNumberOf, IsSum}
+use Rattle.sd_model.specs.State.{State, begun_part, fall, fresh, took, view}
+use Rattle.sd_model.proofs.NumberTexts.{sums-short}
 use Rattle.sd_pagelock.specs.Places.{PageEntry}
 use Rattle.sd_world.specs.Pages.{Pages, asked, fell, held_count, numbered, page_placed}
 use Rattle.sd_world.specs.Answers.{Moves}
-use Rattle.sd_world.specs.Bounds.{Bounds, Within, bounds_after}
+use Rattle.sd_world.specs.Bounds.{Bounds, IsOver, Within, bounds_after}
 use Rattle.sd_world.proofs.Causes.{answer-clear, cause-said}
 
 -- all instances are up, and transactions run
@@ -186,10 +192,10 @@ refused_no_check = record {
 -- ---- sums
 
 abbrev near_end : Bounds
-near_end = record { slots = λ p. 900 ∷ 100 ∷ []; reach = λ i. 1048000; lsns = 4611686018427387900; masters = λ i. 0 }
+near_end = record { slots = λ p. 900 ∷ 100 ∷ []; least = λ p. 900 ∷ 100 ∷ []; reach = λ i. 1048000; lsns = 4611686018427387900; masters = λ i. 0 }
 
 abbrev far_from_end : Bounds
-far_from_end = record { slots = λ p. []; reach = λ i. 0; lsns = 0; masters = λ i. 0 }
+far_from_end = record { slots = λ p. []; least = λ p. []; reach = λ i. 0; lsns = 0; masters = λ i. 0 }
 
 full_page : Within up near_end (Insert one 5 [] 100) (reply.Refused R.PageFull)
 full_page = omega arith
@@ -206,6 +212,62 @@ has_room h = absurd (omega arith)
 -- a slot is known from its insert on
 one_slot : (bounds_after far_from_end (Insert one 5 [] 20) (reply.At r)).slots 5 ≡ 20 ∷ []
 one_slot = refl
+
+-- ---- a slot of capacity 8 whose record is 100
+
+abbrev eight : Bounds
+eight = bounds_after far_from_end (Insert one 5 (49 ∷ 48 ∷ 48 ∷ []) 8) (reply.At r)
+
+slot_of_eight : eight.least 5 ≡ 8 ∷ []
+slot_of_eight = refl
+
+abbrev hundred : State
+hundred = took one r Claim.Excl (Put r (Some (49 ∷ 48 ∷ 48 ∷ [])) ∷ []) up
+
+hundred_there : view hundred one r ≡ Some (49 ∷ 48 ∷ 48 ∷ [])
+unfolding same_txn same_rid
+hundred_there = refl
+
+hundred_is : IsNumberOf (49 ∷ 48 ∷ 48 ∷ []) (pos 100)
+hundred_is = (49 ∷ 48 ∷ 48 ∷ [], (refl, (((omega arith, omega arith, (omega arith, omega arith, (omega arith, omega arith, tt))), λ e. absurd (omega (arith, e))), refl)), omega arith)
+
+thousand_is : IsSum (49 ∷ 48 ∷ 48 ∷ []) (pos 900) (49 ∷ 48 ∷ 48 ∷ 48 ∷ [])
+thousand_is = (
+  49 ∷ 48 ∷ 48 ∷ 48 ∷ [],
+  (
+    pos 100,
+    hundred_is,
+    (refl, (((omega arith, omega arith, (omega arith, omega arith, (omega arith, omega arith, (omega arith, omega arith, tt)))), λ e. absurd (omega (arith, e))), refl)),
+  ),
+  omega arith,
+)
+
+hundred_in : (u : List ℕ) → view hundred one r ≡ Some u → 49 ∷ 48 ∷ 48 ∷ [] ≡ u
+hundred_in u e = let same = sym hundred_there ∙ e in cc
+
+-- the text of 1000 is longer than what is there, and takes that slot
+no_sum_over : IsOver hundred eight (Add one r (pos 900)) → ⊥
+no_sum_over (u, w, is, sum, over) =
+    let sums = sums-short (49 ∷ 48 ∷ 48 ∷ []) (pos 100) (pos 900) (pos 1000) hundred_is refl (omega arith) in
+    let same : w ≡ 49 ∷ 48 ∷ 48 ∷ 48 ∷ [] = sums.only w (subst (λ (v : List ℕ). IsSum v (pos 900) w) (sym (hundred_in u is)) sum)
+    ∙ sym (sums.only (49 ∷ 48 ∷ 48 ∷ 48 ∷ []) thousand_is) in
+    let four : length w ≡ 4 = ap (length {A = ℕ}) same in
+    absurd (omega (arith, over, four))
+
+no_sum_long : Within hundred eight (Add one r (pos 900)) (reply.Refused R.TooLong) → ⊥
+no_sum_long (inl long) = long
+no_sum_long (inr (inl many)) =
+    (sums-short (49 ∷ 48 ∷ 48 ∷ []) (pos 100) (pos 900) (pos 1000) hundred_is refl (omega arith)).short
+    (subst (λ (v : List ℕ). IsLongSum v (pos 900)) (sym (hundred_in many.0 many.1)) many.2)
+no_sum_long (inr (inr over)) = no_sum_over over
+
+-- nine bytes are too long for it
+too_long : Within hundred eight (Write one r (1 ∷ 2 ∷ 3 ∷ 4 ∷ 5 ∷ 6 ∷ 7 ∷ 8 ∷ 9 ∷ [])) (reply.Refused R.TooLong)
+too_long = inr (inr (49 ∷ 48 ∷ 48 ∷ [], 1 ∷ 2 ∷ 3 ∷ 4 ∷ 5 ∷ 6 ∷ 7 ∷ 8 ∷ 9 ∷ [], hundred_there, refl, omega arith))
+
+-- the slot is dead, and has a record of three bytes then: it has as many at least
+taken_again : (bounds_after eight (Insert one 5 [] 3) (reply.At r)).least 5 ≡ 3 ∷ []
+taken_again = refl
 
 -- ---- what no call may answer
 

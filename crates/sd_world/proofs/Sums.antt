@@ -1,5 +1,5 @@
 -- Sums don't fall, by an event and along a run. It serves the goals of `sums` in laws.rt.
-use Rattle.std.proofs.Common.{◌≡◌, ◌≢◌, ap, ◌∙◌, ne_eqb, ℕ, zero, suc, ◌+◌, ◌≤◌, Bool, true, false, cond, eqb, List, [], ◌∷◌, length, sym, subst, arith}
+use Rattle.std.proofs.Common.{◌≡◌, ◌≢◌, refl, ap, ◌∙◌, ne_eqb, ℕ, zero, suc, ◌+◌, ◌≤◌, Bool, true, false, cond, eqb, List, [], ◌∷◌, length, sym, subst, arith}
 use Rattle.std.specs.Prelude.{max, sum}
 use Rattle.std.proofs.lemmas.List.Sums.{sum_by-cons}
 use Rattle.sd_base.specs.declared.refusal.Refusal.TheVariants as R
@@ -9,7 +9,7 @@ use Rattle.sd_model.specs.declared.event.Event.TheVariants.{Write, Add, Insert, 
 use Rattle.sd_model.specs.declared.event.Reply.{Reply}
 use Rattle.sd_model.specs.declared.event.Reply.TheVariants as reply
 use Rattle.sd_model.specs.Fields.{inst_of}
-use Rattle.sd_world.specs.Bounds.{Bounds, bounds_after, cost, counts, increased, masters_after, slots_after, with_slot, IsPageFull, IsLogFull, IsEnd}
+use Rattle.sd_world.specs.Bounds.{Bounds, bounds_after, cost, counts, increased, masters_after, least_after, slots_after, with_slot, IsPageFull, IsLogFull, IsEnd, IsTooLong, TellsNoPlace}
 use Rattle.sd_world.specs.Serving.{Core, Turns}
 use Rattle.sd_world.specs.Leading.{Leads}
 use Rattle.sd_world.specs.Laws.{Grows}
@@ -38,6 +38,11 @@ slots-more old (Insert t p v capacity) (reply.At r) q = go (eqb p q)
     go true = (with-more (old q) r.slot capacity, with-sum (old q) r.slot capacity)
     go false = stays (old q)
 slots-more old e r q = stays (old q)
+
+-- what slots have at least changes only where a new record has a place
+pub least-kept : (old : ℕ → List ℕ) (e : Event) (r : Reply) → TellsNoPlace r → (q : ℕ) → least_after old e r q ≡ old q
+least-kept old (Insert t p v capacity) (reply.At r) none q = elim none [ ]
+least-kept old e r none q = refl
 
 increased-more : (i n : ℕ) (old : ℕ → ℕ) (j : ℕ) → old j ≤ increased i n old j
 increased-more i n old j = go (cond (eqb i j) n 0) (old j)
@@ -109,3 +114,6 @@ full-log old e new h = h.within
 
 pub lsns-end : (old : Core) (e : Event) (new : Core) → Turns old e (reply.Refused R.LsnEnd) new → IsEnd old.scene.state old.bounds e
 lsns-end old e new h = h.within
+
+pub long-slot : (old : Core) (e : Event) (new : Core) → Turns old e (reply.Refused R.TooLong) new → IsTooLong old.scene.state old.bounds e
+long-slot old e new h = h.within

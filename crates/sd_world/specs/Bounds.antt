@@ -1,5 +1,6 @@
--- The sums by which a full page, a full log and the end of LSNs are judged: no real number is above them.
-use Rattle.std.specs.Prelude.{◌⊎◌, ◌<◌, ◌≤◌, ℕ, zero, suc, ◌+◌, ◌*◌, ◌^◌, Bool, true, false, List, [], ◌∷◌, eqb, cond, max, sum, length}
+-- The sums by which a full page, a full log, a value that is too long and the end of LSNs are judged. No real number is above them, but
+-- for `least`: no slot is below that.
+use Rattle.std.specs.Prelude.{◌≡◌, ◌⊎◌, ◌<◌, ◌≤◌, ℕ, zero, suc, ◌+◌, ◌*◌, ◌^◌, Bool, true, false, List, [], ◌∷◌, Some, eqb, cond, get_or, max, sum, length}
 use Rattle.sd_base.specs.declared.ids.Rid.{Rid}
 use Rattle.sd_base.specs.declared.refusal.Refusal.{Refusal}
 use Rattle.sd_base.specs.declared.refusal.Refusal.TheVariants as R
@@ -7,13 +8,16 @@ use Rattle.sd_model.specs.declared.event.Event.{Event}
 use Rattle.sd_model.specs.declared.event.Event.TheVariants.{Begin, Write, Add, Insert, Delete, CheckBegin, CheckEnd, Join}
 use Rattle.sd_model.specs.declared.event.Reply.{Reply}
 use Rattle.sd_model.specs.declared.event.Reply.TheVariants as reply
-use Rattle.sd_model.specs.State.{State}
-use Rattle.sd_model.specs.Fields.{inst_of}
+use Rattle.sd_model.specs.State.{State, view}
+use Rattle.sd_model.specs.Applies.{IsLong, IsNew, IsTooMuch}
+use Rattle.sd_model.specs.Fields.{inst_of, rid_of, txn_of}
 
--- slots: of each page, the capacities of its slots; reach: how far each log and what it reserves go, in bytes; lsns: the greatest
--- LSN with those of the reserved records; masters: the count of each log's master
+-- slots: of each page, the capacities of its slots; least: of each page, capacities that its slots aren't below; reach: how far each
+-- log and what it reserves go, in bytes; lsns: the greatest LSN with those of the reserved records; masters: the count of each log's
+-- master
 pub record Bounds : Type 0 where
   pub slots : ℕ → List ℕ
+  pub least : ℕ → List ℕ
   pub reach : ℕ → ℕ
   pub lsns : ℕ
   pub masters : ℕ → ℕ
@@ -28,6 +32,22 @@ with_slot (old ∷ capacities) (suc slot) capacity = old ∷ with_slot capacitie
 abbrev pub slots_after : (ℕ → List ℕ) → Event → Reply → ℕ → List ℕ
 slots_after old (Insert t p v capacity) (reply.At r) q = cond {A = List ℕ} (eqb p q) (with_slot (old q) r.slot capacity) (old q)
 slots_after old e r q = old q
+
+-- a slot of this capacity at least: at the end, or in the place of an old one, also where that was greater
+abbrev pub with_least : List ℕ → ℕ → ℕ → List ℕ
+with_least [] slot capacity = capacity ∷ []
+with_least (old ∷ capacities) zero capacity = capacity ∷ capacities
+with_least (old ∷ capacities) (suc slot) capacity = old ∷ with_least capacities slot capacity
+
+-- what the slots of page q have at least after an event and its reply
+abbrev pub least_after : (ℕ → List ℕ) → Event → Reply → ℕ → List ℕ
+least_after old (Insert t p v capacity) (reply.At r) q = cond {A = List ℕ} (eqb p q) (with_least (old q) r.slot capacity) (old q)
+least_after old e r q = old q
+
+-- the reply tells no place of a new record
+abbrev pub TellsNoPlace : Reply → Type 0
+TellsNoPlace (reply.At r) = ⊥
+TellsNoPlace r = Unit {0}
 
 -- what an event may add to its log and to what that reserves, in bytes
 abbrev pub cost : Event → ℕ
@@ -62,6 +82,7 @@ masters_after old e = old
 abbrev pub bounds_after : Bounds → Event → Reply → Bounds
 bounds_after b e r = record {
   slots = slots_after b.slots e r;
+  least = least_after b.least e r;
   reach = increased (inst_of e) (cond (counts e r) (cost e) 0) b.reach;
   lsns = b.lsns + 4;
   masters = masters_after b.masters e;
@@ -91,8 +112,18 @@ abbrev pub IsPageFull : Bounds → Event → Type 0
 IsPageFull b (Insert t p v capacity) = IsFull (b.slots p) capacity
 IsPageFull b e = ⊥
 
+-- the value that is to be put is longer than what its slot has at least
+abbrev pub IsOver : State → Bounds → Event → Type 0
+IsOver m b e = (u w : List ℕ) × (view m (txn_of e) (rid_of e) ≡ Some u) × IsNew e u w
+    × (get_or (b.least (rid_of e).page) (rid_of e).slot 0 < length w)
+
+-- a value is too long whatever slot it is for, or its sum has too many digits, or it may be too long for its slot
+abbrev pub IsTooLong : State → Bounds → Event → Type 0
+IsTooLong m b e = IsLong e ⊎ (((u : List ℕ) × (view m (txn_of e) (rid_of e) ≡ Some u) × IsTooMuch e u) ⊎ IsOver m b e)
+
 -- a refusal for want of room or numbers comes only where the sums allow it
 abbrev pub Allows : State → Bounds → Event → Refusal → Type 0
+Allows m b e R.TooLong = IsTooLong m b e
 Allows m b e R.PageFull = IsPageFull b e
 Allows m b e R.LogFull = IsLogFull b e
 Allows m b e R.LsnEnd = IsEnd m b e

@@ -23,7 +23,7 @@ use Rattle.sd_pagelock.specs.Asks.{asks_by}
 use Rattle.sd_world.specs.Pages.{Pages, AreFormed, fell}
 use Rattle.sd_world.specs.PageCauses.{PagesSay, decided}
 use Rattle.sd_world.specs.Answers.{Moves}
-use Rattle.sd_world.specs.Bounds.{Bounds, bounds_after, IsPageFull, IsLogFull, IsEnd}
+use Rattle.sd_world.specs.Bounds.{Bounds, bounds_after, IsPageFull, IsLogFull, IsEnd, IsTooLong}
 use Rattle.sd_world.specs.Serving.{Core, Turns, Telling, KeepsEarlier, Passes}
 use Rattle.sd_world.specs.Leading.{Leads, ExactRun}
 
@@ -134,6 +134,10 @@ FullOnlyByLog = (old : Core) (e : Event) (new : Core) → Turns old e (Refused R
 
 abbrev pub EndsOnlyByLsns : Type 0
 EndsOnlyByLsns = (old : Core) (e : Event) (new : Core) → Turns old e (Refused R.LsnEnd) new → IsEnd old.scene.state old.bounds e
+
+-- and a value is too long for a slot only where the sums say that the slot may be so small
+abbrev pub LongOnlyBySlot : Type 0
+LongOnlyBySlot = (old : Core) (e : Event) (new : Core) → Turns old e (Refused R.TooLong) new → IsTooLong old.scene.state old.bounds e
 
 -- a run after a run is a run
 abbrev pub LeadsJoin : Type 0

@@ -3,7 +3,7 @@
 ghost use Rattle.sd_rig.specs.Devices.{DeviceImages};
 ghost use Rattle.sd_model.specs.State.{State};
 ghost use Rattle.sd_world.specs.Serving.{telling};
-ghost use Rattle.sd_world.specs.Laws.{CauseIsSaid, AnswerIsClear, RefusalLeavesPages, RefusalLeavesState, RefusedByPages, MovesKeepForm, RunKeepsForm, FallenHasNone, OthersHoldOn, LossStaysKnown, SumsGrow, OneLogGrows, LogsGrowLittle, RunGrows, FullOnlyByPage, FullOnlyByLog, EndsOnlyByLsns, LeadsJoin, LeadsGrow, LeadsRuns, LeadsExactly, SparedPasses, PassesSpared};
+ghost use Rattle.sd_world.specs.Laws.{CauseIsSaid, AnswerIsClear, RefusalLeavesPages, RefusalLeavesState, RefusedByPages, MovesKeepForm, RunKeepsForm, FallenHasNone, OthersHoldOn, LossStaysKnown, SumsGrow, OneLogGrows, LogsGrowLittle, RunGrows, FullOnlyByPage, FullOnlyByLog, EndsOnlyByLsns, LongOnlyBySlot, LeadsJoin, LeadsGrow, LeadsRuns, LeadsExactly, SparedPasses, PassesSpared};
 
 use sd_rig::Rig;
 
@@ -38,7 +38,7 @@ pub fn losses()
     ensures { LossStaysKnown }
 {}
 
-/// Sums don't fall, and a page, a log or the LSNs come to an end only where the sums say so.
+/// Sums don't fall, and a page, a log or the LSNs come to an end, or a slot is too small, only where the sums say so.
 pub fn sums()
     ensures grow { SumsGrow }
     ensures one { OneLogGrows }
@@ -47,6 +47,7 @@ pub fn sums()
     ensures page { FullOnlyByPage }
     ensures log { FullOnlyByLog }
     ensures lsns { EndsOnlyByLsns }
+    ensures slot { LongOnlyBySlot }
 {}
 
 /// Runs are put together, and each is a run of the serial table with exact waits.

@@ -5,9 +5,8 @@ use Rattle.sd_logrec.specs.Fronts.{fronts_within}
 use Rattle.sd_logrec.specs.Kept.{Whole, groups_within}
 use Rattle.sd_log.specs.ByPage.{changed_pages}
 use Rattle.sd_log.specs.JournalStates.{JournalState}
-use Rattle.sd_log.specs.LogInside.{AreForced}
 use Rattle.sd_log.specs.ReadInside.{read_view}
-use Rattle.sd_log.specs.Logs.{placed_groups, placed_tail, scanned}
+use Rattle.sd_log.specs.Logs.{AreForced, placed_groups, placed_tail, scanned}
 use Rattle.sd_log.specs.Marks.{entry}
 use Rattle.sd_log.specs.Parts.{text_of}
 use Rattle.sd_log.proofs.Counted.{few_read, read_forced, read_within}

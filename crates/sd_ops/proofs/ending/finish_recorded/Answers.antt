@@ -7,20 +7,19 @@ use Rattle.sd_state.specs.Complexes.{parts}
 use Rattle.sd_state.specs.Values.{Pending}
 use Rattle.sd_world.specs.Serving.{Telling, telling}
 use Rattle.sd_fits.proofs.Disk.{disk-leaves, disk-same}
-use Rattle.sd_fits.proofs.Heads.{some-there}
-use Rattle.sd_ops.proofs.Finishing.{ending, failed-due, failed-served, forced-bare, forced-idle, forced-rolls, forced-served, forced-tail, forced-up, may-end}
+use Rattle.sd_update.specs.Sealing.{end_of}
+use Rattle.sd_ops.proofs.Finishing.{failed-served, forced-bare, forced-rolls, forced-served, may-end}
+use Rattle.sd_ops.proofs.Lasts.{ending, failed-due, forced-idle, forced-up, no-tail-left, spelled-txn}
 use Rattle.sd_fits.proofs.Falling.{fallen-down}
 use Rattle.sd_ops.proofs.ending.finish_recorded.Goals as goal
 
 pub seal_end-requires-clause-numbered : goal.seal_end-requires-clause-numbered
 seal_end-requires-clause-numbered g c =
-    let t = c.args.t.now in
     let rig = c.args.c.now.rig in
-    let f = c.requires.fits.1 in
+    let fits = c.requires.fits in
     let n = c.keeps.ensures in
-    let number = f.good.numbered t (some-there (g.G.Rig.seen rig) (g.G.Rig.leaves rig) Pending.Idle (parts c.args.c.now)
-    c.requires.fits.0.scene.state f.good t (TxnState.Rolling None) n.low n.high c.requires.rolls) in
-    record { low = n.low; high = n.high; epoch = (number.0, n.epoch); seq = (number.1, n.seq) }
+    spelled-txn c.args.t.now (TxnState.Rolling None) (g.G.Rig.seen rig) (g.G.Rig.leaves rig) (parts c.args.c.now) fits.0 fits.1 n.low n.high n.epoch n.seq
+    c.requires.rolls
 
 pub seal_end-requires-clause-may : goal.seal_end-requires-clause-may
 seal_end-requires-clause-may g c = may-end c.args.t.now (parts c.args.c.now) c.requires.up c.requires.rolls c.requires.empty c.requires.there
@@ -52,9 +51,10 @@ rolled_back-requires-clause-idle g c =
     let s = c.seal_end.ensures in
     let e = c.in-Ok.ensures in
     let ends = when_ok c.seal_end.result tt _ (s.there r.up) s.parts in
-    let k = ending tell t c.args.c.now c.seal_end.new.c c.force_log.new.self n.low n.high r.up r.rolls r.empty r.there
+    let k = ending tell t (λ x. end_of t x (parts c.args.c.now)) Pending.Idle c.args.c.now c.seal_end.new.c c.force_log.new.self
+    n.low n.high r.up r.there
     (λ dev few. g.met.G.Rig.leaves_seen c.args.c.now.rig dev few) s.rig ends s.good e.good e.images e.time e.others e.masters in
-    forced-idle tell t c.args.c.now c.seal_end.new.c c.force_log.new.self k e.forced r.fits.0 r.fits.1
+    forced-idle k e.forced r.fits.0 r.fits.1
 
 pub rolled_back-requires-clause-up : goal.rolled_back-requires-clause-up
 rolled_back-requires-clause-up g c =
@@ -65,9 +65,10 @@ rolled_back-requires-clause-up g c =
     let s = c.seal_end.ensures in
     let e = c.in-Ok.ensures in
     let ends = when_ok c.seal_end.result tt _ (s.there r.up) s.parts in
-    let k = ending tell t c.args.c.now c.seal_end.new.c c.force_log.new.self n.low n.high r.up r.rolls r.empty r.there
+    let k = ending tell t (λ x. end_of t x (parts c.args.c.now)) Pending.Idle c.args.c.now c.seal_end.new.c c.force_log.new.self
+    n.low n.high r.up r.there
     (λ dev few. g.met.G.Rig.leaves_seen c.args.c.now.rig dev few) s.rig ends s.good e.good e.images e.time e.others e.masters in
-    forced-up tell t c.args.c.now c.seal_end.new.c c.force_log.new.self k e.forced r.fits.0 r.fits.1
+    forced-up k e.forced r.fits.0 r.fits.1
 
 pub rolled_back-requires-clause-rolls : goal.rolled_back-requires-clause-rolls
 rolled_back-requires-clause-rolls g c =
@@ -78,9 +79,10 @@ rolled_back-requires-clause-rolls g c =
     let s = c.seal_end.ensures in
     let e = c.in-Ok.ensures in
     let ends = when_ok c.seal_end.result tt _ (s.there r.up) s.parts in
-    let k = ending tell t c.args.c.now c.seal_end.new.c c.force_log.new.self n.low n.high r.up r.rolls r.empty r.there
+    let k = ending tell t (λ x. end_of t x (parts c.args.c.now)) Pending.Idle c.args.c.now c.seal_end.new.c c.force_log.new.self
+    n.low n.high r.up r.there
     (λ dev few. g.met.G.Rig.leaves_seen c.args.c.now.rig dev few) s.rig ends s.good e.good e.images e.time e.others e.masters in
-    forced-rolls tell t c.args.c.now c.seal_end.new.c c.force_log.new.self k e.forced r.fits.0 r.fits.1
+    forced-rolls k r.rolls r.empty e.forced r.fits.0 r.fits.1
 
 pub rolled_back-requires-clause-bare : goal.rolled_back-requires-clause-bare
 rolled_back-requires-clause-bare g c =
@@ -91,9 +93,10 @@ rolled_back-requires-clause-bare g c =
     let s = c.seal_end.ensures in
     let e = c.in-Ok.ensures in
     let ends = when_ok c.seal_end.result tt _ (s.there r.up) s.parts in
-    let k = ending tell t c.args.c.now c.seal_end.new.c c.force_log.new.self n.low n.high r.up r.rolls r.empty r.there
+    let k = ending tell t (λ x. end_of t x (parts c.args.c.now)) Pending.Idle c.args.c.now c.seal_end.new.c c.force_log.new.self
+    n.low n.high r.up r.there
     (λ dev few. g.met.G.Rig.leaves_seen c.args.c.now.rig dev few) s.rig ends s.good e.good e.images e.time e.others e.masters in
-    forced-bare tell t c.args.c.now c.seal_end.new.c c.force_log.new.self k e.forced r.fits.0 r.fits.1
+    forced-bare k r.rolls r.empty e.forced r.fits.0 r.fits.1
 
 pub rolled_back-requires-clause-ended : goal.rolled_back-requires-clause-ended
 rolled_back-requires-clause-ended g c =
@@ -104,9 +107,10 @@ rolled_back-requires-clause-ended g c =
     let s = c.seal_end.ensures in
     let e = c.in-Ok.ensures in
     let ends = when_ok c.seal_end.result tt _ (s.there r.up) s.parts in
-    let k = ending tell t c.args.c.now c.seal_end.new.c c.force_log.new.self n.low n.high r.up r.rolls r.empty r.there
+    let k = ending tell t (λ x. end_of t x (parts c.args.c.now)) Pending.Idle c.args.c.now c.seal_end.new.c c.force_log.new.self
+    n.low n.high r.up r.there
     (λ dev few. g.met.G.Rig.leaves_seen c.args.c.now.rig dev few) s.rig ends s.good e.good e.images e.time e.others e.masters in
-    inr (forced-tail tell t c.args.c.now c.seal_end.new.c c.force_log.new.self k e.forced r.fits.0 r.fits.1)
+    inr (no-tail-left k e.forced r.fits.0 r.fits.1)
 
 pub returns-in-Ok-clause-served : goal.returns-in-Ok-clause-served
 returns-in-Ok-clause-served g c =
@@ -117,10 +121,11 @@ returns-in-Ok-clause-served g c =
     let s = c.seal_end.ensures in
     let e = c.in-Ok.ensures in
     let ends = when_ok c.seal_end.result tt _ (s.there r.up) s.parts in
-    let k = ending tell t c.args.c.now c.seal_end.new.c c.force_log.new.self n.low n.high r.up r.rolls r.empty r.there
+    let k = ending tell t (λ x. end_of t x (parts c.args.c.now)) Pending.Idle c.args.c.now c.seal_end.new.c c.force_log.new.self
+    n.low n.high r.up r.there
     (λ dev few. g.met.G.Rig.leaves_seen c.args.c.now.rig dev few) s.rig ends s.good e.good e.images e.time e.others e.masters in
     let d = c.rolled_back.ensures in
-    forced-served tell t c.args.c.now c.seal_end.new.c c.force_log.new.self k e.forced c.rolled_back.new.self d.rig e.quiet d.parts d.waits d.good
+    forced-served k r.rolls r.empty e.forced c.rolled_back.new.self d.rig e.quiet d.parts d.waits d.good
 
 pub down-requires-clause-due : goal.down-requires-clause-due
 down-requires-clause-due g c =
@@ -131,9 +136,10 @@ down-requires-clause-due g c =
     let s = c.seal_end.ensures in
     let e = c.in-Err.ensures in
     let ends = when_ok c.seal_end.result tt _ (s.there r.up) s.parts in
-    let k = ending tell t c.args.c.now c.seal_end.new.c c.force_log.new.self n.low n.high r.up r.rolls r.empty r.there
+    let k = ending tell t (λ x. end_of t x (parts c.args.c.now)) Pending.Idle c.args.c.now c.seal_end.new.c c.force_log.new.self
+    n.low n.high r.up r.there
     (λ dev few. g.met.G.Rig.leaves_seen c.args.c.now.rig dev few) s.rig ends s.good e.good e.images e.time e.others e.masters in
-    failed-due tell t c.args.c.now c.seal_end.new.c c.force_log.new.self k e.failed r.fits.0 r.fits.1
+    failed-due k e.failed r.fits.0 r.fits.1
 
 pub returns-in-Err-clause-served : goal.returns-in-Err-clause-served
 returns-in-Err-clause-served g c =
@@ -144,10 +150,11 @@ returns-in-Err-clause-served g c =
     let s = c.seal_end.ensures in
     let e = c.in-Err.ensures in
     let ends = when_ok c.seal_end.result tt _ (s.there r.up) s.parts in
-    let k = ending tell t c.args.c.now c.seal_end.new.c c.force_log.new.self n.low n.high r.up r.rolls r.empty r.there
+    let k = ending tell t (λ x. end_of t x (parts c.args.c.now)) Pending.Idle c.args.c.now c.seal_end.new.c c.force_log.new.self
+    n.low n.high r.up r.there
     (λ dev few. g.met.G.Rig.leaves_seen c.args.c.now.rig dev few) s.rig ends s.good e.good e.images e.time e.others e.masters in
     let d = c.down.ensures in
-    failed-served tell t c.args.c.now c.seal_end.new.c c.force_log.new.self k e.failed c.down.new.c d.rig d.parts d.fallen d.good e.cause
+    failed-served k r.rolls r.empty e.failed c.down.new.c d.rig d.parts d.fallen d.good e.cause
 
 pub returns-in-Ok-clause-disk : goal.returns-in-Ok-clause-disk
 returns-in-Ok-clause-disk g c =

@@ -3,20 +3,19 @@ use Rattle.sd_state.specs.Complexes.{parts}
 use Rattle.sd_state.specs.Values.{Pending}
 use Rattle.sd_txn.specs.declared.state.TxnState.{TxnState}
 use Rattle.sd_world.specs.Serving.{Telling, telling}
-use Rattle.sd_fits.proofs.Heads.{some-there}
 use Rattle.sd_fits.proofs.Disk.{disk-leaves, disk-same}
-use Rattle.sd_ops.proofs.Committing.{cut-served, failed-due, forced-idle, forced-served, forced-tail, forcing}
+use Rattle.sd_update.specs.Sealing.{commit_of}
+use Rattle.sd_ops.proofs.Committing.{cut-served, forced-served}
+use Rattle.sd_ops.proofs.Lasts.{ending, failed-due, forced-idle, no-tail-left, spelled-txn}
 use Rattle.sd_ops.proofs.transactions.commit_recorded.Goals as goal
 
 pub seal_commit-requires-clause-numbered : goal.seal_commit-requires-clause-numbered
 seal_commit-requires-clause-numbered g c =
-    let t = c.args.t.now in
     let rig = c.args.c.now.rig in
-    let f = c.requires.fits.1 in
+    let fits = c.requires.fits in
     let n = c.keeps.ensures in
-    let number = f.good.numbered t (some-there (g.G.Rig.seen rig) (g.G.Rig.leaves rig) Pending.Idle (parts c.args.c.now)
-    c.requires.fits.0.scene.state f.good t TxnState.Running n.low n.high c.requires.runs) in
-    record { low = n.low; high = n.high; epoch = (number.0, n.epoch); seq = (number.1, n.seq) }
+    spelled-txn c.args.t.now TxnState.Running (g.G.Rig.seen rig) (g.G.Rig.leaves rig) (parts c.args.c.now) fits.0 fits.1 n.low n.high n.epoch n.seq
+    c.requires.runs
 
 pub force_log-requires-clause-good : goal.force_log-requires-clause-good
 force_log-requires-clause-good g c =
@@ -44,9 +43,10 @@ committed-requires-clause-idle g c =
     let r = c.requires in
     let s = c.seal_commit.ensures in
     let e = c.in-Ok.ensures in
-    let k = forcing tell t c.args.c.now c.seal_commit.new.c c.force_log.new.self n.low n.high r.up r.runs r.there
+    let k = ending tell t (λ x. commit_of t x (parts c.args.c.now)) (Pending.Commits t) c.args.c.now c.seal_commit.new.c
+    c.force_log.new.self n.low n.high r.up r.there
     (λ dev few. g.met.G.Rig.leaves_seen c.args.c.now.rig dev few) s.rig s.parts s.good e.good e.images e.time e.others e.masters in
-    forced-idle tell t c.args.c.now c.seal_commit.new.c c.force_log.new.self k e.forced r.fits.0 r.fits.1
+    forced-idle k e.forced r.fits.0 r.fits.1
 
 pub committed-requires-clause-forced : goal.committed-requires-clause-forced
 committed-requires-clause-forced g c =
@@ -56,9 +56,10 @@ committed-requires-clause-forced g c =
     let r = c.requires in
     let s = c.seal_commit.ensures in
     let e = c.in-Ok.ensures in
-    let k = forcing tell t c.args.c.now c.seal_commit.new.c c.force_log.new.self n.low n.high r.up r.runs r.there
+    let k = ending tell t (λ x. commit_of t x (parts c.args.c.now)) (Pending.Commits t) c.args.c.now c.seal_commit.new.c
+    c.force_log.new.self n.low n.high r.up r.there
     (λ dev few. g.met.G.Rig.leaves_seen c.args.c.now.rig dev few) s.rig s.parts s.good e.good e.images e.time e.others e.masters in
-    forced-tail tell t c.args.c.now c.seal_commit.new.c c.force_log.new.self k e.forced r.fits.0 r.fits.1
+    no-tail-left k e.forced r.fits.0 r.fits.1
 
 pub returns-in-Ok-clause-served : goal.returns-in-Ok-clause-served
 returns-in-Ok-clause-served g c =
@@ -68,11 +69,11 @@ returns-in-Ok-clause-served g c =
     let r = c.requires in
     let s = c.seal_commit.ensures in
     let e = c.in-Ok.ensures in
-    let k = forcing tell t c.args.c.now c.seal_commit.new.c c.force_log.new.self n.low n.high r.up r.runs r.there
+    let k = ending tell t (λ x. commit_of t x (parts c.args.c.now)) (Pending.Commits t) c.args.c.now c.seal_commit.new.c
+    c.force_log.new.self n.low n.high r.up r.there
     (λ dev few. g.met.G.Rig.leaves_seen c.args.c.now.rig dev few) s.rig s.parts s.good e.good e.images e.time e.others e.masters in
     let d = c.committed.ensures in
-    forced-served tell t c.args.c.now c.seal_commit.new.c c.force_log.new.self k e.forced c.committed.new.self d.rig e.quiet d.parts
-    d.waits d.good
+    forced-served k r.runs e.forced c.committed.new.self d.rig e.quiet d.parts d.waits d.good
 
 pub fall_in_commit-requires-clause-due : goal.fall_in_commit-requires-clause-due
 fall_in_commit-requires-clause-due g c =
@@ -82,9 +83,10 @@ fall_in_commit-requires-clause-due g c =
     let r = c.requires in
     let s = c.seal_commit.ensures in
     let e = c.in-Err.ensures in
-    let k = forcing tell t c.args.c.now c.seal_commit.new.c c.force_log.new.self n.low n.high r.up r.runs r.there
+    let k = ending tell t (λ x. commit_of t x (parts c.args.c.now)) (Pending.Commits t) c.args.c.now c.seal_commit.new.c
+    c.force_log.new.self n.low n.high r.up r.there
     (λ dev few. g.met.G.Rig.leaves_seen c.args.c.now.rig dev few) s.rig s.parts s.good e.good e.images e.time e.others e.masters in
-    failed-due tell t c.args.c.now c.seal_commit.new.c c.force_log.new.self k e.failed r.fits.0 r.fits.1
+    failed-due k e.failed r.fits.0 r.fits.1
 
 pub returns-in-Err-clause-served : goal.returns-in-Err-clause-served
 returns-in-Err-clause-served g c =
@@ -94,10 +96,11 @@ returns-in-Err-clause-served g c =
     let r = c.requires in
     let s = c.seal_commit.ensures in
     let e = c.in-Err.ensures in
-    let k = forcing tell t c.args.c.now c.seal_commit.new.c c.force_log.new.self n.low n.high r.up r.runs r.there
+    let k = ending tell t (λ x. commit_of t x (parts c.args.c.now)) (Pending.Commits t) c.args.c.now c.seal_commit.new.c
+    c.force_log.new.self n.low n.high r.up r.there
     (λ dev few. g.met.G.Rig.leaves_seen c.args.c.now.rig dev few) s.rig s.parts s.good e.good e.images e.time e.others e.masters in
     let d = c.fall_in_commit.ensures in
-    cut-served tell t c.args.c.now c.seal_commit.new.c c.force_log.new.self k e.failed c.fall_in_commit.new.c d.rig d.parts d.fallen d.good e.cause
+    cut-served k r.runs e.failed c.fall_in_commit.new.c d.rig d.parts d.fallen d.good e.cause
 
 pub returns-in-Ok-clause-disk : goal.returns-in-Ok-clause-disk
 returns-in-Ok-clause-disk g c =

@@ -64,7 +64,7 @@ returns-in-Err-clause-failed g c =
       λ w f.
           let all = failed-all (actor (parts old) i) i (tell.seen old.rig) (tell.seen mid.rig) (tell.leaves old.rig) (tell.leaves mid.rig)
           (parts old) (parts mid) w.scene.state f.good n.low n.high c.requires.settled disk e.masters e.failed w.pages (step_sums i w) f.pages
-          (bounds-stay (tell.seen old.rig) (parts old) w.bounds (RecoverStep i) reply.Step f.bounds) f.doubts in
+          (bounds-stay (tell.seen old.rig) (parts old) w.bounds (RecoverStep i) reply.Step tt f.bounds) f.doubts in
           breaks tell i c.args.by old n.low n.high c.requires.recovers mid (λ m good. e.good Pending.Idle m good) e.time
           (λ m good. e.images Pending.Idle m good) k.low k.high c.down.new.c d.rig d.parts d.fallen d.good w f w.pages
           (failed-aside (actor (parts old) i) i (tell.seen old.rig) (tell.seen mid.rig) (tell.leaves old.rig) (tell.leaves mid.rig)

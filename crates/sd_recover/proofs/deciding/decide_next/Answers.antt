@@ -105,7 +105,7 @@ returns-in-Ok-clause-fewer g c =
     let row = has-row (txns_at (parts mid) (home t)) t TxnState.Doubt
     (doubt-then tell c.args.by t c.args.c.now mid n.low n.high r.recovers r.settled r.doubt c.in-Ok.ensures.spared c.in-Ok.ensures.parts) in
     let once : IsDistinct same_txn (ids (txns_at (parts mid) (home t))) =
-    subst (λ (tb : Transactions). IsDistinct same_txn (ids tb)) c.txns.ensures c.keeps-2.ensures.once in
+    subst (λ (tb : Transactions). IsDistinct same_txn (ids tb)) c.txns.ensures c.keeps-in-Ok.ensures.once in
     decided-fewer (txns_at (parts mid) (home t)) (txns_at (parts c.decide.new.c) (home t)) t row.x c.has_commit-committed.result once row.row
     row.state d.row d.others d.order
     ∙ ap (λ (p : Parts). tasks_in (txns_at p (home t))) c.in-Ok.ensures.parts

@@ -53,7 +53,7 @@ returns-in-Ok-clause-served g c =
     let e = c.in-Ok.ensures in
     let d = c.end_recovery.ensures in
     let once : IsDistinct same_txn (ids (txns_at (parts mid) i)) =
-    subst (λ (tb : Transactions). IsDistinct same_txn (ids tb)) c.txns.ensures c.keeps-2.ensures.once in
+    subst (λ (tb : Transactions). IsDistinct same_txn (ids tb)) c.txns.ensures c.keeps-in-Ok.ensures.once in
     let may : (w : Core) → Fits (tell.seen mid.rig) (tell.leaves mid.rig) (parts mid) w → MayEnd i (parts mid) = λ w there.
     let tail : (log_at (parts mid) i).tail ≡ [] = ap (λ (p : Parts). (log_at p i).tail) e.parts
     ∙ ap (λ (l : LogState). l.tail) (log-forced i i (owed_at (parts mid) i) (parts old) r.fits.1.good.shape.logs n.low n.high)

@@ -1,44 +1,23 @@
-use Rattle.std.proofs.Common.{◌∙◌, ap, sym}
-use Rattle.sd_pagelock.specs.Places.{is_lost, receives}
-use Rattle.sd_base.specs.Standing.{active_as}
+use Rattle.std.proofs.Common.{ℕ, ◌∙◌, ap, subst, sym}
+use Rattle.std.specs.Prelude.{Result, Err, IfErr}
+use Rattle.std.proofs.lemmas.Result.{err_from_is_err_and}
+use Rattle.sd_base.specs.declared.refusal.Refusal.{Refusal}
+use Rattle.sd_base.specs.declared.refusal.Refusal.TheVariants as R
+use Rattle.sd_state.specs.Complexes.{parts}
+use Rattle.sd_state.specs.Parts.{Parts}
+use Rattle.sd_transfer.specs.Taking.{IsUntaken}
+use Rattle.sd_transfer.specs.Barring.{IsBarred}
 use Rattle.sd_transfer.proofs.taking.may_take.Goals as goal
 
-pub status-requires : goal.status-requires
-status-requires g c = c.requires
+-- what bars it from the page is why it doesn't take it
+barred : (c : Parts) (i p : ℕ) (n : Refusal) → IsBarred c i p n → IsUntaken c i p n
+barred c i p (R.NeedPage place) is = absurd is
+barred c i p n is = is
 
-pub returns-then-not-is_active-clause-may : goal.returns-then-not-is_active-clause-may
-returns-then-not-is_active-clause-may g c = tt
-
-pub returns-then-not-is_active-clause-refused : goal.returns-then-not-is_active-clause-refused
-returns-then-not-is_active-clause-refused g c =
-    ap (active_as c.args.i) (sym c.status.ensures) ∙ sym c.is_active.ensures ∙ c.if-not-is_active.true
-
-pub returns-then-is_lost-clause-may : goal.returns-then-is_lost-clause-may
-returns-then-is_lost-clause-may g c = tt
-
-pub returns-then-is_lost-clause-refused : goal.returns-then-is_lost-clause-refused
-returns-then-is_lost-clause-refused g c = (
-  ap (active_as c.args.i) (sym c.status.ensures) ∙ sym c.is_active.ensures ∙ c.if-not-is_active.false,
-  ap is_lost (sym c.entry-place.ensures) ∙ sym c.is_lost.ensures ∙ c.if-is_lost.true,
-)
-
-pub returns-then-not-receives-clause-may : goal.returns-then-not-receives-clause-may
-returns-then-not-receives-clause-may g c = tt
-
-pub returns-then-not-receives-clause-refused : goal.returns-then-not-receives-clause-refused
-returns-then-not-receives-clause-refused g c = (
-  ap (active_as c.args.i) (sym c.status.ensures) ∙ sym c.is_active.ensures ∙ c.if-not-is_active.false,
-  ap is_lost (sym c.entry-place.ensures) ∙ sym c.is_lost.ensures ∙ c.if-is_lost.false,
-  ap (λ e. receives e c.args.i) (sym c.entry-place.ensures) ∙ sym c.receives.ensures ∙ c.if-not-receives.true,
-  c.entry-place.ensures,
-)
-
-pub returns-clause-may : goal.returns-clause-may
-returns-clause-may g c = record {
-  active = ap (active_as c.args.i) (sym c.status.ensures) ∙ sym c.is_active.ensures ∙ c.if-not-is_active.false;
-  found = ap is_lost (sym c.entry-place.ensures) ∙ sym c.is_lost.ensures ∙ c.if-is_lost.false;
-  receiver = ap (λ e. receives e c.args.i) (sym c.entry-place.ensures) ∙ sym c.receives.ensures ∙ c.if-not-receives.false;
-}
-
-pub returns-clause-refused : goal.returns-clause-refused
-returns-clause-refused g c = tt
+pub returns-in_err-place-clause-refused : goal.returns-in_err-place-clause-refused
+returns-in_err-place-clause-refused g c =
+    let old = parts c.args.c.now in
+    let p = err_from_is_err_and c.from_residual.result c.from_residual.ensures.1 in
+    subst (λ (r : Result (Unit {0}) Refusal). IfErr r (λ n. IsUntaken old c.args.i c.args.p n))
+    (sym (p.1 ∙ ap (λ (n : Refusal). Err n) p.2))
+    (barred old c.args.i c.args.p c.in_err-place.field-0.0 c.in_err-place.ensures.refused)

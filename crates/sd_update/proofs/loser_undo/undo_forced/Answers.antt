@@ -61,8 +61,11 @@ force_settled-requires-clause-now g c =
     let i : ℕ = c.args.t.now.inst in
     let made = c.in_ok-undo_due.ensures.made in
     let is = c.in_ok-force_log.ensures.forced c.requires.may.own_settled in
-    inr (c.args.by, ap (λ (q : Parts). status_at q i) made.rest ∙ ap (λ (q : Parts). status_at q i) is ∙ c.requires.may.recovers,
-        ap (λ (q : Parts). q.due) made.rest)
+    inr (
+      c.args.by,
+      ap (λ (q : Parts). status_at q i) made.rest ∙ ap (λ (q : Parts). status_at q i) is ∙ c.requires.may.recovers,
+      ap (λ (q : Parts). q.due) made.rest,
+    )
 
 pub returns-in_err-force_settled-clause-good : goal.returns-in_err-force_settled-clause-good
 returns-in_err-force_settled-clause-good g c m good =

@@ -1,4 +1,4 @@
-use Rattle.sd_world.proofs.Sums.{sums-grow, one_log-grows, logs-grow_little, run-grows, full-page, full-log, lsns-end}
+use Rattle.sd_world.proofs.Sums.{sums-grow, one_log-grows, logs-grow_little, run-grows, full-page, full-log, lsns-end, long-slot}
 use Rattle.sd_world.proofs.laws.sums.Goals as goal
 
 pub returns-clause-grow : goal.returns-clause-grow
@@ -21,3 +21,6 @@ returns-clause-one c = one_log-grows
 
 pub returns-clause-little : goal.returns-clause-little
 returns-clause-little c = logs-grow_little
+
+pub returns-clause-slot : goal.returns-clause-slot
+returns-clause-slot c = long-slot

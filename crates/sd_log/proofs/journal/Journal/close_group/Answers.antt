@@ -1,4 +1,4 @@
-use Rattle.std.proofs.Common.{◌≡◌, ℕ, ◌+◌, ◌-◌, ◌<◌, ◌++◌, ◌∷◌, [], ap, ◌∙◌, sym, subst, arith, List, max, drop, take, length, length-drop}
+use Rattle.std.proofs.Common.{◌≡◌, ℕ, ◌+◌, ◌-◌, ◌<◌, ◌++◌, ◌∷◌, [], ap, ◌∙◌, sym, subst, arith, List, drop, take, length, length-drop}
 use Rattle.std.specs.Prelude.{map}
 use Rattle.std.proofs.lemmas.List.{take_all}
 use Rattle.sd_logrec.specs.declared.record.Record.{Record}
@@ -7,7 +7,7 @@ use Rattle.sd_log.specs.declared.marks.Mark.{Mark}
 use Rattle.sd_log.specs.declared.placed.Placed.{Placed}
 use Rattle.sd_log.specs.JournalStates.{JournalState, settled}
 use Rattle.sd_log.specs.Parts.{IsParted, groups_of, tail_of}
-use Rattle.sd_log.specs.Marks.{MarksState, as_forced, greatest_lsn, high_of}
+use Rattle.sd_log.specs.Marks.{MarksState, as_forced, greatest_lsn}
 use Rattle.sd_log.proofs.Journaling.{Closes, all_forced, closed_groups, closed_parted, closed_tail, forced_all, more_placed}
 use Rattle.sd_log.proofs.journal.Journal.close_group.Goals as goal
 
@@ -30,7 +30,7 @@ items_are c = c.mark_forced.ensures.items ∙ ap (λ n. take n c.self.inside.pla
 closes : (c : goal.After-close) → Closes c.self.inside.marks c.close.new.self c.self.inside.placed.items c.args.len
 closes c =
     let m : MarksState = c.self.inside.marks in
-    let marks : ℕ → ℕ → List Mark = λ count greatest. m.marks ++ record { end = m.gate + 5 + c.args.len; count = count; high = max (high_of 0 m.marks) greatest } ∷ [] in
+    let marks : ℕ → ℕ → List Mark = λ count greatest. m.marks ++ record { end = m.gate + 5 + c.args.len; count = count; high = greatest } ∷ [] in
     record {
       start_is = c.close.ensures.start;
       gate_is = c.close.ensures.gate;

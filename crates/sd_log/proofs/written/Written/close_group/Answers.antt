@@ -1,10 +1,10 @@
-use Rattle.std.proofs.Common.{◌≡◌, ℕ, ◌+◌, ◌-◌, ◌<◌, ◌≤◌, ◌++◌, ◌∷◌, [], false, List, max, length, map, drop, sym, ap, ◌∙◌, subst, arith}
+use Rattle.std.proofs.Common.{◌≡◌, ℕ, ◌+◌, ◌-◌, ◌<◌, ◌≤◌, ◌++◌, ◌∷◌, [], false, List, length, map, drop, sym, ap, ◌∙◌, subst, arith}
 use Rattle.std.proofs.lemmas.List.{take_all}
 use Rattle.sd_logrec.specs.declared.record.Record.{Record}
 use Rattle.sd_logrec.specs.Kept.{Group, Records, placed_from, spelled}
 use Rattle.sd_log.specs.declared.marks.Mark.{Mark}
 use Rattle.sd_log.specs.declared.placed.Placed.{Placed}
-use Rattle.sd_log.specs.Marks.{MarksState, greatest_lsn, high_of}
+use Rattle.sd_log.specs.Marks.{MarksState, greatest_lsn}
 use Rattle.sd_log.specs.Parts.{IsParted, groups_of, items_of, tail_of}
 use Rattle.sd_log.specs.Spellings.{record_in}
 use Rattle.sd_log.specs.WrittenStates.{WrittenState, closed, greatest_in}
@@ -36,7 +36,7 @@ greatest_is c =
 closes : (c : After-close) → Closes c.self.inside.marks c.close.new.self (items c) c.args.len
 closes c =
     let m : MarksState = c.self.inside.marks in
-    let marks : ℕ → ℕ → List Mark = λ count greatest. m.marks ++ record { end = m.gate + 5 + c.args.len; count = count; high = max (high_of 0 m.marks) greatest } ∷ [] in
+    let marks : ℕ → ℕ → List Mark = λ count greatest. m.marks ++ record { end = m.gate + 5 + c.args.len; count = count; high = greatest } ∷ [] in
     record {
       start_is = c.close.ensures.start;
       gate_is = c.close.ensures.gate;
@@ -69,7 +69,7 @@ invariant_of-self c =
       parted = subst (λ (l : List Placed). IsParted c.close.new.self l) (sym (items_are c))
           (closed_parted w.marks c.close.new.self (items c) c.args.len h.parted (closes c) some);
       gate_small = omega (arith, c.close.ensures.gate, here, c.requires.fits);
-      forced_text = subst (λ (l : Records). c.close.new.self.start + length (spelled (map record_in l)) ≤ c.close.new.self.gate)
+      forced_text = subst (λ (l : Records). length (spelled (map record_in l)) ≤ c.close.new.self.gate)
           (sym (take_all c.close.new.self.forced es (omega (arith, all_are c))))
           (omega (arith, c.close.ensures.start, c.close.ensures.gate, text_parts w.marks.forced es, c.requires.len, text, tail));
       room_there = h.room_there;

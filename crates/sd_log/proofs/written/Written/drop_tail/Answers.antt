@@ -1,4 +1,4 @@
-use Rattle.std.proofs.Common.{◌≡◌, ◌+◌, ◌≤◌, List, length, map, take, sym, ap, ◌∙◌, subst, arith}
+use Rattle.std.proofs.Common.{◌≡◌, ◌≤◌, List, length, map, take, sym, ap, ◌∙◌, subst, arith}
 use Rattle.std.proofs.lemmas.List.{length-take-le, take_all}
 use Rattle.sd_logrec.specs.declared.record.Record.{Record}
 use Rattle.sd_logrec.specs.Kept.{Group, Records, spelled}
@@ -30,7 +30,7 @@ invariant_of-self c =
       forced_there = omega (arith, ap length (entries_are c), len);
       parted = subst (λ (l : List Placed). IsParted w.marks l) (sym (items_are c)) (dropped_parted w.marks (items_of n es) h.parted);
       gate_small = h.gate_small;
-      forced_text = subst (λ (l : Records). w.marks.start + length (spelled (map record_in l)) ≤ w.marks.gate)
+      forced_text = subst (λ (l : Records). length (spelled (map record_in l)) ≤ w.marks.gate)
           (sym (ap (take n) (entries_are c) ∙ take_all n (take n es) (omega (arith, len)))) h.forced_text;
       room_there = omega arith;
       marks_room = h.marks_room;

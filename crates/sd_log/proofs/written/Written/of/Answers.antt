@@ -1,4 +1,4 @@
-use Rattle.std.proofs.Common.{◌≡◌, ◌+◌, ◌≤◌, [], List, length, map, sym, ap, ◌∙◌, subst, arith}
+use Rattle.std.proofs.Common.{◌≡◌, ◌≤◌, [], List, length, map, sym, ap, ◌∙◌, subst, arith}
 use Rattle.std.proofs.lemmas.List.{length-map, take_all}
 use Rattle.sd_logrec.specs.declared.record.Record.{Record}
 use Rattle.sd_logrec.specs.Kept.{Records, spelled}
@@ -49,7 +49,7 @@ invariant_of-result c =
       forced_there = omega arith;
       parted = subst (λ (l : List Placed). IsParted m l) (sym (items_are c)) h;
       gate_small = omega (arith, c.into_parts-marks.ensures.gate, c.requires.gate);
-      forced_text = subst (λ (l : Records). m.start + length (spelled (map record_in l)) ≤ m.gate) (sym (take_all m.forced es (omega arith)))
+      forced_text = subst (λ (l : Records). length (spelled (map record_in l)) ≤ m.gate) (sym (take_all m.forced es (omega arith)))
           (omega (arith, text, c.into_parts-marks.ensures.gate, c.into_parts-marks.ensures.start, c.requires.within));
       room_there = omega arith;
       marks_room = omega arith;

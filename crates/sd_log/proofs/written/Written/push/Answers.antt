@@ -36,7 +36,7 @@ invariant_of-self c =
           (pushed_parted w.marks (items_of n es) r c.args.place h.parted
           (c.requires.place ∙ sym (ap (λ (s : WrittenState). s.gate + 5 + length (spelled s.tail)) c.self.view_is))));
       gate_small = h.gate_small;
-      forced_text = subst (λ (l : Records). w.marks.start + length (spelled (map record_in l)) ≤ w.marks.gate)
+      forced_text = subst (λ (l : Records). length (spelled (map record_in l)) ≤ w.marks.gate)
           (sym (ap (take n) more ∙ take-append-le n es ((c.args.place, r) ∷ []) within)) h.forced_text;
       room_there = omega (arith, some, c.requires.room);
       marks_room = omega (arith, some, c.requires.room);
