@@ -30,9 +30,10 @@ use Rattle.sd_chain.specs.Records.{Val, home}
 use Rattle.sd_chain.specs.Named.{version_of}
 use Rattle.sd_chain.specs.Logs.{Outcomes, all_at, tails_of}
 use Rattle.sd_chain.proofs.Kept.{forced-gate}
-use Rattle.sd_world.specs.Bounds.{Bounds, bounds_after, cost, counts, with_least, with_slot}
+use Rattle.sd_world.specs.Bounds.{Bounds, bounds_after, cost, counts, is_wait, with_least, with_slot}
 use Rattle.sd_world.specs.Pages.{Pages, numbered, page_placed}
 use Rattle.sd_world.specs.Serving.{Core}
+use Rattle.sd_world.proofs.Sums.{works-four}
 use Rattle.sd_update.specs.Changing.{Change, IsMade, LacksLsns, LacksRoom, change_of, changed_log, flat_of, image_for, owed_then, row_for, update, with_changed}
 use Rattle.sd_state.specs.Good.{Good, IsTold}
 use Rattle.sd_state.specs.Images.{log_by}
@@ -215,7 +216,7 @@ module _ (k : Change) (seen : DeviceImages) (leaves : Outcomes) (c after : Parts
         (before_small : size k.before ≤ 256) (after_small : size k.after ≤ 256)
         (slots_grow : AreWithin (capacities (redo image y)) ((bounds_after w.bounds e r).slots p))
         (least_there : AreAtLeast (capacities (redo image y)) ((bounds_after w.bounds e r).least p))
-        (least_else : (q : ℕ) → q ≢ p → (bounds_after w.bounds e r).least q ≡ w.bounds.least q) where
+        (least_else : (q : ℕ) → q ≢ p → (bounds_after w.bounds e r).least q ≡ w.bounds.least q) (works : is_wait r ≡ false) where
       abbrev bounds_then : Bounds
       bounds_then = bounds_after w.bounds e r
 
@@ -302,7 +303,7 @@ module _ (k : Change) (seen : DeviceImages) (leaves : Outcomes) (c after : Parts
 
       lsns-then : great_of new + owed_in_all new ≤ bounds_then.lsns
       lsns-then = let was = f.bounds.lsns in let great = rec.great-then i (update k) made.put.spare image made.put.table made.put.pool made.put.places seen leaves c m' w f records good in let owed = owed-then in
-          lsns-sum _ _ _ _ _ was great owed
+          subst (λ (n : ℕ). great_of new + owed_in_all new ≤ n) (sym (works-four w.bounds e r works)) (lsns-sum _ _ _ _ _ was great owed)
         where
           lsns-sum : (g o g' o' n : ℕ) → g + o ≤ n → g' ≤ g + 1 → o' ≤ o + 2 → g' + o' ≤ n + 4
           lsns-sum g o g' o' n was great owed = omega arith

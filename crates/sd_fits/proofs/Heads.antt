@@ -9,7 +9,8 @@ use Rattle.sd_base.specs.declared.ids.TxnId.{TxnId}
 use Rattle.sd_base.specs.declared.place.Status.{Status}
 use Rattle.sd_base.specs.declared.place.Status.TheVariants as S
 use Rattle.sd_base.proofs.SameIds.{cases_txn, eq-same, ne-same}
-use Rattle.sd_model.specs.Applies.{count_of}
+use Rattle.sd_model.specs.Applies.{TakesChecks, count_of}
+use Rattle.sd_model.specs.Few.{Few}
 use Rattle.sd_model.specs.Listed.{IsAmong, NoneTwice}
 use Rattle.sd_model.specs.Lives.{SuitsStatus}
 use Rattle.sd_model.specs.State.{State}
@@ -172,3 +173,11 @@ module _ (seen : rig.DeviceImages) (leaves : Outcomes) (pend : Pending) (c : Par
         (λ h. found-key (txns_at c i).unresolved t
             (there-named (txn_at (txns_at c i) t) (m.part t).life _ _ ((g.instances i low high).names t h.0) h.1)),
       )
+
+  -- So one that may take a checkpoint has at most 64, where the serial table has no more of it.
+  pub few-rows : Few m → (i : ℕ) → 1 ≤ i → i ≤ 8 → TakesChecks (status_at c i) → IsDistinct same_txn (ids (txns_at c i))
+      → length (txns_at c i).unresolved ≤ 64
+  few-rows few i low high takes once =
+      let count = count-is i low high once in
+      let most = few i (subst TakesChecks (g.instances i low high).status takes) in
+      omega (arith, count, most)

@@ -30,3 +30,4 @@ pub mod Reopening
 pub mod Opened
 pub mod Framed
 pub mod Bodies
+pub mod Resting

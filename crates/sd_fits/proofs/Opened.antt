@@ -39,7 +39,7 @@ use Rattle.sd_chain.proofs.Soundly.{sound-opens}
 use Rattle.sd_chain.specs.Logs.{Outcomes}
 use Rattle.sd_chain.proofs.Epochs.{own-begun_of}
 use Rattle.sd_chain.proofs.Kept.{flat-records, log-here, log-past}
-use Rattle.sd_moves.specs.Opening.{OpensTo, has_open, is_any, is_down_in, is_loser, some_lost}
+use Rattle.sd_moves.specs.Opening.{OpensTo, has_open, is_down_in, is_loser, some_lost}
 use Rattle.sd_state.specs.Images.{kept_epoch}
 use Rattle.sd_state.specs.Sums.{most_to}
 use Rattle.sd_state.proofs.Summed.{most-at}

@@ -22,7 +22,7 @@ use Rattle.sd_chain.specs.Images.{Keeps}
 use Rattle.sd_chain.specs.Logs.{Outcomes, tails_of}
 use Rattle.sd_chain.specs.Named.{version_of}
 use Rattle.sd_world.specs.Answers.{Moves}
-use Rattle.sd_world.specs.Bounds.{Bounds, TellsNoPlace, Within, bounds_after, cost, counts, masters_after, slots_after, with_slot}
+use Rattle.sd_world.specs.Bounds.{Bounds, TellsNoPlace, Within, bounds_after, cost, counts, is_wait, masters_after, slots_after, with_slot}
 use Rattle.sd_world.proofs.Sums.{least-kept}
 use Rattle.sd_world.specs.Serving.{Core, Passes, Serves, Spares, Telling, Turns}
 use Rattle.sd_state.specs.Complexes.{parts}
@@ -66,6 +66,9 @@ masters-most old (CheckEnd j) i n f = go (cond (eqb j i) 1 0)
     go k = omega (arith, f)
 masters-most old e i n f = f
 
+pub lsns-most : (old more n : ℕ) → n ≤ old → n ≤ old + more
+lsns-most old more n f = omega (arith, f)
+
 -- what was within the sums is within those after any event that leaves the slots as they are, or whose slots aren't below what they
 -- have at least then
 pub bounds-with : (seen : DeviceImages) {leaves : Outcomes} (c : Parts) (b : Bounds) (e : Event) (r : Reply)
@@ -79,7 +82,7 @@ bounds-with seen c b e r least f = record {
       let more : b.reach i ≤ (bounds_after b e r).reach i = go (cond (eqb _ i) (cond (counts e r) (cost e) 0) 0) (b.reach i) in
       let f = f.reach moved i low high in
       (at-most _ _ _ f.0 more, at-most _ _ _ f.1 more);
-  lsns = let f = f.lsns in omega (arith, f);
+  lsns = lsns-most b.lsns (cond (is_wait r) 0 4) _ f.lsns;
   masters = λ i low high. masters-most b.masters e i _ (f.masters i low high);
   left_masters = λ i low high bytes left. masters-most b.masters e i _ (f.left_masters i low high bytes left);
 }

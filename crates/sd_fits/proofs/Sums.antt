@@ -1,5 +1,6 @@
--- What a crash leaves of a complex that fits is within the world's sums: for the law, and for whoever closes a complex.
-use Rattle.std.proofs.Common.{◌≡◌, ⊎_elim, ℕ, zero, suc, ◌+◌, ◌≤◌, Bool, true, false, cond, eqb, List, [], ◌∷◌, ◌++◌, refl, sym, ap, ◌∙◌, subst, arith}
+-- What a complex that fits has, and what a crash leaves of it, is within the world's sums: for the law, and for whoever closes a complex
+-- or shows a page.
+use Rattle.std.proofs.Common.{◌≡◌, ⊎_elim, ℕ, zero, suc, ◌+◌, ◌≤◌, Bool, true, false, cond, eqb, List, [], ◌∷◌, ◌++◌, refl, sym, ap, ap₂, ◌∙◌, subst, arith}
 use Rattle.std.specs.Prelude.{sum_by}
 use Rattle.std.proofs.lemmas.Bool.{cases_lt}
 use mathlib.Core.Path.{fun_ext}
@@ -7,12 +8,14 @@ use Rattle.sd_logrec.specs.Kept.{kept, master}
 use Rattle.sd_logrec.specs.View.{Rec}
 use Rattle.sd_log.specs.Logs.{LogState, StandsOn, forced, last_lsn, scanned}
 use Rattle.sd_page.specs.Page.{Page}
+use Rattle.sd_pagelock.specs.Places.{PageEntry, is_lost}
 use Rattle.sd_rig.specs.Devices as rig
 use Rattle.sd_chain.specs.Bytes.{disk_page, log_of, records_of, stable}
 use Rattle.sd_chain.specs.Checks.{gate_of, owed, owed_by_all, reserve}
 use Rattle.sd_chain.specs.Crashes.{CrashLeaves, StandsFor}
 use Rattle.sd_chain.specs.Storage.{newest}
-use Rattle.sd_chain.specs.Images.{Allowed, Keeps}
+use Rattle.sd_chain.specs.Cuts.{cut}
+use Rattle.sd_chain.specs.Images.{Allowed, Keeps, all_kept, with_disk}
 use Rattle.sd_chain.specs.Records.{Each, Val}
 use Rattle.sd_chain.proofs.Lists.{Each-front, Each-weaker}
 use Rattle.sd_chain.proofs.Crashes as crashes
@@ -20,10 +23,11 @@ use Rattle.sd_chain.specs.Named.{version_of}
 use Rattle.sd_chain.specs.Logs.{Logs, Outcomes, all_at, base_at, eight, kept_logs, owed_with, tail_at, tails_of, may_of}
 use Rattle.sd_chain.specs.Soundly.{IsReady}
 use Rattle.sd_chain.proofs.Kept.{forced-base, forced-start, kept-is, log-here, log-past}
-use Rattle.sd_chain.proofs.Lsns.{owed-most}
+use Rattle.sd_chain.proofs.Lsns.{newest-low, owed-most}
 use Rattle.sd_chain.proofs.ChecksPass.{logs-ready}
 use Rattle.sd_state.specs.Good.{Half, base_of, dir_of}
 use Rattle.sd_state.specs.Images.{leaves_by, log_by}
+use Rattle.sd_state.specs.Laws.{newest_of}
 use Rattle.sd_state.specs.Parts.{Parts, log_at}
 use Rattle.sd_state.specs.Sums.{great_of, owed_in_all}
 use Rattle.sd_state.specs.Values.{Pending, values}
@@ -36,10 +40,11 @@ use Rattle.sd_model.specs.Fields.{inst_of}
 use Rattle.sd_model.specs.declared.event.Event.{Event}
 use Rattle.sd_model.specs.declared.event.Reply.{Reply}
 use Rattle.sd_world.proofs.Sums.{least-kept}
-use Rattle.sd_world.specs.Bounds.{Bounds, TellsNoPlace, bounds_after, cost, counts}
+use Rattle.sd_world.specs.Bounds.{Bounds, TellsNoPlace, bounds_after, cost, counts, is_wait}
+use Rattle.sd_world.specs.Pages.{number_shown}
 use Rattle.sd_world.specs.Serving.{Core}
 use Rattle.sd_fits.specs.Fits.{AreAtLeast, AreWithin, Fits, capacities}
-use Rattle.sd_fits.proofs.Served.{masters-most, slots-within}
+use Rattle.sd_fits.proofs.Served.{lsns-most, masters-most, slots-within}
 use Rattle.sd_fits.specs.Sums.{HaveLsnsTo, IsWithinSums, LeftIsWithinSums}
 
 -- what is within the sums is within those after any event that leaves the slots as they are
@@ -51,10 +56,10 @@ sums-stay devices b e r told s = record {
   reach = λ i low high. let was = s.reach i low high in
       more (cond (eqb (inst_of e) i) (cond (counts e r) (cost e) 0) 0) (b.reach i) _ was;
   lsns = record {
-    owed = let was = s.lsns.owed in omega (arith, was);
-    logs = λ j. Each-weaker (λ x. x.lsn + owed_by_all devices ≤ b.lsns) (λ x. x.lsn + owed_by_all devices ≤ b.lsns + 4)
-        (λ x low. omega (arith, low)) (log_of devices j) (s.lsns.logs j);
-    pages = λ p lt. let was = s.lsns.pages p lt in omega (arith, was);
+    owed = later _ s.lsns.owed;
+    logs = λ j. Each-weaker (λ x. x.lsn + owed_by_all devices ≤ b.lsns) (λ x. x.lsn + owed_by_all devices ≤ (bounds_after b e r).lsns)
+        (λ x low. later _ low) (log_of devices j) (s.lsns.logs j);
+    pages = λ p lt. later _ (s.lsns.pages p lt);
   };
   masters = λ i low high. masters-most b.masters e i _ (s.masters i low high);
 }
@@ -62,11 +67,57 @@ sums-stay devices b e r told s = record {
     more : (x y n : ℕ) → n ≤ y → n ≤ x + y
     more x y n le = omega arith
 
+    later : (n : ℕ) → n ≤ b.lsns → n ≤ b.lsns + cond (is_wait r) 0 4
+    later n le = lsns-most b.lsns (cond (is_wait r) 0 4) n le
+
 few : (great o owes most : ℕ) → o ≤ owes → great + owes ≤ most → o ≤ most
 few great o owes most less sum = omega arith
 
 within : (x great o owes most : ℕ) → x ≤ great → o ≤ owes → great + owes ≤ most → x + o ≤ most
 within x great o owes most low few sum = omega arith
+
+-- ---- what a complex has
+
+module _ (seen : rig.DeviceImages) (leaves : Outcomes) (c : Parts) (w : Core) (f : Fits seen leaves c w) where
+  last-low : (j : ℕ) → 1 ≤ j → j ≤ 8 → Each (λ x. x.lsn ≤ great_of c) (all_at (log_at c j))
+  last-low j low high =
+      let le = most-at (λ n. last_lsn (scanned (log_at c n))) 8 j low high in
+      Each-weaker (λ x. x.lsn ≤ last_lsn (scanned (log_at c j))) (λ x. x.lsn ≤ great_of c) (λ x small. omega (arith, small, le))
+      (all_at (log_at c j)) (f.good.last j low high)
+
+  abbrev still : Keeps
+  still j = false
+
+  half-still : Half seen (leaves_by c still leaves) (log_at c) Pending.Idle c w.scene.state
+  half-still = f.good.half still
+
+  log-low : (j : ℕ) → Each (λ x. x.lsn ≤ great_of c) (all_at (log_at c j))
+  log-low zero = subst (Each (λ (x : Rec). x.lsn ≤ great_of c))
+      (sym (ap₂ (λ (b t : List Rec). b ++ t) half-still.coherent.eight.0 half-still.coherent.eight.1)) tt
+  log-low (suc j) = ⊎_elim
+      (λ lt. last-low (suc j) (omega arith) (omega (arith, lt)))
+      (λ ge. subst (Each (λ (x : Rec). x.lsn ≤ great_of c)) (sym (half-still.coherent.safe.eight (suc j) ge)) tt)
+      (cases_lt (suc j) 9)
+
+  -- no newest version of a page is above the greatest LSN
+  pub newest-within : (p : ℕ) → (newest_of seen leaves c p).lsn ≤ great_of c
+  newest-within p = newest-low (λ n. n ≤ great_of c) (cut all_kept (with_disk (tails_of (log_at c)) (disk_page (seen 0)))) p
+      (known-low seen leaves Pending.Idle c w.scene.state f.good still (great_of c) (omega arith) last-low p (disk_page (seen 0) p)
+      (half-still.coherent.reads p)) log-low
+
+  -- nor is what is shown of one above the world's sums
+  pub shown-within : (p : ℕ) → number_shown (w.pages.entry p) (w.pages.number p) ≤ w.bounds.lsns
+  shown-within p = by (w.pages.entry p) (λ there. let is = f.pages.number p there in let low = newest-within p in let sums = f.bounds.lsns in
+      omega (arith, is, low, sums))
+    where
+      by : (e : PageEntry) → (is_lost e ≡ false → w.pages.number p ≤ w.bounds.lsns) → number_shown e (w.pages.number p) ≤ w.bounds.lsns
+      by PageEntry.Free low = omega arith
+      by (PageEntry.Shared set writer) low = low refl
+      by (PageEntry.Excl holder dirty) low = low refl
+      by (PageEntry.Moving to mode rest dirty) low = low refl
+      by PageEntry.Lost low = omega arith
+
+-- ---- and what a crash leaves of it
 
 module _ (leaves : Outcomes) (seen img : rig.DeviceImages) (c : Parts) (w : Core) (f : Fits seen leaves c w) (left : rig.Leaves leaves img) where
   abbrev moved : Keeps
@@ -142,12 +193,6 @@ module _ (leaves : Outcomes) (seen img : rig.DeviceImages) (c : Parts) (w : Core
       let all = most-in-all c logs (λ j low high. owes-at-most seen leaves Pending.Idle c w.scene.state f.good moved j low high) in
       omega (arith, same, most, all)
 
-  last-low : (j : ℕ) → 1 ≤ j → j ≤ 8 → Each (λ x. x.lsn ≤ great_of c) (all_at (log_at c j))
-  last-low j low high =
-      let le = most-at (λ n. last_lsn (scanned (log_at c n))) 8 j low high in
-      Each-weaker (λ x. x.lsn ≤ last_lsn (scanned (log_at c j))) (λ x. x.lsn ≤ great_of c) (λ x small. omega (arith, small, le))
-      (all_at (log_at c j)) (f.good.last j low high)
-
   some : (P : Rec → Type 0) (b : Bool) (xs ys : List Rec) → Each P (xs ++ ys) → Each P (xs ++ cond b ys [])
   some P true xs ys each = each
   some P false xs ys each = append-none xs (Each-front P xs ys each)
@@ -161,12 +206,12 @@ module _ (leaves : Outcomes) (seen img : rig.DeviceImages) (c : Parts) (w : Core
   lsns-low (suc j) = ⊎_elim
       (λ lt. subst (Each (λ x. x.lsn ≤ great_of c)) (sym (log-is (suc j)))
       (some (λ x. x.lsn ≤ great_of c) (keeps (suc j)) (base_at (logs (suc j))) (tail_at (logs (suc j)))
-      (each-by (λ x. x.lsn ≤ great_of c) c moved (suc j) (last-low (suc j) (omega arith) (omega (arith, lt))))))
+      (each-by (λ x. x.lsn ≤ great_of c) c moved (suc j) (last-low seen leaves c w f (suc j) (omega arith) (omega (arith, lt))))))
       (λ ge. subst (Each (λ x. x.lsn ≤ great_of c)) (sym (log-past img (suc j) ge)) tt)
       (cases_lt (suc j) 9)
 
   page-low : (p : ℕ) → (disk_page (img 0) p).lsn ≤ great_of c
-  page-low p = known-low seen leaves Pending.Idle c w.scene.state f.good moved (great_of c) (omega arith) last-low p
+  page-low p = known-low seen leaves Pending.Idle c w.scene.state f.good moved (great_of c) (omega arith) (last-low seen leaves c w f) p
       (disk_page (img 0) p) (img 0, left' 0 (omega arith), refl)
 
   lsns : HaveLsnsTo w.bounds.lsns img

@@ -4,3 +4,5 @@ pub mod Fits
 pub mod Opened
 pub mod Serving
 pub mod Sums
+pub mod Resting
+pub mod Untouched

@@ -1,10 +1,11 @@
 -- When a loser's last open record may be undone by the instance that recovers, and what holds then: for the call `undo_forced`.
-use Rattle.std.proofs.Common.{◌≡◌, ℕ, ◌≤◌, true, false, [], sym, ap, ◌∙◌, subst}
+use Rattle.std.proofs.Common.{◌≡◌, ℕ, ◌≤◌, true, false, List, [], ◌∷◌, ◌++◌, sym, ap, ◌∙◌, subst}
 use Rattle.std.specs.Prelude.{Some, Result, Ok, Err, OnOk}
 use Rattle.std.specs.List.{IsDistinct}
 use Rattle.sd_base.specs.Ids.{same_txn}
 use Rattle.sd_base.specs.declared.ids.TxnId.{TxnId}
 use Rattle.sd_log.specs.Logs.{AreSpelled, LogState, forced, scanned}
+use Rattle.sd_logrec.specs.declared.record.Record.{Record}
 use Rattle.sd_model.specs.State.{State}
 use Rattle.sd_page.specs.Page.{Page}
 use Rattle.sd_rig.specs.Devices as rig
@@ -49,6 +50,11 @@ pub own-forced : (a : ℕ) (owes : ℕ) (c new : Parts) → IsShape c → 1 ≤ 
     → (log_at new a).tail ≡ []
 own-forced a owes c new s low high is = ap (λ (q : Parts). (log_at q a).tail) is
     ∙ ap (λ (l : LogState). l.tail) (item-set no_log c.logs a (forced (log_at c a)) low high s.logs) ∙ forced-tail (log_at c a)
+
+-- a log with a record at its end has a tail
+pub some-tail : (xs : List Record) (r : Record) → xs ++ r ∷ [] ≡ [] → ⊥
+some-tail [] r e = absurd (cc)
+some-tail (x ∷ xs) r e = absurd (cc)
 
 -- a log that is forced owes what all of its records owe
 pub own-owes : (a : ℕ) (seen : rig.DeviceImages) (leaves : Outcomes) (c new : Parts) (m : State) → Good seen leaves Pending.Idle new m → IsShape c

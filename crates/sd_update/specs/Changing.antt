@@ -81,12 +81,13 @@ changed_log i k spare c = with_record (update k) spare (log_at c i)
 abbrev pub changed_row : Change → Transaction → Transaction
 changed_row k x = noted k.lsn (pushed (opened k) x)
 
--- The table, where x was known of the transaction, the pool, which had this image, and the directory have the change.
+-- The table, where x was known of the transaction, the pool, which had this image and used its page last, and the directory have the change.
 pub record IsChanged (i : ℕ) (k : Change) (x : Transaction) (image : Page) (table : Transactions) (pool : Buffers)
     (places : DirectoryState Page) (c : Parts) : Type 0 where
   pub row : Replaces (txns_at c i) table k.txn x (changed_row k x)
   pub bytes : reserve_of table + bytes_owed x ≡ reserve_of (txns_at c i) + bytes_owed (changed_row k x)
   pub records : owed_of table + records_owed x ≡ owed_of (txns_at c i) + records_owed (changed_row k x)
+  pub rewrites : pool ≡ buffers.rewritten (pool_at c i) k.rid.page (redo image (flat_of k))
   pub page : buffers.image_at pool k.rid.page ≡ Some (redo image (flat_of k))
   pub other_pages : (q : ℕ) → q ≢ k.rid.page → buffers.image_at pool q ≡ buffers.image_at (pool_at c i) q
   pub frames : pool.frames ≡ (pool_at c i).frames

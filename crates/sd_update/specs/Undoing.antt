@@ -91,7 +91,7 @@ pub record MayUndo (t : TxnId) (x : Transaction) (o : OpenRec) (image : Page) (c
   pub marks : AreMarks x.marks (depth x)
 
 -- The log has the record, with what it leaves to spare; the row is without the last open record; the pool of instance a has the page
--- with the value before; and the page is changed.
+-- with the value before, and used it last; and the page is changed.
 pub record IsUndone (a : ℕ) (t : TxnId) (x : Transaction) (o : OpenRec) (image : Page) (log : LogState) (pool : Buffers)
     (table : Transactions)
     (places : DirectoryState Page) (c : Parts) : Type 0 where
@@ -99,6 +99,7 @@ pub record IsUndone (a : ℕ) (t : TxnId) (x : Transaction) (o : OpenRec) (image
   pub grown : log ≡ with_record (clr_at t x o image c) spare (log_at c (home t))
   pub spent : (log_at c (home t)).spare ≤ spare + length (spelling (clr_at t x o image c))
   pub row : Replaces (txns_at c (home t)) table t x (noted (lsn_for t image c) (popped x))
+  pub rewrites : pool ≡ buffers.rewritten (pool_at c a) o.rid.page (redo image (flat (clr_at t x o image c)))
   pub page : buffers.image_at pool o.rid.page ≡ Some (redo image (flat (clr_at t x o image c)))
   pub other_pages : (q : ℕ) → q ≢ o.rid.page → buffers.image_at pool q ≡ buffers.image_at (pool_at c a) q
   pub frames : pool.frames ≡ (pool_at c a).frames

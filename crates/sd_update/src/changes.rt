@@ -11,12 +11,12 @@ ghost use Rattle.sd_log.specs.Logs.{needed, with_record};
 ghost use Rattle.sd_logrec.specs.Lent.{update_record};
 ghost use Rattle.sd_logrec.specs.Spelling.{HasSpelling, IsTxn, spelling};
 ghost use Rattle.sd_model.specs.State.{State};
-ghost use Rattle.sd_page.specs.Page.{CanTake, after_of, applied};
+ghost use Rattle.sd_page.specs.Page.{CanTake, Page, after_of, applied};
 ghost use Rattle.sd_pagelock.specs.Asks.{open_asks};
 ghost use Rattle.sd_pagelock.specs.Directory.{asks_at, entry_at, kept_rec, moving_image_at, rec_lsn_at};
 ghost use Rattle.sd_pagelock.specs.Places.{changed, owns};
 ghost use Rattle.sd_pagelock.specs.Rows.{dirtied};
-ghost use Rattle.sd_pool.specs.Buffers.{image_at};
+ghost use Rattle.sd_pool.specs.Buffers.{image_at, rewritten};
 ghost use Rattle.sd_reclock.specs.Locks.{held};
 ghost use Rattle.sd_update.specs.Changing.{FitsThere, IsMade, IsPut, IsRowPut, LacksLsns, LacksRoom, change_in, change_of, image_for, owed_then, putting, record_for, reserve_then, row_for, update};
 ghost use Rattle.sd_state.specs.Complexes.{parts};
@@ -436,6 +436,7 @@ fn rewrite(pool: &mut Pool, p: PageNo, op: &Op, lsn: Lsn)
         (λ image. CanTake image.slots op.now.slot op.now.capacity (size (after_of op.now))) }
     requires held { IsSome (image_at pool.old p) }
     ensures here { image_at pool.new p ≡ option_map (applied op.now lsn) (image_at pool.old p) }
+    ensures pool { (image : Page) → image_at pool.old p ≡ Some image → pool.new ≡ rewritten pool.old p (applied op.now lsn image) }
     ensures others { (q : ℕ) → q ≢ p → image_at pool.new q ≡ image_at pool.old q }
     ensures frames { pool.new.frames ≡ pool.old.frames }
 {

@@ -1,6 +1,6 @@
 //! The undo of a loser's last open record by the instance that recovers the loser's.
 
-ghost use Rattle.std.specs.Prelude.{◌≡◌, ◌⊎◌, ◌+◌, ◌≤◌, ℕ, [], length, true, None, Some, Err, IfErr, IfOk, IsSome, OnErr, OnOk};
+ghost use Rattle.std.specs.Prelude.{◌≡◌, ◌≢◌, ◌⊎◌, ◌+◌, ◌≤◌, ℕ, [], length, true, None, Some, Err, IfErr, IfOk, IsSome, OnErr, OnOk};
 ghost use Rattle.sd_base.specs.Streams.{Rises};
 ghost use Rattle.sd_base.specs.declared.refusal.Refusal.TheVariants as R;
 ghost use Rattle.sd_logrec.specs.Spelling.{HasSpelling, spelling};
@@ -11,7 +11,7 @@ ghost use Rattle.sd_page.specs.Page.{Page};
 ghost use Rattle.sd_txn.specs.Transactions.{Transaction, top_at};
 ghost use Rattle.sd_txn.specs.declared.state.OpenRec.{OpenRec};
 ghost use Rattle.sd_model.specs.State.{State};
-ghost use Rattle.sd_rig.specs.Devices.{Elapses, Span};
+ghost use Rattle.sd_rig.specs.Devices.{Elapses, LeavesSame, Span};
 ghost use Rattle.sd_state.specs.Complexes.{parts};
 ghost use Rattle.sd_state.specs.Forcing.{KeepMasters, with_failed};
 ghost use Rattle.sd_state.specs.Good.{Good};
@@ -34,7 +34,8 @@ use sd_txn::TxnTable;
 /// loser's log.
 ///
 /// `Failed` comes only where the rig's count of faults rose; then a fall is due, by the log whose force failed. `Memory` comes
-/// before anything is undone. The state of the serial table is the same throughout, and the data device reads as before.
+/// before anything is undone. The state of the serial table is the same throughout, and all devices but the two logs' read as before,
+/// and would be left so by a crash. An undo that is `Ok` is four device calls, and four more where the log of `by` had a tail.
 pub fn undo_forced<G: Rig>(c: &mut Complex<G>, t: &TxnId, by: InstNo) -> Result<(), Refusal>
     requires good { (m : State) × Good (G.seen c.old.rig) (G.leaves c.old.rig) Pending.Idle (parts c.old) m }
     requires may { MayUndoLoser by t.now (parts c.old) }
@@ -46,6 +47,11 @@ pub fn undo_forced<G: Rig>(c: &mut Complex<G>, t: &TxnId, by: InstNo) -> Result<
     ensures time { Elapses (G.moment c.old.rig) (G.moment c.new.rig) (G.since c.old.rig) (G.since c.new.rig) }
     ensures disk { G.seen c.new.rig 0 ≡ G.seen c.old.rig 0 }
     ensures masters { KeepMasters (G.leaves c.old.rig) (G.leaves c.new.rig) }
+    ensures others { (d : ℕ) → d ≢ by → d ≢ t.now.inst → G.seen c.new.rig d ≡ G.seen c.old.rig d }
+    ensures others_leave { (d : ℕ) → d ≢ by → d ≢ t.now.inst → LeavesSame (G.leaves c.old.rig d) (G.leaves c.new.rig d) }
+    ensures tick { OnOk result (G.moment c.new.rig ≤ G.moment c.old.rig + 8) }
+    ensures four { (log_at (parts c.old) by).tail ≡ [] → OnOk result (G.moment c.new.rig ≡ G.moment c.old.rig + 4) }
+    ensures eight { (log_at (parts c.old) by).tail ≢ [] → OnOk result (G.moment c.new.rig ≡ G.moment c.old.rig + 8) }
 
     ensures undone { OnOk result (HasUndoneFor by t.now (parts c.old) (parts c.new)) }
     ensures idle { OnOk result ((parts c.new).due ≡ None) }

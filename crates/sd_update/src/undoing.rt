@@ -13,7 +13,7 @@ ghost use Rattle.sd_model.specs.State.{State};
 ghost use Rattle.sd_page.specs.Page.{CanTake, Page, after_of, applied};
 ghost use Rattle.sd_pagelock.specs.Directory.{entry_at};
 ghost use Rattle.sd_pagelock.specs.Places.{owns};
-ghost use Rattle.sd_pool.specs.Buffers.{image_at};
+ghost use Rattle.sd_pool.specs.Buffers.{image_at, rewritten};
 ghost use Rattle.sd_txn.specs.Transactions.{Replaces, Transaction, noted, popped, span_at, top_at, txn_at};
 ghost use Rattle.sd_txn.specs.declared.state.OpenRec.{OpenRec};
 ghost use Rattle.sd_chain.specs.Pages.{FitsUndo, redo};
@@ -108,6 +108,8 @@ pub fn take_back(table: &mut TxnTable, pool: &mut Pool, t: &TxnId, prev: Lsn, ls
         → result ≡ records.Clr lsn t.now prev o.prev o.rid.page o.rid.slot o.before }
     ensures page { (o : OpenRec) (image : Page) → top_at table.old t.now ≡ Some o → image_at pool.old o.rid.page ≡ Some image
         → image_at pool.new o.rid.page ≡ Some (redo image (flat result)) }
+    ensures pool { (o : OpenRec) (image : Page) → top_at table.old t.now ≡ Some o → image_at pool.old o.rid.page ≡ Some image
+        → pool.new ≡ rewritten pool.old o.rid.page (redo image (flat result)) }
     ensures others { (o : OpenRec) → top_at table.old t.now ≡ Some o
         → (q : ℕ) → q ≢ o.rid.page → image_at pool.new q ≡ image_at pool.old q }
     ensures frames { pool.new.frames ≡ pool.old.frames }
@@ -135,6 +137,8 @@ fn put_before(last: OpenRec, prev: Lsn, t: &TxnId, lsn: Lsn, pool: &mut Pool) ->
     ensures clr { result ≡ records.Clr lsn t.now prev last.prev last.rid.page last.rid.slot last.before }
     ensures page { (image : Page) → image_at pool.old last.rid.page ≡ Some image
         → image_at pool.new last.rid.page ≡ Some (redo image (flat result)) }
+    ensures pool { (image : Page) → image_at pool.old last.rid.page ≡ Some image
+        → pool.new ≡ rewritten pool.old last.rid.page (redo image (flat result)) }
     ensures others { (q : ℕ) → q ≢ last.rid.page → image_at pool.new q ≡ image_at pool.old q }
     ensures frames { pool.new.frames ≡ pool.old.frames }
 {
@@ -162,6 +166,7 @@ fn rewrite(pool: &mut Pool, page: PageNo, op: &Op, lsn: Lsn)
     requires takes { (image : Page) × ((image_at pool.old page ≡ Some image)
         × CanTake image.slots op.now.slot op.now.capacity (size (after_of op.now))) }
     ensures page { (image : Page) → image_at pool.old page ≡ Some image → image_at pool.new page ≡ Some (applied op.now lsn image) }
+    ensures pool { (image : Page) → image_at pool.old page ≡ Some image → pool.new ≡ rewritten pool.old page (applied op.now lsn image) }
     ensures others { (q : ℕ) → q ≢ page → image_at pool.new q ≡ image_at pool.old q }
     ensures frames { pool.new.frames ≡ pool.old.frames }
 {

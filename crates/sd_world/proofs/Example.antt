@@ -10,7 +10,7 @@ use Rattle.sd_base.specs.declared.place.Place.TheVariants as coded
 use Rattle.sd_base.specs.declared.place.Status.TheVariants as Status
 use Rattle.sd_base.specs.declared.refusal.Refusal.TheVariants as R
 use Rattle.sd_model.specs.declared.cause.Cause.{Cause}
-use Rattle.sd_model.specs.declared.event.Event.TheVariants.{Add, Write, Read, Ask, Give, Take, Evict, Flush, Fail, CheckEnd, Insert}
+use Rattle.sd_model.specs.declared.event.Event.TheVariants.{Add, Write, Read, Ask, Give, Take, Evict, Flush, Fail, CheckEnd, Insert, Show}
 use Rattle.sd_model.specs.declared.event.Reply.TheVariants as reply
 use Rattle.sd_model.specs.declared.act.Act.TheVariants.{Put}
 use Rattle.sd_model.specs.declared.act.Claim.{Claim}
@@ -208,6 +208,19 @@ no_lsns = omega arith
 
 has_room : Within up far_from_end (Write one r []) (reply.Refused R.LogFull) → ⊥
 has_room h = absurd (omega arith)
+
+-- who only waits takes no LSN, and who is refused for their end takes some
+waits_free : (bounds_after near_end (Read two r) (reply.Refused (R.Blocked one))).lsns ≡ 4611686018427387900
+waits_free = refl
+
+refusal_counts : (bounds_after near_end (Write one r []) (reply.Refused R.LsnEnd)).lsns ≡ 4611686018427387904
+refusal_counts = refl
+
+shown : Within up near_end (Show 5) (reply.Shown coded.Free 4611686018427387900)
+shown = omega arith
+
+never_shown : Within up near_end (Show 5) (reply.Shown coded.Free 4611686018427387901) → ⊥
+never_shown h = absurd (omega (arith, h))
 
 -- a slot is known from its insert on
 one_slot : (bounds_after far_from_end (Insert one 5 [] 20) (reply.At r)).slots 5 ≡ 20 ∷ []

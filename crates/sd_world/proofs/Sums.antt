@@ -2,6 +2,7 @@
 use Rattle.std.proofs.Common.{◌≡◌, ◌≢◌, refl, ap, ◌∙◌, ne_eqb, ℕ, zero, suc, ◌+◌, ◌≤◌, Bool, true, false, cond, eqb, List, [], ◌∷◌, length, sym, subst, arith}
 use Rattle.std.specs.Prelude.{max, sum}
 use Rattle.std.proofs.lemmas.List.Sums.{sum_by-cons}
+use Rattle.sd_base.specs.declared.place.Place.{Place}
 use Rattle.sd_base.specs.declared.refusal.Refusal.TheVariants as R
 use Rattle.sd_model.specs.declared.event.Entry.{Entry}
 use Rattle.sd_model.specs.declared.event.Event.{Event}
@@ -9,9 +10,9 @@ use Rattle.sd_model.specs.declared.event.Event.TheVariants.{Write, Add, Insert, 
 use Rattle.sd_model.specs.declared.event.Reply.{Reply}
 use Rattle.sd_model.specs.declared.event.Reply.TheVariants as reply
 use Rattle.sd_model.specs.Fields.{inst_of}
-use Rattle.sd_world.specs.Bounds.{Bounds, bounds_after, cost, counts, increased, masters_after, least_after, slots_after, with_slot, IsPageFull, IsLogFull, IsEnd, IsTooLong, TellsNoPlace}
+use Rattle.sd_world.specs.Bounds.{Bounds, bounds_after, cost, counts, increased, masters_after, least_after, slots_after, with_slot, IsPageFull, IsLogFull, IsEnd, IsTooLong, TellsNoPlace, is_wait}
 use Rattle.sd_world.specs.Serving.{Core, Turns}
-use Rattle.sd_world.specs.Leading.{Leads}
+use Rattle.sd_world.specs.Leading.{Leads, Tries, TriesBy}
 use Rattle.sd_world.specs.Laws.{Grows}
 
 with-more : (slots : List ℕ) (slot capacity : ℕ) → length slots ≤ length (with_slot slots slot capacity)
@@ -50,6 +51,9 @@ increased-more i n old j = go (cond (eqb i j) n 0) (old j)
     go : (x y : ℕ) → y ≤ x + y
     go x y = omega arith
 
+lsns-more : (old more : ℕ) → old ≤ old + more
+lsns-more old more = omega arith
+
 masters-more : (old : ℕ → ℕ) (e : Event) (i : ℕ) → old i ≤ masters_after old e i
 masters-more old (CheckEnd j) i = increased-more j 1 old i
 masters-more old e i = omega arith
@@ -59,9 +63,23 @@ sums-grow b e r = record {
   counts = λ p. (slots-more b.slots e r p).0;
   slots = λ p. (slots-more b.slots e r p).1;
   reach = λ i. increased-more (inst_of e) (cond (counts e r) (cost e) 0) b.reach i;
-  lsns = omega arith;
+  lsns = lsns-more b.lsns (cond (is_wait r) 0 4);
   masters = λ i. masters-more b.masters e i;
 }
+
+-- LSNs go on by four at most, and by none where the reply only waits
+pub lsns-little : (b : Bounds) (e : Event) (r : Reply) → (bounds_after b e r).lsns ≤ b.lsns + 4
+lsns-little b e r = go (is_wait r)
+  where
+    go : (w : Bool) → b.lsns + cond w 0 4 ≤ b.lsns + 4
+    go true = omega arith
+    go false = omega arith
+
+pub waits-free : (b : Bounds) (e : Event) (r : Reply) → is_wait r ≡ true → (bounds_after b e r).lsns ≡ b.lsns
+waits-free b e r waits = ap (λ (w : Bool). b.lsns + cond w 0 4) waits ∙ omega arith
+
+pub works-four : (b : Bounds) (e : Event) (r : Reply) → is_wait r ≡ false → (bounds_after b e r).lsns ≡ b.lsns + 4
+works-four b e r works = ap (λ (w : Bool). b.lsns + cond w 0 4) works
 
 pub one_log-grows : (b : Bounds) (e : Event) (r : Reply) (i : ℕ) → inst_of e ≢ i → (bounds_after b e r).reach i ≡ b.reach i
 one_log-grows b e r i ne = ap (λ (x : Bool). cond x (cond (counts e r) (cost e) 0) 0 + b.reach i) (ne_eqb (inst_of e) i ne) ∙ omega arith
@@ -104,6 +122,13 @@ run-grows [] old new h = subst (λ (w : Core). Grows old.bounds w.bounds) h (gro
 run-grows (e ∷ es) old new h = grows-on old.bounds h.0.bounds new.bounds
     (subst (Grows old.bounds) (sym h.1.sums) (sums-grow old.bounds e.event e.reply)) (run-grows es h.0 new h.2)
 
+tries-lsns : (ts : List (Event × Reply)) (old new : Core) → TriesBy old ts new → new.bounds.lsns ≡ old.bounds.lsns
+tries-lsns [] old new h = sym (ap (λ (w : Core). w.bounds.lsns) h)
+tries-lsns (t ∷ ts) old new h = tries-lsns ts h.0 new h.3 ∙ ap (λ (b : Bounds). b.lsns) h.1.sums ∙ waits-free old.bounds t.0 t.1 h.2
+
+pub tries-free : (old new : Core) → Tries old new → new.bounds.lsns ≡ old.bounds.lsns
+tries-free old new h = tries-lsns h.0 old new h.1
+
 -- ---- what the sums allow
 
 pub full-page : (old : Core) (e : Event) (new : Core) → Turns old e (reply.Refused R.PageFull) new → IsPageFull old.bounds e
@@ -117,3 +142,6 @@ lsns-end old e new h = h.within
 
 pub long-slot : (old : Core) (e : Event) (new : Core) → Turns old e (reply.Refused R.TooLong) new → IsTooLong old.scene.state old.bounds e
 long-slot old e new h = h.within
+
+pub shown-bounded : (old : Core) (e : Event) (place : Place) (lsn : ℕ) (new : Core) → Turns old e (reply.Shown place lsn) new → lsn ≤ old.bounds.lsns
+shown-bounded old e place lsn new h = h.within

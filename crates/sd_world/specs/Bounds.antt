@@ -78,13 +78,23 @@ abbrev pub masters_after : (ℕ → ℕ) → Event → ℕ → ℕ
 masters_after old (CheckEnd i) = increased i 1 old
 masters_after old e = old
 
--- the bounds after an event and its reply; an event takes four LSNs at most
+-- a reply that has its caller wait and try again, until a page comes, a record is free, a recovery has gone on or a frame is
+abbrev pub is_wait : Reply → Bool
+is_wait (reply.Asked of) = true
+is_wait (reply.Refused (R.Blocked by)) = true
+is_wait (reply.Refused (R.NeedPage place)) = true
+is_wait (reply.Refused R.Lost) = true
+is_wait (reply.Refused (R.MovingTo to)) = true
+is_wait (reply.Refused R.PoolFull) = true
+is_wait r = false
+
+-- the bounds after an event and its reply; an event takes four LSNs at most, and one that only waits takes none
 abbrev pub bounds_after : Bounds → Event → Reply → Bounds
 bounds_after b e r = record {
   slots = slots_after b.slots e r;
   least = least_after b.least e r;
   reach = increased (inst_of e) (cond (counts e r) (cost e) 0) b.reach;
-  lsns = b.lsns + 4;
+  lsns = b.lsns + cond (is_wait r) 0 4;
   masters = masters_after b.masters e;
 }
 
@@ -134,8 +144,9 @@ abbrev pub IsNear : Bounds → Event → Rid → Type 0
 IsNear b (Insert t p v capacity) r = r.slot ≤ length (b.slots p)
 IsNear b e r = Unit {0}
 
--- the bounds allow the reply
+-- the bounds allow the reply; the LSN of a page that is shown is none above theirs
 abbrev pub Within : State → Bounds → Event → Reply → Type 0
 Within m b e (reply.At r) = IsNear b e r
 Within m b e (reply.Refused n) = Allows m b e n
+Within m b e (reply.Shown place lsn) = lsn ≤ b.lsns
 Within m b e r = Unit {0}

@@ -9,7 +9,7 @@ use Rattle.sd_model.specs.declared.cause.Cause.{Cause}
 use Rattle.sd_model.specs.declared.event.Entry.{Entry}
 use Rattle.sd_model.specs.declared.event.Event.{Event}
 use Rattle.sd_model.specs.declared.event.Reply.{Reply}
-use Rattle.sd_model.specs.declared.event.Reply.TheVariants.{Refused}
+use Rattle.sd_model.specs.declared.event.Reply.TheVariants.{Refused, Shown}
 use Rattle.sd_model.specs.State.{State}
 use Rattle.sd_model.specs.Applies.{IsRecovering}
 use Rattle.sd_model.specs.Fields.{inst_of}
@@ -23,9 +23,9 @@ use Rattle.sd_pagelock.specs.Asks.{asks_by}
 use Rattle.sd_world.specs.Pages.{Pages, AreFormed, fell}
 use Rattle.sd_world.specs.PageCauses.{PagesSay, decided}
 use Rattle.sd_world.specs.Answers.{Moves}
-use Rattle.sd_world.specs.Bounds.{Bounds, bounds_after, IsPageFull, IsLogFull, IsEnd, IsTooLong}
+use Rattle.sd_world.specs.Bounds.{Bounds, bounds_after, IsPageFull, IsLogFull, IsEnd, IsTooLong, is_wait}
 use Rattle.sd_world.specs.Serving.{Core, Turns, Telling, KeepsEarlier, Passes}
-use Rattle.sd_world.specs.Leading.{Leads, ExactRun}
+use Rattle.sd_world.specs.Leading.{Leads, LeadsOn, ExactRun, Tries}
 
 -- no device failed in it
 abbrev pub IsPlain : Refusal → Type 0
@@ -121,6 +121,13 @@ OneLogGrows = (b : Bounds) (e : Event) (r : Reply) (i : ℕ) → inst_of e ≢ i
 abbrev pub LogsGrowLittle : Type 0
 LogsGrowLittle = (b : Bounds) (e : Event) (r : Reply) (i : ℕ) → (bounds_after b e r).reach i ≤ b.reach i + 14000
 
+-- LSNs go on by four at most, and by none while replies only wait
+abbrev pub LsnsGrowLittle : Type 0
+LsnsGrowLittle = (b : Bounds) (e : Event) (r : Reply) → (bounds_after b e r).lsns ≤ b.lsns + 4
+
+abbrev pub TriesTakeNoLsn : Type 0
+TriesTakeNoLsn = (old new : Core) → Tries old new → new.bounds.lsns ≡ old.bounds.lsns
+
 -- sums don't fall along a run
 abbrev pub RunGrows : Type 0
 RunGrows = (es : List Entry) (old new : Core) → Leads old es new → Grows old.bounds new.bounds
@@ -139,6 +146,10 @@ EndsOnlyByLsns = (old : Core) (e : Event) (new : Core) → Turns old e (Refused 
 abbrev pub LongOnlyBySlot : Type 0
 LongOnlyBySlot = (old : Core) (e : Event) (new : Core) → Turns old e (Refused R.TooLong) new → IsTooLong old.scene.state old.bounds e
 
+-- the LSN of a page that is shown is none above the sums
+abbrev pub ShownIsBounded : Type 0
+ShownIsBounded = (old : Core) (e : Event) (place : Place) (lsn : ℕ) (new : Core) → Turns old e (Shown place lsn) new → lsn ≤ old.bounds.lsns
+
 -- a run after a run is a run
 abbrev pub LeadsJoin : Type 0
 LeadsJoin = (es fs : List Entry) (old mid new : Core) → Leads old es mid → Leads mid fs new → Leads old (es ++ fs) new
@@ -146,6 +157,18 @@ LeadsJoin = (es fs : List Entry) (old mid new : Core) → Leads old es mid → L
 -- a run with one entry more is a run
 abbrev pub LeadsGrow : Type 0
 LeadsGrow = (es : List Entry) (e : Entry) (old mid new : Core) → Leads old es mid → Turns mid e.event e.reply new → Leads old (es ++ e ∷ []) new
+
+-- a run without tries is one with tries
+abbrev pub LeadsWithTries : Type 0
+LeadsWithTries = (es : List Entry) (old new : Core) → Leads old es new → LeadsOn old es new
+
+-- one entry more, or a try behind the last one, and it is such a run still
+abbrev pub LeadsOnGrow : Type 0
+LeadsOnGrow = (es : List Entry) (e : Entry) (old mid new : Core) → LeadsOn old es mid → Turns mid e.event e.reply new → LeadsOn old (es ++ e ∷ []) new
+
+abbrev pub TryLeadsOn : Type 0
+TryLeadsOn = (es : List Entry) (e : Event) (r : Reply) (old mid new : Core) → es ≢ [] → LeadsOn old es mid → Turns mid e r new
+    → is_wait r ≡ true → LeadsOn old es new
 
 -- a run of cores is a run of the serial table, and one of scenes with exact waits
 abbrev pub LeadsRuns : Type 0

@@ -3,7 +3,7 @@
 ghost use Rattle.sd_rig.specs.Devices.{DeviceImages};
 ghost use Rattle.sd_model.specs.State.{State};
 ghost use Rattle.sd_world.specs.Serving.{telling};
-ghost use Rattle.sd_world.specs.Laws.{CauseIsSaid, AnswerIsClear, RefusalLeavesPages, RefusalLeavesState, RefusedByPages, MovesKeepForm, RunKeepsForm, FallenHasNone, OthersHoldOn, LossStaysKnown, SumsGrow, OneLogGrows, LogsGrowLittle, RunGrows, FullOnlyByPage, FullOnlyByLog, EndsOnlyByLsns, LongOnlyBySlot, LeadsJoin, LeadsGrow, LeadsRuns, LeadsExactly, SparedPasses, PassesSpared};
+ghost use Rattle.sd_world.specs.Laws.{CauseIsSaid, AnswerIsClear, RefusalLeavesPages, RefusalLeavesState, RefusedByPages, MovesKeepForm, RunKeepsForm, FallenHasNone, OthersHoldOn, LossStaysKnown, SumsGrow, OneLogGrows, LogsGrowLittle, LsnsGrowLittle, TriesTakeNoLsn, RunGrows, FullOnlyByPage, FullOnlyByLog, EndsOnlyByLsns, LongOnlyBySlot, ShownIsBounded, LeadsJoin, LeadsGrow, LeadsWithTries, LeadsOnGrow, TryLeadsOn, LeadsRuns, LeadsExactly, SparedPasses, PassesSpared};
 
 use sd_rig::Rig;
 
@@ -38,22 +38,29 @@ pub fn losses()
     ensures { LossStaysKnown }
 {}
 
-/// Sums don't fall, and a page, a log or the LSNs come to an end, or a slot is too small, only where the sums say so.
+/// Sums don't fall, LSNs go on by none where replies only wait, and a page, a log or the LSNs come to an end, or a slot is too small,
+/// only where the sums say so; nor is an LSN above them shown.
 pub fn sums()
     ensures grow { SumsGrow }
     ensures one { OneLogGrows }
     ensures little { LogsGrowLittle }
+    ensures numbers { LsnsGrowLittle }
+    ensures waits { TriesTakeNoLsn }
     ensures run { RunGrows }
     ensures page { FullOnlyByPage }
     ensures log { FullOnlyByLog }
     ensures lsns { EndsOnlyByLsns }
     ensures slot { LongOnlyBySlot }
+    ensures shown { ShownIsBounded }
 {}
 
-/// Runs are put together, and each is a run of the serial table with exact waits.
+/// Runs are put together, also with tries behind entries, and each without tries is a run of the serial table with exact waits.
 pub fn runs()
     ensures join { LeadsJoin }
     ensures grow { LeadsGrow }
+    ensures with_tries { LeadsWithTries }
+    ensures grow_on { LeadsOnGrow }
+    ensures try_on { TryLeadsOn }
     ensures states { LeadsRuns }
     ensures exact { LeadsExactly }
 {}

@@ -3,7 +3,7 @@
 //!
 //! Meaning: a `Core` is the serial table with its waits, the `Pages` and the `Bounds`. `Turns` says what an event with its reply
 //! makes of it: `Moves` of the pages, `Within` and `bounds_after` of the sums. A call of an event promises `Served`
-//! (`specs/Serving.antt`), and entries lead from core to core by `Leads`.
+//! (`specs/Serving.antt`), and entries lead from core to core by `Leads`, with tries of which nothing is noted by `LeadsOn`.
 //! Keeps: nothing.
 //! Promises: laws, over any core (`laws.rt`): what a refusal tells, what each event keeps, and how runs are put together.
 //! Refuses: nothing.

@@ -1,4 +1,4 @@
-use Rattle.std.proofs.Common.{◌≡◌, ℕ, ◌-◌, ◌≤◌, Some, get_or, slice_set, true, refl, sym, ap, ◌∙◌, subst, arith}
+use Rattle.std.proofs.Common.{◌≡◌, ℕ, ◌-◌, ◌≤◌, Some, get_or, slice_set, true, refl, sym, ap, ap₂, ◌∙◌, subst, arith}
 use Rattle.std.specs.Prelude.{option_copied, option_map}
 use Rattle.sd_log.specs.Logs.{LogState, with_record}
 use Rattle.sd_page.specs.declared.op.Op.{Op}
@@ -81,6 +81,8 @@ returns-clause-put g c =
         row = row;
         bytes = c.owed_by_change.ensures.reserve (txns_at p i) table c.args.t.now x (changed_row k x) put.once row;
         records = c.owed_by_change.ensures.owed (txns_at p i) table c.args.t.now x (changed_row k x) put.once row;
+        rewrites = c.rewrite.ensures.pool image lent ∙ ap₂ (λ (n : ℕ) (z : Page). buffers.rewritten old_pool n z) page redone
+            ∙ ap (λ (b : Buffers). buffers.rewritten b k.rid.page (redo image (flat_of k))) (sym pool_is);
         page = ap (buffers.image_at pool) (sym page) ∙ c.rewrite.ensures.here ∙ ap (option_map (applied op k.lsn)) lent
             ∙ ap (λ (z : Page). Some z) redone;
         other_pages = λ q ne. c.rewrite.ensures.others q (λ e. ne (e ∙ page)) ∙ ap (λ (b : Buffers). buffers.image_at b q) (sym pool_is);

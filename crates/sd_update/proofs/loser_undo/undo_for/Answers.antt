@@ -9,7 +9,7 @@ use Rattle.sd_pagelock.specs.Moves.{IsMove}
 use Rattle.sd_pagelock.specs.Directory.{asks_at, entry_at, kept_rec, rec_lsn_at}
 use Rattle.sd_pagelock.specs.Places.{changed, owns}
 use Rattle.sd_pagelock.specs.Rows.{dirtied}
-use Rattle.sd_pool.specs.Buffers.{Buffers, image_at}
+use Rattle.sd_pool.specs.Buffers.{Buffers, image_at, rewritten}
 use Rattle.sd_txn.specs.Transactions.{Replaces, Transactions, noted, popped, top_at, txn_at}
 use Rattle.sd_chain.specs.Pages.{redo}
 use Rattle.sd_chain.specs.Records.{home}
@@ -93,6 +93,8 @@ returns-clause-made g c =
       spent = subst (λ (l : LogState). l.spare ≤ new_log.spare + length (spelling (clr_at t x o image p))) (sym log_is)
           (subst (λ (r : Record). log.spare ≤ new_log.spare + length (spelling r)) clr c.in_ok-append_copied.ensures.spent);
       row = row;
+      rewrites = c.take_back-undone.ensures.pool o image top (ap (λ (b : Buffers). image_at b o.rid.page) (sym pool_is) ∙ can.copy)
+          ∙ ap₂ (λ (b : Buffers) (r : Record). rewritten b o.rid.page (redo image (flat r))) (sym pool_is) taken;
       page = c.take_back-undone.ensures.page o image top (ap (λ (b : Buffers). image_at b o.rid.page) (sym pool_is) ∙ can.copy)
           ∙ ap (λ (r : Record). Some (redo image (flat r))) taken;
       other_pages = λ q ne. c.take_back-undone.ensures.others o top q ne ∙ ap (λ (b : Buffers). image_at b q) (sym pool_is);

@@ -1,16 +1,18 @@
-use Rattle.std.proofs.Common.{◌≡◌, inr, ℕ, ◌≤◌, sym, ap, ◌∙◌, subst, arith}
+use Rattle.std.proofs.Common.{◌≡◌, inr, ℕ, ◌+◌, ◌≤◌, List, [], ◌∷◌, refl, sym, ap, ◌∙◌, subst, arith}
 use Rattle.sd_model.specs.State.{State}
-use Rattle.sd_rig.specs.Devices.{Elapses, Span}
+use Rattle.sd_log.specs.Logs.{LogState}
+use Rattle.sd_logrec.specs.declared.record.Record.{Record}
+use Rattle.sd_rig.specs.Devices.{Elapses, LeavesSame, Span}
 use Rattle.sd_rig.specs.Spans.{elapses-then, span-then}
 use Rattle.sd_state.specs.Complexes.{parts}
 use Rattle.sd_state.specs.Forcing.{KeepMasters}
 use Rattle.sd_state.specs.Good.{Good}
 use Rattle.sd_state.specs.Images.{Stands}
-use Rattle.sd_state.specs.Parts.{Parts, owed_at, status_at}
+use Rattle.sd_state.specs.Parts.{Parts, log_at, owed_at, status_at}
 use Rattle.std.specs.Prelude.{Some}
-use Rattle.sd_update.specs.Undoing.{HasUndone}
+use Rattle.sd_update.specs.Undoing.{HasUndone, clr_at}
 use Rattle.sd_state.specs.Values.{Pending}
-use Rattle.sd_update.proofs.UndoneForCalls.{own-forced, own-owes}
+use Rattle.sd_update.proofs.UndoneForCalls.{own-forced, own-owes, some-tail}
 use Rattle.sd_state.proofs.Masters.{masters-then}
 use Rattle.sd_update.proofs.loser_undo.undo_forced.Goals as goal
 
@@ -226,3 +228,76 @@ pub returns-in_err-undo_due-clause-masters : goal.returns-in_err-undo_due-clause
 returns-in_err-undo_due-clause-masters g c =
     let r = g.G.Rig in
     subst (λ x. KeepMasters (r.leaves c.args.c.now.rig) (r.leaves x)) (sym c.undo_due.ensures.rig) (c.force_log.ensures.masters)
+
+-- ---- the other devices, and how many calls there are
+
+pub returns-in_err-force_log-clause-others : goal.returns-in_err-force_log-clause-others
+returns-in_err-force_log-clause-others g c d ne home = c.force_log.ensures.others d ne
+
+pub returns-in_err-undo_due-clause-others : goal.returns-in_err-undo_due-clause-others
+returns-in_err-undo_due-clause-others g c d ne home = ap (λ x. g.G.Rig.seen x d) c.undo_due.ensures.rig ∙ c.force_log.ensures.others d ne
+
+pub returns-in_err-force_settled-clause-others : goal.returns-in_err-force_settled-clause-others
+returns-in_err-force_settled-clause-others g c d ne home = c.force_settled.ensures.others d home
+    ∙ ap (λ x. g.G.Rig.seen x d) c.undo_due.ensures.rig ∙ c.force_log.ensures.others d ne
+
+pub returns-clause-others : goal.returns-clause-others
+returns-clause-others g c d ne home = c.force_settled.ensures.others d home
+    ∙ ap (λ x. g.G.Rig.seen x d) c.undo_due.ensures.rig ∙ c.force_log.ensures.others d ne
+
+pub returns-in_err-force_log-clause-others_leave : goal.returns-in_err-force_log-clause-others_leave
+returns-in_err-force_log-clause-others_leave g c d ne home = c.force_log.ensures.others_leave d ne
+
+pub returns-in_err-undo_due-clause-others_leave : goal.returns-in_err-undo_due-clause-others_leave
+returns-in_err-undo_due-clause-others_leave g c d ne home =
+    let r = g.G.Rig in
+    subst (λ x. LeavesSame (r.leaves c.args.c.now.rig d) (r.leaves x d)) (sym c.undo_due.ensures.rig) (c.force_log.ensures.others_leave d ne)
+
+pub returns-in_err-force_settled-clause-others_leave : goal.returns-in_err-force_settled-clause-others_leave
+returns-in_err-force_settled-clause-others_leave g c d ne home bytes =
+    let r = g.G.Rig in
+    let first = subst (λ x. LeavesSame (r.leaves c.args.c.now.rig d) (r.leaves x d)) (sym c.undo_due.ensures.rig)
+    (c.force_log.ensures.others_leave d ne) bytes in
+    let last = c.force_settled.ensures.others_leave d home bytes in
+    (λ x. first.0 (last.0 x), λ x. last.1 (first.1 x))
+
+pub returns-clause-others_leave : goal.returns-clause-others_leave
+returns-clause-others_leave g c d ne home bytes =
+    let r = g.G.Rig in
+    let first = subst (λ x. LeavesSame (r.leaves c.args.c.now.rig d) (r.leaves x d)) (sym c.undo_due.ensures.rig)
+    (c.force_log.ensures.others_leave d ne) bytes in
+    let last = c.force_settled.ensures.others_leave d home bytes in
+    (λ x. first.0 (last.0 x), λ x. last.1 (first.1 x))
+
+pub returns-clause-four : goal.returns-clause-four
+returns-clause-four g c none =
+    let r = g.G.Rig in
+    let t = c.args.t.now in
+    let own : Parts = parts c.force_log.new.self in
+    let made = c.in_ok-undo_due.ensures.made in
+    let first = ap (λ x. r.moment x) (c.force_log.ensures.idle none).1 in
+    let same = ap (λ x. r.moment x) c.undo_due.ensures.rig in
+    let last = c.in_ok-force_settled.ensures.tick (λ e. some-tail (log_at own t.inst).tail (clr_at t made.x made.o made.image own)
+    (sym (ap (λ (l : LogState). l.tail) made.undone.grown) ∙ e)) in
+    omega (arith, first, same, last)
+
+pub returns-clause-eight : goal.returns-clause-eight
+returns-clause-eight g c some =
+    let r = g.G.Rig in
+    let t = c.args.t.now in
+    let own : Parts = parts c.force_log.new.self in
+    let made = c.in_ok-undo_due.ensures.made in
+    let first = c.in_ok-force_log.ensures.tick c.requires.may.own_settled some in
+    let same = ap (λ x. r.moment x) c.undo_due.ensures.rig in
+    let last = c.in_ok-force_settled.ensures.tick (λ e. some-tail (log_at own t.inst).tail (clr_at t made.x made.o made.image own)
+    (sym (ap (λ (l : LogState). l.tail) made.undone.grown) ∙ e)) in
+    omega (arith, first, same, last)
+
+-- four calls, or eight
+at-most : (xs : List Record) (old new : ℕ) → (xs ≡ [] → new ≡ old + 4) → ((xs ≡ [] → ⊥) → new ≡ old + 8) → new ≤ old + 8
+at-most [] old new four eight = let is = four refl in omega (arith, is)
+at-most (x ∷ xs) old new four eight = let is = eight (λ e. absurd (cc)) in omega (arith, is)
+
+pub returns-clause-tick : goal.returns-clause-tick
+returns-clause-tick g c = at-most (log_at (parts c.args.c.now) c.args.by).tail _ _ (λ none. returns-clause-four g c none)
+    (λ some. returns-clause-eight g c some)

@@ -1,4 +1,4 @@
-use Rattle.sd_world.proofs.Sums.{sums-grow, one_log-grows, logs-grow_little, run-grows, full-page, full-log, lsns-end, long-slot}
+use Rattle.sd_world.proofs.Sums.{sums-grow, one_log-grows, logs-grow_little, run-grows, full-page, full-log, lsns-end, lsns-little, long-slot, shown-bounded, tries-free}
 use Rattle.sd_world.proofs.laws.sums.Goals as goal
 
 pub returns-clause-grow : goal.returns-clause-grow
@@ -24,3 +24,12 @@ returns-clause-little c = logs-grow_little
 
 pub returns-clause-slot : goal.returns-clause-slot
 returns-clause-slot c = long-slot
+
+pub returns-clause-numbers : goal.returns-clause-numbers
+returns-clause-numbers c = lsns-little
+
+pub returns-clause-waits : goal.returns-clause-waits
+returns-clause-waits c = tries-free
+
+pub returns-clause-shown : goal.returns-clause-shown
+returns-clause-shown c = shown-bounded
