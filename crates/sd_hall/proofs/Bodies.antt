@@ -19,3 +19,7 @@ pub neither : (e : Event) → ((pick : Pick) → e ≡ event.FailAll pick → �
 neither (event.FailAll pick) all again = all pick refl
 neither event.Reopen all again = again refl
 neither e all again = tt
+
+-- nor both
+pub not-over : (pick : Pick) → event.FailAll pick ≡ event.Reopen → ⊥
+not-over pick is = absurd (cc)

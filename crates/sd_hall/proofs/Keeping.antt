@@ -10,9 +10,11 @@ use Rattle.sd_model.specs.declared.event.Event.{Event}
 use Rattle.sd_model.specs.declared.event.Event.TheVariants as event
 use Rattle.sd_model.specs.declared.event.Reply.{Reply}
 use Rattle.sd_model.specs.declared.event.Reply.TheVariants as reply
+use Rattle.sd_model.proofs.Few.{few-steps}
 use Rattle.sd_world.specs.Leading.{Leads}
 use Rattle.sd_world.specs.Serving.{Core, Telling, Turns}
 use Rattle.sd_world.proofs.Leading.{leads-grow}
+use Rattle.sd_rig.specs.Devices.{DeviceImages}
 use Rattle.sd_state.specs.declared.complex.Shape.{Shape}
 use Rattle.sd_fits.specs.declared.body.Body.{Body}
 use Rattle.sd_fits.proofs.Framed.{turns-frames}
@@ -23,7 +25,7 @@ use Rattle.sd_hall.specs.Served.{IsServed}
 use Rattle.sd_hall.specs.Keeping.{HasPlace, Keeps, MakesPlace}
 use Rattle.sd_hall.specs.Ledger.{entries_owed, owed_more}
 use Rattle.sd_hall.proofs.Owes.{step-owed}
-use Rattle.sd_hall.proofs.LedgerBodies.{fell-in, listed-in, next-in, paid-in, same-in}
+use Rattle.sd_hall.proofs.LedgerBodies.{fell-in, listed-in, next-in, paid-in, placed-in, same-in}
 use Rattle.sd_hall.proofs.Paid.{HasFallen, owed-none, owed-some}
 
 -- one entry more is owed at most
@@ -43,9 +45,9 @@ awaited-of (event.RecoverStep i) (reply.Refused (R.NeedPage place)) body awaits 
 awaited-of e r body awaits = tt
 
 -- so says the reply of a call
-pub worked-of : {G : Type 0} (e : Event) (r : Reply) (old new : Option (Body G)) → IsWorkedIn e (Some r) old new → IsWorked e r old new
-worked-of (event.RecoverStep i) reply.Step old new works = works i refl refl
-worked-of e r old new works = tt
+pub worked-of : {G : Type 0} (seen : G → DeviceImages) (e : Event) (r : Reply) (old new : Option (Body G))
+    → IsWorkedIn seen e (Some r) old new → IsWorked seen e r old new
+worked-of seen e r old new works = works r refl
 
 -- the reply of the last entry
 pub last-is : (es before : List Entry) (last : Entry) → es ≡ before ++ last ∷ [] → slice_get es (length es - 1) ≡ Some last
@@ -131,6 +133,8 @@ module _ {G : Type 0} (tell : Telling G) (start : Core) (old mid new : Hall G) (
         frames = turns-frames k.core next.0 x.event x.reply next.1 ∙ k.frames ∙ sym (ap (λ (s : Shape). s.frames) shape);
         least = subst (λ (s : Shape). 1 ≤ s.frames) (sym shape) k.least;
         most = subst (λ (s : Shape). s.frames ≤ 1024) (sym shape) k.most;
+        few = few-steps k.core.scene.state x.event x.reply next.0.scene.state next.1.plays.step (placed-in tell old.body k.core k.fits)
+            (listed-in tell old.body k.core k.fits) k.few;
         counted = counted-next x.event x.reply next.0 is_served next.1
             (fell-in tell new.body next.0 next.2 x.event x.reply down) place counts;
         room = room-next x.event x.reply place counts spare;
@@ -150,6 +154,7 @@ keeps-same tell start old new k e same spared shape counts room =
       frames = k.frames ∙ sym (ap (λ (s : Shape). s.frames) shape);
       least = subst (λ (s : Shape). 1 ≤ s.frames) (sym shape) k.least;
       most = subst (λ (s : Shape). s.frames ≤ 1024) (sym shape) k.most;
+      few = k.few;
       counted = omega (arith, counts, owed);
       room = omega (arith, counts, before, room);
     }

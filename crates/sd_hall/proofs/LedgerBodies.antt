@@ -4,7 +4,7 @@ use Rattle.std.proofs.Common.{◌≡◌, ◌+◌, ◌≤◌, Option, None, Some,
 use Rattle.sd_base.specs.declared.place.Status.TheVariants as S
 use Rattle.sd_rig.specs.Devices.{DeviceImages, Leaves}
 use Rattle.sd_model.specs.Listed.{Listed}
-use Rattle.sd_model.specs.Lives.{SuitsStatus}
+use Rattle.sd_model.specs.Lives.{LivesAreSound, SuitsStatus}
 use Rattle.sd_model.specs.declared.act.Life.{Life}
 use Rattle.sd_model.specs.declared.event.Event.{Event}
 use Rattle.sd_model.specs.declared.event.Event.TheVariants as event
@@ -46,6 +46,11 @@ module _ {G : Type 0} (tell : Telling G) where
   listed-in None w f = absurd f
   listed-in (Some (Body.Open c)) w f = f.good.listed
   listed-in (Some (Body.Closed rig shape)) w f = f.fits.listed
+
+  pub placed-in : (body : Option (Body G)) (w : Core) → fits_in tell.seen tell.leaves body w → LivesAreSound w.scene.state
+  placed-in None w f = absurd f
+  placed-in (Some (Body.Open c)) w f = f.good.placed
+  placed-in (Some (Body.Closed rig shape)) w f = f.fits.placed
 
   -- an event is served
   pub next-in : (e : Event) (r : Reply) (old new : Option (Body G)) (w : Core) → fits_in tell.seen tell.leaves old w

@@ -7,5 +7,6 @@ pub mod Paid
 mod Rolling
 mod Owing
 mod Fallen
+pub mod Found
 pub mod LedgerOpening
 pub mod LedgerBodies

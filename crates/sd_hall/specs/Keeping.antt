@@ -1,5 +1,6 @@
 -- What a hall keeps, and where its next entry goes.
 use Rattle.std.specs.Prelude.{◌≡◌, ◌⊎◌, ◌+◌, ◌≤◌}
+use Rattle.sd_model.specs.Few.{Few}
 use Rattle.sd_model.specs.declared.event.Event.{Event}
 use Rattle.sd_world.specs.Leading.{Leads}
 use Rattle.sd_world.specs.Serving.{Core, Telling}
@@ -9,7 +10,8 @@ use Rattle.sd_hall.specs.Ledger.{entries_owed}
 use Rattle.sd_hall.specs.Owed.{IsOwed}
 
 -- The entries lead from the start to a core that the complex fits, open or closed, with as many frames as the hall's shape says:
--- at least one, and at most 1,024. The book has room for what the hall owes, and the hall counts no less than it owes.
+-- at least one, and at most 1,024. Whoever may take a checkpoint has at most 64 unresolved transactions. The book has room for what the
+-- hall owes, and the hall counts no less than it owes.
 pub record Keeps {G : Type 0} (tell : Telling G) (start : Core) (hall : Hall G) : Type 0 where
   pub core : Core
   pub leads : Leads start hall.book.entries core
@@ -17,6 +19,7 @@ pub record Keeps {G : Type 0} (tell : Telling G) (start : Core) (hall : Hall G) 
   pub frames : core.pages.frames ≡ hall.shape.frames
   pub least : 1 ≤ hall.shape.frames
   pub most : hall.shape.frames ≤ 1024
+  pub few : Few core.scene.state
   pub counted : entries_owed core.scene.state ≤ hall.owed
   pub room : hall.owed ≤ hall.book.spare
 

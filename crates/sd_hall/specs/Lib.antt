@@ -3,3 +3,4 @@ pub mod Served
 pub mod Owed
 pub mod Bodies
 pub mod Ledger
+pub mod Found

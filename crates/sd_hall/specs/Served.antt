@@ -24,6 +24,15 @@ IsPlain (Fail i) = ⊥
 IsPlain (RecoverStep i) = ⊥
 IsPlain e = Unit {0}
 
+-- by it a page is pulled for another event: it is asked for, given, taken, or a pool's frame is made free
+abbrev pub IsHelping : Event → Type 0
+IsHelping (Ask i p mode) = Unit {0}
+IsHelping (Give i p) = Unit {0}
+IsHelping (Take i p) = Unit {0}
+IsHelping (Evict i p) = Unit {0}
+IsHelping (Flush i p) = Unit {0}
+IsHelping e = ⊥
+
 -- it is of a page's place, of an instance or of the devices, and plain
 abbrev pub IsOfPlace : Event → Type 0
 IsOfPlace (Ask i p mode) = Unit {0}

@@ -8,13 +8,14 @@ ghost use Rattle.sd_state.specs.Complexes.{parts};
 ghost use Rattle.sd_state.specs.Parts.{status_at, IsShape};
 ghost use Rattle.sd_world.specs.Serving.{Core, answered, began_reply, did, found_reply, gave, had_or_asked, joined_reply, listed, placed_at, refused, step_or_finished, telling};
 ghost use Rattle.sd_fits.specs.Fits.{Fits};
+ghost use Rattle.sd_fits.specs.Resting.{LeavesRest};
 ghost use Rattle.sd_fits.specs.Serving.{Serving};
 ghost use Rattle.sd_fits.specs.declared.body.Body.TheVariants as bodies;
 ghost use Rattle.sd_recover.specs.Recovering.{recovery};
 ghost use Rattle.sd_recover.specs.Closing.{NeitherClosesNorOpens};
 ghost use Rattle.sd_hall.specs.Bodies.{IsAwaitedIn, IsWorkedIn};
 ghost use Rattle.sd_hall.specs.Owed.{IsOwed};
-ghost use Rattle.sd_hall.specs.Served.{told, told_in, IsDownThen, IsOfPlace, IsPlain, IsServed};
+ghost use Rattle.sd_hall.specs.Served.{told, told_in, IsDownThen, IsHelping, IsOfPlace, IsPlain, IsServed};
 
 use sd_base::{Bytes, InstNo, Lsn, Memory, Place, Refusal, Rid, TxnId};
 use sd_model::{Event, Reply, Rows};
@@ -33,7 +34,7 @@ pub(crate) fn serve<G: Rig>(c: &mut Complex<G>, e: &Event, answer: &mut Reply) -
     ensures there { (w : Core) → IsOwed w e.now → told_in result answer.new ≢ None }
     ensures down { IsDownThen e.now (told_in result answer.new) (parts c.new) }
     ensures awaits { IsAwaitedIn e.now (told_in result answer.new) (Some (bodies.Open c.old)) }
-    ensures works { IsWorkedIn e.now (told_in result answer.new) (Some (bodies.Open c.old)) (Some (bodies.Open c.new)) }
+    ensures works { IsWorkedIn G.seen e.now (told_in result answer.new) (Some (bodies.Open c.old)) (Some (bodies.Open c.new)) }
 {
     match e {
         Event::Commit { txn } => as_did(sd_ops::commit(c, txn), answer),
@@ -44,14 +45,15 @@ pub(crate) fn serve<G: Rig>(c: &mut Complex<G>, e: &Event, answer: &mut Reply) -
     }
 }
 
-// The same of an event of whose call no more is said than that it serves it.
+// The same of an event of whose call no more is said than that it serves it, and where a page is pulled by it, that recoveries go on.
 fn serve_plain<G: Rig>(c: &mut Complex<G>, e: &Event, answer: &mut Reply) -> Result<(), Memory>
     requires served { IsServed e.now }
     requires within { NeitherClosesNorOpens e.now }
     requires plain { IsPlain e.now }
     requires fits { (w : Core) × Fits (G.seen c.old.rig) (G.leaves c.old.rig) (parts c.old) w }
     requires fresh { answer.old ≡ reply.Did }
-    ensures { Serving (telling G.seen G.leaves G.moment G.since G.faults) e.now (told_in result answer.new) c.old c.new }
+    ensures served { Serving (telling G.seen G.leaves G.moment G.since G.faults) e.now (told_in result answer.new) c.old c.new }
+    ensures rest { IsHelping e.now → LeavesRest (parts c.old) (parts c.new) }
 {
     match e {
         Event::Begin { inst } => as_began(sd_ops::begin(c, *inst), answer),
@@ -83,7 +85,8 @@ fn serve_place<G: Rig>(c: &mut Complex<G>, e: &Event, answer: &mut Reply) -> Res
     requires place { IsOfPlace e.now }
     requires fits { (w : Core) × Fits (G.seen c.old.rig) (G.leaves c.old.rig) (parts c.old) w }
     requires fresh { answer.old ≡ reply.Did }
-    ensures { Serving (telling G.seen G.leaves G.moment G.since G.faults) e.now (told_in result answer.new) c.old c.new }
+    ensures served { Serving (telling G.seen G.leaves G.moment G.since G.faults) e.now (told_in result answer.new) c.old c.new }
+    ensures rest { IsHelping e.now → LeavesRest (parts c.old) (parts c.new) }
 {
     match e {
         Event::Ask { inst, page, mode } => as_asked(

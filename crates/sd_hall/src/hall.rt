@@ -5,6 +5,7 @@ ghost use Rattle.std.specs.Prelude.{◌≡◌, ◌≢◌, ◌⊎◌, ℕ, ◌≤
 ghost use Rattle.sd_base.specs.Streams.{Rises};
 ghost use Rattle.sd_base.specs.declared.refusal.Refusal.TheVariants as R;
 ghost use Rattle.sd_model.specs.declared.event.Entry.{Entry};
+ghost use Rattle.sd_model.specs.declared.event.Event.TheVariants as event;
 ghost use Rattle.sd_model.specs.declared.event.Reply.{Reply};
 ghost use Rattle.sd_model.specs.declared.event.Reply.TheVariants as reply;
 ghost use Rattle.sd_chain.specs.Checks.{DevicesAreSound};
@@ -16,6 +17,7 @@ ghost use Rattle.sd_fits.specs.Bodies.{rig_of};
 ghost use Rattle.sd_fits.specs.Opened.{opening_core};
 ghost use Rattle.sd_recover.specs.Closing.{NeitherClosesNorOpens};
 ghost use Rattle.sd_hall.specs.Bodies.{IsAwaited, IsAwaitedIn, IsDownAt, IsRigIn, IsWorked, IsWorkedIn, ServesIn, fits_in, open_in};
+ghost use Rattle.sd_hall.specs.Found.{FindsIn, IsFoundIn};
 ghost use Rattle.sd_hall.specs.Owed.{IsOwed};
 ghost use Rattle.sd_hall.specs.Served.{IsServed, told_in};
 ghost use Rattle.sd_hall.specs.Keeping.{HasPlace, Keeps};
@@ -86,7 +88,9 @@ impl<G: Rig> Hall<G> {
     /// `Memory` comes where there is none: nothing is noted then, and the complex fits the world that it fitted. It never comes for
     /// the commit of a transaction that runs, nor for an undo of one that rolls back, where nothing is left to undo or the page of
     /// the next undo is its instance's alone, nor for the failure of an instance that is up. A step of a recovery that
-    /// is replied to as one has done a task. Each image that a crash leaves meanwhile stands for the state before or after.
+    /// is replied to as one has done a task, and less is left to do; the last one is told where nothing is left, and one that wants a page
+    /// changes nothing. An event by which a page is pulled leaves recoveries that are under way, whatever its reply. Behind a reopening that is done the losers, their claims, the statuses and the lost pages are those that the devices tell.
+    /// Each image that a crash leaves meanwhile stands for the state before or after.
     pub fn call(&mut self, session: u8, line: u32, e: Event) -> Result<(), Memory>
         requires served { IsServed e }
         requires kept { (start : Core) × Keeps (telling G.seen G.leaves G.moment G.since G.faults) start self.old }
@@ -101,7 +105,10 @@ impl<G: Rig> Hall<G> {
             → IsAwaited e r self.old.body) }
         ensures works { OnOk result ((r : Reply)
             → self.new.book.entries ≡ self.old.book.entries ++ record { session = session; line = line; event = e; reply = r } ∷ []
-            → IsWorked e r self.old.body self.new.body) }
+            → IsWorked G.seen e r self.old.body self.new.body) }
+        ensures reopens { OnOk result
+            (self.new.book.entries ≡ self.old.book.entries ++ record { session = session; line = line; event = e; reply = reply.Did } ∷ []
+            → e ≡ event.Reopen → FindsIn G.seen G.leaves self.new.body) }
         ensures opening { self.new.book.opening ≡ self.old.book.opening }
         ensures keeps { (start : Core) → Keeps (telling G.seen G.leaves G.moment G.since G.faults) start self.old
             → Keeps (telling G.seen G.leaves G.moment G.since G.faults) start self.new }
@@ -128,7 +135,8 @@ impl<G: Rig> Hall<G> {
         ensures there { (w : Core) → IsOwed w e.now → told_in result answer.new ≢ None }
         ensures down { IsDownAt e.now (told_in result answer.new) self.new.body }
         ensures awaits { IsAwaitedIn e.now (told_in result answer.new) self.old.body }
-        ensures works { IsWorkedIn e.now (told_in result answer.new) self.old.body self.new.body }
+        ensures works { IsWorkedIn G.seen e.now (told_in result answer.new) self.old.body self.new.body }
+        ensures reopens { IsFoundIn G.seen G.leaves e.now (told_in result answer.new) self.new.body }
         ensures book { self.new.book ≡ self.old.book }
         ensures shape { self.new.shape ≡ self.old.shape }
         ensures owed { self.new.owed ≡ self.old.owed }
@@ -151,6 +159,7 @@ impl<G: Rig> Hall<G> {
         requires most { self.old.shape.frames ≤ 1024 }
         ensures served { ServesIn (telling G.seen G.leaves G.moment G.since G.faults) e.now (told_in result answer.new)
             self.old.body self.new.body }
+        ensures reopens { IsFoundIn G.seen G.leaves e.now (told_in result answer.new) self.new.body }
         ensures book { self.new.book ≡ self.old.book }
         ensures shape { self.new.shape ≡ self.old.shape }
         ensures owed { self.new.owed ≡ self.old.owed }

@@ -8,9 +8,9 @@
 //! Promises: a hall opens from sound devices alone, to the world of which they tell (`Hall::open`). An event that was done is noted
 //! with its reply, and no other is (`Hall::call`); it was served as sd_fits says, also while the complex is closed (`serve_body`,
 //! `turned`). A transaction that runs can be committed, one that rolls back can do so to its end, and an instance that is up can
-//! fail, without memory (`there`): `is_owed_in` and `more` count what that takes. A step of a recovery that is told is made
-//! (`works`), and wants a page only where an undo is next (`awaits`). At most one instance may update a page, and each copy of it
-//! is its newest version (`laws.rt`).
+//! fail, without memory (`there`): `is_owed_in` and `more` count what that takes. A step of a recovery that is told is made, and a
+//! page that is pulled leaves recoveries under way (`works`); a step wants a page only where an undo is next (`awaits`); what opens
+//! again is what the devices tell (`reopens`). One instance at most may update a page, each copy its newest version (`laws.rt`).
 //! Refuses: what the call of the event refuses, which is noted as its reply. `Memory` notes nothing, and the complex fits the same
 //! core behind it; as a hall opens, also `Failed` and `Damaged`.
 //! Knows nothing of: sessions, scripts, how a line is driven.

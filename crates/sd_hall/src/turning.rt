@@ -7,6 +7,7 @@ ghost use Rattle.sd_world.specs.Serving.{Core, telling};
 ghost use Rattle.sd_fits.specs.Bodies.{ServingHall, fits_body};
 ghost use Rattle.sd_recover.specs.Closing.{NeitherClosesNorOpens};
 ghost use Rattle.sd_hall.specs.Bodies.{IsAwaitedIn, IsDownIn, IsWorkedIn};
+ghost use Rattle.sd_hall.specs.Found.{IsFoundIn};
 ghost use Rattle.sd_hall.specs.Owed.{IsOwed};
 ghost use Rattle.sd_hall.specs.Served.{IsServed, told, told_in};
 
@@ -21,7 +22,7 @@ use sd_state::Shape;
 use std::alloc::Global;
 
 /// Does a failure of all instances or a reopening, and tells its reply. Behind the one the complex is closed, and has this shape
-/// where it was open; behind the other it may be open.
+/// where it was open; behind the other it may be open, and is then what the devices tell.
 pub fn turned<G: Rig>(
     alloc: Global,
     body: Body<G>,
@@ -32,7 +33,8 @@ pub fn turned<G: Rig>(
     requires fits { (w : Core) × (fits_body G.seen G.leaves body w) × (w.pages.frames ≡ shape.frames) }
     requires least { 1 ≤ shape.frames }
     requires most { shape.frames ≤ 1024 }
-    ensures { ServingHall (telling G.seen G.leaves G.moment G.since G.faults) e.now (told result.0) body result.1 }
+    ensures served { ServingHall (telling G.seen G.leaves G.moment G.since G.faults) e.now (told result.0) body result.1 }
+    ensures reopens { IsFoundIn G.seen G.leaves e.now (told result.0) (Some result.1) }
 {
     match e {
         Event::FailAll { pick } => (Ok(Reply::Did), fail_all(body, *pick, shape)),
@@ -53,7 +55,7 @@ pub fn serve_body<G: Rig>(body: &mut Body<G>, e: &Event, answer: &mut Reply) -> 
     ensures there { (w : Core) → IsOwed w e.now → told_in result answer.new ≢ None }
     ensures down { IsDownIn e.now (told_in result answer.new) body.new }
     ensures awaits { IsAwaitedIn e.now (told_in result answer.new) (Some body.old) }
-    ensures works { IsWorkedIn e.now (told_in result answer.new) (Some body.old) (Some body.new) }
+    ensures works { IsWorkedIn G.seen e.now (told_in result answer.new) (Some body.old) (Some body.new) }
 {
     match body {
         Body::Open(complex) => serve(complex, e, answer),
@@ -68,7 +70,8 @@ pub fn serve_body<G: Rig>(body: &mut Body<G>, e: &Event, answer: &mut Reply) -> 
 // `Failed`, and where there is no memory, it is closed still.
 fn open_again<G: Rig>(alloc: Global, body: Body<G>) -> (Result<Reply, Memory>, Body<G>)
     requires fits { (w : Core) × (fits_body G.seen G.leaves body w) × (1 ≤ w.pages.frames) × (w.pages.frames ≤ 1024) }
-    ensures { ServingHall (telling G.seen G.leaves G.moment G.since G.faults) event.Reopen (told result.0) body result.1 }
+    ensures served { ServingHall (telling G.seen G.leaves G.moment G.since G.faults) event.Reopen (told result.0) body result.1 }
+    ensures reopens { IsFoundIn G.seen G.leaves event.Reopen (told result.0) (Some result.1) }
 {
     match body {
         Body::Open(complex) => (Ok(not_down(&complex)), Body::Open(complex)),

@@ -67,5 +67,5 @@ module _ (t : TxnId) (seen : DeviceImages) (leaves : Outcomes) (c : Parts) (w : 
     alive = running-open seen leaves c m t f.good up commit-life;
     apart = λ u doubt. ne-same t u (λ e.
         let clash = sym doubt ∙ ap (λ (v : TxnId). is_doubt (m.part v).life) (sym e) ∙ ap is_doubt commit-life in absurd (cc));
-    more = idle-more (home t) w.bounds (Commit t) reply.Did (λ p. refl) (λ p. refl) (λ j. refl);
+    more = idle-more (home t) w.bounds (Commit t) reply.Did refl (λ p. refl) (λ p. refl) (λ j. refl);
   }

@@ -305,7 +305,7 @@ module _ (t : TxnId) (r : Rid) (edit : Edit) (short : IsLongEdit edit → ⊥) (
           (subst (λ (x : Parts). r.slot < length (image_for t r.page x).slots) (sym put.granted.rest) sets.place))
           (least-stay t r capacity after seen_by leaves c new up free mine put w f (runs-here w f) (event_of t r edit) reply.Did tt
           (subst (λ (x : Parts). r.slot < length (image_for t r.page x).slots) (sym put.granted.rest) sets.place))
-          (λ q ne. least-kept w.bounds.least (event_of t r edit) reply.Did tt q),
+          (λ q ne. least-kept w.bounds.least (event_of t r edit) reply.Did tt q) refl,
     ),
     λ fault. fault,
   )

@@ -93,5 +93,5 @@ module _ (t : TxnId) (seen : DeviceImages) (leaves : Outcomes) (c : Parts) (w : 
     next = refl;
     alive = undoing.rolling-open t None seen leaves c w f life low high up;
     apart = λ u doubt. refl;
-    more = idle-more (home t) w.bounds (Undo t) reply.Finished (λ p. refl) (λ p. refl) (λ j. refl);
+    more = idle-more (home t) w.bounds (Undo t) reply.Finished refl (λ p. refl) (λ p. refl) (λ j. refl);
   }

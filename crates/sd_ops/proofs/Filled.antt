@@ -211,7 +211,7 @@ module _ (t : TxnId) (p : ℕ) (v : List ℕ) (asked : ℕ) (seen_by : DeviceIma
         put-fits t r own (Some v) seen_by leaves c new up free mine there w f (runs-here w f) e (reply.At r) refl refl
             (subst (λ (x : Parts). size (value (image_for t p x).slots slot) ≤ 256) (sym there.granted.rest) before-small)
             after-small
-            (slots-then w f) (least-then w f) (least-else w),
+            (slots-then w f) (least-then w f) (least-else w) refl,
       ),
       λ fault. fault,
     )

@@ -35,8 +35,9 @@ use Rattle.sd_chain.proofs.Appends.{appended-log}
 use Rattle.sd_chain.proofs.Kept.{forced-base, forced-tail}
 use Rattle.sd_chain.proofs.Owing.{end-owes}
 use Rattle.sd_chain.proofs.Room.{end-len}
-use Rattle.sd_world.specs.Bounds.{Bounds, TellsNoPlace, bounds_after, cost, counts, least_after, masters_after, slots_after}
+use Rattle.sd_world.specs.Bounds.{Bounds, TellsNoPlace, bounds_after, cost, counts, is_wait, least_after, masters_after, slots_after}
 use Rattle.sd_world.specs.Serving.{Core, Passes, Serves, Telling, Turns}
+use Rattle.sd_world.proofs.Sums.{works-four}
 use Rattle.sd_state.specs.Complexes.{parts}
 use Rattle.sd_state.specs.Forcing.{KeepMasters, with_failed, with_forced}
 use Rattle.sd_state.specs.Good.{Good}
@@ -64,15 +65,15 @@ use Rattle.sd_fits.proofs.Still.{moved-fits}
 
 -- ---- sums that grow by nothing
 
--- An event that adds nothing to slots, logs and masters takes LSNs still.
-pub idle-more : (i : ℕ) (b : Bounds) (e : Event) (r : Reply) → ((p : ℕ) → slots_after b.slots e r p ≡ b.slots p)
+-- An event that adds nothing to slots, logs and masters takes LSNs still, where its reply doesn't just wait.
+pub idle-more : (i : ℕ) (b : Bounds) (e : Event) (r : Reply) → is_wait r ≡ false → ((p : ℕ) → slots_after b.slots e r p ≡ b.slots p)
     → ((p : ℕ) → least_after b.least e r p ≡ b.least p) → ((j : ℕ) → masters_after b.masters e j ≡ b.masters j) → AreMore i 0 b (bounds_after b e r)
-idle-more i b e r slots least masters = record {
+idle-more i b e r works slots least masters = record {
   slots = slots;
   least = least;
   here = grown (cond (eqb (inst_of e) i) (cond (counts e r) (cost e) 0) 0) (b.reach i);
   reach = λ j. raised (cond (eqb (inst_of e) j) (cond (counts e r) (cost e) 0) 0) (b.reach j);
-  lsns = omega arith;
+  lsns = let four = works-four b e r works in omega (arith, four);
   masters = λ j. kept (masters_after b.masters e j) (b.masters j) (masters j);
 }
   where

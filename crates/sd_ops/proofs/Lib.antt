@@ -28,3 +28,6 @@ mod Turned
 pub mod Undone
 mod Ends
 mod Finishing
+pub mod Leaving
+pub mod Logging
+mod Endings

@@ -27,7 +27,7 @@ use Rattle.sd_chain.specs.Logs.{Outcomes}
 use Rattle.sd_chain.specs.Pages.{capacity as capacity_of, redo}
 use Rattle.sd_chain.specs.Records.{home}
 use Rattle.sd_world.specs.Answers.{changes}
-use Rattle.sd_world.specs.Bounds.{Bounds, TellsNoPlace, bounds_after, cost, counts, with_least, with_slot}
+use Rattle.sd_world.specs.Bounds.{Bounds, TellsNoPlace, bounds_after, cost, counts, is_wait, with_least, with_slot}
 use Rattle.sd_world.proofs.Sums.{least-kept}
 use Rattle.sd_world.specs.Pages.{Pages, numbered, page_placed}
 use Rattle.sd_world.specs.Serving.{Core}
@@ -119,11 +119,11 @@ module _ (t : TxnId) (r : Rid) (capacity : ℕ) (after : Content) (seen_by : Dev
   pub put-fits : (e : Event) (reply_is : Reply) → inst_of e ≡ home t → cond (counts e reply_is) (cost e) 0 ≡ 900 → size k.before ≤ 256
       → size after ≤ 256 → AreWithin (capacities (redo (image_for t r.page mid) (flat_of k))) ((bounds_after w.bounds e reply_is).slots r.page)
       → AreAtLeast (capacities (redo (image_for t r.page mid) (flat_of k))) ((bounds_after w.bounds e reply_is).least r.page)
-      → ((q : ℕ) → q ≢ r.page → (bounds_after w.bounds e reply_is).least q ≡ w.bounds.least q)
+      → ((q : ℕ) → q ≢ r.page → (bounds_after w.bounds e reply_is).least q ≡ w.bounds.least q) → is_wait reply_is ≡ false
       → Fits seen_by leaves new (turned_to w put_state w.scene.waits pages_then e reply_is)
-  put-fits e reply_is whose costs before_small after_small slots least else =
+  put-fits e reply_is whose costs before_small after_small slots least else works =
       changed-fits k seen_by leaves mid new put_state mid_core mid-fits there.made good-changed e reply_is whose costs before_small after_small
-      slots least else goes-on has-put
+      slots least else works goes-on has-put
 
   pub slots-stay : (e : Event) (reply_is : Reply) → r.slot < length (image_for t r.page mid).slots
       → AreWithin (capacities (redo (image_for t r.page mid) (flat_of k))) ((bounds_after w.bounds e reply_is).slots r.page)

@@ -1,8 +1,7 @@
 -- Slots for new records. For `room_for`.
 use Rattle.std.proofs.Common.{◌≡◌, inl, inr, ⊎_elim, ℕ, ◌≤◌, List, [], ◌∷◌, length, refl, sym, ap, ◌∙◌, subst, arith}
-use Rattle.std.specs.Prelude.{◌+◌, ◌<◌, Option, None, Some, Result, Err, IfErr, option_and_then, unwrap_or}
+use Rattle.std.specs.Prelude.{Option, None, Some, Result, Err, IfErr, unwrap_or}
 use Rattle.std.proofs.lemmas.Bool.{cases_lt}
-use Rattle.sd_base.specs.Values.{size}
 use Rattle.sd_base.specs.declared.ids.TxnId.{TxnId}
 use Rattle.sd_base.specs.declared.place.Mode.TheVariants as modes
 use Rattle.sd_base.specs.declared.refusal.Refusal.{Refusal}

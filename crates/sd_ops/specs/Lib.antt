@@ -5,3 +5,5 @@ pub mod Halves
 pub mod Copies
 pub mod Listing
 pub mod Rolling
+pub mod Leaving
+pub mod Logged

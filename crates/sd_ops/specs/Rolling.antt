@@ -7,7 +7,7 @@ use Rattle.sd_base.specs.declared.refusal.Refusal.TheVariants as R
 use Rattle.sd_model.specs.Changes.{goal}
 use Rattle.sd_pagelock.specs.Directory.{entry_at}
 use Rattle.sd_pagelock.specs.Places.{is_lost, owns, seen}
-use Rattle.sd_txn.specs.Transactions.{IsUnresolved, depth_at, mark_at, state_at}
+use Rattle.sd_txn.specs.Transactions.{IsUnresolved, depth_at, mark_at, span_at, state_at}
 use Rattle.sd_txn.specs.declared.state.TxnState.{TxnState}
 use Rattle.sd_state.specs.Parts.{Parts, status_at, txns_at}
 use Rattle.sd_ops.specs.declared.undoing.UndoOutcome.{UndoOutcome}
@@ -48,6 +48,13 @@ MayRoll t (Some n) c =
 pub record IsAbove (t : TxnId) (to : Option ℕ) (c : Parts) : Type 0 where
   pub rolls : state_at (txns_at c t.inst) t ≡ Some (TxnState.Rolling to)
   pub above : goal to < depth_at (txns_at c t.inst) t
+
+-- its whole rollback is at its end, nothing of it is open, and it has a record, so its End is to be forced
+pub record EndsRecorded (t : TxnId) (c : Parts) : Type 0 where
+  pub up : status_at c t.inst ≡ S.Up
+  pub rolls : state_at (txns_at c t.inst) t ≡ Some (TxnState.Rolling None)
+  pub empty : depth_at (txns_at c t.inst) t ≡ 0
+  pub there : IsSome (span_at (txns_at c t.inst) t)
 
 abbrev pub IsDue : TxnId → Parts → UndoOutcome → Type 0
 IsDue t c due.Nothing = (state : TxnState) × (state_at (txns_at c t.inst) t ≡ Some state) × ((to : Option ℕ) → state ≢ TxnState.Rolling to)

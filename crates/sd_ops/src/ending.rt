@@ -1,6 +1,6 @@
 //! A whole rollback ends.
 
-ghost use Rattle.std.specs.Prelude.{◌≡◌, ◌≢◌, Err, IsSome, None, Some};
+ghost use Rattle.std.specs.Prelude.{◌≡◌, ◌≢◌, ◌+◌, true, Err, IfOk, IsSome, None, OnOk, Some};
 ghost use Rattle.sd_base.specs.declared.place.Status.TheVariants as S;
 ghost use Rattle.sd_base.specs.declared.refusal.Refusal.TheVariants as R;
 ghost use Rattle.sd_fits.specs.Fits.{Fits};
@@ -11,6 +11,7 @@ ghost use Rattle.sd_state.specs.Complexes.{parts};
 ghost use Rattle.sd_state.specs.Parts.{status_at, txns_at};
 ghost use Rattle.sd_txn.specs.Transactions.{depth_at, span_at, state_at};
 ghost use Rattle.sd_txn.specs.declared.state.TxnState.TheVariants.{Rolling};
+ghost use Rattle.sd_ops.specs.Leaving.{EndLeaves};
 ghost use Rattle.sd_world.specs.Serving.{Core, answered, step_or_finished, telling};
 
 use sd_base::{Refusal, TxnId};
@@ -32,6 +33,10 @@ pub fn finish<G: Rig>(c: &mut Complex<G>, t: &TxnId) -> Result<bool, Refusal>
     ensures down { result ≡ Err R.Failed → status_at (parts c.new) t.now.inst ≡ S.Down }
     ensures disk { G.seen c.new.rig 0 ≡ G.seen c.old.rig 0 }
     ensures disk_leaves { LeavesSame (G.leaves c.old.rig 0) (G.leaves c.new.rig 0) }
+    ensures ends { IfOk result (λ done. done ≡ true) }
+    ensures untouched { EndLeaves t.now.inst result (parts c.old) (parts c.new) }
+    ensures tick { IsSome (span_at (txns_at (parts c.old) t.now.inst) t.now) → OnOk result (G.moment c.new.rig ≡ G.moment c.old.rig + 4) }
+    ensures bare { span_at (txns_at (parts c.old) t.now.inst) t.now ≡ None → c.new.rig ≡ c.old.rig }
 {
     t.keeps();
     match c.txns(t.inst).span(t) {
@@ -56,6 +61,9 @@ fn finish_recorded<G: Rig>(c: &mut Complex<G>, t: &TxnId) -> Result<bool, Refusa
     ensures down { result ≡ Err R.Failed → status_at (parts c.new) t.now.inst ≡ S.Down }
     ensures disk { G.seen c.new.rig 0 ≡ G.seen c.old.rig 0 }
     ensures disk_leaves { LeavesSame (G.leaves c.old.rig 0) (G.leaves c.new.rig 0) }
+    ensures ends { IfOk result (λ done. done ≡ true) }
+    ensures untouched { EndLeaves t.now.inst result (parts c.old) (parts c.new) }
+    ensures tick { OnOk result (G.moment c.new.rig ≡ G.moment c.old.rig + 4) }
 {
     t.keeps();
     // Memory is reserved for its End.

@@ -17,6 +17,8 @@ ghost use Rattle.sd_world.specs.Serving.{Core, placed_at, telling};
 ghost use Rattle.sd_fits.specs.Fits.{Fits};
 ghost use Rattle.sd_fits.specs.Serving.{Serving};
 ghost use Rattle.sd_ops.specs.Halves.{HalfServed};
+ghost use Rattle.sd_ops.specs.Leaving.{ChangeLeaves};
+ghost use Rattle.sd_ops.specs.Logged.{FillLeaves, FillRefused, IsFilled};
 ghost use Rattle.sd_ops.specs.Vacancies.{IsChosen, IsDead, IsFullFor, IsLongFor, IsUsable, IsVacant, LacksPlace, NoneUsable};
 
 use crate::putting::put;
@@ -34,7 +36,8 @@ struct Vacancy {
 }
 
 /// Makes a record of a value on a page: in the lowest dead slot of at least this capacity on whose record nobody else has a lock,
-/// else in a new slot of this capacity behind the last one. The transaction has the record's `Excl` lock then.
+/// else in a new slot of this capacity behind the last one. The transaction has the record's `Excl` lock then. One log record is put, as by
+/// `write`.
 ///
 /// Refused, the first that applies: `NoTxn`; `Down` where the instance isn't up; `Busy` where the transaction rolls back;
 /// `TooLong` where the value or the capacity is over 256 bytes, or the value is longer than the capacity; `Lost` and `NeedPage`
@@ -51,6 +54,9 @@ pub fn insert<G: Rig>(
     ensures served { Serving (telling G.seen G.leaves G.moment G.since G.faults) (event.Insert t.now p value.now capacity)
         (placed_at result) c.old c.new }
     ensures rig { c.new.rig ≡ c.old.rig }
+    ensures untouched { ChangeLeaves t.now.inst p result (parts c.old) (parts c.new) }
+    ensures logged { IfOk result (IsFilled t.now p value.now capacity (parts c.old) (parts c.new)) }
+    ensures refused { IfErr result (FillRefused t.now p value.now capacity (parts c.old)) }
 
     ensures chosen { IfOk result (λ r. (r.page ≡ p)
         × IsChosen (image_for t.now p (parts c.old)) t.now p capacity (parts c.old) r.slot) }
@@ -73,6 +79,7 @@ fn fill<G: Rig>(
     ensures half { (wanted : Option Rid) × HalfServed (G.seen c.old.rig) (G.leaves c.old.rig) wanted
         (event.Insert t.now p value.now capacity) (placed_at result) (parts c.old) (parts c.new) }
     ensures rig { c.new.rig ≡ c.old.rig }
+    ensures left { FillLeaves t.now p value.now capacity result (parts c.old) (parts c.new) }
 
     ensures chosen { IfOk result (λ r. (r.page ≡ p)
         × IsChosen (image_for t.now p (parts c.old)) t.now p capacity (parts c.old) r.slot) }

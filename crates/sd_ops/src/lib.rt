@@ -4,16 +4,17 @@
 //! then, as the reply says. `HalfServed` says the same of a call before it ends the transaction's wait (`specs/Halves.antt`).
 //! Keeps: nothing.
 //! Promises: each event is answered as the serial table and the pages allow (`served`), and `ask` names exactly who stands in the
-//! way of a lock. A commit, and an undo, which writes one compensation record, leave the data device as it was (`disk`); the others
-//! make no device call (`rig`). A transaction's locks go once its Commit or End is forced, where it has a record. Room, LSNs and
-//! memory are reserved for that: a full log can be rolled back, and no commit, undo or begin of a rollback wants memory (`there`).
+//! way of a lock. A commit, and an undo, which writes one compensation record, leave the data device as it was (`disk`); the
+//! others make no device call (`rig`). What no world has stays but for what `untouched` names, and a change puts one record
+//! (`logged`). A transaction's locks go once its Commit or End is forced, where it has a record. Room, LSNs and memory are
+//! reserved for that: a full log can be rolled back, and no commit, undo or begin of a rollback wants memory (`there`).
 //! Refuses: in the order of the causes of sd_model; `Memory` comes wherever another call finds none, and changes nothing. Where the
 //! force of a commit or an End failed the instance has fallen (`CutCommit`, `Failed`).
 //! Knows nothing of: scripts, sessions, whose turn it is, how a page comes to an instance.
 //! Stands on: sd_base, sd_model, sd_page, sd_logrec, sd_rig, sd_log, sd_pool, sd_txn, sd_reclock, sd_pagelock, sd_chain, sd_world,
 //! sd_state, sd_update, sd_moves, sd_fits.
 //! Lends: in `proofs`, how a call on a record is refused (Work), and how one whose wait is ended is served (WaitEnded); what holds
-//! of a page that an instance has (Held), and of a lock that is refused (Asking).
+//! of a page that an instance has (Held), of a lock that is refused (Asking), and of what is touched (Leaving).
 //! Held by the caller: that the complex fits a world.
 //!
 //! To change:

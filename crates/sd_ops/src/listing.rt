@@ -9,6 +9,7 @@ ghost use Rattle.sd_state.specs.Values.{Pending};
 ghost use Rattle.sd_world.specs.Serving.{Core, listed, telling};
 ghost use Rattle.sd_fits.specs.Fits.{Fits};
 ghost use Rattle.sd_fits.specs.Serving.{Serving};
+ghost use Rattle.sd_ops.specs.Leaving.{UseLeaves};
 ghost use Rattle.sd_ops.specs.Listing.{row_at, rows_below, IsListed, IsUnlisted};
 
 use crate::copies::copy;
@@ -30,6 +31,7 @@ pub fn list_page<G: Rig>(c: &mut Complex<G>, i: InstNo, p: PageNo) -> Result<Row
     requires fits { (w : Core) × Fits (G.seen c.old.rig) (G.leaves c.old.rig) (parts c.old) w }
     ensures served { Serving (telling G.seen G.leaves G.moment G.since G.faults) (event.List i p) (listed result) c.old c.new }
     ensures rig { c.new.rig ≡ c.old.rig }
+    ensures untouched { UseLeaves i p result (parts c.old) (parts c.new) }
 {
     expect_up(c, i)?;
     let rows = rows_in(c, i, p)?;

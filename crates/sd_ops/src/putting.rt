@@ -15,6 +15,7 @@ ghost use Rattle.sd_txn.specs.Transactions.{state_at};
 ghost use Rattle.sd_txn.specs.declared.state.TxnState.TheVariants.{Running};
 ghost use Rattle.sd_world.specs.Serving.{Core};
 ghost use Rattle.sd_fits.specs.Fits.{Fits};
+ghost use Rattle.sd_ops.specs.Logged.{PutLeaves};
 ghost use Rattle.sd_ops.specs.Puts.{IsLowered, IsPutThere};
 
 use sd_base::{Mode, Refusal, Rid, TxnId};
@@ -25,7 +26,8 @@ use sd_update::change;
 /// A transaction that runs gets the record's `Excl` lock, which nobody stands in the way of, and sets the record's value on a page that
 /// its instance has alone; `capacity` is the slot's own, or that of a new slot.
 ///
-/// `LogFull` and `LsnEnd` come only where the log has no room, or no LSN is left. A refusal leaves all as it was, the locks too.
+/// `LogFull` comes exactly where the log has no room, `LsnEnd` exactly where it has and no LSN is left. A refusal leaves all as it was, the
+/// locks too.
 pub fn put<G: Rig>(
     c: &mut Complex<G>,
     t: &TxnId,
@@ -42,6 +44,7 @@ pub fn put<G: Rig>(
     requires takes { FitsThere t.now r.now capacity (option_copied after) (parts c.old) }
     ensures put { OnOk result (IsPutThere (G.seen c.old.rig) (G.leaves c.old.rig) t.now r.now capacity (option_copied after.entry) (parts c.old) (parts c.new)) }
     ensures lowered { OnErr result (IsLowered (parts c.old) (parts c.new)) }
+    ensures left { PutLeaves t.now r.now capacity (option_copied after.entry) result (parts c.old) (parts c.new) }
     ensures rig { c.new.rig ≡ c.old.rig }
 
     ensures full { (result ≡ Err R.LogFull) → LacksRoom (change_of t.now r.now capacity (option_copied after.entry) (parts c.old)) (parts c.old) }

@@ -7,6 +7,7 @@ ghost use Rattle.sd_world.specs.Serving.{Core, found_reply, telling};
 ghost use Rattle.sd_fits.specs.Fits.{Fits};
 ghost use Rattle.sd_fits.specs.Serving.{Serving};
 ghost use Rattle.sd_ops.specs.Halves.{HalfServed};
+ghost use Rattle.sd_ops.specs.Leaving.{OnlyLocks, UseLeaves};
 
 use crate::copies::found;
 use crate::{ask, at_work, end_wait};
@@ -24,6 +25,7 @@ pub fn read<G: Rig>(c: &mut Complex<G>, t: &TxnId, r: &Rid) -> Result<Option<Byt
     requires fits { (w : Core) × Fits (G.seen c.old.rig) (G.leaves c.old.rig) (parts c.old) w }
     ensures served { Serving (telling G.seen G.leaves G.moment G.since G.faults) (event.Read t.now r.now) (found_reply result) c.old c.new }
     ensures rig { c.new.rig ≡ c.old.rig }
+    ensures untouched { UseLeaves t.now.inst r.now.page result (parts c.old) (parts c.new) }
 {
     t.inst.keeps();
     let content = value_for(c, t, r)?;
@@ -36,6 +38,7 @@ fn value_for<G: Rig>(c: &mut Complex<G>, t: &TxnId, r: &Rid) -> Result<Option<By
     requires fits { (w : Core) × Fits (G.seen c.old.rig) (G.leaves c.old.rig) (parts c.old) w }
     ensures served { Serving (telling G.seen G.leaves G.moment G.since G.faults) (event.Read t.now r.now) (found_reply result) c.old c.new }
     ensures rig { c.new.rig ≡ c.old.rig }
+    ensures left { OnlyLocks (parts c.old) (parts c.new) }
 {
     let done = look(c, t, r);
     end_wait(c, t, &done);
@@ -47,6 +50,7 @@ fn look<G: Rig>(c: &mut Complex<G>, t: &TxnId, r: &Rid) -> Result<Option<Bytes>,
     requires fits { (w : Core) × Fits (G.seen c.old.rig) (G.leaves c.old.rig) (parts c.old) w }
     ensures half { HalfServed (G.seen c.old.rig) (G.leaves c.old.rig) None (event.Read t.now r.now) (found_reply result) (parts c.old) (parts c.new) }
     ensures rig { c.new.rig ≡ c.old.rig }
+    ensures left { OnlyLocks (parts c.old) (parts c.new) }
 {
     at_work(c, t)?;
     ask(c, t, r, Mode::Shared)?;

@@ -1,6 +1,6 @@
 //! Transactions: begun, marked, committed.
 
-ghost use Rattle.std.specs.Prelude.{◌≡◌, ◌≢◌, ◌^◌, ◌<◌, ◌≤◌, ◌⊎◌, ℕ, true, Err, IfOk, IsSome, None, Some};
+ghost use Rattle.std.specs.Prelude.{◌≡◌, ◌≢◌, ◌+◌, ◌^◌, ◌<◌, ◌≤◌, ◌⊎◌, ℕ, true, Err, IfErr, IfOk, IsSome, None, OnOk, Some};
 ghost use Rattle.sd_base.specs.declared.place.Status.TheVariants as S;
 ghost use Rattle.sd_base.specs.declared.refusal.Refusal.TheVariants as R;
 ghost use Rattle.sd_chain.specs.Records.{home};
@@ -18,6 +18,7 @@ ghost use Rattle.sd_world.specs.Serving.{Core, began_reply, did, telling};
 ghost use Rattle.sd_fits.specs.Fits.{Fits};
 ghost use Rattle.sd_fits.specs.Serving.{Serving};
 ghost use Rattle.sd_ops.specs.Halves.{HalfServed};
+ghost use Rattle.sd_ops.specs.Leaving.{EndLeaves, TableLeaves};
 
 use crate::locking::{at_work, end_wait, refuse};
 use crate::standing::expect_up;
@@ -37,6 +38,7 @@ pub fn begin<G: Rig>(c: &mut Complex<G>, i: InstNo) -> Result<TxnId, Refusal>
     requires fits { (w : Core) × Fits (G.seen c.old.rig) (G.leaves c.old.rig) (parts c.old) w }
     ensures served { Serving (telling G.seen G.leaves G.moment G.since G.faults) (event.Begin i) (began_reply result) c.old c.new }
     ensures rig { c.new.rig ≡ c.old.rig }
+    ensures untouched { TableLeaves result (parts c.old) (parts c.new) }
 {
     expect_up(c, i)?;
     // Nobody stands twice in the table.
@@ -54,6 +56,7 @@ pub fn save<G: Rig>(c: &mut Complex<G>, t: &TxnId, mark: &Word) -> Result<(), Re
     requires fits { (w : Core) × Fits (G.seen c.old.rig) (G.leaves c.old.rig) (parts c.old) w }
     ensures served { Serving (telling G.seen G.leaves G.moment G.since G.faults) (event.Save t.now mark.now) (did result) c.old c.new }
     ensures rig { c.new.rig ≡ c.old.rig }
+    ensures untouched { TableLeaves result (parts c.old) (parts c.new) }
 {
     let done = set_mark(c, t, mark);
     end_wait(c, t, &done);
@@ -65,6 +68,7 @@ fn set_mark<G: Rig>(c: &mut Complex<G>, t: &TxnId, mark: &Word) -> Result<(), Re
     requires fits { (w : Core) × Fits (G.seen c.old.rig) (G.leaves c.old.rig) (parts c.old) w }
     ensures half { HalfServed (G.seen c.old.rig) (G.leaves c.old.rig) None (event.Save t.now mark.now) (did result) (parts c.old) (parts c.new) }
     ensures rig { c.new.rig ≡ c.old.rig }
+    ensures left { TableLeaves result (parts c.old) (parts c.new) }
 {
     at_work(c, t)?;
     let name = copy_of(*c.logs.allocator(), mark)?;
@@ -79,11 +83,12 @@ fn copy_of(alloc: Global, word: &Word) -> Result<Word, Memory>
     Ok(Word::copy_of(alloc, word.items())?)
 }
 
-/// Commits a transaction: it is among the committed, and its locks go, once its Commit is forced. One without a record has none
-/// to force. No page is written, and no memory is taken.
+/// Commits a transaction: it is among the committed, and its locks go, once its Commit is forced, by four device calls. One without a
+/// record has none to force. No page is written, and no memory is taken.
 ///
 /// Refused, the first that applies: `NoTxn`; `Down` where its instance isn't up; `Busy` where it rolls back. These end its wait
-/// alone. `CutCommit` comes where the force failed: its instance falls then, and a recovery will tell whether it committed.
+/// alone, and make no device call. `CutCommit` comes where the force failed: its instance falls then, and a recovery will tell whether
+/// it committed.
 pub fn commit<G: Rig>(c: &mut Complex<G>, t: &TxnId) -> Result<(), Refusal>
     requires fits { (w : Core) × Fits (G.seen c.old.rig) (G.leaves c.old.rig) (parts c.old) w }
     ensures served { Serving (telling G.seen G.leaves G.moment G.since G.faults) (event.Commit t.now) (did result) c.old c.new }
@@ -91,6 +96,9 @@ pub fn commit<G: Rig>(c: &mut Complex<G>, t: &TxnId) -> Result<(), Refusal>
     ensures disk { G.seen c.new.rig 0 ≡ G.seen c.old.rig 0 }
     ensures disk_leaves { LeavesSame (G.leaves c.old.rig 0) (G.leaves c.new.rig 0) }
     ensures bare { span_at (txns_at (parts c.old) t.now.inst) t.now ≡ None → c.new.rig ≡ c.old.rig }
+    ensures tick { IsSome (span_at (txns_at (parts c.old) t.now.inst) t.now) → OnOk result (G.moment c.new.rig ≡ G.moment c.old.rig + 4) }
+    ensures still { IfErr result (λ n. n ≢ R.CutCommit → c.new.rig ≡ c.old.rig) }
+    ensures untouched { EndLeaves t.now.inst result (parts c.old) (parts c.new) }
 {
     match at_work(c, t) {
         Ok(()) => commit_running(c, t),
@@ -108,6 +116,9 @@ fn commit_running<G: Rig>(c: &mut Complex<G>, t: &TxnId) -> Result<(), Refusal>
     ensures disk { G.seen c.new.rig 0 ≡ G.seen c.old.rig 0 }
     ensures disk_leaves { LeavesSame (G.leaves c.old.rig 0) (G.leaves c.new.rig 0) }
     ensures bare { span_at (txns_at (parts c.old) t.now.inst) t.now ≡ None → c.new.rig ≡ c.old.rig }
+    ensures tick { IsSome (span_at (txns_at (parts c.old) t.now.inst) t.now) → OnOk result (G.moment c.new.rig ≡ G.moment c.old.rig + 4) }
+    ensures still { IfErr result (λ n. n ≢ R.CutCommit → c.new.rig ≡ c.old.rig) }
+    ensures untouched { EndLeaves t.now.inst result (parts c.old) (parts c.new) }
 {
     t.keeps();
     match c.txns(t.inst).span(t) {
@@ -129,6 +140,9 @@ fn commit_recorded<G: Rig>(c: &mut Complex<G>, t: &TxnId) -> Result<(), Refusal>
     ensures there { result ≢ Err R.Memory }
     ensures disk { G.seen c.new.rig 0 ≡ G.seen c.old.rig 0 }
     ensures disk_leaves { LeavesSame (G.leaves c.old.rig 0) (G.leaves c.new.rig 0) }
+    ensures tick { OnOk result (G.moment c.new.rig ≡ G.moment c.old.rig + 4) }
+    ensures still { IfErr result (λ n. n ≢ R.CutCommit → c.new.rig ≡ c.old.rig) }
+    ensures untouched { EndLeaves t.now.inst result (parts c.old) (parts c.new) }
 {
     t.keeps();
     seal_commit(c, t);

@@ -16,6 +16,7 @@ ghost use Rattle.sd_state.specs.Working.{with_txns};
 ghost use Rattle.sd_txn.specs.Transactions.{txn_at, with_state, OthersStay};
 ghost use Rattle.sd_txn.specs.declared.state.TxnState.TheVariants.{Rolling};
 ghost use Rattle.sd_world.specs.Serving.{Core, did, telling};
+ghost use Rattle.sd_ops.specs.Leaving.{TableLeaves};
 ghost use Rattle.sd_ops.specs.Rolling.{IsGoal, MayRoll, StaysPut};
 
 use crate::rollbacks::{calm, standing};
@@ -34,6 +35,7 @@ pub fn back_to<G: Rig>(c: &mut Complex<G>, t: &TxnId, mark: &Option<Word>) -> Re
     ensures served { Serving (telling G.seen G.leaves G.moment G.since G.faults) (event.Back t.now mark.now) (did result) c.old c.new }
     ensures there { result ≢ Err R.Memory }
     ensures rig { c.new.rig ≡ c.old.rig }
+    ensures untouched { TableLeaves result (parts c.old) (parts c.new) }
 {
     t.keeps();
     match goal_of(c, t, mark) {

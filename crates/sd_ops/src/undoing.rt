@@ -1,6 +1,6 @@
 //! A rollback goes on: its last open record is undone, or it ends.
 
-ghost use Rattle.std.specs.Prelude.{◌≡◌, ◌≢◌, ℕ, true, Err, IfErr, IfOk, IsSome, OnOk, Option, Some};
+ghost use Rattle.std.specs.Prelude.{◌≡◌, ◌≢◌, ◌+◌, ℕ, true, false, Err, IfErr, IfOk, IsSome, Ok, OnOk, Option, Some};
 ghost use Rattle.sd_base.specs.declared.place.Status.TheVariants as S;
 ghost use Rattle.sd_base.specs.declared.refusal.Refusal.TheVariants as R;
 ghost use Rattle.sd_fits.specs.Fits.{Fits};
@@ -15,7 +15,9 @@ ghost use Rattle.sd_txn.specs.Transactions.{state_at, top_at};
 ghost use Rattle.sd_txn.specs.declared.state.OpenRec.{OpenRec};
 ghost use Rattle.sd_txn.specs.declared.state.TxnState.TheVariants.{Rolling};
 ghost use Rattle.sd_world.specs.Serving.{Core, answered, step_or_finished, telling};
-ghost use Rattle.sd_ops.specs.Rolling.{IsAbove, IsDue, IsOut, LacksAlone};
+ghost use Rattle.sd_ops.specs.Leaving.{UndoLeaves};
+ghost use Rattle.sd_ops.specs.Logged.{HasCompensated};
+ghost use Rattle.sd_ops.specs.Rolling.{EndsRecorded, IsAbove, IsDue, IsOut, LacksAlone};
 
 use crate::ending::finish;
 use crate::rollbacks::{calm, standing};
@@ -41,7 +43,8 @@ pub enum UndoOutcome {
 /// Undoes the last open record of a transaction that rolls back, or ends its rollback where it has come to its goal: at a mark it runs
 /// again, and after a whole rollback it is gone. `Ok(true)`: it was at its end, or wasn't rolled back. An undo uses the record's page,
 /// which its instance has alone, and writes one compensation record. The end of a whole rollback is told, and its locks go, once its End
-/// is forced; one without a record has none. It takes no memory, and a full log has room for it.
+/// is forced, by four device calls; one without a record has none, and no other undo calls a device. It takes no memory, and a full log
+/// has room for it.
 ///
 /// Refused, the first that applies: `NoTxn`; `Down` where its instance isn't up; where a record is to be undone `Lost` and `NeedPage`,
 /// where the instance hasn't the page alone. `Failed` comes where the force failed: its instance has fallen then.
@@ -53,6 +56,10 @@ pub fn undo<G: Rig>(c: &mut Complex<G>, t: &TxnId) -> Result<bool, Refusal>
     ensures down { result ≡ Err R.Failed → status_at (parts c.new) t.now.inst ≡ S.Down }
     ensures disk { G.seen c.new.rig 0 ≡ G.seen c.old.rig 0 }
     ensures disk_leaves { LeavesSame (G.leaves c.old.rig 0) (G.leaves c.new.rig 0) }
+    ensures untouched { UndoLeaves t.now result (parts c.old) (parts c.new) }
+    ensures logged { result ≡ Ok false → HasCompensated t.now (parts c.old) (parts c.new) }
+    ensures tick { EndsRecorded t.now (parts c.old) → OnOk result (G.moment c.new.rig ≡ G.moment c.old.rig + 4) }
+    ensures still { (EndsRecorded t.now (parts c.old) → ⊥) → c.new.rig ≡ c.old.rig }
 {
     t.keeps();
     match next_of(c, t) {
@@ -112,6 +119,8 @@ fn rollback_step<G: Rig>(c: &mut Complex<G>, t: &TxnId) -> Result<bool, Refusal>
     ensures there { result ≢ Err R.Memory }
     ensures works { result ≢ Err R.Failed }
     ensures rig { c.new.rig ≡ c.old.rig }
+    ensures untouched { UndoLeaves t.now result (parts c.old) (parts c.new) }
+    ensures logged { result ≡ Ok false → HasCompensated t.now (parts c.old) (parts c.new) }
 {
     t.keeps();
     // Nobody stands twice in the table.

@@ -1,7 +1,8 @@
--- A recovery ends: for the goals of `finish`.
-use Rattle.std.proofs.Common.{◌≡◌, inl, inr, ⊎_elim, ℕ, ◌≤◌, Bool, false, cond, List, [], ◌++◌, map, append-nil, refl, sym, ap, ◌∙◌, subst}
-use Rattle.std.specs.Prelude.{Option, None, Some, is_some, option_and_then, option_map}
+-- A recovery ends, and nothing is left to do: for the goals of `finish`.
+use Rattle.std.proofs.Common.{◌≡◌, inl, inr, ⊎_elim, ℕ, ◌≤◌, Bool, false, cond, List, [], ◌∷◌, ◌++◌, length, map, append-nil, refl, sym, ap, ◌∙◌, subst, arith}
+use Rattle.std.specs.Prelude.{Option, None, Some, if◌then◌else◌, is_some, option_and_then, option_map, sum_by}
 use Rattle.std.proofs.lemmas.Bool.{cases_eq}
+use Rattle.std.proofs.lemmas.List.Sums.{sum_by-cons}
 use Rattle.sd_base.specs.declared.ids.Rid.{Rid}
 use Rattle.sd_base.specs.declared.ids.TxnId.{TxnId}
 use Rattle.sd_base.specs.declared.place.Status.{Status}
@@ -10,11 +11,12 @@ use Rattle.sd_logrec.specs.View.{flat}
 use Rattle.sd_logrec.specs.declared.record.Record.{Record}
 use Rattle.sd_reclock.specs.Locks.{held}
 use Rattle.sd_rig.specs.Devices.{DeviceImages}
-use Rattle.sd_txn.specs.Transactions.{Transaction, Transactions, span_at, state_at, top, txn_at}
+use Rattle.sd_txn.specs.Transactions.{Transaction, Transactions, ids, state_at, top, txn_at}
 use Rattle.sd_txn.specs.declared.state.OpenRec.{OpenRec}
 use Rattle.sd_txn.specs.declared.state.TxnState.{TxnState}
 use Rattle.sd_chain.specs.Fates.{fate}
 use Rattle.sd_chain.specs.Records.{home}
+use Rattle.sd_chain.specs.Undoing.{Apart}
 use Rattle.sd_chain.proofs.Fates.{fate-closed}
 use Rattle.sd_model.specs.Lives.{SuitsStatus}
 use Rattle.sd_model.specs.State.{State}
@@ -25,10 +27,13 @@ use Rattle.sd_state.specs.Parts.{Parts, is_loose, log_at, status_at, txns_at}
 use Rattle.sd_state.specs.Recovering.{IsDone, MayEnd}
 use Rattle.sd_state.specs.Tables.{IsLogged, NamesLife, RowIsLogged, StandsAs, lock_of, tells_log}
 use Rattle.sd_fits.specs.Fits.{Fits}
+use Rattle.sd_recover.specs.Work.{tasks_at}
 use Rattle.sd_recover.specs.Tasks as next
 use Rattle.sd_recover.specs.Tasks.{AreThere, IsRowTask, open_lsn}
 use Rattle.sd_recover.specs.declared.tasks.Task.TheVariants as task
 use Rattle.sd_recover.proofs.Ends.{none-top}
+use Rattle.sd_recover.proofs.Nexts.{none-to-end}
+use Rattle.sd_recover.proofs.Reading.{table-sum}
 use Rattle.sd_recover.proofs.Rows.{none-open, none-passes}
 
 -- ---- nothing is left to do of a row
@@ -83,7 +88,7 @@ module _ (i by : ℕ) (seen : DeviceImages) (leaves : Outcomes) (c : Parts) (w :
     ended : cond {A = Bool} (next.is_loser (Some x.state)) (is_some x.span) false ≡ false
     ended = sym (ap (λ (o : Option Transaction). cond {A = Bool} (next.is_loser (option_map (λ (z : Transaction). z.state) o))
         (is_some (option_and_then (λ (z : Transaction). z.span) o)) false) row)
-        ∙ none-passes (λ u. cond {A = Bool} (next.is_loser (state_at table u)) (is_some (span_at table u)) false) table.unresolved t x done.2 row
+        ∙ none-to-end table done.2 t
 
     empty : cond {A = Option ℕ} (next.is_loser (Some x.state)) (option_map (λ (r : OpenRec). r.lsn) (top x)) None ≡ None
     empty = sym (ap (λ (o : Option Transaction). cond {A = Option ℕ} (next.is_loser (option_map (λ (z : Transaction). z.state) o))
@@ -131,3 +136,32 @@ module _ (i by : ℕ) (seen : DeviceImages) (leaves : Outcomes) (c : Parts) (w :
     rows = is-done;
     unheld = unheld;
   }
+
+-- ---- so no task is left in its rows
+
+abbrev one_where : Bool → ℕ
+one_where b = if b then 1 else 0
+
+abbrev one_doubt : TxnState → ℕ
+one_doubt s = cond (next.row_is_doubt (Some s)) 1 0
+
+none-of-row : (i : ℕ) (t : TxnId) (x : Transaction) → IsDone i t x → next.tasks_of x ≡ 0
+none-of-row i t x done =
+    let doubt : one_doubt x.state ≡ 0 = ⊎_elim (λ e. ap one_doubt e) (λ e. ap one_doubt e) done.state in
+    let stack = ap (λ (s : List OpenRec). length s) done.emptied in
+    let span = ap (λ (o : Option (ℕ × ℕ)). one_where (is_some o)) done.span in
+    omega (arith, doubt, stack, span)
+
+none-at : (i : ℕ) (t : TxnId) (o : Option Transaction) → ((x : Transaction) → o ≡ Some x → IsDone i t x) → tasks_at o ≡ 0
+none-at i t None done = refl
+none-at i t (Some x) done = none-of-row i t x (done x refl)
+
+none-in : (f : TxnId → ℕ) → ((t : TxnId) → f t ≡ 0) → (ts : List TxnId) → sum_by f ts ≡ 0
+none-in f none [] = refl
+none-in f none (t ∷ ts) =
+    let here = none t in let rest = none-in f none ts in let all = sum_by-cons f t ts in omega (arith, here, rest, all)
+
+pub none-left : (i : ℕ) (c : Parts) → MayEnd i c → Apart (ids (txns_at c i)) → next.tasks_in (txns_at c i) ≡ 0
+none-left i c may apart =
+    table-sum (λ t o. tasks_at o) (txns_at c i) apart
+    ∙ none-in (λ t. tasks_at (txn_at (txns_at c i) t)) (λ t. none-at i t (txn_at (txns_at c i) t) (may.rows t)) (ids (txns_at c i))

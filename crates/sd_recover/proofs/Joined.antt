@@ -100,7 +100,7 @@ module _ {G : Type 0} (tell : Telling G) (i lsn epoch spare : ℕ) (c s k : Comp
 
   settled-start : is_loose (parts c) i ≡ false
   settled-start = settled i lsn epoch spare (tell.seen c.rig) (tell.leaves c.rig) (parts c) w f h.low h.high h.waits h.next
-      (reply.Joined epoch)
+      (reply.Joined epoch) refl
 
   stays-down : IsNotDown m (Join i) → ⊥
   stays-down = not-up i (tell.seen c.rig) (tell.leaves c.rig) (parts c) w f h.low h.high h.waits
@@ -165,7 +165,7 @@ module _ {G : Type 0} (tell : Telling G) (i lsn epoch spare : ℕ) (c s k : Comp
     fits-then = subst (λ (d : G). Fits (tell.seen d) (tell.leaves d) (parts n) next) (sym rigs)
         (subst (λ (p : Parts). Fits (tell.seen k.rig) (tell.leaves k.rig) p next) (sym new-is)
         (joined-fits i lsn epoch spare (tell.seen c.rig) (tell.leaves c.rig) (parts c) w f h.low h.high h.waits h.next
-        (reply.Joined epoch)
+        (reply.Joined epoch) refl
         (tell.seen k.rig) (tell.leaves k.rig) disk kept good-mid owes good-done
         (subst (λ (p : Parts). Good (tell.seen k.rig) (tell.leaves k.rig) Pending.Idle p (joined i epoch m)) new-is
         (subst (λ (d : G). Good (tell.seen d) (tell.leaves d) Pending.Idle (parts n) (joined i epoch m)) rigs
@@ -223,15 +223,15 @@ module _ {G : Type 0} (tell : Telling G) (i lsn epoch spare : ℕ) (c s k : Comp
         (parts c) (parts k) (parts n) m (counted event m) w h.low h.high f good-k else is fallen (λ t ne. refl)
         (bounds_after w.bounds event answer)
         (subst (λ (p : Parts). FitsPages (tell.seen k.rig) (tell.leaves k.rig) p w.pages) (sym half-is)
-        (failed-pages-fit i lsn epoch spare (tell.seen c.rig) (tell.leaves c.rig) (parts c) w f h.low h.high h.waits h.next answer
+        (failed-pages-fit i lsn epoch spare (tell.seen c.rig) (tell.leaves c.rig) (parts c) w f h.low h.high h.waits h.next answer refl
         (tell.seen k.rig) (tell.leaves k.rig) disk kept good-mid a))
         (subst (λ (p : Parts). FitsBounds (tell.seen k.rig) (tell.leaves k.rig) p (bounds_after w.bounds event answer)) (sym half-is)
         (failed-bounds-fit i lsn epoch spare (tell.seen c.rig) (tell.leaves c.rig)
-        (parts c) w f h.low h.high h.waits h.next answer
+        (parts c) w f h.low h.high h.waits h.next answer refl
         (tell.seen k.rig) (tell.leaves k.rig) disk kept good-mid a))
         (subst (λ (p : Parts). FitsDoubts (tell.seen k.rig) p m) (sym half-is)
         (failed-doubts-fit i lsn epoch spare (tell.seen c.rig) (tell.leaves c.rig)
-        (parts c) w f h.low h.high h.waits h.next answer
+        (parts c) w f h.low h.high h.waits h.next answer refl
         (tell.seen k.rig) (tell.leaves k.rig) disk kept good-mid a))
         (subst (λ (d : G). Good (tell.seen d) (tell.leaves d) Pending.Idle (parts n) (fall i (counted event m))) rigs
         (good m good-k))

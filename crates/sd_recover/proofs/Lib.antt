@@ -6,6 +6,12 @@ mod Settled
 mod Begun
 mod Cleared
 mod Steps
+mod Reading
+mod Lowered
+mod Touched
+mod Doing
+mod Fallen
+pub mod Work
 mod Decides
 mod Ends
 mod Ended
@@ -22,8 +28,10 @@ mod Wanting
 pub mod Rows
 pub mod Owns
 mod Nexts
+mod NextOne
 pub mod Awaited
 mod NoRoom
+mod JoinTouched
 mod Armed
 pub mod Failed
 mod Fewer

@@ -14,6 +14,7 @@ use Rattle.sd_state.specs.Parts.{Parts, txns_at}
 use Rattle.sd_update.proofs.Deciding.{has-row}
 use Rattle.sd_fits.specs.Fits.{Fits}
 use Rattle.sd_recover.specs.Tasks.{in_doubt, is_loser, last_open, row_is_doubt, to_end}
+use Rattle.sd_recover.proofs.Nexts.{first-to-end}
 use Rattle.sd_recover.proofs.Rows.{doubt-is, found-passes, last-open, loser-is, none-open, open-is}
 
 none-some : {A : Type 0} (x : A) → None ≡ Some x → ⊥
@@ -43,7 +44,7 @@ module _ (table : Transactions) (t : TxnId) where
 
   passes : to_end table ≡ Some t → (is_loser (state_at table t) ≡ true) × (is_some (span_at table t) ≡ true)
   passes e = both (is_loser (state_at table t)) (is_some (span_at table t))
-      (found-passes (λ u. cond {A = Bool} (is_loser (state_at table u)) (is_some (span_at table u)) false) (ids table) t e)
+      (first-to-end table t e).0
 
   pub ended-loser : to_end table ≡ Some t → state_at table t ≡ Some TxnState.Retained
   ended-loser e = loser-is (state_at table t) (passes e).0

@@ -1,5 +1,5 @@
 -- A step of a recovery that rebuilds a lost page serves its event: for the goals of rebuilding.rt.
-use Rattle.std.proofs.Common.{◌≡◌, ◌≢◌, ◌⊎◌, inl, ⊎_elim, ℕ, ◌≤◌, false, refl, sym, ap, ◌∙◌, subst, arith}
+use Rattle.std.proofs.Common.{◌≡◌, ◌≢◌, ◌⊎◌, inl, inr, ⊎_elim, ℕ, ◌≤◌, false, refl, sym, ap, ◌∙◌, subst, arith}
 use Rattle.std.specs.Prelude.{None, Some}
 use Rattle.sd_base.specs.Streams.{Rises}
 use Rattle.sd_base.specs.declared.place.Status.TheVariants as S
@@ -8,7 +8,7 @@ use Rattle.sd_base.specs.declared.refusal.Refusal.TheVariants as R
 use Rattle.sd_rig.specs.Devices.{DeviceImages, Elapses, IsUnchanged, Leaves, LeavesSame, Span}
 use Rattle.sd_chain.specs.Bytes.{disk_page}
 use Rattle.sd_chain.specs.Named.{version_of}
-use Rattle.sd_chain.specs.Logs.{tails_of}
+use Rattle.sd_chain.specs.Logs.{Outcomes, tails_of}
 use Rattle.sd_model.specs.Applies.{IsNotRecovered}
 use Rattle.sd_model.specs.State.{State}
 use Rattle.sd_model.specs.declared.event.Event.{Event}
@@ -42,6 +42,9 @@ use Rattle.sd_fits.proofs.Places.{read-fits, read-spares, repaged, turns-repaged
 use Rattle.sd_recover.proofs.FreedFits.{freed, freed-fits, frees-lowest}
 use Rattle.sd_fits.proofs.Served.{bounds-stay, none-ended}
 use Rattle.sd_recover.specs.Rebuilding.{LeavesLost}
+use Rattle.sd_recover.specs.Recovering.{HasOnlyRead}
+use Rattle.sd_recover.specs.Tasks.{AreSettled}
+use Rattle.sd_recover.proofs.Cleared.{opposite}
 use Rattle.sd_transfer.specs.Breaking.{BreaksBy}
 use Rattle.sd_transfer.proofs.Unput.{unread-served}
 
@@ -193,10 +196,17 @@ module _ {G : Type 0} (tell : Telling G) (c : Complex G) (i by p : ℕ) (low : 1
         same-versions (λ d ne. u.outcomes d) w.1 (same ∙ sym (disk-same (parts c) false settled))))
         why
 
+-- where each device is settled, a step that changed nothing has only read
+pub settled-read : (seen : DeviceImages) (leaves : Outcomes) (old new : Parts) → AreSettled old → new ≡ old → HasOnlyRead seen leaves old new
+settled-read seen leaves old new settled same = record {
+  same = same;
+  synced = λ dev lowest. absurd (opposite (is_loose old dev) lowest.1 (settled dev lowest.0));
+}
+
 -- what such a refusal leaves
-pub read-left : (n : Refusal) (by : ℕ) (old new : Parts) (A B : Type 0) → new ≡ old → ((n ≡ R.Memory) × A) ⊎ ((n ≡ R.Failed) × B)
-    → LeavesLost n by old new
-read-left n by old new A B same why = ⊎_elim
-    (λ w. subst (λ (r : Refusal). LeavesLost r by old new) (sym w.0) same)
-    (λ w. subst (λ (r : Refusal). LeavesLost r by old new) (sym w.0) (inl same))
+pub read-left : (seen : DeviceImages) (leaves : Outcomes) (n : Refusal) (by : ℕ) (old new : Parts) (A B : Type 0) → AreSettled old
+    → new ≡ old → ((n ≡ R.Memory) × A) ⊎ ((n ≡ R.Failed) × B) → LeavesLost seen leaves 0 n by old new
+read-left seen leaves n by old new A B settled same why = ⊎_elim
+    (λ w. subst (λ (r : Refusal). LeavesLost seen leaves 0 r by old new) (sym w.0) same)
+    (λ w. subst (λ (r : Refusal). LeavesLost seen leaves 0 r by old new) (sym w.0) (inr (settled-read seen leaves old new settled same)))
     why

@@ -11,7 +11,7 @@ use Rattle.sd_txn.specs.declared.state.TxnState.{TxnState}
 use Rattle.sd_recover.specs.Tasks.{is_later, is_loser, later, open_lsn, row_is_doubt}
 
 -- by the two ways in which a test comes out
-two : {P : Type 0} (b : Bool) → (b ≡ true → P) → (b ≡ false → P) → P
+pub two : {P : Type 0} (b : Bool) → (b ≡ true → P) → (b ≡ false → P) → P
 two true on off = on refl
 two false on off = off refl
 

@@ -1,5 +1,5 @@
 -- A step of a recovery that settles a device serves its event: for the goals of settling.rt.
-use Rattle.std.proofs.Common.{◌≡◌, inl, ℕ, ◌≤◌, true, false, refl, sym, ap, subst, arith, Bool, List, length, get_or, slice_set, ◌∙◌}
+use Rattle.std.proofs.Common.{◌≡◌, inl, ℕ, ◌<◌, ◌≤◌, true, false, refl, sym, ap, subst, arith, Bool, List, length, get_or, slice_set, ◌∙◌}
 use Rattle.std.proofs.lemmas.List.{get_or-set_other, get_or-set_same}
 use Rattle.std.specs.Prelude.{None, Some}
 use Rattle.sd_base.specs.Streams.{Rises}
@@ -33,7 +33,8 @@ use Rattle.sd_fits.proofs.Recovering.{numbers-step, step-turns, step_core, step_
 use Rattle.sd_fits.proofs.Refused.{IsFor, refused-turns}
 use Rattle.sd_fits.proofs.Served.{bounds-stay, nothing-fits, passed}
 use Rattle.sd_recover.proofs.RereadFits.{less-fits, reread-fits}
-use Rattle.sd_recover.specs.Recovering.{SettlesOne}
+use Rattle.sd_recover.specs.Recovering.{HasOnlyRead, SettlesOne}
+use Rattle.sd_recover.proofs.Cleared.{lowest-one}
 use Rattle.sd_recover.proofs.Rebuilt.{step-breaks}
 use Rattle.sd_transfer.specs.Breaking.{BreaksBy}
 use Rattle.sd_transfer.proofs.Broken.{broken-serves}
@@ -44,6 +45,17 @@ settles-one c new dev high nine is = (
   ap (λ (marks : List Bool). get_or marks dev true) is ∙ get_or-set_same c.loose dev false true (omega (arith, nine, high)),
   λ d ne. ap (λ (marks : List Bool). get_or marks d true) is ∙ get_or-set_other c.loose dev d false true ne,
 )
+
+-- of what a read that failed leaves the device that was to be settled is stable
+pub only-read : (seen seen' : DeviceImages) (leaves' : Outcomes) (c new : Parts) (dev : ℕ) → is_loose c dev ≡ true
+    → ((d : ℕ) → d < dev → is_loose c d ≡ false) → ((d : ℕ) → seen' d ≡ seen d) → new ≡ c → LeavesOnly (seen dev) (leaves' dev)
+    → HasOnlyRead seen' leaves' c new
+only-read seen seen' leaves' c new dev loose below reads same only = record {
+  same = same;
+  synced = λ d lowest.
+      subst (λ (k : ℕ). LeavesOnly (seen' k) (leaves' k)) (lowest-one (is_loose c) dev d loose below lowest.1 lowest.2)
+      (subst (λ (bytes : List ℕ). LeavesOnly bytes (leaves' dev)) (sym (reads dev)) only);
+}
 
 -- The recoverer of i synced device dev of c, or failed to, and came to `new`.
 module _ {G : Type 0} (tell : Telling G) (c new : Complex G) (i by dev : ℕ) (low : 1 ≤ i) (high : i ≤ 8)

@@ -35,8 +35,9 @@ use Rattle.sd_state.specs.Tables.{tells_log}
 use Rattle.sd_state.specs.Values.{Pending}
 use Rattle.sd_state.proofs.Items.{item-kept, item-set}
 use Rattle.sd_update.proofs.SealedCalls.{settled-up}
-use Rattle.sd_world.specs.Bounds.{Bounds, bounds_after}
+use Rattle.sd_world.specs.Bounds.{Bounds, bounds_after, is_wait}
 use Rattle.sd_world.specs.Serving.{Core}
+use Rattle.sd_world.proofs.Sums.{works-four}
 use Rattle.sd_moves.proofs.FallBounds.{sum-less}
 use Rattle.sd_fits.specs.Fits.{Fits, FitsBounds, FitsDoubts, FitsPages}
 use Rattle.sd_fits.proofs.Forcing.{failed-bounds, failed-doubts, failed-pages, forced-bounds, forced-doubts, forced-pages, no-more}
@@ -61,14 +62,14 @@ start-takes log lsn epoch =
     let len = length-spelling (records.Start lsn epoch) in
     omega (arith, same, len)
 
--- the sums after a join, whatever it answers
-join-more : (b : Bounds) (i : ℕ) (r : Reply) → AreMore i 900 b (bounds_after b (Join i) r)
-join-more b i r = record {
+-- the sums after a join, whatever it answers but a wait
+join-more : (b : Bounds) (i : ℕ) (r : Reply) → is_wait r ≡ false → AreMore i 900 b (bounds_after b (Join i) r)
+join-more b i r works = record {
   slots = λ p. refl;
   least = λ p. refl;
   here = let own = ap {B = ℕ} (λ (e : Bool). cond e 900 0 + b.reach i) (eq-eqb i i refl) in omega (arith, own);
   reach = λ j. more (cond (eqb i j) 900 0) (b.reach j);
-  lsns = omega arith;
+  lsns = let four = works-four b (Join i) r works in omega (arith, four);
   masters = λ j. alike (b.masters j);
 }
   where
@@ -89,7 +90,8 @@ joined_core i epoch sums w = record {
 -- ---- the Start is in the log
 
 module _ (i lsn epoch spare : ℕ) (seen : rig.DeviceImages) (leaves : Outcomes) (c : Parts) (w : Core) (f : Fits seen leaves c w)
-    (low : 1 ≤ i) (high : i ≤ 8) (waits : MayStart (status_at c i)) (next : lsn ≡ next_lsn (log_at c i) 0) (r : Reply) where
+    (low : 1 ≤ i) (high : i ≤ 8) (waits : MayStart (status_at c i)) (next : lsn ≡ next_lsn (log_at c i) 0) (r : Reply)
+    (works : is_wait r ≡ false) where
   abbrev m : State
   m = w.scene.state
 
@@ -114,7 +116,7 @@ module _ (i lsn epoch spare : ℕ) (seen : rig.DeviceImages) (leaves : Outcomes)
 
   pub mid-bounds : FitsBounds seen leaves mid sums
   mid-bounds = sealed-bounds i spare 900 start c.txns mid.epochs seen leaves Pending.Idle c m f.good low high settled refl next
-      (start-takes (all_at (log_at c i)) lsn epoch) (λ j lo hi. omega arith) w.bounds sums (join-more w.bounds i r) f.bounds
+      (start-takes (all_at (log_at c i)) lsn epoch) (λ j lo hi. omega arith) w.bounds sums (join-more w.bounds i r works) f.bounds
 
   pub mid-doubts : FitsDoubts seen mid m
   mid-doubts = sealed-doubts i spare 900 start c.txns mid.epochs seen leaves Pending.Idle c m f.good low high settled refl next

@@ -1,5 +1,7 @@
-pub mod Rebuilding
-pub mod Recovering
 pub mod Tasks
+pub mod Recovering
+pub mod Rebuilding
+pub mod Work
+pub mod Doing
 pub mod Joining
 pub mod Closing

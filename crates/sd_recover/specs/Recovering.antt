@@ -1,5 +1,5 @@
 -- A recovery: why it may not begin, what a step that is refused tells, and what a step leaves.
-use Rattle.std.specs.Prelude.{◌≡◌, ◌≢◌, ◌⊎◌, ℕ, suc, ◌≤◌, false}
+use Rattle.std.specs.Prelude.{◌≡◌, ◌≢◌, ℕ, suc, false, true}
 use Rattle.sd_base.specs.declared.ids.TxnId.{TxnId}
 use Rattle.sd_base.specs.declared.place.Status.TheVariants as S
 use Rattle.sd_base.specs.declared.refusal.Refusal.{Refusal}
@@ -7,9 +7,11 @@ use Rattle.sd_base.specs.declared.refusal.Refusal.TheVariants as R
 use Rattle.sd_pagelock.specs.Directory.{entry_at}
 use Rattle.sd_model.specs.declared.event.Reply.{Reply}
 use Rattle.sd_model.specs.declared.event.Reply.TheVariants as reply
-use Rattle.sd_pagelock.specs.Places.{PageEntry, owns, seen}
+use Rattle.sd_pagelock.specs.Places.{PageEntry, is_lost, owns, seen, uses}
+use Rattle.sd_rig.specs.Devices.{DeviceImages, LeavesOnly}
+use Rattle.sd_chain.specs.Logs.{Outcomes}
 use Rattle.sd_world.specs.Answers.{IsLowestLost}
-use Rattle.sd_state.specs.Parts.{Parts, is_loose, status_at, txns_at}
+use Rattle.sd_state.specs.Parts.{Parts, is_active, is_loose, status_at, txns_at}
 use Rattle.sd_recover.specs.declared.recovering.Recovery.{Recovery}
 use Rattle.sd_recover.specs.declared.recovering.Recovery.TheVariants as recoveries
 use Rattle.sd_recover.specs.Tasks.{AreSettled, AreThere, IsLowestLoose, IsNext, tasks_in}
@@ -32,9 +34,14 @@ abbrev pub IsAway : ℕ → ℕ → Parts → Refusal → Type 0
 IsAway by p c (R.NeedPage place) = (owns (entry_at c.directory p) by ≡ false) × (seen place ≡ entry_at c.directory p)
 IsAway by p c n = ⊥
 
--- the next task of the recovery of i is an undo
-abbrev pub AwaitsPage : Parts → ℕ → Type 0
-AwaitsPage c i = (t : TxnId) × (p : ℕ) × IsNext c i (task.Undo t p)
+-- The next task of the recovery of i is an undo on a page that the recoverer hasn't alone, and this is the page's place.
+abbrev pub AwaitsPage : Parts → ℕ → PageEntry → Type 0
+AwaitsPage c i e = (t : TxnId) × (p by : ℕ) × IsNext c i (task.Undo t p) × (status_at c i ≡ S.Recovering by)
+    × (e ≡ entry_at c.directory p) × (owns (entry_at c.directory p) by ≡ false)
+
+-- a page that is here can be pulled: it isn't lost, and whoever has it or is to get it is active
+abbrev pub IsStandingBy : Parts → PageEntry → Type 0
+IsStandingBy c e = (is_lost e ≡ false) × ((j : ℕ) → uses e j ≡ true → is_active c j ≡ true)
 
 -- the refusal wants no page
 abbrev pub WantsNone : Refusal → Type 0
@@ -46,10 +53,16 @@ abbrev pub recovery : Recovery → Reply
 recovery recoveries.Step = reply.Step
 recovery recoveries.Done = reply.Finished
 
--- all instances stand as they did, or the recoverer of i has fallen
-abbrev pub HaveStayedOrFallen : ℕ → Parts → Parts → Type 0
-HaveStayedOrFallen i old new = ((j : ℕ) → 1 ≤ j → j ≤ 8 → status_at new j ≡ status_at old j)
-    ⊎ ((by : ℕ) × (status_at old i ≡ S.Recovering by) × (status_at new by ≡ S.Down))
+-- ---- a device failed
+
+-- the recoverer of i has fallen
+abbrev pub RecovererFell : ℕ → Parts → Parts → Type 0
+RecovererFell i old new = (by : ℕ) × (status_at old i ≡ S.Recovering by) × (status_at new by ≡ S.Down)
+
+-- A read failed: nothing changed, and the device that the step was to settle is stable.
+pub record HasOnlyRead (seen : DeviceImages) (leaves : Outcomes) (old new : Parts) : Type 0 where
+  pub same : new ≡ old
+  pub synced : (dev : ℕ) → IsLowestLoose old dev → LeavesOnly (seen dev) (leaves dev)
 
 -- ---- what a step leaves
 

@@ -1,5 +1,6 @@
 -- What is to be done next of a recovery: the tasks in the rows of the recovered instance, and the first of all.
-use Rattle.std.specs.Prelude.{◌≡◌, ℕ, ◌+◌, ◌<◌, ◌≤◌, Bool, true, false, Option, None, Some, is_some, cond, find, fold, nat_lt, option_and_then, option_map, sum_by}
+use Rattle.std.specs.Prelude.{◌≡◌, ℕ, ◌+◌, ◌<◌, ◌≤◌, Bool, true, false, Option, None, Some, is_some, cond, eqb, find, fold, ltb, nat_lt, ◌&&◌, ◌||◌, option_and_then, option_map, sum_by}
+use Rattle.sd_base.specs.Ids.{IsBelow}
 use Rattle.sd_base.specs.declared.ids.TxnId.{TxnId}
 use Rattle.sd_pagelock.specs.Directory.{entry_at}
 use Rattle.sd_pagelock.specs.Places.{is_lost}
@@ -52,9 +53,30 @@ later table last t = cond {A = Option TxnId} (is_later (option_and_then (open_ls
 abbrev pub last_open : Transactions → Option TxnId
 last_open table = fold (later table) None (ids table)
 
--- the first loser that has a record and no End
+-- a loser that has a record and no End
+abbrev pub owes_end : Transactions → TxnId → Bool
+owes_end table t = cond (is_loser (state_at table t)) (is_some (span_at table t)) false
+
+-- by instance, then by epoch, then by number in it
+abbrev pub is_below : TxnId → TxnId → Bool
+is_below t u = ltb t.inst u.inst || (eqb t.inst u.inst && (ltb t.epoch u.epoch || (eqb t.epoch u.epoch && ltb t.seq u.seq)))
+
+-- it is below the other, or alone
+abbrev pub goes_before : TxnId → Option TxnId → Bool
+goes_before t None = true
+goes_before t (Some first) = is_below t first
+
+-- of these two, the lower one that owes an End
+abbrev pub lower : Transactions → Option TxnId → TxnId → Option TxnId
+lower table first t = cond {A = Option TxnId} (owes_end table t && goes_before t first) (Some t) first
+
+-- the lowest loser that has a record and no End
 abbrev pub to_end : Transactions → Option TxnId
-to_end table = find (λ t. cond (is_loser (state_at table t)) (is_some (span_at table t)) false) (ids table)
+to_end table = fold (lower table) None (ids table)
+
+-- It has a record and no End, and no loser below it has.
+abbrev pub IsFirstToEnd : Transactions → TxnId → Type 0
+IsFirstToEnd table t = (owes_end table t ≡ true) × ((u : TxnId) → owes_end table u ≡ true → IsBelow u t → ⊥)
 
 -- what is left to do of a transaction: to decide it, where it is in doubt; to undo each of its open records; and to end it, where it
 -- has a record

@@ -8,6 +8,7 @@ ghost use Rattle.sd_chain.specs.Fates.{commits};
 ghost use Rattle.sd_chain.specs.Records.{home};
 ghost use Rattle.sd_fits.specs.Fits.{Fits};
 ghost use Rattle.sd_fits.specs.Serving.{Serving};
+ghost use Rattle.sd_fits.specs.Untouched.{FallTouches, none_of, only};
 ghost use Rattle.sd_log.specs.Logs.{forced, scanned};
 ghost use Rattle.sd_logrec.specs.View.{flat};
 ghost use Rattle.sd_model.specs.declared.event.Event.TheVariants as event;
@@ -15,8 +16,10 @@ ghost use Rattle.sd_model.specs.declared.event.Reply.TheVariants as reply;
 ghost use Rattle.sd_state.specs.Complexes.{parts};
 ghost use Rattle.sd_state.specs.Forcing.{with_forced};
 ghost use Rattle.sd_state.specs.Parts.{is_loose, log_at, owed_at, status_at, txns_at};
+ghost use Rattle.sd_recover.specs.Doing.{Does};
 ghost use Rattle.sd_recover.specs.Recovering.{WantsNone};
 ghost use Rattle.sd_recover.specs.Tasks.{tasks_in};
+ghost use Rattle.sd_recover.specs.declared.tasks.Task.TheVariants as task;
 ghost use Rattle.sd_txn.specs.Transactions.{state_at};
 ghost use Rattle.sd_txn.specs.declared.state.TxnState.{TxnState};
 ghost use Rattle.sd_world.specs.Serving.{Core, answered, telling};
@@ -39,8 +42,10 @@ pub(crate) fn decide_next<G: Rig>(c: &mut Complex<G>, by: InstNo, t: &TxnId) -> 
         (answered (λ _. reply.Step) result) c.old c.new }
     ensures there { result ≢ Err R.Memory }
     ensures only { IfErr result WantsNone }
+    ensures fell { OnErr result (FallTouches by (only (home t.now)) none_of (parts c.old) (parts c.new)) }
     ensures fewer { OnOk result
         (suc (tasks_in (txns_at (parts c.new) (home t.now))) ≡ tasks_in (txns_at (parts c.old) (home t.now))) }
+    ensures did { OnOk result (Does (home t.now) by (G.seen c.old.rig) (G.seen c.new.rig) (task.Decide t.now) (parts c.old) (parts c.new)) }
 {
     t.inst.keeps();
     match at_rest(c, t.inst, by) {
@@ -64,6 +69,7 @@ pub(crate) fn at_rest<G: Rig>(c: &mut Complex<G>, i: InstNo, by: InstNo) -> Resu
         (Serving (telling G.seen G.leaves G.moment G.since G.faults) (event.RecoverStep i) None c.old c.new) }
     ensures parts { OnOk result
         (parts c.new ≡ with_forced i (forced (log_at (parts c.old) i)) (owed_at (parts c.new) i) (parts c.old)) }
+    ensures fell { OnErr result (FallTouches by (only i) none_of (parts c.old) (parts c.new)) }
     ensures failed { OnErr result
         (Serving (telling G.seen G.leaves G.moment G.since G.faults) (event.RecoverStep i) (Some (reply.Refused R.Failed)) c.old c.new) }
 {

@@ -1,17 +1,21 @@
 //! A loser of a recovered instance gets its End, and the recovery ends.
 
-ghost use Rattle.std.specs.Prelude.{◌≡◌, ◌≢◌, ◌≤◌, ◌<◌, ◌^◌, Err, IfErr, IsSome, None, OnOk, Some, false, suc};
+ghost use Rattle.std.specs.Prelude.{◌≡◌, ◌≢◌, ◌≤◌, ◌<◌, ◌^◌, Err, IfErr, IsSome, None, OnErr, OnOk, Some, false, suc};
 ghost use Rattle.sd_base.specs.declared.place.Status.TheVariants as S;
 ghost use Rattle.sd_base.specs.declared.refusal.Refusal.TheVariants as R;
 ghost use Rattle.sd_chain.specs.Records.{home};
 ghost use Rattle.sd_fits.specs.Fits.{Fits};
 ghost use Rattle.sd_fits.specs.Serving.{Serving};
+ghost use Rattle.sd_fits.specs.Untouched.{FallTouches, IsUntouched, none_of, only};
 ghost use Rattle.sd_model.specs.declared.event.Event.TheVariants as event;
 ghost use Rattle.sd_model.specs.declared.event.Reply.TheVariants as reply;
 ghost use Rattle.sd_state.specs.Complexes.{parts};
 ghost use Rattle.sd_state.specs.Parts.{is_loose, status_at, txns_at};
+ghost use Rattle.sd_state.specs.Recovering.{with_table};
+ghost use Rattle.sd_recover.specs.Doing.{Does};
 ghost use Rattle.sd_recover.specs.Recovering.{WantsNone};
 ghost use Rattle.sd_recover.specs.Tasks.{tasks_in, AreThere, IsRowTask};
+ghost use Rattle.sd_recover.specs.Work.{steps_left};
 ghost use Rattle.sd_recover.specs.declared.tasks.Task.TheVariants as task;
 ghost use Rattle.sd_txn.specs.Transactions.{span_at, state_at, top_at};
 ghost use Rattle.sd_txn.specs.declared.state.TxnState.{TxnState};
@@ -36,8 +40,12 @@ pub(crate) fn end_next<G: Rig>(c: &mut Complex<G>, by: InstNo, t: &TxnId) -> Res
     ensures served { Serving (telling G.seen G.leaves G.moment G.since G.faults) (event.RecoverStep (home t.now))
         (answered (λ _. reply.Step) result) c.old c.new }
     ensures only { IfErr result WantsNone }
+    ensures fell { result ≡ Err R.Failed → FallTouches by (only (home t.now)) none_of
+        (with_table (home t.now) (txns_at (parts c.new) (home t.now)) (parts c.old)) (parts c.new) }
+    ensures short { result ≡ Err R.Memory → parts c.new ≡ parts c.old }
     ensures fewer { OnOk result
         (suc (tasks_in (txns_at (parts c.new) (home t.now))) ≡ tasks_in (txns_at (parts c.old) (home t.now))) }
+    ensures did { OnOk result (Does (home t.now) by (G.seen c.old.rig) (G.seen c.new.rig) (task.End t.now) (parts c.old) (parts c.new)) }
 {
     t.keeps();
     by.keeps();
@@ -62,6 +70,9 @@ pub(crate) fn finish<G: Rig>(c: &mut Complex<G>, i: InstNo, by: InstNo) -> Resul
         (answered (λ _. reply.Finished) result) c.old c.new }
     ensures memory { result ≢ Err R.Memory }
     ensures only { IfErr result WantsNone }
+    ensures none { OnOk result (steps_left (G.seen c.old.rig) (parts c.old) i ≡ 0) }
+    ensures fell { OnErr result (FallTouches by (only i) none_of (parts c.old) (parts c.new)) }
+    ensures ended { OnOk result (IsUntouched none_of none_of (parts c.old) (parts c.new)) }
 {
     i.keeps();
     match at_rest(c, i, by) {

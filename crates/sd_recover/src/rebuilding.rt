@@ -13,7 +13,9 @@ ghost use Rattle.sd_state.specs.Complexes.{parts};
 ghost use Rattle.sd_state.specs.Laws.{newest_of};
 ghost use Rattle.sd_state.specs.Locking.{IsSet};
 ghost use Rattle.sd_state.specs.Parts.{is_loose, status_at};
+ghost use Rattle.sd_recover.specs.Doing.{Does};
 ghost use Rattle.sd_recover.specs.Rebuilding.{LeavesLost};
+ghost use Rattle.sd_recover.specs.declared.tasks.Task.TheVariants as task;
 ghost use Rattle.sd_world.specs.Answers.{IsLowestLost};
 ghost use Rattle.sd_world.specs.Serving.{Core, answered, telling};
 
@@ -40,10 +42,12 @@ pub(crate) fn rebuild_next<G: Rig>(
         (answered (λ x. reply.Step) result) c.old c.new }
     ensures stays { OnOk result (parts c.new ≡ with_directory (parts c.new).directory (parts c.old)) }
     ensures place { OnOk result (IsSet p PageEntry.Free None (parts c.old).directory (parts c.new).directory) }
-    ensures left { IfErr result (λ n. LeavesLost n by (parts c.old) (parts c.new)) }
+    ensures left { IfErr result (λ n. LeavesLost (G.seen c.new.rig) (G.leaves c.new.rig) 0 n by (parts c.old) (parts c.new)) }
     ensures logs { (d : ℕ) → d ≢ 0 → G.seen c.new.rig d ≡ G.seen c.old.rig d }
+    ensures did { OnOk result (Does i by (G.seen c.old.rig) (G.seen c.new.rig) (task.Rebuild p) (parts c.old) (parts c.new)) }
 {
     i.keeps();
+    p.keeps();
     let image = newest_image(c, p)?;
     put_or_fall(c, i, by, p, &image)
 }
@@ -65,7 +69,7 @@ fn put_or_fall<G: Rig>(
         (answered (λ x. reply.Step) result) c.old c.new }
     ensures stays { OnOk result (parts c.new ≡ with_directory (parts c.new).directory (parts c.old)) }
     ensures place { OnOk result (IsSet p PageEntry.Free None (parts c.old).directory (parts c.new).directory) }
-    ensures left { IfErr result (λ n. LeavesLost n by (parts c.old) (parts c.new)) }
+    ensures left { IfErr result (λ n. LeavesLost (G.seen c.new.rig) (G.leaves c.new.rig) 0 n by (parts c.old) (parts c.new)) }
     ensures logs { (d : ℕ) → d ≢ 0 → G.seen c.new.rig d ≡ G.seen c.old.rig d }
 {
     i.keeps();

@@ -1,19 +1,24 @@
 //! A step of the recovery of an instance.
 
-ghost use Rattle.std.specs.Prelude.{◌≡◌, ◌≢◌, Err, IfErr, IfOk, Ok};
+ghost use Rattle.std.specs.Prelude.{◌≡◌, ◌≢◌, ◌⊎◌, ◌<◌, ℕ, Err, IfErr, IfOk, Ok};
 ghost use Rattle.sd_base.specs.declared.place.Place.{Place};
 ghost use Rattle.sd_base.specs.declared.place.Status.TheVariants as S;
 ghost use Rattle.sd_base.specs.declared.refusal.Refusal.{Refusal};
 ghost use Rattle.sd_base.specs.declared.refusal.Refusal.TheVariants as R;
 ghost use Rattle.sd_fits.specs.Fits.{Fits};
 ghost use Rattle.sd_fits.specs.Serving.{Serving};
+ghost use Rattle.sd_fits.specs.Untouched.{IsUntouched, none_of};
 ghost use Rattle.sd_model.specs.declared.event.Event.TheVariants as event;
 ghost use Rattle.sd_model.specs.declared.event.Reply.TheVariants as reply;
+ghost use Rattle.sd_pagelock.specs.Places.{seen};
 ghost use Rattle.sd_state.specs.Complexes.{parts};
 ghost use Rattle.sd_state.specs.Parts.{status_at, IsShape};
-ghost use Rattle.sd_recover.specs.Recovering.{recovery, AwaitsPage, HasCleared, HasOneLess, HaveStayedOrFallen, IsUnrecovering};
+ghost use Rattle.sd_recover.specs.Doing.{Does, HasDone, LeavesElse, StepFell};
+ghost use Rattle.sd_recover.specs.Recovering.{recovery, AwaitsPage, HasCleared, HasOneLess, HasOnlyRead, IsStandingBy, IsUnrecovering, RecovererFell};
 ghost use Rattle.sd_recover.specs.Tasks.{IsNext};
+ghost use Rattle.sd_recover.specs.Work.{steps_left};
 ghost use Rattle.sd_recover.specs.declared.recovering.Recovery.TheVariants as recoveries;
+ghost use Rattle.sd_recover.specs.declared.tasks.Task.{Task};
 ghost use Rattle.sd_world.specs.Serving.{Core, answered, telling};
 
 use crate::deciding::decide_next;
@@ -38,16 +43,33 @@ pub enum Recovery {
 /// Does the next task of the recovery of an instance (ARIES, section 6, where records are undone in the order of their LSNs).
 ///
 /// Refused, the first that applies: `NotRecovered` where no recovery of it runs, with how it stands; `NeedPage` where a record is to be
-/// undone whose page the recoverer hasn't alone; `Failed` where a device failed: then all instances stand as they did, or the recoverer
-/// has fallen. `Memory` leaves the recovery where it was. A step settles the lowest device that isn't settled; once each is, it frees
-/// the lowest lost page; and once none is lost, it leaves one task less.
+/// undone whose page the recoverer hasn't alone, with the place of that page, and nothing has changed; `Failed` where a device failed:
+/// the recoverer has fallen, or a read failed, and nothing has changed. `Memory` leaves the recovery where it was. A step does the first
+/// task that there is: it settles the lowest device that isn't settled; once each is, it frees the lowest lost page; and once none is
+/// lost, it leaves one task less of the instance's rows. Each step lowers what is left to do, and the recovery ends where nothing is.
 pub fn recover_step<G: Rig>(c: &mut Complex<G>, i: InstNo) -> Result<Recovery, Refusal>
     requires fits { (w : Core) × Fits (G.seen c.old.rig) (G.leaves c.old.rig) (parts c.old) w }
     ensures served { Serving (telling G.seen G.leaves G.moment G.since G.faults) (event.RecoverStep i) (answered recovery result) c.old c.new }
-    ensures down { result ≡ Err R.Failed → HaveStayedOrFallen i (parts c.old) (parts c.new) }
+    ensures down { result ≡ Err R.Failed → RecovererFell i (parts c.old) (parts c.new)
+        ⊎ HasOnlyRead (G.seen c.new.rig) (G.leaves c.new.rig) (parts c.old) (parts c.new) }
+    ensures fell { result ≡ Err R.Failed → (next : Task) (by : ℕ) → IsNext (parts c.old) i next → status_at (parts c.old) i ≡ S.Recovering by
+        → StepFell i by next (parts c.old) (parts c.new)
+        ⊎ HasOnlyRead (G.seen c.new.rig) (G.leaves c.new.rig) (parts c.old) (parts c.new) }
+    ensures short { result ≡ Err R.Memory → IsUntouched none_of none_of (parts c.old) (parts c.new) }
+    ensures ended { result ≡ Ok recoveries.Done → IsUntouched none_of none_of (parts c.old) (parts c.new) }
+    ensures refused { ((by : ℕ) → status_at (parts c.old) i ≢ S.Recovering by) → parts c.new ≡ parts c.old }
+    ensures next { result ≡ Ok recoveries.Step → (next : Task) → IsNext (parts c.old) i next → HasDone i next (parts c.old) (parts c.new) }
+    ensures leaves { result ≡ Ok recoveries.Step → (next : Task) (by : ℕ) → IsNext (parts c.old) i next
+        → status_at (parts c.old) i ≡ S.Recovering by → LeavesElse i by (G.seen c.old.rig) next (parts c.old) (parts c.new) }
+    ensures stands { result ≡ Ok recoveries.Step → (j : ℕ) → status_at (parts c.new) j ≡ status_at (parts c.old) j }
+    ensures falls { result ≡ Ok recoveries.Step
+        → steps_left (G.seen c.new.rig) (parts c.new) i < steps_left (G.seen c.old.rig) (parts c.old) i }
+    ensures done { result ≡ Ok recoveries.Done → steps_left (G.seen c.old.rig) (parts c.old) i ≡ 0 }
     ensures cleared { result ≡ Ok recoveries.Step → HasCleared (parts c.old) (parts c.new) }
     ensures stepped { result ≡ Ok recoveries.Step → HasOneLess i (parts c.old) (parts c.new) }
-    ensures awaits { IfErr result (λ n. (place : Place) → n ≡ R.NeedPage place → AwaitsPage (parts c.old) i) }
+    ensures awaits { IfErr result (λ n. (place : Place) → n ≡ R.NeedPage place → AwaitsPage (parts c.old) i (seen place)) }
+    ensures waits { IfErr result (λ n. (place : Place) → n ≡ R.NeedPage place
+        → (parts c.new ≡ parts c.old) × IsStandingBy (parts c.old) (seen place)) }
 {
     i.keeps();
     let by = recoverer(c, i)?;
@@ -67,9 +89,17 @@ fn work_on<G: Rig>(
     requires recovers { status_at (parts c.old) i ≡ S.Recovering by }
     requires next { IsNext (parts c.old) i task }
     ensures served { Serving (telling G.seen G.leaves G.moment G.since G.faults) (event.RecoverStep i) (answered recovery result) c.old c.new }
+    ensures fell { result ≡ Err R.Failed → StepFell i by task (parts c.old) (parts c.new)
+        ⊎ HasOnlyRead (G.seen c.new.rig) (G.leaves c.new.rig) (parts c.old) (parts c.new) }
+    ensures short { result ≡ Err R.Memory → IsUntouched none_of none_of (parts c.old) (parts c.new) }
+    ensures ended { result ≡ Ok recoveries.Done → IsUntouched none_of none_of (parts c.old) (parts c.new) }
+    ensures did { result ≡ Ok recoveries.Step → Does i by (G.seen c.old.rig) (G.seen c.new.rig) task (parts c.old) (parts c.new) }
+    ensures done { result ≡ Ok recoveries.Done → steps_left (G.seen c.old.rig) (parts c.old) i ≡ 0 }
     ensures cleared { result ≡ Ok recoveries.Step → HasCleared (parts c.old) (parts c.new) }
     ensures stepped { result ≡ Ok recoveries.Step → HasOneLess i (parts c.old) (parts c.new) }
-    ensures awaits { IfErr result (λ n. (place : Place) → n ≡ R.NeedPage place → AwaitsPage (parts c.old) i) }
+    ensures awaits { IfErr result (λ n. (place : Place) → n ≡ R.NeedPage place → AwaitsPage (parts c.old) i (seen place)) }
+    ensures waits { IfErr result (λ n. (place : Place) → n ≡ R.NeedPage place
+        → (parts c.new ≡ parts c.old) × IsStandingBy (parts c.old) (seen place)) }
 {
     i.keeps();
     match task {
@@ -86,6 +116,7 @@ fn work_on<G: Rig>(
 fn stepped(done: Result<(), Refusal>) -> Result<Recovery, Refusal>
     ensures reply { answered recovery result ≡ answered (λ _. reply.Step) done }
     ensures fine { result ≡ Ok recoveries.Step → done ≡ Ok tt }
+    ensures further { result ≢ Ok recoveries.Done }
     ensures same { (n : Refusal) → result ≡ Err n → done ≡ Err n }
 {
     match done {
@@ -98,6 +129,7 @@ fn stepped(done: Result<(), Refusal>) -> Result<Recovery, Refusal>
 fn ended(done: Result<(), Refusal>) -> Result<Recovery, Refusal>
     ensures reply { answered recovery result ≡ answered (λ _. reply.Finished) done }
     ensures last { result ≢ Ok recoveries.Step }
+    ensures fine { result ≡ Ok recoveries.Done → done ≡ Ok tt }
     ensures same { (n : Refusal) → result ≡ Err n → done ≡ Err n }
 {
     match done {

@@ -6,12 +6,12 @@ ghost use Rattle.sd_fits.specs.Fits.{Fits};
 ghost use Rattle.sd_fits.specs.Serving.{Serving};
 ghost use Rattle.sd_model.specs.declared.event.Event.TheVariants as event;
 ghost use Rattle.sd_model.specs.declared.event.Reply.TheVariants as reply;
-ghost use Rattle.sd_moves.specs.Putting.{with_loose_disk};
-ghost use Rattle.sd_moves.specs.Settling.{with_reread};
 ghost use Rattle.sd_state.specs.Complexes.{parts};
 ghost use Rattle.sd_state.specs.Parts.{is_loose, status_at};
 ghost use Rattle.sd_recover.specs.Rebuilding.{LeavesLost};
+ghost use Rattle.sd_recover.specs.Doing.{Does};
 ghost use Rattle.sd_recover.specs.Recovering.{SettlesOne};
+ghost use Rattle.sd_recover.specs.declared.tasks.Task.TheVariants as task;
 ghost use Rattle.sd_world.specs.Serving.{Core, answered, telling};
 
 use sd_base::{InstNo, Refusal};
@@ -36,15 +36,18 @@ pub(crate) fn settle_next<G: Rig>(
     ensures served { Serving (telling G.seen G.leaves G.moment G.since G.faults) (event.RecoverStep i)
         (answered (λ _. reply.Step) result) c.old c.new }
     ensures settled { OnOk result (SettlesOne dev (parts c.old) (parts c.new)) }
-    ensures disk { OnOk result (dev ≡ 0 → parts c.new ≡ with_loose_disk false (parts c.old)) }
-    ensures log { OnOk result (1 ≤ dev → parts c.new ≡ with_reread dev (parts c.new) (parts c.old)) }
-    ensures left { IfErr result (λ n. LeavesLost n by (parts c.old) (parts c.new)) }
+    ensures did { OnOk result (Does i by (G.seen c.old.rig) (G.seen c.new.rig) (task.Settle dev) (parts c.old) (parts c.new)) }
+    ensures left { IfErr result (λ n. LeavesLost (G.seen c.new.rig) (G.leaves c.new.rig) dev n by (parts c.old) (parts c.new)) }
     ensures reads { (d : ℕ) → G.seen c.new.rig d ≡ G.seen c.old.rig d }
 {
     i.keeps();
     by.keeps();
+    c.txns(i).keeps();
     match settle(c, dev, by) {
-        Ok(()) => Ok(()),
+        Ok(()) => {
+            c.txns(i).keeps();
+            Ok(())
+        }
         Err(Unsettled::Unsynced) => Err(Refusal::Failed),
         Err(Unsettled::Unread) => Err(Refusal::Failed),
         Err(Unsettled::Memory) => Err(Refusal::Memory),

@@ -5,10 +5,10 @@ ghost use Rattle.sd_base.specs.declared.ids.TxnId.{TxnId};
 ghost use Rattle.sd_base.specs.declared.place.Status.TheVariants as S;
 ghost use Rattle.sd_fits.specs.Fits.{Fits};
 ghost use Rattle.sd_state.specs.Complexes.{parts};
-ghost use Rattle.sd_state.specs.Parts.{status_at, IsShape};
+ghost use Rattle.sd_state.specs.Parts.{status_at, txns_at, IsShape};
 ghost use Rattle.sd_world.specs.PageCauses.{IsNeededPage};
 ghost use Rattle.sd_world.specs.Serving.{Core};
-ghost use Rattle.sd_recover.specs.Tasks.{AreSettled, IsLowestLoose, IsNext, IsRowTask, in_doubt, is_later, is_loser, last_open, later, open_lsn, row_is_doubt, to_end};
+ghost use Rattle.sd_recover.specs.Tasks.{AreSettled, IsFirstToEnd, IsLowestLoose, IsNext, IsRowTask, goes_before, in_doubt, is_below, is_later, is_loser, last_open, later, lower, open_lsn, owes_end, row_is_doubt, to_end};
 ghost use Rattle.sd_recover.specs.declared.tasks.Task.TheVariants as task;
 ghost use Rattle.sd_txn.specs.Transactions.{top_at};
 ghost use Rattle.sd_txn.specs.declared.state.OpenRec.{OpenRec};
@@ -36,11 +36,12 @@ pub enum Task {
 }
 
 /// The first task that there is in the recovery of an instance: the lowest device that isn't settled, the lowest lost page, the
-/// transaction in doubt, of the losers' open records the one with the greatest LSN, the first loser with a record and no End. It
+/// transaction in doubt, of the losers' open records the one with the greatest LSN, the lowest loser with a record and no End. It
 /// takes no memory; of the instance's transactions it looks at each.
 pub fn next_task<G>(c: &Complex<G>, i: InstNo) -> Task
     requires { IsShape (parts c.now) }
-    ensures { IsNext (parts c.now) i result }
+    ensures next { IsNext (parts c.now) i result }
+    ensures first { (t : TxnId) → result ≡ task.End t → IsFirstToEnd (txns_at (parts c.now) i) t }
 {
     if let Some(dev) = first_loose(c) {
         return Task::Settle(dev);
@@ -125,15 +126,52 @@ fn last_open(table: &TxnTable) -> Option<TxnId>
     last
 }
 
-// The first loser that has a record and no End.
+// The lowest loser that has a record and no End.
 fn to_end(table: &TxnTable) -> Option<TxnId>
     ensures { result ≡ to_end table.now }
 {
-    table
-        .unresolved()
-        .iter()
-        .copied()
-        .find(|t| is_loser(table.state(t)) && table.span(t).is_some())
+    let mut first = None;
+    for t in table.unresolved() {
+        first = lower(table, &first, t);
+    }
+    first
+}
+
+// Of these two, the lower one that owes an End.
+fn lower(table: &TxnTable, first: &Option<TxnId>, t: &TxnId) -> Option<TxnId>
+    ensures { result ≡ lower table.now first.now t.now }
+{
+    if owes_end(table, t) && goes_before(t, first) {
+        Some(*t)
+    } else {
+        *first
+    }
+}
+
+// Whether a loser has a record and no End.
+fn owes_end(table: &TxnTable, t: &TxnId) -> bool
+    ensures { result ≡ owes_end table.now t.now }
+{
+    is_loser(table.state(t)) && table.span(t).is_some()
+}
+
+// Whether it is below the other, or alone.
+fn goes_before(t: &TxnId, first: &Option<TxnId>) -> bool
+    ensures { result ≡ goes_before t.now first.now }
+{
+    match first {
+        None => true,
+        Some(first) => is_below(t, first),
+    }
+}
+
+// By instance, then by epoch, then by number in it.
+fn is_below(t: &TxnId, other: &TxnId) -> bool
+    ensures { result ≡ is_below t.now other.now }
+{
+    t.inst < other.inst
+        || (t.inst == other.inst
+            && (t.epoch < other.epoch || (t.epoch == other.epoch && t.seq < other.seq)))
 }
 
 // Of these two, the loser with the later open record.

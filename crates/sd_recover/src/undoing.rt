@@ -1,19 +1,25 @@
 //! A loser's last open record is undone by the instance that recovers the loser's.
 
-ghost use Rattle.std.specs.Prelude.{◌≡◌, ◌↔◌, IfErr, IsTrue, OnOk, Some, suc, true};
+ghost use Rattle.std.specs.Prelude.{◌≡◌, ◌↔◌, ◌||◌, Err, IfErr, IsTrue, OnOk, Some, suc, true};
+ghost use Rattle.sd_base.specs.declared.place.Place.{Place};
 ghost use Rattle.sd_base.specs.declared.place.Status.TheVariants as S;
 ghost use Rattle.sd_base.specs.declared.refusal.Refusal.TheVariants as R;
 ghost use Rattle.sd_chain.specs.Records.{home};
 ghost use Rattle.sd_fits.specs.Fits.{Fits};
 ghost use Rattle.sd_fits.specs.Serving.{Serving};
+ghost use Rattle.sd_fits.specs.Untouched.{FallTouches, only};
 ghost use Rattle.sd_model.specs.declared.event.Event.TheVariants as event;
 ghost use Rattle.sd_model.specs.declared.event.Reply.TheVariants as reply;
 ghost use Rattle.sd_pagelock.specs.Directory.{entry_at};
 ghost use Rattle.sd_pagelock.specs.Places.{owns};
 ghost use Rattle.sd_state.specs.Complexes.{parts};
-ghost use Rattle.sd_state.specs.Parts.{status_at, txns_at};
+ghost use Rattle.sd_state.specs.Parts.{owed_at, status_at, txns_at};
+ghost use Rattle.sd_state.specs.Recovering.{with_table};
+ghost use Rattle.sd_update.specs.UndoingFor.{own_forced};
+ghost use Rattle.sd_recover.specs.Doing.{Does};
 ghost use Rattle.sd_recover.specs.Recovering.{IsAway};
 ghost use Rattle.sd_recover.specs.Tasks.{tasks_in, AreThere};
+ghost use Rattle.sd_recover.specs.declared.tasks.Task.TheVariants as task;
 ghost use Rattle.sd_txn.specs.Transactions.{state_at, top_at};
 ghost use Rattle.sd_txn.specs.declared.state.OpenRec.{OpenRec};
 ghost use Rattle.sd_txn.specs.declared.state.TxnState.{TxnState};
@@ -42,8 +48,14 @@ pub(crate) fn undo_next<G: Rig>(
     requires last { (o : OpenRec) × (top_at (txns_at (parts c.old) (home t.now)) t.now ≡ Some o) × (page ≡ o.rid.page) }
     ensures served { Serving (telling G.seen G.leaves G.moment G.since G.faults) (event.RecoverStep (home t.now))
         (answered (λ _. reply.Step) result) c.old c.new }
+    ensures fell { result ≡ Err R.Failed → FallTouches by (λ d. only by d || only (home t.now) d) (only page)
+        (with_table (home t.now) (txns_at (parts c.new) (home t.now)) (parts c.old)) (parts c.new) }
+    ensures short { result ≡ Err R.Memory → parts c.new ≡ own_forced by (owed_at (parts c.new) by) (parts c.old) }
+    ensures awaits { IfErr result (λ n. (place : Place) → n ≡ R.NeedPage place
+        → (parts c.new ≡ parts c.old) × IsAway by page (parts c.old) (R.NeedPage place)) }
     ensures fewer { OnOk result
         (suc (tasks_in (txns_at (parts c.new) (home t.now))) ≡ tasks_in (txns_at (parts c.old) (home t.now))) }
+    ensures did { OnOk result (Does (home t.now) by (G.seen c.old.rig) (G.seen c.new.rig) (task.Undo t.now page) (parts c.old) (parts c.new)) }
 {
     t.inst.keeps();
     by.keeps();

@@ -1,5 +1,5 @@
 -- A log is forced, or its device fails and its instance falls: how events are served by it. For the goals of forcing.rt.
-use Rattle.std.proofs.Common.{◌≡◌, ◌≢◌, inl, ℕ, ◌≤◌, Bool, true, false, List, refl, sym, ap, ap₂, ◌∙◌, subst, ⊎_elim, append-nil, arith, eqb-true, ◌++◌, map}
+use Rattle.std.proofs.Common.{◌≡◌, ◌≢◌, inl, ℕ, ◌+◌, ◌≤◌, Bool, true, false, cond, List, [], ◌∷◌, refl, sym, ap, ap₂, ◌∙◌, subst, ⊎_elim, append-nil, arith, eqb-true, ◌++◌, map}
 use Rattle.std.specs.Prelude.{None, Some, Result, Ok, Err, OnErr}
 use Rattle.std.specs.Result.{is_err}
 use Rattle.std.proofs.lemmas.Bool.{cases_eq}
@@ -9,7 +9,7 @@ use Rattle.sd_base.specs.declared.place.Status.{Status}
 use Rattle.sd_base.specs.declared.place.Status.TheVariants as S
 use Rattle.sd_base.specs.declared.refusal.Refusal.TheVariants as R
 use Rattle.sd_rig.specs.Devices.{DeviceImages, Elapses, Span}
-use Rattle.sd_log.specs.Logs.{LogState, forced}
+use Rattle.sd_log.specs.Logs.{LogState, are_there, forced}
 use Rattle.sd_logrec.specs.View.{Rec, flat}
 use Rattle.sd_logrec.specs.declared.record.Record.{Record}
 use Rattle.sd_model.specs.State.{State, fall}
@@ -35,7 +35,7 @@ use Rattle.sd_fits.specs.Serving.{Serving, fits_by, stands_for}
 use Rattle.sd_fits.proofs.Falling.{IsElsewhere}
 use Rattle.sd_fits.proofs.Forcing.{failed-bounds, failed-doubts, failed-pages, forced-bounds, forced-doubts, forced-pages}
 use Rattle.sd_transfer.specs.Breaking.{BreaksBy}
-use Rattle.sd_transfer.specs.Forcing.{OnlyLogs}
+use Rattle.sd_transfer.specs.Forcing.{OnlyLogs, OthersKeepLogs, force_calls}
 use Rattle.sd_transfer.proofs.Broken.{broken-serves}
 
 -- whoever is active acts for itself
@@ -200,6 +200,36 @@ same-logs old new is = is ∙ ap (λ (k : Parts). record old { logs = k.logs; ow
 
 pub forced-logs : (i : ℕ) (log : LogState) (owes : ℕ) (old new : Parts) → new ≡ with_forced i log owes old → OnlyLogs old new
 forced-logs i log owes old new is = is ∙ ap (λ (k : Parts). record old { logs = k.logs; owed = k.owed }) (sym is)
+
+-- the logs of others stay
+pub forced-others : (i : ℕ) (log : LogState) (owes : ℕ) (old new : Parts) → 1 ≤ i → new ≡ with_forced i log owes old → OthersKeepLogs i old new
+forced-others i log owes old new low is k ne = ap (λ (x : Parts). log_at x k) is ∙ item-kept no_log old.logs i log low k ne
+
+-- ---- the device calls of a force
+
+-- where none is due the devices stay,
+pub idle-rig : {G : Type 0} (i : ℕ) (c : Parts) (old new : G) → (is_loose c i ≡ true → new ≡ old)
+    → ((log_at c i).tail ≡ [] → new ≡ old) → force_calls i c ≡ 0 → new ≡ old
+idle-rig {G} i c old new loose none calls = go (is_loose c i) (log_at c i).tail refl refl calls
+  where
+    go : (b : Bool) (t : List Record) → is_loose c i ≡ b → (log_at c i).tail ≡ t
+        → ◌≡◌ {A = ℕ} (cond b 0 (cond (are_there t) 4 0)) 0 → new ≡ old
+    go true t is tail e = loose is
+    go false [] is tail e = none tail
+    go false (r ∷ rs) is tail e = absurd (omega (arith, e))
+
+-- and else there are four
+pub forced-ticks : (i : ℕ) (c : Parts) (old new : ℕ) → (is_loose c i ≡ true → new ≡ old) → ((log_at c i).tail ≡ [] → new ≡ old)
+    → (is_loose c i ≡ false → (log_at c i).tail ≢ [] → new ≡ old + 4) → new ≡ old + force_calls i c
+forced-ticks i c old new loose none four = go (is_loose c i) (log_at c i).tail refl refl
+  where
+    some : (r : Record) (rs : List Record) → ◌≢◌ {A = List Record} (r ∷ rs) []
+    some r rs e = absurd (cc)
+
+    go : (b : Bool) (t : List Record) → is_loose c i ≡ b → (log_at c i).tail ≡ t → new ≡ old + cond b 0 (cond (are_there t) 4 0)
+    go true t is tail = let same = loose is in omega (arith, same)
+    go false [] is tail = let same = none tail in omega (arith, same)
+    go false (r ∷ rs) is tail = four is (λ e. some r rs (sym tail ∙ e))
 
 -- ---- what a call answered
 

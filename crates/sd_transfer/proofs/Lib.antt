@@ -8,6 +8,7 @@ pub mod Shown
 pub mod Taken
 mod Dropped
 mod Given
+mod Sent
 pub mod PutFits
 pub mod Broken
 pub mod Unput
@@ -15,3 +16,5 @@ pub mod Forced
 pub mod Forces
 pub mod Settled
 pub mod Writes
+pub mod Touched
+pub mod Rested

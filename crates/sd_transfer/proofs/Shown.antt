@@ -1,5 +1,5 @@
--- A page is shown with the LSN of its newest version: for the goals of showing.rt.
-use Rattle.std.proofs.Common.{◌≡◌, ℕ, Bool, true, false, cond, List, [], ◌∷◌, refl, sym, ap, ◌∙◌, subst, eq-eqb}
+-- A page is shown with the LSN of its newest version, which is within the sums: for the goals of showing.rt.
+use Rattle.std.proofs.Common.{◌≡◌, ℕ, ◌≤◌, Bool, true, false, cond, List, [], ◌∷◌, refl, sym, ap, ◌∙◌, subst, eq-eqb}
 use Rattle.std.specs.Prelude.{Option, Some, IsSome}
 use Rattle.sd_base.specs.Sets.{first, has}
 use Rattle.sd_base.specs.declared.place.Place.{Place}
@@ -17,6 +17,7 @@ use Rattle.sd_state.specs.Laws.{newest_of}
 use Rattle.sd_state.specs.declared.complex.Complex.{Complex}
 use Rattle.sd_fits.specs.Serving.{Serving, fits_by}
 use Rattle.sd_fits.proofs.Served.{none-ended, nothing-fits, passed, still-serves, turns-on}
+use Rattle.sd_fits.proofs.Sums.{shown-within}
 
 -- ---- the lowest of a set that holds a page
 
@@ -61,7 +62,8 @@ module _ {G : Type 0} (tell : Telling G) (c : Complex G) (p : ℕ)
     turns : Turns w event answer (passed w w.scene.waits event answer)
     turns = turns-on w w.scene.waits event answer ((f.good.not_closed, tt), refl)
         (λ t. sym (none-ended (tell.seen c.rig) (tell.leaves c.rig) (parts c) w f t))
-        tt tt ((tt, tt), (entry, number, refl)) tt
+        tt tt ((tt, tt), (entry, number, refl)) (subst (λ (n : ℕ). n ≤ w.bounds.lsns) (sym number)
+        (shown-within (tell.seen c.rig) (tell.leaves c.rig) (parts c) w f p))
 
   pub shown : Serving tell event (Some answer) c c
   shown = (

@@ -6,4 +6,5 @@ pub mod Taking
 pub mod Giving
 pub mod Breaking
 pub mod Forcing
+pub mod Touching
 pub mod Writing

@@ -1,21 +1,25 @@
 //! An instance asks for a page in a mode.
 
-ghost use Rattle.std.specs.Prelude.{◌≡◌, ◌≢◌, ◌||◌, ℕ, ◌≤◌, true, false, [], Err, IfErr, IfOk, OnOk, IsTrue, ◌↔◌};
+ghost use Rattle.std.specs.Prelude.{◌≡◌, ◌≢◌, ◌||◌, ◌&&◌, ℕ, ◌≤◌, true, false, [], Err, IfErr, IfOk, OnErr, OnOk, IsTrue, ◌↔◌};
 ghost use Rattle.sd_base.specs.Sets.{members, without};
 ghost use Rattle.sd_base.specs.declared.refusal.Refusal.TheVariants as R;
+ghost use Rattle.sd_chain.specs.Bytes.{disk_page};
 ghost use Rattle.sd_fits.specs.Fits.{Fits};
+ghost use Rattle.sd_fits.specs.Resting.{LeavesRest};
 ghost use Rattle.sd_fits.specs.Serving.{Serving};
+ghost use Rattle.sd_fits.specs.Untouched.{none_of, only, IsUntouched};
 ghost use Rattle.sd_model.specs.declared.event.Event.TheVariants as event;
 ghost use Rattle.sd_model.specs.declared.event.Reply.TheVariants as reply;
 ghost use Rattle.sd_pagelock.specs.Directory.{entry_at};
 ghost use Rattle.sd_pagelock.specs.Places as places;
-ghost use Rattle.sd_pagelock.specs.Places.{holds_as, seen, Formed, PageEntry};
+ghost use Rattle.sd_pagelock.specs.Places.{holds_as, is_free, seen, Formed, PageEntry};
 ghost use Rattle.sd_pagelock.specs.Rows.{may_raise};
-ghost use Rattle.sd_pool.specs.Buffers.{LacksFrame, IsPool};
+ghost use Rattle.sd_pool.specs.Buffers.{with_page, LacksFrame, IsPool};
 ghost use Rattle.sd_rig.specs.Devices.{IsUnchanged};
 ghost use Rattle.sd_state.specs.Complexes.{parts};
 ghost use Rattle.sd_state.specs.Parts.{pool_at, IsShape};
 ghost use Rattle.sd_transfer.specs.Asking.{IsUnserved, MayAsk};
+ghost use Rattle.sd_transfer.specs.Touching.{once_done};
 ghost use Rattle.sd_world.specs.Pages.{answerer, lowest_of};
 ghost use Rattle.sd_world.specs.Serving.{Core, answered, had_or_asked, telling};
 
@@ -28,7 +32,8 @@ use sd_state::Complex;
 
 /// An instance asks for a page in a mode. `None`: it has the page so now, since it had it, was its only holder, or the page was
 /// in no pool and was read from the data device. Else whom it asked: the writer of the page where that is another, or the lowest
-/// other holder. Devices are read at most. It takes memory for a page that is read, and for an ask.
+/// other holder. Devices are read at most, and none is marked; RecLSNs stay, and so does each pool but that into which the page is read.
+/// It takes memory for a page that is read, and for an ask.
 ///
 /// `Down` comes where the instance isn't active, `Lost` where the page is lost, `MovingTo` where it is on its way, `PoolFull`
 /// where it was to be read and each frame of the instance holds another, and `Failed` where the read failed: the first of these
@@ -46,6 +51,11 @@ pub fn ask<G: Rig>(
         → result ≢ Err R.Memory }
     ensures still { IsUnchanged (G.seen c.old.rig) (G.seen c.new.rig) (G.leaves c.old.rig) (G.leaves c.new.rig)
         (G.moment c.old.rig) (G.moment c.new.rig) (G.since c.old.rig) (G.since c.new.rig) }
+    ensures untouched { IsUntouched (once_done result (λ j. is_free (entry_at (parts c.old).directory p) && only i j)) none_of
+        (parts c.old) (parts c.new) }
+    ensures pool { entry_at (parts c.old).directory p ≡ PageEntry.Free → OnOk result (pool_at (parts c.new) i
+        ≡ with_page (pool_at (parts c.old) i) p (disk_page (G.seen c.old.rig 0) p)) }
+    ensures rest { LeavesRest (parts c.old) (parts c.new) }
 {
     i.keeps();
     let place = may_ask(c, i, p)?;
@@ -56,11 +66,11 @@ pub fn ask<G: Rig>(
         fetch(c, i, p, mode)?;
         return Ok(None);
     }
+    c.directory.keeps();
     if rows::may_raise(i, &place) {
         raise(c, p, i);
         return Ok(None);
     }
-    c.directory.keeps();
     let of = answerer(i, &place);
     queue_ask(c, i, p, mode)?;
     Ok(Some(of))
@@ -89,11 +99,17 @@ fn fetch<G: Rig>(c: &mut Complex<G>, i: InstNo, p: PageNo, mode: Mode) -> Result
         (answered (λ x. reply.Have) result) c.old c.new }
     ensures still { IsUnchanged (G.seen c.old.rig) (G.seen c.new.rig) (G.leaves c.old.rig) (G.leaves c.new.rig)
         (G.moment c.old.rig) (G.moment c.new.rig) (G.since c.old.rig) (G.since c.new.rig) }
+    ensures stays { OnErr result (parts c.new ≡ parts c.old) }
+    ensures untouched { OnOk result (IsUntouched (only i) none_of (parts c.old) (parts c.new)) }
+    ensures pool { OnOk result (pool_at (parts c.new) i
+        ≡ with_page (pool_at (parts c.old) i) p (disk_page (G.seen c.old.rig 0) p)) }
+    ensures rest { LeavesRest (parts c.old) (parts c.new) }
 {
     i.keeps();
     if lacks_frame(c, i, p) {
         return Err(Refusal::PoolFull);
     }
+    c.directory.keeps();
     let image = c.read_disk(p)?;
     c.lock_free(p, i, mode, image)?;
     Ok(())

@@ -1,17 +1,19 @@
 //! An instance gives a page to the one whose ask of another is the oldest.
 
-ghost use Rattle.std.specs.Prelude.{◌≡◌, ◌≢◌, ℕ, true, Err, IfErr, IfOk, None, OnErr, OnOk, Some};
+ghost use Rattle.std.specs.Prelude.{◌≡◌, ◌≢◌, ◌+◌, ℕ, true, false, Err, IfErr, IfOk, None, OnErr, OnOk, Some};
 ghost use Rattle.sd_base.specs.declared.place.Status.TheVariants as S;
 ghost use Rattle.sd_base.specs.declared.refusal.Refusal.TheVariants as R;
 ghost use Rattle.sd_fits.specs.Fits.{Fits};
+ghost use Rattle.sd_fits.specs.Resting.{LeavesRest};
 ghost use Rattle.sd_fits.specs.Serving.{Serving};
+ghost use Rattle.sd_fits.specs.Untouched.{none_of, only, IsUntouched};
 ghost use Rattle.sd_model.specs.State.{State};
 ghost use Rattle.sd_model.specs.declared.event.Event.{Event};
 ghost use Rattle.sd_model.specs.declared.event.Event.TheVariants as event;
 ghost use Rattle.sd_model.specs.declared.event.Reply.TheVariants as reply;
 ghost use Rattle.sd_moves.specs.Passing.{may_set_out};
 ghost use Rattle.sd_pagelock.specs.Directory.{entry_at};
-ghost use Rattle.sd_pagelock.specs.Places.{seen};
+ghost use Rattle.sd_pagelock.specs.Places.{owns, seen};
 ghost use Rattle.sd_pagelock.specs.Rows as rows;
 ghost use Rattle.sd_rig.specs.Devices.{LeavesSame};
 ghost use Rattle.sd_state.specs.Complexes.{parts};
@@ -19,12 +21,13 @@ ghost use Rattle.sd_state.specs.Good.{Good};
 ghost use Rattle.sd_state.specs.Locking.{IsSet};
 ghost use Rattle.sd_state.specs.Parts.{is_active, pool_at, status_at, IsShape};
 ghost use Rattle.sd_state.specs.Values.{Pending};
-ghost use Rattle.sd_transfer.specs.Giving.{IsForcedFor, IsUngiven, MayGive};
+ghost use Rattle.sd_transfer.specs.Giving.{give_calls, IsForcedFor, IsUngiven, MayGive, MayLeave};
 ghost use Rattle.sd_transfer.specs.Paging.{OnlyPages};
 ghost use Rattle.sd_world.specs.Pages.{given};
 ghost use Rattle.sd_world.specs.Serving.{Core, gave, telling};
 ghost use Rattle.sd_transfer.specs.Breaking.{BreaksBy};
-ghost use Rattle.sd_transfer.specs.Forcing.{OnlyLogs};
+ghost use Rattle.sd_transfer.specs.Forcing.{force_calls, OnlyLogs};
+ghost use Rattle.sd_transfer.specs.Touching.{Touches};
 
 use crate::barring::place_for;
 use crate::force_or_fall;
@@ -37,7 +40,8 @@ use sd_state::Complex;
 /// An instance gives a page to the one whose ask of another is the oldest, and answers who that is. The page sets out for it, and
 /// the copies of a page that is to be shared stay. A copy that stands in the way of one who is to have the page alone is dropped,
 /// while others have copies besides; where the asker alone is left with one, it has the page alone. An instance that has the page
-/// alone forces its log before, unless the log isn't settled. It takes no memory, and leaves the data device as it was.
+/// alone forces its log before, unless the log isn't settled; one that shares it calls no device. It takes no memory, and leaves the
+/// data device as it was, and RecLSNs.
 ///
 /// `Down` comes where the instance isn't active, `Lost` where the page is lost, `MovingTo` where it is on its way, `NeedPage` where
 /// the instance has no copy, and `NotAsked` where no other asks for it: the first of these that applies, which changes nothing.
@@ -50,6 +54,13 @@ pub fn give<G: Rig>(c: &mut Complex<G>, j: InstNo, p: PageNo) -> Result<InstNo, 
     ensures disk_leaves { LeavesSame (G.leaves c.old.rig 0) (G.leaves c.new.rig 0) }
     ensures forced { OnOk result (IsForcedFor (parts c.old) j p (parts c.new)) }
     ensures down { result ≡ Err R.Failed → status_at (parts c.new) j ≡ S.Down }
+    ensures refused { IfErr result (λ n. n ≢ R.Failed → (parts c.new ≡ parts c.old) × (c.new.rig ≡ c.old.rig)) }
+    ensures untouched { Touches j (only j) result (parts c.old) (parts c.new) }
+    ensures pools { OnOk result (MayLeave j p (parts c.old) (parts c.new)) }
+    ensures rest { LeavesRest (parts c.old) (parts c.new) }
+    ensures shared { owns (entry_at (parts c.old).directory p) j ≡ false → c.new.rig ≡ c.old.rig }
+    ensures idle { force_calls j (parts c.old) ≡ 0 → c.new.rig ≡ c.old.rig }
+    ensures tick { OnOk result (G.moment c.new.rig ≡ G.moment c.old.rig + give_calls j p (parts c.old)) }
 {
     j.keeps();
     let (to, mode) = may_give(c, j, p)?;
@@ -87,6 +98,9 @@ fn force_owner<G: Rig>(c: &mut Complex<G>, j: InstNo, p: PageNo) -> Result<(), R
     ensures forced { OnOk result (IsForcedFor (parts c.old) j p (parts c.new)) }
     ensures stays { OnOk result (OnlyLogs (parts c.old) (parts c.new)) }
 
+    ensures untouched { Touches j none_of result (parts c.old) (parts c.new) }
+    ensures rest { LeavesRest (parts c.old) (parts c.new) }
+
     ensures failed { OnErr result ((e : Event)
         → ((w : Core) → Fits (G.seen c.old.rig) (G.leaves c.old.rig) (parts c.old) w → BreaksBy j e w)
         → Serving (telling G.seen G.leaves G.moment G.since G.faults) e (Some (reply.Refused R.Failed)) c.old c.new) }
@@ -95,6 +109,9 @@ fn force_owner<G: Rig>(c: &mut Complex<G>, j: InstNo, p: PageNo) -> Result<(), R
 
     ensures disk { G.seen c.new.rig 0 ≡ G.seen c.old.rig 0 }
     ensures disk_leaves { LeavesSame (G.leaves c.old.rig 0) (G.leaves c.new.rig 0) }
+    ensures shared { owns (entry_at (parts c.old).directory p) j ≡ false → c.new.rig ≡ c.old.rig }
+    ensures idle { force_calls j (parts c.old) ≡ 0 → c.new.rig ≡ c.old.rig }
+    ensures tick { OnOk result (G.moment c.new.rig ≡ G.moment c.old.rig + give_calls j p (parts c.old)) }
 {
     if !rows::owns(&c.entry(p), j) {
         return Ok(());
@@ -112,11 +129,15 @@ fn hand_over<G: Rig>(c: &mut Complex<G>, j: InstNo, p: PageNo, to: InstNo, mode:
         → Good (G.seen c.new.rig) (G.leaves c.new.rig) pend (parts c.new) m }
     ensures pages { OnlyPages (parts c.old) (parts c.new) }
     ensures frames { (k : ℕ) → (pool_at (parts c.new) k).frames ≡ (pool_at (parts c.old) k).frames }
+    ensures pools { MayLeave j p (parts c.old) (parts c.new) }
+    ensures untouched { IsUntouched (only j) none_of (parts c.old) (parts c.new) }
+    ensures rest { LeavesRest (parts c.old) (parts c.new) }
     ensures place { IsSet p (given j (to, mode) (entry_at (parts c.old).directory p)) None
         (parts c.old).directory (parts c.new).directory }
     ensures rig { c.new.rig ≡ c.old.rig }
 {
     j.keeps();
+    c.directory.keeps();
     if may_set_out(mode, to, &c.entry(p)) {
         move_copy(c, p, j, to, mode);
     } else {
@@ -143,12 +164,17 @@ fn drop_for<G: Rig>(c: &mut Complex<G>, p: PageNo, j: InstNo, to: InstNo)
         → Good (G.seen c.new.rig) (G.leaves c.new.rig) pend (parts c.new) m }
     ensures pages { OnlyPages (parts c.old) (parts c.new) }
     ensures frames { (k : ℕ) → (pool_at (parts c.new) k).frames ≡ (pool_at (parts c.old) k).frames }
+    ensures pools { MayLeave j p (parts c.old) (parts c.new) }
+    ensures untouched { IsUntouched (only j) none_of (parts c.old) (parts c.new) }
+    ensures rest { LeavesRest (parts c.old) (parts c.new) }
     ensures place { IsSet p (rows.dropped j to (entry_at (parts c.old).directory p)) None
         (parts c.old).directory (parts c.new).directory }
     ensures rig { c.new.rig ≡ c.old.rig }
 {
     j.keeps();
+    c.directory.keeps();
     drop_copy(c, p, j);
+    c.directory.keeps();
     if !rows::may_raise(to, &c.entry(p)) {
         return;
     }

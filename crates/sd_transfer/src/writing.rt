@@ -1,9 +1,10 @@
 //! A page is written to the data device.
 
-ghost use Rattle.std.specs.Prelude.{◌≡◌, ◌≢◌, ◌⊎◌, true, false, [], Err, IfErr, OnOk};
+ghost use Rattle.std.specs.Prelude.{◌≡◌, ◌≢◌, ◌⊎◌, ◌+◌, ◌≤◌, true, false, [], Err, IfErr, OnErr, OnOk};
 ghost use Rattle.sd_base.specs.declared.place.Status.TheVariants as S;
 ghost use Rattle.sd_base.specs.declared.refusal.Refusal.TheVariants as R;
 ghost use Rattle.sd_fits.specs.Fits.{Fits};
+ghost use Rattle.sd_fits.specs.Resting.{LeavesRest};
 ghost use Rattle.sd_fits.specs.Serving.{Serving};
 ghost use Rattle.sd_model.specs.declared.event.Event.TheVariants as event;
 ghost use Rattle.sd_moves.specs.Putting.{with_loose_disk};
@@ -14,7 +15,7 @@ ghost use Rattle.sd_state.specs.Complexes.{parts};
 ghost use Rattle.sd_state.specs.Parts.{is_loose, log_at, status_at, IsShape};
 ghost use Rattle.sd_world.specs.Pages.{is_duty};
 ghost use Rattle.sd_world.specs.Serving.{Core, did, telling};
-ghost use Rattle.sd_transfer.specs.Writing.{IsUnread, IsWriters, IsWritten, StaysUnwritten};
+ghost use Rattle.sd_transfer.specs.Writing.{put_calls, write_calls, IsPut, IsUnput, IsUnread, IsWriters, IsWritten, StaysUnwritten, WriteTouches};
 
 use crate::barring::place_for;
 use crate::forcing::force_or_fall;
@@ -26,7 +27,8 @@ use sd_state::Complex;
 
 /// Writes the newest version of a page to the data device, where the device may lack it; the log of the instance, which has the
 /// page alone or is its writer, is forced before. Once the answer is `Ok` whatever a crash leaves of the page is its newest
-/// version. It takes no memory, and a page that isn't changed takes no call of a device.
+/// version. It takes no memory, and a page that isn't changed takes no call of a device; any other takes those of the force, and seven
+/// writes and syncs at most.
 ///
 /// `Down` comes where the instance isn't active, `Lost` where the page is lost, and `NeedPage` where its write isn't the
 /// instance's: the first of these that applies, which changes nothing. `Failed` comes where a device failed. The instance has
@@ -38,9 +40,16 @@ pub fn write_page<G: Rig>(c: &mut Complex<G>, i: InstNo, p: PageNo) -> Result<()
     ensures written { OnOk result (IsWritten p (G.seen c.new.rig) (G.leaves c.new.rig) (parts c.new)) }
     ensures failed { result ≡ Err R.Failed
         → (status_at (parts c.new) i ≡ S.Down) ⊎ IsUnread i (parts c.old) (parts c.new) }
+    ensures clean { rows.may_write (entry_at (parts c.old).directory p) ≡ false
+        → (parts c.new ≡ parts c.old) × (c.new.rig ≡ c.old.rig) }
+    ensures refused { IfErr result (λ n. n ≢ R.Failed → (parts c.new ≡ parts c.old) × (c.new.rig ≡ c.old.rig)) }
+    ensures untouched { WriteTouches i p result (parts c.old) (parts c.new) }
+    ensures rest { LeavesRest (parts c.old) (parts c.new) }
+    ensures tick { OnOk result (G.moment c.new.rig ≤ G.moment c.old.rig + write_calls i p (parts c.old)) }
 {
     i.keeps();
     may_put(c, i, p)?;
+    c.directory.keeps();
     if !is_changed(c, p) {
         return Ok(());
     }
@@ -94,8 +103,14 @@ fn put_or_fall<G: Rig>(c: &mut Complex<G>, i: InstNo, p: PageNo) -> Result<(), R
     ensures written { OnOk result (IsWritten p (G.seen c.new.rig) (G.leaves c.new.rig) (parts c.new)) }
     ensures failed { result ≡ Err R.Failed
         → (status_at (parts c.new) i ≡ S.Down) ⊎ (parts c.new ≡ with_loose_disk false (parts c.old)) }
+    ensures only { IfErr result (λ n. n ≡ R.Failed) }
+    ensures put { OnOk result (IsPut p (parts c.old) (parts c.new)) }
+    ensures unput { OnErr result (IsUnput i (parts c.old) (parts c.new)) }
+    ensures rest { LeavesRest (parts c.old) (parts c.new) }
+    ensures tick { OnOk result (G.moment c.new.rig ≤ G.moment c.old.rig + put_calls (parts c.old)) }
 {
     i.keeps();
+    c.directory.keeps();
     match put_page(c, p, i) {
         Ok(()) => Ok(()),
         Err(Unput::Unread) => Err(Refusal::Failed),

@@ -1,11 +1,13 @@
-use Rattle.std.proofs.Common.{ℕ, ◌≡◌, sym, ◌∙◌, subst}
+use Rattle.std.proofs.Common.{◌≡◌, Some, sym, ◌∙◌, subst}
 use Rattle.sd_base.specs.declared.ids.TxnId.{TxnId}
 use Rattle.sd_base.specs.declared.place.Status.TheVariants as S
 use Rattle.sd_state.specs.Complexes.{parts}
 use Rattle.sd_state.specs.Parts.{status_at}
 use Rattle.sd_world.specs.Serving.{Telling, telling}
-use Rattle.sd_recover.specs.Recovering.{AwaitsPage, HasCleared, HasOneLess}
-use Rattle.sd_hall.proofs.Answering.{answered-some, awaits-so, failed-so, none-owed, plain-else, same-step, same-undo, served-as, stepped-so}
+use Rattle.sd_model.specs.declared.event.Event.{Event}
+use Rattle.sd_fits.specs.declared.body.Body.{Body}
+use Rattle.sd_hall.specs.Bodies.{AwaitsUndo, IsWorked}
+use Rattle.sd_hall.proofs.Answering.{answered-some, awaits-so, failed-so, none-owed, plain-else, rest-worked, same-step, same-undo, served-as, step-worked}
 use Rattle.sd_hall.proofs.dispatch.serve.Goals as goal
 
 pub returns-in-Undo-clause-served : goal.returns-in-Undo-clause-served
@@ -46,18 +48,19 @@ returns-in-RecoverStep-clause-served g c =
 pub returns-in-RecoverStep-clause-awaits : goal.returns-in-RecoverStep-clause-awaits
 returns-in-RecoverStep-clause-awaits g c = λ i place is needs.
     let same : c.in-RecoverStep.inst ≡ i = same-step c.in-RecoverStep.inst i (sym c.in-RecoverStep.is ∙ is) in
-    subst (AwaitsPage (parts c.args.c.now)) same
+    subst (AwaitsUndo (parts c.args.c.now)) same
     (awaits-so (parts c.args.c.now) c.in-RecoverStep.inst c.recover_step.result c.recover_step.ensures.awaits place
     (sym c.as_recovery.ensures ∙ needs))
 
 pub returns-in-RecoverStep-clause-works : goal.returns-in-RecoverStep-clause-works
-returns-in-RecoverStep-clause-works g c = λ i is step.
-    let old = parts c.args.c.now in
-    let new = parts c.recover_step.new.c in
-    let same : c.in-RecoverStep.inst ≡ i = same-step c.in-RecoverStep.inst i (sym c.in-RecoverStep.is ∙ is) in
-    let stepped = stepped-so c.recover_step.result (sym c.as_recovery.ensures ∙ step) in
-    subst (λ (j : ℕ). HasCleared old new × HasOneLess j old new) same
-    (c.recover_step.ensures.cleared stepped, c.recover_step.ensures.stepped stepped)
+returns-in-RecoverStep-clause-works g c = λ r told.
+    let old = c.args.c.now in
+    let new = c.recover_step.new.c in
+    let step = c.recover_step.ensures in
+    subst (λ (e : Event). IsWorked g.G.Rig.seen e r (Some (Body.Open old)) (Some (Body.Open new))) (sym c.in-RecoverStep.is)
+    (step-worked g.G.Rig.seen c.in-RecoverStep.inst c.recover_step.result old new
+    (λ done. record { cleared = step.cleared done; stepped = step.stepped done; stands = step.stands done; falls = step.falls done })
+    step.done step.awaits step.waits r (sym c.as_recovery.ensures ∙ told))
 
 pub serve_plain-requires-clause-plain : goal.serve_plain-requires-clause-plain
 serve_plain-requires-clause-plain g c =
@@ -74,4 +77,17 @@ pub returns-in_default-clause-awaits : goal.returns-in_default-clause-awaits
 returns-in_default-clause-awaits g c = λ i place is needs. absurd (c.in_default.not-RecoverStep i is)
 
 pub returns-in_default-clause-works : goal.returns-in_default-clause-works
-returns-in_default-clause-works g c = λ i is step. absurd (c.in_default.not-RecoverStep i is)
+returns-in_default-clause-works g c = λ r told.
+    rest-worked g.G.Rig.seen c.args.e.now c.args.c.now c.serve_plain.new.c c.in_default.not-RecoverStep c.serve_plain.ensures.rest r
+
+pub returns-in-Undo-clause-works : goal.returns-in-Undo-clause-works
+returns-in-Undo-clause-works g c = λ r told. subst (λ (e : Event). IsWorked g.G.Rig.seen e r (Some (Body.Open c.args.c.now))
+    (Some (Body.Open c.undo.new.c))) (sym c.in-Undo.is) tt
+
+pub returns-in-Commit-clause-works : goal.returns-in-Commit-clause-works
+returns-in-Commit-clause-works g c = λ r told. subst (λ (e : Event). IsWorked g.G.Rig.seen e r (Some (Body.Open c.args.c.now))
+    (Some (Body.Open c.commit.new.c))) (sym c.in-Commit.is) tt
+
+pub returns-in-Fail-clause-works : goal.returns-in-Fail-clause-works
+returns-in-Fail-clause-works g c = λ r told. subst (λ (e : Event). IsWorked g.G.Rig.seen e r (Some (Body.Open c.args.c.now))
+    (Some (Body.Open c.fail.new.c))) (sym c.in-Fail.is) tt

@@ -6,7 +6,7 @@ use Rattle.sd_model.specs.declared.event.Event.TheVariants.{Add, Insert, Write}
 use Rattle.sd_world.specs.Serving.{Telling, did, placed_at, telling}
 use Rattle.sd_fits.specs.Serving.{Serving}
 use Rattle.sd_recover.specs.Closing.{NeitherClosesNorOpens}
-use Rattle.sd_hall.specs.Served.{IsOfPlace, IsPlain, IsServed}
+use Rattle.sd_hall.specs.Served.{IsHelping, IsOfPlace, IsPlain, IsServed}
 use Rattle.sd_hall.proofs.Answering.{served-as}
 use Rattle.sd_hall.proofs.dispatch.serve_plain.Goals as goal
 
@@ -41,55 +41,87 @@ serve_place-requires-clause-place g c = place c.args.e.now c.requires.served c.r
     place event.Reopen served within plain is = within
     place e served within plain is = served
 
-pub returns-in-Begin : goal.returns-in-Begin
-returns-in-Begin g c =
+pub returns-in-Begin-clause-served : goal.returns-in-Begin-clause-served
+returns-in-Begin-clause-served g c =
     let tell : Telling _ = telling g.G.Rig.seen g.G.Rig.leaves g.G.Rig.moment g.G.Rig.since g.G.Rig.faults in
     served-as tell c.args.c.now c.begin.new.c _ _ _ _ c.in-Begin.is c.as_began.ensures c.begin.ensures.served
 
-pub returns-in-Read : goal.returns-in-Read
-returns-in-Read g c =
+pub returns-in-Read-clause-served : goal.returns-in-Read-clause-served
+returns-in-Read-clause-served g c =
     let tell : Telling _ = telling g.G.Rig.seen g.G.Rig.leaves g.G.Rig.moment g.G.Rig.since g.G.Rig.faults in
     served-as tell c.args.c.now c.read.new.c _ _ _ _ c.in-Read.is c.as_found.ensures c.read.ensures.served
 
-pub returns-in-Write : goal.returns-in-Write
-returns-in-Write g c =
+pub returns-in-Write-clause-served : goal.returns-in-Write-clause-served
+returns-in-Write-clause-served g c =
     let tell : Telling _ = telling g.G.Rig.seen g.G.Rig.leaves g.G.Rig.moment g.G.Rig.since g.G.Rig.faults in
     let written = subst (λ (v : List ℕ). Serving tell (Write c.in-Write.txn c.in-Write.rid v) (did c.write.result) c.args.c.now c.write.new.c)
     c.items.ensures c.write.ensures.served in
     served-as tell c.args.c.now c.write.new.c _ _ _ _ c.in-Write.is c.as_did.ensures written
 
-pub returns-in-Add : goal.returns-in-Add
-returns-in-Add g c =
+pub returns-in-Add-clause-served : goal.returns-in-Add-clause-served
+returns-in-Add-clause-served g c =
     let tell : Telling _ = telling g.G.Rig.seen g.G.Rig.leaves g.G.Rig.moment g.G.Rig.since g.G.Rig.faults in
     let same : to_z w64 (of_z w64 c.in-Add.by) ≡ c.in-Add.by = search (rules, to_z-of_z) in
     let added = subst (λ (z : ℤ). Serving tell (Add c.in-Add.txn c.in-Add.rid z) (did c.add.result) c.args.c.now c.add.new.c) same
     c.add.ensures.served in
     served-as tell c.args.c.now c.add.new.c _ _ _ _ c.in-Add.is c.as_did-in-Add.ensures added
 
-pub returns-in-Insert : goal.returns-in-Insert
-returns-in-Insert g c =
+pub returns-in-Insert-clause-served : goal.returns-in-Insert-clause-served
+returns-in-Insert-clause-served g c =
     let tell : Telling _ = telling g.G.Rig.seen g.G.Rig.leaves g.G.Rig.moment g.G.Rig.since g.G.Rig.faults in
     let at = c.in-Insert in
     let placed = subst (λ (v : List ℕ). Serving tell (Insert at.txn at.page v at.capacity) (placed_at c.insert.result) c.args.c.now c.insert.new.c)
     c.items-in-Insert.ensures c.insert.ensures.served in
     served-as tell c.args.c.now c.insert.new.c _ _ _ _ at.is c.as_placed.ensures placed
 
-pub returns-in-Delete : goal.returns-in-Delete
-returns-in-Delete g c =
+pub returns-in-Delete-clause-served : goal.returns-in-Delete-clause-served
+returns-in-Delete-clause-served g c =
     let tell : Telling _ = telling g.G.Rig.seen g.G.Rig.leaves g.G.Rig.moment g.G.Rig.since g.G.Rig.faults in
     served-as tell c.args.c.now c.delete.new.c _ _ _ _ c.in-Delete.is c.as_did-in-Delete.ensures c.delete.ensures.served
 
-pub returns-in-Save : goal.returns-in-Save
-returns-in-Save g c =
+pub returns-in-Save-clause-served : goal.returns-in-Save-clause-served
+returns-in-Save-clause-served g c =
     let tell : Telling _ = telling g.G.Rig.seen g.G.Rig.leaves g.G.Rig.moment g.G.Rig.since g.G.Rig.faults in
     served-as tell c.args.c.now c.save.new.c _ _ _ _ c.in-Save.is c.as_did-in-Save.ensures c.save.ensures.served
 
-pub returns-in-Back : goal.returns-in-Back
-returns-in-Back g c =
+pub returns-in-Back-clause-served : goal.returns-in-Back-clause-served
+returns-in-Back-clause-served g c =
     let tell : Telling _ = telling g.G.Rig.seen g.G.Rig.leaves g.G.Rig.moment g.G.Rig.since g.G.Rig.faults in
     served-as tell c.args.c.now c.back_to.new.c _ _ _ _ c.in-Back.is c.as_did-in-Back.ensures c.back_to.ensures.served
 
-pub returns-in-List : goal.returns-in-List
-returns-in-List g c =
+pub returns-in-List-clause-served : goal.returns-in-List-clause-served
+returns-in-List-clause-served g c =
     let tell : Telling _ = telling g.G.Rig.seen g.G.Rig.leaves g.G.Rig.moment g.G.Rig.since g.G.Rig.faults in
     served-as tell c.args.c.now c.list_page.new.c _ _ _ _ c.in-List.is c.as_listed.ensures c.list_page.ensures.served
+
+-- ---- recoveries go on
+
+pub returns-in-Begin-clause-rest : goal.returns-in-Begin-clause-rest
+returns-in-Begin-clause-rest g c helps = absurd (subst IsHelping c.in-Begin.is helps)
+
+pub returns-in-Read-clause-rest : goal.returns-in-Read-clause-rest
+returns-in-Read-clause-rest g c helps = absurd (subst IsHelping c.in-Read.is helps)
+
+pub returns-in-Write-clause-rest : goal.returns-in-Write-clause-rest
+returns-in-Write-clause-rest g c helps = absurd (subst IsHelping c.in-Write.is helps)
+
+pub returns-in-Add-clause-rest : goal.returns-in-Add-clause-rest
+returns-in-Add-clause-rest g c helps = absurd (subst IsHelping c.in-Add.is helps)
+
+pub returns-in-Insert-clause-rest : goal.returns-in-Insert-clause-rest
+returns-in-Insert-clause-rest g c helps = absurd (subst IsHelping c.in-Insert.is helps)
+
+pub returns-in-Delete-clause-rest : goal.returns-in-Delete-clause-rest
+returns-in-Delete-clause-rest g c helps = absurd (subst IsHelping c.in-Delete.is helps)
+
+pub returns-in-Save-clause-rest : goal.returns-in-Save-clause-rest
+returns-in-Save-clause-rest g c helps = absurd (subst IsHelping c.in-Save.is helps)
+
+pub returns-in-Back-clause-rest : goal.returns-in-Back-clause-rest
+returns-in-Back-clause-rest g c helps = absurd (subst IsHelping c.in-Back.is helps)
+
+pub returns-in-List-clause-rest : goal.returns-in-List-clause-rest
+returns-in-List-clause-rest g c helps = absurd (subst IsHelping c.in-List.is helps)
+
+pub returns-in_default-clause-rest : goal.returns-in_default-clause-rest
+returns-in_default-clause-rest g c = c.serve_place.ensures.rest

@@ -1,4 +1,4 @@
-use Rattle.std.proofs.Common.{Option, Some, refl, sym, subst, arith}
+use Rattle.std.proofs.Common.{Option, Some, refl, sym, ◌∙◌, subst, arith}
 use Rattle.sd_base.specs.declared.refusal.Refusal.TheVariants as R
 use Rattle.sd_model.specs.declared.event.Event.TheVariants.{Reopen}
 use Rattle.sd_model.specs.declared.event.Reply.{Reply}
@@ -9,11 +9,12 @@ use Rattle.sd_world.specs.Serving.{Telling, refused, telling}
 use Rattle.sd_fits.specs.Bodies.{ServingHall, fits_body}
 use Rattle.sd_fits.specs.declared.body.Body.{Body}
 use Rattle.sd_fits.proofs.Bodies.{open-served, opened-refused, reopened-served}
+use Rattle.sd_hall.proofs.Found.{finds, none-did, not-did}
 use Rattle.sd_hall.proofs.Opening.{leaves-less, left-so, opened-on, stays-closed}
 use Rattle.sd_hall.proofs.turning.open_again.Goals as goal
 
-pub returns-in-Open : goal.returns-in-Open
-returns-in-Open g c =
+pub returns-in-Open-clause-served : goal.returns-in-Open-clause-served
+returns-in-Open-clause-served g c =
     let tell : Telling _ = telling g.G.Rig.seen g.G.Rig.leaves g.G.Rig.moment g.G.Rig.since g.G.Rig.faults in
     let x = c.in-Open.complex in
     let status = status_at (parts x) 1 in
@@ -22,8 +23,8 @@ returns-in-Open g c =
     (open-served tell Reopen (Some (reply.Refused (R.NotDown status))) x x
     (opened-refused tell x status refl (λ img since. g.met.G.Rig.only_now x.rig img since))))
 
-pub returns-in-Ok : goal.returns-in-Ok
-returns-in-Ok g c =
+pub returns-in-Ok-clause-served : goal.returns-in-Ok-clause-served
+returns-in-Ok-clause-served g c =
     let tell : Telling _ = telling g.G.Rig.seen g.G.Rig.leaves g.G.Rig.moment g.G.Rig.since g.G.Rig.faults in
     let old = c.in-Closed.rig in
     let shape = c.in-Closed.shape in
@@ -35,8 +36,8 @@ returns-in-Ok g c =
     (left-so tell old x.rig k.calms (λ d le. g.met.G.Rig.leaves_seen old d le))
     (opened-on tell old x.rig k.calms shape.frames (parts x) size k.settled k.opened) k.quiet)
 
-pub returns-in-Err : goal.returns-in-Err
-returns-in-Err g c =
+pub returns-in-Err-clause-served : goal.returns-in-Err-clause-served
+returns-in-Err-clause-served g c =
     let tell : Telling _ = telling g.G.Rig.seen g.G.Rig.leaves g.G.Rig.moment g.G.Rig.since g.G.Rig.faults in
     let old = c.in-Closed.rig in
     let new = c.in-Err.rig in
@@ -47,3 +48,21 @@ returns-in-Err g c =
     (subst (λ b. ServingHall tell Reopen (refused c.in-Err.refusal) b (Body.Closed new shape)) (sym c.in-Closed.is)
     (stays-closed tell old new k.calms_err shape c.requires.fits.0 fits (λ d le. g.met.G.Rig.leaves_seen old d le) c.in-Err.refusal
     k.refusals k.unsound k.cause k.quiet_err))
+
+-- ---- what is found
+
+pub returns-in-Open-clause-reopens : goal.returns-in-Open-clause-reopens
+returns-in-Open-clause-reopens g c = λ is did. absurd (not-did _ c.not_down.result c.not_down.ensures did)
+
+pub returns-in-Ok-clause-reopens : goal.returns-in-Ok-clause-reopens
+returns-in-Ok-clause-reopens g c = λ is did.
+    let tell : Telling _ = telling g.G.Rig.seen g.G.Rig.leaves g.G.Rig.moment g.G.Rig.since g.G.Rig.faults in
+    let old = c.in-Closed.rig in
+    let x = c.in-Ok.complex in
+    let k = c.in-Ok.ensures in
+    let size = g.met.G.Rig.whole old 0 (g.G.Rig.seen old 0) (omega arith) (g.met.G.Rig.leaves_seen old 0 (omega arith)) in
+    finds g.G.Rig.seen g.G.Rig.leaves c.in-Closed.shape.frames x
+    (opened-on tell old x.rig k.calms c.in-Closed.shape.frames (parts x) size k.settled k.opened).opened
+
+pub returns-in-Err-clause-reopens : goal.returns-in-Err-clause-reopens
+returns-in-Err-clause-reopens g c = λ is did. absurd (none-did c.in-Err.refusal (sym c.as_refused.ensures ∙ did))

@@ -3,8 +3,9 @@ use Rattle.sd_world.specs.Serving.{Telling, telling}
 use Rattle.sd_fits.specs.Bodies.{ServingHall}
 use Rattle.sd_fits.specs.declared.body.Body.{Body}
 use Rattle.sd_fits.proofs.Bodies.{open-served}
-use Rattle.sd_hall.specs.Bodies.{AwaitsIn, HasWorkedIn}
+use Rattle.sd_hall.specs.Bodies.{AwaitsIn, IsWorked}
 use Rattle.sd_hall.specs.Served.{told_in}
+use Rattle.sd_hall.proofs.Answering.{closed-worked}
 use Rattle.sd_hall.proofs.turning.serve_body.Goals as goal
 
 pub returns-in-Open-clause-served : goal.returns-in-Open-clause-served
@@ -19,8 +20,8 @@ returns-in-Open-clause-awaits g c = λ i place is needs.
     subst (λ b. AwaitsIn i (Some b)) (sym c.in-Open.is) (c.serve.ensures.awaits i place is needs)
 
 pub returns-in-Open-clause-works : goal.returns-in-Open-clause-works
-returns-in-Open-clause-works g c = λ i is step.
-    subst (λ b. HasWorkedIn i (Some b) (Some (Body.Open c.serve.new.c))) (sym c.in-Open.is) (c.serve.ensures.works i is step)
+returns-in-Open-clause-works g c = λ r told.
+    subst (λ b. IsWorked g.G.Rig.seen c.args.e.now r (Some b) (Some (Body.Open c.serve.new.c))) (sym c.in-Open.is) (c.serve.ensures.works r told)
 
 pub returns-in-Closed-clause-served : goal.returns-in-Closed-clause-served
 returns-in-Closed-clause-served g c =
@@ -30,5 +31,7 @@ returns-in-Closed-clause-served g c =
     (c.on_closed.ensures.served shape)
 
 pub returns-in-Closed-clause-works : goal.returns-in-Closed-clause-works
-returns-in-Closed-clause-works g c = λ i is step.
-    subst (λ b. HasWorkedIn i (Some b) (Some (Body.Closed c.on_closed.new.rig c.in-Closed.field-1))) (sym c.in-Closed.is) tt
+returns-in-Closed-clause-works g c = λ r told.
+    let shape = c.in-Closed.field-1 in
+    subst (λ b. IsWorked g.G.Rig.seen c.args.e.now r (Some b) (Some (Body.Closed c.on_closed.new.rig shape))) (sym c.in-Closed.is)
+    (closed-worked g.G.Rig.seen c.args.e.now r _ shape (Some (Body.Closed c.on_closed.new.rig shape)))

@@ -1,5 +1,6 @@
+use Rattle.std.proofs.Common.{refl, sym, ◌∙◌}
 use Rattle.sd_world.specs.Serving.{Telling, telling}
-use Rattle.sd_hall.proofs.Bodies.{frames-in, neither}
+use Rattle.sd_hall.proofs.Bodies.{frames-in, neither, not-over}
 use Rattle.sd_hall.proofs.turning.turned.Goals as goal
 
 pub fail_all-requires : goal.fail_all-requires
@@ -11,3 +12,9 @@ fail_all-requires g c =
 pub unreachable-requires : goal.unreachable-requires
 unreachable-requires g c =
     c.requires.over (neither c.args.e.now (λ pick is. c.in_default.not-FailAll pick is) (λ is. c.in_default.not-Reopen is))
+
+pub returns-in-FailAll-clause-reopens : goal.returns-in-FailAll-clause-reopens
+returns-in-FailAll-clause-reopens g c = λ is did. absurd (not-over _ (sym c.in-FailAll.is ∙ is))
+
+pub returns-in-Reopen-clause-reopens : goal.returns-in-Reopen-clause-reopens
+returns-in-Reopen-clause-reopens g c = λ is did. c.open_again.ensures.reopens refl did

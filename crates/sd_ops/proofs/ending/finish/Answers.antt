@@ -1,10 +1,14 @@
-use Rattle.std.proofs.Common.{inl}
+use Rattle.std.proofs.Common.{inl, sym, ap, ◌∙◌}
 use Rattle.std.specs.Prelude.{None}
 use Rattle.sd_world.specs.Serving.{Telling, telling}
 use Rattle.sd_state.specs.Complexes.{parts}
 use Rattle.sd_fits.proofs.Undoing.{rolling-open}
 use Rattle.sd_ops.proofs.Finishing.{bare-served}
 use Rattle.sd_ops.proofs.Undone.{rolling}
+use Rattle.sd_state.specs.Parts.{txns_at}
+use Rattle.sd_txn.specs.Transactions.{Transactions, span_at, without}
+use Rattle.sd_ops.proofs.Leaving.{working-untouched}
+use Rattle.sd_ops.proofs.Endings.{none-some}
 use Rattle.sd_ops.proofs.ending.finish.Goals as goal
 
 pub rolled_back-requires-clause-ended : goal.rolled_back-requires-clause-ended
@@ -23,3 +27,22 @@ returns-in-None-clause-served g c =
     let e = c.rolled_back.ensures in
     bare-served tell c.args.t.now old c.rolled_back.new.self e.rig (λ img s. g.met.G.Rig.only_now old.rig img s) c.keeps.ensures.low
     c.keeps.ensures.high c.requires.up c.requires.rolls c.requires.empty e.parts e.waits e.good
+
+pub returns-in-None-clause-untouched : goal.returns-in-None-clause-untouched
+returns-in-None-clause-untouched g c =
+    let i = c.args.t.now.inst in
+    let old = parts c.args.c.now in
+    let new = parts c.rolled_back.new.self in
+    working-untouched i (without (txns_at old i) c.args.t.now) new.locks old new c.rolled_back.ensures.parts
+
+pub returns-in-None-clause-tick : goal.returns-in-None-clause-tick
+returns-in-None-clause-tick g c some =
+    absurd (none-some (span_at (txns_at (parts c.args.c.now) c.args.t.now.inst) c.args.t.now)
+    (ap (λ (tb : Transactions). span_at tb c.args.t.now) (sym c.txns.ensures) ∙ sym c.in-None.ensures) some)
+
+pub returns-in-Some-clause-tick : goal.returns-in-Some-clause-tick
+returns-in-Some-clause-tick g c some = c.finish_recorded.ensures.tick
+
+pub returns-in-Some-clause-bare : goal.returns-in-Some-clause-bare
+returns-in-Some-clause-bare g c none =
+    let clash = c.in-Some.ensures ∙ ap (λ (tb : Transactions). span_at tb c.args.t.now) c.txns.ensures ∙ none in absurd (cc)

@@ -1,4 +1,4 @@
-use Rattle.std.proofs.Common.{inr, refl, sym, subst}
+use Rattle.std.proofs.Common.{inr, refl, sym, subst, ◌≡◌, false, ap, arith}
 use Rattle.std.specs.Prelude.{IsOk, None}
 use Rattle.sd_base.proofs.Results.{when_ok}
 use Rattle.sd_chain.specs.Records.{home}
@@ -11,6 +11,11 @@ use Rattle.sd_update.specs.Sealing.{end_of}
 use Rattle.sd_ops.proofs.Finishing.{failed-served, forced-bare, forced-rolls, forced-served, may-end}
 use Rattle.sd_ops.proofs.Lasts.{ending, failed-due, forced-idle, forced-up, no-tail-left, spelled-txn}
 use Rattle.sd_fits.proofs.Falling.{fallen-down}
+use Rattle.sd_state.specs.Parts.{Parts, actor, is_loose, log_at, owed_at, txns_at}
+use Rattle.sd_log.specs.Logs.{forced}
+use Rattle.sd_state.proofs.WorkingGood.{working-settled}
+use Rattle.sd_txn.specs.Transactions.{without}
+use Rattle.sd_ops.proofs.Endings.{ended-settled, ended-tail, failed-left, forced-left}
 use Rattle.sd_ops.proofs.ending.finish_recorded.Goals as goal
 
 pub seal_end-requires-clause-numbered : goal.seal_end-requires-clause-numbered
@@ -182,3 +187,51 @@ returns-in-Err-clause-disk_leaves g c =
 
 pub returns-in-Err-clause-down : goal.returns-in-Err-clause-down
 returns-in-Err-clause-down g c = λ e. fallen-down (home c.args.t.now) (parts c.force_log.new.self) (parts c.down.new.c) c.down.ensures.fallen
+
+-- ---- what it leaves, and its device calls
+
+pub returns-in-Ok-clause-untouched : goal.returns-in-Ok-clause-untouched
+returns-in-Ok-clause-untouched g c =
+    let t = c.args.t.now in
+    let old : Parts = parts c.args.c.now in
+    let sealed : Parts = parts c.seal_end.new.c in
+    let then : Parts = parts c.force_log.new.self in
+    let r = c.requires in
+    let rig = c.args.c.now.rig in
+    let f = r.fits.1 in
+    let ends = when_ok c.seal_end.result tt _ (c.seal_end.ensures.there r.up) c.seal_end.ensures.parts in
+    let was : is_loose old (home t) ≡ false = working-settled (g.G.Rig.seen rig) (g.G.Rig.leaves rig) Pending.Idle old r.fits.0.scene.state (home t)
+    f.good f.idle c.keeps.ensures.low r.up in
+    let settled : is_loose sealed (home t) ≡ false = ended-settled t (λ x. end_of t x old) old sealed then (parts c.rolled_back.new.self) ends was in
+    forced-left t (λ x. end_of t x old) old sealed then (parts c.rolled_back.new.self) ends (forced (log_at sealed (home t)))
+    (owed_at then (home t)) (without (txns_at then (home t)) t) (c.in-Ok.ensures.forced settled) c.rolled_back.ensures.parts
+
+pub returns-in-Err-clause-untouched : goal.returns-in-Err-clause-untouched
+returns-in-Err-clause-untouched g c =
+    let t = c.args.t.now in
+    let old : Parts = parts c.args.c.now in
+    let sealed : Parts = parts c.seal_end.new.c in
+    let then : Parts = parts c.force_log.new.self in
+    let r = c.requires in
+    let n = c.keeps.ensures in
+    let ends = when_ok c.seal_end.result tt _ (c.seal_end.ensures.there r.up) c.seal_end.ensures.parts in
+    failed-left t (λ x. end_of t x old) old sealed then (parts c.down.new.c) ends (actor sealed (home t)) n.low n.high
+    r.fits.1.good.shape c.in-Err.ensures.failed c.down.ensures.parts c.down.ensures.fallen
+
+pub returns-in-Ok-clause-tick : goal.returns-in-Ok-clause-tick
+returns-in-Ok-clause-tick g c =
+    let t = c.args.t.now in
+    let old : Parts = parts c.args.c.now in
+    let sealed : Parts = parts c.seal_end.new.c in
+    let r = c.requires in
+    let n = c.keeps.ensures in
+    let rig = c.args.c.now.rig in
+    let f = r.fits.1 in
+    let ends = when_ok c.seal_end.result tt _ (c.seal_end.ensures.there r.up) c.seal_end.ensures.parts in
+    let was : is_loose old (home t) ≡ false = working-settled (g.G.Rig.seen rig) (g.G.Rig.leaves rig) Pending.Idle old r.fits.0.scene.state (home t)
+    f.good f.idle n.low r.up in
+    let settled : is_loose sealed (home t) ≡ false = ended-settled t (λ x. end_of t x old) old sealed sealed sealed ends was in
+    let first = ap (λ d. g.G.Rig.moment d) c.seal_end.ensures.rig in
+    let four = c.in-Ok.ensures.tick settled (ended-tail t (λ x. end_of t x old) old sealed n.low n.high f.good.shape ends) in
+    let last = ap (λ d. g.G.Rig.moment d) c.rolled_back.ensures.rig in
+    omega (arith, first, four, last)

@@ -1,5 +1,5 @@
 use Rattle.std.proofs.Common.{◌≡◌, ◌≤◌, true, length, sym, ap, ◌∙◌, refl, subst, arith}
-use Rattle.std.specs.Prelude.{None, Some}
+use Rattle.std.specs.Prelude.{None, Some, Result, Ok}
 use Rattle.std.proofs.lemmas.Result.{err_from_is_err_and}
 use Rattle.sd_base.specs.declared.ids.Rid.{Rid}
 use Rattle.sd_base.specs.declared.place.Mode.TheVariants.{Excl}
@@ -11,7 +11,7 @@ use Rattle.sd_pagelock.specs.Directory.{entry_at}
 use Rattle.sd_pagelock.specs.Places.{holds_as}
 use Rattle.sd_reclock.specs.Answers.{IsFree, IsRefused}
 use Rattle.sd_reclock.specs.Locks.{LockTable, stands, wait_for, waits}
-use Rattle.sd_update.specs.Changing.{FitsThere, image_for}
+use Rattle.sd_update.specs.Changing.{FitsThere, image_for, change_of}
 use Rattle.sd_state.specs.Complexes.{parts}
 use Rattle.sd_state.specs.Parts.{Parts, status_at, txns_at}
 use Rattle.sd_txn.specs.Transactions.{state_at}
@@ -24,6 +24,11 @@ use Rattle.sd_ops.proofs.Filled.{err-ok, filled-half, ok-not_full, put-not-full,
 use Rattle.sd_ops.proofs.Filling.{insert-asked, insert-away, insert-long, insert-work}
 use Rattle.sd_ops.proofs.Vacating.{asked-small, not-long}
 use Rattle.sd_ops.proofs.Work.{err-half, off-half}
+use Rattle.sd_base.specs.declared.refusal.Refusal.{Refusal}
+use Rattle.sd_ops.specs.Logged.{FillLeaves, LacksFor, PutLeaves}
+use Rattle.sd_ops.specs.Leaving.{OnlyLocks}
+use Rattle.sd_ops.proofs.Leaving.{locks-same}
+use Rattle.sd_ops.proofs.Logging.{asked-fill, away-fill, by-err, notes-only, off-fill, unput-fill}
 use Rattle.sd_ops.proofs.inserting.fill.Goals as goal
 
 pub returns-in_err-at_work-clause-half : goal.returns-in_err-at_work-clause-half
@@ -251,3 +256,77 @@ returns-clause-full g c full = ok-not_full _ full
 
 pub returns-clause-rig : goal.returns-clause-rig
 returns-clause-rig g c = c.put.ensures.rig ∙ c.ask.ensures.rig
+
+-- ---- what it leaves
+
+pub returns-in_err-at_work-clause-left : goal.returns-in_err-at_work-clause-left
+returns-in_err-at_work-clause-left g c =
+    let t = c.args.t.now in
+    let v = c.args.value.now in
+    let x : Parts = parts c.args.c.now in
+    let n = c.in_err-at_work.field-0.0 in
+    let e = err_from_is_err_and c.from_residual.result c.from_residual.ensures.1 in
+    by-err (λ (a : Result Rid Refusal). FillLeaves t c.args.p v c.args.capacity a x x) c.from_residual.result e.0 n e.1 e.2
+    (off-fill t c.args.p v c.args.capacity x n c.in_err-at_work.ensures.off, locks-same x x refl)
+
+pub returns-then-is_long-clause-left : goal.returns-then-is_long-clause-left
+returns-then-is_long-clause-left g c =
+    let x : Parts = parts c.args.c.now in
+    (c.is_long.ensures.0 c.if-is_long.true, locks-same x x refl)
+
+pub returns-in_err-vacancy-clause-left : goal.returns-in_err-vacancy-clause-left
+returns-in_err-vacancy-clause-left g c =
+    let t = c.args.t.now in
+    let v = c.args.value.now in
+    let x : Parts = parts c.args.c.now in
+    let n = c.in_err-vacancy.field-0.0 in
+    let e = err_from_is_err_and c.from_residual-in_err-vacancy.result c.from_residual-in_err-vacancy.ensures.1 in
+    by-err (λ (a : Result Rid Refusal). FillLeaves t c.args.p v c.args.capacity a x x) c.from_residual-in_err-vacancy.result e.0 n e.1 e.2
+    (away-fill t c.args.p v c.args.capacity x n c.in_err-vacancy.ensures.lacks, locks-same x x refl)
+
+pub returns-in_err-ask-clause-left : goal.returns-in_err-ask-clause-left
+returns-in_err-ask-clause-left g c =
+    let t = c.args.t.now in
+    let v = c.args.value.now in
+    let x : Parts = parts c.args.c.now in
+    let new : Parts = parts c.ask.new.c in
+    let n = c.in_err-ask.field-0.0 in
+    let e = err_from_is_err_and c.from_residual-in_err-ask.result c.from_residual-in_err-ask.ensures.1 in
+    by-err (λ (a : Result Rid Refusal). FillLeaves t c.args.p v c.args.capacity a x new) c.from_residual-in_err-ask.result e.0 n e.1 e.2 (
+      asked-fill t c.args.p v c.args.capacity x c.in_ok-vacancy.vacancy.slot c.in_ok-vacancy.vacancy.capacity c.in_ok-vacancy.ensures.vacant n
+          c.in_err-ask.ensures.refused,
+      notes-only t (wait_for (record { page = c.args.p; slot = c.in_ok-vacancy.vacancy.slot }) Excl) n x new c.in_err-ask.ensures.noted,
+    )
+
+pub returns-in_err-put-clause-left : goal.returns-in_err-put-clause-left
+returns-in_err-put-clause-left g c =
+    let t = c.args.t.now in
+    let v = c.args.value.now in
+    let r : Rid = record { page = c.args.p; slot = c.in_ok-vacancy.vacancy.slot } in
+    let own = c.in_ok-vacancy.vacancy.capacity in
+    let x : Parts = parts c.args.c.now in
+    let mid : Parts = parts c.ask.new.c in
+    let new : Parts = parts c.put.new.c in
+    let same = c.in_ok-ask.ensures.same in
+    let n = c.in_err-put.field-0.0 in
+    let e = err_from_is_err_and c.from_residual-in_err-put.result c.from_residual-in_err-put.ensures.1 in
+    let left : LacksFor (change_of t r own (Some v) mid) mid n × OnlyLocks mid new = c.in_err-put.ensures.left in
+    by-err (λ (a : Result Rid Refusal). FillLeaves t c.args.p v c.args.capacity a x new) c.from_residual-in_err-put.result e.0 n e.1 e.2 (
+      unput-fill t c.args.p v c.args.capacity x c.in_ok-vacancy.vacancy.slot own c.in_ok-vacancy.ensures.vacant n
+          (subst (λ (y : Parts). LacksFor (change_of t r own (Some v) y) y n) same left.0),
+      subst (λ (y : Parts). OnlyLocks y new) same left.1,
+    )
+
+pub returns-clause-left : goal.returns-clause-left
+returns-clause-left g c =
+    let t = c.args.t.now in
+    let v = c.args.value.now in
+    let r : Rid = record { page = c.args.p; slot = c.in_ok-vacancy.vacancy.slot } in
+    let own = c.in_ok-vacancy.vacancy.capacity in
+    let new : Parts = parts c.put.new.c in
+    let done : Result (Unit {0}) Refusal = Ok tt in
+    let left : PutLeaves t r own (Some v) done (parts c.args.c.now) new =
+    subst (λ (y : Parts). PutLeaves t r own (Some v) done y new) c.in_ok-ask.ensures.same c.in_ok-put.ensures.left in (
+      record { page = refl; own = own; vacant = c.in_ok-vacancy.ensures.vacant; place = left.0; logged = left.1 },
+      left.2,
+    )

@@ -3,6 +3,8 @@ use Rattle.sd_model.specs.declared.event.Event.TheVariants as event
 use Rattle.sd_model.specs.declared.event.Reply.TheVariants as reply
 use Rattle.sd_world.specs.Serving.{telling}
 use Rattle.sd_ops.proofs.WaitEnded.{half-serves}
+use Rattle.sd_state.specs.Complexes.{parts}
+use Rattle.sd_ops.proofs.Logging.{ended-fill, fill-logged, fill-refused, fill-touches}
 use Rattle.sd_ops.proofs.inserting.insert.Goals as goal
 
 pub returns-clause-served : goal.returns-clause-served
@@ -13,3 +15,30 @@ returns-clause-served g c =
     (λ r. reply.At r)
     (λ r. record { after = λ asked. refl; waits = λ e wanted asks. refl }) c.fill-done.result c.fill-done.ensures.half.1
     c.end_wait.ensures.ended
+
+pub returns-clause-untouched : goal.returns-clause-untouched
+returns-clause-untouched g c =
+    let t = c.args.t.now in
+    let v = c.args.value.now in
+    let old = parts c.args.c.now in
+    let new = parts c.end_wait.new.c in
+    fill-touches t c.args.p v c.args.capacity c.fill-done.result old new
+    (ended-fill t c.args.p v c.args.capacity c.fill-done.result old (parts c.fill-done.new.c) new c.fill-done.ensures.left c.end_wait.ensures.ended)
+
+pub returns-clause-logged : goal.returns-clause-logged
+returns-clause-logged g c =
+    let t = c.args.t.now in
+    let v = c.args.value.now in
+    let old = parts c.args.c.now in
+    let new = parts c.end_wait.new.c in
+    fill-logged t c.args.p v c.args.capacity c.fill-done.result old new
+    (ended-fill t c.args.p v c.args.capacity c.fill-done.result old (parts c.fill-done.new.c) new c.fill-done.ensures.left c.end_wait.ensures.ended)
+
+pub returns-clause-refused : goal.returns-clause-refused
+returns-clause-refused g c =
+    let t = c.args.t.now in
+    let v = c.args.value.now in
+    let old = parts c.args.c.now in
+    let new = parts c.end_wait.new.c in
+    fill-refused t c.args.p v c.args.capacity c.fill-done.result old new
+    (ended-fill t c.args.p v c.args.capacity c.fill-done.result old (parts c.fill-done.new.c) new c.fill-done.ensures.left c.end_wait.ensures.ended)

@@ -1,4 +1,4 @@
-use Rattle.std.proofs.Common.{◌≡◌, ℕ, List, sym, ap, ◌∙◌, subst}
+use Rattle.std.proofs.Common.{◌≡◌, ℕ, List, sym, ap, ◌∙◌, subst, refl}
 use Rattle.std.specs.Prelude.{Result, Err}
 use Rattle.std.proofs.lemmas.Result.{err_from_is_err_and}
 use Rattle.sd_base.specs.declared.ids.Rid.{Rid}
@@ -8,6 +8,10 @@ use Rattle.sd_model.specs.declared.event.Event.TheVariants as event
 use Rattle.sd_world.specs.Serving.{Telling, listed, telling}
 use Rattle.sd_fits.specs.Serving.{Serving}
 use Rattle.sd_ops.proofs.Lists.{Lists, list-down, list-refused, list-rows}
+use Rattle.sd_state.specs.Complexes.{parts}
+use Rattle.sd_ops.specs.Leaving.{UseLeaves}
+use Rattle.sd_ops.proofs.Leaving.{locks-same, used-left}
+use Rattle.sd_ops.proofs.Logging.{by-err}
 use Rattle.sd_ops.proofs.listing.list_page.Goals as goal
 
 pub returns-in_err-expect_up-clause-served : goal.returns-in_err-expect_up-clause-served
@@ -41,3 +45,24 @@ returns-clause-served g c =
     list-rows tell c.args.i c.args.p old
     (record { low = a.low; high = a.high; now = λ img s. g.met.G.Rig.only_now old.rig img s }) a.up c.in_ok-rows.rows c.in_ok-rows.ensures.rows
     c.touch.new.c c.touch.ensures.rig c.touch.ensures.parts c.touch.ensures.good
+
+pub returns-in_err-expect_up-clause-untouched : goal.returns-in_err-expect_up-clause-untouched
+returns-in_err-expect_up-clause-untouched g c =
+    let old = parts c.args.c.now in
+    let e = err_from_is_err_and c.from_residual.result c.from_residual.ensures.1 in
+    by-err (λ (x : Result (List (Rid × List ℕ)) Refusal). UseLeaves c.args.i c.args.p x old old) c.from_residual.result e.0 e.0 e.1 refl
+    (locks-same old old refl)
+
+pub returns-in_err-rows-clause-untouched : goal.returns-in_err-rows-clause-untouched
+returns-in_err-rows-clause-untouched g c =
+    let old = parts c.args.c.now in
+    let e = err_from_is_err_and c.from_residual-in_err-rows.result c.from_residual-in_err-rows.ensures.1 in
+    by-err (λ (x : Result (List (Rid × List ℕ)) Refusal). UseLeaves c.args.i c.args.p x old old) c.from_residual-in_err-rows.result e.0 e.0 e.1 refl
+    (locks-same old old refl)
+
+pub returns-clause-untouched : goal.returns-clause-untouched
+returns-clause-untouched g c =
+    let old = parts c.args.c.now in
+    let a = c.in_ok-expect_up.ensures in
+    used-left c.args.i c.args.p old old (parts c.touch.new.c) a.low a.high c.requires.fits.1.good.shape (locks-same old old refl)
+    c.touch.ensures.parts

@@ -1,5 +1,5 @@
 use Rattle.std.proofs.Common.{◌≡◌, ◌⊎◌, [], ◌&&◌, cond, inr, refl, sym, ap, ◌∙◌, subst}
-use Rattle.std.specs.Prelude.{OnErr, option_copied}
+use Rattle.std.specs.Prelude.{OnErr, option_copied, Result, Err}
 use Rattle.std.proofs.lemmas.Result.{err_from_is_err_and}
 use Rattle.sd_base.specs.Ids.{same_rid, same_txn}
 use Rattle.sd_base.specs.declared.place.Mode.TheVariants as modes
@@ -9,7 +9,7 @@ use Rattle.sd_model.specs.Waits.{claim_of}
 use Rattle.sd_pagelock.specs.Directory.{entry_at}
 use Rattle.sd_pagelock.specs.Places.{owns}
 use Rattle.sd_reclock.specs.Locks.{held}
-use Rattle.sd_update.specs.Changing.{FitsThere, LacksLsns, LacksRoom, change_of, putting}
+use Rattle.sd_update.specs.Changing.{FitsThere, LacksLsns, LacksRoom, change_of, putting, Change}
 use Rattle.sd_state.specs.Complexes.{parts}
 use Rattle.sd_state.specs.Good.{Good}
 use Rattle.sd_state.specs.Parts.{Parts, status_at, txns_at}
@@ -21,6 +21,11 @@ use Rattle.sd_ops.specs.Puts.{IsLowered}
 use Rattle.sd_ops.proofs.Filled.{memory-not_full, memory-not_lsns, same-refusal}
 use Rattle.sd_ops.proofs.Vacating.{err-if}
 use Rattle.sd_ops.proofs.Setting.{frames-kept, given-excl, lowered-same, running-named, was-weaker}
+use Rattle.sd_base.specs.declared.refusal.Refusal.{Refusal}
+use Rattle.sd_ops.specs.Logged.{HasPlace, PutLeaves}
+use Rattle.sd_model.specs.Tables.{Content}
+use Rattle.sd_ops.proofs.Leaving.{only-locks}
+use Rattle.sd_ops.proofs.Logging.{by-err, lacks-for, put-made}
 use Rattle.sd_ops.proofs.putting.put.Goals as goal
 
 pub change-requires-clause-good : goal.change-requires-clause-good
@@ -139,3 +144,43 @@ returns-in-Err-clause-rig g c = c.change.ensures.rig ∙ c.grant.ensures.rig
 
 pub returns-in-Err-clause-refusals : goal.returns-in-Err-clause-refusals
 returns-in-Err-clause-refusals g c = c.in-Err.ensures.refusals
+
+-- ---- what it leaves
+
+abbrev an_err : Refusal → Result (Unit {0}) Refusal
+an_err n = Err n
+
+pub returns-in_err-grant-clause-left : goal.returns-in_err-grant-clause-left
+returns-in_err-grant-clause-left g c =
+    let old : Parts = parts c.args.c.now in
+    let new : Parts = parts c.grant.new.self in
+    let e = err_from_is_err_and c.from_residual.result c.from_residual.ensures.1 in
+    by-err (λ (x : Result (Unit {0}) Refusal). PutLeaves c.args.t.now c.args.r.now c.args.capacity (option_copied c.args.after) x old new)
+    c.from_residual.result e.0 R.Memory e.1 e.2 (tt, only-locks old new c.grant.ensures.parts)
+
+pub returns-in-Ok-clause-left : goal.returns-in-Ok-clause-left
+returns-in-Ok-clause-left g c =
+    let t = c.args.t.now in
+    let r = c.args.r.now in
+    let fits = c.requires.fits in
+    let mid : Parts = parts c.grant.new.self in
+    let after : Content = option_copied c.args.after in
+    let k : Change = change_of t r c.args.capacity after mid in
+    let room : LacksRoom k mid → ⊥ = λ lacks. let e = c.in-Ok.ensures.full.1 lacks in absurd (cc) in
+    let lsns : LacksLsns t mid → ⊥ = λ lacks. let e = c.in-Ok.ensures.lsns.1 (room, lacks) in absurd (cc) in
+    let place : HasPlace k mid = record { room = room; lsns = lsns } in
+    put-made t r c.args.capacity after (parts c.args.c.now) mid (parts c.change.new.c)
+    (c.in_ok-grant.ensures.good fits.0.scene.state fits.1.good).shape c.grant.ensures.parts place c.in-Ok.ensures.made
+
+pub returns-in-Err-clause-left : goal.returns-in-Err-clause-left
+returns-in-Err-clause-left g c =
+    let t = c.args.t.now in
+    let r = c.args.r.now in
+    let old : Parts = parts c.args.c.now in
+    let after : Content = option_copied c.args.after in (
+      lacks-for t r c.args.capacity after c.in-Err.refusal old c.in-Err.ensures.refusals
+          (λ e. returns-in-Err-clause-full g c (ap an_err e))
+          (λ e. subst (λ (x : Parts). (LacksRoom (change_of t r c.args.capacity after x) x → ⊥) × LacksLsns t x) c.grant.ensures.parts
+          (c.in-Err.ensures.lsns.0 (ap an_err e))),
+      only-locks old _ (ap (with_locks c.lower.new.self) (c.in-Err.ensures.refused ∙ c.grant.ensures.parts)),
+    )

@@ -1,4 +1,4 @@
-use Rattle.std.proofs.Common.{◌≡◌, ◌∙◌, sym, ap, subst}
+use Rattle.std.proofs.Common.{◌≡◌, ◌∙◌, sym, ap, subst, refl}
 use Rattle.std.specs.Prelude.{None, Some}
 use Rattle.std.proofs.lemmas.Result.{err_from_is_err_and}
 use Rattle.sd_base.specs.declared.place.Mode.TheVariants.{Shared}
@@ -20,6 +20,9 @@ use Rattle.sd_ops.specs.Halves.{HalfServed}
 use Rattle.sd_ops.specs.Copies.{LacksPage}
 use Rattle.sd_ops.proofs.Reading.{read-asked, read-away, read-done, read-work}
 use Rattle.sd_ops.proofs.Work.{err-half, off-half}
+use Rattle.sd_ops.specs.Leaving.{OnlyLocks}
+use Rattle.sd_ops.proofs.Leaving.{locks-same, only-locks}
+use Rattle.sd_ops.proofs.Logging.{notes-only}
 use Rattle.sd_ops.proofs.reads.look.Goals as goal
 
 pub returns-in_err-at_work-clause-half : goal.returns-in_err-at_work-clause-half
@@ -125,3 +128,23 @@ returns-in_err-grant-clause-rig g c = c.grant.ensures.rig ∙ c.ask.ensures.rig
 
 pub returns-clause-rig : goal.returns-clause-rig
 returns-clause-rig g c = c.grant.ensures.rig ∙ c.ask.ensures.rig
+
+-- ---- what it leaves
+
+pub returns-in_err-at_work-clause-left : goal.returns-in_err-at_work-clause-left
+returns-in_err-at_work-clause-left g c = locks-same (parts c.args.c.now) (parts c.args.c.now) refl
+
+pub returns-in_err-ask-clause-left : goal.returns-in_err-ask-clause-left
+returns-in_err-ask-clause-left g c = notes-only c.args.t.now (wait_for c.args.r.now Shared) c.in_err-ask.field-0.0 (parts c.args.c.now)
+    (parts c.ask.new.c) c.in_err-ask.ensures.noted
+
+pub returns-in_err-value-clause-left : goal.returns-in_err-value-clause-left
+returns-in_err-value-clause-left g c = locks-same (parts c.args.c.now) (parts c.ask.new.c) c.in_ok-ask.ensures.same
+
+pub returns-in_err-grant-clause-left : goal.returns-in_err-grant-clause-left
+returns-in_err-grant-clause-left g c = locks-same (parts c.args.c.now) (parts c.grant.new.self)
+    (c.in_err-grant.ensures.err ∙ c.in_ok-ask.ensures.same)
+
+pub returns-clause-left : goal.returns-clause-left
+returns-clause-left g c = subst (λ (x : Parts). OnlyLocks x (parts c.grant.new.self)) c.in_ok-ask.ensures.same
+    (only-locks (parts c.ask.new.c) (parts c.grant.new.self) c.grant.ensures.parts)

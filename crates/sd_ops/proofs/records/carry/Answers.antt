@@ -1,5 +1,5 @@
-use Rattle.std.proofs.Common.{◌≡◌, sym, ap, ◌∙◌, subst}
-use Rattle.std.specs.Prelude.{None, Some, option_copied}
+use Rattle.std.proofs.Common.{◌≡◌, inl, refl, sym, ap, ◌∙◌, subst}
+use Rattle.std.specs.Prelude.{None, Some, option_copied, Result, Err}
 use Rattle.std.proofs.lemmas.Result.{err_from_is_err_and}
 use Rattle.sd_base.specs.declared.place.Mode.TheVariants.{Excl}
 use Rattle.sd_base.specs.declared.place.Status.TheVariants as S
@@ -18,13 +18,17 @@ use Rattle.sd_world.specs.Serving.{did, refused}
 use Rattle.sd_fits.specs.Fits.{Fits}
 use Rattle.sd_fits.proofs.Refused.{unlike}
 use Rattle.sd_ops.specs.declared.edits.Edit.{Edit}
-use Rattle.sd_ops.specs.Edits.{IsPlan, event_of}
+use Rattle.sd_ops.specs.Edits.{IsPlan, event_of, Sets}
 use Rattle.sd_ops.specs.Halves.{HalfServed}
 use Rattle.sd_ops.specs.Copies.{LacksPage}
 use Rattle.sd_ops.proofs.Edited.{put-served}
 use Rattle.sd_ops.proofs.Editing.{edit-asked, edit-away, edit-long, edit-work}
 use Rattle.sd_ops.proofs.Spoiling.{vain-half}
 use Rattle.sd_ops.proofs.Work.{err-half, off-half}
+use Rattle.sd_base.specs.declared.refusal.Refusal.{Refusal}
+use Rattle.sd_ops.specs.Logged.{EditLeaves}
+use Rattle.sd_ops.proofs.Leaving.{locks-same, only-locks}
+use Rattle.sd_ops.proofs.Logging.{asked-edit, away-edit, by-err, notes-only, off-edit, put-edit, vain-edit}
 use Rattle.sd_ops.proofs.records.carry.Goals as goal
 
 pub returns-in_err-at_work-clause-half : goal.returns-in_err-at_work-clause-half
@@ -217,3 +221,85 @@ returns-in_ok-grant-in-Refuse-clause-rig g c = c.grant.ensures.rig ∙ c.ask.ens
 
 pub returns-in-Put-clause-rig : goal.returns-in-Put-clause-rig
 returns-in-Put-clause-rig g c = c.put.ensures.rig ∙ c.ask.ensures.rig
+
+-- ---- what it leaves
+
+abbrev Answer : Type 0
+Answer = Result (Unit {0}) Refusal
+
+pub returns-in_err-at_work-clause-left : goal.returns-in_err-at_work-clause-left
+returns-in_err-at_work-clause-left g c =
+    let t = c.args.t.now in
+    let r = c.args.r.now in
+    let edit = c.args.edit.now in
+    let p : Parts = parts c.args.c.now in
+    let n = c.in_err-at_work.field-0.0 in
+    let e = err_from_is_err_and c.from_residual.result c.from_residual.ensures.1 in
+    by-err (λ (x : Answer). EditLeaves t r edit x p p) c.from_residual.result e.0 n e.1 e.2
+    (off-edit t r edit p n c.in_err-at_work.ensures.off, locks-same p p refl)
+
+pub returns-then-is_long-clause-left : goal.returns-then-is_long-clause-left
+returns-then-is_long-clause-left g c =
+    let p : Parts = parts c.args.c.now in
+    (inl (c.is_long.ensures.0 c.if-is_long.true), locks-same p p refl)
+
+pub returns-in_err-ask-clause-left : goal.returns-in_err-ask-clause-left
+returns-in_err-ask-clause-left g c =
+    let t = c.args.t.now in
+    let r = c.args.r.now in
+    let edit = c.args.edit.now in
+    let p : Parts = parts c.args.c.now in
+    let new : Parts = parts c.ask.new.c in
+    let n = c.in_err-ask.field-0.0 in
+    let e = err_from_is_err_and c.from_residual-in_err-ask.result c.from_residual-in_err-ask.ensures.1 in
+    by-err (λ (x : Answer). EditLeaves t r edit x p new) c.from_residual-in_err-ask.result e.0 n e.1 e.2
+    (asked-edit t r edit p n c.in_err-ask.ensures.refused, notes-only t (wait_for r Excl) n p new c.in_err-ask.ensures.noted)
+
+pub returns-in_err-plan-clause-left : goal.returns-in_err-plan-clause-left
+returns-in_err-plan-clause-left g c =
+    let t = c.args.t.now in
+    let r = c.args.r.now in
+    let edit = c.args.edit.now in
+    let p : Parts = parts c.args.c.now in
+    let new : Parts = parts c.ask.new.c in
+    let n = c.in_err-plan.field-0.0 in
+    let e = err_from_is_err_and c.from_residual-in_err-plan.result c.from_residual-in_err-plan.ensures.1 in
+    by-err (λ (x : Answer). EditLeaves t r edit x p new) c.from_residual-in_err-plan.result e.0 n e.1 e.2
+    (away-edit t r edit p new n c.in_err-plan.ensures.lacks, locks-same p new c.in_ok-ask.ensures.same)
+
+pub returns-in-Put-clause-left : goal.returns-in-Put-clause-left
+returns-in-Put-clause-left g c =
+    let t = c.args.t.now in
+    let r = c.args.r.now in
+    let edit = c.args.edit.now in
+    let mid : Parts = parts c.ask.new.c in
+    let new : Parts = parts c.put.new.c in
+    let image = image_for t r.page mid in
+    let sets : Sets image r.slot edit c.in-Put.capacity (option_copied c.in-Put.after) = subst (IsPlan image r.slot edit) c.in-Put.is
+    (subst (λ (e : Edit). IsPlan image r.slot e c.in_ok-plan.plan) c.lent.ensures c.in_ok-plan.ensures.plan) in
+    subst (λ (x : Parts). EditLeaves t r edit c.put.result x new) c.in_ok-ask.ensures.same
+    (put-edit t r edit c.in-Put.capacity (option_copied c.in-Put.after) c.put.result mid new sets c.put.ensures.left)
+
+pub returns-in_err-grant-in-Refuse-clause-left : goal.returns-in_err-grant-in-Refuse-clause-left
+returns-in_err-grant-in-Refuse-clause-left g c =
+    let p : Parts = parts c.args.c.now in
+    let new : Parts = parts c.grant.new.self in
+    let e = err_from_is_err_and c.from_residual-in_err-grant-in-Refuse.result c.from_residual-in_err-grant-in-Refuse.ensures.1 in
+    by-err (λ (x : Answer). EditLeaves c.args.t.now c.args.r.now c.args.edit.now x p new) c.from_residual-in_err-grant-in-Refuse.result e.0 R.Memory
+    e.1 e.2 (tt, locks-same p new (c.in_err-grant-in-Refuse.ensures.err ∙ c.in_ok-ask.ensures.same))
+
+pub returns-in_ok-grant-in-Refuse-clause-left : goal.returns-in_ok-grant-in-Refuse-clause-left
+returns-in_ok-grant-in-Refuse-clause-left g c =
+    let t = c.args.t.now in
+    let r = c.args.r.now in
+    let edit = c.args.edit.now in
+    let n = c.in-Refuse.refusal in
+    let mid : Parts = parts c.ask.new.c in
+    let new : Parts = parts c.grant.new.self in
+    let image = image_for t r.page mid in
+    let refused : Answer = Err n in
+    subst (λ (x : Parts). EditLeaves t r edit refused x new) c.in_ok-ask.ensures.same (
+      vain-edit t r edit mid n (subst (IsPlan image r.slot edit) c.in-Refuse.is
+          (subst (λ (e : Edit). IsPlan image r.slot e c.in_ok-plan.plan) c.lent.ensures c.in_ok-plan.ensures.plan)),
+      only-locks mid new c.grant.ensures.parts,
+    )

@@ -8,6 +8,7 @@ use Rattle.sd_ops.specs.Edits.{event_of}
 use Rattle.sd_ops.specs.Halves.{EndsWait, refusal_of}
 use Rattle.sd_ops.proofs.Editing.{edit-work}
 use Rattle.sd_ops.proofs.WaitEnded.{half-serves}
+use Rattle.sd_ops.proofs.Logging.{ended-edit}
 use Rattle.sd_ops.proofs.records.edit.Goals as goal
 
 pub returns-clause-served : goal.returns-clause-served
@@ -18,3 +19,7 @@ returns-clause-served g c =
     (λ v. record { after = λ asked. refl; waits = λ e wanted asks. refl }) c.carry-done.result c.carry-done.ensures.half
     (subst (λ (t : TxnId). EndsWait t (refusal_of c.carry-done.result) (parts c.carry-done.new.c) (parts c.end_wait.new.c))
     (sym (edit-work c.args.t.now c.args.r.now c.args.edit.now).txn) c.end_wait.ensures.ended)
+
+pub returns-clause-left : goal.returns-clause-left
+returns-clause-left g c = ended-edit c.args.t.now c.args.r.now c.args.edit.now c.carry-done.result (parts c.args.c.now) (parts c.carry-done.new.c)
+    (parts c.end_wait.new.c) c.carry-done.ensures.left c.end_wait.ensures.ended

@@ -1,4 +1,4 @@
-use Rattle.std.proofs.Common.{◌≡◌, ◌<◌, ◌≤◌, ◌^◌, ℕ, sym, ap, ◌∙◌, subst, arith, length}
+use Rattle.std.proofs.Common.{◌≡◌, ◌<◌, ◌≤◌, ℕ, sym, ap, ◌∙◌, subst, arith, length, refl}
 use Rattle.std.specs.Prelude.{Result, Err}
 use Rattle.std.proofs.lemmas.Result.{err_from_is_err_and}
 use Rattle.std.specs.List.{IsDistinct}
@@ -13,6 +13,9 @@ use Rattle.sd_state.specs.Parts.{txns_at}
 use Rattle.sd_world.specs.Serving.{Telling, began_reply, telling}
 use Rattle.sd_fits.specs.Serving.{Serving}
 use Rattle.sd_ops.proofs.Begins.{begun-served, down-served, refused-served}
+use Rattle.sd_ops.specs.Leaving.{TableLeaves}
+use Rattle.sd_ops.proofs.Leaving.{locks-same, working-untouched}
+use Rattle.sd_ops.proofs.Logging.{by-err}
 use Rattle.sd_ops.proofs.transactions.begin.Goals as goal
 
 pub returns-in_err-expect_up-clause-served : goal.returns-in_err-expect_up-clause-served
@@ -65,3 +68,22 @@ returns-clause-served g c =
   where
     under : (n : ℕ) → (64 ≤ n → ⊥) → n < 64
     under n not = omega arith
+
+pub returns-in_err-expect_up-clause-untouched : goal.returns-in_err-expect_up-clause-untouched
+returns-in_err-expect_up-clause-untouched g c =
+    let old = parts c.args.c.now in
+    let e = err_from_is_err_and c.from_residual.result c.from_residual.ensures.1 in
+    by-err (λ (x : Result TxnId Refusal). TableLeaves x old old) c.from_residual.result e.0 e.0 e.1 refl (locks-same old old refl)
+
+pub returns-in_err-t-clause-untouched : goal.returns-in_err-t-clause-untouched
+returns-in_err-t-clause-untouched g c =
+    let old = parts c.args.c.now in
+    let new = parts c.begin.new.self in
+    let e = err_from_is_err_and c.from_residual-in_err-t.result c.from_residual-in_err-t.ensures.1 in
+    by-err (λ (x : Result TxnId Refusal). TableLeaves x old new) c.from_residual-in_err-t.result e.0 e.0 e.1 refl
+    (locks-same old new c.in_err-t.ensures.err)
+
+pub returns-clause-untouched : goal.returns-clause-untouched
+returns-clause-untouched g c =
+    let new = parts c.begin.new.self in
+    working-untouched c.args.i (txns_at new c.args.i) new.locks (parts c.args.c.now) new c.in_ok-t.ensures.parts

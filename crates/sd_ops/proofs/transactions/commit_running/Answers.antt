@@ -1,9 +1,13 @@
 use Rattle.std.proofs.Common.{sym, ap, ◌∙◌, refl, subst}
 use Rattle.std.specs.Prelude.{IsSome}
-use Rattle.sd_txn.specs.Transactions.{Transactions, span_at}
+use Rattle.sd_txn.specs.Transactions.{Transactions, span_at, without}
 use Rattle.sd_world.specs.Serving.{Telling, telling}
 use Rattle.sd_fits.proofs.Disk.{leaves-same}
 use Rattle.sd_ops.proofs.Committing.{bare-served}
+use Rattle.sd_state.specs.Complexes.{parts}
+use Rattle.sd_state.specs.Parts.{txns_at}
+use Rattle.sd_ops.proofs.Leaving.{working-untouched}
+use Rattle.sd_ops.proofs.Endings.{none-some}
 use Rattle.sd_ops.proofs.transactions.commit_running.Goals as goal
 
 pub committed_bare-requires-clause-bare : goal.committed_bare-requires-clause-bare
@@ -30,3 +34,18 @@ commit_recorded-requires-clause-there g c =
 pub returns-in-Some-clause-bare : goal.returns-in-Some-clause-bare
 returns-in-Some-clause-bare g c = λ none.
     let clash = c.in-Some.ensures ∙ ap (λ (tb : Transactions). span_at tb c.args.t.now) c.txns.ensures ∙ none in absurd (cc)
+
+pub returns-in-None-clause-untouched : goal.returns-in-None-clause-untouched
+returns-in-None-clause-untouched g c =
+    let i = c.args.t.now.inst in
+    let old = parts c.args.c.now in
+    let new = parts c.committed_bare.new.self in
+    working-untouched i (without (txns_at old i) c.args.t.now) new.locks old new c.committed_bare.ensures.parts
+
+pub returns-in-None-clause-tick : goal.returns-in-None-clause-tick
+returns-in-None-clause-tick g c some =
+    absurd (none-some (span_at (txns_at (parts c.args.c.now) c.args.t.now.inst) c.args.t.now)
+    (ap (λ (tb : Transactions). span_at tb c.args.t.now) (sym c.txns.ensures) ∙ sym c.in-None.ensures) some)
+
+pub returns-in-Some-clause-tick : goal.returns-in-Some-clause-tick
+returns-in-Some-clause-tick g c some = c.commit_recorded.ensures.tick

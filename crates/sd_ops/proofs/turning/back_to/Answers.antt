@@ -14,6 +14,8 @@ use Rattle.sd_state.specs.Working.{with_locks}
 use Rattle.sd_world.specs.Serving.{Telling, telling}
 use Rattle.sd_ops.specs.Rolling.{StaysPut}
 use Rattle.sd_ops.proofs.Turned.{back-out, back-served, may-roll}
+use Rattle.sd_ops.proofs.Leaving.{only-locks, touched-locks, txns-untouched}
+use Rattle.sd_fits.specs.Untouched.{none_of}
 use Rattle.sd_ops.proofs.turning.back_to.Goals as goal
 
 pub turn-requires-clause-may : goal.turn-requires-clause-may
@@ -59,3 +61,13 @@ pub returns-in-Err-clause-there : goal.returns-in-Err-clause-there
 returns-in-Err-clause-there g c = λ e.
     let same : c.in-Err.refusal ≡ R.Memory = cc in
     subst (StaysPut c.args.t.now c.args.mark.now (parts c.args.c.now)) same c.in-Err.ensures.stays
+
+pub returns-in-Ok-clause-untouched : goal.returns-in-Ok-clause-untouched
+returns-in-Ok-clause-untouched g c =
+    let i = c.args.t.now.inst in
+    let old : Parts = parts c.args.c.now in
+    let mid : Parts = parts c.turn.new.c in
+    touched-locks none_of none_of old mid (parts c.calm.new.c) (txns-untouched i (txns_at mid i) old mid c.turn.ensures.parts) c.calm.ensures.rest
+
+pub returns-in-Err-clause-untouched : goal.returns-in-Err-clause-untouched
+returns-in-Err-clause-untouched g c = only-locks (parts c.args.c.now) (parts c.calm-in-Err.new.c) c.calm-in-Err.ensures.rest

@@ -14,6 +14,8 @@ use Rattle.sd_state.specs.Values.{Pending}
 use Rattle.sd_world.specs.Serving.{Telling, telling}
 use Rattle.sd_ops.specs.Rolling.{LacksAlone}
 use Rattle.sd_ops.proofs.Undone.{rolls-to, step-served, top-found, undo-lacks}
+use Rattle.sd_ops.proofs.Leaving.{locks-same, undone-changed, undone-logged, undone-top}
+use Rattle.sd_ops.proofs.Endings.{lacks-end}
 use Rattle.sd_ops.proofs.undoing.rollback_step.Goals as goal
 
 pub page_of-page-requires-clause-some : goal.page_of-page-requires-clause-some
@@ -81,3 +83,27 @@ pub returns-in-Err-clause-works : goal.returns-in-Err-clause-works
 returns-in-Err-clause-works g c = λ e.
     let same : c.in-Err.refusal ≡ R.Failed = cc in
     subst (LacksAlone c.args.t.now.inst c.page_of-page.result (parts c.args.c.now)) same c.in-Err.ensures.lacks
+
+-- ---- what it leaves
+
+pub returns-in-Ok-clause-untouched : goal.returns-in-Ok-clause-untouched
+returns-in-Ok-clause-untouched g c =
+    let t = c.args.t.now in
+    let old = parts c.args.c.now in
+    let new = parts c.undo.new.c in
+    let n = c.keeps.ensures in
+    let made = c.undo.ensures.made in
+    (made.o, undone-top t old.due old new n.low made, undone-changed t old.due old new n.low made)
+
+pub returns-in-Err-clause-untouched : goal.returns-in-Err-clause-untouched
+returns-in-Err-clause-untouched g c =
+    let old = parts c.args.c.now in
+    lacks-end c.args.t.now.inst c.page_of-page.result old old old c.in-Err.refusal c.in-Err.ensures.lacks (locks-same old old refl)
+
+pub returns-in-Ok-clause-logged : goal.returns-in-Ok-clause-logged
+returns-in-Ok-clause-logged g c is =
+    let old = parts c.args.c.now in
+    undone-logged c.args.t.now old.due old (parts c.undo.new.c) c.keeps.ensures.low c.undo.ensures.made
+
+pub returns-in-Err-clause-logged : goal.returns-in-Err-clause-logged
+returns-in-Err-clause-logged g c is = absurd (cc)

@@ -1,8 +1,8 @@
-use Rattle.std.proofs.Common.{◌≡◌, subst}
+use Rattle.std.proofs.Common.{◌≡◌, subst, ⊎_elim}
 use Rattle.sd_base.specs.declared.refusal.Refusal.TheVariants as R
 use Rattle.sd_model.specs.State.{turned}
 use Rattle.sd_model.specs.declared.act.Life.{Life}
-use Rattle.sd_txn.specs.Transactions.{Transactions}
+use Rattle.sd_txn.specs.Transactions.{Transactions, span_at}
 use Rattle.sd_state.specs.Complexes.{parts}
 use Rattle.sd_state.specs.Good.{Good}
 use Rattle.sd_state.specs.Parts.{Parts, txns_at}
@@ -10,6 +10,10 @@ use Rattle.sd_state.specs.Values.{Pending}
 use Rattle.sd_world.specs.Serving.{Telling, telling}
 use Rattle.sd_ops.specs.Rolling.{IsDue, IsOut}
 use Rattle.sd_ops.proofs.Undone.{mark-served, nothing-served, reached, undo-out}
+use Rattle.std.specs.Prelude.{None, Some}
+use Rattle.sd_txn.specs.declared.state.TxnState.{TxnState}
+use Rattle.sd_ops.proofs.Leaving.{only-locks, txns-untouched}
+use Rattle.sd_ops.proofs.Endings.{above-goes_on, end-undo, ends-so, is-span, other-goes_on, out-end}
 use Rattle.sd_ops.proofs.undoing.undo.Goals as goal
 
 pub returns-in-Err-clause-served : goal.returns-in-Err-clause-served
@@ -62,3 +66,69 @@ returns-in-Ok-Mark-clause-served g c =
     e.others
     (λ m good. subst (λ (p : Parts). Good (g.G.Rig.seen old.rig) (g.G.Rig.leaves old.rig) Pending.Idle p (turned t Life.Running m)) e.parts
     (subst (λ d. Good (g.G.Rig.seen d) (g.G.Rig.leaves d) Pending.Idle (parts new) (turned t Life.Running m)) e.rig (e.good m good)))
+
+-- ---- what it leaves, the record that it puts, and its device calls
+
+pub returns-in-Err-clause-untouched : goal.returns-in-Err-clause-untouched
+returns-in-Err-clause-untouched g c =
+    let t = c.args.t.now in
+    let old = parts c.args.c.now in
+    let new = parts c.calm.new.c in
+    out-end t t.inst old old new c.in-Err.refusal c.in-Err.ensures.out (only-locks old new c.calm.ensures.rest)
+
+pub returns-in-Err-clause-logged : goal.returns-in-Err-clause-logged
+returns-in-Err-clause-logged g c is = absurd (cc)
+
+pub returns-in-Ok-Nothing-clause-untouched : goal.returns-in-Ok-Nothing-clause-untouched
+returns-in-Ok-Nothing-clause-untouched g c =
+    (only-locks (parts c.args.c.now) (parts c.calm-in-Ok-Nothing.new.c) c.calm-in-Ok-Nothing.ensures.rest).untouched
+
+pub returns-in-Ok-Nothing-clause-logged : goal.returns-in-Ok-Nothing-clause-logged
+returns-in-Ok-Nothing-clause-logged g c is = absurd (cc)
+
+pub returns-in-Ok-Nothing-clause-tick : goal.returns-in-Ok-Nothing-clause-tick
+returns-in-Ok-Nothing-clause-tick g c ends =
+    let old = parts c.args.c.now in
+    let d = subst (IsDue c.args.t.now old) c.in-Ok-Nothing.field-0-is c.in-Ok-Nothing.ensures.due in
+    absurd (other-goes_on c.args.t.now d.0 old d.1 (d.2 None) ends)
+
+pub returns-in-Ok-Step-clause-tick : goal.returns-in-Ok-Step-clause-tick
+returns-in-Ok-Step-clause-tick g c ends =
+    let old = parts c.args.c.now in
+    let d = subst (IsDue c.args.t.now old) c.in-Ok-Step.field-0-is c.in-Ok-Step.ensures.due in
+    absurd (above-goes_on c.args.t.now d.0 old d.1 ends)
+
+pub returns-in-Ok-Mark-clause-untouched : goal.returns-in-Ok-Mark-clause-untouched
+returns-in-Ok-Mark-clause-untouched g c =
+    let i = c.args.t.now.inst in
+    let new = parts c.resume.new.self in
+    txns-untouched i (txns_at new i) (parts c.args.c.now) new c.resume.ensures.parts
+
+pub returns-in-Ok-Mark-clause-logged : goal.returns-in-Ok-Mark-clause-logged
+returns-in-Ok-Mark-clause-logged g c is = absurd (cc)
+
+pub returns-in-Ok-Mark-clause-tick : goal.returns-in-Ok-Mark-clause-tick
+returns-in-Ok-Mark-clause-tick g c ends =
+    let old = parts c.args.c.now in
+    let d = subst (IsDue c.args.t.now old) c.in-Ok-Mark.field-0-is c.in-Ok-Mark.ensures.due in
+    absurd (other-goes_on c.args.t.now (TxnState.Rolling (Some d.0)) old d.1 (λ e. absurd (cc)) ends)
+
+pub returns-in-Ok-End-clause-untouched : goal.returns-in-Ok-End-clause-untouched
+returns-in-Ok-End-clause-untouched g c = end-undo c.args.t.now c.finish.result (parts c.args.c.now) (parts c.finish.new.c)
+    c.finish.ensures.untouched c.finish.ensures.ends
+
+pub returns-in-Ok-End-clause-logged : goal.returns-in-Ok-End-clause-logged
+returns-in-Ok-End-clause-logged g c is = absurd (ends-so c.finish.result is c.finish.ensures.ends)
+
+pub returns-in-Ok-End-clause-tick : goal.returns-in-Ok-End-clause-tick
+returns-in-Ok-End-clause-tick g c ends = c.finish.ensures.tick ends.there
+
+pub returns-in-Ok-End-clause-still : goal.returns-in-Ok-End-clause-still
+returns-in-Ok-End-clause-still g c not =
+    let t = c.args.t.now in
+    let old = parts c.args.c.now in
+    let d = subst (IsDue t old) c.in-Ok-End.field-0-is c.in-Ok-End.ensures.due in
+    ⊎_elim
+    (λ none. c.finish.ensures.bare none)
+    (λ some. absurd (not (record { up = c.in-Ok-End.ensures.up; rolls = d.0; empty = d.1; there = some })))
+    (is-span (span_at (txns_at old t.inst) t))

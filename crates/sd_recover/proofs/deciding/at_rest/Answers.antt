@@ -10,6 +10,7 @@ use Rattle.sd_model.specs.declared.event.Reply.TheVariants as reply
 use Rattle.sd_fits.proofs.Disk.{other-device}
 use Rattle.sd_fits.proofs.Recovering.{step_sums}
 use Rattle.sd_fits.proofs.Served.{bounds-stay}
+use Rattle.sd_recover.proofs.Fallen.{rest-touches}
 use Rattle.sd_recover.proofs.Steps.{breaks, failed-all, failed-aside, failed-due, force-spares, rises, same-aside}
 use Rattle.sd_recover.proofs.deciding.at_rest.Goals as goal
 
@@ -49,6 +50,12 @@ returns-in-Ok-clause-spared g c =
 
 pub returns-in-Ok-clause-parts : goal.returns-in-Ok-clause-parts
 returns-in-Ok-clause-parts g c = c.in-Ok.ensures.forced c.requires.settled
+
+pub returns-in-Err-clause-fell : goal.returns-in-Err-clause-fell
+returns-in-Err-clause-fell g c =
+    let old : Parts = parts c.args.c.now in
+    rest-touches (actor old c.args.i) c.args.i c.args.by old (parts c.force_log.new.self) (parts c.down.new.c) c.keeps-2.ensures.low
+    c.keeps.ensures.high c.requires.fits.1.good.shape.loose c.in-Err.ensures.failed c.down.ensures.parts c.down.ensures.fallen
 
 pub returns-in-Err-clause-failed : goal.returns-in-Err-clause-failed
 returns-in-Err-clause-failed g c =

@@ -12,6 +12,7 @@ use Rattle.sd_update.proofs.Deciding.{has-row}
 use Rattle.sd_txn.specs.Transactions.{Transactions, ids}
 use Rattle.sd_txn.specs.declared.state.TxnState.{TxnState}
 use Rattle.sd_recover.specs.Tasks.{tasks_in}
+use Rattle.sd_recover.proofs.Doing.{decide-does}
 use Rattle.sd_recover.proofs.Left.{decided-fewer}
 use Rattle.sd_recover.proofs.Decides.{decides, doubt-then, fits-mid, kept-then, no-tail, recovers-then, settled-then}
 use Rattle.sd_recover.proofs.deciding.decide_next.Goals as goal
@@ -109,3 +110,27 @@ returns-in-Ok-clause-fewer g c =
     decided-fewer (txns_at (parts mid) (home t)) (txns_at (parts c.decide.new.c) (home t)) t row.x c.has_commit-committed.result once row.row
     row.state d.row d.others d.order
     ∙ ap (λ (p : Parts). tasks_in (txns_at p (home t))) c.in-Ok.ensures.parts
+
+pub returns-in-Ok-clause-did : goal.returns-in-Ok-clause-did
+returns-in-Ok-clause-did g c =
+    let tell : Telling _ = telling g.G.Rig.seen g.G.Rig.leaves g.G.Rig.moment g.G.Rig.since g.G.Rig.faults in
+    let t = c.args.t.now in
+    let old = c.args.c.now in
+    let mid = c.at_rest.new.c in
+    let new = c.decide.new.c in
+    let r = c.requires in
+    let n = c.keeps.ensures in
+    let d = c.decide.ensures in
+    let row = has-row (txns_at (parts mid) (home t)) t TxnState.Doubt
+    (doubt-then tell c.args.by t old mid n.low n.high r.recovers r.settled r.doubt c.in-Ok.ensures.spared c.in-Ok.ensures.parts) in
+    let once : IsDistinct same_txn (ids (txns_at (parts mid) (home t))) =
+    subst (λ (tb : Transactions). IsDistinct same_txn (ids tb)) c.txns.ensures c.keeps-in-Ok.ensures.once in
+    decide-does t c.args.by (tell.seen old.rig) (tell.seen new.rig) (parts old) (parts mid) (parts new) row.x c.has_commit-committed.result
+    r.settled
+    (kept-then tell c.args.by t old mid n.low n.high r.recovers r.settled r.doubt c.in-Ok.ensures.spared c.in-Ok.ensures.parts r.fits.0 r.fits.1
+    c.has_commit-committed.result
+    (c.has_commit-committed.ensures ∙ ap (λ (l : LogState). list_any (λ q. commits t (flat q.rec)) (scanned l)) c.log.ensures))
+    c.in-Ok.ensures.parts d.parts row.row d.row d.others d.order
+    (decided-fewer (txns_at (parts mid) (home t)) (txns_at (parts new) (home t)) t row.x c.has_commit-committed.result once row.row
+    row.state d.row d.others d.order
+    ∙ ap (λ (p : Parts). tasks_in (txns_at p (home t))) c.in-Ok.ensures.parts)

@@ -1,12 +1,13 @@
-use Rattle.std.proofs.Common.{rules, sym, ap, ◌∙◌, subst}
+use Rattle.std.proofs.Common.{◌≡◌, rules, sym, ap, ◌∙◌, subst}
 use Rattle.std.specs.Prelude.{Result, Err}
 use Rattle.std.proofs.lemmas.Result.{err_from_is_err_and}
 use Rattle.sd_base.specs.Streams.{Rises}
 use Rattle.sd_base.specs.declared.refusal.Refusal.{Refusal}
+use Rattle.sd_base.specs.declared.refusal.Refusal.TheVariants as R
 use Rattle.sd_chain.specs.Records.{home}
 use Rattle.sd_model.specs.declared.event.Event.TheVariants.{RecoverStep}
 use Rattle.sd_model.specs.declared.event.Reply.TheVariants as reply
-use Rattle.sd_state.specs.Parts.{is_loose}
+use Rattle.sd_state.specs.Parts.{Parts, actor, is_loose}
 use Rattle.sd_state.specs.Values.{Pending}
 use Rattle.sd_txn.specs.declared.state.TxnState.{TxnState}
 use Rattle.sd_world.specs.Serving.{Telling, answered, telling}
@@ -15,7 +16,9 @@ use Rattle.sd_fits.proofs.Heads.{some-there}
 use Rattle.sd_fits.proofs.Still.{kept-spares}
 use Rattle.sd_state.specs.Complexes.{parts}
 use Rattle.sd_recover.proofs.Ended.{end-due, end-fails, end-fewer, end-step}
+use Rattle.sd_recover.proofs.Doing.{end-does}
 use Rattle.sd_recover.proofs.Ends.{may-end}
+use Rattle.sd_recover.proofs.Fallen.{end-touches}
 use Rattle.sd_recover.proofs.Steps.{rises}
 use Rattle.sd_recover.proofs.ending.end_next.Goals as goal
 
@@ -95,6 +98,29 @@ returns-in-Err-clause-served g c =
       rises tell old.rig then.rig c.down.new.c.rig d.rig (subst (λ x. Rises (tell.faults x) (tell.faults then.rig)) s.rig e.cause),
     )
 
+memory-only : (n : Refusal) → n ≡ R.Memory → ◌≡◌ {A = Result (Unit {0}) Refusal} (Err n) (Err R.Failed) → ⊥
+memory-only n is e = cc
+
+pub returns-in_err-seal_end-clause-fell : goal.returns-in_err-seal_end-clause-fell
+returns-in_err-seal_end-clause-fell g c = λ e.
+    let p = err_from_is_err_and c.from_residual.result c.from_residual.ensures.1 in
+    absurd (memory-only _ p.2 (sym p.1 ∙ e))
+
+pub returns-in_err-seal_end-clause-short : goal.returns-in_err-seal_end-clause-short
+returns-in_err-seal_end-clause-short g c = λ e. c.in_err-seal_end.ensures.stays
+
+pub returns-in-Err-clause-fell : goal.returns-in-Err-clause-fell
+returns-in-Err-clause-fell g c = λ e.
+    let n = c.keeps.ensures in
+    let old : Parts = parts c.args.c.now in
+    let sealed : Parts = parts c.seal_end.new.c in
+    end-touches c.args.t.now (actor sealed (home c.args.t.now)) c.args.by old sealed (parts c.force_log.new.self) (parts c.down.new.c) n.low n.high
+    c.keeps-2.ensures.low c.requires.fits.1.good.shape c.in_ok-seal_end.ensures.parts c.in-Err.ensures.failed c.down.ensures.parts
+    c.down.ensures.fallen
+
+pub returns-in-Err-clause-short : goal.returns-in-Err-clause-short
+returns-in-Err-clause-short g c = λ e. absurd (cc)
+
 pub returns-in-Ok-clause-fewer : goal.returns-in-Ok-clause-fewer
 returns-in-Ok-clause-fewer g c =
     let tell : Telling _ = telling g.G.Rig.seen g.G.Rig.leaves g.G.Rig.moment g.G.Rig.since g.G.Rig.faults in
@@ -104,3 +130,17 @@ returns-in-Ok-clause-fewer g c =
     let e = c.in-Ok.ensures in
     end-fewer c.args.t.now (parts c.args.c.now) (parts c.seal_end.new.c) (parts c.force_log.new.self) n.low n.high r.fits.1.good.shape.txns
     r.empty s.parts (e.forced (ap (λ p. is_loose p (home c.args.t.now)) s.parts.is ∙ r.settled))
+
+pub returns-in-Ok-clause-did : goal.returns-in-Ok-clause-did
+returns-in-Ok-clause-did g c =
+    let tell : Telling _ = telling g.G.Rig.seen g.G.Rig.leaves g.G.Rig.moment g.G.Rig.since g.G.Rig.faults in
+    let r = c.requires in
+    let n = c.keeps.ensures in
+    let s = c.in_ok-seal_end.ensures in
+    let old = c.args.c.now in
+    let new = c.force_log.new.self in
+    let eight = r.fits.1.good.shape.txns in
+    let forces = c.in-Ok.ensures.forced (ap (λ p. is_loose p (home c.args.t.now)) s.parts.is ∙ r.settled) in
+    end-does c.args.t.now c.args.by (tell.seen old.rig) (tell.seen new.rig) (parts old) (parts c.seal_end.new.c) (parts new) n.low n.high eight
+    r.settled s.parts forces
+    (end-fewer c.args.t.now (parts old) (parts c.seal_end.new.c) (parts new) n.low n.high eight r.empty s.parts forces)

@@ -7,9 +7,9 @@ use Rattle.sd_state.specs.Complexes.{parts}
 use Rattle.sd_state.specs.Parts.{Parts}
 use Rattle.sd_state.specs.Values.{Pending}
 use Rattle.sd_world.specs.Serving.{telling}
-use Rattle.sd_fits.proofs.Falling.{fallen-down}
 use Rattle.sd_transfer.proofs.Unput.{unread-served, unwritten-served}
-use Rattle.sd_recover.proofs.Rebuilt.{may-rebuild, rebuild-served, step-breaks}
+use Rattle.sd_recover.proofs.Fallen.{put-touches}
+use Rattle.sd_recover.proofs.Rebuilt.{may-rebuild, rebuild-served, settled-read, step-breaks}
 use Rattle.sd_recover.proofs.rebuilding.put_or_fall.Goals as goal
 
 pub rebuild-requires-clause-good : goal.rebuild-requires-clause-good
@@ -42,8 +42,9 @@ returns-in-Err-Unread-clause-served g c =
 pub returns-in-Err-Unread-clause-left : goal.returns-in-Err-Unread-clause-left
 returns-in-Err-Unread-clause-left g c =
     let p : Parts = parts c.args.c.now in
-    inl (subst (λ (e : Unput). parts c.rebuild.new.c ≡ left_after e p) c.in-Err-Unread.field-0-is c.in-Err-Unread.ensures.errors
-    ∙ disk-same p false (c.requires.settled 0 (omega arith)))
+    inr (settled-read (g.G.Rig.seen c.rebuild.new.c.rig) (g.G.Rig.leaves c.rebuild.new.c.rig) p (parts c.rebuild.new.c) c.requires.settled
+    (subst (λ (e : Unput). parts c.rebuild.new.c ≡ left_after e p) c.in-Err-Unread.field-0-is c.in-Err-Unread.ensures.errors
+    ∙ disk-same p false (c.requires.settled 0 (omega arith))))
 
 pub down-requires-clause-good : goal.down-requires-clause-good
 down-requires-clause-good g c =
@@ -71,4 +72,8 @@ returns-in-Err-Unwritten-clause-served g c =
 
 pub returns-in-Err-Unwritten-clause-left : goal.returns-in-Err-Unwritten-clause-left
 returns-in-Err-Unwritten-clause-left g c =
-    inr (fallen-down c.args.by (parts c.rebuild.new.c) (parts c.down.new.c) c.down.ensures.fallen)
+    inl (put-touches c.args.by (parts c.args.c.now) (parts c.rebuild.new.c) (parts c.down.new.c) c.keeps-2.ensures.low
+    c.requires.fits.1.good.shape.loose
+    (subst (λ (e : Unput). parts c.rebuild.new.c ≡ left_after e (parts c.args.c.now)) c.in-Err-Unwritten.field-0-is
+    c.in-Err-Unwritten.ensures.errors)
+    c.down.ensures.parts c.down.ensures.fallen)

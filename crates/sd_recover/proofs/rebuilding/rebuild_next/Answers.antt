@@ -1,4 +1,4 @@
-use Rattle.std.proofs.Common.{None, sym, ap, ◌∙◌, subst, arith}
+use Rattle.std.proofs.Common.{ℕ, None, sym, ap, ◌∙◌, subst, arith}
 use Rattle.std.specs.Prelude.{Result, Err, IfErr, OnOk}
 use Rattle.std.proofs.lemmas.Result.{err_from_is_err_and}
 use Rattle.sd_base.specs.declared.refusal.Refusal.{Refusal}
@@ -16,6 +16,7 @@ use Rattle.sd_world.specs.Answers.{IsLowestLost}
 use Rattle.sd_world.specs.Serving.{answered, telling}
 use Rattle.sd_world.proofs.Serving.{served-again}
 use Rattle.sd_recover.specs.Rebuilding.{LeavesLost}
+use Rattle.sd_recover.proofs.Doing.{freed-ok}
 use Rattle.sd_recover.proofs.Rebuilt.{fits-read, may-rebuild, read-left, read-refused, read-spared}
 use Rattle.sd_recover.proofs.rebuilding.rebuild_next.Goals as goal
 
@@ -45,9 +46,11 @@ returns-in_err-image-clause-left g c =
     let old : Parts = parts c.args.c.now in
     let read : Parts = parts c.newest_image.new.c in
     let from = err_from_is_err_and c.from_residual.result c.from_residual.ensures.1 in
-    subst (λ (x : Result (Unit {0}) Refusal). IfErr x (λ (n : Refusal). LeavesLost n c.args.by old read))
+    let rig = c.newest_image.new.c.rig in
+    subst (λ (x : Result (Unit {0}) Refusal). IfErr x (λ (n : Refusal). LeavesLost (g.G.Rig.seen rig) (g.G.Rig.leaves rig) 0 n c.args.by old read))
     (sym (from.1 ∙ ap (λ (n : Refusal). Err n) from.2))
-    (read-left c.in_err-image.field-0.0 c.args.by old read _ _ c.newest_image.ensures.parts c.in_err-image.ensures.refusals)
+    (read-left (g.G.Rig.seen rig) (g.G.Rig.leaves rig) c.in_err-image.field-0.0 c.args.by old read _ _ c.requires.settled
+    c.newest_image.ensures.parts c.in_err-image.ensures.refusals)
 
 pub returns-in_err-image-clause-logs : goal.returns-in_err-image-clause-logs
 returns-in_err-image-clause-logs g c d ne = c.newest_image.ensures.stays.reads d
@@ -113,8 +116,24 @@ returns-clause-place g c =
 pub returns-clause-left : goal.returns-clause-left
 returns-clause-left g c =
     let new : Parts = parts c.put_or_fall.new.c in
-    subst (λ (k : Parts). IfErr c.put_or_fall.result (λ (n : Refusal). LeavesLost n c.args.by k new))
+    let rig = c.put_or_fall.new.c.rig in
+    subst (λ (k : Parts). IfErr c.put_or_fall.result
+    (λ (n : Refusal). LeavesLost (g.G.Rig.seen rig) (g.G.Rig.leaves rig) 0 n c.args.by k new))
     c.newest_image.ensures.parts c.put_or_fall.ensures.left
 
 pub returns-clause-logs : goal.returns-clause-logs
 returns-clause-logs g c d ne = c.put_or_fall.ensures.logs d ne ∙ c.newest_image.ensures.stays.reads d
+
+pub returns-clause-did : goal.returns-clause-did
+returns-clause-did g c =
+    let r = g.G.Rig in
+    let old : Parts = parts c.args.c.now in
+    let new : Parts = parts c.put_or_fall.new.c in
+    let i : ℕ = c.args.i in
+    let low = c.keeps.ensures.low in
+    freed-ok c.put_or_fall.result i c.args.by c.args.p (r.seen c.args.c.now.rig) (r.seen c.put_or_fall.new.c.rig) old new c.keeps-2.ensures
+    c.requires.settled c.requires.lowest
+    (on_ok c.put_or_fall.result _ _ (λ is. is ∙ ap (with_directory new.directory) c.newest_image.ensures.parts) c.put_or_fall.ensures.stays)
+    (subst (λ (k : Parts). OnOk c.put_or_fall.result (IsSet c.args.p PageEntry.Free None k.directory new.directory))
+    c.newest_image.ensures.parts c.put_or_fall.ensures.place)
+    (c.put_or_fall.ensures.logs i (λ e. omega (arith, low, e)) ∙ c.newest_image.ensures.stays.reads i)

@@ -9,4 +9,4 @@ returns-in-Undo-clause-claimed g c = λ w by f recovers.
     let n = c.keeps.ensures in
     let rig = c.args.c.now.rig in
     undo-needed c.args.i c.in-Undo.page c.in-Undo.txn (g.G.Rig.seen rig) (g.G.Rig.leaves rig) (parts c.args.c.now) w f n.low n.high by recovers
-    (subst (IsNext (parts c.args.c.now) c.args.i) c.in-Undo.is c.next_task.ensures)
+    (subst (IsNext (parts c.args.c.now) c.args.i) c.in-Undo.is c.next_task.ensures.next)

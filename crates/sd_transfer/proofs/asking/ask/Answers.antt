@@ -1,19 +1,29 @@
-use Rattle.std.proofs.Common.{◌≡◌, ◌||◌, ℕ, ◌∙◌, Bool, ap, ap₂, subst, sym}
-use Rattle.std.specs.Prelude.{Option, Result, Err, None, Some, not}
+use Rattle.std.proofs.Common.{◌≡◌, ◌||◌, ℕ, ◌∙◌, Bool, ap, ap₂, refl, subst, sym}
+use Rattle.std.specs.Prelude.{Option, Result, Err, None, Some, not, ◌&&◌}
 use Rattle.std.proofs.lemmas.Result.{err_from_is_err_and}
 use Rattle.sd_base.specs.declared.refusal.Refusal.{Refusal}
 use Rattle.sd_base.specs.declared.refusal.Refusal.TheVariants as R
 use Rattle.sd_state.specs.Complexes.{parts}
+use Rattle.sd_state.specs.Parts.{Parts}
 use Rattle.sd_state.specs.Values.{Pending}
 use Rattle.sd_transfer.specs.Asking.{IsUnserved}
+use Rattle.sd_fits.proofs.Refused.{unlike}
+use Rattle.sd_fits.proofs.Resting.{rests-same}
 use Rattle.sd_fits.specs.Serving.{Serving}
+use Rattle.sd_fits.specs.Untouched.{none_of, only}
 use Rattle.sd_model.specs.declared.event.Event.TheVariants.{Ask}
 use Rattle.sd_pagelock.specs.Places.{Formed, PageEntry, holds_as, is_free, is_lost, passes}
-use Rattle.sd_pagelock.specs.Rows.{may_raise}
+use Rattle.sd_pagelock.specs.Directory.{entry_at}
+use Rattle.sd_pagelock.specs.Moves.{IsMove}
+use Rattle.sd_pagelock.specs.Rows.{may_raise, raised}
+use Rattle.sd_pagelock.proofs.Losses.{changed-raised}
 use Rattle.sd_pagelock.proofs.Uses.{free-is}
 use Rattle.sd_world.specs.Pages.{answerer}
 use Rattle.sd_world.specs.Serving.{answered, had_or_asked, telling}
-use Rattle.sd_transfer.proofs.Asked.{had-lacks, had-pool, stays-there}
+use Rattle.sd_transfer.specs.Paging.{OnlyPages}
+use Rattle.sd_transfer.proofs.Asked.{had-lacks, had-pool, none-holds, raise-pool, stays-there}
+use Rattle.sd_transfer.proofs.Rested.{asked-rest, moved-lost, pages-rest}
+use Rattle.sd_transfer.proofs.Touched.{listed-untouched, none-done, same-untouched, set-recs, untouched-but}
 use Rattle.sd_transfer.proofs.Fetched.{ask-refused, ask-spared, has-served, queued-served, raised-served, unchanged-here, unchanged-to}
 use Rattle.sd_transfer.proofs.Told.{err-same, not-refused}
 use Rattle.sd_transfer.proofs.asking.ask.Goals as goal
@@ -198,3 +208,96 @@ returns-in_err-fetch-clause-served g c =
     subst (λ (r : Result (Option ℕ) Refusal). Serving tell (Ask c.args.i c.args.p c.args.mode) (answered had_or_asked r) c.args.c.now
     c.fetch.new.c)
     (sym (p.1 ∙ ap (λ (n : Refusal). Err n) p.2)) c.in_err-fetch.ensures.served
+
+-- ---- what no world has, and a recovery that is under way
+
+pub returns-in_err-place-clause-untouched : goal.returns-in_err-place-clause-untouched
+returns-in_err-place-clause-untouched g c = same-untouched _ none_of (parts c.args.c.now) (parts c.args.c.now) refl
+
+pub returns-in_err-place-clause-pool : goal.returns-in_err-place-clause-pool
+returns-in_err-place-clause-pool g c free =
+    let p = err_from_is_err_and c.from_residual.result c.from_residual.ensures.1 in
+    none-done c.from_residual.result p.0 _ p.1
+
+pub returns-in_err-place-clause-rest : goal.returns-in_err-place-clause-rest
+returns-in_err-place-clause-rest g c = rests-same (parts c.args.c.now)
+
+pub returns-then-holds_as-clause-untouched : goal.returns-then-holds_as-clause-untouched
+returns-then-holds_as-clause-untouched g c = same-untouched _ none_of (parts c.args.c.now) (parts c.args.c.now) refl
+
+pub returns-then-holds_as-clause-pool : goal.returns-then-holds_as-clause-pool
+returns-then-holds_as-clause-pool g c free = unlike (none-holds c.args.mode _ c.args.i free)
+    (ap (λ (e : PageEntry). holds_as c.args.mode e c.args.i) (sym c.in_ok-place.ensures.place)
+    ∙ sym c.holds_as.ensures ∙ c.if-holds_as.true)
+
+pub returns-then-holds_as-clause-rest : goal.returns-then-holds_as-clause-rest
+returns-then-holds_as-clause-rest g c = rests-same (parts c.args.c.now)
+
+pub returns-in_err-fetch-clause-untouched : goal.returns-in_err-fetch-clause-untouched
+returns-in_err-fetch-clause-untouched g c =
+    same-untouched _ none_of (parts c.args.c.now) (parts c.fetch.new.c) c.in_err-fetch.ensures.stays
+
+pub returns-in_err-fetch-clause-pool : goal.returns-in_err-fetch-clause-pool
+returns-in_err-fetch-clause-pool g c free =
+    let p = err_from_is_err_and c.from_residual-in_err-fetch.result c.from_residual-in_err-fetch.ensures.1 in
+    none-done c.from_residual-in_err-fetch.result p.0 _ p.1
+
+pub returns-in_err-fetch-clause-rest : goal.returns-in_err-fetch-clause-rest
+returns-in_err-fetch-clause-rest g c = c.fetch.ensures.rest
+
+pub returns-then-is_free-clause-untouched : goal.returns-then-is_free-clause-untouched
+returns-then-is_free-clause-untouched g c = untouched-but (only c.args.i) _ none_of (parts c.args.c.now) (parts c.fetch.new.c)
+    (λ j none. sym (ap (λ (b : Bool). b && only c.args.i j)
+    (ap is_free (sym c.in_ok-place.ensures.place) ∙ sym c.is_free.ensures ∙ c.if-is_free.true)) ∙ none)
+    c.in_ok-fetch.ensures.untouched
+
+pub returns-then-is_free-clause-pool : goal.returns-then-is_free-clause-pool
+returns-then-is_free-clause-pool g c free = c.in_ok-fetch.ensures.pool
+
+pub returns-then-is_free-clause-rest : goal.returns-then-is_free-clause-rest
+returns-then-is_free-clause-rest g c = c.fetch.ensures.rest
+
+pub returns-then-may_raise-clause-untouched : goal.returns-then-may_raise-clause-untouched
+returns-then-may_raise-clause-untouched g c =
+    let old : Parts = parts c.args.c.now in
+    let e = entry_at old.directory c.args.p in
+    listed-untouched _ old (parts c.raise.new.c) c.raise.ensures.parts
+    (set-recs c.args.p (raised c.args.i e) old.directory (parts c.raise.new.c).directory c.raise.ensures.place
+    (c.keeps-2.ensures.marked c.args.p) (changed-raised c.args.i e))
+
+pub returns-then-may_raise-clause-pool : goal.returns-then-may_raise-clause-pool
+returns-then-may_raise-clause-pool g c free = absurd (raise-pool _ c.args.i
+    (ap (may_raise c.args.i) (sym c.in_ok-place.ensures.place) ∙ sym c.may_raise.ensures ∙ c.if-may_raise.true) (ap is_free free))
+
+pub returns-then-may_raise-clause-rest : goal.returns-then-may_raise-clause-rest
+returns-then-may_raise-clause-rest g c =
+    let old : Parts = parts c.args.c.now in
+    pages-rest old (parts c.raise.new.c) (subst (OnlyPages old) (sym c.raise.ensures.parts) refl)
+    (moved-lost c.args.p (raised c.args.i (entry_at old.directory c.args.p)) old.directory (parts c.raise.new.c).directory
+    c.raise.ensures.place (c.keeps-2.ensures.formed c.args.p) (IsMove.raise c.args.i
+    (ap (may_raise c.args.i) (sym c.in_ok-place.ensures.place) ∙ sym c.may_raise.ensures ∙ c.if-may_raise.true) refl))
+
+pub returns-in_err-queue_ask-clause-untouched : goal.returns-in_err-queue_ask-clause-untouched
+returns-in_err-queue_ask-clause-untouched g c = listed-untouched _ (parts c.args.c.now) (parts c.queue_ask.new.c)
+    c.queue_ask.ensures.parts c.in_err-queue_ask.ensures.stays.in_place.rec_lsns
+
+pub returns-in_err-queue_ask-clause-pool : goal.returns-in_err-queue_ask-clause-pool
+returns-in_err-queue_ask-clause-pool g c free =
+    let p = err_from_is_err_and c.from_residual-in_err-queue_ask.result c.from_residual-in_err-queue_ask.ensures.1 in
+    none-done c.from_residual-in_err-queue_ask.result p.0 _ p.1
+
+pub returns-in_err-queue_ask-clause-rest : goal.returns-in_err-queue_ask-clause-rest
+returns-in_err-queue_ask-clause-rest g c = asked-rest c.args.p _ (parts c.args.c.now) (parts c.queue_ask.new.c)
+    c.queue_ask.ensures.parts c.in_err-queue_ask.ensures.stays
+
+pub returns-clause-untouched : goal.returns-clause-untouched
+returns-clause-untouched g c = listed-untouched _ (parts c.args.c.now) (parts c.queue_ask.new.c)
+    c.queue_ask.ensures.parts c.in_ok-queue_ask.ensures.asks.in_place.rec_lsns
+
+pub returns-clause-pool : goal.returns-clause-pool
+returns-clause-pool g c free = unlike (ap is_free (sym c.in_ok-place.ensures.place) ∙ sym c.is_free.ensures ∙ c.if-is_free.false)
+    (ap is_free free)
+
+pub returns-clause-rest : goal.returns-clause-rest
+returns-clause-rest g c = asked-rest c.args.p _ (parts c.args.c.now) (parts c.queue_ask.new.c)
+    c.queue_ask.ensures.parts c.in_ok-queue_ask.ensures.asks

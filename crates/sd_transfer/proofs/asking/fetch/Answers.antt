@@ -1,16 +1,30 @@
-use Rattle.std.proofs.Common.{ℕ, List, ◌∙◌, ap, subst, sym}
-use Rattle.std.specs.Prelude.{Result, Err}
+use Rattle.std.proofs.Common.{◌≡◌, ℕ, List, ◌∙◌, ap, eq-eqb, refl, subst, sym}
+use Rattle.std.specs.Prelude.{None, Result, Err, OnErr}
 use Rattle.std.proofs.lemmas.Result.{err_from_is_err_and}
+use Rattle.sd_base.specs.declared.place.Mode.{Mode}
 use Rattle.sd_base.specs.declared.refusal.Refusal.{Refusal}
 use Rattle.sd_chain.specs.Bytes.{disk_page}
+use Rattle.sd_fits.proofs.Resting.{rests-same}
 use Rattle.sd_fits.specs.Serving.{Serving}
+use Rattle.sd_fits.specs.Untouched.{only}
 use Rattle.sd_model.specs.declared.event.Event.TheVariants.{Ask}
 use Rattle.sd_model.specs.declared.event.Reply.TheVariants as reply
 use Rattle.sd_pagelock.specs.Directory.{entry_at}
-use Rattle.sd_pool.specs.Buffers.{LacksFrame}
-use Rattle.sd_state.specs.Parts.{Parts, is_active, pool_at}
+use Rattle.sd_pagelock.specs.Moves.{IsMove}
+use Rattle.sd_pagelock.specs.Places.{changed, is_free}
+use Rattle.sd_pagelock.specs.Rows.{locked}
+use Rattle.sd_pagelock.proofs.Uses.{clean-locked}
+use Rattle.sd_page.specs.Page.{Page}
+use Rattle.sd_pool.specs.Buffers.{LacksFrame, with_page}
+use Rattle.sd_state.specs.Complexes.{parts}
+use Rattle.sd_state.specs.Locking.{IsSet, with_place}
+use Rattle.sd_state.specs.Parts.{Parts, is_active, no_pool, pool_at}
+use Rattle.sd_state.proofs.Items.{item-set}
 use Rattle.sd_state.specs.Values.{Pending}
 use Rattle.sd_world.specs.Serving.{answered, telling}
+use Rattle.sd_transfer.specs.Paging.{OnlyPages}
+use Rattle.sd_transfer.proofs.Rested.{moved-lost, pages-rest, same-rest}
+use Rattle.sd_transfer.proofs.Touched.{none-done, placed-untouched, set-recs}
 use Rattle.sd_transfer.proofs.Fetched.{fetched, full-served, read-refused, read-spared, unchanged-here, unchanged-to}
 use Rattle.sd_fits.proofs.Refused.{unlike}
 use Rattle.sd_transfer.proofs.asking.fetch.Goals as goal
@@ -113,3 +127,92 @@ returns-then-lacks_frame-clause-still g c =
 
 pub read_disk-requires : goal.read_disk-requires
 read_disk-requires g c = record { good = (Pending.Idle, c.requires.fits.0.scene.state, c.requires.fits.1.good) }
+
+-- ---- what no world has, and a recovery that is under way
+
+pub returns-then-lacks_frame-clause-rest : goal.returns-then-lacks_frame-clause-rest
+returns-then-lacks_frame-clause-rest g c = rests-same (parts c.args.c.now)
+
+pub returns-in_err-image-clause-stays : goal.returns-in_err-image-clause-stays
+returns-in_err-image-clause-stays g c =
+    subst (λ (r : Result (Unit {0}) Refusal). OnErr r (parts c.read_disk.new.self ≡ parts c.args.c.now))
+    (sym (err_from_is_err_and c.from_residual.result c.from_residual.ensures.1).1) c.read_disk.ensures.parts
+
+pub returns-in_err-image-clause-untouched : goal.returns-in_err-image-clause-untouched
+returns-in_err-image-clause-untouched g c =
+    let p = err_from_is_err_and c.from_residual.result c.from_residual.ensures.1 in
+    none-done c.from_residual.result p.0 _ p.1
+
+pub returns-in_err-image-clause-pool : goal.returns-in_err-image-clause-pool
+returns-in_err-image-clause-pool g c =
+    let p = err_from_is_err_and c.from_residual.result c.from_residual.ensures.1 in
+    none-done c.from_residual.result p.0 _ p.1
+
+pub returns-in_err-image-clause-rest : goal.returns-in_err-image-clause-rest
+returns-in_err-image-clause-rest g c = same-rest (parts c.args.c.now) (parts c.read_disk.new.self) c.read_disk.ensures.parts
+
+pub returns-in_err-lock_free-clause-stays : goal.returns-in_err-lock_free-clause-stays
+returns-in_err-lock_free-clause-stays g c =
+    subst (λ (r : Result (Unit {0}) Refusal). OnErr r (parts c.lock_free.new.self ≡ parts c.args.c.now))
+    (sym (err_from_is_err_and c.from_residual-in_err-lock_free.result c.from_residual-in_err-lock_free.ensures.1).1)
+    (c.in_err-lock_free.ensures.stays ∙ c.read_disk.ensures.parts)
+
+pub returns-in_err-lock_free-clause-untouched : goal.returns-in_err-lock_free-clause-untouched
+returns-in_err-lock_free-clause-untouched g c =
+    let p = err_from_is_err_and c.from_residual-in_err-lock_free.result c.from_residual-in_err-lock_free.ensures.1 in
+    none-done c.from_residual-in_err-lock_free.result p.0 _ p.1
+
+pub returns-in_err-lock_free-clause-pool : goal.returns-in_err-lock_free-clause-pool
+returns-in_err-lock_free-clause-pool g c =
+    let p = err_from_is_err_and c.from_residual-in_err-lock_free.result c.from_residual-in_err-lock_free.ensures.1 in
+    none-done c.from_residual-in_err-lock_free.result p.0 _ p.1
+
+pub returns-in_err-lock_free-clause-rest : goal.returns-in_err-lock_free-clause-rest
+returns-in_err-lock_free-clause-rest g c = same-rest (parts c.args.c.now) (parts c.lock_free.new.self)
+    (c.in_err-lock_free.ensures.stays ∙ c.read_disk.ensures.parts)
+
+-- the page is in the pool, behind the read
+placed : (i p : ℕ) (mode : Mode) (image : Page) (old mid new : Parts) → mid ≡ old
+    → new ≡ with_place i (with_page (pool_at mid i) p image) new.directory mid
+    → IsSet p (locked i mode) None mid.directory new.directory
+    → (new ≡ with_place i (with_page (pool_at old i) p image) new.directory old)
+    × IsSet p (locked i mode) None old.directory new.directory
+placed i p mode image old mid new read is set = (
+  is ∙ ap (λ (k : Parts). with_place i (with_page (pool_at k i) p image) new.directory k) read,
+  subst (λ (k : Parts). IsSet p (locked i mode) None k.directory new.directory) read set,
+)
+
+pub returns-clause-untouched : goal.returns-clause-untouched
+returns-clause-untouched g c =
+    let old : Parts = parts c.args.c.now in
+    let new : Parts = parts c.lock_free.new.self in
+    let lock = c.in_ok-lock_free.ensures in
+    let is = placed c.args.i c.args.p c.args.mode c.in_ok-image.image.value old (parts c.read_disk.new.self) new
+    c.read_disk.ensures.parts lock.parts lock.place in
+    placed-untouched (only c.args.i) c.args.i (with_page (pool_at old c.args.i) c.args.p c.in_ok-image.image.value) old new
+    c.keeps.ensures.low (eq-eqb c.args.i c.args.i refl) is.0
+    (set-recs c.args.p (locked c.args.i c.args.mode) old.directory new.directory is.1 (c.keeps-2.ensures.marked c.args.p)
+    (clean-locked c.args.i c.args.mode ∙ sym (ap changed c.requires.free)))
+
+pub returns-clause-pool : goal.returns-clause-pool
+returns-clause-pool g c =
+    let old : Parts = parts c.args.c.now in
+    let lock = c.in_ok-lock_free.ensures in
+    let image = c.in_ok-image.image.value in
+    let is = placed c.args.i c.args.p c.args.mode image old (parts c.read_disk.new.self) (parts c.lock_free.new.self)
+    c.read_disk.ensures.parts lock.parts lock.place in
+    ap (λ (k : Parts). pool_at k c.args.i) is.0
+    ∙ item-set no_pool old.pools c.args.i (with_page (pool_at old c.args.i) c.args.p image) c.keeps.ensures.low c.keeps.ensures.high
+    c.requires.fits.1.good.shape.pools
+    ∙ ap (λ (x : Page). with_page (pool_at old c.args.i) c.args.p x) c.in_ok-image.ensures.image
+
+pub returns-clause-rest : goal.returns-clause-rest
+returns-clause-rest g c =
+    let old : Parts = parts c.args.c.now in
+    let new : Parts = parts c.lock_free.new.self in
+    let lock = c.in_ok-lock_free.ensures in
+    let is = placed c.args.i c.args.p c.args.mode c.in_ok-image.image.value old (parts c.read_disk.new.self) new
+    c.read_disk.ensures.parts lock.parts lock.place in
+    pages-rest old new (subst (OnlyPages old) (sym is.0) refl)
+    (moved-lost c.args.p (locked c.args.i c.args.mode) old.directory new.directory is.1 (c.keeps-2.ensures.formed c.args.p)
+    (IsMove.lock c.args.i c.args.mode (ap is_free c.requires.free) refl))

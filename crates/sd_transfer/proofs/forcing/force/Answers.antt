@@ -6,6 +6,8 @@ use Rattle.sd_state.specs.Complexes.{parts}
 use Rattle.sd_state.specs.Parts.{status_at}
 use Rattle.sd_base.specs.Standing.{active_as}
 use Rattle.sd_world.specs.Serving.{telling}
+use Rattle.sd_fits.proofs.Resting.{rests-same}
+use Rattle.sd_transfer.proofs.Touched.{failed-alone}
 use Rattle.sd_transfer.proofs.Forces.{force-did, force-refused}
 use Rattle.sd_transfer.proofs.forcing.force.Goals as goal
 
@@ -29,3 +31,9 @@ pub returns-clause-down : goal.returns-clause-down
 returns-clause-down g c = λ e.
     subst (λ (r : Result (Unit {0}) Refusal). OnErr r (status_at (parts c.force_or_fall.new.c) c.args.i ≡ S.Down)) e
     c.force_or_fall.ensures.down
+
+pub returns-then-not-is_active-clause-rest : goal.returns-then-not-is_active-clause-rest
+returns-then-not-is_active-clause-rest g c = rests-same (parts c.args.c.now)
+
+pub returns-clause-refused : goal.returns-clause-refused
+returns-clause-refused g c = failed-alone c.force_or_fall.result _ c.force_or_fall.ensures.only

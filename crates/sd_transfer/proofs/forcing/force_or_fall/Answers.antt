@@ -3,14 +3,17 @@ use Rattle.sd_log.specs.Logs.{LogState, forced}
 use Rattle.sd_rig.specs.Devices.{LeavesSame}
 use Rattle.sd_chain.proofs.Kept.{forced-tail}
 use Rattle.sd_state.specs.Complexes.{parts}
-use Rattle.sd_state.specs.Parts.{Parts, is_loose, log_at, no_log, owed_at}
+use Rattle.sd_state.specs.Parts.{Parts, actor, is_loose, log_at, no_log, owed_at}
 use Rattle.sd_state.specs.Values.{Pending}
 use Rattle.sd_state.proofs.Items.{item-set}
 use Rattle.sd_fits.proofs.Falling.{fallen-down}
+use Rattle.sd_fits.specs.Untouched.{none_of, only}
 use Rattle.sd_moves.proofs.PutCalls.{not-err}
 use Rattle.sd_world.specs.Serving.{telling}
-use Rattle.sd_transfer.specs.Forcing.{OnlyLogs}
-use Rattle.sd_transfer.proofs.Forced.{force-due, force-fails, force-loose, force-spares, forced-logs, same-logs, was-err, was-settled}
+use Rattle.sd_transfer.specs.Forcing.{OnlyLogs, OthersKeepLogs}
+use Rattle.sd_transfer.proofs.Forced.{force-due, force-fails, force-loose, force-spares, forced-logs, forced-others, forced-ticks, idle-rig, same-logs, was-err, was-settled}
+use Rattle.sd_transfer.proofs.Rested.{fell-rests, logs-rest, of-log}
+use Rattle.sd_transfer.proofs.Touched.{force-touches, logs-untouched}
 use Rattle.sd_transfer.proofs.forcing.force_or_fall.Goals as goal
 
 pub down-requires-clause-good : goal.down-requires-clause-good
@@ -92,3 +95,48 @@ returns-then-is_err-clause-disk_leaves g c =
 
 pub returns-then-is_err-clause-down : goal.returns-then-is_err-clause-down
 returns-then-is_err-clause-down g c = search (rules, fallen-down)
+
+pub returns-clause-others : goal.returns-clause-others
+returns-clause-others g c = go (is_loose (parts c.args.c.now) c.args.i) refl
+  where
+    go : (b : Bool) → is_loose (parts c.args.c.now) c.args.i ≡ b
+        → OthersKeepLogs c.args.i (parts c.args.c.now) (parts c.force_log.new.self)
+    go true is = λ k ne. ap (λ (x : Parts). log_at x k) (c.force_log.ensures.loose is).0
+    go false is = forced-others c.args.i (forced (log_at (parts c.args.c.now) c.args.i))
+        (owed_at (parts c.force_log.new.self) c.args.i)
+        (parts c.args.c.now) (parts c.force_log.new.self) c.keeps.ensures.low
+        (not-err c.force_log.result _ c.if-is_err.ensures.value (c.force_log.ensures.forced is))
+
+pub returns-clause-untouched : goal.returns-clause-untouched
+returns-clause-untouched g c =
+    logs-untouched none_of none_of (parts c.args.c.now) (parts c.force_log.new.self) (returns-clause-stays g c)
+
+pub returns-clause-rest : goal.returns-clause-rest
+returns-clause-rest g c = logs-rest (parts c.args.c.now) (parts c.force_log.new.self) (returns-clause-stays g c)
+
+pub returns-clause-idle : goal.returns-clause-idle
+returns-clause-idle g c = idle-rig c.args.i (parts c.args.c.now) c.args.c.now.rig c.force_log.new.self.rig
+    (λ is. (c.force_log.ensures.loose is).1) (λ none. (c.force_log.ensures.idle none).1)
+
+pub returns-clause-tick : goal.returns-clause-tick
+returns-clause-tick g c = forced-ticks c.args.i (parts c.args.c.now) (g.G.Rig.moment c.args.c.now.rig)
+    (g.G.Rig.moment c.force_log.new.self.rig)
+    (λ is. ap (λ (d : g.row.G.Denot). g.G.Rig.moment d) (c.force_log.ensures.loose is).1)
+    (λ none. ap (λ (d : g.row.G.Denot). g.G.Rig.moment d) (c.force_log.ensures.idle none).1)
+    (λ is some. not-err c.force_log.result _ c.if-is_err.ensures.value (c.force_log.ensures.tick is some))
+
+pub returns-then-is_err-clause-untouched : goal.returns-then-is_err-clause-untouched
+returns-then-is_err-clause-untouched g c =
+    let old : Parts = parts c.args.c.now in
+    force-touches c.args.i (actor old c.args.i) old (parts c.force_log.new.self) (parts c.down.new.c) c.keeps.ensures.low
+    c.keeps.ensures.high c.requires.fits.1.good.shape.loose
+    (was-err c.force_log.result _ c.if-is_err.ensures.value c.force_log.ensures.failed) c.down.ensures.parts c.down.ensures.fallen
+
+pub returns-then-is_err-clause-rest : goal.returns-then-is_err-clause-rest
+returns-then-is_err-clause-rest g c = fell-rests c.args.i (only c.args.i) none_of (parts c.args.c.now) (parts c.down.new.c)
+    (returns-then-is_err-clause-untouched g c) c.requires.active c.keeps.ensures.high (of-log c.args.i)
+
+pub returns-then-is_err-clause-idle : goal.returns-then-is_err-clause-idle
+returns-then-is_err-clause-idle g c calls = c.down.ensures.rig
+    ∙ idle-rig c.args.i (parts c.args.c.now) c.args.c.now.rig c.force_log.new.self.rig
+    (λ is. (c.force_log.ensures.loose is).1) (λ none. (c.force_log.ensures.idle none).1) calls

@@ -13,8 +13,12 @@ use Rattle.sd_fits.specs.Serving.{Serving, fits_by, stands_for}
 use Rattle.sd_world.specs.Serving.{gave, telling}
 use Rattle.sd_world.proofs.Serving.{served-again}
 use Rattle.sd_transfer.specs.Giving.{IsForcedFor, IsUngiven}
+use Rattle.sd_fits.proofs.Resting.{rests-same, rests-then}
+use Rattle.sd_fits.specs.Untouched.{none_of, only}
 use Rattle.sd_transfer.proofs.Given.{forced-still, forced-then, give-breaks, give-refused, given-served, may-still}
+use Rattle.sd_transfer.proofs.Sent.{leaves-behind}
 use Rattle.sd_transfer.proofs.Told.{err-same, had-memory, not-refused}
+use Rattle.sd_transfer.proofs.Touched.{failed-so, failed-touches, none-done, refused-so, refused-touches, untouched-behind}
 use Rattle.sd_transfer.proofs.giving.give.Goals as goal
 
 pub returns-in_err-to-clause-served : goal.returns-in_err-to-clause-served
@@ -147,3 +151,81 @@ returns-clause-forced g c = forced-then (parts c.args.c.now) (parts c.force_owne
 
 pub returns-clause-down : goal.returns-clause-down
 returns-clause-down g c is = absurd (not-refused c.in_ok-to.to R.Failed is)
+
+-- ---- what no world has, and a recovery that is under way
+
+pub returns-in_err-to-clause-untouched : goal.returns-in_err-to-clause-untouched
+returns-in_err-to-clause-untouched g c =
+    let old : Parts = parts c.args.c.now in
+    let p = err_from_is_err_and c.from_residual.result c.from_residual.ensures.1 in
+    refused-touches c.args.j (only c.args.j) c.from_residual.result p.0 old old p.1
+    (λ e. subst (IsUngiven old c.args.j c.args.p) (sym p.2 ∙ e) c.in_err-to.ensures.refused) refl
+
+pub returns-in_err-to-clause-refused : goal.returns-in_err-to-clause-refused
+returns-in_err-to-clause-refused g c = refused-so c.from_residual.result _ (refl, refl)
+
+pub returns-in_err-to-clause-pools : goal.returns-in_err-to-clause-pools
+returns-in_err-to-clause-pools g c =
+    let p = err_from_is_err_and c.from_residual.result c.from_residual.ensures.1 in
+    none-done c.from_residual.result p.0 _ p.1
+
+pub returns-in_err-to-clause-rest : goal.returns-in_err-to-clause-rest
+returns-in_err-to-clause-rest g c = rests-same (parts c.args.c.now)
+
+pub returns-in_err-to-clause-tick : goal.returns-in_err-to-clause-tick
+returns-in_err-to-clause-tick g c =
+    let p = err_from_is_err_and c.from_residual.result c.from_residual.ensures.1 in
+    none-done c.from_residual.result p.0 _ p.1
+
+pub returns-in_err-force_owner-clause-untouched : goal.returns-in_err-force_owner-clause-untouched
+returns-in_err-force_owner-clause-untouched g c =
+    let p = err_from_is_err_and c.from_residual-in_err-force_owner.result c.from_residual-in_err-force_owner.ensures.1 in
+    failed-touches c.args.j (only c.args.j) none_of c.from_residual-in_err-force_owner.result c.in_err-force_owner.field-0.0
+    (parts c.args.c.now) (parts c.force_owner.new.c) (p.1 ∙ ap (λ (n : Refusal). Err n) p.2)
+    c.in_err-force_owner.ensures.only c.in_err-force_owner.ensures.untouched
+
+pub returns-in_err-force_owner-clause-refused : goal.returns-in_err-force_owner-clause-refused
+returns-in_err-force_owner-clause-refused g c =
+    let p = err_from_is_err_and c.from_residual-in_err-force_owner.result c.from_residual-in_err-force_owner.ensures.1 in
+    failed-so c.from_residual-in_err-force_owner.result c.in_err-force_owner.field-0.0 _ (p.1 ∙ ap (λ (n : Refusal). Err n) p.2)
+    c.in_err-force_owner.ensures.only
+
+pub returns-in_err-force_owner-clause-pools : goal.returns-in_err-force_owner-clause-pools
+returns-in_err-force_owner-clause-pools g c =
+    let p = err_from_is_err_and c.from_residual-in_err-force_owner.result c.from_residual-in_err-force_owner.ensures.1 in
+    none-done c.from_residual-in_err-force_owner.result p.0 _ p.1
+
+pub returns-in_err-force_owner-clause-rest : goal.returns-in_err-force_owner-clause-rest
+returns-in_err-force_owner-clause-rest g c = c.force_owner.ensures.rest
+
+pub returns-in_err-force_owner-clause-shared : goal.returns-in_err-force_owner-clause-shared
+returns-in_err-force_owner-clause-shared g c = c.force_owner.ensures.shared
+
+pub returns-in_err-force_owner-clause-idle : goal.returns-in_err-force_owner-clause-idle
+returns-in_err-force_owner-clause-idle g c = c.force_owner.ensures.idle
+
+pub returns-in_err-force_owner-clause-tick : goal.returns-in_err-force_owner-clause-tick
+returns-in_err-force_owner-clause-tick g c =
+    let p = err_from_is_err_and c.from_residual-in_err-force_owner.result c.from_residual-in_err-force_owner.ensures.1 in
+    none-done c.from_residual-in_err-force_owner.result p.0 _ p.1
+
+pub returns-clause-untouched : goal.returns-clause-untouched
+returns-clause-untouched g c = untouched-behind (only c.args.j) none_of (parts c.args.c.now) (parts c.force_owner.new.c)
+    (parts c.hand_over.new.c) c.in_ok-force_owner.ensures.stays c.hand_over.ensures.untouched
+
+pub returns-clause-pools : goal.returns-clause-pools
+returns-clause-pools g c = leaves-behind c.args.j c.args.p (parts c.args.c.now) (parts c.force_owner.new.c) (parts c.hand_over.new.c)
+    c.in_ok-force_owner.ensures.stays c.hand_over.ensures.pools
+
+pub returns-clause-rest : goal.returns-clause-rest
+returns-clause-rest g c = rests-then (parts c.args.c.now) (parts c.force_owner.new.c) (parts c.hand_over.new.c)
+    c.force_owner.ensures.rest c.hand_over.ensures.rest
+
+pub returns-clause-shared : goal.returns-clause-shared
+returns-clause-shared g c shares = c.hand_over.ensures.rig ∙ c.force_owner.ensures.shared shares
+
+pub returns-clause-idle : goal.returns-clause-idle
+returns-clause-idle g c calls = c.hand_over.ensures.rig ∙ c.force_owner.ensures.idle calls
+
+pub returns-clause-tick : goal.returns-clause-tick
+returns-clause-tick g c = ap (λ (d : g.row.G.Denot). g.G.Rig.moment d) c.hand_over.ensures.rig ∙ c.in_ok-force_owner.ensures.tick

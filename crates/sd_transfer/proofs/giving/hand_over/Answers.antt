@@ -12,6 +12,7 @@ use Rattle.sd_state.specs.Parts.{Parts, pool_at}
 use Rattle.sd_fits.proofs.Places.{frames-kept}
 use Rattle.sd_moves.specs.Passing.{may_set_out, with_sent}
 use Rattle.sd_transfer.specs.Paging.{OnlyPages}
+use Rattle.sd_transfer.proofs.Sent.{sent-leaves, sent-rests, sent-untouched}
 use Rattle.sd_transfer.proofs.Dropped.{given-dropped, given-sent, stays-alone, stays-shared}
 use Rattle.sd_transfer.proofs.giving.hand_over.Goals as goal
 
@@ -102,3 +103,30 @@ returns-else-may_set_out-clause-frames g c = c.drop_for.ensures.frames
 
 pub returns-else-may_set_out-clause-rig : goal.returns-else-may_set_out-clause-rig
 returns-else-may_set_out-clause-rig g c = c.drop_for.ensures.rig
+
+pub returns-then-may_set_out-clause-pools : goal.returns-then-may_set_out-clause-pools
+returns-then-may_set_out-clause-pools g c = sent-leaves c.args.mode c.args.p c.args.j c.args.to (parts c.args.c.now)
+    (parts c.move_copy.new.c) c.keeps.ensures.low c.move_copy.ensures.parts
+    (ap (may_set_out c.args.mode c.args.to) (sym c.entry.ensures) ∙ sym c.may_set_out.ensures ∙ c.if-may_set_out.true)
+    c.move_copy.ensures.place
+
+pub returns-then-may_set_out-clause-untouched : goal.returns-then-may_set_out-clause-untouched
+returns-then-may_set_out-clause-untouched g c = sent-untouched c.args.mode c.args.p c.args.j c.args.to (parts c.args.c.now)
+    (parts c.move_copy.new.c) c.keeps.ensures.low c.move_copy.ensures.parts
+    (ap (may_set_out c.args.mode c.args.to) (sym c.entry.ensures) ∙ sym c.may_set_out.ensures ∙ c.if-may_set_out.true)
+    c.move_copy.ensures.place (c.keeps-2.ensures.marked c.args.p)
+
+pub returns-then-may_set_out-clause-rest : goal.returns-then-may_set_out-clause-rest
+returns-then-may_set_out-clause-rest g c = sent-rests c.args.mode c.args.p c.args.j c.args.to (parts c.args.c.now)
+    (parts c.move_copy.new.c) c.keeps.ensures.low c.move_copy.ensures.parts
+    (ap (may_set_out c.args.mode c.args.to) (sym c.entry.ensures) ∙ sym c.may_set_out.ensures ∙ c.if-may_set_out.true)
+    c.move_copy.ensures.place (c.keeps-2.ensures.formed c.args.p) (returns-then-may_set_out-clause-pages g c)
+
+pub returns-else-may_set_out-clause-pools : goal.returns-else-may_set_out-clause-pools
+returns-else-may_set_out-clause-pools g c = c.drop_for.ensures.pools
+
+pub returns-else-may_set_out-clause-untouched : goal.returns-else-may_set_out-clause-untouched
+returns-else-may_set_out-clause-untouched g c = c.drop_for.ensures.untouched
+
+pub returns-else-may_set_out-clause-rest : goal.returns-else-may_set_out-clause-rest
+returns-else-may_set_out-clause-rest g c = c.drop_for.ensures.rest

@@ -1,12 +1,18 @@
-use Rattle.std.proofs.Common.{◌≡◌, inl, inr, ap, ◌∙◌, subst, rules}
+use Rattle.std.proofs.Common.{◌≡◌, false, inl, inr, refl, ap, ◌∙◌, subst, rules}
 use Rattle.sd_model.specs.declared.event.Event.TheVariants.{Flush}
 use Rattle.sd_fits.proofs.Falling.{fallen-down}
-use Rattle.sd_moves.specs.Putting.{left_after}
+use Rattle.sd_fits.specs.Untouched.{none_of, only}
+use Rattle.sd_moves.specs.Putting.{left_after, with_loose_disk}
 use Rattle.sd_moves.specs.declared.writing.Unput.{Unput}
 use Rattle.sd_state.specs.Complexes.{parts}
-use Rattle.sd_state.specs.Parts.{Parts}
+use Rattle.sd_pagelock.specs.Directory.{entry_at}
+use Rattle.sd_pagelock.specs.Moves.{IsMove}
+use Rattle.sd_pagelock.specs.Rows.{written}
+use Rattle.sd_state.specs.Parts.{Parts, is_loose}
 use Rattle.sd_state.specs.Values.{Pending}
 use Rattle.sd_world.specs.Serving.{telling}
+use Rattle.sd_transfer.proofs.Rested.{fell-rests, moved-lost, of-disk, settled-rest, written-rest}
+use Rattle.sd_transfer.proofs.Touched.{put-so, put-ticks, put-touches, same-untouched}
 use Rattle.sd_transfer.proofs.Unput.{unread-served, unwritten-served}
 use Rattle.sd_transfer.proofs.Writes.{flush-breaks, put-served, put-stands}
 use Rattle.sd_transfer.proofs.writing.put_or_fall.Goals as goal
@@ -74,3 +80,50 @@ returns-in-Err-Unread-clause-failed g c = λ e.
 
 pub returns-in-Err-Unwritten-clause-failed : goal.returns-in-Err-Unwritten-clause-failed
 returns-in-Err-Unwritten-clause-failed g c = λ e. inl (search (rules, fallen-down))
+
+-- ---- what no world has, and a recovery that is under way
+
+pub returns-in-Ok-clause-put : goal.returns-in-Ok-clause-put
+returns-in-Ok-clause-put g c =
+    put-so c.args.p (parts c.args.c.now) (parts c.put_page.new.c) c.in-Ok.ensures.written c.in-Ok.ensures.place c.requires.changed
+
+pub returns-in-Ok-clause-rest : goal.returns-in-Ok-clause-rest
+returns-in-Ok-clause-rest g c =
+    let old : Parts = parts c.args.c.now in
+    written-rest old (parts c.put_page.new.c) c.requires.fits.1.good.shape.loose c.in-Ok.ensures.written
+    (moved-lost c.args.p (written (entry_at old.directory c.args.p)) old.directory (parts c.put_page.new.c).directory
+    c.in-Ok.ensures.place (c.keeps-2.ensures.formed c.args.p) (IsMove.write c.requires.changed refl))
+
+pub returns-in-Ok-clause-tick : goal.returns-in-Ok-clause-tick
+returns-in-Ok-clause-tick g c = put-ticks (is_loose (parts c.args.c.now) 0) (g.G.Rig.moment c.args.c.now.rig)
+    (g.G.Rig.moment c.put_page.new.c.rig) c.in-Ok.ensures.tick c.in-Ok.ensures.tock
+
+pub returns-in-Err-Unread-clause-unput : goal.returns-in-Err-Unread-clause-unput
+returns-in-Err-Unread-clause-unput g c =
+    let old : Parts = parts c.args.c.now in
+    inl (same-untouched none_of none_of (with_loose_disk false old) (parts c.put_page.new.c)
+    (subst (λ (e : Unput). parts c.put_page.new.c ≡ left_after e old) c.in-Err-Unread.field-0-is c.in-Err-Unread.ensures.errors))
+
+pub returns-in-Err-Unread-clause-rest : goal.returns-in-Err-Unread-clause-rest
+returns-in-Err-Unread-clause-rest g c =
+    let old : Parts = parts c.args.c.now in
+    settled-rest old (parts c.put_page.new.c) c.requires.fits.1.good.shape.loose
+    (subst (λ (e : Unput). parts c.put_page.new.c ≡ left_after e old) c.in-Err-Unread.field-0-is c.in-Err-Unread.ensures.errors)
+
+pub returns-in-Err-Unwritten-clause-unput : goal.returns-in-Err-Unwritten-clause-unput
+returns-in-Err-Unwritten-clause-unput g c =
+    let old : Parts = parts c.args.c.now in
+    inr (put-touches c.args.i old (parts c.put_page.new.c) (parts c.down.new.c) c.keeps.ensures.low
+    c.requires.fits.1.good.shape.loose
+    (subst (λ (e : Unput). parts c.put_page.new.c ≡ left_after e old) c.in-Err-Unwritten.field-0-is c.in-Err-Unwritten.ensures.errors)
+    c.down.ensures.parts c.down.ensures.fallen)
+
+pub returns-in-Err-Unwritten-clause-rest : goal.returns-in-Err-Unwritten-clause-rest
+returns-in-Err-Unwritten-clause-rest g c =
+    let old : Parts = parts c.args.c.now in
+    fell-rests c.args.i (only 0) none_of old (parts c.down.new.c)
+    (put-touches c.args.i old (parts c.put_page.new.c) (parts c.down.new.c) c.keeps.ensures.low
+    c.requires.fits.1.good.shape.loose
+    (subst (λ (e : Unput). parts c.put_page.new.c ≡ left_after e old) c.in-Err-Unwritten.field-0-is c.in-Err-Unwritten.ensures.errors)
+    c.down.ensures.parts c.down.ensures.fallen)
+    c.requires.may.active c.keeps.ensures.high (of-disk c.args.i)

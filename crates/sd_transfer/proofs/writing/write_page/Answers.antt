@@ -1,12 +1,15 @@
-use Rattle.std.proofs.Common.{◌≡◌, ◌⊎◌, inl, inr, false, sym, ap, ◌∙◌, subst}
+use Rattle.std.proofs.Common.{◌≡◌, ◌⊎◌, ◌+◌, Bool, cond, inl, inr, false, refl, sym, ap, ◌∙◌, subst}
 use Rattle.std.specs.Prelude.{Result, Err}
 use Rattle.std.proofs.lemmas.Result.{err_from_is_err_and}
 use Rattle.sd_base.specs.declared.place.Status.TheVariants as S
 use Rattle.sd_base.specs.declared.refusal.Refusal.{Refusal}
 use Rattle.sd_base.specs.declared.refusal.Refusal.TheVariants as R
 use Rattle.sd_model.specs.declared.event.Event.TheVariants.{Flush}
-use Rattle.sd_pagelock.specs.Directory.{entry_at}
-use Rattle.sd_pagelock.specs.Places.{is_lost}
+use Rattle.sd_base.proofs.Results.{on_err, on_ok}
+use Rattle.sd_fits.proofs.Refused.{unlike}
+use Rattle.sd_fits.proofs.Resting.{rests-same, rests-then}
+use Rattle.sd_pagelock.specs.Directory.{entry_at, rec_lsn_at}
+use Rattle.sd_pagelock.specs.Places.{changed, is_lost}
 use Rattle.sd_pagelock.specs.Rows as rows
 use Rattle.sd_state.specs.Complexes.{parts}
 use Rattle.sd_moves.specs.Putting.{with_loose_disk}
@@ -16,7 +19,9 @@ use Rattle.sd_fits.specs.Serving.{Serving, fits_by, stands_for}
 use Rattle.sd_world.specs.Pages.{is_duty}
 use Rattle.sd_world.specs.Serving.{did, telling}
 use Rattle.sd_world.proofs.Serving.{served-again}
-use Rattle.sd_transfer.specs.Writing.{IsUnread, StaysUnwritten}
+use Rattle.sd_transfer.specs.Forcing.{force_calls}
+use Rattle.sd_transfer.specs.Writing.{IsUnread, StaysUnwritten, put_calls, write_calls}
+use Rattle.sd_transfer.proofs.Touched.{failed-alone, failed-so, failed-writes, none-done, none-marked, put-behind, put-writes, refused-so, refused-writes, unput-behind, write-ticks}
 use Rattle.sd_transfer.proofs.Settled.{settled-page}
 use Rattle.sd_transfer.proofs.Unput.{unread-behind}
 use Rattle.sd_transfer.proofs.Writes.{clean-served, clean-unchanged, flush-breaks, flush-refused}
@@ -117,3 +122,94 @@ returns-clause-failed g c = λ e. fails (c.put_or_fall.ensures.failed e)
     fails (inl down) = inl down
     fails (inr same) = inr (unread-behind c.args.i (parts c.args.c.now) (parts c.force_or_fall.new.c) (parts c.put_or_fall.new.c)
         c.in_ok-force_or_fall.ensures.stays c.in_ok-force_or_fall.ensures.forced same)
+
+-- ---- a page that isn't changed, what no world has, and a recovery that is under way
+
+pub returns-in_err-may_put-clause-refused : goal.returns-in_err-may_put-clause-refused
+returns-in_err-may_put-clause-refused g c = refused-so c.from_residual.result _ (refl, refl)
+
+pub returns-in_err-may_put-clause-untouched : goal.returns-in_err-may_put-clause-untouched
+returns-in_err-may_put-clause-untouched g c =
+    let old : Parts = parts c.args.c.now in
+    let p = err_from_is_err_and c.from_residual.result c.from_residual.ensures.1 in
+    refused-writes c.args.i c.args.p c.from_residual.result p.0 old p.1
+    (λ e. subst (StaysUnwritten old c.args.i c.args.p) (sym p.2 ∙ e) c.in_err-may_put.ensures.refused)
+
+pub returns-in_err-may_put-clause-rest : goal.returns-in_err-may_put-clause-rest
+returns-in_err-may_put-clause-rest g c = rests-same (parts c.args.c.now)
+
+pub returns-in_err-may_put-clause-tick : goal.returns-in_err-may_put-clause-tick
+returns-in_err-may_put-clause-tick g c =
+    let p = err_from_is_err_and c.from_residual.result c.from_residual.ensures.1 in
+    none-done c.from_residual.result p.0 _ p.1
+
+pub returns-then-not-is_changed-clause-untouched : goal.returns-then-not-is_changed-clause-untouched
+returns-then-not-is_changed-clause-untouched g c =
+    let old : Parts = parts c.args.c.now in
+    inl (
+      none-marked (rec_lsn_at old.directory c.args.p) (changed (entry_at old.directory c.args.p)) (c.keeps-2.ensures.marked c.args.p)
+          (clean-unchanged c.args.i (entry_at old.directory c.args.p) c.in_ok-may_put.ensures.may.duty
+          (sym c.is_changed.ensures ∙ c.if-not-is_changed.true)),
+      refl,
+    )
+
+pub returns-then-not-is_changed-clause-rest : goal.returns-then-not-is_changed-clause-rest
+returns-then-not-is_changed-clause-rest g c = rests-same (parts c.args.c.now)
+
+pub returns-in_err-force_or_fall-clause-clean : goal.returns-in_err-force_or_fall-clause-clean
+returns-in_err-force_or_fall-clause-clean g c clean = unlike clean (sym c.is_changed.ensures ∙ c.if-not-is_changed.false)
+
+pub returns-in_err-force_or_fall-clause-refused : goal.returns-in_err-force_or_fall-clause-refused
+returns-in_err-force_or_fall-clause-refused g c =
+    let p = err_from_is_err_and c.from_residual-in_err-force_or_fall.result c.from_residual-in_err-force_or_fall.ensures.1 in
+    failed-so c.from_residual-in_err-force_or_fall.result c.in_err-force_or_fall.field-0.0 _
+    (p.1 ∙ ap (λ (n : Refusal). Err n) p.2) c.in_err-force_or_fall.ensures.only
+
+pub returns-in_err-force_or_fall-clause-untouched : goal.returns-in_err-force_or_fall-clause-untouched
+returns-in_err-force_or_fall-clause-untouched g c =
+    let p = err_from_is_err_and c.from_residual-in_err-force_or_fall.result c.from_residual-in_err-force_or_fall.ensures.1 in
+    failed-writes c.args.i c.args.p c.from_residual-in_err-force_or_fall.result c.in_err-force_or_fall.field-0.0
+    (parts c.args.c.now) (parts c.force_or_fall.new.c) (p.1 ∙ ap (λ (n : Refusal). Err n) p.2)
+    c.in_err-force_or_fall.ensures.only c.in_err-force_or_fall.ensures.untouched
+
+pub returns-in_err-force_or_fall-clause-rest : goal.returns-in_err-force_or_fall-clause-rest
+returns-in_err-force_or_fall-clause-rest g c = c.force_or_fall.ensures.rest
+
+pub returns-in_err-force_or_fall-clause-tick : goal.returns-in_err-force_or_fall-clause-tick
+returns-in_err-force_or_fall-clause-tick g c =
+    let p = err_from_is_err_and c.from_residual-in_err-force_or_fall.result c.from_residual-in_err-force_or_fall.ensures.1 in
+    none-done c.from_residual-in_err-force_or_fall.result p.0 _ p.1
+
+pub returns-clause-clean : goal.returns-clause-clean
+returns-clause-clean g c clean = unlike clean (sym c.is_changed.ensures ∙ c.if-not-is_changed.false)
+
+pub returns-clause-refused : goal.returns-clause-refused
+returns-clause-refused g c = failed-alone c.put_or_fall.result _ c.put_or_fall.ensures.only
+
+pub returns-clause-untouched : goal.returns-clause-untouched
+returns-clause-untouched g c =
+    let old : Parts = parts c.args.c.now in
+    let mid : Parts = parts c.force_or_fall.new.c in
+    let new : Parts = parts c.put_or_fall.new.c in
+    let force = c.in_ok-force_or_fall.ensures in
+    put-writes c.args.i c.args.p c.put_or_fall.result old new c.put_or_fall.ensures.only
+    (on_ok c.put_or_fall.result _ _ (λ put. put-behind c.args.p old mid new force.stays put) c.put_or_fall.ensures.put)
+    (on_err c.put_or_fall.result _ _ (λ unput. unput-behind c.args.i old mid new force.stays force.others force.forced unput)
+    c.put_or_fall.ensures.unput)
+
+pub returns-clause-rest : goal.returns-clause-rest
+returns-clause-rest g c = rests-then (parts c.args.c.now) (parts c.force_or_fall.new.c) (parts c.put_or_fall.new.c)
+    c.force_or_fall.ensures.rest c.put_or_fall.ensures.rest
+
+pub returns-clause-tick : goal.returns-clause-tick
+returns-clause-tick g c =
+    let old : Parts = parts c.args.c.now in
+    let mid : Parts = parts c.force_or_fall.new.c in
+    let force = c.in_ok-force_or_fall.ensures in
+    on_ok c.put_or_fall.result _ _
+    (λ put. write-ticks (g.G.Rig.moment c.args.c.now.rig) (g.G.Rig.moment c.force_or_fall.new.c.rig)
+    (g.G.Rig.moment c.put_or_fall.new.c.rig) (force_calls c.args.i old) (put_calls mid) (write_calls c.args.i c.args.p old)
+    force.tick put
+    (ap (λ (b : Bool). cond b (force_calls c.args.i old + put_calls old) 0) (sym c.is_changed.ensures ∙ c.if-not-is_changed.false)
+    ∙ ap (λ (b : Bool). force_calls c.args.i old + cond b 7 6) (sym (ap (λ (k : Parts). is_loose k 0) force.stays))))
+    c.put_or_fall.ensures.tick

@@ -2,6 +2,7 @@ use Rattle.std.proofs.Common.{◌+◌, ◌≤◌, List, [], ◌∷◌, ◌++◌,
 use Rattle.std.proofs.lemmas.Result.{err_from_is_err_and}
 use Rattle.sd_model.specs.declared.event.Entry.{Entry}
 use Rattle.sd_model.specs.declared.event.Reply.{Reply}
+use Rattle.sd_model.specs.declared.event.Reply.TheVariants as reply
 use Rattle.sd_world.specs.Serving.{Telling, telling}
 use Rattle.sd_state.specs.declared.complex.Shape.{Shape}
 use Rattle.sd_hall.specs.Bodies.{IsAwaited, IsAwaitedIn, IsWorked, IsWorkedIn, ServesIn, fits_in}
@@ -112,11 +113,20 @@ returns-clause-works g c = λ r again.
     let other : Entry = record { session = c.args.session; line = c.args.line; event = c.args.e; reply = r } in
     let noted = c.note.ensures.entries ∙ ap (λ (es : List Entry). es ++ entry ∷ [])
     (ap (λ b. b.entries) c.turn.ensures.book ∙ c.take_place.ensures.entries) in
-    let works = subst (λ b. IsWorkedIn c.args.e (Some c.turn.new.answer) b c.turn.new.self.body) c.take_place.ensures.body
+    let works = subst (λ b. IsWorkedIn g.G.Rig.seen c.args.e (Some c.turn.new.answer) b c.turn.new.self.body) c.take_place.ensures.body
     c.in_ok-turn.ensures.works in
-    subst (λ (x : Reply). IsWorked c.args.e x c.args.self.now.body c.turn.new.self.body)
+    subst (λ (x : Reply). IsWorked g.G.Rig.seen c.args.e x c.args.self.now.body c.turn.new.self.body)
     (same-reply c.note.new.self.entries c.args.self.now.book.entries entry other noted again)
-    (worked-of c.args.e c.turn.new.answer c.args.self.now.body c.turn.new.self.body works)
+    (worked-of g.G.Rig.seen c.args.e c.turn.new.answer c.args.self.now.body c.turn.new.self.body works)
+
+pub returns-clause-reopens : goal.returns-clause-reopens
+returns-clause-reopens g c = λ again is.
+    let entry : Entry = record { session = c.args.session; line = c.args.line; event = c.args.e; reply = c.turn.new.answer } in
+    let other : Entry = record { session = c.args.session; line = c.args.line; event = c.args.e; reply = reply.Did } in
+    let noted = c.note.ensures.entries ∙ ap (λ (es : List Entry). es ++ entry ∷ [])
+    (ap (λ b. b.entries) c.turn.ensures.book ∙ c.take_place.ensures.entries) in
+    c.in_ok-turn.ensures.reopens is (ap (λ (r : Reply). Some r)
+    (same-reply c.note.new.self.entries c.args.self.now.book.entries entry other noted again))
 
 pub returns-clause-opening : goal.returns-clause-opening
 returns-clause-opening g c =

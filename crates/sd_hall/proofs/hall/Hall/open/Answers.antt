@@ -6,7 +6,7 @@ use Rattle.sd_world.specs.Leading.{Leads}
 use Rattle.sd_world.specs.Serving.{Telling, telling}
 use Rattle.sd_fits.specs.Opened.{opening_core}
 use Rattle.sd_hall.proofs.Opening.{opened-on, opening-fits}
-use Rattle.sd_hall.proofs.LedgerOpening.{opening-owes}
+use Rattle.sd_hall.proofs.LedgerOpening.{opening-few, opening-owes}
 use Rattle.sd_hall.proofs.hall.Hall.open.Goals as goal
 
 pub returns-clause-keeps : goal.returns-clause-keeps
@@ -27,6 +27,7 @@ returns-clause-keeps g c =
       frames = refl;
       least = c.requires.least;
       most = c.requires.most;
+      few = opening-few (g.G.Rig.seen old);
       counted = omega (arith, none);
       room = omega arith;
     }

@@ -1,6 +1,6 @@
 use Rattle.std.proofs.Common.{Some, refl, sym, subst}
 use Rattle.sd_world.specs.Serving.{Telling, telling}
-use Rattle.sd_hall.specs.Bodies.{AwaitsIn, HasWorkedIn, ServesIn, fits_in}
+use Rattle.sd_hall.specs.Bodies.{AwaitsIn, IsWorked, ServesIn, fits_in}
 use Rattle.sd_hall.specs.Served.{told_in}
 use Rattle.sd_hall.proofs.Bodies.{neither}
 use Rattle.sd_hall.proofs.hall.Hall.turn.Goals as goal
@@ -26,7 +26,8 @@ returns-in-Some g c =
       there = done.there;
       down = done.down;
       awaits = λ i place is needs. subst (λ b. AwaitsIn i b) (sym c.in-Some.is) (done.awaits i place is needs);
-      works = λ i is step. subst (λ b. HasWorkedIn i b (Some c.serve_body.new.body)) (sym c.in-Some.is) (done.works i is step);
+      works = λ r told. subst (λ b. IsWorked g.G.Rig.seen c.args.e.now r b (Some c.serve_body.new.body)) (sym c.in-Some.is) (done.works r told);
+      reopens = λ is did. absurd (c.in_default.not-Reopen is);
       book = refl;
       shape = refl;
       owed = refl;
