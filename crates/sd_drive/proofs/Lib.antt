@@ -7,10 +7,12 @@ pub mod Undoing
 pub mod Tables
 pub mod Joining
 pub mod Recovering
+pub mod RecoveringOne
 pub mod Replays
 mod Risen
 mod Example
 mod Restarts
+mod SurvivorExample
 pub mod Finding
 pub mod Pools
 mod Openings
@@ -24,6 +26,7 @@ pub mod Telling
 pub mod Needs
 pub mod Rooms
 pub mod Running
+pub mod Ways
 pub mod Marks
 pub mod Steps
 pub mod Answering

@@ -30,6 +30,7 @@ use Rattle.sd_drive.specs.Running.{Start}
 pub plain-single : (f : Form) → IsPlain f → way_of f ≡ Way.Single
 plain-single form.Table plain = absurd plain
 plain-single form.RecoverAll plain = absurd plain
+plain-single (form.Recover inst by most) plain = absurd plain
 plain-single form.JoinAll plain = absurd plain
 plain-single f plain = refl
 
@@ -53,15 +54,16 @@ once-ends w known line reply.Did single = ap (λ (b : Bool). cond {A = Option Cu
 once-ends w known line r single = refl
 
 pub plain-else : (f : Form) → ((inst : ℕ) (name : List ℕ) → f ≡ form.Begin inst name → ⊥) → (f ≡ form.Table → ⊥)
-    → (f ≡ form.RecoverAll → ⊥) → (f ≡ form.JoinAll → ⊥)
+    → ((inst by : ℕ) (most : Option ℕ) → f ≡ form.Recover inst by most → ⊥) → (f ≡ form.RecoverAll → ⊥) → (f ≡ form.JoinAll → ⊥)
     → ((name : List ℕ) (o : ℕ) (mark : List ℕ) → f ≡ form.Back name o mark → ⊥) → ((name : List ℕ) (o : ℕ) → f ≡ form.Rollback name o → ⊥) → IsPlain f
-plain-else (form.Begin inst name) begin table recover join back rollback = begin inst name refl
-plain-else form.Table begin table recover join back rollback = table refl
-plain-else form.RecoverAll begin table recover join back rollback = recover refl
-plain-else form.JoinAll begin table recover join back rollback = join refl
-plain-else (form.Back name o mark) begin table recover join back rollback = back name o mark refl
-plain-else (form.Rollback name o) begin table recover join back rollback = rollback name o refl
-plain-else f begin table recover join back rollback = tt
+plain-else (form.Begin inst name) begin table one recover join back rollback = begin inst name refl
+plain-else form.Table begin table one recover join back rollback = table refl
+plain-else (form.Recover inst by most) begin table one recover join back rollback = one inst by most refl
+plain-else form.RecoverAll begin table one recover join back rollback = recover refl
+plain-else form.JoinAll begin table one recover join back rollback = join refl
+plain-else (form.Back name o mark) begin table one recover join back rollback = back name o mark refl
+plain-else (form.Rollback name o) begin table one recover join back rollback = rollback name o refl
+plain-else f begin table one recover join back rollback = tt
 
 -- a driver with the same transactions knows as much
 pub knows-as : {G : Type 0} (lines : List Line) (n : ℕ) (old new : Driver G) (known : Known) → IsSame old new → new.txns ≡ old.txns
@@ -226,6 +228,8 @@ is-served names (form.Fuse k) e is = subst IsServed (this (event.Arm (Trouble.Fu
 is-served names (form.Fault k) e is = subst IsServed (this (event.Arm (Trouble.Fault k)) e is) tt
 is-served names (form.FailAll pick) e is = subst IsServed (this (event.FailAll pick) e is) tt
 is-served names form.Reopen e is = subst IsServed (this event.Reopen e is) tt
+is-served names (form.Recover i by most) e is = absurd (cc)
+is-served names (form.Join i) e is = subst IsServed (this (event.Join i) e is) tt
 is-served names form.RecoverAll e is = absurd (cc)
 is-served names form.JoinAll e is = absurd (cc)
 is-served names (form.Where p) e is = subst IsServed (this (event.Show p) e is) tt
@@ -262,6 +266,8 @@ is-named names (form.Fuse k) e is = subst IsNamed (this (event.Arm (Trouble.Fuse
 is-named names (form.Fault k) e is = subst IsNamed (this (event.Arm (Trouble.Fault k)) e is) refl
 is-named names (form.FailAll pick) e is = subst IsNamed (this (event.FailAll pick) e is) refl
 is-named names form.Reopen e is = subst IsNamed (this event.Reopen e is) refl
+is-named names (form.Recover i by most) e is = absurd (cc)
+is-named names (form.Join i) e is = subst IsNamed (this (event.Join i) e is) refl
 is-named names form.RecoverAll e is = absurd (cc)
 is-named names form.JoinAll e is = absurd (cc)
 is-named names (form.Where p) e is = subst IsNamed (this (event.Show p) e is) refl

@@ -21,6 +21,7 @@ use Rattle.sd_drive.specs.Pulls.{Pull, Puller, helped, is_pulling}
 use Rattle.sd_drive.specs.Running.{Breaks, FaultsOf, Start}
 use Rattle.sd_model.specs.Replies.{is_failed}
 use Rattle.sd_drive.proofs.Running.{fault-grows, ran-breaks, rises-then}
+use Rattle.sd_drive.proofs.Ways.{runs-way}
 
 pub failed-is : (r : Reply) → is_failed r ≡ true → r ≡ reply.Refused R.Failed
 failed-is (reply.Refused R.Failed) failed = refl
@@ -144,4 +145,5 @@ breaks-there {G} tell start hall w i failed seen rig is =
     let here : rig_of i.body ≡ rig = subst (λ (b : Option (Body G)). IsRigIn rig b) i.is is in
     subst (λ (d : G). Breaks tell start d) here
     (ran-breaks tell start hall.book.entries w i.body (seen (rig_of i.body)) i.ran failed
-    (faults-last hall.book.entries (tell.faults start.rig) (tell.faults (rig_of i.body)) (i.marks.told failed) i.ran.runs.faults))
+    (faults-last hall.book.entries (tell.faults start.rig) (tell.faults (rig_of i.body)) (i.marks.told failed)
+    (runs-way tell start (rig_of i.body) hall.book.entries w i.ran.runs).faults))

@@ -63,20 +63,20 @@ abbrev opening : Progress
 opening = untold 2 1 []
 
 abbrev o1 : Progress
-o1 = stays opening Work.Opening [] (Cursor.Steps 1) Pull.Idle
+o1 = stays opening Work.Opening [] (Cursor.Steps 1 None) Pull.Idle
 
 opens1 : Tells (core S.Down S.Clean none) (core (S.Recovering 1) S.Clean none) opening (helps (event.RecoverBegin 1 1) reply.Did) o1
 opens1 = (refl, (refl, refl, refl, refl))
 
 abbrev o2 : Progress
-o2 = stays o1 Work.Opening [] (Cursor.Steps 1) (Pull.Asks 0)
+o2 = stays o1 Work.Opening [] (Cursor.Steps 1 None) (Pull.Asks 0)
 
 opens2 : Tells (core (S.Recovering 1) S.Clean none) (core (S.Recovering 1) S.Clean none) o1
     (helps (event.RecoverStep 1) (reply.Refused (R.NeedPage places.Free))) o2
 opens2 = (refl, (refl, refl, refl, inl (refl, refl, (0, needed S.Clean, refl))))
 
 abbrev o3 : Progress
-o3 = stays o2 Work.Opening [] (Cursor.Steps 1) Pull.Idle
+o3 = stays o2 Work.Opening [] (Cursor.Steps 1 None) Pull.Idle
 
 opens3 : Tells (core (S.Recovering 1) S.Clean none) (core (S.Recovering 1) S.Clean (page false)) o2 (helps (event.Ask 1 0 modes.Excl) reply.Have) o3
 opens3 = (refl, (refl, refl, refl, refl))
@@ -195,7 +195,7 @@ up-keeps = refl
 
 -- where the ask finds no frame to be had, the step is refused once more, and the opening goes on
 abbrev vain : Progress
-vain = stays o2 Work.Opening [] (Cursor.Steps 1) Pull.Ends
+vain = stays o2 Work.Opening [] (Cursor.Steps 1 None) Pull.Ends
 
 goes-on : Tells (core (S.Recovering 1) S.Clean none) (core (S.Recovering 1) S.Clean none) vain
     (helps (event.RecoverStep 1) (reply.Refused (R.NeedPage places.Free))) o5

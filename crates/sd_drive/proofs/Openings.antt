@@ -106,7 +106,7 @@ module _ {G : Type 0} (tell : Telling G) (old : Rise G) (i : ℕ) (low : 1 ≤ i
 
   -- or it is, and its recovery begins
   restart-due : is_down (status_in old.hall.body i) ≡ true
-      → IsDueOf opening-owner Work.Opening (works_of lines) (Cursor.Recovers i) (event.RecoverBegin i i) w
+      → IsDueOf opening-owner Work.Opening (works_of lines) (Cursor.Recovers i i None) (event.RecoverBegin i i) w
   restart-due down = record {
     stands = record {
       known_is = refl;
@@ -151,7 +151,7 @@ module _ {G : Type 0} (tell : Telling G) (old : Rise G) (i : ℕ) (low : 1 ≤ i
         },
       )
       go (Some j) is = (
-        record { told = stays w.told Work.Opening (works_of lines) (Cursor.Recovers j) Pull.Idle; core = gone.core },
+        record { told = stays w.told Work.Opening (works_of lines) (Cursor.Recovers j j None) Pull.Idle; core = gone.core },
         record {
           there = there (Some j) is;
           known = known_is;
@@ -171,7 +171,7 @@ module _ {G : Type 0} (tell : Telling G) (old : Rise G) (i : ℕ) (low : 1 ≤ i
   restart-not stands start w lines at = (w, restart-past tell old i low high start w lines at stands)
 
   module _ (down : is_down (status_in old.hall.body i) ≡ true) where
-    pub restart-in : IsRestarting tell old i → DueOf tell old.hall opening-owner (Cursor.Recovers i) (event.RecoverBegin i i)
+    pub restart-in : IsRestarting tell old i → DueOf tell old.hall opening-owner (Cursor.Recovers i i None) (event.RecoverBegin i i)
     restart-in a = record {
       start = a.start;
       world = a.world;
@@ -182,27 +182,34 @@ module _ {G : Type 0} (tell : Telling G) (old : Rise G) (i : ℕ) (low : 1 ≤ i
     }
 
     module _ (new : Rise G) where
-      pub restart-some : DoesSome tell old.hall new.hall opening-owner (Cursor.Recovers i) (event.RecoverBegin i i) → RestartsSome tell old new i
+      pub restart-some : DoesSome tell old.hall new.hall opening-owner (Cursor.Recovers i i None) (event.RecoverBegin i i) → RestartsSome tell old new i
       restart-some some start w lines at =
           some start w Work.Opening (works_of lines) at.there (restart-due tell old i low high start w lines at down)
 
-      pub restart-broken : RecoversTo tell old.hall new.hall opening-owner i outcomes.Broken → RestartBreaks tell old new i
+      pub restart-broken : RecoversTo tell old.hall new.hall opening-owner i i None outcomes.Broken → RestartBreaks tell old new i
       restart-broken to start w lines at =
           let h = to start w Work.Opening (works_of lines) at.there (restart-due tell old i low high start w lines at down) in (h.world, h.there, h.failed)
 
       module _ (same : IsSame old new) where
-        restart-ended : RecoversTo tell old.hall new.hall opening-owner i outcomes.Ended → Restarts tell old new i (i + 1)
+        restart-ended : RecoversTo tell old.hall new.hall opening-owner i i None outcomes.Ended → Restarts tell old new i (i + 1)
         restart-ended to start w lines at = restart-on tell old i low high start w lines at new same true
             (to start w Work.Opening (works_of lines) at.there (restart-due tell old i low high start w lines at down))
 
-        restart-refused : RecoversTo tell old.hall new.hall opening-owner i outcomes.Refused → Restarts tell old new i (i + 1)
+        restart-refused : RecoversTo tell old.hall new.hall opening-owner i i None outcomes.Refused → Restarts tell old new i (i + 1)
         restart-refused to start w lines at = restart-on tell old i low high start w lines at new same false
             (to start w Work.Opening (works_of lines) at.there (restart-due tell old i low high start w lines at down))
 
-        pub restart-then : (how : Outcome) → (how ≡ outcomes.Broken → ⊥) → RecoversTo tell old.hall new.hall opening-owner i how
+        -- no number of steps bounds it
+        restart-part : RecoversTo tell old.hall new.hall opening-owner i i None outcomes.Part → Restarts tell old new i (i + 1)
+        restart-part to start w lines at =
+            let part = to start w Work.Opening (works_of lines) at.there (restart-due tell old i low high start w lines at down) in
+            let clash : false ≡ true = part.bounded in absurd (cc)
+
+        pub restart-then : (how : Outcome) → (how ≡ outcomes.Broken → ⊥) → RecoversTo tell old.hall new.hall opening-owner i i None how
             → Restarts tell old new i (i + 1)
         restart-then outcomes.Ended isnt to = restart-ended to
         restart-then outcomes.Refused isnt to = restart-refused to
+        restart-then outcomes.Part isnt to = restart-part to
         restart-then outcomes.Broken isnt to = absurd (isnt refl)
 
 -- ---- one recovery after another

@@ -1,9 +1,10 @@
 -- A line lets the instances that are down recover themselves, one after another. It serves the goals of `recover_all` and
 -- `recover_down` in driver.rt.
-use Rattle.std.proofs.Common.{◌≡◌, inl, inr, ⊎_elim, ℕ, ◌+◌, ◌-◌, ◌≤◌, true, false, List, drop, refl, sym, ap, ◌∙◌, subst}
+use Rattle.std.proofs.Common.{◌≡◌, inl, inr, ⊎_elim, ℕ, ◌+◌, ◌-◌, ◌≤◌, Bool, true, false, List, drop, refl, sym, ap, ◌∙◌, subst}
 use Rattle.std.specs.Prelude.{Option, None, Some, is_some, slice_get}
 use Rattle.sd_model.specs.declared.event.Event.TheVariants as event
 use Rattle.sd_model.specs.declared.event.Reply.{Reply}
+use Rattle.sd_model.specs.declared.event.Reply.TheVariants as reply
 use Rattle.sd_model.specs.State.{State}
 use Rattle.sd_script.specs.declared.line.Form.{Form}
 use Rattle.sd_script.specs.declared.line.Form.TheVariants as form
@@ -14,16 +15,15 @@ use Rattle.sd_hall.specs.Bodies.{fits_in}
 use Rattle.sd_drive.specs.declared.driver.Driver.{Driver}
 use Rattle.sd_drive.specs.Bodies.{status_in}
 use Rattle.sd_drive.specs.Driven.{IsIn}
-use Rattle.sd_drive.specs.Driving.{Cursor, Known, Work, World, begins, cursor_in, done, followed, next_down, recovers, start_of, stays, works_of}
+use Rattle.sd_drive.specs.Driving.{Cursor, Known, Work, World, begins, behind, behind_line, cursor_in, done, followed, next_down, recovers, start_of, stays, works_of}
 use Rattle.sd_base.specs.Standing.{is_down}
-use Rattle.sd_drive.specs.Lines.{Names, named_by, way_of}
+use Rattle.sd_drive.specs.Lines.{Names, Way, named_by, way_of}
 use Rattle.sd_drive.specs.declared.recovery.Outcome.{Outcome}
 use Rattle.sd_drive.specs.declared.recovery.Outcome.TheVariants as outcomes
-use Rattle.sd_drive.specs.declared.recovery.Owner.{Owner}
-use Rattle.sd_drive.specs.Recoveries.{DoesSome, DueOf, GoneOn, IsDueOf, RecoversTo}
+use Rattle.sd_drive.specs.Recoveries.{DoesSome, DueOf, GoneOn, IsDueOf, IsParted, RecoversTo}
 use Rattle.sd_drive.specs.Pulls.{Pull}
 use Rattle.sd_drive.specs.Reaching.{AreDriven, AtLine, DrivesLine, DrivesSome, IsSame, KnowsAll, Reached}
-use Rattle.sd_drive.specs.Recovering.{LineRecovers, RecoversNow, RecoversOn, RecoversSome, WaitsToRecover}
+use Rattle.sd_drive.specs.Recovering.{LineRecovers, RecoversNow, RecoversOn, RecoversSome, WaitsToRecover, owner_of}
 use Rattle.sd_drive.specs.Running.{Start}
 use Rattle.sd_drive.proofs.Bodies.{fits-now, status-is}
 use Rattle.sd_drive.proofs.Lines.{first-here, knows-as, knows-more, passes-by}
@@ -35,10 +35,6 @@ down-none : (m : State) → next_down m 9 ≡ None
 down-none m = refl
 
 -- ---- how the line goes on
-
--- whose entries those of a line are
-abbrev pub owner-of : Line → Owner
-owner-of line = record { session = line.session; line = line.number; is_opening = false }
 
 recover-names : (f : Form) → f ≡ form.RecoverAll → (r : Reply) (names : Names) → named_by f r names ≡ names
 recover-names f is r names = ap (λ (x : Form). named_by x r names) is
@@ -64,7 +60,7 @@ module _ {G : Type 0} (tell : Telling G) (start : Start G) (lines : List Line) (
       go : (o : Option ℕ) → next_down m 1 ≡ o → RecoversOn tell start lines n line old 1 w
       go None none = inr (none, passes-by tell start lines n line at old w r (starts ∙ ap recovers none) (ap begun_by is))
       go (Some j) some =
-          let starts_so : start_of m known (Work.Do line) ≡ Some (Cursor.Recovers j) = starts ∙ ap recovers some in
+          let starts_so : start_of m known (Work.Do line) ≡ Some (Cursor.Recovers j j None) = starts ∙ ap recovers some in
           inl (
             j,
             some,
@@ -74,7 +70,7 @@ module _ {G : Type 0} (tell : Telling G) (start : Start G) (lines : List Line) (
                 stands = record {
                   known_is = refl;
                   first = first-here tell start lines n line at old w r (ap (λ (o : Option Cursor). is_some o) starts_so);
-                  at = subst (λ (o : Option Cursor). cursor_in m known (Work.Do line) o ≡ Some (Cursor.Recovers j)) (sym r.rests) starts_so;
+                  at = subst (λ (o : Option Cursor). cursor_in m known (Work.Do line) o ≡ Some (Cursor.Recovers j j None)) (sym r.rests) starts_so;
                   idle = r.idle;
                   event = refl;
                   unfailed = r.unfailed;
@@ -126,7 +122,7 @@ module _ {G : Type 0} (tell : Telling G) (start : Start G) (lines : List Line) (
     knows : KnowsAll lines (n + 1) new w.told.known
     knows = knows-as lines (n + 1) here new w.told.known same txns waits.knows
 
-    went-to : Reply → Core → Option Cursor → World
+    abbrev went-to : Reply → Core → Option Cursor → World
     went-to r core o = record { told = followed w.told (Work.Do line) (works_of (drop (n + 1) lines)) r o; core = core }
 
     line-done : (r : Reply) (core : Core) → IsIn tell start new.hall (record { told = done w.told (Work.Do line) (works_of (drop (n + 1) lines)) r; core = core })
@@ -141,11 +137,23 @@ module _ {G : Type 0} (tell : Telling G) (start : Start G) (lines : List Line) (
           (sym (ap (λ (names : Names). record w.told.known { names = names }) (recover-names line.form is r w.told.known.names))) knows;
     }
 
+    -- where the line goes on behind it
+    behind-is : (core : Core) (ended : Bool) → behind core.scene.state (Work.Do line) i ended ≡ behind_line Way.Recovering core.scene.state i ended
+    behind-is core ended = ap (λ (f : Form). behind_line (way_of f) core.scene.state i ended) is
+
     -- it was refused
     pub ended-not : GoneOn tell new.hall (Work.Do line) (works_of (drop (n + 1) lines)) i false start w → (w' : World) × Reached tell start lines (n + 1) new w'
     ended-not gone = (
       record { told = done w.told (Work.Do line) (works_of (drop (n + 1) lines)) gone.reply; core = gone.core },
-      line-done gone.reply gone.core gone.there,
+      line-done gone.reply gone.core
+          (subst (λ (o : Option Cursor). IsIn tell start new.hall (went-to gone.reply gone.core o)) (behind-is gone.core false) gone.there),
+    )
+
+    -- or so many steps were done
+    pub ended-part : IsParted tell new.hall (Work.Do line) (works_of (drop (n + 1) lines)) None start w → (w' : World) × Reached tell start lines (n + 1) new w'
+    ended-part gone = (
+      record { told = done w.told (Work.Do line) (works_of (drop (n + 1) lines)) reply.Step; core = gone.core },
+      line-done reply.Step gone.core gone.there,
     )
 
     -- or it came to its end
@@ -156,7 +164,8 @@ module _ {G : Type 0} (tell : Telling G) (start : Start G) (lines : List Line) (
         there-at : (o : Option ℕ) → next_down gone.core.scene.state (i + 1) ≡ o
             → IsIn tell start new.hall (record { told = followed w.told (Work.Do line) (works_of (drop (n + 1) lines)) gone.reply (recovers o); core = gone.core })
         there-at o is_so = subst (λ (x : Option ℕ). IsIn tell start new.hall
-            (record { told = followed w.told (Work.Do line) (works_of (drop (n + 1) lines)) gone.reply (recovers x); core = gone.core })) is_so gone.there
+            (record { told = followed w.told (Work.Do line) (works_of (drop (n + 1) lines)) gone.reply (recovers x); core = gone.core })) is_so
+            (subst (λ (c : Option Cursor). IsIn tell start new.hall (went-to gone.reply gone.core c)) (behind-is gone.core true) gone.there)
 
         go : (o : Option ℕ) → next_down gone.core.scene.state (i + 1) ≡ o → (w' : World) × RecoversOn tell start lines n line new (i + 1) w'
         go None none = (
@@ -164,7 +173,7 @@ module _ {G : Type 0} (tell : Telling G) (start : Start G) (lines : List Line) (
           inr (none, line-done gone.reply gone.core (there-at None none)),
         )
         go (Some j) some = (
-          record { told = stays w.told (Work.Do line) (works_of (drop (n + 1) lines)) (Cursor.Recovers j) Pull.Idle; core = gone.core },
+          record { told = stays w.told (Work.Do line) (works_of (drop (n + 1) lines)) (Cursor.Recovers j j None) Pull.Idle; core = gone.core },
           inl (
             j,
             some,
@@ -207,10 +216,10 @@ module _ {G : Type 0} (tell : Telling G) (old : Driver G) (line : Line) (is : li
       waits-now start w lines n at on = recovers-now tell start lines n line at is old i w low high down on
 
       due-now : (start : Start G) (w : World) (lines : List Line) (n : ℕ) → WaitsToRecover tell start lines n line old i w
-          → IsDueOf (owner-of line) (Work.Do line) (works_of (drop (n + 1) lines)) (Cursor.Recovers i) (event.RecoverBegin i i) w
+          → IsDueOf (owner_of line) (Work.Do line) (works_of (drop (n + 1) lines)) (Cursor.Recovers i i None) (event.RecoverBegin i i) w
       due-now start w lines n waits = record { stands = waits.due.stands; session = refl; line = refl; opening = refl }
 
-      pub recover-due : LineRecovers tell old line i → DueOf tell old.hall (owner-of line) (Cursor.Recovers i) (event.RecoverBegin i i)
+      pub recover-due : LineRecovers tell old line i → DueOf tell old.hall (owner_of line) (Cursor.Recovers i i None) (event.RecoverBegin i i)
       recover-due a =
           let waits = waits-now a.start a.world a.lines a.n a.next a.recovers in
           record {
@@ -223,37 +232,45 @@ module _ {G : Type 0} (tell : Telling G) (old : Driver G) (line : Line) (is : li
           }
 
       module _ (new : Driver G) where
-        pub recover-some : DoesSome tell old.hall new.hall (owner-of line) (Cursor.Recovers i) (event.RecoverBegin i i) → RecoversSome tell old new line i
+        pub recover-some : DoesSome tell old.hall new.hall (owner_of line) (Cursor.Recovers i i None) (event.RecoverBegin i i) → RecoversSome tell old new line i
         recover-some some start w lines n at on =
             let waits = waits-now start w lines n at on in
             some start w (Work.Do line) (works_of (drop (n + 1) lines)) waits.there (due-now start w lines n waits)
 
         module _ (same : IsSame old new) (txns : new.txns ≡ old.txns) where
           -- it came to its end, and the line goes on
-          pub recovered : RecoversTo tell old.hall new.hall (owner-of line) i outcomes.Ended → RecoversNow tell old new line i true
+          pub recovered : RecoversTo tell old.hall new.hall (owner_of line) i i None outcomes.Ended → RecoversNow tell old new line i true
           recovered to = λ start w lines n at on.
               let waits = waits-now start w lines n at on in
               ended-on tell start lines n line at is old new i w waits same txns
               (to start w (Work.Do line) (works_of (drop (n + 1) lines)) waits.there (due-now start w lines n waits))
 
           -- or it was refused, in which the line ends
-          refused : RecoversTo tell old.hall new.hall (owner-of line) i outcomes.Refused → RecoversNow tell old new line i false
+          refused : RecoversTo tell old.hall new.hall (owner_of line) i i None outcomes.Refused → RecoversNow tell old new line i false
           refused to = λ start w lines n at on.
               let waits = waits-now start w lines n at on in
               ended-not tell start lines n line at is old new i w waits same txns
               (to start w (Work.Do line) (works_of (drop (n + 1) lines)) waits.there (due-now start w lines n waits))
 
+          -- nor do so many steps, which end it too
+          parted : RecoversTo tell old.hall new.hall (owner_of line) i i None outcomes.Part → RecoversNow tell old new line i false
+          parted to = λ start w lines n at on.
+              let waits = waits-now start w lines n at on in
+              ended-part tell start lines n line at is old new i w waits same txns
+              (to start w (Work.Do line) (works_of (drop (n + 1) lines)) waits.there (due-now start w lines n waits))
+
           -- no device ends a line
-          unbroken : RecoversTo tell old.hall new.hall (owner-of line) i outcomes.Broken → RecoversNow tell old new line i false
+          unbroken : RecoversTo tell old.hall new.hall (owner_of line) i i None outcomes.Broken → RecoversNow tell old new line i false
           unbroken to = λ start w lines n at on.
               let waits = waits-now start w lines n at on in
               let broken = to start w (Work.Do line) (works_of (drop (n + 1) lines)) waits.there (due-now start w lines n waits) in
               let opens : false ≡ true = broken.opening in absurd (cc)
 
-          pub not-ended : (how : Outcome) → (how ≡ outcomes.Ended → ⊥) → RecoversTo tell old.hall new.hall (owner-of line) i how
+          pub not-ended : (how : Outcome) → (how ≡ outcomes.Ended → ⊥) → RecoversTo tell old.hall new.hall (owner_of line) i i None how
               → RecoversNow tell old new line i false
           not-ended outcomes.Ended isnt to = absurd (isnt refl)
           not-ended outcomes.Refused isnt to = refused to
+          not-ended outcomes.Part isnt to = parted to
           not-ended outcomes.Broken isnt to = unbroken to
 
 -- ---- one after another

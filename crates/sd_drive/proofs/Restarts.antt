@@ -45,20 +45,20 @@ rest = Work.Do l5 ∷ []
 
 -- the recovery of instance 1 begins
 abbrev at1 : Progress
-at1 = stays first (Work.Do l4) rest (Cursor.Steps 1) Pull.Idle
+at1 = stays first (Work.Do l4) rest (Cursor.Steps 1 None) Pull.Idle
 
 told1 : Tells (core S.Down S.Down none) (core (S.Recovering 1) S.Down none) first (own l4 (event.RecoverBegin 1 1) reply.Did) at1
 told1 = (refl, (refl, refl, refl, refl))
 
 abbrev at2 : Progress
-at2 = stays at1 (Work.Do l4) rest (Cursor.Steps 1) (Pull.Asks 0)
+at2 = stays at1 (Work.Do l4) rest (Cursor.Steps 1 None) (Pull.Asks 0)
 
 told2 : Tells (core (S.Recovering 1) S.Down none) (core (S.Recovering 1) S.Down none) at1
     (own l4 (event.RecoverStep 1) (reply.Refused (R.NeedPage places.Free))) at2
 told2 = (refl, (refl, refl, refl, inl (refl, refl, (0, needed S.Down, refl))))
 
 abbrev at3 : Progress
-at3 = stays at2 (Work.Do l4) rest (Cursor.Steps 1) Pull.Idle
+at3 = stays at2 (Work.Do l4) rest (Cursor.Steps 1 None) Pull.Idle
 
 told3 : Tells (core (S.Recovering 1) S.Down none) (core (S.Recovering 1) S.Down (page false)) at2 (helps (event.Ask 1 0 modes.Excl) reply.Have) at3
 told3 = (refl, (refl, refl, refl, refl))
@@ -69,13 +69,13 @@ told4 = (refl, (refl, refl, refl, refl))
 
 -- the recovery ends, and instance 2 is the next one that is down
 abbrev at5 : Progress
-at5 = stays at3 (Work.Do l4) rest (Cursor.Recovers 2) Pull.Idle
+at5 = stays at3 (Work.Do l4) rest (Cursor.Recovers 2 2 None) Pull.Idle
 
 told5 : Tells (core (S.Recovering 1) S.Down (page true)) (core S.Restarting S.Down (page true)) at3 (own l4 (event.RecoverStep 1) reply.Finished) at5
 told5 = (refl, (refl, refl, refl, refl))
 
 abbrev at6 : Progress
-at6 = stays at5 (Work.Do l4) rest (Cursor.Steps 2) Pull.Idle
+at6 = stays at5 (Work.Do l4) rest (Cursor.Steps 2 None) Pull.Idle
 
 told6 : Tells (core S.Restarting S.Down (page true)) (core S.Restarting (S.Recovering 2) (page true)) at5 (own l4 (event.RecoverBegin 2 2) reply.Did) at6
 told6 = (refl, (refl, refl, refl, refl))

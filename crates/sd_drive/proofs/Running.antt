@@ -1,6 +1,6 @@
 -- A run goes on by one call of the hall: one that is noted, and one that found no memory. It serves whoever drives the hall.
 use Rattle.sd_page.specs.Page.{Page}
-use Rattle.std.proofs.Common.{◌≡◌, ◌⊎◌, true, false, ⊎_elim, ℕ, ◌+◌, ◌≤◌, List, [], ◌∷◌, ◌++◌, refl, sym, ◌∙◌, subst, append_assoc, append-nil, ap, arith, inl, inr}
+use Rattle.std.proofs.Common.{◌≡◌, ◌⊎◌, true, false, ⊎_elim, ℕ, ◌+◌, ◌≤◌, List, [], ◌∷◌, ◌++◌, refl, sym, ◌∙◌, subst, ap, arith, inl, inr}
 use Rattle.std.specs.Prelude.{None, min}
 use Rattle.sd_base.specs.Streams.{Rises}
 use Rattle.sd_base.specs.declared.place.Status.TheVariants as S
@@ -10,13 +10,12 @@ use Rattle.sd_pagelock.specs.Places.{PageEntry, changed, is_lost}
 use Rattle.sd_chain.specs.Logs.{Outcomes}
 use Rattle.sd_state.specs.Parts.{Parts}
 use Rattle.sd_fits.specs.Fits.{Fits}
-use Rattle.sd_world.specs.Pages.{Pages}
 use Rattle.sd_base.specs.declared.refusal.Refusal.TheVariants as R
 use Rattle.sd_rig.specs.Devices.{DeviceImages, Leaves}
-use Rattle.sd_rig.specs.Spans.{span-then, span-weaker, elapses-then}
+use Rattle.sd_rig.specs.Spans.{elapses-then}
 use Rattle.sd_model.specs.declared.event.Entry.{Entry}
 use Rattle.sd_model.specs.declared.event.Event.{Event}
-use Rattle.sd_model.specs.declared.event.Event.TheVariants.{FailAll, Join}
+use Rattle.sd_model.specs.declared.event.Event.TheVariants.{FailAll}
 use Rattle.sd_model.specs.declared.event.Reply.{Reply}
 use Rattle.sd_model.specs.declared.event.Reply.TheVariants.{Refused}
 use Rattle.sd_world.specs.Leading.{Leads}
@@ -28,7 +27,7 @@ use Rattle.sd_fits.proofs.Served.{fits-left}
 use Rattle.sd_fits.specs.Bodies.{ServingHall, fits_body, rig_of}
 use Rattle.sd_fits.specs.declared.body.Body.{Body}
 use Rattle.sd_drive.specs.Driving.{Advances, Drives, World}
-use Rattle.sd_drive.specs.Running.{AllStand, Breaks, FaultsOf, Goes, Led, Ran, Stays, RunsOn, ServesEntry, StandsOnWay, Start}
+use Rattle.sd_drive.specs.Running.{AllStand, Breaks, Goes, Led, Ran, Stays, RunsOn, ServesEntry, Start}
 
 -- ---- runs put together
 
@@ -38,10 +37,6 @@ drives-join (e ∷ es) fs old mid new h k = (h.0, h.1, drives-join es fs h.0 mid
 
 pub drives-grow : (es : List Entry) (e : Entry) (old mid new : World) → Drives old es mid → Advances mid e new → Drives old (es ++ e ∷ []) new
 drives-grow es e old mid new h a = drives-join es (e ∷ []) old mid new h (new, a, refl)
-
-pub faults-grow : (es : List Entry) (e : Entry) (a b c : ℕ) → FaultsOf es a b → FaultsAre e.event e.reply b c → FaultsOf (es ++ e ∷ []) a c
-faults-grow [] e a b c h f = (c, subst (λ (n : ℕ). FaultsAre e.event e.reply n c) h f, refl)
-faults-grow (x ∷ es) e a b c h f = (h.0, h.1, faults-grow es e h.0 b c h.2 f)
 
 -- a count that stands at its end may not rise, and never falls below it
 few-grow : (e : Event) (top a b : ℕ) → FewFaults e a b → min a top ≤ b
@@ -56,48 +51,8 @@ fault-grows e (Refused R.Failed) a b h = rise-grows 18446744073709551615 a b h
 fault-grows e (Refused R.CutCommit) a b h = rise-grows 18446744073709551615 a b h
 fault-grows e r a b h = few-grow e 18446744073709551615 a b h
 
-grows-then : (top a b c : ℕ) → min a top ≤ b → min b top ≤ c → min a top ≤ c
-grows-then top a b c h k = omega (arith, h, k)
-
-faults-rise : (es : List Entry) (a b : ℕ) → FaultsOf es a b → min a 18446744073709551615 ≤ b
-faults-rise [] a b h = few-grow (Join 0) 18446744073709551615 a b h
-faults-rise (e ∷ es) a b h =
-    grows-then 18446744073709551615 a h.0 b (fault-grows e.event e.reply a h.0 h.1) (faults-rise es h.0 b h.2)
-
 pub rises-then : (top a b c : ℕ) → min a top ≤ b → min (b + 1) top ≤ c → min (a + 1) top ≤ c
 rises-then top a b c h k = omega (arith, h, k)
-
--- a fault behind some entries raises the count from where it stood before them
-pub rises-later : (es : List Entry) (a b c : ℕ) → FaultsOf es a b → Rises b c → Rises a c
-rises-later es a b c h k = rises-then 18446744073709551615 a b c (faults-rise es a b h) k
-
--- ---- images on the way
-
--- what stood on the way stands on it once it goes on
-pub way-grows : (start mid new : World) (es : List Entry) (e : Entry) (img : DeviceImages) → Advances mid e new
-    → StandsOnWay start es mid img → StandsOnWay start (es ++ e ∷ []) new img
-way-grows start mid new es e img a s = record {
-  front = s.front;
-  rest = s.rest ++ e ∷ [];
-  parts = ap (λ (l : List Entry). l ++ e ∷ []) s.parts ∙ append_assoc s.front s.rest (e ∷ []);
-  world = s.world;
-  before = s.before;
-  behind = drives-grow s.rest e s.world mid new s.behind a;
-  stands = s.stands;
-}
-
--- the end of the way is on it
-pub way-ends : (start last : World) (es : List Entry) (img : DeviceImages) → Drives start es last → stands_for img last.core.scene.state
-    → StandsOnWay start es last img
-way-ends start last es img d s = record {
-  front = es;
-  rest = [];
-  parts = sym (append-nil es);
-  world = last;
-  before = d;
-  behind = refl;
-  stands = s;
-}
 
 -- ---- devices that went on
 
@@ -186,34 +141,19 @@ module _ {G : Type 0} (tell : Telling G) (start : Start G) (entries : List Entry
   abbrev old : G
   old = start.rig
 
-  abbrev on_way : DeviceImages → Type 0
-  on_way = StandsOnWay start.world entries w
-
   -- devices that pass from one world's state to the next one's
-  pub passes-on : (e : Entry) (a b : G) (w' : World) → KeepsEarlier tell b → Drives start.world entries w → RunsOn tell start a entries w
+  pub passes-on : (e : Entry) (a b : G) (w' : World) → KeepsEarlier tell b → RunsOn tell start a entries w
       → Advances w e w' → Passes tell stands_for a b w.core.scene.state w'.core.scene.state
       → FaultsAre e.event e.reply (tell.faults a) (tell.faults b)
       → ((img : DeviceImages) → Leaves (tell.leaves b) img → stands_for img w'.core.scene.state)
       → (((w'.core.scene.state.inst 1).status ≡ S.Closed → ⊥) → (p : ℕ) → changed (w'.core.pages.entry p) ≡ false
       → (bytes : List ℕ) → tell.leaves b 0 bytes → (disk_page bytes p).lsn ≡ w'.core.pages.number p)
       → RunsOn tell start b (entries ++ e ∷ []) w'
-  passes-on e a b w' earlier d r adv p f left clean = record {
+  passes-on e a b w' earlier r adv p f left clean = record {
     time = elapses-then (tell.moment old) (tell.moment a) (tell.moment b) (tell.since old) (tell.since a) (tell.since b) earlier r.time p.time;
-    moments = span-then (tell.moment old) (tell.moment a) (tell.moment b) (tell.since a) (tell.since b) after r.time.later p.time
-        (span-weaker (tell.moment old) (tell.since a) on_way after (λ img s. way-grows start.world w w' entries e img adv s) r.moments)
-        (span-weaker (tell.moment a) (tell.since b) (λ img. stands_for img w.core.scene.state ⊎ stands_for img w'.core.scene.state) after one p.span);
-    faults = faults-grow entries e (tell.faults old) (tell.faults a) (tell.faults b) r.faults f;
+    stood = r.stood;
     goes = goes-grow tell entries e start.world w w' old a b earlier r.goes adv (record { passes = p; told = f; left = left; clean = clean });
   }
-    where
-      after : DeviceImages → Type 0
-      after img = StandsOnWay start.world (entries ++ e ∷ []) w' img
-
-      one : (img : DeviceImages) → stands_for img w.core.scene.state ⊎ stands_for img w'.core.scene.state → after img
-      one img s = ⊎_elim
-          (λ s. way-grows start.world w w' entries e img adv (way-ends start.world w entries img d s))
-          (λ s. way-ends start.world w' (entries ++ e ∷ []) img (drives-grow entries e start.world w w' d adv) s)
-          s
 
   -- The call of the entry was noted, and led to this core, where the entry is the one that is due.
   pub ran-noted : (e : Entry) (c c' : Body G) (w' : World) → KeepsEarlier tell (rig_of c') → Ran tell start c entries w → Advances w e w'
@@ -223,7 +163,7 @@ module _ {G : Type 0} (tell : Telling G) (start : Start G) (entries : List Entry
   ran-noted e c c' w' earlier r adv fits passes faults = record {
     drives = drives-grow entries e start.world w w' r.drives adv;
     fits = fits;
-    runs = passes-on e (rig_of c) (rig_of c') w' earlier r.drives r.runs adv passes faults (body-stands tell c' w'.core fits)
+    runs = passes-on e (rig_of c) (rig_of c') w' earlier r.runs adv passes faults (body-stands tell c' w'.core fits)
         (body-clean tell c' w'.core fits);
   }
 
@@ -239,12 +179,7 @@ module _ {G : Type 0} (tell : Telling G) (start : Start G) (entries : List Entry
         runs = record {
           time = elapses-then (tell.moment old) (tell.moment a) (tell.moment b) (tell.since old) (tell.since a) (tell.since b) earlier
               r.runs.time spares.passes.time;
-          moments = span-then (tell.moment old) (tell.moment a) (tell.moment b) (tell.since a) (tell.since b) on_way
-              r.runs.time.later spares.passes.time r.runs.moments
-              (span-weaker (tell.moment a) (tell.since b)
-              (λ img. stands_for img w.core.scene.state ⊎ stands_for img w.core.scene.state) on_way
-              (λ img s. way-ends start.world w entries img r.drives (⊎_elim (λ s. s) (λ s. s) s)) spares.passes.span);
-          faults = subst (λ (n : ℕ). FaultsOf entries (tell.faults old) n) (sym s.1) r.runs.faults;
+          stood = r.runs.stood;
           goes = goes-rest tell entries start.world w old a b earlier r.runs.goes (record { passes = spares.passes; quiet = s.1 });
         };
       }
@@ -260,10 +195,7 @@ ran-start tell start body same now fits = record {
   fits = fits;
   runs = subst (λ d. RunsOn tell (record start { rig = d }) (rig_of body) [] start.world) (sym same) (record {
     time = record { later = omega arith; splits = λ t img le s. inl s; keeps = λ t img le s. s };
-    moments = record {
-      each = λ img s. way-ends start.world start.world [] img refl (body-stands tell body start.world.core fits img (now img s));
-    };
-    faults = refl;
+    stood = λ img s. body-stands tell body start.world.core fits img (now img s);
     goes = (refl, inl refl);
   });
 }
@@ -291,15 +223,6 @@ module _ {G : Type 0} (tell : Telling G) (start : Start G) (entries : List Entry
       → Breaks tell start (rig_of body)
   ran-breaks body seen r failed rises =
       record { entries = entries; last = w; led = ran-led body seen r; failed = failed; faults = rises }
-
--- ---- faults
-
--- replies that tell no fault leave the count as it was
-abbrev pub IsQuiet : Entry → Type 0
-IsQuiet e = (a b : ℕ) → FaultsAre e.event e.reply a b → b ≡ a
-
-pub quiet-grows : (es : List Entry) (e : Entry) (a b c : ℕ) → b ≡ a → IsQuiet e → FaultsAre e.event e.reply b c → c ≡ a
-quiet-grows es e a b c same q f = q b c f ∙ same
 
 -- ---- what is told beside the cores
 

@@ -25,15 +25,15 @@ pub data Work : Type 0 where
   Do : Line → Work
 
 -- where a work stands: its one event, or the first of a rollback; an undo of a rollback; the join of an instance; the list of a
--- page by an instance; the begin of an instance's recovery by itself; a step of it; a page that is written by an instance that
--- isn't up; the copy of such an instance that goes
+-- page by an instance; the begin of an instance's recovery by another or by itself, and a step of it, with how many steps may still
+-- be done where the line says so; a page that is written by an instance that isn't up; the copy of such an instance that goes
 pub data Cursor : Type 0 where
   Once : Cursor
   Undoes : Cursor
   Joins : ℕ → Cursor
   Lists : ℕ → ℕ → Cursor
-  Recovers : ℕ → Cursor
-  Steps : ℕ → Cursor
+  Recovers : ℕ → ℕ → Option ℕ → Cursor
+  Steps : ℕ → Option ℕ → Cursor
   Flushes : ℕ → ℕ → Cursor
   Evicts : ℕ → ℕ → Cursor
 
@@ -96,9 +96,9 @@ next_down m i = first_from (λ j. is_down (m.inst j).status) i (9 - i)
 abbrev pub next_absent : State → ℕ → ℕ → Option ℕ
 next_absent m insts i = first_from (λ j. not (is_up (m.inst j).status)) i (insts + 1 - i)
 
--- the recovery of an instance begins, where there is one
+-- the recovery of an instance by itself begins, where there is one
 abbrev pub recovers : Option ℕ → Option Cursor
-recovers = option_map (λ (i : ℕ). Cursor.Recovers i)
+recovers = option_map (λ (i : ℕ). Cursor.Recovers i i None)
 
 -- an instance joins, where there is one
 abbrev pub joins : Option ℕ → Option Cursor
@@ -109,12 +109,13 @@ abbrev pub begins : Way → State → Known → Form → Option Cursor
 begins Way.Single m known line = option_map (λ (e : Event). Cursor.Once) (event_of known.names line)
 begins Way.Listing m known line = Some (Cursor.Lists (lister m known.insts) 0)
 begins Way.Recovering m known line = recovers (next_down m 1)
+begins (Way.One i by most) m known line = Some (Cursor.Recovers i by most)
 begins Way.Joining m known line = joins (next_absent m known.insts 1)
 
 -- The opening lets the instances that are down recover themselves; where none is left, instance 1 joins.
 abbrev pub opens : Option ℕ → Option Cursor
 opens None = Some (Cursor.Joins 1)
-opens (Some i) = Some (Cursor.Recovers i)
+opens (Some i) = Some (Cursor.Recovers i i None)
 
 -- the lowest page from p on of which i has a copy
 unfoldable pub next_copy : Pages → ℕ → ℕ → Option ℕ
@@ -147,8 +148,8 @@ start_of m known (Work.Do line) = begins (way_of line.form) m known line.form
 abbrev pub event_at : Known → Work → Cursor → Option Event
 event_at known work (Cursor.Joins i) = Some (event.Join i)
 event_at known work (Cursor.Lists i p) = Some (event.List i p)
-event_at known work (Cursor.Recovers i) = Some (event.RecoverBegin i i)
-event_at known work (Cursor.Steps i) = Some (event.RecoverStep i)
+event_at known work (Cursor.Recovers i by most) = Some (event.RecoverBegin i by)
+event_at known work (Cursor.Steps i most) = Some (event.RecoverStep i)
 event_at known work (Cursor.Flushes i p) = Some (event.Flush i p)
 event_at known work (Cursor.Evicts i p) = Some (event.Evict i p)
 event_at known Work.Opening Cursor.Once = None
@@ -156,20 +157,36 @@ event_at known (Work.Do line) Cursor.Once = event_of known.names line.form
 event_at known Work.Opening Cursor.Undoes = None
 event_at known (Work.Do line) Cursor.Undoes = undo_of known.names line.form
 
--- where a work goes on behind the recovery of i, which came to its end, or was refused. m: the state behind it
+-- where a line goes on behind the recovery of i, which came to its end, or was refused: with that of the next one that is down, where
+-- it recovers all of them
+abbrev pub behind_line : Way → State → ℕ → Bool → Option Cursor
+behind_line Way.Recovering m i true = recovers (next_down m (i + 1))
+behind_line way m i ended = None
+
+-- where a work does. m: the state behind the recovery
 abbrev pub behind : State → Work → ℕ → Bool → Option Cursor
 behind m Work.Opening i ended = opens (next_down m (i + 1))
-behind m (Work.Do line) i true = recovers (next_down m (i + 1))
-behind m (Work.Do line) i false = None
+behind m (Work.Do line) i ended = behind_line (way_of line.form) m i ended
+
+-- Of at most so many steps of a recovery one was done: whether another one may follow, and how many at most. None: no line bounds them.
+abbrev pub goes_further : Option ℕ → Bool
+goes_further None = true
+goes_further (Some steps) = ltb 1 steps
+
+abbrev pub one_less : Option ℕ → Option ℕ
+one_less = option_map (λ (steps : ℕ). steps - 1)
+
+abbrev pub stepped : ℕ → Option ℕ → Option Cursor
+stepped i most = cond {A = Option Cursor} (goes_further most) (Some (Cursor.Steps i (one_less most))) None
 
 -- Where a work goes on behind the reply; nowhere where it is done. In the opening the next instance has its turn behind a refusal, and the
 -- next copy; a line ends at the first one. w: the core behind the reply
 abbrev pub goes_on : Core → Known → Work → Cursor → Reply → Option Cursor
-goes_on w known work (Cursor.Recovers i) reply.Did = Some (Cursor.Steps i)
-goes_on w known work (Cursor.Recovers i) r = behind w.scene.state work i false
-goes_on w known work (Cursor.Steps i) reply.Step = Some (Cursor.Steps i)
-goes_on w known work (Cursor.Steps i) reply.Finished = behind w.scene.state work i true
-goes_on w known work (Cursor.Steps i) r = behind w.scene.state work i false
+goes_on w known work (Cursor.Recovers i by most) reply.Did = Some (Cursor.Steps i most)
+goes_on w known work (Cursor.Recovers i by most) r = behind w.scene.state work i false
+goes_on w known work (Cursor.Steps i most) reply.Step = stepped i most
+goes_on w known work (Cursor.Steps i most) reply.Finished = behind w.scene.state work i true
+goes_on w known work (Cursor.Steps i most) r = behind w.scene.state work i false
 goes_on w known Work.Opening (Cursor.Joins i) r = cond {A = Option Cursor} (ltb i known.insts) (Some (Cursor.Joins (i + 1))) (leavers w 1 8)
 goes_on w known Work.Opening (Cursor.Flushes i p) reply.Did = Some (Cursor.Evicts i p)
 goes_on w known Work.Opening (Cursor.Flushes i p) r = empties w i (p + 1)

@@ -44,6 +44,8 @@ event_of names (form.Fuse calls) = Some (event.Arm (Trouble.Fuse calls))
 event_of names (form.Fault call) = Some (event.Arm (Trouble.Fault call))
 event_of names (form.FailAll pick) = Some (event.FailAll pick)
 event_of names form.Reopen = Some event.Reopen
+event_of names (form.Recover inst by most) = None
+event_of names (form.Join inst) = Some (event.Join inst)
 event_of names form.RecoverAll = None
 event_of names form.JoinAll = None
 event_of names (form.Where page) = Some (event.Show page)
@@ -62,16 +64,19 @@ rolls_back (form.Rollback name ordinal) = true
 rolls_back line = false
 
 -- how a line goes on: it has one event, or the undos of a rollback behind it; it lists all pages; it recovers the instances that are
--- down; it joins those that aren't up
+-- down, each by itself; it recovers the first of these two by the second, in at most so many steps where it names a number; it joins
+-- those that aren't up
 pub data Way : Type 0 where
   Single : Way
   Listing : Way
   Recovering : Way
+  One : ℕ → ℕ → Option ℕ → Way
   Joining : Way
 
 abbrev pub way_of : Form → Way
 way_of form.Table = Way.Listing
 way_of form.RecoverAll = Way.Recovering
+way_of (form.Recover inst by most) = Way.One inst by most
 way_of form.JoinAll = Way.Joining
 way_of line = Way.Single
 

@@ -60,6 +60,7 @@ Knows txns names f = (o : ℕ) → ordinal_in f ≡ Some o → get_or txns o Non
 abbrev pub IsPlain : Form → Type 0
 IsPlain (form.Begin inst name) = ⊥
 IsPlain form.RecoverAll = ⊥
+IsPlain (form.Recover inst by most) = ⊥
 IsPlain form.JoinAll = ⊥
 IsPlain form.Table = ⊥
 IsPlain (form.Back name o mark) = ⊥

@@ -4,17 +4,22 @@ use Rattle.sd_model.specs.declared.event.Event.TheVariants as event
 use Rattle.sd_script.specs.declared.line.Line.{Line}
 use Rattle.sd_world.specs.Serving.{Telling}
 use Rattle.sd_drive.specs.declared.driver.Driver.{Driver}
+use Rattle.sd_drive.specs.declared.recovery.Owner.{Owner}
 use Rattle.sd_drive.specs.Driven.{IsIn}
 use Rattle.sd_drive.specs.Driving.{Cursor, World, next_down, works_of}
 use Rattle.sd_drive.specs.Operating.{IsDueFor}
 use Rattle.sd_drive.specs.Reaching.{KnowsAll, Reached}
 use Rattle.sd_drive.specs.Running.{Start}
 
+-- under whom its entries are noted
+abbrev pub owner_of : Line → Owner
+owner_of line = record { session = line.session; line = line.number; is_opening = false }
+
 -- the n-th line begins the recovery of instance j next
 pub record WaitsToRecover {G : Type 0} (tell : Telling G) (start : Start G) (lines : List Line) (n : ℕ) (line : Line) (driver : Driver G) (j : ℕ)
     (w : World) : Type 0 where
   pub there : IsIn tell start driver.hall w
-  pub due : IsDueFor line.session line.number (event.RecoverBegin j j) w.told.known line (works_of (drop (n + 1) lines)) (Cursor.Recovers j) w
+  pub due : IsDueFor line.session line.number (event.RecoverBegin j j) w.told.known line (works_of (drop (n + 1) lines)) (Cursor.Recovers j j None) w
   pub knows : KnowsAll lines (n + 1) driver w.told.known
 
 -- Of the instances from i on, the lowest that is down recovers next; where none is, the line is done.

@@ -20,21 +20,6 @@ pub record Start (G : Type 0) : Type 0 where
   pub rig : G
   pub table : List (Rid × List ℕ)
 
--- the count of faults goes up entry by entry, as each reply tells
-abbrev pub FaultsOf : List Entry → ℕ → ℕ → Type 0
-FaultsOf [] old new = new ≡ old
-FaultsOf (e ∷ es) old new = (next : ℕ) × FaultsAre e.event e.reply old next × FaultsOf es next new
-
--- The image stands for the state of a world on the way: a front of the entries leads to it, and the rest on to the last world.
-pub record StandsOnWay (start : World) (entries : List Entry) (last : World) (img : DeviceImages) : Type 0 where
-  pub front : List Entry
-  pub rest : List Entry
-  pub parts : entries ≡ front ++ rest
-  pub world : World
-  pub before : Drives start front world
-  pub behind : Drives world rest last
-  pub stands : stands_for img world.core.scene.state
-
 -- The entry was served on these devices: meanwhile a crash left what stands for the world before it or behind it, and whatever it may
 -- leave then stands for that behind it. A fault is told by the entry in which it came.
 pub record ServesEntry {G : Type 0} (tell : Telling G) (e : Entry) (rig mid : G) (w next : World) : Type 0 where
@@ -55,12 +40,11 @@ abbrev pub Goes : {G : Type 0} → Telling G → World → G → List Entry → 
 Goes tell w rig [] w' rig' = (w ≡ w') × ((rig' ≡ rig) ⊎ Stays tell rig rig' w)
 Goes {G} tell w rig (e ∷ es) w' rig' = (next : World) × (mid : G) × Advances w e next × ServesEntry tell e rig mid w next × Goes tell next mid es w' rig'
 
--- The devices are `rig` now: since the start time went on, no entry tells a fault that wasn't there, none is untold but those of a failure
--- of all, and each image that a crash may have left at any moment stands for the state of a world on the way.
+-- The devices are `rig` now, and since the start time went on. At the start a crash left what stands for its world, and from there the
+-- devices went on from entry to entry.
 pub record RunsOn {G : Type 0} (tell : Telling G) (start : Start G) (rig : G) (entries : List Entry) (last : World) : Type 0 where
   pub time : Elapses (tell.moment start.rig) (tell.moment rig) (tell.since start.rig) (tell.since rig)
-  pub moments : Span (tell.moment start.rig) (tell.since rig) (StandsOnWay start.world entries last)
-  pub faults : FaultsOf entries (tell.faults start.rig) (tell.faults rig)
+  pub stood : (img : DeviceImages) → tell.since start.rig (tell.moment start.rig) img → stands_for img start.world.core.scene.state
   pub goes : Goes tell start.world start.rig entries last rig
 
 -- The entries lead from the start to a world that the complex fits, open or closed.
@@ -87,3 +71,31 @@ pub record Breaks {G : Type 0} (tell : Telling G) (start : Start G) (rig : G) : 
   pub led : Led tell start rig entries last
   pub failed : last.told.failed ≡ true
   pub faults : Rises (tell.faults start.rig) (tell.faults rig)
+
+-- ---- what follows of a run
+
+-- the count of faults goes up entry by entry, as each reply tells
+abbrev pub FaultsOf : List Entry → ℕ → ℕ → Type 0
+FaultsOf [] old new = new ≡ old
+FaultsOf (e ∷ es) old new = (next : ℕ) × FaultsAre e.event e.reply old next × FaultsOf es next new
+
+-- The image stands for the state of a world on the way: a front of the entries leads to it, and the rest on to the last world.
+pub record StandsOnWay (start : World) (entries : List Entry) (last : World) (img : DeviceImages) : Type 0 where
+  pub front : List Entry
+  pub rest : List Entry
+  pub parts : entries ≡ front ++ rest
+  pub world : World
+  pub before : Drives start front world
+  pub behind : Drives world rest last
+  pub stands : stands_for img world.core.scene.state
+
+-- The entries lead from world to world; no entry tells a fault that wasn't there, and none is untold but those of a failure of all; and
+-- each image that a crash may have left at any moment stands for the state of a world on the way.
+pub record HasWay {G : Type 0} (tell : Telling G) (start : Start G) (rig : G) (entries : List Entry) (last : World) : Type 0 where
+  pub drives : Drives start.world entries last
+  pub faults : FaultsOf entries (tell.faults start.rig) (tell.faults rig)
+  pub moments : Span (tell.moment start.rig) (tell.since rig) (StandsOnWay start.world entries last)
+
+abbrev pub RunsHaveWay : {G : Type 0} → Telling G → Type 0
+RunsHaveWay {G} tell = (start : Start G) (rig : G) (entries : List Entry) (last : World) → RunsOn tell start rig entries last
+    → HasWay tell start rig entries last

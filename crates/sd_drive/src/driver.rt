@@ -12,7 +12,7 @@ ghost use Rattle.sd_drive.specs.Driving.{IsTold, World, lister_by};
 ghost use Rattle.sd_script.specs.declared.line.Form.TheVariants as form;
 ghost use Rattle.sd_drive.specs.Lines.{Names, event_of, rolls_back};
 ghost use Rattle.sd_drive.specs.Rising.{HasRisen};
-ghost use Rattle.sd_drive.specs.Recovering.{LineRecovers, RecoversNow, RecoversSome};
+ghost use Rattle.sd_drive.specs.Recovering.{LineRecovers, RecoversNow, RecoversSome, owner_of};
 ghost use Rattle.sd_drive.specs.Reaching.{AreDriven, AtLine, DrivesLine, DrivesSome, IsJoining, IsPlain, IsRolledBack, IsSame, IsShort, JoinsNow, JoinsSome, Knows, Reached, Undoes, UndoesAll, UndoesSome, at_ordinal, ordinal_in};
 
 use crate::forms::{event_by, lone_event, ordinal};
@@ -101,6 +101,7 @@ impl<G: Rig> Driver<G> {
             Form::Begin { inst, .. } => self.begin(line, *inst),
             Form::Table => self.table(line),
             Form::JoinAll => self.join_all(line),
+            Form::Recover { inst, by, most } => self.recover_one(line, *inst, *by, *most),
             Form::RecoverAll => self.recover_all(line),
             Form::Back { .. } | Form::Rollback { .. } => self.roll_back(line),
             _ => self.event(line),
@@ -124,6 +125,25 @@ impl<G: Rig> Driver<G> {
         )?;
         let txn = self.hall.last().began();
         self.txns.push(txn)?;
+        Ok(())
+    }
+
+    // An instance recovers another or itself, in at most so many steps where the line names a number.
+    fn recover_one(
+        &mut self,
+        line: &Line,
+        inst: InstNo,
+        by: InstNo,
+        most: Option<u64>,
+    ) -> Result<(), Memory>
+        requires at { AtLine (telling G.seen G.leaves G.moment G.since G.faults) self.old line.now }
+        requires recovers { line.now.form ≡ form.Recover inst by most }
+        ensures driven { OnOk result (DrivesLine (telling G.seen G.leaves G.moment G.since G.faults) self.old self.new line.now) }
+        ensures memory { OnErr result (DrivesSome (telling G.seen G.leaves G.moment G.since G.faults)
+            self.old self.new line.now) }
+        ensures same { IsSame self.old self.new }
+    {
+        let _how = recover(&mut self.hall, owner_of(line), inst, by, most)?;
         Ok(())
     }
 
@@ -160,12 +180,8 @@ impl<G: Rig> Driver<G> {
         if !status_of(&self.hall, inst).is_down() {
             return Ok(true);
         }
-        let of = Owner {
-            session: line.session,
-            line: line.number,
-            is_opening: false,
-        };
-        match recover(&mut self.hall, of, inst)? {
+        let of = owner_of(line);
+        match recover(&mut self.hall, of, inst, inst, None)? {
             Outcome::Ended => Ok(true),
             _ => Ok(false),
         }
@@ -331,6 +347,17 @@ impl<G: Rig> Driver<G> {
     {
         let ordinal = ordinal(form)?;
         self.txns[ordinal as usize]
+    }
+}
+
+// Under whom the entries of a recovery are noted that a line asks for.
+fn owner_of(line: &Line) -> Owner
+    ensures { result ≡ owner_of line.now }
+{
+    Owner {
+        session: line.session,
+        line: line.number,
+        is_opening: false,
     }
 }
 

@@ -62,6 +62,7 @@ pub(crate) fn lone_event(form: &Form) -> Option<Event>
         Form::Fault { call } => Some(Event::Arm {
             trouble: Trouble::Fault(u64::from(*call)),
         }),
+        Form::Join { inst } => Some(Event::Join { inst: *inst }),
         Form::FailAll { pick } => Some(Event::FailAll { pick: *pick }),
         Form::Reopen => Some(Event::Reopen),
         Form::Where { page } => Some(Event::Show { page: *page }),

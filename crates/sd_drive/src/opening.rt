@@ -133,7 +133,7 @@ impl<G: Rig> Rise<G> {
             line: 0,
             is_opening: true,
         };
-        match recover(&mut self.hall, of, inst)? {
+        match recover(&mut self.hall, of, inst, inst, None)? {
             Outcome::Broken => Err(Refusal::Failed),
             _ => Ok(()),
         }

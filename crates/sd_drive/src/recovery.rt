@@ -1,5 +1,5 @@
-//! An instance recovers itself, in a line or in the opening: its recovery begins, and goes on step by step, with the pulls of the
-//! pages that it needs.
+//! An instance is recovered, by itself or by another: its recovery begins, and goes on step by step, with the pulls of the pages that
+//! its recoverer needs.
 
 ghost use Rattle.std.specs.Prelude.{◌≡◌, IfOk, OnErr, Some};
 ghost use Rattle.sd_fits.specs.declared.body.Body.{Body};
@@ -9,7 +9,7 @@ ghost use Rattle.sd_state.specs.Complexes.{parts};
 ghost use Rattle.sd_state.specs.Parts.{IsShape};
 ghost use Rattle.sd_world.specs.Serving.{Core, telling};
 ghost use Rattle.sd_drive.specs.Driving.{Cursor};
-ghost use Rattle.sd_drive.specs.Recoveries.{DoesSome, DueOf, PulledAs, PulledSome, RecoversTo, StepsAs, StepsTo, Waits, WantsOf, ending_as, refused_as};
+ghost use Rattle.sd_drive.specs.Recoveries.{DoesSome, DueOf, PulledAs, PulledSome, RecoversTo, StepsAs, StepsTo, Waits, WantsOf, behind_step, ending_as, refused_as};
 
 use crate::pull::pull;
 use crate::replies::ends_failed;
@@ -33,101 +33,147 @@ pub struct Owner {
 pub enum Outcome {
     /// It came to its end.
     Ended,
+    /// As many steps were done as it may have at most.
+    Part,
     /// It was refused.
     Refused,
     /// A device failed in the opening, which ends with it.
     Broken,
 }
 
-/// An instance that is down recovers itself: its recovery begins, and one step after another is done, up to the end or to a
-/// refusal. After `Memory` the book has what happened so far, each entry the one that was due.
-pub fn recover<G: Rig>(hall: &mut Hall<G>, of: Owner, inst: InstNo) -> Result<Outcome, Memory>
+/// How a try of a step leaves the recovery.
+#[derive(Clone, Copy)]
+pub(crate) enum Next {
+    /// A step is due, of at most so many where there is a bound.
+    Again(Option<u64>),
+    /// The recovery ended so.
+    Over(Outcome),
+}
+
+/// Instance `by` recovers an instance that is down: the recovery begins, and one step after another is done, up to the end, to a
+/// refusal, or to the step that is the last of `most`. A try that wants a page isn't a step: the page is pulled for `by`, which needs
+/// it alone. After `Memory` the book has what happened so far, each entry the one that was due.
+pub fn recover<G: Rig>(
+    hall: &mut Hall<G>,
+    of: Owner,
+    inst: InstNo,
+    by: InstNo,
+    most: Option<u64>,
+) -> Result<Outcome, Memory>
     requires at { DueOf (telling G.seen G.leaves G.moment G.since G.faults)
-        hall.old of (Cursor.Recovers inst) (event.RecoverBegin inst inst) }
+        hall.old of (Cursor.Recovers inst by most) (event.RecoverBegin inst by) }
     ensures recovered { IfOk result (λ how. RecoversTo (telling G.seen G.leaves G.moment G.since G.faults)
-        hall.old hall.new of inst how) }
+        hall.old hall.new of inst by most how) }
     ensures memory { OnErr result (DoesSome (telling G.seen G.leaves G.moment G.since G.faults) hall.old hall.new of
-        (Cursor.Recovers inst) (event.RecoverBegin inst inst)) }
+        (Cursor.Recovers inst by most) (event.RecoverBegin inst by)) }
 {
-    hall.call(of.session, of.line, Event::RecoverBegin { inst, by: inst })?;
+    hall.call(of.session, of.line, Event::RecoverBegin { inst, by })?;
     if !hall.last().is_did() {
         return Ok(refused(hall.last(), of.is_opening));
     }
-    step_all(hall, of, inst)
+    step_all(hall, of, inst, most)
 }
 
-// One step after another, up to the end of the recovery.
-fn step_all<G: Rig>(hall: &mut Hall<G>, of: Owner, inst: InstNo) -> Result<Outcome, Memory>
+// One step after another, up to the end of the recovery, or to the last of so many.
+fn step_all<G: Rig>(
+    hall: &mut Hall<G>,
+    of: Owner,
+    inst: InstNo,
+    most: Option<u64>,
+) -> Result<Outcome, Memory>
     requires at { DueOf (telling G.seen G.leaves G.moment G.since G.faults)
-        hall.old of (Cursor.Steps inst) (event.RecoverStep inst) }
+        hall.old of (Cursor.Steps inst most) (event.RecoverStep inst) }
     ensures recovered { IfOk result (λ how. StepsTo (telling G.seen G.leaves G.moment G.since G.faults)
-        hall.old hall.new of inst how) }
+        hall.old hall.new of inst most how) }
     ensures memory { OnErr result (DoesSome (telling G.seen G.leaves G.moment G.since G.faults) hall.old hall.new of
-        (Cursor.Steps inst) (event.RecoverStep inst)) }
+        (Cursor.Steps inst most) (event.RecoverStep inst)) }
 {
+    let mut left = most;
     for _n in 0..u64::MAX {
-        match step(hall, of, inst)? {
-            Some(how) => return Ok(how),
-            None => {}
+        let next = step(hall, of, inst, left)?;
+        match next {
+            Next::Again(then) => left = then,
+            Next::Over(how) => return Ok(how),
         }
     }
     // Not met where each step lowers the work that is left (`recover_step`, `stepped`); that none does else, no clause of the hall says.
     Err(Memory)
 }
 
-// A step. How the recovery ended, where it ends with it; else a step is due again, as where the page came that this one wanted.
-fn step<G: Rig>(hall: &mut Hall<G>, of: Owner, inst: InstNo) -> Result<Option<Outcome>, Memory>
+// A try of one of at most so many steps. How the recovery ended, where it ends with it; else a step is due again, as where the page
+// came that this one wanted.
+fn step<G: Rig>(
+    hall: &mut Hall<G>,
+    of: Owner,
+    inst: InstNo,
+    most: Option<u64>,
+) -> Result<Next, Memory>
     requires at { DueOf (telling G.seen G.leaves G.moment G.since G.faults)
-        hall.old of (Cursor.Steps inst) (event.RecoverStep inst) }
-    ensures stepped { IfOk result (λ how. StepsAs (telling G.seen G.leaves G.moment G.since G.faults)
-        hall.old hall.new of inst how) }
+        hall.old of (Cursor.Steps inst most) (event.RecoverStep inst) }
+    ensures stepped { IfOk result (λ next. StepsAs (telling G.seen G.leaves G.moment G.since G.faults)
+        hall.old hall.new of inst most next) }
     ensures memory { OnErr result (DoesSome (telling G.seen G.leaves G.moment G.since G.faults) hall.old hall.new of
-        (Cursor.Steps inst) (event.RecoverStep inst)) }
+        (Cursor.Steps inst most) (event.RecoverStep inst)) }
 {
     let waits = awaited(hall, inst);
     hall.call(of.session, of.line, Event::RecoverStep { inst })?;
     if !hall.last().wants_page() {
-        return Ok(ending(hall.last(), of.is_opening));
+        return Ok(ending(hall.last(), of.is_opening, most));
     }
     match waits {
-        Some(wait) => step_pulled(hall, of, inst, wait.0, wait.1),
+        Some(wait) => step_pulled(hall, of, inst, most, wait.0, wait.1),
         None => unreachable!(),
     }
 }
 
-// The page that a step wanted is pulled. Where it came a step is due again; where the pull was in vain the step is done once
+// The page that a step wanted is pulled. Where it came a step is due as before; where the pull was in vain the step is tried once
 // more.
 fn step_pulled<G: Rig>(
     hall: &mut Hall<G>,
     of: Owner,
     inst: InstNo,
+    most: Option<u64>,
     by: InstNo,
     page: PageNo,
-) -> Result<Option<Outcome>, Memory>
-    requires at { WantsOf (telling G.seen G.leaves G.moment G.since G.faults) hall.old of inst by page }
-    ensures stepped { IfOk result (λ how. PulledAs (telling G.seen G.leaves G.moment G.since G.faults)
-        hall.old hall.new of inst by page how) }
+) -> Result<Next, Memory>
+    requires at { WantsOf (telling G.seen G.leaves G.moment G.since G.faults) hall.old of inst most by page }
+    ensures stepped { IfOk result (λ next. PulledAs (telling G.seen G.leaves G.moment G.since G.faults)
+        hall.old hall.new of inst most by page next) }
     ensures memory { OnErr result (PulledSome (telling G.seen G.leaves G.moment G.since G.faults)
-        hall.old hall.new of inst by page) }
+        hall.old hall.new of inst most by page) }
 {
     if pull(hall, by, page, Mode::Excl)? {
-        return Ok(None);
+        return Ok(Next::Again(most));
     }
     if of.is_opening && ends_failed(hall) {
-        return Ok(Some(Outcome::Broken));
+        return Ok(Next::Over(Outcome::Broken));
     }
     hall.call(of.session, of.line, Event::RecoverStep { inst })?;
-    Ok(ending(hall.last(), of.is_opening))
+    Ok(ending(hall.last(), of.is_opening, most))
 }
 
-// How a step's reply leaves the recovery: where it ends so, how.
-fn ending(reply: &Reply, is_opening: bool) -> Option<Outcome>
-    ensures { result ≡ ending_as reply.now is_opening }
+// How the reply to one of at most so many steps leaves the recovery.
+fn ending(reply: &Reply, is_opening: bool, most: Option<u64>) -> Next
+    ensures { result ≡ ending_as reply.now is_opening most }
 {
     match reply {
-        Reply::Step => None,
-        Reply::Finished => Some(Outcome::Ended),
-        _ => Some(refused(reply, is_opening)),
+        Reply::Step => behind_step(most),
+        Reply::Finished => Next::Over(Outcome::Ended),
+        _ => Next::Over(refused(reply, is_opening)),
+    }
+}
+
+// Of at most so many steps one was done.
+fn behind_step(most: Option<u64>) -> Next
+    ensures { result ≡ behind_step most }
+{
+    let Some(steps) = most else {
+        return Next::Again(None);
+    };
+    if 1 < steps {
+        Next::Again(Some(steps - 1))
+    } else {
+        Next::Over(Outcome::Part)
     }
 }
 

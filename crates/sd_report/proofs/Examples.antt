@@ -122,3 +122,28 @@ unrecovered_report : unrecovered ≡ text (
     ∷ codes "reopen not down" ∷ codes "recover all fault" ∷ codes "join all not recovered" ∷ [])
 unfolding digits
 unrecovered_report = refl
+
+-- an instance is recovered by another and joins; a recovery stops behind its steps, isn't begun again, and lets its instance not
+-- join; and a page that a recovery needs can't be pulled
+abbrev survived : List ℕ
+survived =
+    report
+    (at 1 (form.Complex 3 1 2) ∷ at 2 (form.Fail 1) ∷ at 3 (form.Recover 1 2 None) ∷ at 4 (form.Join 1) ∷ at 5 (form.Fail 2)
+    ∷ at 6 (form.Recover 2 1 (Some 1)) ∷ at 7 (form.Recover 2 3 None) ∷ at 8 (form.Join 2) ∷ at 9 (form.Fail 3)
+    ∷ at 10 (form.Recover 3 1 (Some 2)) ∷ [])
+    (noted 2 (event.Fail 1) reply.Did ∷ noted 3 (event.RecoverBegin 1 2) reply.Did ∷ noted 3 (event.RecoverStep 1) reply.Step
+    ∷ noted 3 (event.RecoverStep 1) reply.Finished ∷ noted 4 (event.Join 1) (reply.Joined 2) ∷ noted 5 (event.Fail 2) reply.Did
+    ∷ noted 6 (event.RecoverBegin 2 1) reply.Did ∷ noted 6 (event.RecoverStep 2) reply.Step
+    ∷ noted 7 (event.RecoverBegin 2 3) (reply.Refused (refusal.NotDown (status.Recovering 1)))
+    ∷ noted 8 (event.Join 2) (reply.Refused (refusal.NotRecovered (status.Recovering 1))) ∷ noted 9 (event.Fail 3) reply.Did
+    ∷ noted 10 (event.RecoverBegin 3 1) reply.Did ∷ noted 10 (event.RecoverStep 3) reply.Step
+    ∷ noted 10 (event.RecoverStep 3) (reply.Refused (refusal.NeedPage place.Free))
+    ∷ noted 0 (event.Ask 1 0 mode.Excl) (reply.Refused refusal.Failed)
+    ∷ noted 10 (event.RecoverStep 3) (reply.Refused (refusal.NeedPage place.Free)) ∷ [])
+
+survived_report : survived ≡ text (
+    codes "complex 3 1 2" ∷ codes "fail 1" ∷ codes "recover 1 by 2" ∷ codes "join 1 epoch 2" ∷ codes "fail 2"
+    ∷ codes "recover 2 by 1 part" ∷ codes "recover 2 not down" ∷ codes "join 2 not recovered" ∷ codes "fail 3"
+    ∷ codes "recover 3 fault" ∷ [])
+unfolding digits
+survived_report = refl

@@ -7,3 +7,5 @@ pub mod Scripts
 mod Unnamed
 pub mod Growing
 mod Sets
+mod NumberTexts
+mod Accounts

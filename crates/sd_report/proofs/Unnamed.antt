@@ -16,7 +16,7 @@ use Rattle.sd_script.specs.Forms.{pick_word}
 use Rattle.sd_report.specs.Words.{line_of, NamesOf}
 use Rattle.sd_report.specs.Refusals.{refusal_text, tells_txn}
 use Rattle.sd_report.specs.Replies.{no_reply, pulled_text, reply_text, last_text, words_of, behind_words, last_behind_words, behind_all, last_behind_all}
-use Rattle.sd_report.specs.Report.{all_line, echo_line, entries_of, gathered, last_entry, listed, page_line, reply_tells_txn, reported, table_lines, tell_txns, txn_line}
+use Rattle.sd_report.specs.Report.{all_line, echo_line, entries_of, gathered, join_line, last_entry, listed, page_line, recover_line, reply_tells_txn, reported, table_lines, tell_txns, txn_line}
 
 neither : (a b : Bool) → (a || b) ≡ false → (a ≡ false) × (b ≡ false)
 neither true b e = absurd (cc)
@@ -112,6 +112,18 @@ module _ (f g : NamesOf) (own : List Entry) (none : tell_txns own ≡ false) whe
       (same_last (refusal_text f) (refusal_text g) (same_refusal f g) (words_of of) no_reply
       (last_entry own) (last_plain own none))
 
+  same_recover_line : (inst : ℕ) (of : Form) → recover_line f inst of own ≡ recover_line g inst of own
+  same_recover_line inst of =
+      ap (λ (l : List ℕ). line_of ((codes "recover " ++ decimal inst) ∷ l ∷ []))
+      (same_last (pulled_text f) (pulled_text g) (same_pulled f g) (words_of of) no_reply
+      (last_entry own) (last_plain own none))
+
+  same_join_line : (inst : ℕ) (of : Form) → join_line f inst of own ≡ join_line g inst of own
+  same_join_line inst of =
+      ap (λ (l : List ℕ). line_of ((codes "join " ++ decimal inst) ∷ l ∷ []))
+      (same_last (refusal_text f) (refusal_text g) (same_refusal f g) (words_of of) no_reply
+      (last_entry own) (last_plain own none))
+
   same_echo_line : (words : List ℕ) → echo_line f words own ≡ echo_line g words own
   same_echo_line words =
       ap (λ (l : List ℕ). line_of ((words ++ l) ∷ []))
@@ -144,6 +156,8 @@ module _ (f g : NamesOf) (own : List Entry) (none : tell_txns own ≡ false) whe
   same_line (form.Fuse calls) = same_echo_line (codes "fuse " ++ decimal calls)
   same_line (form.Fault call) = same_echo_line (codes "fault " ++ decimal call)
   same_line (form.FailAll pick) = same_echo_line (codes "fail all " ++ pick_word pick)
+  same_line (form.Recover inst by most) = same_recover_line inst (form.Recover inst by most)
+  same_line (form.Join inst) = same_join_line inst (form.Join inst)
   same_line form.Reopen = same_echo_line (codes "reopen")
   same_line form.RecoverAll = same_all_line (codes "recover all")
   same_line form.JoinAll = same_all_line (codes "join all")

@@ -4,3 +4,4 @@ pub mod Refusals
 pub mod Places
 pub mod Replies
 pub mod Names
+pub mod Summary

@@ -64,6 +64,17 @@ abbrev pub shown : Reply → List ℕ
 shown (reply.Shown place lsn) = place_text place lsn
 shown r = no_reply
 
+-- a line by which one instance recovers another tells by which, and whether its steps were done before the recovery was
+abbrev pub recovered : ℕ → Reply → List ℕ
+recovered by reply.Finished = codes "by " ++ decimal by
+recovered by reply.Step = codes "by " ++ decimal by ++ codes " part"
+recovered by r = no_reply
+
+-- an instance that joins tells its epoch
+abbrev pub joined : Reply → List ℕ
+joined (reply.Joined epoch) = codes "epoch " ++ decimal epoch
+joined r = no_reply
+
 -- the words of a reply that is no refusal, form by form; the first line, one that is echoed and a table have no such words
 abbrev pub words_of : Form → Reply → List ℕ
 words_of (form.Complex insts pages frames) r = no_reply
@@ -87,6 +98,8 @@ words_of (form.Fail inst) r = no_reply
 words_of (form.Fuse calls) r = no_reply
 words_of (form.Fault call) r = no_reply
 words_of (form.FailAll pick) r = no_reply
+words_of (form.Recover inst by most) r = recovered by r
+words_of (form.Join inst) r = joined r
 words_of form.Reopen r = no_reply
 words_of form.RecoverAll r = no_reply
 words_of form.JoinAll r = no_reply

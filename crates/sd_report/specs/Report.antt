@@ -41,6 +41,16 @@ page_line names number of entries =
 abbrev pub echo_line : NamesOf → List ℕ → List Entry → List ℕ
 echo_line names words entries = line_of ((words ++ last_behind_words names (last_entry entries)) ∷ [])
 
+-- a line by which an instance is recovered, for which pages are pulled: its first two words, and the last of its replies
+abbrev pub recover_line : NamesOf → ℕ → Form → List Entry → List ℕ
+recover_line names inst of entries =
+    line_of ((codes "recover " ++ decimal inst) ∷ last_text (pulled_text names) (words_of of) no_reply (last_entry entries) ∷ [])
+
+-- a line by which an instance joins: its words, and the last of its replies
+abbrev pub join_line : NamesOf → ℕ → Form → List Entry → List ℕ
+join_line names inst of entries =
+    line_of ((codes "join " ++ decimal inst) ∷ last_text (refusal_text names) (words_of of) no_reply (last_entry entries) ∷ [])
+
 -- the rows of a reply to a list
 abbrev pub rows_in : Reply → List (Rid × List ℕ)
 rows_in (reply.Rows rows) = rows
@@ -94,6 +104,8 @@ reported names (form.Fail inst) entries = echo_line names (codes "fail " ++ deci
 reported names (form.Fuse calls) entries = echo_line names (codes "fuse " ++ decimal calls) entries
 reported names (form.Fault call) entries = echo_line names (codes "fault " ++ decimal call) entries
 reported names (form.FailAll pick) entries = echo_line names (codes "fail all " ++ pick_word pick) entries
+reported names (form.Recover inst by most) entries = recover_line names inst (form.Recover inst by most) entries
+reported names (form.Join inst) entries = join_line names inst (form.Join inst) entries
 reported names form.Reopen entries = echo_line names (codes "reopen") entries
 reported names form.RecoverAll entries = all_line names (codes "recover all") entries
 reported names form.JoinAll entries = all_line names (codes "join all") entries

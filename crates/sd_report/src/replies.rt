@@ -6,13 +6,13 @@ ghost use Rattle.std.specs.Option.{option_copied};
 ghost use Rattle.sd_script.specs.Forms.{rid_word};
 ghost use Rattle.sd_report.specs.Names.{name_in};
 ghost use Rattle.sd_report.specs.Refusals.{refusal_text};
-ghost use Rattle.sd_report.specs.Replies.{asked, began, done, found, gave, last_behind_all, last_behind_words, last_text, no_reply, placed, pulled_text, rolled_back, shown, words_of};
+ghost use Rattle.sd_report.specs.Replies.{asked, began, done, found, gave, joined, last_behind_all, last_behind_words, last_text, no_reply, placed, pulled_text, recovered, rolled_back, shown, words_of};
 
 use crate::places::push_place;
 use crate::refusals::push_refusal;
 use crate::txn_names::TxnNames;
 use crate::words::{push_begun, push_both, push_counted, push_next, push_record, push_word};
-use sd_base::{Memory, PageNo, Refusal, Rid, Word};
+use sd_base::{InstNo, Memory, PageNo, Refusal, Rid, Word};
 use sd_model::{Entry, Event, Reply};
 use sd_script::Form;
 
@@ -144,6 +144,27 @@ fn push_shown(out: &mut Vec<u8>, reply: &Reply) -> Result<(), Memory>
     }
 }
 
+fn push_recovered(out: &mut Vec<u8>, by: InstNo, reply: &Reply) -> Result<(), Memory>
+    ensures { OnOk result (out.new.items ≡ out.old.items ++ recovered by reply.now) }
+{
+    match reply {
+        Reply::Finished => push_counted(out, b"by ", u64::from(by.get())),
+        Reply::Step => {
+            push_counted(out, b"by ", u64::from(by.get())).and(push_word(out, b" part"))
+        }
+        _ => push_no_reply(out),
+    }
+}
+
+fn push_joined(out: &mut Vec<u8>, reply: &Reply) -> Result<(), Memory>
+    ensures { OnOk result (out.new.items ≡ out.old.items ++ joined reply.now) }
+{
+    match reply {
+        Reply::Joined { epoch } => push_counted(out, b"epoch ", u64::from(*epoch)),
+        _ => push_no_reply(out),
+    }
+}
+
 /// Appends the words of a reply that is no refusal.
 pub fn push_words(out: &mut Vec<u8>, form: &Form, reply: &Reply) -> Result<(), Memory>
     ensures { OnOk result (out.new.items ≡ out.old.items ++ words_of form.now reply.now) }
@@ -174,6 +195,8 @@ pub fn push_words(out: &mut Vec<u8>, form: &Form, reply: &Reply) -> Result<(), M
         Form::Evict { page, .. } => push_on_page(out, b"evicted ", *page, reply),
         Form::Flush { page, .. } => push_on_page(out, b"flushed ", *page, reply),
         Form::Force { .. } => push_done(out, b"forced", reply),
+        Form::Recover { by, .. } => push_recovered(out, *by, reply),
+        Form::Join { .. } => push_joined(out, reply),
         Form::Where { .. } => push_shown(out, reply),
     }
 }
@@ -212,7 +235,26 @@ pub fn push_txn_reply(
     }
 }
 
-/// Appends what a line of an instance or a page has behind its number.
+/// Appends what a line by which an instance is recovered has behind its first two words.
+pub fn push_recovery_reply(
+    out: &mut Vec<u8>,
+    names: &TxnNames,
+    form: &Form,
+    last: Option<&Entry>,
+) -> Result<(), Memory>
+    ensures { OnOk result (out.new.items ≡ out.old.items
+        ++ last_text (pulled_text (name_in names.now)) (words_of form.now) no_reply (option_copied last.entry)) }
+{
+    let Some(entry) = last else {
+        return push_no_reply(out);
+    };
+    match &entry.reply {
+        Reply::Refused(refusal) => push_pulled(out, names, &entry.event, refusal),
+        reply => push_words(out, form, reply),
+    }
+}
+
+/// Appends what a line of an instance or a page has behind its number, or a line by which an instance joins behind its words.
 pub fn push_page_reply(
     out: &mut Vec<u8>,
     names: &TxnNames,

@@ -18,8 +18,8 @@ use crate::naming::known_names;
 use crate::parting::part_at;
 use crate::{
     TxnNames, cause_name, push_before, push_behind_all, push_behind_words, push_counted, push_end,
-    push_first, push_next, push_number, push_page_reply, push_pulled, push_rid, push_short_words,
-    push_txn_reply, push_word,
+    push_first, push_next, push_number, push_page_reply, push_pulled, push_recovery_reply,
+    push_rid, push_short_words, push_txn_reply, push_word,
 };
 use sd_base::{Bytes, InstNo, LineError, Memory, Pick, Refusal, Rid, Word};
 use sd_model::{Book, Entry, LineEntry, Reply, Seen, Told};
@@ -63,6 +63,40 @@ fn push_page_line(
         ∷ last_text (refusal_text (name_in names.now)) (words_of form.now) no_reply (option_copied last.entry) ∷ [])) }
 {
     push_before(out, number, b' ')
+        .and(push_page_reply(out, names, form, last))
+        .and(push_end(out))
+}
+
+// A line by which this instance is recovered.
+fn push_recover_line(
+    out: &mut Vec<u8>,
+    names: &TxnNames,
+    inst: InstNo,
+    form: &Form,
+    last: Option<&Entry>,
+) -> Result<(), Memory>
+    ensures { OnOk result (out.new.items ≡ out.old.items ++ line_of ((codes "recover " ++ decimal inst)
+        ∷ last_text (pulled_text (name_in names.now)) (words_of form.now) no_reply (option_copied last.entry) ∷ [])) }
+{
+    push_counted(out, b"recover ", u64::from(inst.get()))
+        .and(push_word(out, b" "))
+        .and(push_recovery_reply(out, names, form, last))
+        .and(push_end(out))
+}
+
+// A line by which this instance joins.
+fn push_join_line(
+    out: &mut Vec<u8>,
+    names: &TxnNames,
+    inst: InstNo,
+    form: &Form,
+    last: Option<&Entry>,
+) -> Result<(), Memory>
+    ensures { OnOk result (out.new.items ≡ out.old.items ++ line_of ((codes "join " ++ decimal inst)
+        ∷ last_text (refusal_text (name_in names.now)) (words_of form.now) no_reply (option_copied last.entry) ∷ [])) }
+{
+    push_counted(out, b"join ", u64::from(inst.get()))
+        .and(push_word(out, b" "))
         .and(push_page_reply(out, names, form, last))
         .and(push_end(out))
 }
@@ -340,6 +374,8 @@ fn push_form(
         Form::Fuse { calls } => push_echo_line(out, names, b"fuse ", u64::from(*calls), last),
         Form::Fault { call } => push_echo_line(out, names, b"fault ", u64::from(*call), last),
         Form::FailAll { pick } => push_echo(out, names, fail_all_words(*pick), last),
+        Form::Recover { inst, .. } => push_recover_line(out, names, *inst, form, last),
+        Form::Join { inst } => push_join_line(out, names, *inst, form, last),
         Form::Reopen => push_echo(out, names, b"reopen", last),
         Form::RecoverAll => push_all_line(out, names, b"recover all", last),
         Form::JoinAll => push_all_line(out, names, b"join all", last),

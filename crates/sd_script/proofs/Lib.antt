@@ -13,3 +13,7 @@ pub mod Refused
 pub mod OneForm
 pub mod Packing
 mod Rising
+pub mod FirstCause
+pub mod Causing
+mod Printed
+mod Trying

@@ -1,19 +1,19 @@
 -- No two forms have the same words, where the same ordinals are known. It serves the laws on readings.
-use Rattle.std.proofs.Common.{◌≡◌, ℕ, ℤ, pos, negsuc, ◌<◌, ◌^◌, List, get_or, refl, sym, ap, ◌∙◌, subst, arith}
+use Rattle.std.proofs.Common.{◌≡◌, ℕ, ℤ, pos, negsuc, ◌<◌, ◌^◌, List, get_or, refl, sym, ap, ◌∙◌, subst, arith, lit<, ⊎_elim}
 use Rattle.std.specs.Prelude.{Option, None, Some, codes}
 use Rattle.std.specs.Fmt.{decimal, signed_decimal}
 use Rattle.std.specs.Int.Signed.{mag}
-use Rattle.std.proofs.lemmas.Fmt.{signed_decimal_injective}
+use Rattle.std.proofs.lemmas.Fmt.{decimal_injective, signed_decimal_injective}
 use Rattle.sd_base.specs.declared.ids.Rid.{Rid}
 use Rattle.sd_base.specs.declared.place.Mode.{Mode}
 use Rattle.sd_base.specs.declared.place.Mode.TheVariants.{Shared, Excl}
 use Rattle.sd_script.specs.declared.line.Form.{Form}
-use Rattle.sd_script.specs.declared.line.Form.TheVariants.{Complex, Begin, Read, Write, Add, Insert, Delete, Save, Back, Rollback, Commit, Ask, Give, Take, Evict, Flush, Force, Fail, Fuse, Fault, FailAll, Reopen, RecoverAll, JoinAll, Where, Table}
+use Rattle.sd_script.specs.declared.line.Form.TheVariants.{Complex, Begin, Read, Write, Add, Insert, Delete, Save, Back, Rollback, Commit, Ask, Give, Take, Evict, Flush, Force, Fail, Fuse, Fault, FailAll, Recover, Join, Reopen, RecoverAll, JoinAll, Where, Table}
 use Rattle.sd_base.specs.declared.trouble.Pick.{Pick}
 use Rattle.sd_base.specs.declared.trouble.Pick.TheVariants.{Keep, Lose, Tear, Junk}
-use Rattle.sd_script.specs.Forms.{form_words, rid_word, mode_word, pick_word, capacity_words, IsForm, IsKnownBy, IsAmount, HasRoom}
+use Rattle.sd_script.specs.Forms.{form_words, rid_word, mode_word, pick_word, number_words, IsForm, IsInst, IsKnownBy, IsAmount, AreSteps, HasRoom}
 use Rattle.sd_script.proofs.Spellings.{same_number, same_rid}
-use Rattle.sd_script.proofs.Shapes.{begin_is, ask_is, give_is, take_is, evict_is, flush_is, force_is, complex_is, read_is, delete_is, write_is, add_is, insert_is, save_is, back_is, rollback_is, commit_is, fail_is, fuse_is, fault_is, fail_all_is, reopen_is, recover_is, join_is, where_is}
+use Rattle.sd_script.proofs.Shapes.{begin_is, ask_is, give_is, take_is, evict_is, flush_is, force_is, complex_is, read_is, delete_is, write_is, add_is, insert_is, save_is, back_is, rollback_is, commit_is, fail_is, fuse_is, fault_is, fail_all_is, reopen_is, recover_is, join_is, no_verb, recovery_is, where_is}
 
 same_ordinal : (m n : ℕ) (o : Option ℕ) → o ≡ Some m → o ≡ Some n → m ≡ n
 same_ordinal m n o a b = let both : Some m ≡ Some n = sym a ∙ b in cc
@@ -49,7 +49,15 @@ same_pick Junk Keep e = absurd (omega (arith, ap (λ (l : List ℕ). get_or l 0 
 same_pick Junk Lose e = absurd (omega (arith, ap (λ (l : List ℕ). get_or l 0 0) e))
 same_pick Junk Tear e = absurd (omega (arith, ap (λ (l : List ℕ). get_or l 0 0) e))
 
-same_capacity : (value : List ℕ) (c d : Option ℕ) → HasRoom value c → HasRoom value d → capacity_words c ≡ capacity_words d
+no_all : (i : ℕ) → IsInst i → decimal i ≡ codes "all" → ⊥
+no_all i is e = no_verb i is (codes "all") (lit< tt) e
+
+same_steps : (k l : Option ℕ) → AreSteps k → AreSteps l → number_words k ≡ number_words l → k ≡ l
+same_steps None None a b e = refl
+same_steps (Some k) (Some l) a b e = ap (λ (n : ℕ). Some n) (decimal_injective k l (omega (arith, a.1)) (omega (arith, b.1)) (cc))
+same_steps k l a b e = absurd (cc)
+
+same_capacity : (value : List ℕ) (c d : Option ℕ) → HasRoom value c → HasRoom value d → number_words c ≡ number_words d
     → c ≡ d
 same_capacity value None None a b e = refl
 same_capacity value (Some c) (Some d) a b e = ap (λ (n : ℕ). Some n) (same_number c d (omega (arith, a.1)) (omega (arith, b.1)) (cc))
@@ -87,7 +95,7 @@ one_form known (Add x m r y) g a b c d e =
     ap (λ (n : ℕ). Add x n r y) ordinal ∙ ap (λ (q : Rid). Add x at.0 q y) rid ∙ ap (λ (z : ℤ). Add x at.0 at.1 z) amount
     ∙ sym at.3
 one_form known (Insert x m p v k) g a b c d e =
-    let at = insert_is g x (decimal p) v (capacity_words k) b (sym e) in
+    let at = insert_is g x (decimal p) v (number_words k) b (sym e) in
     let parts = subst IsForm at.3 b in
     let ordinal : m ≡ at.0 = same_ordinal m at.0 (known x) c (subst (IsKnownBy known) at.3 d) in
     let page : p ≡ at.1 = same_number p at.1 (omega (arith, a.1)) (omega (arith, parts.1)) (sym at.4) in
@@ -163,7 +171,19 @@ one_form known (FailAll p) g a b c d e =
     ap (λ (q : Pick). FailAll q) (same_pick p at.0 (sym at.3)) ∙ sym at.1
 one_form known Reopen g a b c d e = sym (reopen_is g b (sym e))
 one_form known RecoverAll g a b c d e = sym (recover_is g (codes "all") b (sym e)).0
-one_form known JoinAll g a b c d e = sym (join_is g (codes "all") b (sym e)).0
+one_form known JoinAll g a b c d e = ⊎_elim (λ every. sym every.0)
+    (λ one. absurd (no_all one.0 (subst IsForm one.1 b) one.2)) (join_is g (codes "all") b (sym e))
+one_form known (Join i) g a b c d e = ⊎_elim (λ every. absurd (no_all i a (sym every.1)))
+    (λ one. ap (λ (n : ℕ). Join n) (same_number i one.0 (omega (arith, a)) (omega (arith, let is : IsInst one.0 = subst IsForm one.1 b in is)) (sym one.2)) ∙ sym one.1)
+    (join_is g (decimal i) b (sym e))
+one_form known (Recover i j k) g a b c d e =
+    let at = recovery_is g (decimal i) (codes "by") (decimal j) (number_words k) b (sym e) in
+    let parts = subst IsForm at.3 b in
+    let inst : i ≡ at.0 = same_number i at.0 (omega (arith, a.0)) (omega (arith, parts.0)) (sym at.4) in
+    let by : j ≡ at.1 = same_number j at.1 (omega (arith, a.1)) (omega (arith, parts.1)) (sym at.6) in
+    let most : k ≡ at.2 = same_steps k at.2 a.2 parts.2 (sym at.7) in
+    ap (λ (n : ℕ). Recover n j k) inst ∙ ap (λ (n : ℕ). Recover at.0 n k) by
+    ∙ ap (λ (o : Option ℕ). Recover at.0 at.1 o) most ∙ sym at.3
 one_form known (Where p) g a b c d e =
     let at = where_is g (decimal p) b (sym e) in
     let parts = subst IsForm at.1 b in

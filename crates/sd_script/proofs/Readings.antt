@@ -3,7 +3,8 @@ use Rattle.std.proofs.Common.{◌≡◌, ℕ, zero, suc, ◌<◌, ◌≤◌, ◌
 use Rattle.std.proofs.lemmas.Bool.{cases_lt}
 use Rattle.std.proofs.lemmas.List.{take_all}
 use Rattle.std.proofs.lemmas.Option.{slice_get_within}
-use Rattle.std.specs.Prelude.{slice_get}
+use Rattle.std.specs.Prelude.{slice_get, Option, None}
+use Rattle.sd_base.specs.declared.refusal.LineError.{LineError}
 use Rattle.sd_script.specs.declared.line.Form.{Form}
 use Rattle.sd_script.specs.declared.line.Form.TheVariants.{Read, Write, Add, Insert, Delete, Save, Back, Rollback, Commit}
 use Rattle.sd_script.specs.declared.line.Line.{Line}
@@ -11,7 +12,8 @@ use Rattle.sd_script.specs.Forms.{form_words, IsForm, IsKnownBy}
 use Rattle.sd_script.specs.Order.{Follows, begun, ordinal_of}
 use Rattle.sd_script.specs.Text.{lines_of, end_of}
 use Rattle.sd_script.specs.Words.{words_of}
-use Rattle.sd_script.specs.Reading.{ReadsAs, Reads, IsRead, IsScript, IsBadAt}
+use Rattle.sd_script.specs.Reading.{ReadsAs, Reads, IsRead, IsScript, IsBadAt, IsBadNext}
+use Rattle.sd_script.proofs.FirstCause.{no_cause, one_cause}
 use Rattle.sd_script.proofs.OneForm.{one_form}
 use Rattle.sd_base.proofs.Lists.{stands_at, slice_get-append_left, slice_get-push, take-push, take-append_left, take_next}
 
@@ -102,22 +104,53 @@ read-le text lines read (suc n) le =
 pub one_reading : (text : List ℕ) (lines others : List Line) → IsScript text lines → IsScript text others → lines ≡ others
 one_reading text lines others a b = same_readings text lines others a.read b.read (a.whole ∙ sym b.whole)
 
-pub no_bad_script : (text : List ℕ) (lines : List Line) (n : ℕ) → IsScript text lines → IsBadAt text n → ⊥
-no_bad_script text lines n script bad =
+-- no line reads where one is bad
+next_unread : (text : List ℕ) (before : List Line) (at : Option (List ℕ)) (c : LineError) → IsBadNext text before at c
+    → slice_get (lines_of text) (length before) ≡ at → (line : Line) → ¬ Reads text before line
+next_unread text before None c bad at line next = let clash : Some next.bytes ≡ None = sym next.stands ∙ at in absurd (cc)
+next_unread text before (Some bytes) c bad at line next =
+    let same : next.bytes ≡ bytes = let both : Some next.bytes ≡ Some bytes = sym next.stands ∙ at in cc in
+    no_cause before bytes (end_of text (length before + 1)) line
+    (subst (λ (b : List ℕ). ReadsAs before b (end_of text (length before + 1)) line) same next.reads) c bad.holds
+
+unread : (text : List ℕ) (n : ℕ) (c : LineError) (bad : IsBadAt text n c) (line : Line) → ¬ Reads text bad.before line
+unread text n c bad line = next_unread text bad.before (slice_get (lines_of text) (length bad.before)) c bad.next refl line
+
+next_unfinished : (text : List ℕ) (before : List Line) (at : Option (List ℕ)) (c : LineError) → IsBadNext text before at c
+    → slice_get (lines_of text) (length before) ≡ at → ¬ IsScript text before
+next_unfinished text before None c bad at script =
+    let none : length before ≡ 0 = ap length bad.0 in
+    omega (arith, none, script.some)
+next_unfinished text before (Some bytes) c bad at script =
+    omega (arith, slice_get_within (lines_of text) (length before) bytes at, script.whole)
+
+pub no_bad_script : (text : List ℕ) (lines : List Line) (n : ℕ) (c : LineError) → IsScript text lines → IsBadAt text n c → ⊥
+no_bad_script text lines n c script bad =
     ⊎_elim
-    (λ lt. let next = goes_on text bad.before lines bad.read script.read lt in bad.unread next.0 next.1)
+    (λ lt. let next = goes_on text bad.before lines bad.read script.read lt in unread text n c bad next.0 next.1)
     (λ ge. ⊎_elim
     (λ lt. let next = goes_on text lines bad.before script.read bad.read lt in none_behind text lines next.0 (omega (arith, script.whole)) next.1)
-    (λ le. bad.unfinished (subst (IsScript text) (same_readings text lines bad.before script.read bad.read (omega arith)) script))
+    (λ le. next_unfinished text bad.before (slice_get (lines_of text) (length bad.before)) c bad.next refl
+    (subst (IsScript text) (same_readings text lines bad.before script.read bad.read (omega arith)) script))
     (cases_lt (length lines) (length bad.before)))
     (cases_lt (length bad.before) (length lines))
 
-pub one_bad_line : (text : List ℕ) (m n : ℕ) → IsBadAt text m → IsBadAt text n → m ≡ n
-one_bad_line text m n a b =
+one_next : (text : List ℕ) (before : List Line) (at : Option (List ℕ)) (c d : LineError) → IsBadNext text before at c
+    → IsBadNext text before at d → c ≡ d
+one_next text before None c d a b = a.1 ∙ sym b.1
+one_next text before (Some bytes) c d a b = one_cause before bytes (end_of text (length before + 1)) c d a b
+
+pub one_bad_line : (text : List ℕ) (m n : ℕ) (c d : LineError) → IsBadAt text m c → IsBadAt text n d → (m ≡ n) × (c ≡ d)
+one_bad_line text m n c d a b =
     ⊎_elim
-    (λ lt. let next = goes_on text a.before b.before a.read b.read lt in absurd (a.unread next.0 next.1))
+    (λ lt. let next = goes_on text a.before b.before a.read b.read lt in absurd (unread text m c a next.0 next.1))
     (λ ge. ⊎_elim
-    (λ lt. let next = goes_on text b.before a.before b.read a.read lt in absurd (b.unread next.0 next.1))
-    (λ le. a.number_is ∙ ap (λ k. k + 1) (let e : length a.before ≡ length b.before = omega arith in e) ∙ sym b.number_is)
+    (λ lt. let next = goes_on text b.before a.before b.read a.read lt in absurd (unread text n d b next.0 next.1))
+    (λ le.
+    let same : a.before ≡ b.before = same_readings text a.before b.before a.read b.read (omega arith) in (
+      a.number_is ∙ ap (λ (l : List Line). length l + 1) same ∙ sym b.number_is,
+      one_next text b.before (slice_get (lines_of text) (length b.before)) c d
+          (subst (λ (l : List Line). IsBadNext text l (slice_get (lines_of text) (length l)) c) same a.next) b.next,
+    ))
     (cases_lt (length b.before) (length a.before)))
     (cases_lt (length a.before) (length b.before))

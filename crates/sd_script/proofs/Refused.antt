@@ -1,5 +1,5 @@
 -- Which words have no form. It serves the goals of form.rt, inst_forms.rt and verb_forms.rt.
-use Rattle.std.proofs.Common.{◌≡◌, ◌≢◌, ℕ, ℤ, true, false, ◌<◌, ◌≤◌, List, [], ◌∷◌, length, Option, None, Some, sym, ap, ◌∙◌, subst, arith}
+use Rattle.std.proofs.Common.{◌≡◌, ◌≢◌, ⊎_elim, ℕ, ℤ, true, false, ◌<◌, ◌≤◌, ◌^◌, List, [], ◌∷◌, length, Option, None, Some, sym, ap, ◌∙◌, subst, arith}
 use Rattle.std.specs.Prelude.{codes}
 use Rattle.std.specs.Cmp.Lexicographic.{bytes_decides}
 use Rattle.std.specs.Fmt.{decimal, signed_decimal}
@@ -7,10 +7,10 @@ use Rattle.std.specs.Str.{bytes_eq}
 use Rattle.sd_base.specs.declared.ids.Rid.{Rid}
 use Rattle.sd_base.specs.declared.place.Mode.{Mode}
 use Rattle.sd_script.specs.declared.line.Form.{Form}
-use Rattle.sd_script.specs.declared.line.Form.TheVariants.{Complex, Begin, Read, Write, Add, Insert, Delete, Save, Back, Rollback, Commit, Ask, Give, Take, Evict, Flush, Force, Fail, Fuse, Fault, FailAll, Reopen, RecoverAll, JoinAll, Where, Table}
+use Rattle.sd_script.specs.declared.line.Form.TheVariants.{Complex, Begin, Read, Write, Add, Insert, Delete, Save, Back, Rollback, Commit, Ask, Give, Take, Evict, Flush, Force, Fail, Fuse, Fault, FailAll, Recover, Join, Reopen, RecoverAll, JoinAll, Where, Table}
 use Rattle.sd_base.specs.declared.trouble.Pick.{Pick}
-use Rattle.sd_script.specs.Forms.{form_words, rid_word, mode_word, pick_word, capacity_words, IsForm, IsKnownBy, IsName, IsValue, IsRid, IsAmount, IsCount, IsInst, IsNoInst, HasRoom}
-use Rattle.sd_script.proofs.Shapes.{verb_in, inst_led, begin_is, ask_is, give_is, take_is, evict_is, flush_is, complex_is, read_is, delete_is, write_is, add_is, insert_is, save_is, back_is, rollback_is, commit_is, fail_is, fuse_is, fault_is, fail_all_is, recover_is, join_is, where_is}
+use Rattle.sd_script.specs.Forms.{form_words, rid_word, mode_word, pick_word, number_words, AreSteps, IsForm, IsKnownBy, IsName, IsValue, IsRid, IsAmount, IsCount, IsInst, IsNoInst, HasRoom}
+use Rattle.sd_script.proofs.Shapes.{verb_in, inst_led, begin_is, ask_is, give_is, take_is, evict_is, flush_is, complex_is, read_is, delete_is, write_is, add_is, insert_is, save_is, back_is, rollback_is, commit_is, fail_is, fuse_is, fault_is, fail_all_is, recover_is, join_is, recovery_is, where_is}
 
 -- what a comparison of words tells
 pub is_word : (word bytes due : List ℕ) → bytes ≡ due → true ≡ bytes_eq word bytes → word ≡ due
@@ -83,6 +83,7 @@ no_two known verb word none commit rollback where_ fail fuse fault recover join 
 no_two known verb word none commit rollback where_ fail fuse fault recover join (Fault n) is knows e = fault (cc)
 no_two known verb word none commit rollback where_ fail fuse fault recover join RecoverAll is knows e = recover (cc)
 no_two known verb word none commit rollback where_ fail fuse fault recover join JoinAll is knows e = join (cc)
+no_two known verb word none commit rollback where_ fail fuse fault recover join (Join i) is knows e = join (cc)
 no_two known verb word none commit rollback where_ fail fuse fault recover join (Force i) is knows e = none i is (cc)
 no_two known verb word none commit rollback where_ fail fuse fault recover join _ is knows e = absurd (cc)
 
@@ -102,25 +103,30 @@ no_three_of known verb second third none read delete save back fail (Flush i pag
 no_three_of known verb second third none read delete save back fail _ is knows e = absurd (cc)
 
 pub no_four : (known : List ℕ → Option ℕ) (verb second third fourth : List ℕ) → IsNoInst verb → verb ≢ codes "insert"
-    → verb ≢ codes "write" → verb ≢ codes "add" → verb ≢ codes "complex" → (form : Form) → IsForm form → IsKnownBy known form
+    → verb ≢ codes "write" → verb ≢ codes "add" → verb ≢ codes "complex" → verb ≢ codes "recover" → (form : Form) → IsForm form
+    → IsKnownBy known form
     → form_words form ≡ verb ∷ second ∷ third ∷ fourth ∷ [] → ⊥
-no_four known verb second third fourth none insert write add complex
+no_four known verb second third fourth none insert write add complex recover (Recover i by most) is knows e = recover (cc)
+no_four known verb second third fourth none insert write add complex recover
     (Insert name ordinal page value capacity) is knows e = insert (cc)
-no_four known verb second third fourth none insert write add complex (Write name ordinal rid value) is knows e = write (cc)
-no_four known verb second third fourth none insert write add complex (Add name ordinal rid by) is knows e = add (cc)
-no_four known verb second third fourth none insert write add complex (Complex insts pages frames) is knows e = complex (cc)
-no_four known verb second third fourth none insert write add complex (Ask i page mode) is knows e = none i is.0 (cc)
-no_four known verb second third fourth none insert write add complex _ is knows e = absurd (cc)
+no_four known verb second third fourth none insert write add complex recover (Write name ordinal rid value) is knows e = write (cc)
+no_four known verb second third fourth none insert write add complex recover (Add name ordinal rid by) is knows e = add (cc)
+no_four known verb second third fourth none insert write add complex recover (Complex insts pages frames) is knows e = complex (cc)
+no_four known verb second third fourth none insert write add complex recover (Ask i page mode) is knows e = none i is.0 (cc)
+no_four known verb second third fourth none insert write add complex recover _ is knows e = absurd (cc)
 
-pub no_five : (known : List ℕ → Option ℕ) (verb second third fourth fifth : List ℕ) → verb ≢ codes "insert" → (form : Form)
+pub no_five : (known : List ℕ → Option ℕ) (verb second third fourth fifth : List ℕ) → verb ≢ codes "insert" → verb ≢ codes "recover" → (form : Form)
     → IsForm form → IsKnownBy known form → form_words form ≡ verb ∷ second ∷ third ∷ fourth ∷ fifth ∷ [] → ⊥
-no_five known verb second third fourth fifth insert (Insert name ordinal page value capacity) is knows e = insert (cc)
-no_five known verb second third fourth fifth insert _ is knows e = absurd (cc)
+no_five known verb second third fourth fifth insert recover (Insert name ordinal page value capacity) is knows e = insert (cc)
+no_five known verb second third fourth fifth insert recover (Recover i by most) is knows e = recover (cc)
+no_five known verb second third fourth fifth insert recover _ is knows e = absurd (cc)
 
 pub no_six : (known : List ℕ → Option ℕ) (a b c d e f : List ℕ) (more : List (List ℕ)) → (form : Form) → IsForm form
     → IsKnownBy known form → form_words form ≡ a ∷ b ∷ c ∷ d ∷ e ∷ f ∷ more → ⊥
 no_six known a b c d e f more (Insert name ordinal page value None) is knows same = absurd (cc)
 no_six known a b c d e f more (Insert name ordinal page value (Some capacity)) is knows same = absurd (cc)
+no_six known a b c d e f more (Recover i by None) is knows same = absurd (cc)
+no_six known a b c d e f more (Recover i by (Some most)) is knows same = absurd (cc)
 no_six known a b c d e f more _ is knows same = absurd (cc)
 
 -- an instance's line whose parts are none
@@ -212,7 +218,7 @@ add_none known name rid by bad form is knows e =
 
 pub insert_none : (known : List ℕ → Option ℕ) (name page value : List ℕ) (more : List (List ℕ))
     → ((o p : ℕ) (c : Option ℕ) → IsName name → p < 1024 → IsValue value → HasRoom value c → known name ≡ Some o
-    → decimal p ≡ page → capacity_words c ≡ more → ⊥)
+    → decimal p ≡ page → number_words c ≡ more → ⊥)
     → (form : Form) → IsForm form → IsKnownBy known form → form_words form ≡ codes "insert" ∷ name ∷ page ∷ value ∷ more → ⊥
 insert_none known name page value more bad form is knows e =
     let words = insert_is form name page value more is e in
@@ -221,7 +227,7 @@ insert_none known name page value more bad form is knows e =
     bad words.0 words.1 words.2 parts.0 parts.1 parts.2 parts.3 known_is words.4 words.5
 
 pub no_room : (value word : List ℕ) → ((c : ℕ) → length value ≤ c → c ≤ 65535 → decimal c ≢ word) → (c : Option ℕ)
-    → HasRoom value c → capacity_words c ≡ word ∷ [] → ⊥
+    → HasRoom value c → number_words c ≡ word ∷ [] → ⊥
 no_room value word bad None room e = absurd (cc)
 no_room value word bad (Some c) room e = bad c room.0 room.1 (cc)
 
@@ -288,9 +294,24 @@ pub recover_none : (known : List ℕ → Option ℕ) (all : List ℕ) → (all �
     → IsKnownBy known form → form_words form ≡ codes "recover" ∷ all ∷ [] → ⊥
 recover_none known all bad form is knows e = bad (sym (recover_is form all is e).1)
 
-pub join_none : (known : List ℕ → Option ℕ) (all : List ℕ) → (all ≡ codes "all" → ⊥) → (form : Form) → IsForm form
-    → IsKnownBy known form → form_words form ≡ codes "join" ∷ all ∷ [] → ⊥
-join_none known all bad form is knows e = bad (sym (join_is form all is e).1)
+pub join_none : (known : List ℕ → Option ℕ) (word : List ℕ) → (word ≡ codes "all" → ⊥) → IsNoInst word → (form : Form)
+    → IsForm form → IsKnownBy known form → form_words form ≡ codes "join" ∷ word ∷ [] → ⊥
+join_none known word bad none form is knows e = ⊎_elim (λ every. bad (sym every.1)) (λ one. none one.0 (subst IsForm one.1 is) one.2)
+    (join_is form word is e)
+
+pub recovery_none : (known : List ℕ → Option ℕ) (inst between by : List ℕ) (more : List (List ℕ))
+    → ((i j : ℕ) (k : Option ℕ) → IsInst i → IsInst j → AreSteps k → decimal i ≡ inst → codes "by" ≡ between → decimal j ≡ by
+    → number_words k ≡ more → ⊥)
+    → (form : Form) → IsForm form → IsKnownBy known form → form_words form ≡ codes "recover" ∷ inst ∷ between ∷ by ∷ more → ⊥
+recovery_none known inst between by more bad form is knows e =
+    let words = recovery_is form inst between by more is e in
+    let parts = subst IsForm words.3 is in
+    bad words.0 words.1 words.2 parts.0 parts.1 parts.2 words.4 words.5 words.6 words.7
+
+pub no_steps : (word : List ℕ) → ((k : ℕ) → 1 ≤ k → k < 10 ^ 10 → decimal k ≢ word) → (most : Option ℕ) → AreSteps most
+    → number_words most ≡ word ∷ [] → ⊥
+no_steps word bad None are e = absurd (cc)
+no_steps word bad (Some k) are e = bad k are.0 are.1 (cc)
 
 pub where_none : (known : List ℕ → Option ℕ) (page : List ℕ) → ((p : ℕ) → p < 1024 → decimal p ≢ page) → (form : Form)
     → IsForm form → IsKnownBy known form → form_words form ≡ codes "where" ∷ page ∷ [] → ⊥

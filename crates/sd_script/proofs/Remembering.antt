@@ -18,7 +18,7 @@ begun-push : (lines : List Line) (line : Line) → begun (lines ++ line ∷ []) 
 begun-push lines line = flat_map-append (λ (l : Line). begun_by l.form) lines (line ∷ []) ∙ ap (λ l. begun lines ++ l) (append-nil (begun_by line.form))
 
 -- a name that is begun has no ordinal yet
-unnamed : (lines : List Line) (name : List ℕ) → ¬ IsBegun name lines → has_name (begun lines) name ≡ false
+pub unnamed : (lines : List Line) (name : List ℕ) → ¬ IsBegun name lines → has_name (begun lines) name ≡ false
 unnamed lines name fresh = ⊎_elim (λ (had : has_name (begun lines) name ≡ true). absurd (fresh had)) (λ lacks. lacks) (cases_Bool (has_name (begun lines) name))
 
 -- the ordinals

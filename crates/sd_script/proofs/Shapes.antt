@@ -1,5 +1,5 @@
 -- Which form has words that begin so. It serves the goals of form.rt, inst_forms.rt and verb_forms.rt, and the law of one form.
-use Rattle.std.proofs.Common.{◌≡◌, ℕ, ℤ, ◌<◌, ◌+◌, List, [], ◌∷◌, length, get_or, Option, refl, sym, ap, ◌∙◌, arith, lit<}
+use Rattle.std.proofs.Common.{◌≡◌, ◌⊎◌, inl, inr, ℕ, ℤ, ◌<◌, ◌+◌, List, [], ◌∷◌, length, get_or, Option, refl, sym, ap, ◌∙◌, arith, lit<}
 use Rattle.std.specs.Prelude.{codes}
 use Rattle.std.specs.Fmt.{decimal, signed_decimal}
 use Rattle.std.proofs.lemmas.Fmt.{decimal_digit}
@@ -7,8 +7,8 @@ use Rattle.sd_base.specs.declared.ids.Rid.{Rid}
 use Rattle.sd_base.specs.declared.place.Mode.{Mode}
 use Rattle.sd_base.specs.declared.trouble.Pick.{Pick}
 use Rattle.sd_script.specs.declared.line.Form.{Form}
-use Rattle.sd_script.specs.declared.line.Form.TheVariants.{Complex, Begin, Read, Write, Add, Insert, Delete, Save, Back, Rollback, Commit, Ask, Give, Take, Evict, Flush, Force, Fail, Fuse, Fault, FailAll, Reopen, RecoverAll, JoinAll, Where, Table}
-use Rattle.sd_script.specs.Forms.{form_words, rid_word, mode_word, pick_word, capacity_words, IsForm, IsInst, IsNoInst}
+use Rattle.sd_script.specs.declared.line.Form.TheVariants.{Complex, Begin, Read, Write, Add, Insert, Delete, Save, Back, Rollback, Commit, Ask, Give, Take, Evict, Flush, Force, Fail, Fuse, Fault, FailAll, Recover, Join, Reopen, RecoverAll, JoinAll, Where, Table}
+use Rattle.sd_script.specs.Forms.{form_words, rid_word, mode_word, pick_word, number_words, IsForm, IsInst, IsNoInst}
 
 -- the first word of a form, where it is a verb
 abbrev pub verb_in : Form → List ℕ
@@ -26,6 +26,8 @@ verb_in (Fail inst) = codes "fail"
 verb_in (Fuse calls) = codes "fuse"
 verb_in (Fault call) = codes "fault"
 verb_in (FailAll pick) = codes "fail"
+verb_in (Recover inst by most) = codes "recover"
+verb_in (Join inst) = codes "join"
 verb_in Reopen = codes "reopen"
 verb_in RecoverAll = codes "recover"
 verb_in JoinAll = codes "join"
@@ -45,7 +47,7 @@ order_in (Force inst) = codes "force"
 order_in _ = []
 
 -- an instance has one digit, so its word is no verb
-inst_digit : (i : ℕ) → IsInst i → decimal i ≡ (48 + i) ∷ []
+pub inst_digit : (i : ℕ) → IsInst i → decimal i ≡ (48 + i) ∷ []
 inst_digit i is = decimal_digit i (omega (arith, is))
 
 pub no_verb : (i : ℕ) → IsInst i → (word : List ℕ) → 1 < length word → decimal i ≡ word → ⊥
@@ -218,11 +220,11 @@ add_is form name rid by is e = with_verb form (verb_found form (codes "add") (na
 
 pub insert_is : (form : Form) (name page value : List ℕ) (more : List (List ℕ)) → IsForm form
     → form_words form ≡ codes "insert" ∷ name ∷ page ∷ value ∷ more
-    → (o : ℕ) × (p : ℕ) × (c : Option ℕ) × (form ≡ Insert name o p value c) × (decimal p ≡ page) × (capacity_words c ≡ more)
+    → (o : ℕ) × (p : ℕ) × (c : Option ℕ) × (form ≡ Insert name o p value c) × (decimal p ≡ page) × (number_words c ≡ more)
 insert_is form name page value more is e = with_verb form (verb_found form (codes "insert") (name ∷ page ∷ value ∷ more)
     (lit< tt) is e) e where
       with_verb : (f : Form) → verb_in f ≡ codes "insert" → form_words f ≡ codes "insert" ∷ name ∷ page ∷ value ∷ more
-          → (o : ℕ) × (p : ℕ) × (c : Option ℕ) × (f ≡ Insert name o p value c) × (decimal p ≡ page) × (capacity_words c ≡ more)
+          → (o : ℕ) × (p : ℕ) × (c : Option ℕ) × (f ≡ Insert name o p value c) × (decimal p ≡ page) × (number_words c ≡ more)
       with_verb (Insert n o p v c) verb e = let same : n ≡ name = cc in let bytes : v ≡ value = cc in (
         o,
         p,
@@ -313,14 +315,30 @@ recover_is form all is e = with_verb form (verb_found form (codes "recover") (al
   with_verb : (f : Form) → verb_in f ≡ codes "recover" → form_words f ≡ codes "recover" ∷ all ∷ []
       → (f ≡ RecoverAll) × (codes "all" ≡ all)
   with_verb RecoverAll verb e = (refl, cc)
+  with_verb (Recover i j k) verb e = absurd (cc)
   with_verb _ verb e = absurd (omega (arith, ap (λ (l : List ℕ). get_or l 3 0) verb))
 
-pub join_is : (form : Form) (all : List ℕ) → IsForm form → form_words form ≡ codes "join" ∷ all ∷ []
-    → (form ≡ JoinAll) × (codes "all" ≡ all)
-join_is form all is e = with_verb form (verb_found form (codes "join") (all ∷ []) (lit< tt) is e) e where
-  with_verb : (f : Form) → verb_in f ≡ codes "join" → form_words f ≡ codes "join" ∷ all ∷ []
-      → (f ≡ JoinAll) × (codes "all" ≡ all)
-  with_verb JoinAll verb e = (refl, cc)
+-- an instance is recovered by another
+pub recovery_is : (form : Form) (inst between by : List ℕ) (more : List (List ℕ)) → IsForm form
+    → form_words form ≡ codes "recover" ∷ inst ∷ between ∷ by ∷ more
+    → (i : ℕ) × (j : ℕ) × (k : Option ℕ) × (form ≡ Recover i j k) × (decimal i ≡ inst) × (codes "by" ≡ between)
+    × (decimal j ≡ by) × (number_words k ≡ more)
+recovery_is form inst between by more is e = with_verb form (verb_found form (codes "recover")
+    (inst ∷ between ∷ by ∷ more) (lit< tt) is e) e where
+      with_verb : (f : Form) → verb_in f ≡ codes "recover" → form_words f ≡ codes "recover" ∷ inst ∷ between ∷ by ∷ more
+          → (i : ℕ) × (j : ℕ) × (k : Option ℕ) × (f ≡ Recover i j k) × (decimal i ≡ inst) × (codes "by" ≡ between)
+          × (decimal j ≡ by) × (number_words k ≡ more)
+      with_verb (Recover i j k) verb e = (i, j, k, refl, cc, cc, cc, cc)
+      with_verb RecoverAll verb e = absurd (cc)
+      with_verb _ verb e = absurd (omega (arith, ap (λ (l : List ℕ). get_or l 3 0) verb))
+
+pub join_is : (form : Form) (word : List ℕ) → IsForm form → form_words form ≡ codes "join" ∷ word ∷ []
+    → ((form ≡ JoinAll) × (codes "all" ≡ word)) ⊎ ((i : ℕ) × (form ≡ Join i) × (decimal i ≡ word))
+join_is form word is e = with_verb form (verb_found form (codes "join") (word ∷ []) (lit< tt) is e) e where
+  with_verb : (f : Form) → verb_in f ≡ codes "join" → form_words f ≡ codes "join" ∷ word ∷ []
+      → ((f ≡ JoinAll) × (codes "all" ≡ word)) ⊎ ((i : ℕ) × (f ≡ Join i) × (decimal i ≡ word))
+  with_verb JoinAll verb e = inl (refl, cc)
+  with_verb (Join i) verb e = inr (i, refl, cc)
   with_verb _ verb e = absurd (omega (arith, ap (λ (l : List ℕ). get_or l 0 0) verb))
 
 pub where_is : (form : Form) (page : List ℕ) → IsForm form → form_words form ≡ codes "where" ∷ page ∷ []

@@ -12,6 +12,7 @@ use Rattle.std.specs.Fmt.{decimal, signed_decimal}
 use Rattle.std.specs.Int.{IsInRange}
 use Rattle.std.specs.List.{position_or_len}
 use Rattle.sd_base.specs.declared.ids.Rid.{Rid}
+use Rattle.sd_script.specs.Causes.{IsNumberIn, IsWideRecord}
 use Rattle.sd_script.specs.Forms.{rid_word, IsRid, IsAmount}
 use Rattle.sd_script.proofs.Parting.{rest_of}
 
@@ -53,7 +54,7 @@ dotted word dot p s at page slot =
     ∙ sym (split_at word dot 0 found.0)
 
 -- the dot parts the word of a record
-pub parted : (word : List ℕ) (dot : ℕ) (r : Rid) → IsRid r → rid_word r ≡ word → position is_dot word ≡ Some dot
+pub parted : (word : List ℕ) (dot : ℕ) (r : Rid) → r.page < 10 ^ 10 → rid_word r ≡ word → position is_dot word ≡ Some dot
     → (decimal r.page ≡ take dot word) × (decimal r.slot ≡ take (length word - (dot + 1)) (drop (dot + 1) word))
 parted word dot r is e at =
     let both : Some (length (decimal r.page)) ≡ Some dot = sym (dot_at r.page (decimal r.slot) (omega (arith, is)))
@@ -70,11 +71,28 @@ parted word dot r is e at =
       drop_dot (x ∷ xs) ys zero count = absurd (omega arith)
       drop_dot (x ∷ xs) ys (suc n) count = drop_dot xs ys n (omega arith)
 
-pub has_dot : (word : List ℕ) (r : Rid) → IsRid r → rid_word r ≡ word → position is_dot word ≡ None → ⊥
+pub has_dot : (word : List ℕ) (r : Rid) → r.page < 10 ^ 10 → rid_word r ≡ word → position is_dot word ≡ None → ⊥
 has_dot word r is e none =
     let both : Some (length (decimal r.page)) ≡ None = sym (dot_at r.page (decimal r.slot) (omega (arith, is)))
     ∙ ap (position is_dot) e ∙ none in
     absurd (cc)
+
+-- the word of a record, however high its page is, by the words before and behind its dot
+module _ (word : List ℕ) (dot : ℕ) (at : position is_dot word ≡ Some dot) where
+  pub wide_is : IsNumberIn 0 9999999999 (take dot word) → IsNumberIn 0 999 (take (length word - (dot + 1)) (drop (dot + 1) word))
+      → IsWideRecord word
+  wide_is page slot = (
+    record { page = page.0; slot = slot.0 },
+    omega (arith, page.2),
+    omega (arith, slot.2),
+    dotted word dot page.0 slot.0 at page.3 slot.3,
+  )
+
+  pub wide_page : IsWideRecord word → IsNumberIn 0 9999999999 (take dot word)
+  wide_page wide = (wide.0.page, omega arith, omega (arith, wide.1), (parted word dot wide.0 wide.1 wide.3 at).0)
+
+  pub wide_slot : IsWideRecord word → IsNumberIn 0 999 (take (length word - (dot + 1)) (drop (dot + 1) word))
+  wide_slot wide = (wide.0.slot, omega arith, omega (arith, wide.2), (parted word dot wide.0 wide.1 wide.3 at).1)
 
 pub same_number : (m n : ℕ) → m ≤ 1000000 → n ≤ 1000000 → decimal m ≡ decimal n → m ≡ n
 same_number m n below_m below_n e = decimal_injective m n (omega arith) (omega arith) e
@@ -86,8 +104,8 @@ pub same_rid : (r q : Rid) → IsRid r → IsRid q → rid_word r ≡ rid_word q
 same_rid r q is_r is_q e =
     let dot : position is_dot (rid_word q) ≡ Some (length (decimal q.page)) = dot_at q.page (decimal q.slot) (omega
     (arith, is_q)) in
-    let a = parted (rid_word q) (length (decimal q.page)) r is_r e dot in
-    let b = parted (rid_word q) (length (decimal q.page)) q is_q refl dot in
+    let a = parted (rid_word q) (length (decimal q.page)) r (omega (arith, is_r)) e dot in
+    let b = parted (rid_word q) (length (decimal q.page)) q (omega (arith, is_q)) refl dot in
     let page : r.page ≡ q.page = same_number r.page q.page (omega (arith, is_r)) (omega (arith, is_q)) (a.0 ∙ sym b.0) in
     let slot : r.slot ≡ q.slot = same_number r.slot q.slot (omega (arith, is_r)) (omega (arith, is_q)) (a.1 ∙ sym b.1) in
     ap (λ (n : ℕ). made n r.slot) page ∙ ap (λ (n : ℕ). made q.page n) slot

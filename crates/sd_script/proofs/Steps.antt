@@ -1,18 +1,18 @@
 -- From one line of a text to the next. It serves the goals of script.rt.
 use Rattle.std.proofs.Common.{◌≡◌, ℕ, zero, suc, ◌+◌, ◌-◌, ◌<◌, ◌≤◌, inl, inr, min, List, [], ◌∷◌, ◌++◌, length, take, drop, Some, Result, Ok, Err, refl, sym, ap, ◌∙◌, subst, arith, length-append}
 use Rattle.std.proofs.lemmas.List.Sums.{sum_by-append}
-use Rattle.std.specs.Prelude.{slice_get, sum_by, Bool, false, ◌==◌, IfOk, IfErr}
+use Rattle.std.specs.Prelude.{slice_get, sum_by, Bool, false, ◌==◌, Option, None, IfOk, IfErr}
 use Rattle.std.proofs.lemmas.Bool.Decides.{nat_tests}
-use Rattle.std.proofs.lemmas.Option.{slice_get_within}
 use Rattle.sd_base.specs.declared.refusal.Refusal.{Refusal}
 use Rattle.sd_base.specs.declared.refusal.Refusal.TheVariants as refusal
 use Rattle.sd_base.specs.declared.refusal.LineError.{LineError}
-use Rattle.sd_base.specs.declared.refusal.LineError.TheVariants.{Word}
+use Rattle.sd_base.specs.declared.refusal.LineError.TheVariants.{Order}
 use Rattle.sd_script.specs.declared.line.Line.{Line}
 use Rattle.sd_script.specs.Text.{lines_of, end_of}
-use Rattle.sd_script.specs.Reading.{ReadsAs, Reads, IsRead, IsScript, IsBadAt, IsRefusedWith, UnlessMemory}
+use Rattle.sd_script.specs.Reading.{ReadsAs, Reads, IsRead, IsScript, IsBadAt, IsBadNext, IsRefusedWith, UnlessMemory}
+use Rattle.sd_script.specs.Causes.{IsCause}
 use Rattle.sd_script.specs.Remembered.{GoesOn, IsLineRefusedWith}
-use Rattle.sd_script.proofs.Readings.{IsRead-push, read-le, none_behind, one_reading, no_bad_script, one_bad_line}
+use Rattle.sd_script.proofs.Readings.{IsRead-push, read-le, one_reading, no_bad_script, one_bad_line}
 
 -- what stands at a place, from what is left there
 place : {X : Type 0} (xs : List X) (n : ℕ) (y : X) (ys : List X) → drop n xs ≡ y ∷ ys → (slice_get xs n ≡ Some y) × (ys ≡ drop (suc n) xs) × (take (suc n) xs ≡ take n xs ++ y ∷ [])
@@ -83,19 +83,13 @@ goes_on_to text rest line after lines new up cut next =
 
 -- a line that is refused
 pub refused_at : (text rest line after : List ℕ) (lines : List Line) (why : Refusal) → IsUpTo text lines rest → IsCut rest line after → IsLineRefusedWith lines line (length text - length after) why → IsRefusedWith text why
-refused_at text rest line after lines (refusal.BadLine number cause) up cut refused =
-    let at = next_place text rest line after lines up cut in (
-      refused.0,
-      record {
-        before = lines;
-        read = up.read;
-        number_is = refused.1;
-        unfinished = λ script. let lt = slice_get_within (lines_of text) (length lines) line at.0 in let whole = script.whole in absurd (omega arith);
-        unread = λ other reads.
-            let same : reads.bytes ≡ line = let both : Some reads.bytes ≡ Some line = sym reads.stands ∙ at.0 in cc in
-            refused.2 other (subst (λ (end : ℕ). ReadsAs lines line end other) (end_here text rest line after lines up cut) (subst (λ (bytes : List ℕ). ReadsAs lines bytes (end_of text (length lines + 1)) other) same reads.reads));
-      },
-    )
+refused_at text rest line after lines (refusal.BadLine number cause) up cut refused = record {
+  before = lines;
+  read = up.read;
+  number_is = refused.0;
+  next = subst (λ (o : Option (List ℕ)). IsBadNext text lines o cause) (sym (next_place text rest line after lines up cut).0)
+      (subst (λ (end : ℕ). IsCause lines line end cause) (sym (end_here text rest line after lines up cut)) refused.1);
+}
 refused_at text rest line after lines refusal.Memory up cut refused = tt
 refused_at text rest line after lines _ up cut refused = absurd refused
 
@@ -117,17 +111,26 @@ all_read text rest lines up e =
     omega arith
 
 -- a text without a line is bad at line 1
-pub no_line : (text : List ℕ) (lines : List Line) → IsRead text lines → length lines ≡ length (lines_of text) → length lines ≡ 0 → IsBadAt text 1
+pub no_line : (text : List ℕ) (lines : List Line) → IsRead text lines → length lines ≡ length (lines_of text) → length lines ≡ 0
+    → IsBadAt text 1 Order
 no_line text lines read whole none = record {
   before = lines;
   read = read;
   number_is = omega arith;
-  unfinished = λ script. let some = script.some in absurd (omega arith);
-  unread = λ line next. none_behind text lines line (omega arith) next;
-}
+  next = subst (λ (o : Option (List ℕ)). IsBadNext text lines o Order) (sym (past_end (lines_of text) (length lines) (omega arith)))
+      (no_items lines none, refl);
+} where
+  past_end : {X : Type 0} (xs : List X) (n : ℕ) → length xs ≤ n → slice_get xs n ≡ None
+  past_end [] n le = refl
+  past_end (x ∷ xs) zero le = absurd (omega (arith, le))
+  past_end (x ∷ xs) (suc n) le = past_end xs n (omega (arith, le))
+
+  no_items : (ls : List Line) → length ls ≡ 0 → ls ≡ []
+  no_items [] e = refl
+  no_items (l ∷ ls) e = absurd (omega (arith, e))
 
 exact_err : (text : List ℕ) (why : Refusal) → IsRefusedWith text why → (lines : List Line) → IsScript text lines → UnlessMemory (Err why) (Ok lines)
-exact_err text (refusal.BadLine number cause) bad lines script = absurd (no_bad_script text lines number script bad.1)
+exact_err text (refusal.BadLine number cause) bad lines script = absurd (no_bad_script text lines number cause script bad)
 exact_err text refusal.Memory bad lines script = inr refl
 exact_err text _ bad lines script = absurd bad
 
@@ -136,15 +139,15 @@ pub exact : (text : List ℕ) (answer : Result (List Line) Refusal) → IfOk ans
 exact text (Ok lines) found bad others script = inl (ap Ok (one_reading text lines others found script))
 exact text (Err why) found bad others script = exact_err text why bad others script
 
-exact_bad_err : (text : List ℕ) (why : Refusal) → IsRefusedWith text why → (n : ℕ) → IsBadAt text n → UnlessMemory (Err why) (Err (refusal.BadLine n Word))
-exact_bad_err text (refusal.BadLine number cause) bad n at =
-    let same : number ≡ n = one_bad_line text number n bad.1 at in
-    let word : cause ≡ Word = bad.0 in
-    inl (ap (λ (k : ℕ). Err (refusal.BadLine k cause)) same ∙ ap (λ (c : LineError). Err (refusal.BadLine n c)) word)
-exact_bad_err text refusal.Memory bad n at = inr refl
-exact_bad_err text _ bad n at = absurd bad
+exact_bad_err : (text : List ℕ) (why : Refusal) → IsRefusedWith text why → (n : ℕ) (c : LineError) → IsBadAt text n c
+    → UnlessMemory (Err why) (Err (refusal.BadLine n c))
+exact_bad_err text (refusal.BadLine number cause) bad n c at =
+    let same = one_bad_line text number n cause c bad at in
+    inl (ap (λ (k : ℕ). Err (refusal.BadLine k cause)) same.0 ∙ ap (λ (d : LineError). Err (refusal.BadLine n d)) same.1)
+exact_bad_err text refusal.Memory bad n c at = inr refl
+exact_bad_err text _ bad n c at = absurd bad
 
 -- a bad line is told
-pub exact_bad : (text : List ℕ) (answer : Result (List Line) Refusal) → IfOk answer (IsScript text) → IfErr answer (IsRefusedWith text) → (n : ℕ) → IsBadAt text n → UnlessMemory answer (Err (refusal.BadLine n Word))
-exact_bad text (Ok lines) found bad n at = absurd (no_bad_script text lines n found at)
-exact_bad text (Err why) found bad n at = exact_bad_err text why bad n at
+pub exact_bad : (text : List ℕ) (answer : Result (List Line) Refusal) → IfOk answer (IsScript text) → IfErr answer (IsRefusedWith text) → (n : ℕ) (c : LineError) → IsBadAt text n c → UnlessMemory answer (Err (refusal.BadLine n c))
+exact_bad text (Ok lines) found bad n c at = absurd (no_bad_script text lines n c found at)
+exact_bad text (Err why) found bad n c at = exact_bad_err text why bad n c at

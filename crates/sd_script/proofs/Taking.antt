@@ -11,8 +11,8 @@ use Rattle.sd_script.proofs.Readings.{ordinal_known}
 use Rattle.sd_script.proofs.Remembering.{known_from, ordinals_from, follows_from, fits_from, fresh_from}
 
 -- words of no form are taken as no line
-pub none_taken : (before after : List Line) (words : List (List ℕ)) → IsFormOf (ordinal_of (begun before)) words None → IsTakenOf before words after false
-none_taken before after words none = λ form is follows e. none form is (ordinal_known before form follows) e
+pub none_taken : (before : List Line) (words : List (List ℕ)) → IsFormOf (ordinal_of (begun before)) words None → IsTakenOf before words before false
+none_taken before words none = (λ form is follows e. none form is (ordinal_known before form follows) e, refl)
 
 -- a form by what is known is a form by the ordinals
 pub by_ordinals : (before : List Line) (known : List ℕ → Option ℕ) → AreOrdinals before known → (words : List (List ℕ)) (found : Option Form) → IsFormOf known words found → IsFormOf (ordinal_of (begun before)) words found
@@ -24,9 +24,11 @@ the_form : (before : List Line) (words : List (List ℕ)) (form due : Form) → 
 the_form before words form due is follows e found = one_form (ordinal_of (begun before)) form due is found.0 (ordinal_known before form follows) found.1 (e ∙ sym found.2)
 
 -- where it doesn't fit none is taken
-pub none_fits : (before after : List Line) (words : List (List ℕ)) (due : Form) → IsFormOf (ordinal_of (begun before)) words (Some due) → (FormFits before due → ⊥) → IsTakenOf before words after false
-none_fits before after words due found misfit = λ form is follows e.
-    misfit (fits_from before due (subst (Follows before) (the_form before words form due is follows e found) follows))
+pub none_fits : (before : List Line) (words : List (List ℕ)) (due : Form) → IsFormOf (ordinal_of (begun before)) words (Some due) → (FormFits before due → ⊥) → IsTakenOf before words before false
+none_fits before words due found misfit = (
+  λ form is follows e. misfit (fits_from before due (subst (Follows before) (the_form before words form due is follows e found) follows)),
+  refl,
+)
 
 may_follow : (before : List Line) (words : List (List ℕ)) (due : Form) → IsFormOf (ordinal_of (begun before)) words (Some due) → FormFits before due → IsFresh before due → Follows before due
 may_follow before words due found fits fresh = follows_from before (ordinal_of (begun before)) (λ name is. refl) due found.0 found.1 fits fresh
@@ -45,8 +47,10 @@ taken before after line words (Ok true) took found fits number session = record 
   number = number;
   session = session;
 }
-taken before after line words (Ok false) took found fits number session = λ form is follows e.
-    took (fresh_from before line.form (subst (Follows before) (the_form before words form line.form is follows e found) follows))
+taken before after line words (Ok false) took found fits number session = (
+  λ form is follows e. took.0 (fresh_from before line.form (subst (Follows before) (the_form before words form line.form is follows e found) follows)),
+  took.1,
+)
 
 -- a name that is new was unknown
 pub unknown_if_true : {E U : Type 0} (answer : Result Bool E) → IfOk answer (λ new. IsTrue new ↔ U) → answer ≡ Ok true → U
@@ -56,7 +60,7 @@ unknown_if_true (Err x) new e = absurd (cc)
 
 -- a line that begins a name again isn't taken, nor is one for which there is no memory
 pub not_taken : {E U : Type 0} (before after : List Line) (line : Line) (answer : Result Bool E) → (answer ≡ Ok true → ⊥)
-    → IfOk answer (λ new. IsTrue new ↔ U) → (IsFresh before line.form → U) → IfOk answer (IsTakenIf before line after)
-not_taken before after line (Ok true) other new unknown = absurd (other refl)
-not_taken before after line (Ok false) other new unknown = λ fresh. let yes : false ≡ true = new.1 (unknown fresh) in absurd (cc)
-not_taken before after line (Err x) other new unknown = tt
+    → IfOk answer (λ new. IsTrue new ↔ U) → (IsFresh before line.form → U) → after ≡ before → IfOk answer (IsTakenIf before line after)
+not_taken before after line (Ok true) other new unknown same = absurd (other refl)
+not_taken before after line (Ok false) other new unknown same = (λ fresh. let yes : false ≡ true = new.1 (unknown fresh) in absurd (cc), same)
+not_taken before after line (Err x) other new unknown same = tt

@@ -7,7 +7,7 @@ use Rattle.sd_base.specs.declared.place.Mode.TheVariants.{Shared, Excl}
 use Rattle.sd_base.specs.declared.trouble.Pick.{Pick}
 use Rattle.sd_base.specs.declared.trouble.Pick.TheVariants.{Keep, Lose, Tear, Junk}
 use Rattle.sd_script.specs.declared.line.Form.{Form}
-use Rattle.sd_script.specs.declared.line.Form.TheVariants.{Complex, Begin, Read, Write, Add, Insert, Delete, Save, Back, Rollback, Commit, Ask, Give, Take, Evict, Flush, Force, Fail, Fuse, Fault, FailAll, Reopen, RecoverAll, JoinAll, Where, Table}
+use Rattle.sd_script.specs.declared.line.Form.TheVariants.{Complex, Begin, Read, Write, Add, Insert, Delete, Save, Back, Rollback, Commit, Ask, Give, Take, Evict, Flush, Force, Fail, Fuse, Fault, FailAll, Recover, Join, Reopen, RecoverAll, JoinAll, Where, Table}
 
 -- the word of a record: its page, a dot, its slot
 abbrev pub rid_word : Rid → List ℕ
@@ -25,10 +25,10 @@ pick_word Lose = codes "lose"
 pick_word Tear = codes "tear"
 pick_word Junk = codes "junk"
 
--- the words of a capacity, which may be left out
-abbrev pub capacity_words : Option ℕ → List (List ℕ)
-capacity_words None = []
-capacity_words (Some capacity) = decimal capacity ∷ []
+-- the words of a number that may be left out
+abbrev pub number_words : Option ℕ → List (List ℕ)
+number_words None = []
+number_words (Some number) = decimal number ∷ []
 
 -- the words of a form
 abbrev pub form_words : Form → List (List ℕ)
@@ -37,7 +37,7 @@ form_words (Begin inst name) = decimal inst ∷ codes "begin" ∷ name ∷ []
 form_words (Read name ordinal rid) = codes "read" ∷ name ∷ rid_word rid ∷ []
 form_words (Write name ordinal rid value) = codes "write" ∷ name ∷ rid_word rid ∷ value ∷ []
 form_words (Add name ordinal rid by) = codes "add" ∷ name ∷ rid_word rid ∷ signed_decimal by ∷ []
-form_words (Insert name ordinal page value capacity) = codes "insert" ∷ name ∷ decimal page ∷ value ∷ capacity_words capacity
+form_words (Insert name ordinal page value capacity) = codes "insert" ∷ name ∷ decimal page ∷ value ∷ number_words capacity
 form_words (Delete name ordinal rid) = codes "delete" ∷ name ∷ rid_word rid ∷ []
 form_words (Save name ordinal mark) = codes "save" ∷ name ∷ mark ∷ []
 form_words (Back name ordinal mark) = codes "back" ∷ name ∷ mark ∷ []
@@ -53,6 +53,8 @@ form_words (Fail inst) = codes "fail" ∷ decimal inst ∷ []
 form_words (Fuse calls) = codes "fuse" ∷ decimal calls ∷ []
 form_words (Fault call) = codes "fault" ∷ decimal call ∷ []
 form_words (FailAll pick) = codes "fail" ∷ codes "all" ∷ pick_word pick ∷ []
+form_words (Recover inst by most) = codes "recover" ∷ decimal inst ∷ codes "by" ∷ decimal by ∷ number_words most
+form_words (Join inst) = codes "join" ∷ decimal inst ∷ []
 form_words Reopen = codes "reopen" ∷ []
 form_words RecoverAll = codes "recover" ∷ codes "all" ∷ []
 form_words JoinAll = codes "join" ∷ codes "all" ∷ []
@@ -106,6 +108,10 @@ IsAmount by = unsigned_abs by < 10 ^ 10
 abbrev pub HasRoom : List ℕ → Option ℕ → Type 0
 HasRoom value capacity = IfSome capacity (λ c. (length value ≤ c) × (c ≤ 65535))
 
+-- a number of steps, which has at most 10 digits, if one is given
+abbrev pub AreSteps : Option ℕ → Type 0
+AreSteps most = IfSome most (λ k. (1 ≤ k) × (k < 10 ^ 10))
+
 -- what the parts of a form may be, wherever its line stands
 abbrev pub IsForm : Form → Type 0
 IsForm (Complex insts pages frames) = IsInst insts × IsCount pages × IsCount frames
@@ -129,6 +135,8 @@ IsForm (Fail inst) = IsInst inst
 IsForm (Fuse calls) = calls ≤ 1000000
 IsForm (Fault call) = (1 ≤ call) × (call ≤ 1000000)
 IsForm (FailAll pick) = Unit {0}
+IsForm (Recover inst by most) = IsInst inst × IsInst by × AreSteps most
+IsForm (Join inst) = IsInst inst
 IsForm Reopen = Unit {0}
 IsForm RecoverAll = Unit {0}
 IsForm JoinAll = Unit {0}

@@ -7,3 +7,5 @@ pub mod Forms
 pub mod Ordinals
 pub mod Packed
 pub mod Known
+pub mod Kinds
+pub mod Causes

@@ -3,7 +3,7 @@ use Rattle.std.specs.Prelude.{◌≡◌, ◌≢◌, ℕ, ◌<◌, ◌≤◌, Boo
 use Rattle.std.specs.List.{list_any, flat_map}
 use Rattle.std.specs.Str.{bytes_eq}
 use Rattle.sd_script.specs.declared.line.Form.{Form}
-use Rattle.sd_script.specs.declared.line.Form.TheVariants.{Complex, Begin, Read, Write, Add, Insert, Delete, Save, Back, Rollback, Commit, Ask, Give, Take, Evict, Flush, Force, Fail, Fuse, Fault, FailAll, Reopen, RecoverAll, JoinAll, Where, Table}
+use Rattle.sd_script.specs.declared.line.Form.TheVariants.{Complex, Begin, Read, Write, Add, Insert, Delete, Save, Back, Rollback, Commit, Ask, Give, Take, Evict, Flush, Force, Fail, Fuse, Fault, FailAll, Recover, Join, Reopen, RecoverAll, JoinAll, Where, Table}
 use Rattle.sd_script.specs.declared.line.Line.{Line}
 
 -- the name that a form begins
@@ -57,7 +57,7 @@ abbrev pub IsOfBegun : List Line → List ℕ → ℕ → Type 0
 IsOfBegun before name ordinal = ordinal_of (begun before) name ≡ Some ordinal
 
 -- A line of this form may stand behind these lines. The first line alone is a complex line. An instance and a page
--- are of those that it gives. A name is begun once, and used behind its begin line, which the line tells by its
+-- are of those that it gives, but for the instance that is recovered: that one may be any of the eight. A name is begun once, and used behind its begin line, which the line tells by its
 -- ordinal among the begin lines. A line of the devices or of all instances isn't the first, nor is a table line, and 64 of
 -- those are the most.
 abbrev pub Follows : List Line → Form → Type 0
@@ -82,6 +82,8 @@ Follows before (Fail inst) = inst ≤ insts_of before
 Follows before (Fuse calls) = before ≢ []
 Follows before (Fault call) = before ≢ []
 Follows before (FailAll pick) = before ≢ []
+Follows before (Recover inst by most) = by ≤ insts_of before
+Follows before (Join inst) = inst ≤ insts_of before
 Follows before Reopen = before ≢ []
 Follows before RecoverAll = before ≢ []
 Follows before JoinAll = before ≢ []

@@ -1,13 +1,15 @@
 -- Which lines a text reads as, and at which line it is bad.
-use Rattle.std.specs.Prelude.{◌≡◌, ℕ, ◌+◌, ◌<◌, ◌≤◌, ◌⊎◌, List, length, take, slice_get, Result, Err, Some}
+use Rattle.std.specs.Prelude.{◌≡◌, ℕ, ◌+◌, ◌<◌, ◌≤◌, ◌⊎◌, List, [], length, take, slice_get, Option, None, Some, Result, Err}
 use Rattle.sd_base.specs.declared.refusal.Refusal.{Refusal}
 use Rattle.sd_base.specs.declared.refusal.Refusal.TheVariants as refusal
-use Rattle.sd_base.specs.declared.refusal.LineError.TheVariants.{Word}
+use Rattle.sd_base.specs.declared.refusal.LineError.{LineError}
+use Rattle.sd_base.specs.declared.refusal.LineError.TheVariants.{Order}
 use Rattle.sd_script.specs.declared.line.Line.{Line}
 use Rattle.sd_script.specs.Text.{lines_of, end_of}
 use Rattle.sd_script.specs.Words.{words_of}
 use Rattle.sd_script.specs.Forms.{form_words, IsForm}
 use Rattle.sd_script.specs.Order.{Follows}
+use Rattle.sd_script.specs.Causes.{ArePrinted, IsCause}
 
 -- The bytes of a line, which ends at this byte of the text, read as this line behind those before.
 pub record ReadsAs (before : List Line) (bytes : List ℕ) (end : ℕ) (line : Line) : Type 0 where
@@ -16,6 +18,7 @@ pub record ReadsAs (before : List Line) (bytes : List ℕ) (end : ℕ) (line : L
   pub follows : Follows before line.form
   pub number : line.number ≡ length before + 1
   pub session : line.session ≡ 0
+  pub printed : ArePrinted bytes
   pub bytes_most : length bytes ≤ 1024
   pub lines_most : line.number ≤ 100000
   pub text_most : end ≤ 4194304
@@ -36,17 +39,21 @@ pub record IsScript (text : List ℕ) (lines : List Line) : Type 0 where
   pub whole : length lines ≡ length (lines_of text)
   pub some : 0 < length lines
 
--- The lines before this number read, and are no script; and no line reads behind them.
-pub record IsBadAt (text : List ℕ) (number : ℕ) : Type 0 where
+-- the first cause of the next line behind these, or that the text ends before its first line
+abbrev pub IsBadNext : List ℕ → List Line → Option (List ℕ) → LineError → Type 0
+IsBadNext text before None cause = (before ≡ []) × (cause ≡ Order)
+IsBadNext text before (Some bytes) cause = IsCause before bytes (end_of text (length before + 1)) cause
+
+-- The lines before this number read, and the line of this number is bad for this cause.
+pub record IsBadAt (text : List ℕ) (number : ℕ) (cause : LineError) : Type 0 where
   pub before : List Line
   pub read : IsRead text before
   pub number_is : number ≡ length before + 1
-  pub unfinished : ¬ IsScript text before
-  pub unread : (line : Line) → ¬ Reads text before line
+  pub next : IsBadNext text before (slice_get (lines_of text) (length before)) cause
 
--- With what a text may be refused: its bad line, whose cause is Word, or want of memory.
+-- With what a text may be refused: its bad line and the cause of that, or want of memory.
 abbrev pub IsRefusedWith : List ℕ → Refusal → Type 0
-IsRefusedWith text (refusal.BadLine line cause) = (cause ≡ Word) × IsBadAt text line
+IsRefusedWith text (refusal.BadLine line cause) = IsBadAt text line cause
 IsRefusedWith text refusal.Memory = Unit {0}
 IsRefusedWith text _ = ⊥
 

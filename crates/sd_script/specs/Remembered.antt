@@ -4,12 +4,12 @@ use Rattle.std.specs.Map.{update}
 use Rattle.std.specs.Str.{bytes_eq}
 use Rattle.sd_base.specs.declared.refusal.Refusal.{Refusal}
 use Rattle.sd_base.specs.declared.refusal.Refusal.TheVariants as refusal
-use Rattle.sd_base.specs.declared.refusal.LineError.TheVariants.{Word}
 use Rattle.sd_script.specs.declared.line.Form.{Form}
-use Rattle.sd_script.specs.declared.line.Form.TheVariants.{Complex, Begin, Read, Write, Add, Insert, Delete, Save, Back, Rollback, Commit, Ask, Give, Take, Evict, Flush, Force, Fail, Fuse, Fault, FailAll, Reopen, RecoverAll, JoinAll, Where, Table}
+use Rattle.sd_script.specs.declared.line.Form.TheVariants.{Complex, Begin, Read, Write, Add, Insert, Delete, Save, Back, Rollback, Commit, Ask, Give, Take, Evict, Flush, Force, Fail, Fuse, Fault, FailAll, Recover, Join, Reopen, RecoverAll, JoinAll, Where, Table}
 use Rattle.sd_script.specs.declared.line.Line.{Line}
 use Rattle.sd_script.specs.Forms.{IsForm, IsName, form_words}
 use Rattle.sd_script.specs.Order.{begun, ordinal_of, IsBegun, insts_of, pages_of, table_count, Follows}
+use Rattle.sd_script.specs.Causes.{IsCause}
 use Rattle.sd_script.specs.Reading.{ReadsAs}
 
 -- the ordinals that are known behind a line of this form, where so many names were begun before it
@@ -80,21 +80,18 @@ FormFits before (Fail inst) = inst ≤ insts_of before
 FormFits before (Fuse calls) = before ≢ []
 FormFits before (Fault call) = before ≢ []
 FormFits before (FailAll pick) = before ≢ []
+FormFits before (Recover inst by most) = by ≤ insts_of before
+FormFits before (Join inst) = inst ≤ insts_of before
 FormFits before Reopen = before ≢ []
 FormFits before RecoverAll = before ≢ []
 FormFits before JoinAll = before ≢ []
 FormFits before (Where page) = page < pages_of before
 FormFits before Table = (before ≢ []) × (table_count before < 64)
 
--- the line as which these bytes read, if there is one
-abbrev pub IsNextLine : List Line → List ℕ → ℕ → Option Line → Type 0
-IsNextLine before bytes end None = (line : Line) → ¬ ReadsAs before bytes end line
-IsNextLine before bytes end (Some line) = ReadsAs before bytes end line
-
 -- the lines with this one, if it was taken; it wasn't, if it begins a name again
 abbrev pub IsTakenIf : List Line → Line → List Line → Bool → Type 0
 IsTakenIf before line after true = IsFresh before line.form × (after ≡ before ++ line ∷ [])
-IsTakenIf before line after false = ¬ IsFresh before line.form
+IsTakenIf before line after false = (¬ IsFresh before line.form) × (after ≡ before)
 
 -- the lines with one behind them that these words read as
 pub record IsTakenBehind (before : List Line) (words : List (List ℕ)) (after : List Line) : Type 0 where
@@ -109,7 +106,7 @@ pub record IsTakenBehind (before : List Line) (words : List (List ℕ)) (after :
 -- as IsTakenBehind, if a line of these words was taken; it wasn't, if none may come next
 abbrev pub IsTakenOf : List Line → List (List ℕ) → List Line → Bool → Type 0
 IsTakenOf before words after true = IsTakenBehind before words after
-IsTakenOf before words after false = (form : Form) → IsForm form → Follows before form → form_words form ≢ words
+IsTakenOf before words after false = ((form : Form) → IsForm form → Follows before form → form_words form ≢ words) × (after ≡ before)
 
 -- the lines with the one as which these bytes read
 pub record GoesOn (before : List Line) (bytes : List ℕ) (end : ℕ) (lines : List Line) : Type 0 where
@@ -119,6 +116,6 @@ pub record GoesOn (before : List Line) (bytes : List ℕ) (end : ℕ) (lines : L
 
 -- with what a line of these bytes is refused
 abbrev pub IsLineRefusedWith : List Line → List ℕ → ℕ → Refusal → Type 0
-IsLineRefusedWith before bytes end (refusal.BadLine number cause) = (cause ≡ Word) × (number ≡ length before + 1) × IsNextLine before bytes end None
+IsLineRefusedWith before bytes end (refusal.BadLine number cause) = (number ≡ length before + 1) × IsCause before bytes end cause
 IsLineRefusedWith before bytes end refusal.Memory = Unit {0}
 IsLineRefusedWith before bytes end _ = ⊥

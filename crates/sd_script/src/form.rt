@@ -10,7 +10,7 @@ ghost use Rattle.sd_script.specs.Words.{words_of, words_behind};
 use crate::reader::Reader;
 use crate::{
     ask_of, complex_of, first_word, five_of_verb, force_of, inst_of, is_add, is_begin, is_commit,
-    is_insert, is_read, is_write, lone_of, three_of_inst, three_of_verb, two_of_verb,
+    is_insert, is_read, is_write, lone_of, recovery_of, three_of_inst, three_of_verb, two_of_verb,
 };
 use sd_base::{InstNo, Memory};
 use std::alloc::Global;
@@ -160,6 +160,8 @@ fn take_four_of_verb(
         reader.take_write(alloc, second, third, fourth)
     } else if verb == b"complex".as_slice() {
         reader.take_other(complex_of(second, third, fourth))
+    } else if verb == b"recover".as_slice() {
+        reader.take_other(recovery_of(second, third, fourth, None))
     } else {
         Ok(false)
     }
@@ -168,17 +170,17 @@ fn take_four_of_verb(
 fn take_five_of_verb(
     alloc: Global,
     verb: &[u8],
-    name: &[u8],
-    page: &[u8],
-    value: &[u8],
-    capacity: &[u8],
+    second: &[u8],
+    third: &[u8],
+    fourth: &[u8],
+    fifth: &[u8],
     reader: &mut Reader,
 ) -> Result<bool, Memory>
     requires few { length reader.old < 100000 }
     requires verb { IsNoInst verb.now }
     ensures { IfOk result (IsTakenOf reader.old
-        (verb.now ∷ name.now ∷ page.now ∷ value.now ∷ capacity.now ∷ []) reader.new) }
+        (verb.now ∷ second.now ∷ third.now ∷ fourth.now ∷ fifth.now ∷ []) reader.new) }
 {
-    let form = five_of_verb(alloc, verb, name, page, value, capacity, reader.names())?;
+    let form = five_of_verb(alloc, verb, second, third, fourth, fifth, reader.names())?;
     reader.take_other(form)
 }

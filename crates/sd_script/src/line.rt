@@ -120,6 +120,17 @@ pub enum Form {
     FailAll {
         pick: Pick,
     },
+    /// `recover I by J` or `recover I by J K`: instance J recovers instance I, in at most so many steps where the line says how
+    /// many.
+    Recover {
+        inst: InstNo,
+        by: InstNo,
+        most: Option<u64>,
+    },
+    /// `join I`: the instance joins.
+    Join {
+        inst: InstNo,
+    },
     /// `reopen`: the complex is opened again from its devices.
     Reopen,
     /// `recover all`: each instance that is down recovers itself.

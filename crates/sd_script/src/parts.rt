@@ -52,7 +52,7 @@ pub(crate) fn rid_of(word: &[u8]) -> Option<Rid>
     })
 }
 
-fn dot_in(word: &[u8]) -> Option<usize>
+pub(crate) fn dot_in(word: &[u8]) -> Option<usize>
     ensures { result ≡ position (λ b. b == 46) word.now }
 {
     word.iter().position(|b| *b == b'.')
@@ -133,6 +133,15 @@ pub(crate) fn capacity_of(word: &[u8], value: &[u8]) -> Option<u16>
     ensures none { IfNone result ((c : ℕ) → length value.now ≤ c → c ≤ 65535 → decimal c ≢ word.now) }
 {
     Some(number_within(word, value.len() as u64, 65_535)? as u16)
+}
+
+/// The number of steps that the word writes.
+pub(crate) fn steps_of(word: &[u8]) -> Option<u64>
+    ensures found { IfSome result (λ k. decimal k ≡ word.now) }
+    ensures range { IfSome result (λ k. (1 ≤ k) × (k < 10 ^ 10)) }
+    ensures none { IfNone result ((k : ℕ) → 1 ≤ k → k < 10 ^ 10 → decimal k ≢ word.now) }
+{
+    number_within(word, 1, 9_999_999_999)
 }
 
 /// The ordinal that is known of the name.

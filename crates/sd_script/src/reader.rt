@@ -4,12 +4,13 @@ ghost use Rattle.std.specs.Prelude.{◌≡◌, ℕ, ◌<◌, ◌≤◌, ◌↔�
 ghost use Rattle.std.specs.Vec.{vec_len, vec_capacity};
 ghost use Rattle.std.specs.Fmt.{decimal};
 ghost use Rattle.sd_base.specs.declared.refusal.Refusal.TheVariants as refusal;
-ghost use Rattle.sd_base.specs.declared.refusal.LineError.TheVariants.{Word};
+ghost use Rattle.sd_script.specs.Causes.{ArePrinted};
 ghost use Rattle.sd_script.specs.Forms.{IsForm, IsFormOf, IsInst, IsName};
 ghost use Rattle.sd_script.specs.Known.{known};
-ghost use Rattle.sd_script.specs.Order.{begun, ordinal_of, is_table, insts_of, pages_of, Follows};
+ghost use Rattle.sd_script.specs.Order.{begun, ordinal_of, is_table, insts_of, pages_of, table_count, Follows};
 ghost use Rattle.sd_script.specs.Remembered.{FormFits, GoesOn, IsFresh, IsLineRefusedWith, IsTakenIf, IsTakenOf, IsUnknown, begins_after, insts_after, known_after, pages_after, tables_after};
 
+use crate::causes::{cause_of, cause_unprinted};
 use crate::form::take_line;
 use crate::{Form, Line, Names, add_of, begin_of, commit_of, insert_of, read_of, write_of};
 use sd_base::{InstNo, LineError, Memory, PageNo, Refusal};
@@ -78,20 +79,46 @@ impl Reader {
         &mut self,
         alloc: Global,
         bytes: &[u8],
+        printed: bool,
         end: usize,
     ) -> Result<(), Refusal>
-        requires { length self.old ≤ 100000 }
+        requires few { length self.old ≤ 100000 }
+        requires printed { IsTrue printed ↔ ArePrinted bytes.now }
         ensures read { OnOk result (GoesOn self.old bytes.now end self.new) }
         ensures refused { IfErr result (IsLineRefusedWith self.old bytes.now end) }
     {
         let number = self.lines.len() as u32 + 1;
-        if bytes.len() > LINE_BYTES || self.lines.len() >= LINES || end > TEXT_BYTES {
-            return Err(bad_line(number));
+        if !self.has_room_for(bytes, end) {
+            return Err(bad_line(number, LineError::Size));
+        }
+        if !printed {
+            return Err(bad_line(number, cause_unprinted(bytes, self)));
         }
         if !take_line(alloc, bytes, self)? {
-            return Err(bad_line(number));
+            return Err(bad_line(number, cause_of(bytes, self)));
         }
         Ok(())
+    }
+
+    // Whether a line of these bytes, which ends at this byte of the text, is within the limits, be it no table line.
+    fn has_room_for(&self, bytes: &[u8], end: usize) -> bool
+        ensures { IsTrue result ↔ ((length bytes.now ≤ 1024) × (length self.now < 100000) × (end ≤ 4194304)) }
+    {
+        bytes.len() <= LINE_BYTES && self.lines.len() < LINES && end <= TEXT_BYTES
+    }
+
+    /// Whether a table line may come next.
+    pub(crate) fn has_room_for_table(&self) -> bool
+        ensures { IsTrue result ↔ (table_count self.now < 64) }
+    {
+        self.tables < TABLES
+    }
+
+    /// Whether there are no lines.
+    pub(crate) fn is_empty(&self) -> bool
+        ensures { IsTrue result ↔ (self.now ≡ []) }
+    {
+        self.lines.is_empty()
     }
 
     // Of each line that scripts mostly have, what it takes is put together in a function of its own: so nothing of the other forms
@@ -245,7 +272,10 @@ impl Reader {
             | Form::Take { inst, page }
             | Form::Evict { inst, page }
             | Form::Flush { inst, page } => self.has_inst(*inst) && self.has_page(*page),
-            Form::Force { inst } | Form::Fail { inst } => self.has_inst(*inst),
+            Form::Force { inst } | Form::Fail { inst } | Form::Join { inst } => self.has_inst(
+                *inst,
+            ),
+            Form::Recover { by, .. } => self.has_inst(*by),
             Form::Fuse { .. }
             | Form::Fault { .. }
             | Form::FailAll { .. }
@@ -256,13 +286,13 @@ impl Reader {
         }
     }
 
-    fn has_inst(&self, inst: InstNo) -> bool
+    pub(crate) fn has_inst(&self, inst: InstNo) -> bool
         ensures { IsTrue result ↔ (inst ≤ insts_of self.now) }
     {
         inst.get() <= self.insts
     }
 
-    fn has_page(&self, page: PageNo) -> bool
+    pub(crate) fn has_page(&self, page: PageNo) -> bool
         ensures { IsTrue result ↔ (page < pages_of self.now) }
     {
         page.get() < self.pages
@@ -317,13 +347,10 @@ fn make_ready(
     begin(names, begins, form)
 }
 
-fn bad_line(number: u32) -> Refusal
-    ensures { result ≡ refusal.BadLine number Word }
+fn bad_line(line: u32, cause: LineError) -> Refusal
+    ensures { result ≡ refusal.BadLine line cause }
 {
-    Refusal::BadLine {
-        line: number,
-        cause: LineError::Word,
-    }
+    Refusal::BadLine { line, cause }
 }
 
 // Gives the name that the form begins, if it begins one, this ordinal, and tells whether it had none. Else, and after `Memory`, all

@@ -2,7 +2,7 @@
 
 ghost use Rattle.std.specs.Prelude.{◌≡◌, ℕ, ◌⊎◌, List, length, Ok, Err, IfOk, IfErr};
 ghost use Rattle.sd_base.specs.declared.refusal.Refusal.TheVariants as refusal;
-ghost use Rattle.sd_base.specs.declared.refusal.LineError.TheVariants.{Word};
+ghost use Rattle.sd_base.specs.declared.refusal.LineError.{LineError};
 ghost use Rattle.sd_script.specs.declared.line.Line.{Line};
 ghost use Rattle.sd_script.specs.Text.{lines_of};
 ghost use Rattle.sd_script.specs.Reading.{IsRead, IsScript, IsBadAt, IsRefusedWith, UnlessMemory};
@@ -42,8 +42,8 @@ impl Model for Script {
 
 impl Script {
     /// Reads a whole text. `BadLine` comes exactly where the text is no script: it names the first bad line, counted
-    /// from 1, with the cause `Word`; an empty text is bad at line 1. `Memory` comes where there is none. A line has
-    /// at most 1,024 bytes without its LF, a text 100,000 lines, 4,194,304 bytes and 64 table lines.
+    /// from 1, and the first cause that holds of it; an empty text is bad at line 1, by `Order`. `Memory` comes where there is
+    /// none. A line has at most 1,024 bytes without its LF, a text 100,000 lines, 4,194,304 bytes and 64 table lines.
     pub fn read(alloc: Global, text: &[u8], kind: Kind) -> Result<Script, Refusal>
         // What is read is the script that the text is.
         ensures found { IfOk result (IsScript text.now) }
@@ -51,8 +51,9 @@ impl Script {
         ensures bad { IfErr result (IsRefusedWith text.now) }
         // A script is read.
         ensures exact { (lines : List Line) → IsScript text.now lines → UnlessMemory result (Ok lines) }
-        // A bad line is told.
-        ensures exact_bad { (n : ℕ) → IsBadAt text.now n → UnlessMemory result (Err (refusal.BadLine n Word)) }
+        // A bad line is told, with its cause.
+        ensures exact_bad { (n : ℕ) (cause : LineError) → IsBadAt text.now n cause
+            → UnlessMemory result (Err (refusal.BadLine n cause)) }
     {
         let lines = match kind {
             Kind::Replay => read_lines(alloc, text)?,
@@ -60,7 +61,7 @@ impl Script {
         if lines.is_empty() {
             return Err(Refusal::BadLine {
                 line: 1,
-                cause: LineError::Word,
+                cause: LineError::Order,
             });
         }
         Ok(Script { lines })
@@ -83,8 +84,8 @@ fn read_lines(alloc: Global, text: &[u8]) -> Result<Vec<Line>, Refusal>
     let mut reader = Reader::new(alloc, room_for(text));
     let mut rest = text;
     while !rest.is_empty() {
-        let (line, after) = first_line(rest);
-        reader.read_line(alloc, line, text.len() - after.len())?;
+        let (line, after, printed) = first_line(rest);
+        reader.read_line(alloc, line, printed, text.len() - after.len())?;
         rest = after;
     }
     Ok(reader.into_lines())

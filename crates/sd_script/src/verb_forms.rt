@@ -1,12 +1,14 @@
 //! The forms of a verb's lines, each from its words.
 
 ghost use Rattle.std.specs.Prelude.{◌≢◌, ℕ, ◌≤◌, ◌∷◌, [], List, Option, codes, length, IfOk, IfSome};
-ghost use Rattle.sd_script.specs.Forms.{IsFormOf, IsNoInst, capacity_words};
+ghost use Rattle.sd_script.specs.Forms.{AreSteps, IsFormOf, IsNoInst, number_words};
 ghost use Rattle.sd_script.specs.Known.{known};
 
 use crate::Form;
 use crate::names::Names;
-use crate::parts::{amount_of, capacity_of, inst_of, ordinal_of, own, page_of, pick_of, record_of};
+use crate::parts::{
+    amount_of, capacity_of, inst_of, ordinal_of, own, page_of, pick_of, record_of, steps_of,
+};
 use crate::word::{is_name, is_value, number_within};
 use sd_base::{Memory, PAGES};
 use std::alloc::Global;
@@ -112,7 +114,7 @@ pub fn insert_of(
 ) -> Result<Option<Form>, Memory>
     requires { IfSome capacity (λ c. length value.now ≤ c) }
     ensures { IfOk result (IsFormOf (known begun.now)
-        (codes "insert" ∷ name.now ∷ page.now ∷ value.now ∷ capacity_words capacity)) }
+        (codes "insert" ∷ name.now ∷ page.now ∷ value.now ∷ number_words capacity)) }
 {
     if !is_value(value) {
         return Ok(None);
@@ -263,14 +265,65 @@ fn recover_of(all: &[u8]) -> Option<Form>
     }
 }
 
-fn join_of(all: &[u8]) -> Option<Form>
-    ensures { (known : List ℕ → Option ℕ) → IsFormOf known (codes "join" ∷ all.now ∷ []) result }
+fn join_of(word: &[u8]) -> Option<Form>
+    ensures { (known : List ℕ → Option ℕ) → IsFormOf known (codes "join" ∷ word.now ∷ []) result }
 {
-    if all == b"all".as_slice() {
-        Some(Form::JoinAll)
+    if word == b"all".as_slice() {
+        return Some(Form::JoinAll);
+    }
+    let Some(inst) = inst_of(word) else {
+        return None;
+    };
+    Some(Form::Join { inst })
+}
+
+/// The form of a recover line of these words with this number of steps, or with none, if it is one: the instance, the word
+/// between, and the instance that recovers it.
+pub fn recovery_of(inst: &[u8], between: &[u8], by: &[u8], most: Option<u64>) -> Option<Form>
+    requires { AreSteps most }
+    ensures { (known : List ℕ → Option ℕ) → IsFormOf known
+        (codes "recover" ∷ inst.now ∷ between.now ∷ by.now ∷ number_words most) result }
+{
+    let Some(inst) = inst_of(inst) else {
+        return None;
+    };
+    let Some(by) = inst_of(by) else {
+        return None;
+    };
+    if between == b"by".as_slice() {
+        Some(Form::Recover { inst, by, most })
     } else {
         None
     }
+}
+
+// A recover line that gives a number of steps.
+fn recovery_in_steps(inst: &[u8], between: &[u8], by: &[u8], most: &[u8]) -> Option<Form>
+    ensures { (known : List ℕ → Option ℕ) → IsFormOf known
+        (codes "recover" ∷ inst.now ∷ between.now ∷ by.now ∷ most.now ∷ []) result }
+{
+    let Some(most) = steps_of(most) else {
+        return None;
+    };
+    recovery_of(inst, between, by, Some(most))
+}
+
+// An insert line that gives a capacity.
+fn insert_with_capacity(
+    alloc: Global,
+    name: &[u8],
+    page: &[u8],
+    value: &[u8],
+    capacity: &[u8],
+    begun: &Names,
+) -> Result<Option<Form>, Memory>
+    ensures { IfOk result (IsFormOf (known begun.now)
+        (codes "insert" ∷ name.now ∷ page.now ∷ value.now ∷ capacity.now ∷ [])) }
+{
+    let Some(capacity) = capacity_of(capacity, value) else {
+        return Ok(None);
+    };
+    insert_of(alloc, name, page, value, Some(capacity), begun)
 }
 
 /// The form of a line of this one word, if there is one.
@@ -343,26 +396,27 @@ pub fn three_of_verb(
     }
 }
 
-/// The form of five words of a verb's line, if there is one: an insert line that gives a capacity is the only one of so many.
+/// The form of five words of a verb's line, if there is one: an insert line that gives a capacity, or a recover line that gives a
+/// number of steps.
 #[inline(never)]
 pub fn five_of_verb(
     alloc: Global,
     verb: &[u8],
-    name: &[u8],
-    page: &[u8],
-    value: &[u8],
-    capacity: &[u8],
+    second: &[u8],
+    third: &[u8],
+    fourth: &[u8],
+    fifth: &[u8],
     begun: &Names,
 ) -> Result<Option<Form>, Memory>
     requires { IsNoInst verb.now }
     ensures { IfOk result (IsFormOf (known begun.now)
-        (verb.now ∷ name.now ∷ page.now ∷ value.now ∷ capacity.now ∷ [])) }
+        (verb.now ∷ second.now ∷ third.now ∷ fourth.now ∷ fifth.now ∷ [])) }
 {
-    if verb != b"insert".as_slice() {
-        return Ok(None);
+    if verb == b"insert".as_slice() {
+        insert_with_capacity(alloc, second, third, fourth, fifth, begun)
+    } else if verb == b"recover".as_slice() {
+        Ok(recovery_in_steps(second, third, fourth, fifth))
+    } else {
+        Ok(None)
     }
-    let Some(capacity) = capacity_of(capacity, value) else {
-        return Ok(None);
-    };
-    insert_of(alloc, name, page, value, Some(capacity), begun)
 }

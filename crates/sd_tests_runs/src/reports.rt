@@ -206,6 +206,72 @@ static RESTARTS: [ReportedLine; 21] = [
     (b"join all\n", &[], b"join all\n"),
 ];
 
+/// What becomes of single instances: one recovers another, wholly or for so many steps, and one joins.
+static SURVIVORS: [ReportedLine; 14] = [
+    (
+        b"complex 3 1 2\n",
+        &[Help(Joined(1)), Help(Joined(1)), Help(Joined(1))],
+        b"complex 3 1 2\n",
+    ),
+    (
+        b"recover 1 by 2\n",
+        &[Own(Did), Own(Undone), Own(Finished)],
+        b"recover 1 by 2\n",
+    ),
+    (
+        b"recover 8 by 3 10\n",
+        &[Own(Did), Own(Finished)],
+        b"recover 8 by 3\n",
+    ),
+    (
+        b"recover 1 by 2 2\n",
+        &[Own(Did), Own(Undone), Own(Undone)],
+        b"recover 1 by 2 part\n",
+    ),
+    (b"recover 1 by 3\n", &[Own(No(Up))], b"recover 1 not down\n"),
+    (b"recover 2 by 3\n", &[Own(No(Down))], b"recover 2 down\n"),
+    // A page that is pulled doesn't count as a step, and one that is pulled in vain is a fault.
+    (
+        b"recover 1 by 2 1\n",
+        &[Own(Did), Own(No(NeedPage)), Help(Have), Own(Undone)],
+        b"recover 1 by 2 part\n",
+    ),
+    (
+        b"recover 1 by 2\n",
+        &[
+            Own(Did),
+            Own(No(NeedPage)),
+            Help(No(Failed)),
+            Own(No(NeedPage)),
+        ],
+        b"recover 1 fault\n",
+    ),
+    // The recoverer falls.
+    (
+        b"recover 1 by 2\n",
+        &[Own(Did), Own(No(Failed))],
+        b"recover 1 fault\n",
+    ),
+    (
+        b"recover 1 by 2\n",
+        &[
+            Own(Did),
+            Own(No(NeedPage)),
+            Help(No(Failed)),
+            Own(No(NotRecovered)),
+        ],
+        b"recover 1 not recovered\n",
+    ),
+    (b"join 1\n", &[Own(Joined(12))], b"join 1 epoch 12\n"),
+    (
+        b"join 3\n",
+        &[Own(No(NotRecovered))],
+        b"join 3 not recovered\n",
+    ),
+    (b"join 3\n", &[Own(No(Up))], b"join 3 not down\n"),
+    (b"join 3\n", &[Own(No(LogFull))], b"join 3 log full\n"),
+];
+
 /// What is refused, behind the lines of the other table.
 static REFUSALS: [ReportedLine; 38] = [
     (b"commit a\n", &[Own(No(NoTxn))], b"a ended\n"),
@@ -411,6 +477,8 @@ fn page_event(rt: &impl Abort, form: &Form) -> Event {
         Form::RecoverAll => Event::RecoverStep {
             inst: txn(rt, ONE).inst,
         },
+        Form::Recover { inst, .. } => Event::RecoverStep { inst: *inst },
+        Form::Join { inst } => Event::Join { inst: *inst },
         Form::JoinAll => Event::Join {
             inst: txn(rt, ONE).inst,
         },
@@ -481,6 +549,11 @@ fn transactions_side_by_side_are_reported_by_their_names(rt: HostRuntime) -> Res
 #[test]
 fn what_becomes_of_all_instances_is_reported(rt: HostRuntime) -> Result<(), Fail> {
     tells(&rt, &RESTARTS, &[])
+}
+
+#[test]
+fn what_becomes_of_single_instances_is_reported(rt: HostRuntime) -> Result<(), Fail> {
+    tells(&rt, &SURVIVORS, &[])
 }
 
 #[test]

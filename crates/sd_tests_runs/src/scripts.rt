@@ -5,7 +5,7 @@ use sd_script::{Kind, Script};
 use std::test::Fail;
 
 /// Texts with the number of lines of a script, or of the first bad line.
-static TEXTS: [(&[u8], Result<usize, u32>); 114] = [
+static TEXTS: [(&[u8], Result<usize, u32>); 130] = [
     (
         b"complex 1 1 2\n1 begin a\ninsert a 0 red\ncommit a\ntable\n",
         Ok(5),
@@ -145,6 +145,26 @@ static TEXTS: [(&[u8], Result<usize, u32>); 114] = [
     (b"complex 1 1 2\njoin\n", Err(2)),
     (b"complex 1 1 2\njoin al\n", Err(2)),
     (b"complex 1 1 2\njoin all keep\n", Err(2)),
+    // Those of an instance that is recovered by another, and of one that joins.
+    (
+        b"complex 2 1 2\nrecover 1 by 2\nrecover 8 by 1 1\nrecover 2 by 2 9999999999\njoin 2\n",
+        Ok(5),
+    ),
+    (b"complex 2 1 2\nrecover 9 by 1\n", Err(2)),
+    (b"complex 2 1 2\nrecover 0 by 1\n", Err(2)),
+    (b"complex 2 1 2\nrecover 1 by 3\n", Err(2)),
+    (b"complex 2 1 2\nrecover 1 by 2 0\n", Err(2)),
+    (b"complex 2 1 2\nrecover 1 by 2 10000000000\n", Err(2)),
+    (b"complex 2 1 2\nrecover 1 by 2 01\n", Err(2)),
+    (b"complex 2 1 2\nrecover 1 to 2\n", Err(2)),
+    (b"complex 2 1 2\nrecover 1 by\n", Err(2)),
+    (b"complex 2 1 2\nrecover 1 by 2 1 1\n", Err(2)),
+    (b"complex 2 1 2\nrecover all by 1\n", Err(2)),
+    (b"complex 2 1 2\njoin 3\n", Err(2)),
+    (b"complex 2 1 2\njoin 0\n", Err(2)),
+    (b"complex 2 1 2\njoin 1 2\n", Err(2)),
+    (b"recover 1 by 1\n", Err(1)),
+    (b"join 1\n", Err(1)),
     (b"fail all keep\ncomplex 1 1 2\n", Err(1)),
     (b"reopen\n", Err(1)),
     (b"recover all\n", Err(1)),

@@ -79,7 +79,7 @@ fn texts_have_their_reports(rt: HostRuntime) -> Result<(), Fail> {
             Status::Done,
             b"complex 1 2 1\ns begin 1.1.1\ns insert 0.0\ns insert 1.0\ns commit\n1 excl 1 lsn 3 dirty\n0 free\n0.0 x0\n1.0 y0\ntable 2\n",
         ),
-        (b"", Status::BadLine, b"bad line 1 word\n"),
+        (b"", Status::BadLine, b"bad line 1 order\n"),
         (
             b"complex 1 1 2\n1 begin a\ntable\n",
             Status::Done,
@@ -88,7 +88,7 @@ fn texts_have_their_reports(rt: HostRuntime) -> Result<(), Fail> {
         (
             b"complex 1 1 2\n1 ask 1 s\n",
             Status::BadLine,
-            b"bad line 2 word\n",
+            b"bad line 2 place\n",
         ),
     ];
     for (text, status, report) in texts {

@@ -15,6 +15,7 @@ use Rattle.sd_chain.specs.Faults.{FailsFirstAt}
 use Rattle.sd_recovered.specs.Devices.{IsRecovered}
 use Rattle.sd_script.specs.declared.line.Line.{Line}
 use Rattle.sd_script.specs.Order.{insts_of, pages_of}
+use Rattle.sd_base.specs.declared.refusal.LineError.{LineError}
 use Rattle.sd_script.specs.Reading.{IsScript, IsBadAt}
 use Rattle.sd_script.proofs.Readings.{no_bad_script}
 use Rattle.sd_world.specs.Serving.{Core, Telling}
@@ -35,6 +36,7 @@ use Rattle.sd_drive.specs.Reaching.{Reached}
 use Rattle.sd_drive.specs.Running.{Breaks, Led, Start}
 use Rattle.sd_drive.specs.declared.driver.Driver.{Driver}
 use Rattle.sd_drive.proofs.Running.{drives-leads, ran-led}
+use Rattle.sd_drive.proofs.Ways.{goes-way}
 use Rattle.sd_top.specs.declared.status.Status.{Status}
 use Rattle.sd_top.specs.declared.status.Status.TheVariants as status
 use Rattle.sd_top.specs.Sides.{SourceSide, SinkSide}
@@ -72,8 +74,8 @@ led_from tell lines rig now rig' table entries last opens led = record {
   opens = opens;
   led = led;
   moments = record {
-    each = λ img left. ⊎_elim (λ before. inl (opens.read.span.each img before)) (λ behind. inr (led.runs.moments.each img behind))
-        (led.runs.time.splits (tell.moment rig) img opens.read.time.later left);
+    each = λ img left. ⊎_elim (λ before. inl (opens.read.span.each img before)) (λ way. inr way)
+        (goes-way tell entries (opening_world lines (tell.seen rig)) last now rig' led.runs.goes (tell.moment rig) img opens.read.time.later left);
   };
 }
 
@@ -309,10 +311,10 @@ gave_all source source' got text gave is most = told source.left is gave.taken w
 
 -- a script has no bad line
 no_bad : (source source' : SourceSide) (text : List ℕ) (lines : List Line) → source.left ≡ Some text → IsScript text lines
-    → (got : List ℕ) → Gave source source' got → (line : ℕ) × IsBadAt got line → ⊥
+    → (got : List ℕ) → Gave source source' got → (line : ℕ) × (cause : LineError) × IsBadAt got line cause → ⊥
 no_bad source source' text lines is script got gave bad =
     let same : got ≡ text = gave_all source source' got text gave is (script_size text lines script) in
-    no_bad_script text lines bad.0 script (subst (λ (t : List ℕ). IsBadAt t bad.0) same bad.1)
+    no_bad_script text lines bad.0 bad.1 script (subst (λ (t : List ℕ). IsBadAt t bad.0 bad.1) same bad.2)
 
 -- nothing was begun, for want of memory
 pub answers_unbegun : {G : Type 0} (tell : Telling G) (s : Status) (source source' : SourceSide) (old new : Ends G) (book : Option History)
@@ -344,7 +346,7 @@ completes tell status.WriteFault source source' old new book text lines outcome 
     let (ls, history, world, replays, cut) = run in
     absurd (writes cut.failed)
 completes tell status.BadLine source source' old new book text lines outcome is script sound reads writes =
-    absurd (no_bad source source' text lines is script outcome.0 outcome.1 (outcome.2.0.0, outcome.2.0.1))
+    absurd (no_bad source source' text lines is script outcome.0 outcome.1 (outcome.2.0.0, outcome.2.0.1, outcome.2.0.2))
 completes tell status.Damaged source source' old new book text lines outcome is script sound reads writes =
     absurd (outcome.2.0.unsound sound)
 completes tell status.Device source source' old new book text lines outcome is script sound reads writes = inr (inr refl)
@@ -376,5 +378,5 @@ damages tell status.WriteFault source source' old new book text lines outcome is
     let (ls, history, world, replays, cut) = run in
     absurd (unsound replays.led.opens.sound)
 damages tell status.BadLine source source' old new book text lines outcome is script unsound reads =
-    absurd (no_bad source source' text lines is script outcome.0 outcome.1 (outcome.2.0.0, outcome.2.0.1))
+    absurd (no_bad source source' text lines is script outcome.0 outcome.1 (outcome.2.0.0, outcome.2.0.1, outcome.2.0.2))
 damages tell status.Device source source' old new book text lines outcome is script unsound reads = inr (inr refl)

@@ -13,7 +13,7 @@ use Rattle.sd_script.specs.declared.line.Form.TheVariants as form
 use Rattle.sd_script.specs.declared.line.Line.{Line}
 use Rattle.sd_script.specs.Text.{lines_of, end_of, less_empty_last}
 use Rattle.sd_script.specs.Words.{words_of}
-use Rattle.sd_script.specs.Forms.{IsCount, IsForm, IsInst, capacity_words, form_words}
+use Rattle.sd_script.specs.Forms.{IsCount, IsForm, IsInst, number_words, form_words}
 use Rattle.sd_script.specs.Order.{Follows, insts_in, insts_of, pages_in, pages_of}
 use Rattle.sd_script.specs.Reading.{Reads, IsScript}
 use Rattle.sd_drive.specs.Reaching.{AreDriven, IsShort, MayStand}
@@ -43,7 +43,7 @@ line_length bytes f words = ap (λ (l : List (List ℕ)). length (join_with_byte
 
 short_form : (f : Form) → length (join_with_byte 32 (form_words f)) ≤ 1024 → IsShort f
 short_form (form.Insert name ordinal page value capacity) most =
-    omega (arith, most, value_within name value (decimal page) (capacity_words capacity))
+    omega (arith, most, value_within name value (decimal page) (number_words capacity))
 short_form f most = tt
 
 length_front : (lines : List Line) (k : ℕ) → k ≤ length lines → length (take k lines) ≡ k
@@ -74,6 +74,8 @@ behind_none (form.Fail inst) follows is = absurd (omega (arith, follows, is.0))
 behind_none (form.Fuse calls) follows is = absurd (follows refl)
 behind_none (form.Fault call) follows is = absurd (follows refl)
 behind_none (form.FailAll pick) follows is = absurd (follows refl)
+behind_none (form.Recover inst by most) follows is = absurd (omega (arith, follows, is.1.0))
+behind_none (form.Join inst) follows is = absurd (omega (arith, follows, is.0))
 behind_none form.Reopen follows is = absurd (follows refl)
 behind_none form.RecoverAll follows is = absurd (follows refl)
 behind_none form.JoinAll follows is = absurd (follows refl)

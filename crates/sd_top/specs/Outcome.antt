@@ -54,9 +54,10 @@ pub record CutShort (sink sink' : SinkSide) (lines : List Line) (history : Histo
   pub front : AppendsFront sink.written (report lines history.entries) sink'.written
   pub failed : Rises sink.faults sink'.faults
 
--- the text is bad at a line first, and the sink has got just that
+-- the text is bad at a line first, for a cause, and the sink has got just these
 abbrev pub WritesFirst : List ℕ → SinkSide → SinkSide → Type 0
-WritesFirst text sink sink' = (line : ℕ) × IsBadAt text line × WrittenUnless sink (bad_text line LineError.Word) sink'
+WritesFirst text sink sink' =
+    (line : ℕ) × (cause : LineError) × IsBadAt text line cause × WrittenUnless sink (bad_text line cause) sink'
 
 -- A device failed in the reading of the devices, which read as before.
 pub record FailsAtOnce {G : Type 0} (tell : Telling G) (rig rig' : G) : Type 0 where

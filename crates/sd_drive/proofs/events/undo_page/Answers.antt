@@ -1,4 +1,4 @@
-use Rattle.std.proofs.Common.{◌≡◌, ℕ, ◌≤◌, sym, ap, ◌∙◌, subst}
+use Rattle.std.proofs.Common.{◌≡◌, ℕ, sym, ap, ◌∙◌}
 use Rattle.std.specs.Prelude.{None, Some, option_copied}
 use Rattle.sd_txn.specs.Transactions.{top_at}
 use Rattle.sd_txn.specs.declared.state.OpenRec.{OpenRec}

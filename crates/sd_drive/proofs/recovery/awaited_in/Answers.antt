@@ -1,4 +1,4 @@
-use Rattle.std.proofs.Common.{ℕ, ◌≤◌, sym, ◌∙◌, subst}
+use Rattle.std.proofs.Common.{sym, ◌∙◌}
 use Rattle.std.specs.Prelude.{Some}
 use Rattle.sd_fits.specs.declared.body.Body.{Body}
 use Rattle.sd_world.specs.Serving.{Telling, telling}

@@ -5,7 +5,7 @@ use Rattle.sd_model.specs.declared.event.Entry.{Entry}
 use Rattle.sd_model.specs.declared.event.Event.TheVariants as event
 use Rattle.sd_model.specs.declared.event.Reply.{Reply}
 use Rattle.sd_world.specs.Serving.{Telling, telling}
-use Rattle.sd_drive.specs.declared.recovery.Outcome.{Outcome}
+use Rattle.sd_drive.specs.declared.recovery.Next.{Next}
 use Rattle.sd_drive.specs.Recoveries.{StepsAs, Waits, ending_as}
 use Rattle.sd_model.specs.Replies.{wants_page}
 use Rattle.sd_drive.proofs.Bodies.{fits-now}
@@ -38,9 +38,9 @@ returns-then-not-wants_page-clause-stepped g c =
     let last = c.last.ensures c.args.hall.now.book.entries entry n.1 in
     let noted : Noted tell c.args.hall.now c.call.new.self entry = record { entries = n.1; serves = n.2; keeps = c.call.ensures.keeps; opening = c.call.ensures.opening; earlier = λ rig t u img le s. g.met.G.Rig.earlier rig t u img le s } in
     let then = c.last-then-not-wants_page.ensures c.args.hall.now.book.entries entry n.1 in
-    subst (λ (how : Option Outcome). StepsAs tell c.args.hall.now c.call.new.self c.args.of c.args.inst how)
-    (sym (c.ending.ensures ∙ ap (λ (r : Reply). ending_as r c.args.of.is_opening) then))
-    (step-plain tell c.args.of c.args.inst c.args.hall.now c.call.new.self n.0 noted (sym (ap wants_page last) ∙ sym c.wants_page.ensures ∙ c.if-not-wants_page.true))
+    subst (λ (next : Next). StepsAs tell c.args.hall.now c.call.new.self c.args.of c.args.inst c.args.most next)
+    (sym (c.ending.ensures ∙ ap (λ (r : Reply). ending_as r c.args.of.is_opening c.args.most) then))
+    (step-plain tell c.args.of c.args.inst c.args.most c.args.hall.now c.call.new.self n.0 noted (sym (ap wants_page last) ∙ sym c.wants_page.ensures ∙ c.if-not-wants_page.true))
 
 pub step_pulled-requires : goal.step_pulled-requires
 step_pulled-requires g c =
@@ -50,7 +50,7 @@ step_pulled-requires g c =
     let last = c.last.ensures c.args.hall.now.book.entries entry n.1 in
     let noted : Noted tell c.args.hall.now c.call.new.self entry = record { entries = n.1; serves = n.2; keeps = c.call.ensures.keeps; opening = c.call.ensures.opening; earlier = λ rig t u img le s. g.met.G.Rig.earlier rig t u img le s } in
     let waits = subst (λ (o : Option (ℕ × ℕ)). Waits tell c.args.hall.now.body c.args.inst o) c.in-Some.is c.awaited-waits.ensures in
-    record { at = wants-of tell c.args.of c.args.inst c.args.hall.now c.call.new.self n.0 noted (sym (ap wants_page last) ∙ sym c.wants_page.ensures ∙ c.if-not-wants_page.false) c.in-Some.wait.0 c.in-Some.wait.1 waits c.requires.at }
+    record { at = wants-of tell c.args.of c.args.inst c.args.most c.args.hall.now c.call.new.self n.0 noted (sym (ap wants_page last) ∙ sym c.wants_page.ensures ∙ c.if-not-wants_page.false) c.in-Some.wait.0 c.in-Some.wait.1 waits c.requires.at }
 
 pub returns-clause-stepped : goal.returns-clause-stepped
 returns-clause-stepped g c =
@@ -60,8 +60,8 @@ returns-clause-stepped g c =
     let last = c.last.ensures c.args.hall.now.book.entries entry n.1 in
     let noted : Noted tell c.args.hall.now c.call.new.self entry = record { entries = n.1; serves = n.2; keeps = c.call.ensures.keeps; opening = c.call.ensures.opening; earlier = λ rig t u img le s. g.met.G.Rig.earlier rig t u img le s } in
     let waits = subst (λ (o : Option (ℕ × ℕ)). Waits tell c.args.hall.now.body c.args.inst o) c.in-Some.is c.awaited-waits.ensures in
-    if-ok-then c.step_pulled.result _ _ (λ how goes. wanted-as tell c.args.of c.args.inst c.args.hall.now c.call.new.self n.0 noted (sym (ap wants_page last) ∙ sym c.wants_page.ensures ∙ c.if-not-wants_page.false)
-    c.in-Some.wait.0 c.in-Some.wait.1 waits c.step_pulled.new.hall how goes) c.step_pulled.ensures.stepped
+    if-ok-then c.step_pulled.result _ _ (λ next goes. wanted-as tell c.args.of c.args.inst c.args.most c.args.hall.now c.call.new.self n.0 noted (sym (ap wants_page last) ∙ sym c.wants_page.ensures ∙ c.if-not-wants_page.false)
+    c.in-Some.wait.0 c.in-Some.wait.1 waits c.step_pulled.new.hall next goes) c.step_pulled.ensures.stepped
 
 pub returns-clause-memory : goal.returns-clause-memory
 returns-clause-memory g c =
@@ -71,7 +71,7 @@ returns-clause-memory g c =
     let last = c.last.ensures c.args.hall.now.book.entries entry n.1 in
     let noted : Noted tell c.args.hall.now c.call.new.self entry = record { entries = n.1; serves = n.2; keeps = c.call.ensures.keeps; opening = c.call.ensures.opening; earlier = λ rig t u img le s. g.met.G.Rig.earlier rig t u img le s } in
     let waits = subst (λ (o : Option (ℕ × ℕ)). Waits tell c.args.hall.now.body c.args.inst o) c.in-Some.is c.awaited-waits.ensures in
-    on-err-then c.step_pulled.result _ _ (λ some. wanted-some tell c.args.of c.args.inst c.args.hall.now c.call.new.self n.0 noted (sym (ap wants_page last) ∙ sym c.wants_page.ensures ∙ c.if-not-wants_page.false)
+    on-err-then c.step_pulled.result _ _ (λ some. wanted-some tell c.args.of c.args.inst c.args.most c.args.hall.now c.call.new.self n.0 noted (sym (ap wants_page last) ∙ sym c.wants_page.ensures ∙ c.if-not-wants_page.false)
     c.in-Some.wait.0 c.in-Some.wait.1 waits c.step_pulled.new.hall some) c.step_pulled.ensures.memory
 
 pub unreachable-requires : goal.unreachable-requires
@@ -82,7 +82,7 @@ unreachable-requires g c =
     let last = c.last.ensures c.args.hall.now.book.entries entry n.1 in
     let noted : Noted tell c.args.hall.now c.call.new.self entry = record { entries = n.1; serves = n.2; keeps = c.call.ensures.keeps; opening = c.call.ensures.opening; earlier = λ rig t u img le s. g.met.G.Rig.earlier rig t u img le s } in
     let waits = subst (λ (o : Option (ℕ × ℕ)). Waits tell c.args.hall.now.body c.args.inst o) c.in-None.is c.awaited-waits.ensures in
-    never-unwanted tell c.args.of c.args.inst c.args.hall.now c.call.new.self n.0 noted (sym (ap wants_page last) ∙ sym c.wants_page.ensures ∙ c.if-not-wants_page.false) c.requires.at waits (c.in_ok-call.ensures.awaits n.0 n.1)
+    never-unwanted tell c.args.of c.args.inst c.args.most c.args.hall.now c.call.new.self n.0 noted (sym (ap wants_page last) ∙ sym c.wants_page.ensures ∙ c.if-not-wants_page.false) c.requires.at waits (c.in_ok-call.ensures.awaits n.0 n.1)
 
 pub awaited-waits-requires : goal.awaited-waits-requires
 awaited-waits-requires g c =

@@ -1,12 +1,11 @@
 use Rattle.std.proofs.Common.{◌≡◌, Bool, true, false, sym, ap, ◌∙◌, subst}
-use Rattle.std.specs.Prelude.{Option}
 use Rattle.std.proofs.lemmas.Result.{err_from_is_err_and}
 use Rattle.sd_base.specs.declared.place.Mode.TheVariants as modes
 use Rattle.sd_model.specs.declared.event.Entry.{Entry}
 use Rattle.sd_model.specs.declared.event.Event.TheVariants as event
 use Rattle.sd_model.specs.declared.event.Reply.{Reply}
 use Rattle.sd_world.specs.Serving.{Telling, telling}
-use Rattle.sd_drive.specs.declared.recovery.Outcome.{Outcome}
+use Rattle.sd_drive.specs.declared.recovery.Next.{Next}
 use Rattle.sd_drive.specs.Driven.{PullsAll, ends_failed}
 use Rattle.sd_drive.specs.Recoveries.{PulledAs, ending_as}
 use Rattle.sd_drive.proofs.Recovered.{pull-in, pulled-came, pulled-some, vain-again, vain-broken, vain-kept, vain-some}
@@ -17,18 +16,18 @@ use Rattle.sd_drive.proofs.recovery.step_pulled.Goals.{else-of-via-then-of+else-
 pub pull-requires : goal.pull-requires
 pull-requires g c =
     let tell : Telling _ = telling g.G.Rig.seen g.G.Rig.leaves g.G.Rig.moment g.G.Rig.since g.G.Rig.faults in
-    record { at = pull-in tell c.args.of c.args.inst c.args.by c.args.page c.args.hall.now c.args.hall.now c.requires.at }
+    record { at = pull-in tell c.args.of c.args.inst c.args.most c.args.by c.args.page c.args.hall.now c.args.hall.now c.requires.at }
 
 pub returns-in_err-pull-clause-memory : goal.returns-in_err-pull-clause-memory
 returns-in_err-pull-clause-memory g c =
     let tell : Telling _ = telling g.G.Rig.seen g.G.Rig.leaves g.G.Rig.moment g.G.Rig.since g.G.Rig.faults in
     let p = err_from_is_err_and c.from_residual.result c.from_residual.ensures.1 in
-    rw p.1 (pulled-some tell c.args.of c.args.inst c.args.by c.args.page c.args.hall.now c.pull.new.hall c.in_err-pull.ensures.memory)
+    rw p.1 (pulled-some tell c.args.of c.args.inst c.args.most c.args.by c.args.page c.args.hall.now c.pull.new.hall c.in_err-pull.ensures.memory)
 
 pub returns-then-branch-clause-stepped : goal.returns-then-branch-clause-stepped
 returns-then-branch-clause-stepped g c =
     let tell : Telling _ = telling g.G.Rig.seen g.G.Rig.leaves g.G.Rig.moment g.G.Rig.since g.G.Rig.faults in
-    pulled-came tell c.args.of c.args.inst c.args.by c.args.page c.args.hall.now c.pull.new.hall
+    pulled-came tell c.args.of c.args.inst c.args.most c.args.by c.args.page c.args.hall.now c.pull.new.hall
     (subst (λ (b : Bool). PullsAll tell c.args.hall.now c.pull.new.hall (record { inst = c.args.by; mode = modes.Excl }) c.args.page b) c.if-branch.true c.in_ok-pull.ensures.pulled)
 
 pub call-requires-clause-served : goal.call-requires-clause-served
@@ -38,21 +37,21 @@ pub call-requires-clause-kept : goal.call-requires-clause-kept
 call-requires-clause-kept g c =
     let tell : Telling _ = telling g.G.Rig.seen g.G.Rig.leaves g.G.Rig.moment g.G.Rig.since g.G.Rig.faults in
     let vain = subst (λ (b : Bool). PullsAll tell c.args.hall.now c.pull.new.hall (record { inst = c.args.by; mode = modes.Excl }) c.args.page b) c.if-branch.false c.in_ok-pull.ensures.pulled in
-    let at = vain-kept tell c.args.of c.args.inst c.args.by c.args.page c.args.hall.now c.pull.new.hall vain c.requires.at in
+    let at = vain-kept tell c.args.of c.args.inst c.args.most c.args.by c.args.page c.args.hall.now c.pull.new.hall vain c.requires.at in
     (at.0.world.core, at.2.keeps)
 
 pub returns-then-ends_failed-clause-stepped : goal.returns-then-ends_failed-clause-stepped
 returns-then-ends_failed-clause-stepped g c =
     let tell : Telling _ = telling g.G.Rig.seen g.G.Rig.leaves g.G.Rig.moment g.G.Rig.since g.G.Rig.faults in
     let vain = subst (λ (b : Bool). PullsAll tell c.args.hall.now c.pull.new.hall (record { inst = c.args.by; mode = modes.Excl }) c.args.page b) c.if-branch.false c.in_ok-pull.ensures.pulled in
-    vain-broken tell c.args.of c.args.inst c.args.by c.args.page c.args.hall.now c.pull.new.hall vain c.if-of.true (sym c.ends_failed.ensures ∙ c.if-ends_failed.true)
+    vain-broken tell c.args.of c.args.inst c.args.most c.args.by c.args.page c.args.hall.now c.pull.new.hall vain c.if-of.true (sym c.ends_failed.ensures ∙ c.if-ends_failed.true)
 
 pub returns-in_err-call-clause-memory : goal.returns-in_err-call-clause-memory
 returns-in_err-call-clause-memory g c =
     let tell : Telling _ = telling g.G.Rig.seen g.G.Rig.leaves g.G.Rig.moment g.G.Rig.since g.G.Rig.faults in
     let vain = subst (λ (b : Bool). PullsAll tell c.args.hall.now c.pull.new.hall (record { inst = c.args.by; mode = modes.Excl }) c.args.page b) c.if-branch.false c.in_ok-pull.ensures.pulled in
     let p = err_from_is_err_and c.from_residual-in_err-call.result c.from_residual-in_err-call.ensures.1 in
-    rw p.1 (vain-some tell c.args.of c.args.inst c.args.by c.args.page c.args.hall.now c.pull.new.hall vain c.call.new.self
+    rw p.1 (vain-some tell c.args.of c.args.inst c.args.most c.args.by c.args.page c.args.hall.now c.pull.new.hall vain c.call.new.self
     (stays-in tell c.pull.new.hall c.call.new.self (event.RecoverStep c.args.inst) c.in_err-call.ensures.same c.in_err-call.ensures.spared
     c.call.ensures.keeps c.call.ensures.opening (λ rig t u img le s. g.met.G.Rig.earlier rig t u img le s)))
 
@@ -68,9 +67,9 @@ returns-clause-stepped g c =
       | else-of-via-then-of+else-ends_failed w ↦ λ opens. sym w.ends_failed.ensures ∙ w.if-ends_failed.false
       | else-of-via-else-of w ↦ λ opens. let isnt = w.if-of.false in absurd (cc)
     ] in
-    subst (λ (how : Option Outcome). PulledAs tell c.args.hall.now c.call.new.self c.args.of c.args.inst c.args.by c.args.page how)
-    (sym (c.ending.ensures ∙ ap (λ (r : Reply). ending_as r c.args.of.is_opening) last))
-    (vain-again tell c.args.of c.args.inst c.args.by c.args.page c.args.hall.now c.pull.new.hall vain fine c.call.new.self n.0 noted)
+    subst (λ (next : Next). PulledAs tell c.args.hall.now c.call.new.self c.args.of c.args.inst c.args.most c.args.by c.args.page next)
+    (sym (c.ending.ensures ∙ ap (λ (r : Reply). ending_as r c.args.of.is_opening c.args.most) last))
+    (vain-again tell c.args.of c.args.inst c.args.most c.args.by c.args.page c.args.hall.now c.pull.new.hall vain fine c.call.new.self n.0 noted)
 
 pub returns-in_err-pull-clause-stepped : goal.returns-in_err-pull-clause-stepped
 returns-in_err-pull-clause-stepped g c =

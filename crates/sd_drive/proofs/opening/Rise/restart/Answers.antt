@@ -1,4 +1,4 @@
-use Rattle.std.proofs.Common.{refl, sym, ap, ◌∙◌, subst}
+use Rattle.std.proofs.Common.{None, refl, sym, ap, ◌∙◌, subst}
 use Rattle.sd_world.specs.Serving.{Telling, telling}
 use Rattle.sd_drive.specs.declared.recovery.Outcome.{Outcome}
 use Rattle.sd_base.specs.Standing.{is_down}
@@ -36,7 +36,7 @@ returns-in-Broken-clause-breaks g c = λ is.
     let tell : Telling g.row.G.Denot = telling g.G.Rig.seen g.G.Rig.leaves g.G.Rig.moment g.G.Rig.since g.G.Rig.faults in
     restart-broken tell c.args.self.now c.args.inst c.requires.low c.requires.high (sym (ap is_down c.status_of.ensures) ∙ sym c.is_down.ensures ∙ c.if-not-is_down.false)
     (record c.args.self.now { hall = c.recover.new.hall })
-    (subst (λ (how : Outcome). RecoversTo tell c.args.self.now.hall c.recover.new.hall opening-owner c.args.inst how) c.in-Broken.is c.in_ok-recover.ensures.recovered)
+    (subst (λ (how : Outcome). RecoversTo tell c.args.self.now.hall c.recover.new.hall opening-owner c.args.inst c.args.inst None how) c.in-Broken.is c.in_ok-recover.ensures.recovered)
 
 pub returns-in_default-clause-restarted : goal.returns-in_default-clause-restarted
 returns-in_default-clause-restarted g c =

@@ -13,6 +13,7 @@ returns-then-not-is_ready c =
     (λ e. let yes : false ≡ true = c.if-not-is_ready.ensures.1 e in absurd (cc)) c.make_ready-ready.ensures.new
     (λ fresh. unknown_fresh c.self.inside.lines.items (known c.self.inside.begun) c.self.invariant.names c.args.line.form c.requires.form
     (subst (λ (l : List Line). IsFresh l c.args.line.form) (sym c.self.view_is) fresh))
+    (c.make_ready-ready.ensures.lines ∙ c.self.view_is)
 
 pub begins_behind-self-inside-requires : goal.begins_behind-self-inside-requires
 begins_behind-self-inside-requires c = omega (arith, c.self.invariant.begins_are, begun_few c.self.inside.lines.items, ap (λ (l : List Line). length l) c.self.view_is, c.requires.few)

@@ -8,7 +8,7 @@ use Rattle.sd_script.proofs.reader.Reader.take_form.Goals as goal
 
 pub returns-then-not-admits : goal.returns-then-not-admits
 returns-then-not-admits c = λ words read.
-    none_fits c.args.self.now c.args.self.now words c.in-Some.form
+    none_fits c.args.self.now words c.in-Some.form
     (subst (λ (o : Option Form). IsFormOf (ordinal_of (begun c.args.self.now)) words o) c.in-Some.is read)
     (λ fits. let admitted : false ≡ true = c.if-not-admits.ensures.1 fits in absurd (cc))
 

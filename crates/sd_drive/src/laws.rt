@@ -1,0 +1,12 @@
+//! What a run that goes on from entry to entry says of faults, and of images on the way: a law, the contract of a call that does nothing.
+
+ghost use Rattle.sd_world.specs.Serving.{telling};
+ghost use Rattle.sd_drive.specs.Running.{RunsHaveWay};
+
+use sd_rig::Rig;
+
+/// The entries of a run lead from world to world. None tells a fault of a device that wasn't there, and none is untold but those of a
+/// failure of all; and each image that a crash may have left at any moment of the run stands for the state of a world on the way.
+pub fn runs<G: Rig>()
+    ensures way { RunsHaveWay (telling G.seen G.leaves G.moment G.since G.faults) }
+{}
