@@ -1,0 +1,9 @@
+mod LaterHalf
+mod Reached
+mod MasterGood
+mod EitherGood
+mod PutStands
+mod Later
+mod MasterCalls
+mod Begins
+mod BegunGood

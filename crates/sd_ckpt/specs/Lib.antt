@@ -1,0 +1,3 @@
+pub mod Beginnings
+pub mod Laws
+pub mod Masters
