@@ -22,26 +22,18 @@ use Rattle.sd_model.specs.Applies.{First, HasPage}
 use Rattle.sd_model.specs.Causes.{has_cause, order}
 use Rattle.sd_model.specs.Changes.{goal, undid_part}
 use Rattle.sd_model.specs.Refusing.{Refuses, causes_of, counted}
-use Rattle.sd_model.specs.State.{Part, State, fall, lost_part, put_part, turned, with_life}
+use Rattle.sd_model.specs.State.{Part, State, fall, freed, lost_part, put_part, turned, with_life}
 use Rattle.sd_model.specs.declared.act.Inst.{Inst}
 use Rattle.sd_model.specs.Step.{Step}
 use Rattle.sd_world.specs.Pages.{Pages}
 use Rattle.sd_world.specs.PageCauses.{last_page, page_of}
 use Rattle.sd_model.proofs.Acts.{live_from-append}
 use Rattle.sd_drive.specs.Pulls.{IsDue, Pull, Puller}
+use Rattle.sd_drive.specs.Resting.{IsHelp}
 use Rattle.sd_drive.specs.Standing.{GoesBack, NoneActs}
 use Rattle.sd_model.specs.Replies.{is_failed, wants_page}
 
 -- ---- events that help
-
--- the event moves a page
-abbrev pub IsHelp : Event → Type 0
-IsHelp (event.Ask i p mode) = Unit {0}
-IsHelp (event.Give i p) = Unit {0}
-IsHelp (event.Take i p) = Unit {0}
-IsHelp (event.Evict i p) = Unit {0}
-IsHelp (event.Flush i p) = Unit {0}
-IsHelp e = ⊥
 
 rooms : (b : Bool) (at v : ℕ) → IsHelp (cond {A = Event} b (event.Flush at v) (event.Evict at v))
 rooms true at v = tt
@@ -118,6 +110,69 @@ module _ (m m' : State) where
   helps-acts (event.Flush i p) reply.Did help s = same-acts s.1
   helps-acts (event.Flush i p) r help s = absurd s.1
   helps-acts e r help s = absurd help
+
+  -- ---- a complex that is closed was so before
+
+  freed-shut : (b : Bool) (j : ℕ) (s : Status) → cond {A = Status} b S.Down (freed j s) ≡ S.Closed → s ≡ S.Closed
+  freed-shut true j s shut = absurd (cc)
+  freed-shut false j S.Up shut = absurd (cc)
+  freed-shut false j S.Down shut = absurd (cc)
+  freed-shut false j (S.Recovering by) shut = never (eqb j by) shut
+    where
+      never : (b : Bool) → cond {A = Status} b S.Down (S.Recovering by) ≡ S.Closed → S.Recovering by ≡ S.Closed
+      never true is = absurd (cc)
+      never false is = absurd (cc)
+  freed-shut false j S.Clean shut = absurd (cc)
+  freed-shut false j S.Restarting shut = absurd (cc)
+  freed-shut false j S.Closed shut = refl
+
+  same-shut : m' ≡ m → (m'.inst 1).status ≡ S.Closed → (m.inst 1).status ≡ S.Closed
+  same-shut is shut = sym (ap (λ (s : State). (s.inst 1).status) is) ∙ shut
+
+  falls-shut : (j : ℕ) → m' ≡ fall j m → (m'.inst 1).status ≡ S.Closed → (m.inst 1).status ≡ S.Closed
+  falls-shut j is shut = freed-shut (eqb j 1) j (m.inst 1).status (sym (ap (λ (s : State). (s.inst 1).status) is) ∙ shut)
+
+  refused-shut : (e : Event) (c : Cause) → IsCalm m e → has_cause c (order e) ≡ true → Refuses m e c m' → (m'.inst 1).status ≡ S.Closed
+      → (m.inst 1).status ≡ S.Closed
+  refused-shut e Cause.NoRecord calm there h = unlike there calm.no_record
+  refused-shut e Cause.NotNumber calm there h = unlike there calm.no_number
+  refused-shut e Cause.Digits calm there h = unlike there calm.digits
+  refused-shut e Cause.Over calm there h = unlike there calm.over
+  refused-shut e Cause.Cut calm there h = unlike there calm.cut
+  refused-shut e Cause.Rig calm there h = ⊎_elim
+      (λ is. same-shut (is ∙ calm.uncounted))
+      (λ f. falls-shut f.0 (f.2 ∙ ap (fall f.0) calm.uncounted))
+      h
+  refused-shut e c calm there h = same-shut h
+
+  calm-shut : (e : Event) (n : Refusal) → IsCalm m e → Step m e (reply.Refused n) m' → (m'.inst 1).status ≡ S.Closed
+      → (m.inst 1).status ≡ S.Closed
+  calm-shut e n calm s = refused-shut e s.0 calm s.3.0 s.4
+
+  -- an event that moves a page closes none
+  pub helps-shut : (e : Event) (r : Reply) → IsHelp e → Step m e r m' → (m'.inst 1).status ≡ S.Closed → (m.inst 1).status ≡ S.Closed
+  helps-shut (event.Ask i p mode) (reply.Refused n) help s = calm-shut (event.Ask i p mode) n
+      (record { no_record = refl; no_number = refl; digits = refl; over = refl; cut = refl; uncounted = refl }) s
+  helps-shut (event.Ask i p mode) reply.Have help s = same-shut s.1
+  helps-shut (event.Ask i p mode) (reply.Asked of) help s = same-shut s.1
+  helps-shut (event.Ask i p mode) r help s = absurd s.1
+  helps-shut (event.Give i p) (reply.Refused n) help s = calm-shut (event.Give i p) n
+      (record { no_record = refl; no_number = refl; digits = refl; over = refl; cut = refl; uncounted = refl }) s
+  helps-shut (event.Give i p) (reply.Gave to) help s = same-shut s.1
+  helps-shut (event.Give i p) r help s = absurd s.1
+  helps-shut (event.Take i p) (reply.Refused n) help s = calm-shut (event.Take i p) n
+      (record { no_record = refl; no_number = refl; digits = refl; over = refl; cut = refl; uncounted = refl }) s
+  helps-shut (event.Take i p) reply.Did help s = same-shut s.1
+  helps-shut (event.Take i p) r help s = absurd s.1
+  helps-shut (event.Evict i p) (reply.Refused n) help s = calm-shut (event.Evict i p) n
+      (record { no_record = refl; no_number = refl; digits = refl; over = refl; cut = refl; uncounted = refl }) s
+  helps-shut (event.Evict i p) reply.Did help s = same-shut s.1
+  helps-shut (event.Evict i p) r help s = absurd s.1
+  helps-shut (event.Flush i p) (reply.Refused n) help s = calm-shut (event.Flush i p) n
+      (record { no_record = refl; no_number = refl; digits = refl; over = refl; cut = refl; uncounted = refl }) s
+  helps-shut (event.Flush i p) reply.Did help s = same-shut s.1
+  helps-shut (event.Flush i p) r help s = absurd s.1
+  helps-shut e r help s = absurd help
 
 -- a cause of the devices is told as their failure
 rig-fails : (n : Refusal) → has_cause Cause.Rig (causes_of n) ≡ true → is_failed (reply.Refused n) ≡ false → ⊥

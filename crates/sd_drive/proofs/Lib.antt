@@ -36,3 +36,4 @@ pub mod Pulled
 pub mod Victims
 pub mod Operating
 pub mod Recovered
+pub mod Rounds

@@ -265,7 +265,7 @@ module _ {G : Type 0} (tell : Telling G) (of : Owner) (i by : ℕ) (most : Optio
 -- ---- a step
 
 -- a step that wants a page is that of a recovery that runs
-is-recovering : (s : Status) → ((IsRecovering s → ⊥) → ⊥) → IsRecovering s
+pub is-recovering : (s : Status) → ((IsRecovering s → ⊥) → ⊥) → IsRecovering s
 is-recovering (S.Recovering by) runs = (by, refl)
 is-recovering s runs = absurd (runs (λ r. let is = r.1 in absurd (cc)))
 

@@ -15,7 +15,8 @@ use Rattle.sd_drive.specs.Driving.{Advances, Cursor, Drives, Helps, Known, Own, 
 use Rattle.sd_drive.specs.Pulls.{IsDue, IsPulled, Pull, Puller, helped, is_pulling, is_vain, puller}
 use Rattle.sd_model.specs.Replies.{is_failed, wants_page}
 use Rattle.sd_drive.specs.Standing.{EventIsDue, IsBorne, Pulling}
-use Rattle.sd_drive.proofs.Acts.{IsHelp, helps-acts, helps-same, same-acts}
+use Rattle.sd_drive.specs.Resting.{IsHelp}
+use Rattle.sd_drive.proofs.Acts.{helps-acts, helps-same, same-acts}
 
 -- ---- runs of worlds
 

@@ -14,3 +14,4 @@ pub mod Running
 pub mod Driven
 pub mod Operating
 pub mod Recoveries
+pub mod Resting

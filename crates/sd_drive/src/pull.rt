@@ -1,7 +1,7 @@
 //! A page pulled for an instance whose event needs it: asked for, given by who has it and taken, with another copy written and
 //! evicted where no frame is left.
 
-ghost use Rattle.std.specs.Prelude.{◌≡◌, ◌<◌, ◌&&◌, ℕ, true, false, [], IfOk, IfSome, IsNone, OnErr, IsSome};
+ghost use Rattle.std.specs.Prelude.{◌≡◌, ◌<◌, ◌&&◌, ℕ, true, false, [], IfOk, IfSome, IsNone, OnErr, OnOk, IsSome};
 ghost use Rattle.sd_model.specs.declared.event.Reply.{Reply};
 ghost use Rattle.sd_pagelock.specs.Directory.{entry_at};
 ghost use Rattle.sd_pagelock.specs.Places.{changed, holds, receives, seen};
@@ -17,6 +17,7 @@ ghost use Rattle.sd_drive.specs.Bodies.{entry_in};
 ghost use Rattle.sd_drive.specs.Driven.{Helped, IsFull, IsGiven, IsSomewhere, IsTaken, MakesRoom, PulledIn, PullsAll, PullsOn, PullsSome, Rounds, StaysIn, answer_as, next_if};
 ghost use Rattle.sd_model.specs.Replies.{is_did};
 ghost use Rattle.sd_drive.specs.Pulls.{Pull, Puller};
+ghost use Rattle.sd_drive.specs.Resting.{IsHelp, RestsOpen};
 
 use sd_base::{InstNo, Memory, Mode, PageNo, Place, Refusal};
 use sd_hall::Hall;
@@ -56,7 +57,8 @@ enum Course {
 }
 
 /// Asks for the page until the instance has it so, or can't have it. Whether it came. Others that ask for it, and those to which
-/// it moves, are served on the way. After `Memory` the book has what happened so far, each entry the one that was due.
+/// it moves, are served on the way. The complex stays open, and recoveries under way go on. After `Memory` the book has what happened
+/// so far, each entry the one that was due.
 pub(crate) fn pull<G: Rig>(
     hall: &mut Hall<G>,
     inst: InstNo,
@@ -67,6 +69,7 @@ pub(crate) fn pull<G: Rig>(
         hall.old (record { inst = inst; mode = mode }) (Pull.Asks page) }
     ensures pulled { IfOk result (λ came. PullsAll (telling G.seen G.leaves G.moment G.since G.faults) hall.old hall.new
         (record { inst = inst; mode = mode }) page came) }
+    ensures rests { OnOk result (RestsOpen hall.old.body hall.new.body) }
     ensures memory { OnErr result (PullsSome (telling G.seen G.leaves G.moment G.since G.faults) hall.old hall.new
         (record { inst = inst; mode = mode }) (Pull.Asks page)) }
 {
@@ -91,6 +94,7 @@ fn round<G: Rig>(
         hall.old (record { inst = inst; mode = mode }) (Pull.Asks page) }
     ensures rounds { IfOk result (λ round. Rounds (telling G.seen G.leaves G.moment G.since G.faults) hall.old hall.new
         (record { inst = inst; mode = mode }) page round) }
+    ensures rests { OnOk result (RestsOpen hall.old.body hall.new.body) }
     ensures memory { OnErr result (PullsSome (telling G.seen G.leaves G.moment G.since G.faults) hall.old hall.new
         (record { inst = inst; mode = mode }) (Pull.Asks page)) }
 {
@@ -110,6 +114,7 @@ fn give<G: Rig>(hall: &mut Hall<G>, of: InstNo, page: PageNo) -> Result<bool, Me
     ensures given { IfOk result (λ given. (for : Puller) → PullsOn (telling G.seen G.leaves G.moment G.since G.faults)
         hall.old hall.new
         for (Pull.Gives page of) (next_if given page) (IsGiven given of page)) }
+    ensures rests { OnOk result (RestsOpen hall.old.body hall.new.body) }
     ensures memory { OnErr result (StaysIn (telling G.seen G.leaves G.moment G.since G.faults) hall.old hall.new) }
 {
     let answer = help(hall, Event::Give { inst: of, page })?;
@@ -123,6 +128,7 @@ fn take<G: Rig>(hall: &mut Hall<G>, to: InstNo, page: PageNo) -> Result<bool, Me
     ensures taken { IfOk result (λ taken. (for : Puller) → PullsOn (telling G.seen G.leaves G.moment G.since G.faults)
         hall.old hall.new
         for (Pull.Takes page to) (next_if taken page) (IsTaken taken to page)) }
+    ensures rests { OnOk result (RestsOpen hall.old.body hall.new.body) }
     ensures memory { OnErr result ((for : Puller) → PullsSome (telling G.seen G.leaves G.moment G.since G.faults)
         hall.old hall.new
         for (Pull.Takes page to)) }
@@ -144,6 +150,7 @@ fn make_room<G: Rig>(hall: &mut Hall<G>, inst: InstNo) -> Result<bool, Memory>
     ensures room { IfOk result (λ room. (for : Puller) (p : ℕ) → PullsOn (telling G.seen G.leaves G.moment G.since G.faults)
         hall.old hall.new
         for (Pull.Room p inst) (next_if room p) (MakesRoom room inst)) }
+    ensures rests { OnOk result (RestsOpen hall.old.body hall.new.body) }
     ensures memory { OnErr result ((for : Puller) (p : ℕ) → PullsSome (telling G.seen G.leaves G.moment G.since G.faults)
         hall.old hall.new
         for (Pull.Room p inst)) }
@@ -159,9 +166,11 @@ fn make_room<G: Rig>(hall: &mut Hall<G>, inst: InstNo) -> Result<bool, Memory>
 // Does a helping event that is answered Did. Whether it was.
 fn done<G: Rig>(hall: &mut Hall<G>, e: Event) -> Result<bool, Memory>
     requires served { IsServed e }
+    requires helps { IsHelp e }
     requires at { IsSomewhere (telling G.seen G.leaves G.moment G.since G.faults) hall.old }
     ensures helped { IfOk result (λ done. (r : Reply) × (is_did r ≡ done)
         × Helped (telling G.seen G.leaves G.moment G.since G.faults) hall.old hall.new e r) }
+    ensures rests { OnOk result (RestsOpen hall.old.body hall.new.body) }
     ensures memory { OnErr result (StaysIn (telling G.seen G.leaves G.moment G.since G.faults) hall.old hall.new) }
 {
     let answer = help(hall, e)?;
@@ -171,9 +180,11 @@ fn done<G: Rig>(hall: &mut Hall<G>, e: Event) -> Result<bool, Memory>
 // Does a helping event. What its reply tells.
 fn help<G: Rig>(hall: &mut Hall<G>, e: Event) -> Result<Answer, Memory>
     requires served { IsServed e }
+    requires helps { IsHelp e }
     requires at { IsSomewhere (telling G.seen G.leaves G.moment G.since G.faults) hall.old }
     ensures helped { IfOk result (λ answer. (r : Reply) × (answer_as r ≡ answer)
         × Helped (telling G.seen G.leaves G.moment G.since G.faults) hall.old hall.new e r) }
+    ensures rests { OnOk result (RestsOpen hall.old.body hall.new.body) }
     ensures memory { OnErr result (StaysIn (telling G.seen G.leaves G.moment G.since G.faults) hall.old hall.new) }
 {
     hall.call(0, 0, e)?;

@@ -1,7 +1,7 @@
 //! An instance is recovered, by itself or by another: its recovery begins, and goes on step by step, with the pulls of the pages that
 //! its recoverer needs.
 
-ghost use Rattle.std.specs.Prelude.{◌≡◌, IfOk, OnErr, Some};
+ghost use Rattle.std.specs.Prelude.{◌≡◌, IfOk, IfSome, OnErr, Some};
 ghost use Rattle.sd_fits.specs.declared.body.Body.{Body};
 ghost use Rattle.sd_hall.specs.Bodies.{fits_in};
 ghost use Rattle.sd_model.specs.declared.event.Event.TheVariants as event;
@@ -10,6 +10,7 @@ ghost use Rattle.sd_state.specs.Parts.{IsShape};
 ghost use Rattle.sd_world.specs.Serving.{Core, telling};
 ghost use Rattle.sd_drive.specs.Driving.{Cursor};
 ghost use Rattle.sd_drive.specs.Recoveries.{DoesSome, DueOf, PulledAs, PulledSome, RecoversTo, StepsAs, StepsTo, Waits, WantsOf, behind_step, ending_as, refused_as};
+ghost use Rattle.sd_drive.specs.Resting.{LacksNextIn, Lowers, UndoesNext, UndoesNextIn, rounds_in};
 
 use crate::pull::pull;
 use crate::replies::ends_failed;
@@ -74,7 +75,7 @@ pub fn recover<G: Rig>(
     step_all(hall, of, inst, most)
 }
 
-// One step after another, up to the end of the recovery, or to the last of so many.
+// One step after another, up to the end of the recovery, or to the last of so many. Each round leaves less to do.
 fn step_all<G: Rig>(
     hall: &mut Hall<G>,
     of: Owner,
@@ -89,19 +90,17 @@ fn step_all<G: Rig>(
         (Cursor.Steps inst most) (event.RecoverStep inst)) }
 {
     let mut left = most;
-    for _n in 0..u64::MAX {
+    loop {
         let next = step(hall, of, inst, left)?;
         match next {
             Next::Again(then) => left = then,
             Next::Over(how) => return Ok(how),
         }
     }
-    // Not met where each step lowers the work that is left (`recover_step`, `stepped`); that none does else, no clause of the hall says.
-    Err(Memory)
 }
 
 // A try of one of at most so many steps. How the recovery ended, where it ends with it; else a step is due again, as where the page
-// came that this one wanted.
+// came that this one wanted, and fewer rounds are left.
 fn step<G: Rig>(
     hall: &mut Hall<G>,
     of: Owner,
@@ -112,9 +111,11 @@ fn step<G: Rig>(
         hall.old of (Cursor.Steps inst most) (event.RecoverStep inst) }
     ensures stepped { IfOk result (λ next. StepsAs (telling G.seen G.leaves G.moment G.since G.faults)
         hall.old hall.new of inst most next) }
+    ensures nearer { IfOk result (λ next. Lowers next (rounds_in G.seen hall.old.body inst) (rounds_in G.seen hall.new.body inst)) }
     ensures memory { OnErr result (DoesSome (telling G.seen G.leaves G.moment G.since G.faults) hall.old hall.new of
         (Cursor.Steps inst most) (event.RecoverStep inst)) }
 {
+    inst.keeps();
     let waits = awaited(hall, inst);
     hall.call(of.session, of.line, Event::RecoverStep { inst })?;
     if !hall.last().wants_page() {
@@ -137,11 +138,14 @@ fn step_pulled<G: Rig>(
     page: PageNo,
 ) -> Result<Next, Memory>
     requires at { WantsOf (telling G.seen G.leaves G.moment G.since G.faults) hall.old of inst most by page }
+    requires lacks { LacksNextIn hall.old.body inst by page }
     ensures stepped { IfOk result (λ next. PulledAs (telling G.seen G.leaves G.moment G.since G.faults)
         hall.old hall.new of inst most by page next) }
+    ensures nearer { IfOk result (λ next. Lowers next (rounds_in G.seen hall.old.body inst) (rounds_in G.seen hall.new.body inst)) }
     ensures memory { OnErr result (PulledSome (telling G.seen G.leaves G.moment G.since G.faults)
         hall.old hall.new of inst most by page) }
 {
+    inst.keeps();
     if pull(hall, by, page, Mode::Excl)? {
         return Ok(Next::Again(most));
     }
@@ -191,7 +195,8 @@ fn refused(reply: &Reply, is_opening: bool) -> Outcome
 // Who recovers the instance, and the page of the record that its recovery undoes next, where an undo is next.
 fn awaited<G: Rig>(hall: &Hall<G>, inst: InstNo) -> Option<(InstNo, PageNo)>
     requires fits { (w : Core) × fits_in G.seen G.leaves hall.now.body w }
-    ensures { Waits (telling G.seen G.leaves G.moment G.since G.faults) hall.now.body inst result }
+    ensures waits { Waits (telling G.seen G.leaves G.moment G.since G.faults) hall.now.body inst result }
+    ensures next { IfSome result (λ x. UndoesNextIn hall.now.body inst x.0 x.1) }
 {
     match hall.complex() {
         Some(c) => awaited_in(c, inst),
@@ -202,7 +207,8 @@ fn awaited<G: Rig>(hall: &Hall<G>, inst: InstNo) -> Option<(InstNo, PageNo)>
 // It, of an open complex.
 fn awaited_in<G: Rig>(c: &Complex<G>, inst: InstNo) -> Option<(InstNo, PageNo)>
     requires shape { IsShape (parts c.now) }
-    ensures { Waits (telling G.seen G.leaves G.moment G.since G.faults) (Some (Body.Open c.now)) inst result }
+    ensures waits { Waits (telling G.seen G.leaves G.moment G.since G.faults) (Some (Body.Open c.now)) inst result }
+    ensures next { IfSome result (λ x. UndoesNext (parts c.now) inst x.0 x.1) }
 {
     inst.keeps();
     match c.status(inst) {

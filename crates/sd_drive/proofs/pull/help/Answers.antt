@@ -3,7 +3,9 @@ use Rattle.std.proofs.lemmas.Result.{err_from_is_err_and}
 use Rattle.sd_model.specs.declared.event.Entry.{Entry}
 use Rattle.sd_world.specs.Serving.{Telling, telling}
 use Rattle.sd_drive.specs.Driven.{answer_as}
-use Rattle.sd_drive.proofs.Steps.{helped-on, noted-some, stays-in}
+use Rattle.sd_drive.proofs.Bodies.{fits-now}
+use Rattle.sd_drive.proofs.Rounds.{rests-helped}
+use Rattle.sd_drive.proofs.Steps.{helped-on, moved, noted-some, stays-in}
 use Rattle.sd_drive.proofs.pull.help.Goals as goal
 
 pub call-requires-clause-kept : goal.call-requires-clause-kept
@@ -42,3 +44,20 @@ last-requires g c =
 
 pub returns-clause-memory : goal.returns-clause-memory
 returns-clause-memory g c = tt
+
+pub returns-clause-rests : goal.returns-clause-rests
+returns-clause-rests g c =
+    let tell : Telling _ = telling g.G.Rig.seen g.G.Rig.leaves g.G.Rig.moment g.G.Rig.since g.G.Rig.faults in
+    let n = c.in_ok-call.ensures.noted in
+    let entry : Entry = record { session = 0; line = 0; event = c.args.e; reply = n.0 } in
+    let at = c.requires.at in
+    let m = moved tell c.args.hall.now c.call.new.self entry
+    (record { entries = n.1; serves = n.2; keeps = c.call.ensures.keeps; opening = c.call.ensures.opening; earlier = λ rig t u img le s. g.met.G.Rig.earlier rig t u img le s })
+    at.0 at.1 at.2 in
+    rests-helped tell c.args.e n.0 c.args.hall.now.body c.call.new.self.body at.1.core m.core c.requires.helps (fits-now tell at.0 c.args.hall.now at.1 at.2)
+    m.fits m.turns.plays.step (c.in_ok-call.ensures.works n.0 n.1)
+
+pub returns-in_err-call-clause-rests : goal.returns-in_err-call-clause-rests
+returns-in_err-call-clause-rests g c =
+    let p = err_from_is_err_and c.from_residual.result c.from_residual.ensures.1 in
+    rw p.1 tt

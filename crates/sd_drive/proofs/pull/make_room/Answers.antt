@@ -4,10 +4,12 @@ use Rattle.sd_world.specs.Serving.{Telling, telling}
 use Rattle.sd_hall.specs.declared.hall.Hall.{Hall}
 use Rattle.sd_drive.specs.Driven.{MakesRoom, PullsOn, next_if}
 use Rattle.sd_drive.specs.Pulls.{Pull}
+use Rattle.sd_drive.specs.Resting.{RestsOpen}
 use Rattle.sd_drive.proofs.Asking.{Cleared, cleared-clean, cleared-written, room-failed}
 use Rattle.sd_drive.proofs.Bodies.{fits-now}
-use Rattle.sd_drive.proofs.Helps.{if-ok-then, on-err-then}
+use Rattle.sd_drive.proofs.Helps.{if-ok-then, on-err-then, on-ok-then}
 use Rattle.sd_drive.proofs.Pulled.{pulled-on, stays-some, then-stays}
+use Rattle.sd_drive.proofs.Rounds.{rests-on, rests-self}
 use Rattle.sd_drive.proofs.pull.make_room.Goals as goal
 use Rattle.sd_drive.proofs.pull.make_room.Goals.{else-leaver-via-then-leaver+in_ok-done+else-not-branch, else-leaver-via-else-leaver}
 
@@ -16,6 +18,12 @@ leaving-leaver-requires g c =
     let tell : Telling _ = telling g.G.Rig.seen g.G.Rig.leaves g.G.Rig.moment g.G.Rig.since g.G.Rig.faults in
     let at = c.requires.at in
     record { full = (at.2.world.core, fits-now tell at.2.start c.args.hall.now at.2.world at.2.there, at.3) }
+
+pub done-requires-clause-helps : goal.done-requires-clause-helps
+done-requires-clause-helps g c = tt
+
+pub done-requires-2-clause-helps : goal.done-requires-2-clause-helps
+done-requires-2-clause-helps g c = tt
 
 pub done-requires-clause-served : goal.done-requires-clause-served
 done-requires-clause-served g c = tt
@@ -105,3 +113,14 @@ returns-clause-memory g c =
     ] in
     let new = c.done-2.new.hall in
     on-err-then c.done-2.result _ _ (λ stays for q. then-stays tell for old mid new (Pull.Room q i) _ _ (cleared.so_far for q) stays) c.done-2.ensures.memory
+
+pub returns-clause-rests : goal.returns-clause-rests
+returns-clause-rests g c =
+    let old = c.args.hall.now in
+    let mid = c.else-leaver.hall in
+    let first : RestsOpen old.body mid.body = elim c.else-leaver.branch [
+      | else-leaver-via-then-leaver+in_ok-done+else-not-branch w ↦
+          subst (λ (hall : Hall _). RestsOpen old.body hall.body) (sym w.hall-is) w.in_ok-done.ensures.rests
+      | else-leaver-via-else-leaver w ↦ subst (λ (hall : Hall _). RestsOpen old.body hall.body) (sym w.hall-is) (rests-self old.body)
+    ] in
+    on-ok-then c.done-2.result _ _ (λ rest. rests-on old.body mid.body c.done-2.new.hall.body first rest) c.done-2.ensures.rests

@@ -5,10 +5,11 @@ use Rattle.sd_drive.specs.declared.pull.Course.{Course}
 use Rattle.sd_drive.specs.Driven.{Rounds}
 use Rattle.sd_drive.specs.Pulls.{Pull, Puller}
 use Rattle.sd_drive.proofs.Pulled.{comes-nearer, last-all, pulled-on, round-on, then-some}
+use Rattle.sd_drive.proofs.Rounds.{rests-on, rests-self}
 use Rattle.sd_drive.proofs.pull.pull.Goals as goal
 
 pub loop-init : goal.loop-init
-loop-init g c = record { on = λ start w at work rest k e i s. (w, i, s, tt) }
+loop-init g c = record { on = λ start w at work rest k e i s. (w, i, s, tt); rests = rests-self c.args.hall.now.body }
 
 pub round-requires : goal.round-requires
 round-requires g c =
@@ -38,7 +39,10 @@ loop-preserved g c =
     let tell : Telling _ = telling g.G.Rig.seen g.G.Rig.leaves g.G.Rig.moment g.G.Rig.since g.G.Rig.faults in
     let for : Puller = record { inst = c.args.inst; mode = c.args.mode } in
     let round = subst (λ (course : Course). Rounds tell c.loop.hall c.round.new.hall for c.args.page course) c.in-Again.is c.in_ok-round.ensures.rounds in
-    record { on = round-on tell c.args.inst c.args.page c.args.mode c.args.hall.now c.loop.hall c.round.new.hall c.loop.invariant.on round }
+    record {
+      on = round-on tell c.args.inst c.args.page c.args.mode c.args.hall.now c.loop.hall c.round.new.hall c.loop.invariant.on round;
+      rests = rests-on c.args.hall.now.body c.loop.hall.body c.round.new.hall.body c.loop.invariant.rests c.in_ok-round.ensures.rests;
+    }
 
 pub returns-in-Came-clause-pulled : goal.returns-in-Came-clause-pulled
 returns-in-Came-clause-pulled g c =
@@ -53,3 +57,11 @@ returns-in-InVain-clause-pulled g c =
     let for : Puller = record { inst = c.args.inst; mode = c.args.mode } in
     let round = subst (λ (course : Course). Rounds tell c.loop.hall c.round.new.hall for c.args.page course) c.in-InVain.is c.in_ok-round.ensures.rounds in
     last-all tell c.args.inst c.args.page c.args.mode c.args.hall.now c.loop.hall c.round.new.hall c.loop.invariant.on false round
+
+pub returns-in-Came-clause-rests : goal.returns-in-Came-clause-rests
+returns-in-Came-clause-rests g c =
+    rests-on c.args.hall.now.body c.loop.hall.body c.round.new.hall.body c.loop.invariant.rests c.in_ok-round.ensures.rests
+
+pub returns-in-InVain-clause-rests : goal.returns-in-InVain-clause-rests
+returns-in-InVain-clause-rests g c =
+    rests-on c.args.hall.now.body c.loop.hall.body c.round.new.hall.body c.loop.invariant.rests c.in_ok-round.ensures.rests

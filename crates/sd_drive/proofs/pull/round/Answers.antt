@@ -1,10 +1,17 @@
-use Rattle.std.proofs.Common.{◌∙◌, true, false}
+use Rattle.std.proofs.Common.{ap, ◌∙◌, true, false}
+use Rattle.std.specs.Prelude.{OnOk}
 use Rattle.std.proofs.lemmas.Result.{err_from_is_err_and}
 use Rattle.sd_world.specs.Serving.{Telling, telling}
+use Rattle.sd_hall.specs.declared.hall.Hall.{Hall}
 use Rattle.sd_drive.specs.Pulls.{Pull, Puller}
+use Rattle.sd_drive.specs.Resting.{RestsOpen}
 use Rattle.sd_drive.proofs.Pulled.{Went, asked-had, asked-on, asked-vain, full-in, full-inst, full-on, gave-went, moving-on, pulled-on, room-went, stays-some, took-went, went-as, went-on, went-some}
+use Rattle.sd_drive.proofs.Rounds.{rests-as, rests-got}
 use Rattle.sd_drive.proofs.pull.round.Goals as goal
 use Rattle.sd_drive.proofs.pull.round.Goals.{in-Asked, in-MovingTo, in-NoFrame}
+
+pub help-requires-clause-helps : goal.help-requires-clause-helps
+help-requires-clause-helps g c = tt
 
 pub help-requires-clause-at : goal.help-requires-clause-at
 help-requires-clause-at g c = let at = c.requires.at in (at.start, at.world, at.there)
@@ -130,3 +137,35 @@ returns-in_default-clause-rounds g c =
     let h = c.in_ok-help.ensures.helped in
     asked-vain tell c.args.inst c.args.page c.args.mode c.args.hall.now c.help.new.hall h.0 h.2 c.in_ok-help.field-0 h.1
     c.in_default.not-Had c.in_default.not-Asked c.in_default.not-MovingTo c.in_default.not-NoFrame
+
+pub returns-then-done-clause-rests : goal.returns-then-done-clause-rests
+returns-then-done-clause-rests g c =
+    let old = c.args.hall.now.body in
+    let mid = c.help.new.hall.body in
+    let here = c.match-branch-2.hall.body in
+    let there = c.match-branch-2.branch' in
+    let first = c.in_ok-help.ensures.rests in
+    let rest : OnOk there (RestsOpen old here) = elim c.match-branch-2.branch [
+      | in-Asked w ↦ rests-as old mid w.give.new.hall.body here w.give.result there (ap (λ (h : Hall _). h.body) w.hall-is) w.branch'-is first w.give.ensures.rests
+      | in-MovingTo w ↦ rests-as old mid w.take.new.hall.body here w.take.result there (ap (λ (h : Hall _). h.body) w.hall-is) w.branch'-is first
+          w.take.ensures.rests
+      | in-NoFrame w ↦ rests-as old mid w.make_room.new.hall.body here w.make_room.result there (ap (λ (h : Hall _). h.body) w.hall-is) w.branch'-is first
+          w.make_room.ensures.rests
+    ] in
+    rests-got old here there _ (c.in_ok-done.was {u = tt}) rest
+
+pub returns-else-done-clause-rests : goal.returns-else-done-clause-rests
+returns-else-done-clause-rests g c =
+    let old = c.args.hall.now.body in
+    let mid = c.help.new.hall.body in
+    let here = c.match-branch-2.hall.body in
+    let there = c.match-branch-2.branch' in
+    let first = c.in_ok-help.ensures.rests in
+    let rest : OnOk there (RestsOpen old here) = elim c.match-branch-2.branch [
+      | in-Asked w ↦ rests-as old mid w.give.new.hall.body here w.give.result there (ap (λ (h : Hall _). h.body) w.hall-is) w.branch'-is first w.give.ensures.rests
+      | in-MovingTo w ↦ rests-as old mid w.take.new.hall.body here w.take.result there (ap (λ (h : Hall _). h.body) w.hall-is) w.branch'-is first
+          w.take.ensures.rests
+      | in-NoFrame w ↦ rests-as old mid w.make_room.new.hall.body here w.make_room.result there (ap (λ (h : Hall _). h.body) w.hall-is) w.branch'-is first
+          w.make_room.ensures.rests
+    ] in
+    rests-got old here there _ (c.in_ok-done.was {u = tt}) rest

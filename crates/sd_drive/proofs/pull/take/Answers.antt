@@ -2,12 +2,16 @@ use Rattle.std.proofs.Common.{sym, ◌∙◌}
 use Rattle.std.proofs.lemmas.Result.{err_from_is_err_and}
 use Rattle.sd_world.specs.Serving.{Telling, telling}
 use Rattle.sd_drive.specs.Pulls.{Pull}
-use Rattle.sd_drive.proofs.Helps.{if-ok-then, on-err-then}
+use Rattle.sd_drive.proofs.Helps.{if-ok-then, on-err-then, on-ok-then}
 use Rattle.sd_drive.proofs.Pulled.{full-in, full-taker, stays-some, taken-full, taken-not, taken-on, taken-room, then-some}
+use Rattle.sd_drive.proofs.Rounds.{rests-on}
 use Rattle.sd_drive.proofs.pull.take.Goals as goal
 
 pub help-requires-clause-served : goal.help-requires-clause-served
 help-requires-clause-served g c = tt
+
+pub help-requires-clause-helps : goal.help-requires-clause-helps
+help-requires-clause-helps g c = tt
 
 pub help-requires-clause-at : goal.help-requires-clause-at
 help-requires-clause-at g c = let at = c.requires.at in (at.1.start, at.1.world, at.1.there)
@@ -56,4 +60,10 @@ returns-in_default g c =
       taken = λ for. taken-not tell c.args.page for c.args.hall.now c.help.new.hall c.args.to h.0 h.2 (λ did. c.in_default.not-Did (sym h.1 ∙ did))
           (λ full. c.in_default.not-NoFrame (sym h.1 ∙ full));
       memory = tt;
+      rests = c.in_ok-answer.ensures.rests;
     }
+
+pub returns-in-NoFrame-clause-rests : goal.returns-in-NoFrame-clause-rests
+returns-in-NoFrame-clause-rests g c =
+    on-ok-then c.make_room.result _ _ (λ rest. rests-on c.args.hall.now.body c.help.new.hall.body c.make_room.new.hall.body c.in_ok-answer.ensures.rests rest)
+    c.make_room.ensures.rests
