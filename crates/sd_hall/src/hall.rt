@@ -88,9 +88,10 @@ impl<G: Rig> Hall<G> {
     /// `Memory` comes where there is none: nothing is noted then, and the complex fits the world that it fitted. It never comes for
     /// the commit of a transaction that runs, nor for an undo of one that rolls back, where nothing is left to undo or the page of
     /// the next undo is its instance's alone, nor for the failure of an instance that is up. A step of a recovery that
-    /// is replied to as one has done a task, and less is left to do; the last one is told where nothing is left, and one that wants a page
-    /// changes nothing. An event by which a page is pulled leaves recoveries that are under way, whatever its reply. Behind a reopening that is done the losers, their claims, the statuses and the lost pages are those that the devices tell.
-    /// Each image that a crash leaves meanwhile stands for the state before or after.
+    /// is replied to as one has done a task, and less is left to do; the last one is told where nothing is left, and one that wants
+    /// a page changes nothing. An event by which a page is pulled leaves recoveries that are under way, whatever its reply. Behind a
+    /// reopening that is done the losers, their claims, the statuses and the lost pages are those that the devices tell. Each image
+    /// that a crash leaves meanwhile stands for the state before or after.
     pub fn call(&mut self, session: u8, line: u32, e: Event) -> Result<(), Memory>
         requires served { IsServed e }
         requires kept { (start : Core) × Keeps (telling G.seen G.leaves G.moment G.since G.faults) start self.old }
