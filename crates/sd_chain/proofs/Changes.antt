@@ -63,15 +63,10 @@ change-may_come may a i image y b d c held acts copy kind follows rises fits fre
 pub undo-may_come : (may : May) → UndoMayCome may
 undo-may_come may a i image y top below b d c held acts copy rises u = record {
   kind = u.kind;
-  alive = u.alive;
-  prev = u.prev;
+  follows = u.follows;
   rises = subst (λ (x : Page). x.lsn < y.lsn) (held-now a y.page image b d c copy) rises;
   lone = lone may a i y.page b d c held acts;
   stack = u.stack;
-  page = u.page;
-  slot = u.slot;
-  value = u.value;
-  next = u.next;
 }
 
 -- ---- one more record of log i

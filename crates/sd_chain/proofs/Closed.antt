@@ -5,11 +5,11 @@ use Rattle.std.proofs.lemmas.Bool.{cases_Bool, cases_eq}
 use Rattle.sd_base.specs.declared.ids.TxnId.{TxnId}
 use Rattle.sd_base.specs.Ids.{same_txn}
 use Rattle.sd_logrec.specs.View.{Rec}
-use Rattle.sd_chain.specs.Records.{Each, IsOpen, ends, step}
+use Rattle.sd_chain.specs.Records.{Each, IsOpen, ends}
 use Rattle.sd_chain.specs.Order.{InOrder, Sofar, Tidy, advance, none_yet, of_txn, speaks}
 use Rattle.sd_chain.specs.Images.{Tails, log}
 use Rattle.sd_chain.proofs.Lists.{Each-append, Each-back, Each-front, Each-weaker}
-use Rattle.sd_chain.proofs.Whose.{both, ends-off, own_is}
+use Rattle.sd_chain.proofs.Whose.{advance-off, advance-own, both, ends-off, own_is}
 use Rattle.sd_pagelock.proofs.Members.{not_both}
 use Rattle.sd_chain.specs.Checkpoints.{CloseBegins, CloseGrows, CloseSettles, CloseStays, Closed, Shut}
 use Rattle.sd_chain.proofs.Changes.{log_here}
@@ -64,8 +64,7 @@ none_after t sofar (x ∷ xs) shut o = ⊎_elim
     (λ is. not_both shut (o.0 is).alive)
     (λ off. (
       off,
-      none_after t sofar xs shut (subst (λ (b : Bool). InOrder t
-          (cond b (record { open_ones = step t sofar.open_ones x; last = x.lsn; shut = ends x.kind }) sofar) xs) off o.1),
+      none_after t sofar xs shut (subst (λ (q : Sofar). InOrder t q xs) (advance-off t sofar x off) o.1),
     ))
     (cases_Bool (of_txn t x))
 
@@ -81,8 +80,7 @@ none_left t sofar (x ∷ gone) left o n = go (cases_Bool (ends x.kind && same_tx
         let parts = both (ends x.kind) (same_txn x.txn t) is in
         let mine : of_txn t x ≡ true = ⊎_elim (λ own. own) (λ off. not_both is (ends-off t x off)) (cases_Bool (of_txn t x)) in
         Each-back (λ x. of_txn t x ≡ false) gone left (none_after t (advance t sofar x) (gone ++ left)
-        (ap (λ (b : Bool). (cond b (record { open_ones = step t sofar.open_ones x; last = x.lsn; shut = ends x.kind }) sofar).shut) mine
-        ∙ parts.0) o.1)
+        (ap (λ (q : Sofar). q.shut) (advance-own t sofar x mine) ∙ parts.0) o.1)
     go (inr no_end) ih = ih (λ og. n (no_end, og))
 
 -- what a moved start place asks of transactions

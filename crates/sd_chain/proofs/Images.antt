@@ -18,7 +18,7 @@ use Rattle.sd_chain.specs.Cuts.{cut, whole, Gained, Pops, IsTopsPage, CanUpdateW
 use Rattle.sd_chain.specs.Images.{Tails, Keeps, all_kept, kept_at, with_disk, Allowed, IsSafe, Gives, or_written, Grows, log, MayChange, MayUndo, Redone, Commits, Settled, Shortened, MaySeal}
 use Rattle.sd_chain.specs.Order.{speaks, of_txn, Tidy, MayFollow, UndoesTop}
 use Rattle.sd_chain.proofs.Stacks.{stack_from-append}
-use Rattle.sd_chain.proofs.Order.{tidy-push, tidy-other, tidy-later}
+use Rattle.sd_chain.proofs.Order.{undoes-top, tidy-push, tidy-other, tidy-later}
 use Rattle.sd_chain.proofs.PageWrite
 use Rattle.sd_chain.proofs.StartMoved
 use Rattle.sd_chain.proofs.Above.{above_page}
@@ -231,37 +231,32 @@ module _ (i : ℕ) (y : Rec) (old new : Tails) (g : Grows i y old new) (own : sp
 
   module _ (top : Rec) (below : List Rec) (can : MayUndo i old (version all_kept) y top below)
       (redone : Redone i y version version') where
+    undoes : UndoesTop y (top ∷ below)
+    undoes = undoes-top (log old (home y.txn)) y top below can.kind can.follows can.stack
+
     can_undo_whole : (disk : ℕ → Page) → Allowed may disk → CanUndoWhole i (with_disk old disk) y top below
     can_undo_whole disk all =
         let same = safe.same disk all all_kept y.page in
         record {
           can = record {
             kind = can.kind;
-            runs = can.alive;
+            runs = can.follows.alive;
             above = above_page (whole (with_disk old disk)) (safe.sound disk all all_kept) safe.eight y
                 (subst (λ (q : Page). q.lsn < y.lsn) (sym same) can.rises);
             stack = can.stack;
-            page = can.page;
-            slot = can.slot;
-            value = can.value;
+            page = undoes.0;
+            slot = undoes.1;
+            value = undoes.2;
           };
           lone = can.lone;
         }
-
-    follows_top : MayFollow (log old (home y.txn)) y
-    follows_top = record {
-      alive = can.alive;
-      prev = can.prev;
-      done = λ end. absurd (let k = can.kind in cc);
-      undo = λ clr. subst (UndoesTop y) (sym can.stack) (can.page, can.slot, can.value, can.next);
-    }
 
     pub undo-safe : IsSafe new may version'
     undo-safe = record {
       eight = eight_new;
       numbered = numbered_new (omega (arith, can.rises));
-      order = order_new (omega (arith, can.rises)) (λ speaks_it. follows_top);
-      pops = pops_new (λ clr. subst (IsTopsPage y) (sym can.stack) can.page);
+      order = order_new (omega (arith, can.rises)) (λ speaks_it. can.follows);
+      pops = pops_new (λ clr. subst (IsTopsPage y) (sym can.stack) undoes.0);
       sound = λ disk all keeps. undo-each_sound i y top below (with_disk old disk) (with_disk new disk)
           (gained i y old new g disk) (own (ap speaks can.kind)) (can_undo_whole disk all) (safe.sound disk all) keeps;
       same = λ disk all. same_new (ap changes can.kind) redone disk all

@@ -4,12 +4,12 @@ use Rattle.std.proofs.lemmas.Bool.{cases_Bool}
 use Rattle.sd_logrec.specs.View.{Rec, Kind}
 use Rattle.sd_base.specs.declared.ids.TxnId.{TxnId}
 use Rattle.sd_base.specs.Ids.{same_txn}
-use Rattle.sd_chain.specs.Records.{ends, Each, step, stack_from, moved, rest, IsOpen}
+use Rattle.sd_chain.specs.Records.{ends, Each, step, stack, stack_from, moved, rest, IsOpen}
 use Rattle.sd_logrec.specs.View.Kind.{Update, Clr, Commit, End, Plain}
 use Rattle.sd_chain.proofs.Lists.{Each-append, Each-front, Each-weaker, cond_both}
-use Rattle.sd_chain.specs.Order.{speaks, of_txn, Sofar, none_yet, advance, after_all, ComesNext, InOrder, Undoes, first_prev, Tidy, MayFollow}
+use Rattle.sd_chain.specs.Order.{speaks, of_txn, Sofar, none_yet, with_own, advance, after_all, ComesNext, InOrder, Undoes, UndoesTop, first_prev, Tidy, MayFollow}
 use Rattle.sd_chain.proofs.Stacks.{step-own, step-other}
-use Rattle.sd_chain.proofs.Whose.{after_all-none, ends-off, first_prev-behind, none_of, other_of, open_ones-is, InOrder-back, Undoes-back}
+use Rattle.sd_chain.proofs.Whose.{advance-off, advance-own, after_all-none, ends-off, first_prev-behind, none_of, other_of, open_ones-is, InOrder-back, Undoes-back}
 use Rattle.sd_base.proofs.SameIds.{cases_txn, eq-same}
 
 InOrder-append : (t : TxnId) (sofar : Sofar) (xs ys : List Rec) → InOrder t sofar xs → InOrder t (after_all t sofar xs) ys
@@ -26,8 +26,7 @@ shut_open : (t : TxnId) (sofar : Sofar) (xs : List Rec) → sofar.shut ≡ false
 shut_open t sofar [] s o = s
 shut_open t sofar (x ∷ xs) s o =
     shut_open t (advance t sofar x) xs
-    (cond_both (λ (q : Sofar). q.shut ≡ false) (of_txn t x)
-    (record { open_ones = step t sofar.open_ones x; last = x.lsn; shut = ends x.kind }) sofar
+    (cond_both (λ (q : Sofar). q.shut ≡ false) (of_txn t x) (with_own t x sofar) sofar
     (λ is. go (ends x.kind) (speaks x.kind) (same_txn x.txn t) o.0 is) (λ is. s)) o.1
   where
     go : (a b c : Bool) → (a && c) ≡ false → (b && c) ≡ true → a ≡ false
@@ -41,8 +40,7 @@ last_up : (t : TxnId) (sofar : Sofar) (xs : List Rec) → Each (λ x. 0 < x.lsn)
 last_up t sofar [] pos lt = lt
 last_up t sofar (x ∷ xs) pos lt =
     last_up t (advance t sofar x) xs pos.1
-    (cond_both (λ (q : Sofar). 0 < q.last) (of_txn t x)
-    (record { open_ones = step t sofar.open_ones x; last = x.lsn; shut = ends x.kind }) sofar (λ is. pos.0) (λ is. lt))
+    (cond_both (λ (q : Sofar). 0 < q.last) (of_txn t x) (with_own t x sofar) sofar (λ is. pos.0) (λ is. lt))
 
 off_first_prev : (t : TxnId) (xs ys : List Rec) → Each (λ x. of_txn t x ≡ false) xs → first_prev t (xs ++ ys) ≡ first_prev t ys
 off_first_prev t xs ys a = first_prev-behind t xs ys (none_of (of_txn t) xs a)
@@ -58,20 +56,13 @@ some_or_none t (x ∷ xs) ys pos = go (some_or_none t xs ys pos.1) (cases_Bool (
         → Each (λ x. of_txn t x ≡ false) (x ∷ xs)
         ⊎ ((0 < (after_all t none_yet (x ∷ xs)).last) × (first_prev t (x ∷ xs ++ ys) ≡ first_prev t (x ∷ xs)))
     go ih (inl is) = inr (
-      ap_last (last_up t (record { open_ones = step t [] x; last = x.lsn; shut = ends x.kind }) xs pos.1 pos.0),
+      subst (λ (q : Sofar). 0 < (after_all t q xs).last) (sym (advance-own t none_yet x is))
+          (last_up t (with_own t x none_yet) xs pos.1 pos.0),
       rw is refl,
     )
-      where
-        ap_last : 0 < (after_all t (record { open_ones = step t [] x; last = x.lsn; shut = ends x.kind }) xs).last
-            → 0 < (after_all t none_yet (x ∷ xs)).last
-        ap_last h = subst (λ (b : Bool). 0 <
-            (after_all t (cond b (record { open_ones = step t [] x; last = x.lsn; shut = ends x.kind }) none_yet) xs).last)
-            (sym is) h
     go (inl none) (inr off) = inl (off, none)
     go (inr some) (inr off) = inr (
-      subst (λ (b : Bool). 0 <
-          (after_all t (cond b (record { open_ones = step t [] x; last = x.lsn; shut = ends x.kind }) none_yet) xs).last)
-          (sym off) some.0,
+      subst (λ (q : Sofar). 0 < (after_all t q xs).last) (sym (advance-off t none_yet x off)) some.0,
       rw off some.1,
     )
 
@@ -131,6 +122,11 @@ tidy-push log y pos tidy may t =
     ⊎_elim (λ e. subst (λ (k : TxnId). Tidy k (log ++ y ∷ [])) e (tidy-own log y pos (tidy y.txn) may))
     (λ ne. tidy-other t log y (other_of t y ne) pos (tidy t)) (cases_txn y.txn t)
 
+-- an undo that follows is of the top
+pub undoes-top : (log : List Rec) (y top : Rec) (below : List Rec) → y.kind ≡ Clr → MayFollow log y
+    → stack y.txn log ≡ top ∷ below → UndoesTop y (top ∷ below)
+undoes-top log y top below clr follows is = subst (UndoesTop y) is (follows.undo clr)
+
 -- The records left when a log is read from a later place.
 record Weaker (b a : Sofar) : Type 0 where
   lower : List Rec
@@ -159,8 +155,7 @@ step_parts t x xs lower = ⊎_elim
 advance_weaker : (t : TxnId) (x : Rec) (b a : Sofar) → Weaker b a → Weaker (advance t b x) (advance t a x)
 advance_weaker t x b a w = go (of_txn t x)
   where
-    go : (c : Bool) → Weaker (cond c (record { open_ones = step t b.open_ones x; last = x.lsn; shut = ends x.kind }) b)
-        (cond c (record { open_ones = step t a.open_ones x; last = x.lsn; shut = ends x.kind }) a)
+    go : (c : Bool) → Weaker (cond c (with_own t x b) b) (cond c (with_own t x a) a)
     go true =
         let p = step_parts t x b.open_ones w.lower in
         record { lower = p.0; parts = ap (λ (l : List Rec). step t l x) w.parts ∙ p.1; last = inl refl; shut = inl refl }
@@ -188,9 +183,7 @@ first_some : (t : TxnId) (sofar : Sofar) (xs : List Rec) → 0 < sofar.last → 
 first_some t sofar [] lt o = inl tt
 first_some t sofar (x ∷ xs) lt o =
     go (cases_Bool (of_txn t x))
-    (λ off. first_some t sofar xs lt
-    (subst (λ (b : Bool). InOrder t
-    (cond b (record { open_ones = step t sofar.open_ones x; last = x.lsn; shut = ends x.kind }) sofar) xs) off o.1))
+    (λ off. first_some t sofar xs lt (subst (λ (q : Sofar). InOrder t q xs) (advance-off t sofar x off) o.1))
   where
     go : (of_txn t x ≡ true) ⊎ (of_txn t x ≡ false)
         → (of_txn t x ≡ false → Each (λ x. of_txn t x ≡ false) xs ⊎ (0 < first_prev t xs))

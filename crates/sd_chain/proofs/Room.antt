@@ -1,6 +1,6 @@
 -- Room for an undo, and for the end of a transaction: what was reserved for them is as long as they are. For the laws `undo`
 -- and `seal`.
-use Rattle.std.proofs.Common.{◌≡◌, ℕ, ◌+◌, ◌≤◌, true, List, ◌∷◌, length, ap, subst, arith, suc, [], ◌++◌}
+use Rattle.std.proofs.Common.{◌≡◌, ℕ, ◌+◌, ◌≤◌, true, List, ◌∷◌, length, ap, arith, suc, [], ◌++◌}
 use Rattle.sd_logrec.specs.declared.record.Record.{Record}
 use Rattle.sd_logrec.specs.declared.record.Record.TheVariants as records
 use Rattle.sd_logrec.specs.Spelling.{spelling}
@@ -10,13 +10,13 @@ use Rattle.sd_logrec.proofs.Lengths.{length-spelling}
 use Rattle.sd_base.specs.Values.{size}
 use Rattle.sd_log.specs.Logs.{LogState, forced, needed}
 use Rattle.sd_chain.specs.Checks.{reserve, owed}
-use Rattle.sd_chain.specs.Order.{UndoesTop}
 use Rattle.sd_chain.specs.Records.{ends}
 use Rattle.sd_chain.specs.Logs.{all_at}
 use Rattle.sd_chain.specs.Soundly.{LogIsSound}
 use Rattle.sd_chain.specs.Appends.{IsEnd, IsUndo}
 use Rattle.sd_chain.specs.ChecksKept.{EndHasRoom, UndoHasRoom}
 use Rattle.sd_chain.proofs.Kept.{forced-base, forced-gate}
+use Rattle.sd_chain.proofs.Order.{undoes-top}
 use Rattle.sd_chain.proofs.Owing.{end-owes, undo-owes}
 
 -- room that was reserved, with a group's head
@@ -55,7 +55,7 @@ pub undo-falls : (l : LogState) (y : Record) → IsUndo y l
     × (suc (owed (all_at l ++ flat y ∷ [])) ≤ owed (all_at l))
 undo-falls l y u =
     let falls = undo-owes (all_at l) (flat y) u.top u.below u.kind u.follows.alive u.stack in
-    let undoes : UndoesTop (flat y) (u.top ∷ u.below) = subst (UndoesTop (flat y)) u.stack (u.follows.undo u.kind) in
+    let undoes = undoes-top (all_at l) (flat y) u.top u.below u.kind u.follows u.stack in
     let value : size (flat y).after ≡ size u.top.before = ap size undoes.2 in
     let len = clr-len y u.kind in
     let f0 = falls.0 in let f1 = falls.1 in

@@ -8,7 +8,7 @@ use Rattle.sd_base.specs.Ids.{same_txn}
 use Rattle.sd_logrec.specs.View.{Rec, Kind}
 use Rattle.sd_logrec.specs.View.Kind.{Update, Clr, Commit, End, Plain}
 use Rattle.sd_chain.specs.Records.{Each, ends, moved, step, stack_from, IsOpen, stack}
-use Rattle.sd_chain.specs.Order.{speaks, of_txn, none_yet, Sofar, advance, after_all, InOrder, Undoes, first_prev}
+use Rattle.sd_chain.specs.Order.{speaks, of_txn, none_yet, Sofar, with_own, advance, after_all, InOrder, Undoes, first_prev}
 use Rattle.sd_chain.proofs.Lists.{cond_both}
 use Rattle.sd_base.proofs.SameIds.{cases_txn, eq-same, ne-same}
 
@@ -39,8 +39,11 @@ silent_of t x s = rw s refl
 
 -- a record of others leaves what is so far
 pub advance-off : (t : TxnId) (sofar : Sofar) (x : Rec) → of_txn t x ≡ false → advance t sofar x ≡ sofar
-advance-off t sofar x off =
-    ap (λ (b : Bool). cond b (record { open_ones = step t sofar.open_ones x; last = x.lsn; shut = ends x.kind }) sofar) off
+advance-off t sofar x off = ap (λ (b : Bool). cond b (with_own t x sofar) sofar) off
+
+-- one of its own is one record more
+pub advance-own : (t : TxnId) (sofar : Sofar) (x : Rec) → of_txn t x ≡ true → advance t sofar x ≡ with_own t x sofar
+advance-own t sofar x own = ap (λ (b : Bool). cond b (with_own t x sofar) sofar) own
 
 pub after_all-append : (t : TxnId) (sofar : Sofar) (xs ys : List Rec) → after_all t sofar (xs ++ ys) ≡ after_all t (after_all t sofar xs) ys
 after_all-append t sofar [] ys = refl
@@ -84,8 +87,7 @@ pub open_ones-is : (t : TxnId) (sofar : Sofar) (xs : List Rec) → (after_all t 
 open_ones-is t sofar [] = refl
 open_ones-is t sofar (x ∷ xs) = open_ones-is t (advance t sofar x) xs
     ∙ ap (λ (l : List Rec). stack_from t l xs)
-    (cond_both (λ (q : Sofar). q.open_ones ≡ step t sofar.open_ones x) (of_txn t x)
-    (record { open_ones = step t sofar.open_ones x; last = x.lsn; shut = ends x.kind }) sofar (λ is. refl)
+    (cond_both (λ (q : Sofar). q.open_ones ≡ step t sofar.open_ones x) (of_txn t x) (with_own t x sofar) sofar (λ is. refl)
     (λ is. sym (step-off t sofar.open_ones x is)))
 
 -- the first record is among those in front, or else behind

@@ -6,7 +6,7 @@ use Rattle.sd_logrec.specs.View.Kind.{Clr, Update}
 use Rattle.sd_page.specs.Page.{Page}
 use Rattle.sd_chain.specs.Records.{IsOpen, at, changes, home, stack}
 use Rattle.sd_chain.specs.Pages.{FitsKind, redo}
-use Rattle.sd_chain.specs.Order.{MayFollow, after_all, none_yet}
+use Rattle.sd_chain.specs.Order.{MayFollow}
 use Rattle.sd_chain.specs.Images.{Allowed, Grows, IsSafe, Keeps, Lone, MayChange, MayUndo, Redone, log}
 use Rattle.sd_chain.specs.Laws.{May}
 use Rattle.sd_pagelock.specs.Places.{changed, owns}
@@ -80,13 +80,8 @@ ChangeMayCome may = (a i : ℕ) (image : Page) (y : Rec) (b : Base may) (d : Dir
 -- The record takes back the top of its transaction's stack.
 pub record IsUndo (y top : Rec) (below own : List Rec) : Type 0 where
   pub kind : y.kind ≡ Clr
-  pub alive : IsOpen y.txn own
-  pub prev : y.prev ≡ (after_all y.txn none_yet own).last
+  pub follows : MayFollow own y
   pub stack : stack y.txn own ≡ top ∷ below
-  pub page : y.page ≡ top.page
-  pub slot : y.slot ≡ top.slot
-  pub value : y.after ≡ top.before
-  pub next : y.next ≡ top.prev
 
 -- And so may an undo, seen from the image in the pool.
 abbrev pub UndoMayCome : May → Type 0

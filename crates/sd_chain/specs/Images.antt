@@ -7,7 +7,7 @@ use Rattle.sd_logrec.specs.View.Kind.{Update, Clr}
 use Rattle.sd_page.specs.Page.{Page}
 use Rattle.sd_chain.specs.Pages.{FitsKind, redo}
 use Rattle.sd_chain.specs.Storage.{newest, Sound, Recovered}
-use Rattle.sd_chain.specs.Order.{of_txn, speaks, Tidy, MayFollow, after_all, none_yet}
+use Rattle.sd_chain.specs.Order.{of_txn, speaks, Tidy, MayFollow}
 use Rattle.sd_chain.specs.Cuts.{Logs, cut, Pops}
 
 -- forced records and tails
@@ -84,15 +84,10 @@ pub record MayChange (i : ℕ) (tails : Tails) (in_memory : ℕ → Page) (y : R
 -- The undo of the top of its transaction's stack may be appended.
 pub record MayUndo (i : ℕ) (tails : Tails) (in_memory : ℕ → Page) (y top : Rec) (below : List Rec) : Type 0 where
   pub kind : y.kind ≡ Clr
-  pub alive : IsOpen y.txn (log tails (home y.txn))
-  pub prev : y.prev ≡ (after_all y.txn none_yet (log tails (home y.txn))).last
+  pub follows : MayFollow (log tails (home y.txn)) y
   pub rises : (in_memory y.page).lsn < y.lsn
   pub lone : Lone tails i y.page
   pub stack : stack y.txn (log tails (home y.txn)) ≡ top ∷ below
-  pub page : y.page ≡ top.page
-  pub slot : y.slot ≡ top.slot
-  pub value : y.after ≡ top.before
-  pub next : y.next ≡ top.prev
 
 -- A record without a page may be appended: it is of no transaction, or follows its transaction's.
 pub record MaySeal (tails : Tails) (y : Rec) : Type 0 where

@@ -29,9 +29,13 @@ pub record Sofar : Type 0 where
 abbrev pub none_yet : Sofar
 none_yet = record { open_ones = []; last = 0; shut = false }
 
+-- with one record of the transaction more
+abbrev pub with_own : TxnId → Rec → Sofar → Sofar
+with_own t x sofar = record { open_ones = step t sofar.open_ones x; last = x.lsn; shut = ends x.kind }
+
 -- with one record more
 abbrev pub advance : TxnId → Sofar → Rec → Sofar
-advance t sofar x = cond (of_txn t x) (record { open_ones = step t sofar.open_ones x; last = x.lsn; shut = ends x.kind }) sofar
+advance t sofar x = cond (of_txn t x) (with_own t x sofar) sofar
 
 -- with all of these
 abbrev pub after_all : TxnId → Sofar → List Rec → Sofar

@@ -1,8 +1,9 @@
 -- An instance falls: how what is left of the complex fits the world behind it. For the calls of events that fail, or whose device does.
-use Rattle.std.proofs.Common.{◌≡◌, ◌≢◌, ◌⊎◌, inl, inr, ⊎_elim, ℕ, ◌+◌, ◌≤◌, Bool, true, false, cond, List, eqb, append-nil, refl, sym, ap, ap₂, ◌∙◌, subst, arith, eq-eqb, ne_eqb}
+use Rattle.std.proofs.Common.{◌≡◌, ◌≢◌, ◌⊎◌, inl, inr, ⊎_elim, ℕ, zero, suc, ◌+◌, ◌-◌, ◌≤◌, Bool, true, false, cond, List, eqb, append-nil, length, get_or, slice_set, refl, sym, ap, ap₂, ◌∙◌, subst, arith, eq-eqb, ne_eqb}
 use Rattle.std.specs.Prelude.{Option, None, Some, IsSome, is_some}
 use Rattle.std.specs.Option.{option_map_or}
-use Rattle.std.proofs.lemmas.Bool.{cases_eq}
+use Rattle.std.proofs.lemmas.Bool.{cases_eq, cases_lt}
+use Rattle.std.proofs.lemmas.List.{get_or-set_same, get_or_past, length-set}
 use mathlib.Core.Path.{fun_ext}
 use Rattle.sd_base.specs.Waits.{Wait, Waits}
 use Rattle.sd_base.specs.declared.ids.TxnId.{TxnId}
@@ -51,6 +52,18 @@ use Rattle.sd_moves.proofs.FallDropped.{kept-all}
 use Rattle.sd_moves.proofs.FallFinal.{when-dropped}
 use Rattle.sd_fits.specs.Fits.{AreAtLeast, AreWithin, Fits, FitsBounds, FitsDoubts, FitsPages, ReachesAtMost, capacities}
 use Rattle.sd_fits.proofs.Doubts.{DoubtsStay, doubts-kept}
+
+-- the pool of who fell has its frames and no page
+pub pool-emptied : (i : ℕ) (c new : Parts) → pool_at (with_fallen i new c) i ≡ emptied_pool (pool_at c i)
+pool-emptied zero c new = refl
+pool-emptied (suc k) c new =
+    let own : suc k - 1 ≡ k = omega arith in
+    let x = emptied_pool (get_or c.pools k no_pool) in
+    ap (λ (n : ℕ). get_or (slice_set c.pools n x) k no_pool) own ∙ ⊎_elim
+    (λ lt. get_or-set_same c.pools k x no_pool lt)
+    (λ ge. get_or_past (slice_set c.pools k x) k no_pool (let n = length-set c.pools k x in omega (arith, ge, n))
+    ∙ sym (ap emptied_pool (get_or_past c.pools k no_pool ge)))
+    (cases_lt k (length c.pools))
 
 -- the waits once those of instance i are gone
 abbrev pub fell_waits : ℕ → Waits → Waits
@@ -229,11 +242,12 @@ module _ (i : ℕ) (seen seen' : rig.DeviceImages) (leaves leaves' : Outcomes) (
   txns-else : (j : ℕ) → j ≢ i → txns_at new j ≡ txns_at old j
   txns-else j ne = ap (λ (k : Parts). txns_at k j) is ∙ item-kept no_txns mid.txns i (txns_at new i) low j ne ∙ else.txns j ne
 
-  pub fallen-fits : (sums : Bounds) → FitsPages seen' leaves' mid w.pages → FitsBounds seen' leaves' mid sums
+  pub fallen-fits-so : (sums : Bounds) → FitsPages seen' leaves' new (fell i (numbers_of seen' leaves' new) w.pages)
+      → FitsBounds seen' leaves' mid sums
       → FitsDoubts seen' mid before
       → Good seen' leaves' Pending.Idle new (fall i before)
       → Fits seen' leaves' new (fell_core i before (numbers_of seen' leaves' new) sums w)
-  fallen-fits sums pages bounds doubts good = record {
+  fallen-fits-so sums pages bounds doubts good = record {
     good = good;
     idle = ap (λ (k : Parts). k.due) is;
     rolling = λ t rolls. ⊎_elim
@@ -253,10 +267,16 @@ module _ (i : ℕ) (seen seen' : rig.DeviceImages) (leaves leaves' : Outcomes) (
         (fitted.put t (subst (λ (p : Part). IsAtWork p.life) (part-else t ne) works)
         (subst (λ (table : Transactions). IsSome (span_at table t)) (txns-else (home t) ne) some)))
         (cases_eq (home t) i);
-    pages = fallen-pages i seen' leaves' pend mid new m low high g is f w.pages pages;
+    pages = pages;
     bounds = fallen-bounds i seen' leaves' pend mid new m low high g is f sums bounds;
     doubts = fallen-doubts i seen' leaves' pend mid new m low high g is f before doubts;
   }
+
+  pub fallen-fits : (sums : Bounds) → FitsPages seen' leaves' mid w.pages → FitsBounds seen' leaves' mid sums
+      → FitsDoubts seen' mid before
+      → Good seen' leaves' Pending.Idle new (fall i before)
+      → Fits seen' leaves' new (fell_core i before (numbers_of seen' leaves' new) sums w)
+  fallen-fits sums pages = fallen-fits-so sums (fallen-pages i seen' leaves' pend mid new m low high g is f w.pages pages)
 
   -- the waits of those that run then, where the event ends no other's
   pub fell-waits : (asks : Waits) → ((u : TxnId) → home u ≢ i → of_running w.scene.state asks u ≡ w.scene.waits u)

@@ -31,3 +31,4 @@ pub mod Opened
 pub mod Framed
 pub mod Bodies
 pub mod Resting
+pub mod NoRoom

@@ -3,7 +3,7 @@
 //! Meaning: `Fits` says when a complex is as a world says; `Serving` is what a call of an event promises of it, and `ServingHall`
 //! of one that is open or closed (Bodies); `IsWithinSums` says when devices are within a world's sums (Sums), `FitsClosed` when a
 //! closed complex is as a world says (Closed), `opening_core` which world devices tell (Opened), `LeavesRest` what others leave of
-//! a recovery (Resting), `IsUntouched` and `FallTouches` what a call leaves that no world has (Untouched).
+//! a recovery (Resting), `IsUntouched`, `HasChanged` and `FallTouches` what a call leaves that no world has (Untouched).
 //! Keeps: nothing.
 //! Promises: whatever a crash leaves of a complex that fits stands for the world's state and is within its sums; a fresh complex,
 //! and one opened from sound devices, fits its world, and so on through a closing and a reopening (`laws.rt`).

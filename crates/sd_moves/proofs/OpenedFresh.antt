@@ -1,6 +1,6 @@
 -- Blank devices open to the fresh state, and a fresh complex is what is opened from them: so what `assemble` asks for can be met.
 use Rattle.std.proofs.Common.{◌≡◌, ℕ, zero, suc, ◌≤◌, Bool, true, false, ltb, ◌&&◌, ◌||◌, cond, List, [], refl, sym, ap, ap₂, ◌∙◌, subst, arith, ⊎_elim, inl}
-use Rattle.std.specs.Prelude.{is_some}
+use Rattle.std.specs.Prelude.{None, is_some}
 use Rattle.std.specs.List.{list_any}
 use Rattle.std.proofs.lemmas.Bool.{cases_lt, le-ltb}
 use Rattle.std.proofs.lemmas.List.Elements.{All-nil}
@@ -22,7 +22,7 @@ use Rattle.sd_txn.specs.Transactions.{Transactions, txn_at}
 use Rattle.sd_chain.specs.Bytes.{log_of, page_in, records_of, stable, twin_at}
 use Rattle.sd_chain.specs.Checks.{open_in, owed}
 use Rattle.sd_chain.specs.Fates.{Fate, fate, fate_in}
-use Rattle.sd_chain.specs.Storage.{Recovered, Storage, newest, opens}
+use Rattle.sd_chain.specs.Storage.{Recovered, Storage, chain, newest, opens}
 use Rattle.sd_chain.specs.Records.{at, home}
 use Rattle.sd_chain.specs.Coherent.{Quiet}
 use Rattle.sd_chain.specs.ChecksKept.{IsRead}
@@ -32,6 +32,7 @@ use Rattle.sd_chain.proofs.Kept.{kept-is, log-here, log-past}
 use Rattle.sd_state.specs.Fresh.{AreBlank, IsFresh}
 use Rattle.sd_state.specs.Good.{Good, IsSettledAt}
 use Rattle.sd_state.specs.Images.{Stands}
+use Rattle.sd_recovered.specs.FirstAbove.{IsFirstAbove}
 use Rattle.sd_moves.specs.Opening.{AreOpened, IsFoundInst, IsFoundPage, IsLeftIn, OpensTo, claim_in, is_any, is_left, is_lost_in, life_in, some_lost, status_in}
 use Rattle.sd_state.specs.Parts.{Parts, among, epoch_at, is_loose, log_at}
 use Rattle.sd_state.specs.Tables.{lock_of}
@@ -40,7 +41,7 @@ use Rattle.sd_moves.proofs.Beginning.{fresh-good, log-is, owes-none, table-is}
 use Rattle.sd_state.proofs.Items.{at-each}
 use Rattle.sd_moves.proofs.OpenedHalf.{nine-settled}
 use Rattle.sd_moves.proofs.OpenedImage.{values-now}
-use Rattle.sd_moves.proofs.OpenedPages.{unchanged-same}
+use Rattle.sd_moves.proofs.OpenedPages.{unchanged-chain, unchanged-same}
 use Rattle.sd_state.proofs.Standing.{left-stands}
 use Rattle.sd_reclock.specs.Locks.{waits_in}
 use Rattle.sd_reclock.specs.declared.wait.Asked.{Asked}
@@ -99,9 +100,12 @@ module _ (seen : rig.DeviceImages) (leaves : Outcomes) (frames : ℕ) (c : Parts
 
   -- ---- pages
 
+  quiet : (p j : ℕ) → Quiet p (img.logs j)
+  quiet p j = subst (Quiet p) (sym (none-kept j)) tt
+
   no-lost : (p : ℕ) → is_lost_in img p ≡ false
   no-lost p =
-      let same = ap (λ (x : Page). x.lsn) (unchanged-same img p (λ j. subst (Quiet p) (sym (none-kept j)) tt)) in
+      let same = ap (λ (x : Page). x.lsn) (unchanged-same img p (quiet p)) in
       ap (λ (b : Bool). ltb p 1024 && b) (le-ltb (img.disk p).lsn (newest img p).lsn (omega (arith, same)))
       ∙ none-of-both (ltb p 1024)
 
@@ -117,7 +121,8 @@ module _ (seen : rig.DeviceImages) (leaves : Outcomes) (frames : ℕ) (c : Parts
   page-found p = record {
     entry = f.free p ∙ sym (ap nowhere (no-lost p));
     mark = ap is_some (f.clean p) ∙ sym (no-lost p);
-    first = λ l is. let e = sym (f.clean p) ∙ is in absurd (cc);
+    first = λ lt. subst (IsFirstAbove (chain img p) (img.disk p).lsn) (sym (f.clean p))
+        (subst (λ (xs : List Rec). IsFirstAbove xs (img.disk p).lsn None) (sym (unchanged-chain img p (quiet p))) tt);
     still = f.still p;
     unasked = f.unasked p;
   }

@@ -1,6 +1,6 @@
 -- What a crash leaves of devices that were read and synced, with the logs and the directory that were found: for `without_tails`.
 use Rattle.std.proofs.Common.{◌≡◌, inl, ℕ, zero, suc, ◌≤◌, Bool, true, false, cond, List, [], ◌++◌, map, length, get_or, refl, sym, ap, ap₂, ◌∙◌, subst, arith, ⊎_elim}
-use Rattle.std.specs.Prelude.{Option, None, Some}
+use Rattle.std.specs.Prelude.{Option, None, Some, is_some}
 use Rattle.std.proofs.lemmas.Bool.{cases_lt}
 use Rattle.std.proofs.lemmas.List.{get_or_past}
 use mathlib.Core.Path.{fun_ext}
@@ -22,7 +22,7 @@ use Rattle.sd_chain.specs.Bytes.{disk_page, log_of, records_of, stable}
 use Rattle.sd_chain.specs.Checks.{past_of, placed_of}
 use Rattle.sd_chain.specs.Cuts.{cut}
 use Rattle.sd_chain.specs.Fates.{Fate, fate}
-use Rattle.sd_chain.specs.Storage.{Recovered, Storage, newest}
+use Rattle.sd_chain.specs.Storage.{Recovered, Storage, chain, newest}
 use Rattle.sd_chain.specs.Images.{Gives, IsSafe, Keeps, Tails, all_kept, log, with_disk}
 use Rattle.sd_chain.specs.Laws.{Narrows, Opens, as_read, without_tails}
 use Rattle.sd_chain.specs.Records.{Each, IsOpen, home, stack}
@@ -44,11 +44,12 @@ use Rattle.sd_chain.proofs.Opened.{opened-sound}
 use Rattle.sd_state.specs.Fresh.{empty_pool, for_each}
 use Rattle.sd_state.specs.Good.{Half, base_of, dir_of}
 use Rattle.sd_state.specs.Images.{IsClaimed, IsEpochOf, kept_epoch, leaves_by, log_by}
+use Rattle.sd_recovered.specs.FirstAbove.{IsFirstAbove}
 use Rattle.sd_moves.specs.Opening.{AreOpened, OpensTo, claim_in, is_loser, is_lost_in}
 use Rattle.sd_state.specs.Parts.{Begun, Parts, among, check_at, is_loose, is_up, log_at, no_log, no_pool, other_at, pool_at, up_as}
 use Rattle.sd_state.specs.Values.{Pending, is_doubt, rid_of, values}
 use Rattle.sd_state.proofs.Items.{at-any}
-use Rattle.sd_moves.proofs.OpenedPages.{none-beyond, unlost-same}
+use Rattle.sd_moves.proofs.OpenedPages.{lost-past, none-before, none-beyond, unlost-same}
 use Rattle.sd_moves.proofs.OpenedImage.{claims-endless, claims-left, life-left, no-doubt, values-now}
 use Rattle.sd_state.proofs.Standing.{no-place, one-place}
 
@@ -211,12 +212,18 @@ module _ (seen : rig.DeviceImages) (leaves : Outcomes) (frames : ℕ) (c : Parts
     pub now-same : (keeps : Keeps) (p : ℕ) → version_of (tails_of logs) (disk_page (seen 0)) keeps p ≡ newest img p
     now-same keeps p = named.same keeps p
 
+    first-of : (p l : ℕ) → rec_lsn_at c.directory p ≡ Some l → (j : ℕ) → NoneBefore p l (img.disk p) (img.logs j)
+    first-of p l e = ⊎_elim
+        (λ lt. none-before img p l (log-past seen) (subst (IsFirstAbove (chain img p) (img.disk p).lsn) e ((a.pages p).first lt)))
+        (λ ge. let off = ap is_some (sym e) ∙ (a.pages p).mark ∙ lost-past img p ge in absurd (cc))
+        (cases_lt p 1024)
+
     -- as the law has it of what an opening reads
     lawful : Coherent (opened_base img (rec_lsn_at c.directory) (is_up c)) (opened_dir (is_lost_in img))
     lawful = opening-coherent img (rec_lsn_at c.directory) (is_lost_in img) (is_up c) opens refl (record {
       marks = λ p. (a.pages p).mark;
       free = λ p e. unlost-same img p opens refl (beyond p) e;
-      first = λ p l e j. (a.pages p).first l e j;
+      first = first-of;
     })
 
     coherent : Coherent (base_of seen leaves' logs c) (dir_of c)

@@ -1,7 +1,8 @@
--- A page that an image doesn't call lost is on disk; above the last page of the data device none is changed: for `assemble`.
-use Rattle.std.proofs.Common.{◌≡◌, ⊎_elim, ℕ, ◌<◌, ◌≤◌, Bool, true, false, ◌&&◌, ltb, List, [], ◌∷◌, map, refl, sym, ap, subst, arith, lt-ltb, ltb-false, ne_eqb}
-use Rattle.std.specs.Prelude.{Some}
-use Rattle.std.proofs.lemmas.Bool.{cases_lt}
+-- A page that an image doesn't call lost is on disk; above the last page of the data device none is changed; no record that the disk
+-- lacks is below a RecLSN: for `assemble`.
+use Rattle.std.proofs.Common.{◌≡◌, ⊎_elim, ℕ, zero, suc, ◌<◌, ◌≤◌, Bool, true, false, ◌&&◌, ltb, List, [], ◌∷◌, map, refl, sym, ap, subst, arith, le-ltb, lt-ltb, ltb-false, ne_eqb}
+use Rattle.std.specs.Prelude.{Some, filter}
+use Rattle.std.proofs.lemmas.Bool.{cases_eq, cases_lt}
 use Rattle.std.proofs.lemmas.List.Elements.{All-head, All-tail}
 use Rattle.sd_logrec.specs.Spelling.{HasSpelling}
 use Rattle.sd_logrec.specs.View.{Rec, flat}
@@ -13,13 +14,15 @@ use Rattle.sd_chain.specs.Storage.{Storage, all_of, chain, newest, sorted}
 use Rattle.sd_chain.specs.Laws.{Opens, as_read}
 use Rattle.sd_chain.specs.Pages.{replay}
 use Rattle.sd_chain.specs.Records.{Each, of_page}
+use Rattle.sd_chain.proofs.Above.{Each-filter_back, Each-sorted_back}
 use Rattle.sd_chain.proofs.Chains.{Each-all_of, replay_rises}
 use Rattle.sd_chain.proofs.Cuts.{filter_none}
-use Rattle.sd_chain.proofs.Lists.{Each-all}
+use Rattle.sd_chain.proofs.Lists.{Each-all, Each-back, Each-front}
 use Rattle.sd_chain.specs.Coherent.{NoneBefore, Quiet}
 use Rattle.sd_chain.specs.Statuses.{LostAreRead, opened_base, opened_dir}
 use Rattle.sd_chain.proofs.DiskPuts.{same-lsn}
 use Rattle.sd_chain.proofs.Statuses.{opening-coherent}
+use Rattle.sd_recovered.specs.FirstAbove.{IsLeastAbove}
 use Rattle.sd_moves.specs.Opening.{is_lost_in}
 
 -- ---- pages that no record changes
@@ -44,11 +47,41 @@ none-beyond p far (q ∷ ps) all = (
   none-beyond p far ps (All-tail (λ (x : Placed). HasSpelling x.rec) q ps all),
 )
 
--- such a page is as on disk
+-- such a page has no record in its chain
+pub unchanged-chain : (img : Storage) (p : ℕ) → ((j : ℕ) → Quiet p (img.logs j)) → chain img p ≡ []
+unfolding chain
+unchanged-chain img p none = ap sorted (filter_none p (all_of img.logs 9) (Each-all_of (λ x. of_page p x ≡ false) img.logs 9 none))
+
+-- and is as on disk
 pub unchanged-same : (img : Storage) (p : ℕ) → ((j : ℕ) → Quiet p (img.logs j)) → newest img p ≡ img.disk p
-unfolding newest chain
-unchanged-same img p none = ap (λ (xs : List Rec). replay (img.disk p).lsn (img.disk p) (sorted xs))
-    (filter_none p (all_of img.logs 9) (Each-all_of (λ x. of_page p x ≡ false) img.logs 9 none))
+unfolding newest
+unchanged-same img p none = ap (replay (img.disk p).lsn (img.disk p)) (unchanged-chain img p none)
+
+-- there is no page past the last
+pub lost-past : (img : Storage) (p : ℕ) → 1024 ≤ p → is_lost_in img p ≡ false
+lost-past img p ge = ap (λ b. b && ltb (img.disk p).lsn (newest img p).lsn) (le-ltb p 1024 ge)
+
+-- ---- RecLSNs
+
+-- what holds of the records of all logs holds of those of one
+of-each : (P : Rec → Type 0) (logs : ℕ → List Rec) (n : ℕ) → Each P (all_of logs n) → (j : ℕ) → j < n → Each P (logs j)
+unfolding all_of
+of-each P logs zero all j lt = absurd (omega arith)
+of-each P logs (suc n) all j lt = ⊎_elim
+    (λ e. subst (λ (k : ℕ). Each P (logs k)) (sym e) (Each-front P (logs n) (all_of logs n) all))
+    (λ ne. of-each P logs n (Each-back P (logs n) (all_of logs n) all) j (omega arith))
+    (cases_eq j n)
+
+-- no record that the disk lacks is below the page's RecLSN
+pub none-before : (img : Storage) (p l : ℕ) → ((j : ℕ) → 9 ≤ j → img.logs j ≡ []) → IsLeastAbove (chain img p) (img.disk p).lsn l
+    → (j : ℕ) → NoneBefore p l (img.disk p) (img.logs j)
+unfolding chain
+none-before img p l past is j = ⊎_elim
+    (λ lt. of-each (λ x. of_page p x ≡ true → (img.disk p).lsn < x.lsn → l ≤ x.lsn) img.logs 9
+    (Each-filter_back (λ x. (img.disk p).lsn < x.lsn → l ≤ x.lsn) (of_page p) (all_of img.logs 9)
+    (Each-sorted_back (λ x. (img.disk p).lsn < x.lsn → l ≤ x.lsn) (filter (of_page p) (all_of img.logs 9)) is.least)) j lt)
+    (λ ge. subst (NoneBefore p l (img.disk p)) (sym (past j ge)) tt)
+    (cases_lt j 9)
 
 -- ---- pages that aren't lost
 

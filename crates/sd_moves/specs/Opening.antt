@@ -29,10 +29,10 @@ use Rattle.sd_txn.specs.declared.state.TxnState.{TxnState}
 use Rattle.sd_chain.specs.Bytes.{disk_page, log_of, stable}
 use Rattle.sd_chain.specs.Checks.{DevicesAreSound, open_in, owed}
 use Rattle.sd_chain.specs.Fates.{Fate, fate, fate_in}
-use Rattle.sd_chain.specs.Storage.{Recovered, Storage, newest, opens}
+use Rattle.sd_chain.specs.Storage.{Recovered, Storage, chain, newest, opens}
 use Rattle.sd_chain.specs.Records.{at}
-use Rattle.sd_chain.specs.Coherent.{NoneBefore}
 use Rattle.sd_chain.specs.ChecksKept.{IsRead}
+use Rattle.sd_recovered.specs.FirstAbove.{IsFirstAbove}
 use Rattle.sd_state.specs.Complexes.{unboxed}
 use Rattle.sd_state.specs.Fresh.{empty_pool, for_each}
 use Rattle.sd_state.specs.Images.{IsEpochOf, Stands, kept_epoch}
@@ -130,12 +130,15 @@ abbrev pub IsLeftIn : Option Transaction → TxnId → List Rec → Type 0
 IsLeftIn None t log = (fate t log ≡ Fate.Open) → ⊥
 IsLeftIn (Some x) t log = IsLeftRow x t log
 
--- The page directory has of each page: whether it is lost; an LSN of which no record that the disk lacks is below, where it is;
--- and nothing on its way, and no ask.
+-- The RecLSN of a page is the LSN of the first record of its chain above its disk image; it has none where there is no such record.
+abbrev pub RecLsnIsFirst : Storage → Parts → ℕ → Type 0
+RecLsnIsFirst img c p = IsFirstAbove (chain img p) (img.disk p).lsn (rec_lsn_at c.directory p)
+
+-- The page directory has of each page: whether it is lost; its RecLSN, where it is; and nothing on its way, and no ask.
 pub record IsFoundPage (img : Storage) (c : Parts) (p : ℕ) : Type 0 where
   pub entry : entry_at c.directory p ≡ nowhere (is_lost_in img p)
   pub mark : is_some (rec_lsn_at c.directory p) ≡ is_lost_in img p
-  pub first : (l : ℕ) → rec_lsn_at c.directory p ≡ Some l → (j : ℕ) → NoneBefore p l (img.disk p) (img.logs j)
+  pub first : p < 1024 → RecLsnIsFirst img c p
   pub still : directory.moving_image_at c.directory p ≡ None
   pub unasked : asks_at c.directory p ≡ []
 

@@ -28,8 +28,9 @@ use Rattle.sd_txn.specs.Transactions.{Transaction, Transactions, top, top_at}
 use Rattle.sd_update.specs.Changing.{Change, IsMade, change_of, changed_log, flat_of, image_for, update}
 use Rattle.sd_update.specs.Sealing.{with_last}
 use Rattle.sd_update.specs.Undoing.{HasUndone, clr_at}
-use Rattle.sd_fits.specs.Untouched.{FallTouches, IsUntouched, none_of, only}
-use Rattle.sd_ops.specs.Leaving.{HasChanged, HasUsed, OnlyLocks}
+use Rattle.sd_fits.specs.Untouched.{FallTouches, HasChanged, IsUntouched, none_of, only}
+use Rattle.sd_fits.proofs.Falling.{pool-emptied}
+use Rattle.sd_ops.specs.Leaving.{HasUsed, OnlyLocks}
 use Rattle.sd_ops.specs.Logged.{HasCompensated, IsLogged}
 
 -- ---- nothing is touched
@@ -269,6 +270,7 @@ module _ (i a spare : ℕ) (y : Record) (table : Transactions) (old new : Parts)
       masters = ap (λ (c : Parts). c.masters) is;
       others = ap (λ (c : Parts). c.others) is;
       disk_lsn = ap (λ (c : Parts). c.disk_lsn) is;
+      pool = ap (λ (c : Parts). pool_at c i) is ∙ pool-emptied i cut new;
       pools = λ k ne. ap (λ (c : Parts). pool_at c k) is ∙ item-kept no_pool old.pools i (emptied_pool (pool_at cut i)) low k ne;
       recs = λ p out. fell.rec_lsns p;
     }

@@ -21,7 +21,8 @@ use Rattle.sd_ops.specs.declared.edits.Edit.TheVariants.{To, By, Gone}
 use Rattle.sd_ops.specs.Copies.{LacksPage}
 use Rattle.sd_ops.specs.Edits.{IsVain, Sets, Spoils}
 use Rattle.sd_ops.specs.Halves.{EndsWait, IsOff, NotesWait, refusal_of}
-use Rattle.sd_ops.specs.Leaving.{ChangeLeaves, HasChanged, OnlyLocks}
+use Rattle.sd_fits.specs.Untouched.{HasChanged}
+use Rattle.sd_ops.specs.Leaving.{ChangeLeaves, OnlyLocks}
 use Rattle.sd_ops.specs.Logged.{EditLeaves, EditRefused, FillLeaves, FillRefused, HasPlace, IsEdited, IsFilled, IsLogged, LacksFor, PutLeaves}
 use Rattle.sd_ops.specs.Vacancies.{IsVacant, LacksPlace, NoneUsable}
 use Rattle.sd_ops.proofs.Leaving.{changed-locks, locks-changed, locks-logged, locks-same, locks-then, logged-locks, made-changed, made-logged, only-locks}

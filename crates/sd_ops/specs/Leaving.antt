@@ -3,31 +3,18 @@ use Rattle.std.specs.Prelude.{◌≡◌, ℕ, Bool, true, false, Some, Result, O
 use Rattle.sd_base.specs.declared.ids.TxnId.{TxnId}
 use Rattle.sd_base.specs.declared.refusal.Refusal.{Refusal}
 use Rattle.sd_base.specs.declared.refusal.Refusal.TheVariants as R
-use Rattle.sd_page.specs.Page.{Page}
-use Rattle.sd_pagelock.specs.Directory.{entry_at, kept_rec, rec_lsn_at}
-use Rattle.sd_pagelock.specs.Places.{changed}
-use Rattle.sd_pool.specs.Buffers.{image_at, rewritten, used}
+use Rattle.sd_pool.specs.Buffers.{used}
 use Rattle.sd_chain.specs.Records.{home}
 use Rattle.sd_state.specs.Parts.{Parts, pool_at, txns_at}
 use Rattle.sd_state.specs.Working.{with_locks}
 use Rattle.sd_txn.specs.Transactions.{top_at}
 use Rattle.sd_txn.specs.declared.state.OpenRec.{OpenRec}
-use Rattle.sd_fits.specs.Untouched.{FallTouches, IsUntouched, none_of, only}
+use Rattle.sd_fits.specs.Untouched.{FallTouches, HasChanged, IsUntouched, none_of, only}
 
 -- All but the locks of records and the waits for them is as it was.
 pub record OnlyLocks (old new : Parts) : Type 0 where
   pub rest : new ≡ with_locks new.locks old
   pub untouched : IsUntouched none_of none_of old new
-
--- Instance i changed page p: its pool has this image of it, and used it last; the page's RecLSN is the LSN of the change where it
--- had none, and else what it was; nothing besides is touched.
-pub record HasChanged (i p : ℕ) (old new : Parts) : Type 0 where
-  pub image : Page
-  pub copy : image_at (pool_at new i) p ≡ Some image
-  pub pool : pool_at new i ≡ rewritten (pool_at old i) p image
-  pub rec_lsn : rec_lsn_at new.directory p
-      ≡ kept_rec (changed (entry_at old.directory p)) true (rec_lsn_at old.directory p) (Some image.lsn)
-  pub rest : IsUntouched (only i) (only p) old new
 
 -- Instance i used page p last, and nothing besides is touched.
 pub record HasUsed (i p : ℕ) (old new : Parts) : Type 0 where

@@ -7,6 +7,7 @@ use Rattle.sd_base.specs.declared.refusal.Refusal.TheVariants as R
 use Rattle.sd_chain.specs.Logs.{all_at}
 use Rattle.sd_chain.specs.Pages.{redo}
 use Rattle.sd_chain.specs.Records.{home}
+use Rattle.sd_fits.specs.Untouched.{HasChanged}
 use Rattle.sd_logrec.specs.View.{flat}
 use Rattle.sd_model.specs.Tables.{Content}
 use Rattle.sd_page.specs.Page.{Page}
@@ -18,7 +19,7 @@ use Rattle.sd_update.specs.Changing.{Change, LacksLsns, LacksRoom, change_of, fl
 use Rattle.sd_update.specs.Undoing.{clr_at}
 use Rattle.sd_ops.specs.declared.edits.Edit.{Edit}
 use Rattle.sd_ops.specs.Edits.{IsLongEdit, IsSpoiled, Sets}
-use Rattle.sd_ops.specs.Leaving.{HasChanged, OnlyLocks}
+use Rattle.sd_ops.specs.Leaving.{OnlyLocks}
 use Rattle.sd_ops.specs.Vacancies.{IsFullFor, IsLongFor, IsVacant, NoneUsable}
 
 -- ---- a change

@@ -1,13 +1,18 @@
 -- What a task leaves that is done: for the goals of the tasks of a recovery.
-use Rattle.std.proofs.Common.{◌≡◌, ◌≢◌, ⊎_elim, ℕ, suc, ◌<◌, ◌≤◌, Bool, true, false, length, refl, sym, ap, ◌∙◌, subst, arith}
+use Rattle.std.proofs.Common.{◌≡◌, ◌≢◌, ⊎_elim, ℕ, suc, ◌-◌, ◌<◌, ◌≤◌, Bool, true, false, length, refl, sym, ap, ◌∙◌, subst, arith}
 use Rattle.std.specs.Prelude.{None, Some, OnOk, Result, Ok, Err, option_and_then, option_map}
 use Rattle.std.specs.List.{list_any}
 use Rattle.std.proofs.lemmas.Bool.{cases_eq}
+use Rattle.std.proofs.lemmas.List.{length-set}
 use Rattle.sd_base.specs.declared.ids.TxnId.{TxnId}
-use Rattle.sd_log.specs.Logs.{LogState, forced}
+use Rattle.sd_log.specs.Logs.{LogState, forced, last_lsn, scanned, with_record}
+use Rattle.sd_logrec.specs.View.{flat}
+use Rattle.sd_logrec.specs.declared.record.Record.{Record}
+use Rattle.sd_page.specs.Page.{Page}
 use Rattle.sd_rig.specs.Devices.{DeviceImages}
 use Rattle.sd_chain.specs.Fates.{commits}
 use Rattle.sd_chain.specs.Logs.{base_at}
+use Rattle.sd_chain.specs.Pages.{redo}
 use Rattle.sd_chain.specs.Records.{home}
 use Rattle.sd_chain.specs.Undoing.{Apart}
 use Rattle.sd_moves.specs.Places.{with_directory}
@@ -15,19 +20,21 @@ use Rattle.sd_moves.specs.Putting.{with_loose_disk}
 use Rattle.sd_moves.specs.Settling.{IsReread, with_reread}
 use Rattle.sd_pagelock.specs.Directory.{entry_at, kept_rec, rec_lsn_at}
 use Rattle.sd_pagelock.specs.Places.{PageEntry, changed, is_lost, owns}
+use Rattle.sd_pool.specs.Buffers.{image_at, rewritten}
 use Rattle.sd_txn.specs.Transactions.{OthersStay, Replaces, SameOrder, Transaction, Transactions, ids, noted, popped, shut, top, top_at, txn_at, with_state}
 use Rattle.sd_txn.specs.declared.state.OpenRec.{OpenRec}
 use Rattle.sd_state.specs.Forcing.{with_forced}
 use Rattle.sd_state.specs.Locking.{IsSet}
-use Rattle.sd_state.specs.Parts.{Parts, is_loose, log_at, no_pool, no_txns, owed_at, pool_at, status_at, txns_at}
+use Rattle.sd_state.specs.Parts.{Parts, is_loose, log_at, no_log, no_pool, no_txns, owed_at, pool_at, status_at, txns_at}
 use Rattle.sd_state.specs.Recovering.{decided_as, with_recovered, with_table}
 use Rattle.sd_state.proofs.Items.{item-kept, item-set}
+use Rattle.sd_state.proofs.Lasts.{last-forced, last-more}
 use Rattle.sd_update.specs.Sealing.{HasEnd, end_of}
-use Rattle.sd_update.specs.Undoing.{lsn_for}
+use Rattle.sd_update.specs.Undoing.{clr_at, lsn_for}
 use Rattle.sd_update.specs.UndoingFor.{HasUndoneFor, own_forced}
-use Rattle.sd_fits.specs.Untouched.{IsUntouched, none_of, only}
+use Rattle.sd_fits.specs.Untouched.{HasChanged, IsUntouched, none_of, only}
 use Rattle.sd_world.specs.Answers.{IsLowestLost}
-use Rattle.sd_recover.specs.Doing.{Does, LeavesElse}
+use Rattle.sd_recover.specs.Doing.{Does}
 use Rattle.sd_recover.specs.Recovering.{SettlesOne}
 use Rattle.sd_recover.specs.Tasks.{AreSettled, tasks_in}
 use Rattle.sd_recover.specs.Work.{is_lost_at, steps_left}
@@ -216,8 +223,8 @@ pub undone-page : (t : TxnId) (page : ℕ) (table : Transactions) (x : Transacti
 undone-page t page table x o r last of row top' =
     of ∙ ap (λ (z : OpenRec). z.rid.page) (some-same o r (sym last ∙ ap (option_and_then top) row ∙ top'))
 
-module _ (t : TxnId) (a page : ℕ) (seen seen' : DeviceImages) (old new : Parts) (low : 1 ≤ home t) (a_low : 1 ≤ a)
-    (settled : is_loose old (home t) ≡ false) (o : OpenRec) (last : top_at (txns_at old (home t)) t ≡ Some o) (of : page ≡ o.rid.page)
+module _ (t : TxnId) (a page : ℕ) (seen seen' : DeviceImages) (old new : Parts) (low : 1 ≤ home t) (high : home t ≤ 8)
+    (a_low : 1 ≤ a) (eight : length old.logs ≡ 8) (settled : is_loose old (home t) ≡ false) (o : OpenRec) (last : top_at (txns_at old (home t)) t ≡ Some o) (of : page ≡ o.rid.page)
     (held : owns (entry_at old.directory page) a ≡ true) (u : HasUndoneFor a t old new)
     (fewer : suc (tasks_in (txns_at new (home t))) ≡ tasks_in (txns_at old (home t))) where
   -- that page
@@ -259,29 +266,54 @@ module _ (t : TxnId) (a page : ℕ) (seen seen' : DeviceImages) (old new : Parts
     recs = undo-recs;
   }
 
-  abbrev IsNoted : ℕ → Type 0
-  IsNoted q = (lsn : ℕ) × (rec_lsn_at new.directory q
-      ≡ kept_rec (changed (entry_at old.directory q)) true (rec_lsn_at old.directory q) (Some lsn))
+  -- the log of whom it recovers when its own is forced, and with the undo's record
+  abbrev had : LogState
+  had = log_at (own_forced a u.owes old) (home t)
 
-  abbrev undo_lsn : ℕ
-  undo_lsn = lsn_for t u.undone.image (own_forced a u.owes old)
+  abbrev record_of : Record
+  record_of = clr_at t u.undone.x u.undone.o u.undone.image (own_forced a u.owes old)
 
-  undo-noted : LeavesElse (home t) a seen (task.Undo t page) old new
-  undo-noted = (
-    undo-untouched,
-    subst IsNoted (sym its-page)
-        (undo_lsn, ap (λ (k : Parts). rec_lsn_at k.directory u.undone.o.rid.page) u.forced ∙ u.undone.undone.rec_lsn),
-  )
+  logs-eight : length u.between.logs ≡ 8
+  logs-eight = ap (λ (k : Parts). length k.logs) u.undone.rest
+      ∙ length-set (own_forced a u.owes old).logs (home t - 1) (log_at u.between (home t))
+      ∙ length-set old.logs (a - 1) (forced (log_at old a)) ∙ eight
+
+  log-then : log_at new (home t) ≡ forced (with_record record_of u.undone.undone.spare had)
+  log-then = ap (λ (k : Parts). log_at k (home t)) u.forced
+      ∙ item-set no_log u.between.logs (home t) (forced (log_at u.between (home t))) low high logs-eight
+      ∙ ap forced u.undone.undone.grown
+
+  -- the last record of that log is the undo's
+  undo-last : lsn_for t u.undone.image (own_forced a u.owes old) ≡ last_lsn (scanned (log_at new (home t)))
+  undo-last = sym (ap (λ (l : LogState). last_lsn (scanned l)) log-then
+      ∙ last-forced (with_record record_of u.undone.undone.spare had) ∙ last-more had record_of u.undone.undone.spare)
+
+  abbrev redone : Page
+  redone = redo u.undone.image (flat record_of)
+
+  abbrev undo_changed : HasChanged a page old new
+  undo_changed = record {
+    image = redone;
+    copy = ap (λ (k : Parts). image_at (pool_at k a) page) u.forced
+        ∙ subst (λ (q : ℕ). image_at (pool_at u.between a) q ≡ Some redone) (sym its-page) u.undone.undone.page;
+    pool = ap (λ (k : Parts). pool_at k a) u.forced
+        ∙ subst (λ (q : ℕ). pool_at u.between a ≡ rewritten (pool_at old a) q redone) (sym its-page) u.undone.undone.rewrites;
+    rec_lsn = subst (λ (q : ℕ). rec_lsn_at new.directory q
+        ≡ kept_rec (changed (entry_at old.directory q)) true (rec_lsn_at old.directory q) (Some redone.lsn)) (sym its-page)
+        (ap (λ (k : Parts). rec_lsn_at k.directory u.undone.o.rid.page) u.forced ∙ u.undone.undone.rec_lsn);
+    rest = undo-untouched;
+  }
 
   pub undo-does : Does (home t) a seen seen' (task.Undo t page) old new
   undo-does = record {
     done = (
       u.undone.x,
-      undo_lsn,
-      subst (λ (b : Transactions). Replaces (txns_at old (home t)) b t u.undone.x (noted undo_lsn (popped u.undone.x)))
-          (sym (ap (λ (k : Parts). txns_at k (home t)) u.forced)) u.undone.undone.row,
+      subst (λ (lsn : ℕ). Replaces (txns_at old (home t)) (txns_at new (home t)) t u.undone.x (noted lsn (popped u.undone.x))) undo-last
+          (subst (λ (b : Transactions). Replaces (txns_at old (home t)) b t u.undone.x
+          (noted (lsn_for t u.undone.image (own_forced a u.owes old)) (popped u.undone.x)))
+          (sym (ap (λ (k : Parts). txns_at k (home t)) u.forced)) u.undone.undone.row),
     );
-    leaves = undo-noted;
+    leaves = (undo_changed, undo-last);
     stands = λ j. ap (λ (k : Parts). status_at k j) u.forced ∙ ap (λ (k : Parts). status_at k j) u.undone.rest;
     falls = row-lowers (home t) seen seen' old new settled undo-loose undo-lost fewer;
   }

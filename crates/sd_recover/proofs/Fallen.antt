@@ -38,7 +38,7 @@ rest-touches a i by old mid new by_low high nine fails is fallen = fall-touches 
     (λ d off. ap (λ (c : Parts). log_at c d) fails)
     (λ k ne. ap (λ (c : Parts). txns_at c k) fails)
     (ap (λ (c : Parts). c.checks) fails) (ap (λ (c : Parts). c.masters) fails) (ap (λ (c : Parts). c.others) fails)
-    (ap (λ (c : Parts). c.disk_lsn) fails) (λ k ne. ap (λ (c : Parts). pool_at c k) fails)
+    (ap (λ (c : Parts). c.disk_lsn) fails) (ap (λ (c : Parts). (pool_at c by).frames) fails) (λ k ne. ap (λ (c : Parts). pool_at c k) fails)
     (λ p off. ap (λ (c : Parts). rec_lsn_at c.directory p) fails) is fallen
 
 -- or a page write
@@ -54,7 +54,7 @@ put-touches by old mid new by_low nine torn is fallen = fall-touches by (only 0)
     (λ d off. ap (λ (c : Parts). log_at c d) torn)
     (λ k ne. ap (λ (c : Parts). txns_at c k) torn)
     (ap (λ (c : Parts). c.checks) torn) (ap (λ (c : Parts). c.masters) torn) (ap (λ (c : Parts). c.others) torn)
-    (ap (λ (c : Parts). c.disk_lsn) torn) (λ k ne. ap (λ (c : Parts). pool_at c k) torn)
+    (ap (λ (c : Parts). c.disk_lsn) torn) (ap (λ (c : Parts). (pool_at c by).frames) torn) (λ k ne. ap (λ (c : Parts). pool_at c k) torn)
     (λ p off. ap (λ (c : Parts). rec_lsn_at c.directory p) torn) is fallen
 
 -- ---- a row of the table of i was changed before
@@ -90,6 +90,7 @@ end-touches t a by old sealed mid new low high by_low shape h fails is fallen =
     (ap (λ (c : Parts). c.masters) fails ∙ ap (λ (c : Parts). c.masters) h.is)
     (ap (λ (c : Parts). c.others) fails ∙ ap (λ (c : Parts). c.others) h.is)
     (ap (λ (c : Parts). c.disk_lsn) fails ∙ ap (λ (c : Parts). c.disk_lsn) h.is)
+    (ap (λ (c : Parts). (pool_at c by).frames) fails ∙ ap (λ (c : Parts). (pool_at c by).frames) h.is)
     (λ k ne. ap (λ (c : Parts). pool_at c k) fails ∙ ap (λ (c : Parts). pool_at c k) h.is)
     (λ p off. ap (λ (c : Parts). rec_lsn_at c.directory p) fails ∙ ap (λ (c : Parts). rec_lsn_at c.directory p) h.is)
     is fallen
@@ -118,7 +119,7 @@ module _ (t : TxnId) (by page : ℕ) (old mid new : Parts) (low : 1 ≤ home t) 
       (λ d off. ap (λ (c : Parts). log_at c d) fails)
       (tables-but (home t) by old mid new low high by_low shape.txns (λ k ne. ap (λ (c : Parts). txns_at c k) fails) is)
       (ap (λ (c : Parts). c.checks) fails) (ap (λ (c : Parts). c.masters) fails) (ap (λ (c : Parts). c.others) fails)
-      (ap (λ (c : Parts). c.disk_lsn) fails) (λ k ne. ap (λ (c : Parts). pool_at c k) fails)
+      (ap (λ (c : Parts). c.disk_lsn) fails) (ap (λ (c : Parts). (pool_at c by).frames) fails) (λ k ne. ap (λ (c : Parts). pool_at c k) fails)
       (λ p off. ap (λ (c : Parts). rec_lsn_at c.directory p) fails) is fallen
 
   -- or that of the loser's, with the CLR
@@ -153,6 +154,7 @@ module _ (t : TxnId) (by page : ℕ) (old mid new : Parts) (low : 1 ≤ home t) 
         (ap (λ (c : Parts). c.masters) h.failed ∙ ap (λ (c : Parts). c.masters) h.undone.rest)
         (ap (λ (c : Parts). c.others) h.failed ∙ ap (λ (c : Parts). c.others) h.undone.rest)
         (ap (λ (c : Parts). c.disk_lsn) h.failed ∙ ap (λ (c : Parts). c.disk_lsn) h.undone.rest)
+        (ap (λ (c : Parts). (pool_at c by).frames) h.failed ∙ h.undone.undone.frames)
         (λ k ne. ap (λ (c : Parts). pool_at c k) h.failed ∙ ap (λ (c : Parts). pool_at c k) h.undone.rest
         ∙ item-kept no_pool old.pools by (pool_at h.between by) by_low k ne)
         undone-recs is fallen

@@ -1,9 +1,8 @@
 -- What a join leaves of what no world has, and its calls of devices: for the goals of `join`.
-use Rattle.std.proofs.Common.{◌≡◌, ◌≢◌, ◌⊎◌, ⊎_elim, ℕ, ◌≤◌, List, [], ◌∷◌, ◌++◌, length, sym, ap, ◌∙◌, subst}
+use Rattle.std.proofs.Common.{◌≡◌, ◌≢◌, ◌⊎◌, ⊎_elim, ℕ, ◌≤◌, [], length, sym, ap, ◌∙◌, subst}
 use Rattle.sd_base.specs.declared.refusal.Refusal.{Refusal}
 use Rattle.sd_base.specs.declared.refusal.Refusal.TheVariants as R
 use Rattle.sd_log.specs.Logs.{LogState}
-use Rattle.sd_logrec.specs.declared.record.Record.{Record}
 use Rattle.sd_moves.specs.Falling.{IsFallen, with_fallen}
 use Rattle.sd_pagelock.specs.Directory.{rec_lsn_at}
 use Rattle.sd_state.specs.Forcing.{with_failed, with_forced}
@@ -11,6 +10,7 @@ use Rattle.sd_state.specs.Joining.{with_joined}
 use Rattle.sd_state.specs.Parts.{IsShape, Parts, is_loose, log_at, no_log, pool_at, status_at, txns_at}
 use Rattle.sd_state.proofs.Items.{item-kept, item-set}
 use Rattle.sd_update.specs.Sealing.{with_start}
+use Rattle.sd_update.proofs.UndoneForCalls.{some-tail}
 use Rattle.sd_fits.specs.Untouched.{FallTouches, IsUntouched, none_of, only}
 use Rattle.sd_recover.specs.Joining.{StaysOut}
 use Rattle.sd_recover.proofs.Touched.{failed-kept, failed-marks, fall-touches, only-other}
@@ -21,10 +21,6 @@ out-failed c i n out e = subst (StaysOut c i) e out
 
 pub seal-failed : (n : Refusal) → (n ≡ R.LogFull) ⊎ ((n ≡ R.LsnEnd) ⊎ (n ≡ R.Memory)) → n ≡ R.Failed → ⊥
 seal-failed n why e = ⊎_elim (λ a. absurd (cc)) (λ b. ⊎_elim (λ a. absurd (cc)) (λ a. absurd (cc)) b) why
-
-some-tail : (xs : List Record) (x : Record) → xs ++ x ∷ [] ≡ [] → ⊥
-some-tail [] x e = absurd (cc)
-some-tail (y ∷ xs) x e = absurd (cc)
 
 module _ (i lsn epoch spare : ℕ) (old s : Parts) (low : 1 ≤ i) (high : i ≤ 8) (shape : IsShape old) (is : s ≡ with_start i lsn epoch spare old) where
   -- its log has the Start
@@ -61,6 +57,7 @@ module _ (i lsn epoch spare : ℕ) (old s : Parts) (low : 1 ≤ i) (high : i ≤
         (ap (λ (c : Parts). c.masters) fails ∙ ap (λ (c : Parts). c.masters) is)
         (ap (λ (c : Parts). c.others) fails ∙ ap (λ (c : Parts). c.others) is)
         (ap (λ (c : Parts). c.disk_lsn) fails ∙ ap (λ (c : Parts). c.disk_lsn) is)
+        (ap (λ (c : Parts). (pool_at c i).frames) fails ∙ ap (λ (c : Parts). (pool_at c i).frames) is)
         (λ j ne. ap (λ (c : Parts). pool_at c j) fails ∙ ap (λ (c : Parts). pool_at c j) is)
         (λ p off. ap (λ (c : Parts). rec_lsn_at c.directory p) fails ∙ ap (λ (c : Parts). rec_lsn_at c.directory p) is)
         fell fallen

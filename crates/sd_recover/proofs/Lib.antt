@@ -30,7 +30,6 @@ pub mod Owns
 mod Nexts
 mod NextOne
 pub mod Awaited
-mod NoRoom
 mod JoinTouched
 mod Armed
 pub mod Failed

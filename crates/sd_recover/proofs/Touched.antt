@@ -10,9 +10,11 @@ use Rattle.sd_log.specs.Logs.{LogState, has_tail}
 use Rattle.sd_moves.specs.Falling.{IsFallen, emptied_pool, falls_at, falls_with, owed_dropped, unsettles_at, with_fallen}
 use Rattle.sd_pagelock.specs.Directory.{rec_lsn_at}
 use Rattle.sd_state.specs.Forcing.{with_failed}
+use Rattle.sd_state.specs.Fresh.{empty_pool}
 use Rattle.sd_state.specs.Parts.{Begun, Parts, is_loose, log_at, no_pool, no_txns, owed_at, pool_at, status_at, txns_at}
 use Rattle.sd_state.proofs.Items.{item-kept}
 use Rattle.sd_fits.specs.Untouched.{FallTouches, none_of, only}
+use Rattle.sd_fits.proofs.Falling.{pool-emptied}
 
 -- ---- a device of which a call failed
 
@@ -52,7 +54,7 @@ module _ (j : ℕ) (failed which : ℕ → Bool) (old mid new : Parts) (low : 1 
     (tables : (k : ℕ) → k ≢ j → txns_at mid k ≡ txns_at old k)
     (checks : mid.checks ≡ old.checks) (masters : mid.masters ≡ old.masters) (others : mid.others ≡ old.others)
     (disk_lsn : mid.disk_lsn ≡ old.disk_lsn)
-    (pools : (k : ℕ) → k ≢ j → pool_at mid k ≡ pool_at old k)
+    (frames : (pool_at mid j).frames ≡ (pool_at old j).frames) (pools : (k : ℕ) → k ≢ j → pool_at mid k ≡ pool_at old k)
     (recs : (p : ℕ) → which p ≡ false → rec_lsn_at mid.directory p ≡ rec_lsn_at old.directory p)
     (is : new ≡ with_fallen j new mid) (fallen : IsFallen j mid new) where
   -- the log of j itself
@@ -94,6 +96,7 @@ module _ (j : ℕ) (failed which : ℕ → Bool) (old mid new : Parts) (low : 1 
     masters = ap (λ (c : Parts). c.masters) is ∙ masters;
     others = ap (λ (c : Parts). c.others) is ∙ others;
     disk_lsn = ap (λ (c : Parts). c.disk_lsn) is ∙ disk_lsn;
+    pool = ap (λ (c : Parts). pool_at c j) is ∙ pool-emptied j mid new ∙ ap empty_pool frames;
     pools = λ k ne. ap (λ (c : Parts). pool_at c k) is ∙ item-kept no_pool mid.pools j (emptied_pool (pool_at mid j)) low k ne ∙ pools k ne;
     recs = λ p off. fallen.rec_lsns p ∙ recs p off;
   }
@@ -102,4 +105,4 @@ module _ (j : ℕ) (failed which : ℕ → Bool) (old mid new : Parts) (low : 1 
 pub fall-alone : (j : ℕ) (failed : ℕ → Bool) (old new : Parts) → 1 ≤ j → new ≡ with_fallen j new old → IsFallen j old new
     → FallTouches j failed none_of old new
 fall-alone j failed old new low is fallen = fall-touches j failed none_of old old new low (λ k. refl) (λ d off. refl) (λ d on. on)
-    (λ d off. refl) (λ k ne. refl) refl refl refl refl (λ k ne. refl) (λ p off. refl) is fallen
+    (λ d off. refl) (λ k ne. refl) refl refl refl refl refl (λ k ne. refl) (λ p off. refl) is fallen

@@ -26,7 +26,7 @@ use Rattle.sd_update.proofs.SealedCalls.{settled-up}
 use Rattle.sd_state.proofs.Standing.{no-place}
 use Rattle.sd_fits.specs.Fits.{Fits}
 use Rattle.sd_fits.specs.Serving.{Serving, fits_by, stands_for}
-use Rattle.sd_recover.proofs.NoRoom.{no-lsn, no-room}
+use Rattle.sd_fits.proofs.NoRoom.{no-lsn, no-room}
 use Rattle.sd_fits.proofs.Served.{passed}
 use Rattle.sd_fits.proofs.Still.{kept-serves, kept-spares}
 use Rattle.sd_fits.proofs.Refused.{IsFor, refused-turns}

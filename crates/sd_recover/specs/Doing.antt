@@ -1,19 +1,19 @@
 -- What a step of a recovery leaves that has done its task.
-use Rattle.std.specs.Prelude.{◌≡◌, ℕ, ◌≤◌, ◌<◌, ◌||◌, true, false, None, Some}
+use Rattle.std.specs.Prelude.{◌≡◌, ℕ, ◌≤◌, ◌<◌, ◌||◌, false, None}
 use Rattle.std.specs.List.{list_any}
+use Rattle.sd_log.specs.Logs.{last_lsn, scanned}
 use Rattle.sd_rig.specs.Devices.{DeviceImages}
 use Rattle.sd_moves.specs.Places.{with_directory}
 use Rattle.sd_moves.specs.Putting.{with_loose_disk}
 use Rattle.sd_moves.specs.Settling.{IsReread, with_reread}
-use Rattle.sd_pagelock.specs.Directory.{entry_at, kept_rec, rec_lsn_at}
-use Rattle.sd_pagelock.specs.Places.{PageEntry, changed}
+use Rattle.sd_pagelock.specs.Places.{PageEntry}
 use Rattle.sd_txn.specs.Transactions.{Replaces, Transaction, noted, popped, shut, with_state}
 use Rattle.sd_state.specs.Locking.{IsSet}
 use Rattle.sd_chain.specs.Fates.{commits}
 use Rattle.sd_chain.specs.Logs.{base_at}
 use Rattle.sd_state.specs.Parts.{Parts, log_at, status_at, txns_at}
 use Rattle.sd_state.specs.Recovering.{decided_as, with_table}
-use Rattle.sd_fits.specs.Untouched.{FallTouches, IsUntouched, none_of, only}
+use Rattle.sd_fits.specs.Untouched.{FallTouches, HasChanged, IsUntouched, none_of, only}
 use Rattle.sd_recover.specs.Recovering.{FreesOne, SettlesOne}
 use Rattle.sd_recover.specs.Work.{steps_left}
 use Rattle.sd_recover.specs.declared.tasks.Task.{Task}
@@ -21,28 +21,28 @@ use Rattle.sd_recover.specs.declared.tasks.Task.TheVariants as task
 
 -- The task of the recovery of i is done: that device alone is settled anew; that page alone is freed; or of the table of i that row
 -- alone is another: it isn't in doubt any more, but committed where the log of i has its Commit, and else a loser; its last open record
--- is undone; or it has an End.
+-- is undone, and it notes the LSN of the last record of the log of i, which is the undo's; or it has an End.
 abbrev pub HasDone : ℕ → Task → Parts → Parts → Type 0
 HasDone i (task.Settle dev) old new = SettlesOne dev old new
 HasDone i (task.Rebuild p) old new = FreesOne p old new
 HasDone i (task.Decide t) old new = (x : Transaction)
     × Replaces (txns_at old i) (txns_at new i) t x (with_state (decided_as (list_any (commits t) (base_at (log_at new i)))) x)
-HasDone i (task.Undo t p) old new = (x : Transaction) × (lsn : ℕ) × Replaces (txns_at old i) (txns_at new i) t x (noted lsn (popped x))
+HasDone i (task.Undo t p) old new = (x : Transaction)
+    × Replaces (txns_at old i) (txns_at new i) t x (noted (last_lsn (scanned (log_at new i))) (popped x))
 HasDone i (task.End t) old new = (x : Transaction) × Replaces (txns_at old i) (txns_at new i) t x (shut x)
 HasDone i task.Done old new = ⊥
 
 -- What a task of the recovery of i by this instance leaves besides. A device that is settled: all but its mark and, of a log, what its
--- device reads. A page that is freed: all but its place. A row's task: what no world has, but for the pool of the recoverer and the
--- RecLSN of the page of an undo, which is noted where that has none.
+-- device reads. A page that is freed: all but its place. A row's task: what no world has, but that an undo changes its page in the pool
+-- of the recoverer. The page has the LSN of the undo's record then, and so has its RecLSN where it had none; else it keeps that.
 abbrev pub LeavesElse : ℕ → ℕ → DeviceImages → Task → Parts → Parts → Type 0
 LeavesElse i by seen (task.Settle dev) old new = (dev ≡ 0 → new ≡ with_loose_disk false old)
     × (1 ≤ dev → (new ≡ with_reread dev new old) × IsReread dev (seen dev) old new)
 LeavesElse i by seen (task.Rebuild p) old new = (new ≡ with_directory new.directory old)
     × IsSet p PageEntry.Free None old.directory new.directory
 LeavesElse i by seen (task.Decide t) old new = IsUntouched none_of none_of old new
-LeavesElse i by seen (task.Undo t p) old new = IsUntouched (only by) (only p) old new
-    × ((lsn : ℕ) × (rec_lsn_at new.directory p
-    ≡ kept_rec (changed (entry_at old.directory p)) true (rec_lsn_at old.directory p) (Some lsn)))
+LeavesElse i by seen (task.Undo t p) old new =
+    (h : HasChanged by p old new) × (h.image.lsn ≡ last_lsn (scanned (log_at new i)))
 LeavesElse i by seen (task.End t) old new = IsUntouched none_of none_of old new
 LeavesElse i by seen task.Done old new = ⊥
 

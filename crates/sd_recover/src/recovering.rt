@@ -47,6 +47,8 @@ pub enum Recovery {
 /// the recoverer has fallen, or a read failed, and nothing has changed. `Memory` leaves the recovery where it was. A step does the first
 /// task that there is: it settles the lowest device that isn't settled; once each is, it frees the lowest lost page; and once none is
 /// lost, it leaves one task less of the instance's rows. Each step lowers what is left to do, and the recovery ends where nothing is.
+/// An undo notes the LSN of its record, the last of the instance's log: in the loser's row, in the page, and as the page's RecLSN where
+/// it had none.
 pub fn recover_step<G: Rig>(c: &mut Complex<G>, i: InstNo) -> Result<Recovery, Refusal>
     requires fits { (w : Core) × Fits (G.seen c.old.rig) (G.leaves c.old.rig) (parts c.old) w }
     ensures served { Serving (telling G.seen G.leaves G.moment G.since G.faults) (event.RecoverStep i) (answered recovery result) c.old c.new }

@@ -8,7 +8,7 @@ ghost use Rattle.sd_state.specs.Complexes.{parts};
 ghost use Rattle.sd_state.specs.Parts.{status_at, txns_at, IsShape};
 ghost use Rattle.sd_world.specs.PageCauses.{IsNeededPage};
 ghost use Rattle.sd_world.specs.Serving.{Core};
-ghost use Rattle.sd_recover.specs.Tasks.{AreSettled, IsFirstToEnd, IsLowestLoose, IsNext, IsRowTask, goes_before, in_doubt, is_below, is_later, is_loser, last_open, later, lower, open_lsn, owes_end, row_is_doubt, to_end};
+ghost use Rattle.sd_recover.specs.Tasks.{AreSettled, IsFirstToEnd, IsLowestLoose, IsNext, IsRowTask, goes_before, in_doubt, is_later, is_loser, last_open, later, lower, open_lsn, owes_end, row_is_doubt, to_end};
 ghost use Rattle.sd_recover.specs.declared.tasks.Task.TheVariants as task;
 ghost use Rattle.sd_txn.specs.Transactions.{top_at};
 ghost use Rattle.sd_txn.specs.declared.state.OpenRec.{OpenRec};
@@ -161,17 +161,8 @@ fn goes_before(t: &TxnId, first: &Option<TxnId>) -> bool
 {
     match first {
         None => true,
-        Some(first) => is_below(t, first),
+        Some(first) => t < first,
     }
-}
-
-// By instance, then by epoch, then by number in it.
-fn is_below(t: &TxnId, other: &TxnId) -> bool
-    ensures { result ≡ is_below t.now other.now }
-{
-    t.inst < other.inst
-        || (t.inst == other.inst
-            && (t.epoch < other.epoch || (t.epoch == other.epoch && t.seq < other.seq)))
 }
 
 // Of these two, the loser with the later open record.

@@ -11,7 +11,8 @@ use Rattle.sd_base.specs.Ids.{same_txn}
 use Rattle.sd_logrec.specs.View.{Rec, flat}
 use Rattle.sd_log.specs.declared.placed.Placed.{Placed}
 use Rattle.sd_log.specs.Logs.{flats}
-use Rattle.sd_chain.specs.Order.{speaks, of_txn, Sofar, none_yet, after_all, first_prev}
+use Rattle.sd_chain.specs.Records.{ends}
+use Rattle.sd_chain.specs.Order.{speaks, of_txn, Sofar, none_yet, with_own, after_all, first_prev}
 use Rattle.sd_recovered.specs.declared.seen.Seen.{Seen}
 use Rattle.sd_recovered.specs.Losers.{record_at}
 use Rattle.sd_recovered.specs.Faults.{IsFirst, MayCome}
@@ -19,8 +20,8 @@ use Rattle.sd_recovered.specs.Misplaced.{Covers, Finds, IsLeast}
 use Rattle.sd_recovered.specs.Seen.{closed_by, with_record, EndsAt, IsFirstEnd, SeenFits, Judged, Tells, TellsOf, TellsAll}
 use Rattle.sd_recovered.proofs.Closers.{ends_off, ends_own, ends_still, finds_next, finds_shut, finds_silent}
 use Rattle.sd_recovered.proofs.MisplacedSteps.{least_more}
-use Rattle.sd_recovered.proofs.Prefixes.{advance-own}
-use Rattle.sd_chain.proofs.Whose.{none_open, own_is, own_of, silent_of, advance-off, after_all-append, after_all-none, first_prev-there, first_prev-behind, first_prev-off}
+use Rattle.sd_chain.proofs.Stacks.{step-own}
+use Rattle.sd_chain.proofs.Whose.{none_open, own_is, own_of, silent_of, advance-off, advance-own, after_all-append, after_all-none, first_prev-there, first_prev-behind, first_prev-off}
 
 -- what is seen of the transaction of x before x, which comes next
 pub record Ready (log : List Placed) (xs : List Rec) (x : Rec) (seen : Seen) : Type 0 where
@@ -60,13 +61,19 @@ ready_from log xs x at (Some row) fresh seen own front there tells fits first pr
   closed = tells.closed;
 })
 
+-- a record is one more of the transaction that it names
+own_record : (sofar : Sofar) (x : Rec) → with_own x.txn x sofar ≡ with_record sofar x
+own_record sofar x = ap (λ (l : List Rec). record { open_ones = l; last = x.lsn; shut = ends x.kind })
+    (step-own x.txn sofar.open_ones x refl)
+
 -- with the record
 pub tells_more : (log : List Placed) (xs : List Rec) (x : Rec) (seen new : Seen) → of_txn x.txn x ≡ true → Ready log xs x seen
     → SeenFits log (with_record (after_all x.txn none_yet xs) x) new
     → new.first ≡ seen.first → new.first_prev ≡ seen.first_prev → new.closed ≡ closed_by (length xs) x seen.closed → Tells log (xs ++ x ∷ []) x.txn new
 tells_more log xs x seen new own ready fits first prev closed = record {
   fits = subst (λ (q : Sofar). SeenFits log q new)
-      (sym (after_all-append x.txn none_yet xs (x ∷ []) ∙ advance-own x.txn (after_all x.txn none_yet xs) x own)) fits;
+      (sym (after_all-append x.txn none_yet xs (x ∷ []) ∙ advance-own x.txn (after_all x.txn none_yet xs) x own
+      ∙ own_record (after_all x.txn none_yet xs) x)) fits;
   there = some_more x.txn xs x own;
   first = subst (λ (n : ℕ). IsFirst log x.txn n new.first_prev) (sym first)
       (subst (λ (n : ℕ). IsFirst log x.txn seen.first n) (sym prev) ready.first);

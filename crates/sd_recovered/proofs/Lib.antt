@@ -32,7 +32,6 @@ pub mod Lowest
 pub mod Fronts
 pub mod Firsts
 pub mod Indices
-pub mod Prefixes
 pub mod Known
 pub mod Spans
 pub mod Ending

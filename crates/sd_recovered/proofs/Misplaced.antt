@@ -6,8 +6,7 @@ use Rattle.sd_base.specs.declared.ids.TxnId.{TxnId}
 use Rattle.sd_logrec.specs.View.{Rec}
 use Rattle.sd_chain.specs.Order.{of_txn, Sofar, none_yet, advance, after_all, InOrder, Undoes, UndoesTop, first_prev, Tidy}
 use Rattle.sd_chain.specs.Faults.{IsMisplaced, IsWrong}
-use Rattle.sd_recovered.proofs.Prefixes.{advance-own}
-use Rattle.sd_chain.proofs.Whose.{own_of, advance-off, InOrder-back, Undoes-back, open_ones-is, first_prev-behind}
+use Rattle.sd_chain.proofs.Whose.{own_of, advance-off, advance-own, InOrder-back, Undoes-back, open_ones-is, first_prev-behind}
 
 -- ---- places of a list
 

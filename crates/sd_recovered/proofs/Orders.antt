@@ -10,8 +10,7 @@ use Rattle.sd_logrec.specs.View.{Rec}
 use Rattle.sd_chain.specs.Records.{ends, stack_from, IsOpen}
 use Rattle.sd_chain.specs.Order.{speaks, of_txn, Sofar, none_yet, advance, after_all, ComesNext, InOrder, Undoes, UndoesTop, first_prev, Tidy}
 use Rattle.sd_chain.specs.Faults.{IsMisplaced, IsWrong}
-use Rattle.sd_recovered.proofs.Prefixes.{advance-own}
-use Rattle.sd_chain.proofs.Whose.{both, clr_speaks, own_is, advance-off, after_all-append, open_ones-is}
+use Rattle.sd_chain.proofs.Whose.{both, clr_speaks, own_is, advance-off, advance-own, after_all-append, open_ones-is}
 use Rattle.sd_chain.proofs.Stacks.{stack_from-append}
 use Rattle.sd_recovered.proofs.Misplaced.{any_behind, dec_empty, dec_top, front_get, mid_get}
 

@@ -6,9 +6,8 @@ use Rattle.std.proofs.lemmas.Bool.{cases_Bool}
 use Rattle.sd_base.specs.declared.ids.TxnId.{TxnId}
 use Rattle.sd_logrec.specs.View.{Rec}
 use Rattle.sd_chain.specs.Order.{of_txn, spanned, span_from, span_of, Sofar, none_yet, advance, after_all}
-use Rattle.sd_chain.proofs.Whose.{advance-off, after_all-append, after_all-none}
+use Rattle.sd_chain.proofs.Whose.{advance-off, advance-own, after_all-append, after_all-none}
 use Rattle.sd_recovered.proofs.Misplaced.{parts_at}
-use Rattle.sd_recovered.proofs.Prefixes.{advance-own}
 
 span_from-append : (t : TxnId) (span : Option (ℕ × ℕ)) (xs ys : List Rec) → span_from t span (xs ++ ys) ≡ span_from t (span_from t span xs) ys
 span_from-append t span [] ys = refl

@@ -30,7 +30,6 @@ use Rattle.sd_chain.specs.Undoing.{Member}
 use Rattle.sd_chain.proofs.Members.{is-open_in, open_in-is}
 use Rattle.sd_recovered.specs.declared.losers.Loser.{Loser}
 use Rattle.sd_recovered.specs.Losers.{AreLosers}
-use Rattle.sd_chain.specs.Coherent.{NoneBefore}
 use Rattle.sd_recovered.specs.FirstAbove.{IsFirstAbove}
 use Rattle.sd_recovered.specs.Masters.{as_master, kept_master, master_in, said}
 use Rattle.sd_recovered.specs.declared.master.MasterRecord as memory
@@ -60,7 +59,8 @@ use Rattle.sd_restart.specs.Reading.{IsReading, IsTableOf, count_of, epoch_for, 
 use Rattle.sd_restart.proofs.Apart.{sound-apart}
 use Rattle.sd_restart.proofs.Claiming.{log-at, losers_at}
 use Rattle.sd_restart.proofs.Matching.{matches_at}
-use Rattle.sd_restart.proofs.Pages.{lost-is, lost-past, none-before, rec-past, some-lost}
+use Rattle.sd_restart.proofs.Pages.{lost-is, rec-past, some-lost}
+use Rattle.sd_moves.proofs.OpenedPages.{lost-past}
 
 -- ---- the logs that were read
 
@@ -232,10 +232,13 @@ module _ (images : List (List ℕ)) (o : ReadDevices) (found : Restored) (frames
       let l = losers_at o.logs.items o.losers.items k log (of-losers images o r) at_k in
       subst (AreLosers (scanned log)) (sym (get_or_from_slice_get o.losers.items k l.found [] l.there)) l.are.losers_are
 
+  rec-there : (p : ℕ) → (lt : p < 1024) → rec_at o.rec_lsns.items p ≡ (r.first p lt).lsn
+  rec-there p lt = ap (λ (x : Option (Option ℕ)). unwrap_or x None) (r.first p lt).there
+
   rec-lost : (p : ℕ) → p < 1024 → is_lost_in img p ≡ lost_by o.rec_lsns.items p
   rec-lost p lt =
       let f = r.first p lt in
-      lost-is img p r.sound.kept lt f.lsn f.first ∙ ap is_some (sym (ap (λ (x : Option (Option ℕ)). unwrap_or x None) f.there))
+      lost-is img p r.sound.kept lt f.lsn f.first ∙ ap is_some (sym (rec-there p lt))
 
   lost-same : (p : ℕ) → is_lost_in img p ≡ lost_by o.rec_lsns.items p
   lost-same p = ⊎_elim (λ lt. rec-lost p lt)
@@ -359,20 +362,10 @@ module _ (images : List (List ℕ)) (o : ReadDevices) (found : Restored) (frames
   page-found p = record {
     entry = m.entries p ∙ ap nowhere (sym (lost-same p));
     mark = ap is_some (m.recs p) ∙ sym (lost-same p);
-    first = λ l is. first p l (sym (m.recs p) ∙ is);
+    first = λ lt. subst (IsFirstAbove (chain img p) (img.disk p).lsn) (sym (m.recs p ∙ rec-there p lt)) (r.first p lt).first;
     still = m.still p;
     unasked = m.unasked p;
   }
-    where
-      first : (p l : ℕ) → rec_at o.rec_lsns.items p ≡ Some l → (j : ℕ) → NoneBefore p l (img.disk p) (img.logs j)
-      first p l is = ⊎_elim
-          (λ lt.
-          let f = r.first p lt in
-          let at_l : f.lsn ≡ Some l = sym (ap (λ (x : Option (Option ℕ)). unwrap_or x None) f.there) ∙ is in
-          none-before img p l (log-past devices) (subst (IsFirstAbove (chain img p) (img.disk p).lsn) at_l f.first))
-          (λ ge. let none = rec-past o.rec_lsns.items p (let n = r.rec_lsns in omega (arith, ge, n)) in
-          let e = sym none ∙ is in absurd (cc))
-          (cases_lt p 1024)
 
   lsn-of-page : (found.disk_lsn ≡ 0) ⊎ Contains o.disk_lsns.items found.disk_lsn → (found.disk_lsn ≡ 0) ⊎ IsLsnOfPage devices found.disk_lsn
   lsn-of-page (inl none) = inl none

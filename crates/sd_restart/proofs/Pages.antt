@@ -1,20 +1,17 @@
 -- A page with a RecLSN is one of which the disk hasn't the newest version: for the lemmas of Found.antt.
-use Rattle.std.proofs.Common.{◌≡◌, ⊎_elim, ℕ, zero, suc, ◌+◌, ◌<◌, ◌≤◌, Bool, true, false, cond, eqb, ltb, ◌&&◌, ◌||◌, List, [], ◌∷◌, length, take, Option, None, Some, refl, sym, ap, ap₂, ◌∙◌, subst, arith, le-ltb, lt-ltb}
-use Rattle.std.specs.Prelude.{filter, is_some, unwrap_or}
+use Rattle.std.proofs.Common.{◌≡◌, ⊎_elim, ℕ, zero, suc, ◌+◌, ◌<◌, ◌≤◌, Bool, true, false, cond, eqb, ltb, ◌&&◌, ◌||◌, List, [], ◌∷◌, length, take, Option, None, Some, refl, sym, ap, ap₂, ◌∙◌, arith, le-ltb, lt-ltb}
+use Rattle.std.specs.Prelude.{is_some, unwrap_or}
 use Rattle.std.specs.List.{list_any}
 use Rattle.std.proofs.Math.Seq.{take-length}
-use Rattle.std.proofs.lemmas.Bool.{cases_Bool, cases_eq, cases_lt, eqb-true}
+use Rattle.std.proofs.lemmas.Bool.{cases_Bool, eqb-true}
 use Rattle.std.proofs.lemmas.List.Folds.{list_any_more}
 use Rattle.std.proofs.lemmas.Option.{slice_get_past, unwrap_or-slice_get}
 use Rattle.sd_logrec.specs.View.{Rec}
 use Rattle.sd_page.specs.Page.{Page}
-use Rattle.sd_chain.specs.Storage.{Sound, Storage, all_of, chain, newest}
+use Rattle.sd_chain.specs.Storage.{Sound, Storage, chain, newest}
 use Rattle.sd_chain.specs.Pages.{redo, replay}
-use Rattle.sd_chain.specs.Records.{Each, of_page}
-use Rattle.sd_chain.proofs.Above.{Each-filter_back, Each-sorted_back}
+use Rattle.sd_chain.specs.Records.{Each}
 use Rattle.sd_chain.proofs.Chains.{replay_rises}
-use Rattle.sd_chain.proofs.Lists.{Each-back, Each-front}
-use Rattle.sd_chain.specs.Coherent.{NoneBefore}
 use Rattle.sd_recovered.specs.FirstAbove.{IsFirstAbove, IsLeastAbove}
 use Rattle.sd_moves.specs.Opening.{is_lost_in, some_lost}
 use Rattle.sd_restart.specs.Reading.{lost_by, rec_at, some_rec}
@@ -60,30 +57,6 @@ module _ (img : Storage) (p : ℕ) where
 
   pub lost-is : Sound img → p < 1024 → (rec : Option ℕ) → IsFirstAbove (chain img p) (img.disk p).lsn rec → is_lost_in img p ≡ is_some rec
   lost-is sound lt rec is = ap (λ b. b && ltb (img.disk p).lsn (newest img p).lsn) (lt-ltb p 1024 lt) ∙ above-disk sound rec is
-
-  -- there is no page past the last
-  pub lost-past : 1024 ≤ p → is_lost_in img p ≡ false
-  lost-past ge = ap (λ b. b && ltb (img.disk p).lsn (newest img p).lsn) (le-ltb p 1024 ge)
-
--- what holds of the records of all logs holds of those of one
-of-each : (P : Rec → Type 0) (logs : ℕ → List Rec) (n : ℕ) → Each P (all_of logs n) → (j : ℕ) → j < n → Each P (logs j)
-unfolding all_of
-of-each P logs zero all j lt = absurd (omega arith)
-of-each P logs (suc n) all j lt = ⊎_elim
-    (λ e. subst (λ (k : ℕ). Each P (logs k)) (sym e) (Each-front P (logs n) (all_of logs n) all))
-    (λ ne. of-each P logs n (Each-back P (logs n) (all_of logs n) all) j (omega arith))
-    (cases_eq j n)
-
--- no record that the disk lacks is below the page's RecLSN
-pub none-before : (img : Storage) (p l : ℕ) → ((j : ℕ) → 9 ≤ j → img.logs j ≡ []) → IsLeastAbove (chain img p) (img.disk p).lsn l
-    → (j : ℕ) → NoneBefore p l (img.disk p) (img.logs j)
-unfolding chain
-none-before img p l past is j = ⊎_elim
-    (λ lt. of-each (λ x. of_page p x ≡ true → (img.disk p).lsn < x.lsn → l ≤ x.lsn) img.logs 9
-    (Each-filter_back (λ x. (img.disk p).lsn < x.lsn → l ≤ x.lsn) (of_page p) (all_of img.logs 9)
-    (Each-sorted_back (λ x. (img.disk p).lsn < x.lsn → l ≤ x.lsn) (filter (of_page p) (all_of img.logs 9)) is.least)) j lt)
-    (λ ge. subst (NoneBefore p l (img.disk p)) (sym (past j ge)) tt)
-    (cases_lt j 9)
 
 -- ---- a list with the RecLSN of each page
 

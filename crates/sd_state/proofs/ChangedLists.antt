@@ -2,7 +2,7 @@
 use Rattle.sd_base.specs.declared.ids.Rid.{Rid}
 use Rattle.sd_chain.proofs.Newest.{at_is}
 use Rattle.sd_chain.specs.Images.{Grows, Keeps, Tails}
-use Rattle.sd_chain.specs.Records.{Each, at, ends, moved, step}
+use Rattle.sd_chain.specs.Records.{Each, at}
 use Rattle.sd_model.specs.Claims.{Claims}
 use Rattle.sd_page.specs.Page.{Page}
 use Rattle.sd_pagelock.specs.Asks.{is_open_ask, open_asks}
@@ -22,7 +22,7 @@ use Rattle.sd_base.specs.declared.ids.TxnId.{TxnId}
 use Rattle.sd_logrec.specs.View.{Rec, flat}
 use Rattle.sd_model.specs.State.{State}
 use Rattle.sd_chain.specs.Fates.{commits}
-use Rattle.sd_chain.specs.Order.{Sofar, advance, after_all, none_yet, of_txn, span_from, span_of, spanned}
+use Rattle.sd_chain.specs.Order.{Sofar, advance, after_all, none_yet, of_txn, span_from, span_of, spanned, with_own}
 use Rattle.sd_logrec.specs.Kept.{Group}
 use Rattle.sd_logrec.specs.declared.record.Record.{Record}
 use Rattle.sd_state.specs.Images.{log_by}
@@ -69,7 +69,7 @@ last-from t span sofar [] e = e
 last-from t span sofar (x ∷ xs) e = last-from t (spanned t span x) (advance t sofar x) xs (by (of_txn t x))
   where
     by : (b : Bool) → end_of (cond {A = Option (ℕ × ℕ)} b (Some (option_map_or (λ (s : ℕ × ℕ). s.0) span x.lsn, x.lsn)) span)
-        ≡ (cond b (record { open_ones = step t sofar.open_ones x; last = x.lsn; shut = ends x.kind }) sofar).last
+        ≡ (cond b (with_own t x sofar) sofar).last
     by true = refl
     by false = e
 

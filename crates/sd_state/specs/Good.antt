@@ -1,5 +1,5 @@
 -- What holds of a complex between any two calls, with the state of the serial table: the invariant.
-use Rattle.std.specs.Prelude.{◌≡◌, ◌≢◌, ◌⊎◌, ℕ, ◌<◌, ◌≤◌, Bool, true, false, List, [], None, Some, IfSome, leb}
+use Rattle.std.specs.Prelude.{◌≡◌, ◌≢◌, ◌⊎◌, ℕ, ◌<◌, ◌≤◌, Bool, true, false, List, [], None, Some, IfSome, leb, length}
 use Rattle.std.specs.List.{list_any}
 use Rattle.sd_base.specs.Twin.{chosen_body, number_of}
 use Rattle.sd_base.specs.declared.ids.TxnId.{TxnId}
@@ -163,10 +163,11 @@ IsUnderWay c m (Pending.Starts i) = IsStarting c m i
 abbrev pub TakesCheck : Status → Type 0
 TakesCheck s = (s ≡ S.Up) ⊎ (s ≡ S.Restarting)
 
--- A checkpoint that is begun: its instance takes it, its tables have a spelling, and its begin was put into the log.
+-- A checkpoint that is begun: its instance takes it, its tables have a spelling, of at most 64 transactions, and its begin was put
+-- into the log.
 pub record IsChecking (c : Parts) (i : ℕ) (k : Begun) : Type 0 where
   pub takes : TakesCheck (status_at c i)
-  pub spelled : AreSpans k.spans × AreRecs k.recs
+  pub spelled : AreSpans k.spans × AreRecs k.recs × (length k.spans ≤ 64)
   pub begun : k.begin ≤ last_lsn (scanned (log_at c i))
 
 -- The log owes so many records at most, with its tail and without.

@@ -48,7 +48,7 @@ acts-itself i S.Restarting h = refl
 acts-itself i S.Closed h = refl
 
 -- all records of a forced log are those of the log
-forced-whole : (l : LogState) → all_at (forced l) ≡ all_at l
+pub forced-whole : (l : LogState) → all_at (forced l) ≡ all_at l
 forced-whole l = ap₂ (λ (b : List Rec) (t : List Record). b ++ map flat t) (forced-base l) (forced-tail l)
     ∙ append-nil (all_at l)
 
@@ -70,7 +70,7 @@ module _ (i owes : ℕ) (seen seen' : DeviceImages) (leaves leaves' : Outcomes) 
       (cases_eq j i)
 
   -- a complex whose log is forced fits the same world
-  forced-fits : Good seen' leaves' Pending.Idle then w.scene.state → owes ≡ owed (all_at (log_at c i)) → Fits seen' leaves' then
+  pub forced-fits : Good seen' leaves' Pending.Idle then w.scene.state → owes ≡ owed (all_at (log_at c i)) → Fits seen' leaves' then
       w
   forced-fits good is = record {
     good = good;
@@ -88,7 +88,7 @@ module _ (i owes : ℕ) (seen seen' : DeviceImages) (leaves leaves' : Outcomes) 
   }
 
 -- what the log owes then is what all of its records owe
-forced-owes : (i : ℕ) (seen : DeviceImages) (leaves : Outcomes) (pend : Pending) (c new : Parts) (m : State) → 1 ≤ i → i ≤ 8
+pub forced-owes : (i : ℕ) (seen : DeviceImages) (leaves : Outcomes) (pend : Pending) (c new : Parts) (m : State) → 1 ≤ i → i ≤ 8
     → Good seen leaves pend new m → log_at new i ≡ forced (log_at c i) → is_loose new i ≡ false
     → owed_at new i ≡ owed (all_at (log_at c i))
 forced-owes i seen leaves pend c new m low high good is settled =

@@ -10,6 +10,7 @@ use Rattle.sd_base.specs.declared.refusal.Refusal.{Refusal}
 use Rattle.sd_base.specs.declared.refusal.Refusal.TheVariants as R
 use Rattle.sd_fits.proofs.Refused.{unlike}
 use Rattle.sd_fits.specs.Untouched.{FallTouches, IsUntouched, none_of, only}
+use Rattle.sd_fits.proofs.Falling.{pool-emptied}
 use Rattle.sd_log.specs.Logs.{LogState, are_there, has_tail}
 use Rattle.sd_moves.specs.Falling.{IsFallen, emptied_pool, falls_at, owed_dropped, unsettles_at, with_fallen}
 use Rattle.sd_moves.specs.Putting.{with_loose_disk, with_written}
@@ -203,6 +204,7 @@ module _ (j : ℕ) (failed : ℕ → Bool) (old mid new : Parts) (low : 1 ≤ j)
     masters = ap (λ (x : Parts). x.masters) is ∙ ap (λ (x : Parts). x.masters) stays;
     others = ap (λ (x : Parts). x.others) is ∙ ap (λ (x : Parts). x.others) stays;
     disk_lsn = ap (λ (x : Parts). x.disk_lsn) is ∙ ap (λ (x : Parts). x.disk_lsn) stays;
+    pool = ap (λ (x : Parts). pool_at x j) is ∙ pool-emptied j mid new ∙ ap (λ (x : Parts). emptied_pool (pool_at x j)) stays;
     pools = λ k ne. ap (λ (x : Parts). pool_at x k) is ∙ item-kept no_pool mid.pools j (emptied_pool (pool_at mid j)) low k ne
         ∙ ap (λ (x : Parts). pool_at x k) stays;
     recs = λ p none. fallen.rec_lsns p ∙ ap (λ (x : Parts). rec_lsn_at x.directory p) stays;
@@ -236,6 +238,14 @@ module _ (i : ℕ) (old mid new : Parts) (low : 1 ≤ i) (nine : length old.loos
       ∙ ap (λ (b : Bool). cond {A = Option ℕ} b None
       (cond {A = Option ℕ} (is_up (status_at old i) || not (has_tail (log_at old i))) (Some (owed_at old i)) None))
       (get_or-set_other old.loose 0 i true true (λ e. omega (arith, low, e)))
+
+  -- the fall leaves the mark
+  pub put-marks : IsFallen i mid new → is_loose new 0 ≡ true
+  put-marks fallen = fallen.loose 0 ∙ either (unsettles_at i mid 0) (is_loose mid 0) disk-mark
+    where
+      either : (b c : Bool) → c ≡ true → cond b true c ≡ true
+      either true c is = refl
+      either false c is = is
 
   pub put-touches : new ≡ with_fallen i new mid → IsFallen i mid new → FallTouches i (only 0) none_of old new
   put-touches is fallen = fell-touches i (only 0) old mid new low
@@ -293,6 +303,7 @@ module _ (j : ℕ) (failed which : ℕ → Bool) (old mid new : Parts) (logs : O
     masters = t.masters ∙ ap (λ (x : Parts). x.masters) logs;
     others = t.others ∙ ap (λ (x : Parts). x.others) logs;
     disk_lsn = t.disk_lsn ∙ ap (λ (x : Parts). x.disk_lsn) logs;
+    pool = t.pool ∙ ap (λ (x : Parts). emptied_pool (pool_at x j)) logs;
     pools = λ k ne. t.pools k ne ∙ ap (λ (x : Parts). pool_at x k) logs;
     recs = λ p none. t.recs p none ∙ ap (λ (x : Parts). rec_lsn_at x.directory p) logs;
   }

@@ -1,6 +1,6 @@
 //! The log of an instance is forced.
 
-ghost use Rattle.std.specs.Prelude.{◌≡◌, ◌≢◌, ◌+◌, true, false, [], Err, IfErr, OnErr, OnOk, None, Some};
+ghost use Rattle.std.specs.Prelude.{◌≡◌, ◌≢◌, ◌+◌, true, false, [], Err, IfErr, Ok, OnErr, OnOk, None, Some};
 ghost use Rattle.sd_base.specs.declared.place.Status.TheVariants as S;
 ghost use Rattle.sd_base.specs.declared.refusal.Refusal.TheVariants as R;
 ghost use Rattle.sd_fits.specs.Fits.{Fits};
@@ -54,7 +54,8 @@ pub fn force<G: Rig>(c: &mut Complex<G>, i: InstNo) -> Result<(), Refusal>
 /// forced before it goes on. A log that isn't settled takes no call, nor does one without a tail, and else a force makes four writes and
 /// syncs. It takes no memory, and leaves the data device and the logs of others as they were.
 ///
-/// `Failed` comes where the device failed; the instance has fallen then, and the event is served so.
+/// `Failed` comes where the device failed, so only where there is something to force; the instance has fallen then, and the event is
+/// served so.
 pub fn force_or_fall<G: Rig>(c: &mut Complex<G>, i: InstNo) -> Result<(), Refusal>
     requires fits { (w : Core) × Fits (G.seen c.old.rig) (G.leaves c.old.rig) (parts c.old) w }
     requires active { is_active (parts c.old) i ≡ true }
@@ -76,6 +77,7 @@ pub fn force_or_fall<G: Rig>(c: &mut Complex<G>, i: InstNo) -> Result<(), Refusa
     ensures disk { G.seen c.new.rig 0 ≡ G.seen c.old.rig 0 }
     ensures disk_leaves { LeavesSame (G.leaves c.old.rig 0) (G.leaves c.new.rig 0) }
     ensures idle { force_calls i (parts c.old) ≡ 0 → c.new.rig ≡ c.old.rig }
+    ensures sure { force_calls i (parts c.old) ≡ 0 → result ≡ Ok tt }
     ensures tick { OnOk result (G.moment c.new.rig ≡ G.moment c.old.rig + force_calls i (parts c.old)) }
 {
     i.keeps();

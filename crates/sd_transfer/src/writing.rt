@@ -15,6 +15,7 @@ ghost use Rattle.sd_state.specs.Complexes.{parts};
 ghost use Rattle.sd_state.specs.Parts.{is_loose, log_at, status_at, IsShape};
 ghost use Rattle.sd_world.specs.Pages.{is_duty};
 ghost use Rattle.sd_world.specs.Serving.{Core, did, telling};
+ghost use Rattle.sd_transfer.specs.Forcing.{force_calls};
 ghost use Rattle.sd_transfer.specs.Writing.{put_calls, write_calls, IsPut, IsUnput, IsUnread, IsWriters, IsWritten, StaysUnwritten, WriteTouches};
 
 use crate::barring::place_for;
@@ -32,7 +33,8 @@ use sd_state::Complex;
 ///
 /// `Down` comes where the instance isn't active, `Lost` where the page is lost, and `NeedPage` where its write isn't the
 /// instance's: the first of these that applies, which changes nothing. `Failed` comes where a device failed. The instance has
-/// fallen then, unless it was a read that failed: its log is forced then, the data device settled, and all else as it was.
+/// fallen then, unless it was a read that failed: its log is forced then, the data device settled, and all else as it was. Where
+/// the log has nothing to force, it falls only where the data device isn't settled behind it, as a read leaves it.
 pub fn write_page<G: Rig>(c: &mut Complex<G>, i: InstNo, p: PageNo) -> Result<(), Refusal>
     requires fits { (w : Core) × Fits (G.seen c.old.rig) (G.leaves c.old.rig) (parts c.old) w }
     ensures served { Serving (telling G.seen G.leaves G.moment G.since G.faults) (event.Flush i p) (did result) c.old c.new }
@@ -40,6 +42,8 @@ pub fn write_page<G: Rig>(c: &mut Complex<G>, i: InstNo, p: PageNo) -> Result<()
     ensures written { OnOk result (IsWritten p (G.seen c.new.rig) (G.leaves c.new.rig) (parts c.new)) }
     ensures failed { result ≡ Err R.Failed
         → (status_at (parts c.new) i ≡ S.Down) ⊎ IsUnread i (parts c.old) (parts c.new) }
+    ensures spared { result ≡ Err R.Failed → force_calls i (parts c.old) ≡ 0
+        → status_at (parts c.new) i ≡ S.Down → is_loose (parts c.new) 0 ≡ true }
     ensures clean { rows.may_write (entry_at (parts c.old).directory p) ≡ false
         → (parts c.new ≡ parts c.old) × (c.new.rig ≡ c.old.rig) }
     ensures refused { IfErr result (λ n. n ≢ R.Failed → (parts c.new ≡ parts c.old) × (c.new.rig ≡ c.old.rig)) }
@@ -103,6 +107,7 @@ fn put_or_fall<G: Rig>(c: &mut Complex<G>, i: InstNo, p: PageNo) -> Result<(), R
     ensures written { OnOk result (IsWritten p (G.seen c.new.rig) (G.leaves c.new.rig) (parts c.new)) }
     ensures failed { result ≡ Err R.Failed
         → (status_at (parts c.new) i ≡ S.Down) ⊎ (parts c.new ≡ with_loose_disk false (parts c.old)) }
+    ensures spared { result ≡ Err R.Failed → status_at (parts c.new) i ≡ S.Down → is_loose (parts c.new) 0 ≡ true }
     ensures only { IfErr result (λ n. n ≡ R.Failed) }
     ensures put { OnOk result (IsPut p (parts c.old) (parts c.new)) }
     ensures unput { OnErr result (IsUnput i (parts c.old) (parts c.new)) }

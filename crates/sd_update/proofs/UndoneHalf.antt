@@ -31,7 +31,6 @@ use Rattle.sd_chain.specs.Fates.{Fate, commits, fate}
 use Rattle.sd_chain.specs.Storage.{Recovered}
 use Rattle.sd_chain.specs.Images.{Gives, Grows, Keeps, log, with_disk}
 use Rattle.sd_chain.specs.Images as images
-use Rattle.sd_chain.specs.Order.{MayFollow, UndoesTop}
 use Rattle.sd_chain.specs.Records.{Each, IsOpen, home, rest, stack}
 use Rattle.sd_chain.proofs.Cuts.{newest-cut}
 use Rattle.sd_chain.proofs.Fates.{fate-others, open-fate}
@@ -246,18 +245,10 @@ module _ (a : ℕ) (t : TxnId) (x : Transaction) (o : OpenRec) (image : Page) (l
       (lone (may_of leaves) a i o.rid.page b0 (dir_of c) acting w.held acts)
       ∙ sym (held-now a o.rid.page image b (dir_of c) h.coherent w.copy)
 
-  follows : MayFollow (all_at (logs i)) y
-  follows = record {
-    alive = undo.alive;
-    prev = undo.prev;
-    done = λ e. absurd (cc);
-    undo = λ e. subst (UndoesTop y) (sym undo.stack) (undo.page, undo.slot, undo.value, undo.next);
-  }
-
   soundly : IsSoundly leaves logs'
   soundly = undo-keeps leaves i r logs logs' b.version image h.soundly
       (record { spare = d.spare; log = at; settled = stands; could = (seen i, reads) })
-      (record { kind = refl; follows = follows; top = top; below = below; stack = undo.stack })
+      (record { kind = undo.kind; follows = undo.follows; top = top; below = below; stack = undo.stack })
       (ap (λ (l : LogState). next_lsn l image.lsn) (sym one)) h.coherent.safe
       (ap₂ (λ (xs ys : List Rec). xs ++ ys) h.coherent.eight.0 h.coherent.eight.1)
       (let read = h.coherent.reads 0 in (read.0, read.1)) newest
@@ -345,7 +336,7 @@ module _ (a : ℕ) (t : TxnId) (x : Transaction) (o : OpenRec) (image : Page) (l
   }
 
   open-there : fate t all ≡ Fate.Open
-  open-there = open-fate t all undo.alive (stack-there t all below top undo.stack)
+  open-there = open-fate t all undo.follows.alive (stack-there t all below top undo.stack)
 
   claimed : (keeps : Keeps) (u : TxnId) → IsOpenIn u (new_kept keeps (home u)) → IsClaimed then_m u (new_kept keeps (home u))
   claimed keeps u opens = claimed-then u (new_kept keeps (home u)) (⊎_elim

@@ -20,6 +20,7 @@ use Rattle.sd_chain.specs.Order.{Sofar, advance, after_all, none_yet, of_txn}
 use Rattle.sd_chain.specs.Records.{Each, home, stack}
 use Rattle.sd_chain.proofs.Lists.{Each-weaker}
 use Rattle.sd_chain.proofs.Opens.{Each-stack}
+use Rattle.sd_chain.proofs.Order.{undoes-top}
 use Rattle.sd_chain.specs.Logs.{Outcomes, all_at}
 use Rattle.sd_chain.proofs.Lsns.{log-records, scanned-records}
 use Rattle.sd_state.specs.Good.{Good}
@@ -97,7 +98,8 @@ module _ (a : ℕ) (t : TxnId) (x : Transaction) (o : OpenRec) (image : Page) (s
       let s : IsChange top.top = (subst (Each IsChange) top.is open-ones).0 in
       let own : top.top.txn ≡ t = (subst (Each (λ z. z.txn ≡ t)) top.is own-txn).0 in
       let last = last-low t none_yet (all_at (log_at c (home t))) (omega arith) each in
-      let prev = u.prev in let next = u.next in let page = u.page in let slot = u.slot in
+      let undoes = undoes-top (all_at (log_at c (home t))) (flat (clr_at t x o image c)) top.top top.below u.kind u.follows u.stack in
+      let prev = u.follows.prev in let next = undoes.3 in let page = undoes.0 in let slot = undoes.1 in
       let n = s.prev in let b = s.page in let d = s.slot in (
         (f.low, f.high),
         subst IsTxn own s.txn,
@@ -105,7 +107,7 @@ module _ (a : ℕ) (t : TxnId) (x : Transaction) (o : OpenRec) (image : Page) (s
         omega (arith, next, n),
         omega (arith, page, b),
         omega (arith, slot, d),
-        subst IsValue (sym u.value) s.before,
+        subst IsValue (sym undoes.2) s.before,
       )
 
 -- for the law

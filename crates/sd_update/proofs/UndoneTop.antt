@@ -34,6 +34,7 @@ use Rattle.sd_chain.specs.Appends as sound
 use Rattle.sd_chain.specs.Soundly.{LogIsSound}
 use Rattle.sd_chain.specs.Logs.{HasRecord, Logs, Outcomes, all_at, may_of, next_lsn, owed_with, tails_of}
 use Rattle.sd_chain.proofs.Lsns.{next_lsn-there, version-low}
+use Rattle.sd_chain.proofs.Order.{undoes-top}
 use Rattle.sd_chain.proofs.Owing.{stack-there}
 use Rattle.sd_chain.proofs.Room.{undo-falls, undo-room}
 use Rattle.sd_state.specs.Good.{Good, Half, IsSettledAt, IsTold, base_of, dir_of}
@@ -116,13 +117,18 @@ module _ (a : ℕ) (t : TxnId) (x : Transaction) (o : OpenRec) (image : Page) (s
   pub undo : (front : List OpenRec) (top : IsTop o (reverse front) (stack t all)) → IsUndo y top.top top.below all
   undo front top = record {
     kind = refl;
-    alive = alive;
-    prev = ap (λ (s : Option (ℕ × ℕ)). option_map_or (λ p. p.1) s 0) logged.span ∙ last-is t all;
+    follows = record {
+      alive = alive;
+      prev = ap (λ (s : Option (ℕ × ℕ)). option_map_or (λ p. p.1) s 0) logged.span ∙ last-is t all;
+      done = λ e. absurd (cc);
+      undo = λ e. subst (UndoesTop y) (sym top.is) (
+        ap (λ (q : OpenRec). q.rid.page) (sym top.first),
+        ap (λ (q : OpenRec). q.rid.slot) (sym top.first),
+        ap (λ (q : OpenRec). q.before) (sym top.first),
+        ap (λ (q : OpenRec). q.prev) (sym top.first),
+      );
+    };
     stack = top.is;
-    page = ap (λ (q : OpenRec). q.rid.page) (sym top.first);
-    slot = ap (λ (q : OpenRec). q.rid.slot) (sym top.first);
-    value = ap (λ (q : OpenRec). q.before) (sym top.first);
-    next = ap (λ (q : OpenRec). q.prev) (sym top.first);
   }
 
   -- ---- room, memory and an LSN
@@ -138,18 +144,8 @@ module _ (a : ℕ) (t : TxnId) (x : Transaction) (o : OpenRec) (image : Page) (s
 
   -- what the record takes is what is owed less
   takes : (top : IsTop o (reverse split.0) (stack t all)) → sound.IsUndo r (log_at c i)
-  takes top = let u : IsUndo y top.top top.below all = undo split.0 top in record {
-    kind = refl;
-    follows = record {
-      alive = u.alive;
-      prev = u.prev;
-      done = λ e. absurd (cc);
-      undo = λ e. subst (UndoesTop y) (sym u.stack) (u.page, u.slot, u.value, u.next);
-    };
-    top = top.top;
-    below = top.below;
-    stack = u.stack;
-  }
+  takes top = let u : IsUndo y top.top top.below all = undo split.0 top in
+      record { kind = u.kind; follows = u.follows; top = top.top; below = top.below; stack = u.stack }
 
   -- with the record the log owes less, by its bytes and a group's head, and by a record
   pub clr-falls : (reserve (all ++ y ∷ []) + length (spelling r) + 5 ≤ reserve all) × (suc (owed (all ++ y ∷ [])) ≤ owed all)
@@ -160,8 +156,8 @@ module _ (a : ℕ) (t : TxnId) (x : Transaction) (o : OpenRec) (image : Page) (s
       let at-i : IsSettledAt seen leaves c i = g.settled i w.low w.high w.settled in
       let one : logs i ≡ log_at c i = one-place c (λ j. false) i at-i.one_place in
       let u : IsUndo y top.top top.below all = undo split.0 top in
-      let undoes : sound.IsUndo r (log_at c i) = takes top in
-      let falls = undo-falls (log_at c i) r undoes in
+      let undoes = undoes-top all y top.top top.below u.kind u.follows u.stack in
+      let falls = undo-falls (log_at c i) r (takes top) in
       let there = stack-there t all top.below top.top u.stack in
       let ready = h.soundly.ready i w.low w.high (seen i) (
         (at-i.only (seen i)).1 refl,
@@ -184,15 +180,15 @@ module _ (a : ℕ) (t : TxnId) (x : Transaction) (o : OpenRec) (image : Page) (s
       (subst (Each (λ z. HasPlace (newest_version (base_of seen leaves' logs c) z.page).slots z))
       (ap (λ (l : LogState). stack t (all_at l)) one ∙ top.is) places).0 in
       let here : HasPlace image.slots top.top = subst (λ (v : Page). HasPlace v.slots top.top) (sym newest)
-      (subst (λ (p : ℕ). HasPlace (newest_version (base_of seen leaves' logs c) p).slots top.top) (sym u.page) has) in
+      (subst (λ (p : ℕ). HasPlace (newest_version (base_of seen leaves' logs c) p).slots top.top) (sym undoes.0) has) in
       record {
         room = undo-room i (seen i) (log_at c i) r (subst (λ (l : LogState). LogIsSound i (seen i)
-            (forced l)) one ready.sound_forced) undoes;
+            (forced l)) one ready.sound_forced) (takes top);
         low = omega arith;
         slot = record {
-          place = let e = u.slot in let s = here.slot in omega (arith, e, s);
-          within = subst (λ (v : Val). size v ≤ capacity image.slots o.rid.slot) (sym u.value)
-              (subst (λ (s : ℕ). size top.top.before ≤ capacity image.slots s) (sym u.slot) here.room);
+          place = let e = undoes.1 in let s = here.slot in omega (arith, e, s);
+          within = subst (λ (v : Val). size v ≤ capacity image.slots o.rid.slot) (sym undoes.2)
+              (subst (λ (s : ℕ). size top.top.before ≤ capacity image.slots s) (sym undoes.1) here.room);
         };
         high = subst (λ (l : LogState). next_lsn l image.lsn < 2 ^ 62) one lsn;
       }

@@ -91,7 +91,7 @@ pub fn seal_start<G: Rig>(c: &mut Complex<G>, i: InstNo) -> Result<u32, Refusal>
     ensures refusals { IfErr result (λ e. (e ≡ R.LogFull) ⊎ ((e ≡ R.LsnEnd) ⊎ (e ≡ R.Memory))) }
 {
     let at = i.get() as usize - 1;
-    tested(c, i, 13)?;
+    may_seal(c, i, 13)?;
     let was = c.epochs[at];
     if was == u32::MAX {
         return Err(Refusal::LsnEnd);
@@ -125,7 +125,7 @@ pub fn seal_check<G: Rig>(c: &mut Complex<G>, i: InstNo, rec: Record) -> Result<
     ensures refusals { IfErr result (λ e. (e ≡ R.LogFull) ⊎ ((e ≡ R.LsnEnd) ⊎ (e ≡ R.Memory))) }
 {
     i.keeps();
-    tested(c, i, rec.len())?;
+    may_seal(c, i, rec.len())?;
     put_plain(c, i, rec)
 }
 
@@ -164,8 +164,11 @@ fn put_end<G>(c: &mut Complex<G>, t: &TxnId, rec: Record) -> Result<(), Memory>
     Ok(())
 }
 
-// Tests whether a record of `len` bytes that isn't reserved for finds room and an LSN.
-fn tested<G>(c: &Complex<G>, i: InstNo, len: usize) -> Result<(), Refusal>
+/// Whether a record of `len` bytes that isn't reserved for finds room in the log of an instance, and an LSN. It changes nothing.
+///
+/// `LogFull` comes exactly where the log has no room for it behind all that is reserved; `LsnEnd` exactly where it has and no LSN
+/// is left for it and for all that are owed.
+pub fn may_seal<G>(c: &Complex<G>, i: InstNo, len: usize) -> Result<(), Refusal>
     requires shape { IsShape (parts c.now) }
     requires few { owed_of (txns_at (parts c.now) i) < 2 ^ 64 }
     ensures room { OnOk result (NoRoomFor i len (parts c.now) → ⊥) }

@@ -35,7 +35,7 @@ pub mod undo_laws;
 mod undoing;
 
 pub use changes::change;
-pub use ends::{seal_check, seal_commit, seal_end, seal_start};
+pub use ends::{may_seal, seal_check, seal_commit, seal_end, seal_start};
 pub use loser_undo::undo_forced;
 pub use losers::{decide, end_recovery, recovering};
 pub use undoing::{last_of, take_back, undo, undo_at};

@@ -234,7 +234,7 @@ returns-in-Ok-clause-did g c =
     let there = row-some h.x t (all_at (log_at (parts old) (home t))) h.o h.last
     (subst (λ (q : Option Transaction). RowIsLogged q t (all_at (log_at (parts old) (home t)))) h.row
     ((f.1.good.told (home t) n.low n.high (ap tells_log c.requires.recovers) (c.requires.there.0 (home t) n.high)).rows t refl)) in
-    undo-does t c.args.by c.args.page (r.seen old.rig) (r.seen new.rig) (parts old) (parts new) n.low c.keeps-2.ensures.low
-    (q.there.0 (home t) n.high) q.last.0 q.last.1 q.last.2 c.in_ok-alone.ensures.alone u
+    undo-does t c.args.by c.args.page (r.seen old.rig) (r.seen new.rig) (parts old) (parts new) n.low n.high c.keeps-2.ensures.low
+    f.1.good.shape.logs (q.there.0 (home t) n.high) q.last.0 q.last.1 q.last.2 c.in_ok-alone.ensures.alone u
     (ap (λ (q : Parts). suc (tasks_in (txns_at q (home t)))) u.forced
     ∙ undone-fewer (txns_at (parts old) (home t)) (txns_at u.between (home t)) t h.x h.o _ once h.undone.row h.last there)

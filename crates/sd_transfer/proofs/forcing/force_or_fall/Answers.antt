@@ -1,4 +1,6 @@
 use Rattle.std.proofs.Common.{◌≡◌, inr, Bool, true, false, refl, sym, ap, ◌∙◌, subst, arith, rules}
+use Rattle.std.specs.Prelude.{Ok, OnErr, Result}
+use Rattle.sd_base.specs.declared.refusal.Failed.{Failed}
 use Rattle.sd_log.specs.Logs.{LogState, forced}
 use Rattle.sd_rig.specs.Devices.{LeavesSame}
 use Rattle.sd_chain.proofs.Kept.{forced-tail}
@@ -135,6 +137,13 @@ returns-then-is_err-clause-untouched g c =
 pub returns-then-is_err-clause-rest : goal.returns-then-is_err-clause-rest
 returns-then-is_err-clause-rest g c = fell-rests c.args.i (only c.args.i) none_of (parts c.args.c.now) (parts c.down.new.c)
     (returns-then-is_err-clause-untouched g c) c.requires.active c.keeps.ensures.high (of-log c.args.i)
+
+-- where nothing is to be forced no device is called
+pub returns-then-is_err-clause-sure : goal.returns-then-is_err-clause-sure
+returns-then-is_err-clause-sure g c calls =
+    let done = idle-rig c.args.i (parts c.args.c.now) (Ok tt) c.force_log.result
+    (λ is. (c.force_log.ensures.loose is).2) (λ none. (c.force_log.ensures.idle none).0) calls in
+    absurd (was-err c.force_log.result ⊥ c.if-is_err.ensures.value (subst (λ (r : Result (Unit {0}) Failed). OnErr r ⊥) (sym done) tt))
 
 pub returns-then-is_err-clause-idle : goal.returns-then-is_err-clause-idle
 returns-then-is_err-clause-idle g c calls = c.down.ensures.rig

@@ -1,4 +1,4 @@
-use Rattle.std.proofs.Common.{◌≡◌, false, inl, inr, refl, ap, ◌∙◌, subst, rules}
+use Rattle.std.proofs.Common.{◌≡◌, false, inl, inr, refl, sym, ap, ◌∙◌, subst, rules}
 use Rattle.sd_model.specs.declared.event.Event.TheVariants.{Flush}
 use Rattle.sd_fits.proofs.Falling.{fallen-down}
 use Rattle.sd_fits.specs.Untouched.{none_of, only}
@@ -8,11 +8,13 @@ use Rattle.sd_state.specs.Complexes.{parts}
 use Rattle.sd_pagelock.specs.Directory.{entry_at}
 use Rattle.sd_pagelock.specs.Moves.{IsMove}
 use Rattle.sd_pagelock.specs.Rows.{written}
-use Rattle.sd_state.specs.Parts.{Parts, is_loose}
+use Rattle.sd_base.specs.Standing.{active_as}
+use Rattle.sd_fits.proofs.Refused.{unlike}
+use Rattle.sd_state.specs.Parts.{Parts, is_loose, status_at}
 use Rattle.sd_state.specs.Values.{Pending}
 use Rattle.sd_world.specs.Serving.{telling}
 use Rattle.sd_transfer.proofs.Rested.{fell-rests, moved-lost, of-disk, settled-rest, written-rest}
-use Rattle.sd_transfer.proofs.Touched.{put-so, put-ticks, put-touches, same-untouched}
+use Rattle.sd_transfer.proofs.Touched.{put-marks, put-so, put-ticks, put-touches, same-untouched}
 use Rattle.sd_transfer.proofs.Unput.{unread-served, unwritten-served}
 use Rattle.sd_transfer.proofs.Writes.{flush-breaks, put-served, put-stands}
 use Rattle.sd_transfer.proofs.writing.put_or_fall.Goals as goal
@@ -80,6 +82,21 @@ returns-in-Err-Unread-clause-failed g c = λ e.
 
 pub returns-in-Err-Unwritten-clause-failed : goal.returns-in-Err-Unwritten-clause-failed
 returns-in-Err-Unwritten-clause-failed g c = λ e. inl (search (rules, fallen-down))
+
+-- who wasn't down isn't, where a read failed
+pub returns-in-Err-Unread-clause-spared : goal.returns-in-Err-Unread-clause-spared
+returns-in-Err-Unread-clause-spared g c e down =
+    let same = subst (λ (u : Unput). parts c.put_page.new.c ≡ left_after u (parts c.args.c.now)) c.in-Err-Unread.field-0-is
+    c.in-Err-Unread.ensures.errors in
+    unlike (ap (active_as c.args.i) (sym (ap (λ (k : Parts). status_at k c.args.i) same) ∙ down)) c.requires.may.active
+
+pub returns-in-Err-Unwritten-clause-spared : goal.returns-in-Err-Unwritten-clause-spared
+returns-in-Err-Unwritten-clause-spared g c e down =
+    let old : Parts = parts c.args.c.now in
+    put-marks c.args.i old (parts c.put_page.new.c) (parts c.down.new.c) c.keeps.ensures.low
+    c.requires.fits.1.good.shape.loose
+    (subst (λ (u : Unput). parts c.put_page.new.c ≡ left_after u old) c.in-Err-Unwritten.field-0-is c.in-Err-Unwritten.ensures.errors)
+    c.down.ensures.fallen
 
 -- ---- what no world has, and a recovery that is under way
 

@@ -123,6 +123,19 @@ returns-clause-failed g c = λ e. fails (c.put_or_fall.ensures.failed e)
     fails (inr same) = inr (unread-behind c.args.i (parts c.args.c.now) (parts c.force_or_fall.new.c) (parts c.put_or_fall.new.c)
         c.in_ok-force_or_fall.ensures.stays c.in_ok-force_or_fall.ensures.forced same)
 
+pub returns-in_err-may_put-clause-spared : goal.returns-in_err-may_put-clause-spared
+returns-in_err-may_put-clause-spared g c = λ e.
+    let p = err_from_is_err_and c.from_residual.result c.from_residual.ensures.1 in
+    let same : c.in_err-may_put.field-0.0 ≡ R.Failed = cc (p.1, p.2) in
+    absurd (subst (StaysUnwritten (parts c.args.c.now) c.args.i c.args.p) same c.in_err-may_put.ensures.refused)
+
+pub returns-in_err-force_or_fall-clause-spared : goal.returns-in_err-force_or_fall-clause-spared
+returns-in_err-force_or_fall-clause-spared g c e calls down =
+    let done = c.force_or_fall.ensures.sure calls in let was = c.in_err-force_or_fall.was in absurd (cc)
+
+pub returns-clause-spared : goal.returns-clause-spared
+returns-clause-spared g c e calls down = c.put_or_fall.ensures.spared e down
+
 -- ---- a page that isn't changed, what no world has, and a recovery that is under way
 
 pub returns-in_err-may_put-clause-refused : goal.returns-in_err-may_put-clause-refused

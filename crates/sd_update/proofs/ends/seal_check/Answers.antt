@@ -10,8 +10,8 @@ use Rattle.sd_update.proofs.SealedCalls.{by-answer}
 use Rattle.sd_update.proofs.SealedTests.{check-good, few-told, plain-free, refused-so}
 use Rattle.sd_update.proofs.ends.seal_check.Goals as goal
 
-pub tested-requires-clause-few : goal.tested-requires-clause-few
-tested-requires-clause-few g c =
+pub may_seal-requires-clause-few : goal.may_seal-requires-clause-few
+may_seal-requires-clause-few g c =
     let p : Parts = parts c.args.c.now in
     let i : ℕ = c.args.i in
     let rig = c.args.c.now.rig in
@@ -31,8 +31,8 @@ pub returns-clause-refusals : goal.returns-clause-refusals
 returns-clause-refusals g c =
     (refused-so c.put_plain.result (NoRoomFor c.args.i (length (spelling c.args.rec)) (parts c.args.c.now))
     (NoLsnLeft c.args.i (parts c.args.c.now))
-    (subst (λ n. NoRoomFor c.args.i n (parts c.args.c.now) → ⊥) c.len.ensures c.in_ok-tested.ensures.room)
-    c.in_ok-tested.ensures.left c.put_plain.ensures.only).2
+    (subst (λ n. NoRoomFor c.args.i n (parts c.args.c.now) → ⊥) c.len.ensures c.in_ok-may_seal.ensures.room)
+    c.in_ok-may_seal.ensures.left c.put_plain.ensures.only).2
 
 pub returns-clause-good : goal.returns-clause-good
 returns-clause-good g c pend m good =
@@ -46,7 +46,7 @@ returns-clause-good g c pend m good =
     let reads : leaves 0 (seen 0) = g.met.G.Rig.leaves_seen rig 0 (omega arith) in
     let new : Parts = parts c.put_plain.new.c in
     let room : NoRoomFor i (length (spelling c.args.rec)) p → ⊥ =
-    subst (λ n. NoRoomFor i n p → ⊥) c.len.ensures c.in_ok-tested.ensures.room in
+    subst (λ n. NoRoomFor i n p → ⊥) c.len.ensures c.in_ok-may_seal.ensures.room in
     let after : Parts = with_more i c.args.rec (log_at new i).spare p in
     subst (λ r. Good (g.G.Rig.seen r) (g.G.Rig.leaves r) pend new m) (sym c.put_plain.ensures.rig)
     (by-answer c.put_plain.result (new ≡ after) (new ≡ p) (Good seen leaves pend new m) c.put_plain.ensures.ok c.put_plain.ensures.stays
@@ -54,6 +54,6 @@ returns-clause-good g c pend m good =
     c.put_plain.ensures.memory c.put_plain.ensures.stays
     (λ memory. subst (λ (q : Parts). Good seen leaves pend q m) (sym is)
     (check-good i c.args.rec (log_at new i).spare seen leaves pend p m good reads low high c.requires.idle c.requires.may room
-    c.in_ok-tested.ensures.left memory))
+    c.in_ok-may_seal.ensures.left memory))
     (λ same. subst (λ (q : Parts). Good seen leaves pend q m) (sym same) good))
     (λ same. subst (λ (q : Parts). Good seen leaves pend q m) (sym same) good))

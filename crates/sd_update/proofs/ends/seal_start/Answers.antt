@@ -16,8 +16,8 @@ use Rattle.sd_update.proofs.SealedCalls.{settled-up}
 use Rattle.sd_update.proofs.SealedTests.{few-told, next-small, start-good}
 use Rattle.sd_update.proofs.ends.seal_start.Goals as goal
 
-pub tested-requires-clause-few : goal.tested-requires-clause-few
-tested-requires-clause-few g c =
+pub may_seal-requires-clause-few : goal.may_seal-requires-clause-few
+may_seal-requires-clause-few g c =
     let p : Parts = parts c.args.c.now in
     let i : ℕ = c.args.i in
     let rig = c.args.c.now.rig in
@@ -44,12 +44,12 @@ returns-then-was-clause-lsns g c =
     let was : ℕ = c.index-was.result.now in
     let was-is : epoch_at p i ≡ was = item-is 0 p.epochs i was low high c.requires.good.1.shape.epochs
     (c.index-was.ensures ∙ ap (λ n. get_or p.epochs n was) place) in
-    (λ e. (c.in_ok-tested.ensures.room, inr (was-is ∙ c.if-was.true)), λ h. refl)
+    (λ e. (c.in_ok-may_seal.ensures.room, inr (was-is ∙ c.if-was.true)), λ h. refl)
 
 pub put_plain-requires-clause-room : goal.put_plain-requires-clause-room
 put_plain-requires-clause-room g c =
     subst (λ n. NoRoomFor c.args.i n (parts c.args.c.now) → ⊥)
-    (sym (length-spelling (records.Start c.next_lsn-lsn.result (c.index-was.result.now + 1)))) c.in_ok-tested.ensures.room
+    (sym (length-spelling (records.Start c.next_lsn-lsn.result (c.index-was.result.now + 1)))) c.in_ok-may_seal.ensures.room
 
 pub returns-in_err-put_plain-clause-lsns : goal.returns-in_err-put_plain-clause-lsns
 returns-in_err-put_plain-clause-lsns g c =
@@ -67,7 +67,7 @@ returns-in_err-put_plain-clause-lsns g c =
     (c.index-was.ensures ∙ ap (λ n. get_or p.epochs n was) place) in
     let came : c.from_residual-in_err-put_plain.result ≡ Err R.Memory = search rules in (
       λ e. absurd (cc),
-      λ h. ⊎_elim (λ none. absurd (c.in_ok-tested.ensures.left none))
+      λ h. ⊎_elim (λ none. absurd (c.in_ok-may_seal.ensures.left none))
           (λ top. let hit : was ≡ 4294967295 = sym was-is ∙ top in absurd (c.if-was.false hit)) h.1,
     )
 
@@ -102,7 +102,7 @@ returns-clause-lsns g c =
     let was-is : epoch_at p i ≡ was = item-is 0 p.epochs i was low high c.requires.good.1.shape.epochs
     (c.index-was.ensures ∙ ap (λ n. get_or p.epochs n was) place) in (
       λ e. absurd (cc),
-      λ h. ⊎_elim (λ none. absurd (c.in_ok-tested.ensures.left none))
+      λ h. ⊎_elim (λ none. absurd (c.in_ok-may_seal.ensures.left none))
           (λ top. let hit : was ≡ 4294967295 = sym was-is ∙ top in absurd (c.if-was.false hit)) h.1,
     )
 
@@ -124,7 +124,7 @@ returns-clause-parts g c =
     (⊎_elim (λ e. ap up_as e) (λ e. ap up_as e) c.requires.waits) in
     let tells : tells_log (status_at p i) ≡ true = ⊎_elim (λ e. ap tells_log e) (λ e. ap tells_log e) c.requires.waits in
     let small = next-small i (records.BeginCheck 0) 0 seen leaves Pending.Idle p c.requires.good.0 c.requires.good.1 low high settled tells
-    c.in_ok-tested.ensures.left in
+    c.in_ok-may_seal.ensures.left in
     let next : c.next_lsn-lsn.result ≡ min (next_lsn (log_at p i) 0) (2 ^ 62 - 1) = c.next_lsn-lsn.ensures
     ∙ ap (λ (l : LogState). min (next_lsn l 0) (2 ^ 62 - 1)) c.log.ensures in
     let lsn-is : c.next_lsn-lsn.result ≡ next_lsn (log_at p i) 0 = omega (arith, next, small) in
@@ -155,7 +155,7 @@ returns-clause-good g c m good =
     (⊎_elim (λ e. ap up_as e) (λ e. ap up_as e) c.requires.waits) in
     let tells : tells_log (status_at p i) ≡ true = ⊎_elim (λ e. ap tells_log e) (λ e. ap tells_log e) c.requires.waits in
     let small = next-small i (records.BeginCheck 0) 0 seen leaves Pending.Idle p c.requires.good.0 c.requires.good.1 low high settled tells
-    c.in_ok-tested.ensures.left in
+    c.in_ok-may_seal.ensures.left in
     let next : c.next_lsn-lsn.result ≡ min (next_lsn (log_at p i) 0) (2 ^ 62 - 1) = c.next_lsn-lsn.ensures
     ∙ ap (λ (l : LogState). min (next_lsn l 0) (2 ^ 62 - 1)) c.log.ensures in
     let lsn-is : c.next_lsn-lsn.result ≡ next_lsn (log_at p i) 0 = omega (arith, next, small) in
@@ -171,5 +171,5 @@ returns-clause-good g c m good =
     (subst (λ (z : Parts). Good seen leaves (Pending.Starts i) z m) (sym made)
     (start-good i (next_lsn (log_at p i) 0) (was + 1) spare seen leaves p m good reads low high c.requires.idle c.requires.waits refl
     (ap (λ n. n + 1) (sym was-is))
-    (subst (λ n. NoRoomFor i n p → ⊥) (sym (length-spelling (records.Start (next_lsn (log_at p i) 0) (was + 1)))) c.in_ok-tested.ensures.room)
-    c.in_ok-tested.ensures.left c.in_ok-put_plain.ensures.memory))
+    (subst (λ n. NoRoomFor i n p → ⊥) (sym (length-spelling (records.Start (next_lsn (log_at p i) 0) (was + 1)))) c.in_ok-may_seal.ensures.room)
+    c.in_ok-may_seal.ensures.left c.in_ok-put_plain.ensures.memory))
