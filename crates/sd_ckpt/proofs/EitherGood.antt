@@ -43,9 +43,10 @@ use Rattle.sd_state.specs.Values.{Pending, is_doubt}
 use Rattle.sd_state.proofs.Failed.{failed-good}
 use Rattle.sd_state.proofs.Items.{item-kept, item-set}
 use Rattle.sd_state.proofs.Standing.{no-place, one-place}
-use Rattle.sd_ckpt.proofs.LaterHalf.{half-later, records-base}
+use Rattle.sd_ckpt.proofs.LaterHalf.{alike-later, half-later, records-base}
 use Rattle.sd_ckpt.proofs.Reached.{doubt-fell, reached-later}
-use Rattle.sd_ckpt.specs.Laws.{EitherIsGood, HasEither, MayBegin, ElsewhereSame, with_either}
+use Rattle.sd_ckpt.specs.Laws.{EitherIsGood, EitherReadsAlike, HasEither, MayBegin, ElsewhereSame, with_either}
+use Rattle.sd_ckpt.specs.Readings.{ReadsAlike, storage_by}
 
 is-doubt : (l : Life) → IsInDoubt l → is_doubt l ≡ true
 is-doubt Life.Gone h = absurd h
@@ -181,7 +182,7 @@ module _ (leaves leaves' : Outcomes) (i place : ℕ) (gone : List Record) (l' : 
       (tails_of (log_by new moved)) h.coherent had.0 had.1 (begins-later (low_of k) f.2 moved))
       may.forgets
 
-  closed : (moved : Keeps) (t : TxnId) → IsClosed (front (moved i)) (base_at (log_of_place (moved i))) t
+  pub closed : (moved : Keeps) (t : TxnId) → IsClosed (front (moved i)) (base_at (log_of_place (moved i))) t
   closed moved t = subst (λ (xs : List Rec). Each (λ x. of_txn t x ≡ false) (front (moved i))
       ⊎ ((IsOpen t (base_at (log_of_place (moved i))) → ⊥)
       ⊎ ((IsOpen t xs → ⊥) × Each (λ x. of_txn t x ≡ false) (base_at (log_of_place (moved i)))))) (whole (moved i))
@@ -317,6 +318,18 @@ module _ (leaves leaves' : Outcomes) (i place : ℕ) (gone : List Record) (l' : 
 
   half : (moved : Keeps) → Half seen' (leaves_by new moved leaves') (log_by new moved) Pending.Idle new m
   half moved = half-later i (gone_of (moved i)) seen (leaves_by mid moved leaves) (leaves_by new moved leaves') (log_by mid moved)
+      (log_by new moved) mid m
+      low high (gm.half moved) seen' (stay.reads 0 (λ e. omega (arith, e, low))) (less moved) (now-reads, tt) (replaces moved)
+      (short-by moved)
+      (shortened moved)
+      (soundly moved) (λ t doubt own. never t own doubt) (epoch-later moved)
+      c.logs c.masters (slice_set {A = Option Begun} c.checks (i - 1) None)
+      (slice_set {A = Option ℕ} c.others (i - 1) (Some place))
+      (λ j b is. let was = checks-less j b is in (inl was.0, was.1))
+
+  -- it reads as before, from either place
+  alike : (moved keeps : Keeps) → ReadsAlike (storage_by seen c moved keeps) (storage_by seen' new moved keeps)
+  alike moved = alike-later i (gone_of (moved i)) seen (leaves_by mid moved leaves) (leaves_by new moved leaves') (log_by mid moved)
       (log_by new moved) mid m
       low high (gm.half moved) seen' (stay.reads 0 (λ e. omega (arith, e, low))) (less moved) (now-reads, tt) (replaces moved)
       (short-by moved)
@@ -486,3 +499,6 @@ module _ (leaves leaves' : Outcomes) (i place : ℕ) (gone : List Record) (l' : 
 
 pub either-good : (leaves leaves' : Outcomes) → EitherIsGood leaves leaves'
 either-good = then-good
+
+pub either-alike : (leaves leaves' : Outcomes) → EitherReadsAlike leaves leaves'
+either-alike = alike

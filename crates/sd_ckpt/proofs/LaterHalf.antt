@@ -1,6 +1,6 @@
 -- What a crash may leave once a log begins at a later place: it stands for the same.
 use Rattle.std.proofs.Common.{◌≡◌, ◌≢◌, ◌⊎◌, inl, inr, ⊎_elim, ℕ, ◌≤◌, Bool, true, false, ◌&&◌, ◌||◌, cond, List, [], ◌∷◌, ◌++◌, map, filter, refl, sym, ap, ap₂, ◌∙◌, subst, arith, append-nil}
-use Rattle.std.specs.Prelude.{Option, Some}
+use Rattle.std.specs.Prelude.{◌↔◌, Option, Some}
 use Rattle.std.specs.List.{list_any}
 use Rattle.std.proofs.lemmas.Bool.{cases_Bool, cases_eq}
 use Rattle.std.proofs.lemmas.List.Folds.{list_any-append}
@@ -21,10 +21,11 @@ use Rattle.sd_rig.specs.Devices as rig
 use Rattle.sd_chain.specs.Bytes.{disk_page}
 use Rattle.sd_chain.specs.Cuts.{cut}
 use Rattle.sd_chain.specs.Fates.{Fate, commits, fate}
-use Rattle.sd_chain.specs.Storage.{Recovered}
+use Rattle.sd_chain.specs.Storage.{Recovered, Storage}
 use Rattle.sd_chain.specs.Images.{Allowed, Gives, Keeps, Shortened, with_disk}
 use Rattle.sd_chain.specs.Order.{of_txn}
-use Rattle.sd_chain.specs.Records.{Each, IsOpen, ends, home, stack, stack_from}
+use Rattle.sd_chain.specs.Records.{Each, IsOpen, Val, ends, home, stack, stack_from}
+use Rattle.sd_chain.proofs.Apart.{Recovered-one}
 use Rattle.sd_chain.proofs.Fates.{fate-open, open-fate}
 use Rattle.sd_chain.proofs.Images as images
 use Rattle.sd_chain.proofs.Lists.{Each-append, Each-back, Each-weaker, filter-cons, filter-skip}
@@ -48,6 +49,7 @@ use Rattle.sd_state.specs.Good.{Half, base_of, dir_of}
 use Rattle.sd_state.specs.Images.{IsClaimed, IsEpochOf, IsOpenIn}
 use Rattle.sd_state.specs.Parts.{low_of, Begun, Parts, check_at}
 use Rattle.sd_state.specs.Values.{Pending, as_done, decided, is_committed, is_doubt, rid_of, undecided, values}
+use Rattle.sd_ckpt.specs.Readings.{ReadsAlike}
 
 -- ---- who is decided, where nobody in doubt is of the log that changes
 
@@ -304,5 +306,54 @@ module _ (i : ℕ) (gone : List Record) (seen : rig.DeviceImages) (leaves leaves
       cover-stays (may_of leaves) (may_of leaves') (low_of b) k old_base new_base
           (ap₂ (λ (x y : List Rec). x ++ y) same.0 same.1) may-less old.0,
       close-stays (low_of b) k (tails_of logs) (tails_of logs') same.0 same.1 old.1,
+    );
+  }
+
+  -- ---- what is read from the later place
+
+  abbrev reading_old : Keeps → Storage
+  reading_old keeps = cut keeps (with_disk (tails_of logs) (disk_page (seen 0)))
+
+  abbrev reading_new : Keeps → Storage
+  reading_new keeps = cut keeps (with_disk (tails_of logs') (disk_page (seen' 0)))
+
+  -- what is kept of the log of t, where that is log i and where it isn't
+  by-home : (keeps : Keeps) (t : TxnId) (P : List Rec → List Rec → Type 0) → P (front ++ left) left
+      → ((log : List Rec) → P log log) → P ((reading_old keeps).logs (home t)) ((reading_new keeps).logs (home t))
+  by-home keeps t P here else = ⊎_elim
+      (λ own. subst (λ (j : ℕ). P (kept_logs (tails_of logs) keeps j) (kept_logs (tails_of logs') keeps j)) (sym own)
+      (subst (λ (x : List Rec). P x (kept_logs (tails_of logs') keeps i)) (sym (bare-old keeps))
+      (subst (P (front ++ left)) (sym (bare keeps)) here)))
+      (λ ne. subst (P (kept_logs (tails_of logs) keeps (home t))) (sym (elsewhere keeps (home t) ne))
+      (else (kept_logs (tails_of logs) keeps (home t))))
+      (cases_eq (home t) i)
+
+  -- recovery gives the table, and no other value, from either place
+  old-is : (keeps : Keeps) (p s : ℕ) (v : Val) → Recovered (reading_old keeps) p s v
+      ↔ (v ≡ values m Pending.Idle (kept_logs (tails_of logs) keeps) p s)
+  old-is keeps p s v =
+      let there = h.gives (disk_page (seen 0)) h.coherent.reads keeps p s in (
+        (λ r. Recovered-one (reading_old keeps) (h.coherent.safe.sound (disk_page (seen 0)) h.coherent.reads keeps) p s v _ r there),
+        (λ e. subst (Recovered (reading_old keeps) p s) (sym e) there),
+      )
+
+  new-is : (keeps : Keeps) (p s : ℕ) (v : Val) → Recovered (reading_new keeps) p s v
+      ↔ (v ≡ values m Pending.Idle (kept_logs (tails_of logs') keeps) p s)
+  new-is keeps p s v =
+      let there = gives (disk_page (seen' 0)) coherent.reads keeps p s in (
+        (λ r. Recovered-one (reading_new keeps) (coherent.safe.sound (disk_page (seen' 0)) coherent.reads keeps) p s v _ r there),
+        (λ e. subst (Recovered (reading_new keeps) p s) (sym e) there),
+      )
+
+  pub alike-later : (keeps : Keeps) → ReadsAlike (reading_old keeps) (reading_new keeps)
+  alike-later keeps = record {
+    opened = λ t. by-home keeps t (λ a b. (fate t a ≡ Fate.Open) ↔ (fate t b ≡ Fate.Open))
+        ((λ e. opens-back t e), (λ e. (opens-same t e).0)) (λ log. ((λ e. e), (λ e. e)));
+    stacks = λ t. by-home keeps t (λ a b. fate t a ≡ Fate.Open → stack t a ≡ stack t b)
+        (λ e. (opens-same t (opens-back t e)).1) (λ log e. refl);
+    pages = λ p. sym (is-named.same keeps p);
+    table = λ p s v. (
+      (λ r. (new-is keeps p s v).1 ((old-is keeps p s v).0 r ∙ values-same keeps p s)),
+      (λ r. (old-is keeps p s v).1 ((new-is keeps p s v).0 r ∙ sym (values-same keeps p s))),
     );
   }

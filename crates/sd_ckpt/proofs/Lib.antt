@@ -7,3 +7,15 @@ mod Later
 mod MasterCalls
 mod Begins
 mod BegunGood
+mod CheckBegun
+mod CheckRefused
+mod TableRows
+mod CheckCalls
+mod CheckServed
+mod EndSealed
+mod MasterFits
+mod EndRefused
+mod EndCalls
+mod EndServed
+mod EndExact
+mod Least

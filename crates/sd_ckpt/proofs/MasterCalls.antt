@@ -20,6 +20,7 @@ use Rattle.sd_rig.specs.declared.twin.Twin.{Twin}
 use Rattle.sd_rig.proofs.Numbers.{number_of-take}
 use Rattle.sd_chain.specs.Checks.{IsMaster}
 use Rattle.sd_chain.specs.ChecksKept.{IsPut}
+use Rattle.sd_chain.specs.Images.{Keeps}
 use Rattle.sd_chain.specs.Logs.{Outcomes}
 use Rattle.sd_chain.specs.Starts.{IsLater, NamesLater}
 use Rattle.sd_chain.proofs.Masters.{put-outcome}
@@ -33,9 +34,10 @@ use Rattle.sd_ckpt.specs.Laws.{HasEither, KeepsChecks, ElsewhereSame, with_eithe
 use Rattle.sd_ckpt.specs.Masters.{IsMasterOr, IsMasterPut, MayPutMaster, next_master, with_master}
 use Rattle.sd_ckpt.specs.declared.master.NotPut.{NotPut}
 use Rattle.sd_ckpt.specs.declared.master.NotPut.TheVariants as U
-use Rattle.sd_ckpt.proofs.EitherGood.{either-good}
+use Rattle.sd_ckpt.specs.Readings.{ReadsAlike, storage_by}
+use Rattle.sd_ckpt.proofs.EitherGood.{either-alike, either-good}
 use Rattle.sd_ckpt.proofs.Later.{gone, later-log, later-log-stands, may-begin, names-later}
-use Rattle.sd_ckpt.proofs.MasterGood.{master-good}
+use Rattle.sd_ckpt.proofs.MasterGood.{master-alike, master-good}
 use Rattle.sd_ckpt.proofs.PutStands.{put-stands, was-ready}
 
 -- where both slots are
@@ -206,6 +208,12 @@ module _ (i check start count : ℕ) (body : List ℕ) (t : Twin) (is : t ≡ tw
         (gone i check start seen leaves c m low high g may) shorter seen seen' c m g reads idle
         (may-begin i check start seen leaves c m low high g may) stay outcome
 
+    pub put-either-alike : (moved keeps : Keeps) → ReadsAlike (storage_by seen c moved keeps)
+        (storage_by seen' (with_either i start c) moved keeps)
+    put-either-alike = either-alike leaves leaves' i start
+        (gone i check start seen leaves c m low high g may) shorter seen seen' c m g reads idle
+        (may-begin i check start seen leaves c m low high g may) stay outcome
+
     module _ (there : chosen_body t.at t.body (seen' t.dev) ≡ Some body) (only : LeavesOnly (seen' t.dev) (leaves' t.dev))
         (number : number_of body ≡ count) where
       there-now : chosen_body 0 64 (seen' i) ≡ Some body
@@ -239,6 +247,14 @@ module _ (i check start count : ℕ) (body : List ℕ) (t : Twin) (is : t ≡ tw
       -- once it is Ok
       pub put-good : Good seen' leaves' Pending.Idle (with_master i start count c) m
       put-good = master-good leaves leaves' i start count (gone i check start seen leaves c m low high g may) shorter
+          (slice_set {A = Option Begun} c.checks (i - 1) None) seen seen' c m g reads
+          (may-begin i check start seen leaves c m low high g may)
+          ended may.alive stay only-now later
+          (subst (λ (o : Option (List ℕ)). IfSome o (λ b. number_of b ≡ count)) (sym there-now) number)
+
+      pub put-alike : (moved keeps : Keeps) → ReadsAlike (storage_by seen c moved keeps)
+          (storage_by seen' (with_master i start count c) moved keeps)
+      put-alike = master-alike leaves leaves' i start count (gone i check start seen leaves c m low high g may) shorter
           (slice_set {A = Option Begun} c.checks (i - 1) None) seen seen' c m g reads
           (may-begin i check start seen leaves c m low high g may)
           ended may.alive stay only-now later

@@ -44,9 +44,10 @@ use Rattle.sd_state.specs.Tables.{IsLogged, NamesLife, RowIsLive, RowIsLogged, t
 use Rattle.sd_state.specs.Values.{Pending, is_doubt, open_of, put_of}
 use Rattle.sd_state.proofs.Items.{item-kept, item-set}
 use Rattle.sd_state.proofs.Standing.{no-place, one-place}
-use Rattle.sd_ckpt.proofs.LaterHalf.{half-later, records-base}
+use Rattle.sd_ckpt.proofs.LaterHalf.{alike-later, half-later, records-base}
 use Rattle.sd_ckpt.proofs.Reached.{any-behind, doubt-fell, last-left, reached-later, span-behind}
-use Rattle.sd_ckpt.specs.Laws.{KeepsChecks, MasterIsGood, MayBegin, ElsewhereSame, with_begun}
+use Rattle.sd_ckpt.specs.Laws.{KeepsChecks, MasterIsGood, MasterReadsAlike, MayBegin, ElsewhereSame, with_begun}
+use Rattle.sd_ckpt.specs.Readings.{ReadsAlike, storage_by}
 
 module _ (leaves leaves' : Outcomes) (i place count : ℕ) (gone : List Record) (l' : LogState) (checks_then : List (Option Begun))
     (seen seen' : rig.DeviceImages) (c : Parts) (m : State) (g : Good seen leaves Pending.Idle c m)
@@ -209,6 +210,17 @@ module _ (leaves leaves' : Outcomes) (i place count : ℕ) (gone : List Record) 
 
   half : (moved : Keeps) → Half seen' (leaves_by new moved leaves') (log_by new moved) Pending.Idle new m
   half moved = half-later i gone seen (leaves_by c moved leaves) (leaves_by new moved leaves') (log_by c moved)
+      (log_by new moved) c m low high (g.half moved)
+      seen' (stay.reads 0 (λ e. omega (arith, e, low))) (less moved)
+      (now-reads, tt)
+      (replaces moved) (short-by moved)
+      (shortened moved)
+      (soundly moved) sure (epoch-later moved)
+      (slice_set c.logs (i - 1) l') (slice_set c.masters (i - 1) count) checks_then c.others kept_checks.less
+
+  -- it reads as before
+  alike : (moved keeps : Keeps) → ReadsAlike (storage_by seen c moved keeps) (storage_by seen' new moved keeps)
+  alike moved = alike-later i gone seen (leaves_by c moved leaves) (leaves_by new moved leaves') (log_by c moved)
       (log_by new moved) c m low high (g.half moved)
       seen' (stay.reads 0 (λ e. omega (arith, e, low))) (less moved)
       (now-reads, tt)
@@ -547,3 +559,6 @@ module _ (leaves leaves' : Outcomes) (i place count : ℕ) (gone : List Record) 
 
 pub master-good : (leaves leaves' : Outcomes) → MasterIsGood leaves leaves'
 master-good = then-good
+
+pub master-alike : (leaves leaves' : Outcomes) → MasterReadsAlike leaves leaves'
+master-alike = alike

@@ -14,6 +14,7 @@ use Rattle.sd_rig.specs.Devices as rig
 use Rattle.sd_rig.specs.Devices.{LeavesOnly, LeavesSame}
 use Rattle.sd_rig.specs.Puts.{Puts}
 use Rattle.sd_txn.specs.Transactions.{Transaction, txn_at}
+use Rattle.sd_chain.specs.Images.{Keeps}
 use Rattle.sd_chain.specs.Logs.{Outcomes, all_at, base_at, records_at}
 use Rattle.sd_chain.specs.Records.{Each, IsOpen}
 use Rattle.sd_chain.specs.Soundly.{IsReady}
@@ -23,6 +24,7 @@ use Rattle.sd_state.specs.Good.{Good, reaches}
 use Rattle.sd_state.specs.Images.{Stands}
 use Rattle.sd_state.specs.Parts.{Begun, Parts, actor, among, check_at, is_loose, log_at, low_of, status_at, txns_at}
 use Rattle.sd_state.specs.Values.{Pending}
+use Rattle.sd_ckpt.specs.Readings.{ReadsAlike, storage_by}
 
 -- The log of i, which is settled and has no tail, may begin at this place: it is l' then, with the records behind these, of which
 -- one has the last LSN. None is gone, or those below the low of a checkpoint that i has begun.
@@ -84,6 +86,16 @@ MasterIsGood leaves leaves' = (i place count : ℕ) (gone : List Record) (l' : L
     → IfSome (chosen_body 0 64 (seen' i)) (λ body. number_of body ≡ count)
     → Good seen' leaves' Pending.Idle (with_begun i l' count checks c) m
 
+-- And what is read from the later place is what was read from the former one.
+abbrev pub MasterReadsAlike : Outcomes → Outcomes → Type 0
+MasterReadsAlike leaves leaves' = (i place count : ℕ) (gone : List Record) (l' : LogState) (checks : List (Option Begun))
+    (seen seen' : rig.DeviceImages) (c : Parts) (m : State) → Good seen leaves Pending.Idle c m
+    → ((d : ℕ) → d ≤ 8 → leaves d (seen d)) → MayBegin i place gone l' c → KeepsChecks i gone checks c
+    → ((t : TxnId) (x : Transaction) → txn_at (txns_at c i) t ≡ Some x → IsOpen t (all_at (log_at c i)))
+    → ElsewhereSame i seen seen' leaves leaves' → LeavesOnly (seen' i) (leaves' i) → IsLater (seen i) (log_at c i) l' (seen' i)
+    → IfSome (chosen_body 0 64 (seen' i)) (λ body. number_of body ≡ count)
+    → (moved keeps : Keeps) → ReadsAlike (storage_by seen c moved keeps) (storage_by seen' (with_begun i l' count checks c) moved keeps)
+
 -- The put may have failed: the log begins at the one place or the other, and is as it was in memory.
 abbrev pub EitherIsGood : Outcomes → Outcomes → Type 0
 EitherIsGood leaves leaves' = (i place : ℕ) (gone : List Record) (l' : LogState) (seen seen' : rig.DeviceImages)
@@ -91,6 +103,14 @@ EitherIsGood leaves leaves' = (i place : ℕ) (gone : List Record) (l' : LogStat
     → MayBegin i place gone l' c → ElsewhereSame i seen seen' leaves leaves'
     → ((bytes : List ℕ) → leaves' i bytes → HasEither i (seen i) (log_at c i) l' bytes)
     → Good seen' leaves' Pending.Idle (with_either i place c) m
+
+-- And what is read from either is what was read.
+abbrev pub EitherReadsAlike : Outcomes → Outcomes → Type 0
+EitherReadsAlike leaves leaves' = (i place : ℕ) (gone : List Record) (l' : LogState) (seen seen' : rig.DeviceImages)
+    (c : Parts) (m : State) → Good seen leaves Pending.Idle c m → ((d : ℕ) → d ≤ 8 → leaves d (seen d)) → c.due ≡ None
+    → MayBegin i place gone l' c → ElsewhereSame i seen seen' leaves leaves'
+    → ((bytes : List ℕ) → leaves' i bytes → HasEither i (seen i) (log_at c i) l' bytes)
+    → (moved keeps : Keeps) → ReadsAlike (storage_by seen c moved keeps) (storage_by seen' (with_either i place c) moved keeps)
 
 -- Each image that the put may leave stands for the same state.
 abbrev pub MasterPutStands : Outcomes → Type 0

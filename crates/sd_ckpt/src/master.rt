@@ -19,6 +19,8 @@ ghost use Rattle.sd_state.specs.Parts.{IsShape, Parts, epoch_at, log_at, status_
 ghost use Rattle.sd_state.specs.Values.{Pending};
 ghost use Rattle.sd_ckpt.specs.Laws.{with_either};
 ghost use Rattle.sd_ckpt.specs.Masters.{IsMasterOr, IsMasterPut, MayPutMaster, next_master, with_master};
+ghost use Rattle.sd_ckpt.specs.Readings.{ReadsAlike, storage_by};
+ghost use Rattle.sd_chain.specs.Images.{Keeps};
 ghost use Rattle.sd_ckpt.specs.declared.master.NotPut.TheVariants as U;
 
 use sd_base::{InstNo, Lsn};
@@ -44,8 +46,9 @@ const SLOTS_BYTES: usize = 2 * (MASTER_BODY + 1);
 /// Puts the master of a log whose instance ends its checkpoint, with the LSN of its EndCheck: from then on the log begins at
 /// `start`, a place in bytes from its area's begin, the records in front are forgotten, and no checkpoint is begun. All of the
 /// log is forced, its EndCheck is the last record, and `start` is what `Log::start_for` answers of the checkpoint's low. The
-/// master has one more than the former count, and the epoch that the log is in. Each image meanwhile stands for the same state.
-/// It takes no memory: one read, and then four calls or six.
+/// master has one more than the former count, and the epoch that the log is in. Each image meanwhile stands for the same state,
+/// and from either place the same transactions are open, with the same stacks, and recovery gives the same table. It takes no
+/// memory: one read, and then four calls or six.
 ///
 /// Both errors come only where the rig's count of faults rose. After `Unread` all is as it was. After `Unwritten` the log begins
 /// at the one place or at the other until it is settled, and the instance has fallen.
@@ -65,9 +68,18 @@ pub fn put_master<G: Rig>(
     ensures good_fallen { result ≡ Err U.Unwritten → (m : State)
         → Good (G.seen c.old.rig) (G.leaves c.old.rig) Pending.Idle (parts c.old) m
         → Good (G.seen c.new.rig) (G.leaves c.new.rig) Pending.Idle (parts c.new) (fall i m) }
+    ensures good_either { result ≡ Err U.Unwritten → (m : State)
+        → Good (G.seen c.old.rig) (G.leaves c.old.rig) Pending.Idle (parts c.old) m
+        → Good (G.seen c.new.rig) (G.leaves c.new.rig) Pending.Idle (with_either i start (parts c.old)) m }
     ensures images { (m : State) → Good (G.seen c.old.rig) (G.leaves c.old.rig) Pending.Idle (parts c.old) m
         → Span (G.moment c.old.rig) (G.since c.new.rig) (Stands m Pending.Idle) }
     ensures time { Elapses (G.moment c.old.rig) (G.moment c.new.rig) (G.since c.old.rig) (G.since c.new.rig) }
+
+    ensures alike { OnOk result ((moved keeps : Keeps)
+        → ReadsAlike (storage_by (G.seen c.old.rig) (parts c.old) moved keeps) (storage_by (G.seen c.new.rig) (parts c.new) moved keeps)) }
+    ensures alike_either { result ≡ Err U.Unwritten → (moved keeps : Keeps)
+        → ReadsAlike (storage_by (G.seen c.old.rig) (parts c.old) moved keeps)
+        (storage_by (G.seen c.new.rig) (with_either i start (parts c.old)) moved keeps) }
 
     ensures put { OnOk result (parts c.new ≡ with_master i start (master (G.seen c.new.rig i)).count (parts c.old)) }
     ensures master { OnOk result (IsMasterPut (next_master (epoch_at (parts c.old) i) check start (master (G.seen c.old.rig i)))
@@ -127,9 +139,17 @@ fn put_over<G: Rig>(
         → Good (G.seen c.new.rig) (G.leaves c.new.rig) Pending.Idle (parts c.new) m) }
     ensures good_fallen { OnErr result ((m : State) → Good (G.seen c.old.rig) (G.leaves c.old.rig) Pending.Idle (parts c.old) m
         → Good (G.seen c.new.rig) (G.leaves c.new.rig) Pending.Idle (parts c.new) (fall i m)) }
+    ensures good_either { OnErr result ((m : State) → Good (G.seen c.old.rig) (G.leaves c.old.rig) Pending.Idle (parts c.old) m
+        → Good (G.seen c.new.rig) (G.leaves c.new.rig) Pending.Idle (with_either i next.now.start (parts c.old)) m) }
     ensures images { (m : State) → Good (G.seen c.old.rig) (G.leaves c.old.rig) Pending.Idle (parts c.old) m
         → Span (G.moment c.old.rig) (G.since c.new.rig) (Stands m Pending.Idle) }
     ensures time { Elapses (G.moment c.old.rig) (G.moment c.new.rig) (G.since c.old.rig) (G.since c.new.rig) }
+
+    ensures alike { OnOk result ((moved keeps : Keeps)
+        → ReadsAlike (storage_by (G.seen c.old.rig) (parts c.old) moved keeps) (storage_by (G.seen c.new.rig) (parts c.new) moved keeps)) }
+    ensures alike_either { OnErr result ((moved keeps : Keeps)
+        → ReadsAlike (storage_by (G.seen c.old.rig) (parts c.old) moved keeps)
+        (storage_by (G.seen c.new.rig) (with_either i next.now.start (parts c.old)) moved keeps)) }
 
     ensures put { OnOk result (parts c.new ≡ with_master i next.now.start next.now.count (parts c.old)) }
     ensures master { OnOk result (IsMasterPut (kept_master next.now) (G.seen c.new.rig i) (G.leaves c.new.rig i)) }

@@ -16,7 +16,10 @@ use Rattle.sd_state.specs.Parts.{Parts, epoch_at}
 use Rattle.sd_state.specs.Values.{Pending}
 use Rattle.sd_state.proofs.Items.{item-is}
 use Rattle.sd_state.proofs.LockReads.{unchanged-good, unchanged-stands}
+use Rattle.sd_chain.specs.Images.{Keeps}
+use Rattle.sd_ckpt.specs.Laws.{with_either}
 use Rattle.sd_ckpt.specs.Masters.{IsMasterOr, IsMasterPut, next_master, with_master}
+use Rattle.sd_ckpt.specs.Readings.{ReadsAlike, storage_by}
 use Rattle.sd_ckpt.proofs.MasterCalls.{both-ok, count-fits, good-by, next-by, not-unread, slots-fit}
 use Rattle.sd_ckpt.proofs.master.put_master.Goals as goal
 
@@ -357,3 +360,35 @@ returns-clause-count g c =
     let i : ℕ = c.args.i in
     let new = c.put_over.new.c.rig in
     subst (λ (n : ℕ). n ≤ r.faults new) c.in-Ok.ensures.quiet c.put_over.ensures.count
+
+pub returns-clause-good_either : goal.returns-clause-good_either
+returns-clause-good_either g c e m good =
+    let r = g.G.Rig in
+    let laws = g.met.G.Rig in
+    let old = c.args.c.now.rig in
+    let read = c.choose.new.rig in
+    let p : Parts = parts c.args.c.now in
+    err-by c.put_over.result _ _ e c.put_over.ensures.good_either m
+    (unchanged-good (r.seen old) (r.seen read) (r.leaves old) (r.leaves read) (r.moment old) (r.moment read) (r.since old)
+    (r.since read) c.choose.ensures.stays Pending.Idle p m good (λ d le. laws.leaves_seen read d le))
+
+pub returns-clause-alike : goal.returns-clause-alike
+returns-clause-alike g c =
+    let r = g.G.Rig in
+    let old = c.args.c.now.rig in
+    let read = c.choose.new.rig in
+    let new = c.put_over.new.c in
+    let p : Parts = parts c.args.c.now in
+    subst (λ (b : List ℕ). OnOk c.put_over.result ((moved keeps : Keeps) → ReadsAlike (storage_by (λ d. b) p moved keeps)
+    (storage_by (r.seen new.rig) (parts new) moved keeps))) (c.choose.ensures.stays.reads 0) c.put_over.ensures.alike
+
+pub returns-clause-alike_either : goal.returns-clause-alike_either
+returns-clause-alike_either g c e =
+    let r = g.G.Rig in
+    let old = c.args.c.now.rig in
+    let read = c.choose.new.rig in
+    let new = c.put_over.new.c in
+    let p : Parts = parts c.args.c.now in
+    subst (λ (b : List ℕ). (moved keeps : Keeps) → ReadsAlike (storage_by (λ d. b) p moved keeps)
+    (storage_by (r.seen new.rig) (with_either c.args.i c.args.start p) moved keeps)) (c.choose.ensures.stays.reads 0)
+    (err-by c.put_over.result _ _ e c.put_over.ensures.alike_either)

@@ -16,8 +16,11 @@ use Rattle.sd_state.specs.Good.{Good}
 use Rattle.sd_state.specs.Images.{Stands}
 use Rattle.sd_state.specs.Parts.{Parts, is_loose, status_at, txns_at}
 use Rattle.sd_state.specs.Values.{Pending}
+use Rattle.sd_chain.specs.Images.{Keeps}
+use Rattle.sd_ckpt.specs.Laws.{with_either}
 use Rattle.sd_ckpt.specs.Masters.{IsMasterOr, IsMasterPut}
-use Rattle.sd_ckpt.proofs.MasterCalls.{above-count, acts-by, put-done, put-either, put-good, put-images, put-left, slots-fit, start-small}
+use Rattle.sd_ckpt.specs.Readings.{ReadsAlike, storage_by}
+use Rattle.sd_ckpt.proofs.MasterCalls.{above-count, acts-by, put-alike, put-done, put-either, put-either-alike, put-good, put-images, put-left, slots-fit, start-small}
 use Rattle.sd_ckpt.proofs.PutStands.{was-ready}
 use Rattle.sd_ckpt.proofs.master.put_over.Goals as goal
 
@@ -505,3 +508,70 @@ returns-in-Err-clause-count g c =
     let next = c.args.next.now in
     subst (λ (d : g.row.G.Denot). r.faults old ≤ r.faults d) (sym (c.down.ensures.rig ∙ c.leave_either.ensures.rig))
     (c.put.ensures.count)
+
+pub returns-in-Ok-clause-alike : goal.returns-in-Ok-clause-alike
+returns-in-Ok-clause-alike g c =
+    let r = g.G.Rig in
+    let laws = g.met.G.Rig in
+    let old = c.args.c.now.rig in
+    let p : Parts = parts c.args.c.now in
+    let i : ℕ = c.args.i in
+    let low : 1 ≤ i = c.keeps.ensures.low in
+    let high : i ≤ 8 = c.keeps.ensures.high in
+    let mid = c.put.new.rig in
+    let next = c.args.next.now in
+    let m : State = c.requires.good.0 in
+    let good = c.requires.good.1 in
+    subst (λ (d : g.row.G.Denot). (moved keeps : Keeps) → ReadsAlike (storage_by (r.seen old) p moved keeps)
+    (storage_by (r.seen d) (parts c.begin_log.new.c) moved keeps)) (sym c.begin_log.ensures.rig)
+    (subst (λ (q : Parts). (moved keeps : Keeps) → ReadsAlike (storage_by (r.seen old) p moved keeps)
+    (storage_by (r.seen mid) q moved keeps)) (sym c.begin_log.ensures.parts)
+    (put-alike i next.check next.start next.count c.spell-body.result c.twin_of.result c.twin_of.ensures (r.seen old) (r.seen mid)
+    (r.leaves old) (r.leaves mid)
+    p m low high good (λ d le. laws.leaves_seen old d le) c.requires.idle c.requires.may c.spell-body.ensures.well
+    (c.spell-body.ensures.is ∙ c.requires.next) (r.moment old) (r.since mid) c.put.ensures.any_moment
+    c.put.ensures.others c.put.ensures.others_leave (λ d le. laws.leaves_seen mid d le)
+    (λ img left. laws.counts_now mid
+    (r.moment old) img c.put.ensures.time.later left) c.in-Ok.ensures.body c.in-Ok.ensures.durable c.spell-body.ensures.number))
+
+pub returns-in-Err-clause-good_either : goal.returns-in-Err-clause-good_either
+returns-in-Err-clause-good_either g c m good =
+    let r = g.G.Rig in
+    let laws = g.met.G.Rig in
+    let old = c.args.c.now.rig in
+    let p : Parts = parts c.args.c.now in
+    let i : ℕ = c.args.i in
+    let low : 1 ≤ i = c.keeps.ensures.low in
+    let high : i ≤ 8 = c.keeps.ensures.high in
+    let mid = c.put.new.rig in
+    let next = c.args.next.now in
+    subst (λ (d : g.row.G.Denot). Good (r.seen d) (r.leaves d) Pending.Idle (with_either i next.start p) m)
+    (sym (c.down.ensures.rig ∙ c.leave_either.ensures.rig))
+    (put-either i next.check next.start next.count c.spell-body.result c.twin_of.result c.twin_of.ensures (r.seen old)
+    (r.seen mid) (r.leaves old) (r.leaves mid)
+    p m low high good (λ d le. laws.leaves_seen old d le) c.requires.idle c.requires.may c.spell-body.ensures.well
+    (c.spell-body.ensures.is ∙ c.requires.next) (r.moment old) (r.since mid) c.put.ensures.any_moment
+    c.put.ensures.others c.put.ensures.others_leave (λ d le. laws.leaves_seen mid d le)
+    (λ img left. laws.counts_now mid (r.moment old) img c.put.ensures.time.later left))
+
+pub returns-in-Err-clause-alike_either : goal.returns-in-Err-clause-alike_either
+returns-in-Err-clause-alike_either g c =
+    let r = g.G.Rig in
+    let laws = g.met.G.Rig in
+    let old = c.args.c.now.rig in
+    let p : Parts = parts c.args.c.now in
+    let i : ℕ = c.args.i in
+    let low : 1 ≤ i = c.keeps.ensures.low in
+    let high : i ≤ 8 = c.keeps.ensures.high in
+    let mid = c.put.new.rig in
+    let next = c.args.next.now in
+    let m : State = c.requires.good.0 in
+    let good = c.requires.good.1 in
+    subst (λ (d : g.row.G.Denot). (moved keeps : Keeps) → ReadsAlike (storage_by (r.seen old) p moved keeps)
+    (storage_by (r.seen d) (with_either i next.start p) moved keeps)) (sym (c.down.ensures.rig ∙ c.leave_either.ensures.rig))
+    (put-either-alike i next.check next.start next.count c.spell-body.result c.twin_of.result c.twin_of.ensures (r.seen old)
+    (r.seen mid) (r.leaves old) (r.leaves mid)
+    p m low high good (λ d le. laws.leaves_seen old d le) c.requires.idle c.requires.may c.spell-body.ensures.well
+    (c.spell-body.ensures.is ∙ c.requires.next) (r.moment old) (r.since mid) c.put.ensures.any_moment
+    c.put.ensures.others c.put.ensures.others_leave (λ d le. laws.leaves_seen mid d le)
+    (λ img left. laws.counts_now mid (r.moment old) img c.put.ensures.time.later left))
