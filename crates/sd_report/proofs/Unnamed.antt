@@ -3,6 +3,7 @@ use Rattle.std.proofs.Common.{◌≡◌, ℕ, zero, suc, ◌-◌, Bool, true, fa
 use Rattle.std.specs.Prelude.{Option, None, Some, slice_get, filter, codes, eqb}
 use Rattle.std.specs.Fmt.{decimal}
 use Rattle.std.specs.List.{flat_map, list_any}
+use Rattle.sd_base.specs.declared.ids.TxnId.{TxnId}
 use Rattle.sd_base.specs.declared.refusal.Refusal.{Refusal}
 use Rattle.sd_base.specs.declared.refusal.Refusal.TheVariants as refusal
 use Rattle.sd_model.specs.declared.event.Event.{Event}
@@ -16,7 +17,7 @@ use Rattle.sd_script.specs.Forms.{pick_word}
 use Rattle.sd_report.specs.Words.{line_of, NamesOf}
 use Rattle.sd_report.specs.Refusals.{refusal_text, tells_txn}
 use Rattle.sd_report.specs.Replies.{no_reply, pulled_text, reply_text, last_text, words_of, behind_words, last_behind_words, behind_all, last_behind_all}
-use Rattle.sd_report.specs.Report.{all_line, echo_line, entries_of, gathered, join_line, last_entry, listed, page_line, recover_line, reply_tells_txn, reported, table_lines, tell_txns, txn_line}
+use Rattle.sd_report.specs.Report.{all_line, echo_line, entries_of, gathered, join_line, last_entry, listed, lost_undo, page_line, recover_line, reply_tells_txn, reported, reported_by, reported_in, rolled_name, table_lines, tell_txns, txn_line}
 
 neither : (a b : Bool) → (a || b) ≡ false → (a ≡ false) × (b ≡ false)
 neither true b e = absurd (cc)
@@ -152,6 +153,8 @@ module _ (f g : NamesOf) (own : List Entry) (none : tell_txns own ≡ false) whe
   same_line (form.Evict inst page) = same_page_line inst (form.Evict inst page)
   same_line (form.Flush inst page) = same_page_line inst (form.Flush inst page)
   same_line (form.Force inst) = same_page_line inst (form.Force inst)
+  same_line (form.CheckBegin inst) = same_page_line inst (form.CheckBegin inst)
+  same_line (form.CheckEnd inst) = same_page_line inst (form.CheckEnd inst)
   same_line (form.Fail inst) = same_echo_line (codes "fail " ++ decimal inst)
   same_line (form.Fuse calls) = same_echo_line (codes "fuse " ++ decimal calls)
   same_line (form.Fault call) = same_echo_line (codes "fault " ++ decimal call)
@@ -164,7 +167,15 @@ module _ (f g : NamesOf) (own : List Entry) (none : tell_txns own ≡ false) whe
   same_line (form.Where page) = same_page_line page (form.Where page)
   same_line form.Table = same_table f g own (last_entry own) (last_plain own none)
 
+  same_told : (all : List Entry) (of : Form) → reported_in f all of own ≡ reported_in g all of own
+  same_told all of = go (rolled_name of) (lost_undo (last_entry own))
+    where
+      go : (name : Option (List ℕ)) (lost : Option (TxnId × ℕ)) → reported_by f all of own name lost ≡ reported_by g all of own name lost
+      go None lost = same_line of
+      go (Some name) None = same_line of
+      go (Some name) (Some lost) = refl
+
 pub same_report : (f g : NamesOf) (lines : List Line) (entries : List Entry) → tell_txns entries ≡ false
-    → gathered (reported f) lines entries ≡ gathered (reported g) lines entries
-same_report f g lines entries none = λ i. flat_map (λ (line : Line). same_line f g (entries_of line.number entries)
-    (none_filtered (λ e. reply_tells_txn e.reply) (λ e. eqb e.line line.number) entries none) line.form i) lines
+    → gathered (reported_in f entries) lines entries ≡ gathered (reported_in g entries) lines entries
+same_report f g lines entries none = λ i. flat_map (λ (line : Line). same_told f g (entries_of line.number entries)
+    (none_filtered (λ e. reply_tells_txn e.reply) (λ e. eqb e.line line.number) entries none) entries line.form i) lines

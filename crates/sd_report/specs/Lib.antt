@@ -1,4 +1,5 @@
 pub mod Report
+pub mod Undone
 pub mod Words
 pub mod Refusals
 pub mod Places

@@ -7,7 +7,9 @@ use Rattle.sd_base.specs.Ids.{same_txn}
 use Rattle.sd_base.specs.declared.ids.TxnId.{TxnId}
 use Rattle.sd_base.specs.declared.ids.Rid.{Rid}
 use Rattle.sd_base.specs.declared.refusal.LineError.{LineError}
+use Rattle.sd_base.specs.declared.refusal.Refusal.TheVariants as refusal
 use Rattle.sd_model.specs.declared.event.Event.{Event}
+use Rattle.sd_model.specs.declared.event.Event.TheVariants as event
 use Rattle.sd_model.specs.declared.event.Reply.{Reply}
 use Rattle.sd_model.specs.declared.event.Reply.TheVariants as reply
 use Rattle.sd_model.specs.declared.event.Entry.{Entry}
@@ -16,7 +18,8 @@ use Rattle.sd_script.specs.declared.line.Form.TheVariants as form
 use Rattle.sd_script.specs.declared.line.Line.{Line}
 use Rattle.sd_script.specs.Forms.{form_words, pick_word, rid_word}
 use Rattle.sd_report.specs.Words.{line_of, NamesOf, no_names}
-use Rattle.sd_report.specs.Refusals.{refusal_text, cause_word, tells_txn}
+use Rattle.sd_report.specs.Refusals.{refusal_text, cause_word, page_text, tells_txn}
+use Rattle.sd_report.specs.Undone.{last_page}
 use Rattle.sd_report.specs.Replies.{no_reply, pulled_text, last_text, words_of, last_behind_words, last_behind_all}
 
 -- the entries of a line are those that carry its number; those of line 0 are of no line
@@ -100,6 +103,8 @@ reported names (form.Take inst page) entries = page_line names inst (form.Take i
 reported names (form.Evict inst page) entries = page_line names inst (form.Evict inst page) entries
 reported names (form.Flush inst page) entries = page_line names inst (form.Flush inst page) entries
 reported names (form.Force inst) entries = page_line names inst (form.Force inst) entries
+reported names (form.CheckBegin inst) entries = page_line names inst (form.CheckBegin inst) entries
+reported names (form.CheckEnd inst) entries = page_line names inst (form.CheckEnd inst) entries
 reported names (form.Fail inst) entries = echo_line names (codes "fail " ++ decimal inst) entries
 reported names (form.Fuse calls) entries = echo_line names (codes "fuse " ++ decimal calls) entries
 reported names (form.Fault call) entries = echo_line names (codes "fault " ++ decimal call) entries
@@ -137,9 +142,39 @@ given f entries = given_last f (last_entry entries)
 abbrev pub names_of : List Line → List Entry → NamesOf
 names_of lines entries = update_all same_txn no_names (gathered given lines entries)
 
+-- the entries up to those of this line
+abbrev pub upto : ℕ → List Entry → List Entry
+upto number [] = []
+upto number (entry ∷ entries) = cond {A = List Entry} (ltb number entry.line) [] (entry ∷ upto number entries)
+
+-- the name in a line that rolls a transaction back, to a mark or wholly
+abbrev pub rolled_name : Form → Option (List ℕ)
+rolled_name (form.Back name ordinal mark) = Some name
+rolled_name (form.Rollback name ordinal) = Some name
+rolled_name f = None
+
+-- the transaction of an undo that was refused, since its page is lost, and the line of the entry
+abbrev pub lost_at : ℕ → Event → Reply → Option (TxnId × ℕ)
+lost_at line (event.Undo txn) (reply.Refused refusal.Lost) = Some (txn, line)
+lost_at line e r = None
+
+abbrev pub lost_undo : Option Entry → Option (TxnId × ℕ)
+lost_undo None = None
+lost_undo (Some entry) = lost_at entry.line entry.event entry.reply
+
+-- A rollback whose next undo needs a page that is lost tells which page, that of the newest change of its transaction that isn't undone;
+-- of all else what is reported is told by the line's own entries. all: the entries of the book
+abbrev pub reported_by : NamesOf → List Entry → Form → List Entry → Option (List ℕ) → Option (TxnId × ℕ) → List ℕ
+reported_by names all f entries (Some name) (Some lost) =
+    line_of (name ∷ (codes "lost" ++ page_text (last_page lost.0 (upto lost.1 all))) ∷ [])
+reported_by names all f entries name lost = reported names f entries
+
+abbrev pub reported_in : NamesOf → List Entry → Form → List Entry → List ℕ
+reported_in names all f entries = reported_by names all f entries (rolled_name f) (lost_undo (last_entry entries))
+
 -- the report of a script by the entries of its book
 abbrev pub report : List Line → List Entry → List ℕ
-report lines entries = gathered (reported (names_of lines entries)) lines entries
+report lines entries = gathered (reported_in (names_of lines entries) entries) lines entries
 
 -- what is reported of a text that is no script: its first bad line, and what is wrong with it
 abbrev pub bad_text : ℕ → LineError → List ℕ
@@ -168,11 +203,7 @@ abbrev pub AreAbove : ℕ → List Line → Type 0
 AreAbove low [] = Unit {0}
 AreAbove low (line ∷ lines) = (low < line.number) × AreAbove line.number lines
 
--- the entries up to those of this line, and those behind them, from the first of a later line on
-abbrev pub upto : ℕ → List Entry → List Entry
-upto number [] = []
-upto number (entry ∷ entries) = cond {A = List Entry} (ltb number entry.line) [] (entry ∷ upto number entries)
-
+-- the entries behind those of this line, from the first of a later line on
 abbrev pub behind : ℕ → List Entry → List Entry
 behind number [] = []
 behind number (entry ∷ entries) = cond {A = List Entry} (ltb number entry.line) (entry ∷ entries) (behind number entries)

@@ -30,6 +30,7 @@ mod report;
 mod shorts;
 mod summing;
 mod txn_names;
+mod undone;
 mod words;
 
 pub use order::in_order;

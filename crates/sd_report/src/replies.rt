@@ -195,6 +195,8 @@ pub fn push_words(out: &mut Vec<u8>, form: &Form, reply: &Reply) -> Result<(), M
         Form::Evict { page, .. } => push_on_page(out, b"evicted ", *page, reply),
         Form::Flush { page, .. } => push_on_page(out, b"flushed ", *page, reply),
         Form::Force { .. } => push_done(out, b"forced", reply),
+        Form::CheckBegin { .. } => push_done(out, b"check begin", reply),
+        Form::CheckEnd { .. } => push_done(out, b"check end", reply),
         Form::Recover { by, .. } => push_recovered(out, *by, reply),
         Form::Join { .. } => push_joined(out, reply),
         Form::Where { .. } => push_shown(out, reply),

@@ -9,20 +9,22 @@ ghost use Rattle.sd_script.specs.Forms.{pick_word, rid_word};
 ghost use Rattle.sd_model.specs.Shorts.{line_entry};
 ghost use Rattle.sd_report.specs.Names.{name_in};
 ghost use Rattle.sd_report.specs.Words.{line_of, no_names};
-ghost use Rattle.sd_report.specs.Refusals.{refusal_text};
+ghost use Rattle.sd_report.specs.Refusals.{page_text, refusal_text};
+ghost use Rattle.sd_report.specs.Undone.{last_page};
 ghost use Rattle.sd_report.specs.Replies.{no_reply, pulled_text, last_text, words_of, last_behind_all, last_behind_words};
-ghost use Rattle.sd_report.specs.Report.{AreAbove, AreFrom, bad_text, damaged_text, entries_of, gathered, last_entry, reply_tells_txn, report, reported, row_line, rows_in, table_rows, tell_txns, upto};
+ghost use Rattle.sd_report.specs.Report.{AreAbove, AreFrom, bad_text, damaged_text, entries_of, gathered, last_entry, lost_undo, reply_tells_txn, report, reported, reported_by, reported_in, rolled_name, row_line, rows_in, table_rows, tell_txns, upto};
 ghost use Rattle.sd_model.specs.Booked.{entries_in, seen_entry};
 
 use crate::naming::known_names;
 use crate::parting::part_at;
+use crate::undone::last_page;
 use crate::{
     TxnNames, cause_name, push_before, push_behind_all, push_behind_words, push_counted, push_end,
     push_first, push_next, push_number, push_page_reply, push_pulled, push_recovery_reply,
     push_rid, push_short_words, push_txn_reply, push_word,
 };
-use sd_base::{Bytes, InstNo, LineError, Memory, Pick, Refusal, Rid, Word};
-use sd_model::{Book, Entry, LineEntry, Reply, Seen, Told};
+use sd_base::{Bytes, InstNo, LineError, Memory, Pick, Refusal, Rid, TxnId, Word};
+use sd_model::{Book, Entry, Event, LineEntry, Reply, Seen, Told};
 use sd_script::{Form, Line};
 use std::alloc::Global;
 
@@ -369,7 +371,9 @@ fn push_form(
         | Form::Take { inst, .. }
         | Form::Evict { inst, .. }
         | Form::Flush { inst, .. }
-        | Form::Force { inst } => push_page_line(out, names, u64::from(inst.get()), form, last),
+        | Form::Force { inst }
+        | Form::CheckBegin { inst }
+        | Form::CheckEnd { inst } => push_page_line(out, names, u64::from(inst.get()), form, last),
         Form::Fail { inst } => push_echo_line(out, names, b"fail ", u64::from(inst.get()), last),
         Form::Fuse { calls } => push_echo_line(out, names, b"fuse ", u64::from(*calls), last),
         Form::Fault { call } => push_echo_line(out, names, b"fault ", u64::from(*call), last),
@@ -381,6 +385,100 @@ fn push_form(
         Form::JoinAll => push_all_line(out, names, b"join all", last),
         Form::Where { page } => push_page_line(out, names, u64::from(page.get()), form, last),
         Form::Table => push_table(out, names, line.number, last, entries),
+    }
+}
+
+// What is reported of a line by the last of its entries, which are the first of `rest`; `all` are those of the book.
+fn push_told(
+    alloc: Global,
+    out: &mut Vec<u8>,
+    names: &TxnNames,
+    line: &Line,
+    last: Option<Seen<'_>>,
+    rest: Told<'_>,
+    all: Told<'_>,
+) -> Result<(), Memory>
+    requires number { 0 < line.now.number }
+    requires last { option_map seen_entry last ≡ last_entry (entries_of line.now.number (upto line.now.number (entries_in rest))) }
+    ensures { OnOk result (out.new.items ≡ out.old.items ++ reported_in (name_in names.now) (entries_in all.entry) line.now.form
+        (entries_of line.now.number (upto line.now.number (entries_in rest.entry)))) }
+{
+    match rolled_name(&line.form) {
+        Some(name) => push_rolled(alloc, out, names, line, name, last, rest, all),
+        None => push_line(alloc, out, names, line, last, rest),
+    }
+}
+
+// The same of a line that rolls the transaction of this name back.
+fn push_rolled(
+    alloc: Global,
+    out: &mut Vec<u8>,
+    names: &TxnNames,
+    line: &Line,
+    name: &Word,
+    last: Option<Seen<'_>>,
+    rest: Told<'_>,
+    all: Told<'_>,
+) -> Result<(), Memory>
+    requires number { 0 < line.now.number }
+    requires last { option_map seen_entry last ≡ last_entry (entries_of line.now.number (upto line.now.number (entries_in rest))) }
+    ensures { OnOk result (out.new.items ≡ out.old.items ++ reported_by (name_in names.now) (entries_in all.entry) line.now.form
+        (entries_of line.now.number (upto line.now.number (entries_in rest.entry))) (Some name.now)
+        (lost_undo (last_entry (entries_of line.now.number (upto line.now.number (entries_in rest.entry)))))) }
+{
+    match lost_undo(last) {
+        Some((txn, number)) => push_lost(alloc, out, name, &txn, number, all),
+        None => push_line(alloc, out, names, line, last, rest),
+    }
+}
+
+// The line of a rollback whose next undo needs a page that is lost.
+fn push_lost(
+    alloc: Global,
+    out: &mut Vec<u8>,
+    name: &Word,
+    txn: &TxnId,
+    number: u32,
+    all: Told<'_>,
+) -> Result<(), Memory>
+    ensures { OnOk result (out.new.items ≡ out.old.items ++ line_of (name.now
+        ∷ (codes "lost" ++ page_text (last_page txn.now (upto number (entries_in all.entry)))) ∷ [])) }
+{
+    let page = last_page(alloc, txn, number, all)?;
+    push_first(out, name.items())
+        .and(push_lost_page(out, page))
+        .and(push_end(out))
+}
+
+fn push_lost_page(out: &mut Vec<u8>, page: Option<u16>) -> Result<(), Memory>
+    ensures { OnOk result (out.new.items ≡ out.old.items ++ codes "lost" ++ page_text page) }
+{
+    match page {
+        Some(page) => push_counted(out, b"lost ", u64::from(page)),
+        None => push_word(out, b"lost"),
+    }
+}
+
+// The name in a line that rolls a transaction back.
+fn rolled_name(form: &Form) -> Option<&Word>
+    ensures { option_copied result ≡ rolled_name form.now }
+{
+    match form {
+        Form::Back { name, .. } | Form::Rollback { name, .. } => Some(name),
+        _ => None,
+    }
+}
+
+// The transaction and the line of an undo whose page is lost, where that is the last entry.
+fn lost_undo(last: Option<Seen<'_>>) -> Option<(TxnId, u32)>
+    ensures { result ≡ lost_undo (option_map seen_entry last.entry) }
+{
+    match last {
+        Some(Seen::Whole(entry)) => match (&entry.event, &entry.reply) {
+            (Event::Undo { txn }, Reply::Refused(Refusal::Lost)) => Some((*txn, entry.line)),
+            _ => None,
+        },
+        _ => None,
     }
 }
 
@@ -413,7 +511,7 @@ fn any_whole_tells(entries: &[Entry]) -> bool
 fn names_for(alloc: Global, lines: &[Line], entries: Told<'_>) -> Result<TxnNames, Memory>
     requires lines { AreAbove 0 lines.now }
     requires entries { AreFrom 0 (entries_in entries) }
-    ensures { IfOk result (λ names. gathered (reported (name_in names)) lines.now (entries_in entries.entry)
+    ensures { IfOk result (λ names. gathered (reported_in (name_in names) (entries_in entries.entry)) lines.now (entries_in entries.entry)
         ≡ report lines.now (entries_in entries.entry)) }
 {
     // What is kept in few bytes tells none.
@@ -425,7 +523,8 @@ fn names_for(alloc: Global, lines: &[Line], entries: Told<'_>) -> Result<TxnName
 }
 
 /// The report of the script's lines by these entries: each line prints the last reply of the entries that carry
-/// its number, a table line the rows of all of them. `Memory` comes where there is none.
+/// its number, a table line the rows of all of them; a rollback whose next undo needs a page that is lost tells the page.
+/// `Memory` comes where there is none.
 pub fn render(alloc: Global, lines: &[Line], entries: Told<'_>) -> Result<Vec<u8>, Memory>
     requires lines { AreAbove 0 lines.now }
     requires entries { AreFrom 0 (entries_in entries) }
@@ -436,7 +535,7 @@ pub fn render(alloc: Global, lines: &[Line], entries: Told<'_>) -> Result<Vec<u8
     let mut rest = entries;
     for line in lines {
         let (last, others) = part_at(line.number, rest);
-        push_line(alloc, &mut out, &names, line, last, rest)?;
+        push_told(alloc, &mut out, &names, line, last, rest, entries)?;
         rest = others;
     }
     Ok(out)

@@ -13,6 +13,9 @@ use Rattle.sd_script.specs.Causes.{Fit, IsMisplaced, Passes}
 use Rattle.sd_script.specs.Forms.{IsForm, form_words}
 use Rattle.sd_script.specs.Kinds.{parts_of}
 use Rattle.sd_script.specs.Order.{Follows, table_count}
+use Rattle.sd_script.specs.Words.{plain, plain_number}
+use Rattle.sd_script.proofs.Plain.{plain_add, plain_of_verb, plain_same}
+use Rattle.sd_script.proofs.Shapes.{no_verb}
 
 -- as many words fit as there are parts
 pub fit_length : (lines : List Line) (c : LineError) (parts : List Part) (before : List ℕ) (words : List (List ℕ))
@@ -22,9 +25,9 @@ fit_length lines c [] before (w ∷ words) fit = absurd fit
 fit_length lines c (p ∷ parts) before [] fit = absurd fit
 fit_length lines c (p ∷ parts) before (w ∷ words) fit = omega (arith, fit_length lines c parts w words fit.1)
 
--- a form that may stand behind these lines, and has these words
+-- a form that may stand behind these lines, and that these words spell
 abbrev pub Made : List Line → List (List ℕ) → Type 0
-Made lines words = (f : Form) × IsForm f × Follows lines f × (form_words f ≡ words)
+Made lines words = (f : Form) × IsForm f × Follows lines f × (form_words f ≡ plain words)
 
 -- a line of another word than that of a complex line isn't the first
 later : (lines : List Line) (word first : List ℕ) (rest : List (List ℕ)) → ¬ IsMisplaced lines (first ∷ rest) → first ≡ word
@@ -48,7 +51,8 @@ made_complex lines a b c d placed f =
       form.Complex insts.0 pages.0 frames.0,
       ((insts.1, omega (arith, insts.2)), (pages.1, omega (arith, pages.2)), (frames.1, omega (arith, frames.2))),
       first_alone lines a b c d placed f.0.0,
-      λ k. sym f.0.0 k ∷ insts.3 k ∷ pages.3 k ∷ frames.3 k ∷ [],
+      let words : form_words (form.Complex insts.0 pages.0 frames.0) ≡ a ∷ b ∷ c ∷ d ∷ [] = λ k. sym f.0.0 k ∷ insts.3 k ∷ pages.3 k ∷ frames.3 k ∷ [] in
+          words ∙ sym (plain_of_verb a b c d (codes "complex") f.0.0 (λ e. omega (arith, e))),
     )
 
 made_begin : (lines : List Line) (a b c : List ℕ)
@@ -70,7 +74,12 @@ made_write : (lines : List Line) (a b c d : List ℕ)
 made_write lines a b c d f =
     let name = f.1.0 in
     let rid = f.1.1.0.3 in
-    (form.Write b name.5.0 rid.0 d, (name.2, rid.1, f.1.1.1.0.0), (name.5.1, rid.2), λ k. sym f.0.0 k ∷ b ∷ rid.3 k ∷ d ∷ [])
+    let words : form_words (form.Write b name.5.0 rid.0 d) ≡ a ∷ b ∷ c ∷ d ∷ [] = λ k. sym f.0.0 k ∷ b ∷ rid.3 k ∷ d ∷ [] in (
+      form.Write b name.5.0 rid.0 d,
+      (name.2, rid.1, f.1.1.1.0.0),
+      (name.5.1, rid.2),
+      words ∙ sym (plain_of_verb a b c d (codes "write") f.0.0 (λ e. omega (arith, e))),
+    )
 
 made_add : (lines : List Line) (a b c d : List ℕ)
     → Passes lines (a ∷ b ∷ c ∷ d ∷ []) cause.Unknown kind.Add → Made lines (a ∷ b ∷ c ∷ d ∷ [])
@@ -78,7 +87,12 @@ made_add lines a b c d f =
     let name = f.1.0 in
     let rid = f.1.1.0.3 in
     let amount = f.1.1.1.0.1 in
-    (form.Add b name.5.0 rid.0 amount.0, (name.2, rid.1, amount.1), (name.5.1, rid.2), λ k. sym f.0.0 k ∷ b ∷ rid.3 k ∷ amount.2 k ∷ [])
+    let words : form_words (form.Add b name.5.0 rid.0 amount.0) ≡ a ∷ b ∷ c ∷ plain_number d ∷ [] = λ k. sym f.0.0 k ∷ b ∷ rid.3 k ∷ amount.2 k ∷ [] in (
+      form.Add b name.5.0 rid.0 amount.0,
+      (name.2, rid.1, amount.1),
+      (name.5.1, rid.2),
+      words ∙ sym (plain_add a b c d f.0.0),
+    )
 
 made_delete : (lines : List Line) (a b c : List ℕ)
     → Passes lines (a ∷ b ∷ c ∷ []) cause.Unknown kind.Delete → Made lines (a ∷ b ∷ c ∷ [])
@@ -92,7 +106,12 @@ made_insert : (lines : List Line) (a b c d : List ℕ)
 made_insert lines a b c d f =
     let name = f.1.0 in
     let page = f.1.1.0.3 in
-    (form.Insert b name.5.0 page.0 d None, (name.2, page.1, f.1.1.1.0.0, tt), (name.5.1, page.2), λ k. sym f.0.0 k ∷ b ∷ page.3 k ∷ d ∷ [])
+    let words : form_words (form.Insert b name.5.0 page.0 d None) ≡ a ∷ b ∷ c ∷ d ∷ [] = λ k. sym f.0.0 k ∷ b ∷ page.3 k ∷ d ∷ [] in (
+      form.Insert b name.5.0 page.0 d None,
+      (name.2, page.1, f.1.1.1.0.0, tt),
+      (name.5.1, page.2),
+      words ∙ sym (plain_of_verb a b c d (codes "insert") f.0.0 (λ e. omega (arith, e))),
+    )
 
 made_insert_with_capacity : (lines : List Line) (a b c d e : List ℕ)
     → Passes lines (a ∷ b ∷ c ∷ d ∷ e ∷ []) cause.Unknown kind.InsertWithCapacity → Made lines (a ∷ b ∷ c ∷ d ∷ e ∷ [])
@@ -136,7 +155,12 @@ made_ask lines a b c d f =
     let inst = f.0.3 in
     let page = f.1.1.0.3 in
     let mode = f.1.1.1.0.0 in
-    (form.Ask inst.0 page.0 mode.0, (inst.1, page.1), (inst.2, page.2), λ k. inst.3 k ∷ sym f.1.0.0 k ∷ page.3 k ∷ mode.1 k ∷ [])
+    let words : form_words (form.Ask inst.0 page.0 mode.0) ≡ a ∷ b ∷ c ∷ d ∷ [] = λ k. inst.3 k ∷ sym f.1.0.0 k ∷ page.3 k ∷ mode.1 k ∷ [] in (
+      form.Ask inst.0 page.0 mode.0,
+      (inst.1, page.1),
+      (inst.2, page.2),
+      words ∙ sym (plain_same a b c d (λ e. no_verb inst.0 inst.1 (codes "add") (omega arith) (inst.3 ∙ e))),
+    )
 
 made_give : (lines : List Line) (a b c : List ℕ)
     → Passes lines (a ∷ b ∷ c ∷ []) cause.Unknown kind.Give → Made lines (a ∷ b ∷ c ∷ [])
@@ -171,6 +195,18 @@ made_force : (lines : List Line) (a b : List ℕ)
 made_force lines a b f =
     let inst = f.0.3 in
     (form.Force inst.0, inst.1, inst.2, λ k. inst.3 k ∷ sym f.1.0.0 k ∷ [])
+
+made_check_begin : (lines : List Line) (a b c : List ℕ)
+    → Passes lines (a ∷ b ∷ c ∷ []) cause.Unknown kind.CheckBegin → Made lines (a ∷ b ∷ c ∷ [])
+made_check_begin lines a b c f =
+    let inst = f.0.3 in
+    (form.CheckBegin inst.0, inst.1, inst.2, λ k. inst.3 k ∷ sym f.1.0.0 k ∷ sym f.1.1.0.0 k ∷ [])
+
+made_check_end : (lines : List Line) (a b c : List ℕ)
+    → Passes lines (a ∷ b ∷ c ∷ []) cause.Unknown kind.CheckEnd → Made lines (a ∷ b ∷ c ∷ [])
+made_check_end lines a b c f =
+    let inst = f.0.3 in
+    (form.CheckEnd inst.0, inst.1, inst.2, λ k. inst.3 k ∷ sym f.1.0.0 k ∷ sym f.1.1.0.0 k ∷ [])
 
 made_fail : (lines : List Line) (a b : List ℕ)
     → Passes lines (a ∷ b ∷ []) cause.Unknown kind.Fail → Made lines (a ∷ b ∷ [])
@@ -210,7 +246,12 @@ made_recover : (lines : List Line) (a b c d : List ℕ)
 made_recover lines a b c d f =
     let inst = f.1.0.3 in
     let by = f.1.1.1.0.3 in
-    (form.Recover inst.0 by.0 None, (inst.1, by.1, tt), by.2, λ k. sym f.0.0 k ∷ inst.2 k ∷ sym f.1.1.0.0 k ∷ by.3 k ∷ [])
+    let words : form_words (form.Recover inst.0 by.0 None) ≡ a ∷ b ∷ c ∷ d ∷ [] = λ k. sym f.0.0 k ∷ inst.2 k ∷ sym f.1.1.0.0 k ∷ by.3 k ∷ [] in (
+      form.Recover inst.0 by.0 None,
+      (inst.1, by.1, tt),
+      by.2,
+      words ∙ sym (plain_of_verb a b c d (codes "recover") f.0.0 (λ e. omega (arith, e))),
+    )
 
 made_recover_in_steps : (lines : List Line) (a b c d e : List ℕ)
     → Passes lines (a ∷ b ∷ c ∷ d ∷ e ∷ []) cause.Unknown kind.RecoverInSteps → Made lines (a ∷ b ∷ c ∷ d ∷ e ∷ [])
@@ -275,6 +316,8 @@ made lines (a ∷ b ∷ c ∷ []) kind.Take placed room f = made_take lines a b 
 made lines (a ∷ b ∷ c ∷ []) kind.Evict placed room f = made_evict lines a b c f
 made lines (a ∷ b ∷ c ∷ []) kind.Flush placed room f = made_flush lines a b c f
 made lines (a ∷ b ∷ []) kind.Force placed room f = made_force lines a b f
+made lines (a ∷ b ∷ c ∷ []) kind.CheckBegin placed room f = made_check_begin lines a b c f
+made lines (a ∷ b ∷ c ∷ []) kind.CheckEnd placed room f = made_check_end lines a b c f
 made lines (a ∷ b ∷ []) kind.Fail placed room f = made_fail lines a b f
 made lines (a ∷ b ∷ []) kind.Join placed room f = made_join lines a b f
 made lines (a ∷ b ∷ []) kind.Fuse placed room f = made_fuse lines a b placed f
@@ -305,6 +348,8 @@ made lines words kind.Take placed room f = absurd (omega (arith, fit_length line
 made lines words kind.Evict placed room f = absurd (omega (arith, fit_length lines cause.Unknown (parts_of kind.Evict) [] words f))
 made lines words kind.Flush placed room f = absurd (omega (arith, fit_length lines cause.Unknown (parts_of kind.Flush) [] words f))
 made lines words kind.Force placed room f = absurd (omega (arith, fit_length lines cause.Unknown (parts_of kind.Force) [] words f))
+made lines words kind.CheckBegin placed room f = absurd (omega (arith, fit_length lines cause.Unknown (parts_of kind.CheckBegin) [] words f))
+made lines words kind.CheckEnd placed room f = absurd (omega (arith, fit_length lines cause.Unknown (parts_of kind.CheckEnd) [] words f))
 made lines words kind.Fail placed room f = absurd (omega (arith, fit_length lines cause.Unknown (parts_of kind.Fail) [] words f))
 made lines words kind.Join placed room f = absurd (omega (arith, fit_length lines cause.Unknown (parts_of kind.Join) [] words f))
 made lines words kind.Fuse placed room f = absurd (omega (arith, fit_length lines cause.Unknown (parts_of kind.Fuse) [] words f))

@@ -14,7 +14,7 @@ use Rattle.sd_script.specs.declared.kinds.Part.TheVariants as part
 use Rattle.sd_script.specs.declared.kinds.LineKind.{LineKind}
 use Rattle.sd_script.specs.declared.kinds.LineKind.TheVariants as kind
 use Rattle.sd_script.specs.declared.line.Form.{Form}
-use Rattle.sd_script.specs.declared.line.Form.TheVariants.{Complex, Begin, Read, Write, Add, Insert, Delete, Save, Back, Rollback, Commit, Ask, Give, Take, Evict, Flush, Force, Fail, Fuse, Fault, FailAll, Recover, Join, Reopen, RecoverAll, JoinAll, Where, Table}
+use Rattle.sd_script.specs.declared.line.Form.TheVariants.{Complex, Begin, Read, Write, Add, Insert, Delete, Save, Back, Rollback, Commit, Ask, Give, Take, Evict, Flush, Force, CheckBegin, CheckEnd, Fail, Fuse, Fault, FailAll, Recover, Join, Reopen, RecoverAll, JoinAll, Where, Table}
 use Rattle.sd_script.specs.declared.line.Line.{Line}
 use Rattle.sd_script.specs.Causes.{ArePrinted, Fit, Holds, IsAllowed, IsCause, IsFirst, IsMisplaced, Passes, Suits, rank}
 use Rattle.sd_script.specs.Forms.{IsAmount, IsDigit, IsForm, IsInst, IsName, IsRid, IsValue, form_words, mode_word, pick_word, rid_word}
@@ -22,6 +22,7 @@ use Rattle.sd_script.specs.Kinds.{parts_of, text_of}
 use Rattle.sd_script.specs.Order.{Follows, IsBegun, IsOfBegun, insts_of, pages_of, table_count}
 use Rattle.sd_script.specs.Reading.{ReadsAs}
 use Rattle.sd_script.specs.Words.{words_of}
+use Rattle.sd_script.proofs.Plain.{amount_plain, misplaced_plain, passes_stands, table_plain}
 use Rattle.sd_script.proofs.Shapes.{inst_digit, no_verb}
 
 -- ---- what passes the last cause passes each
@@ -94,7 +95,7 @@ module _ (lines : List Line) (before : List ℕ) where
   slot r is lt = (tt, (r, omega (arith, is.0), is.1, refl), tt, (r, is, lt, refl), tt, tt)
 
   amount : (z : ℤ) → IsAmount z → Suits lines cause.Unknown part.Amount before (signed_decimal z)
-  amount z is = (tt, (z, is, refl), tt, tt, tt, tt)
+  amount z is = (tt, (z, is, amount_plain z is), tt, tt, tt, tt)
 
   value : (v : List ℕ) → IsValue v → Suits lines cause.Unknown part.Value before v
   value v is = (is, tt, tt, tt, tt, tt)
@@ -154,6 +155,10 @@ passes lines (Flush i p) is follows =
     (kind.Flush, (lead lines [] i is.0 follows.0, ((refl, tt, tt, tt, tt, tt), (page lines (codes "flush") p is.1 follows.1, tt))))
 passes lines (Force i) is follows =
     (kind.Force, (lead lines [] i is follows, ((refl, tt, tt, tt, tt, tt), tt)))
+passes lines (CheckBegin i) is follows =
+    (kind.CheckBegin, (lead lines [] i is follows, ((refl, tt, tt, tt, tt, tt), ((refl, tt, tt, tt, tt, tt), tt))))
+passes lines (CheckEnd i) is follows =
+    (kind.CheckEnd, (lead lines [] i is follows, ((refl, tt, tt, tt, tt, tt), ((refl, tt, tt, tt, tt, tt), tt))))
 passes lines (Fail i) is follows =
     (kind.Fail, ((refl, tt, tt, tt, tt, tt), (inst lines (codes "fail") i is follows, tt)))
 passes lines (Fuse n) is follows =
@@ -200,6 +205,8 @@ first_form (Take i p) follows is = absurd (omega (arith, follows.1))
 first_form (Evict i p) follows is = absurd (omega (arith, follows.1))
 first_form (Flush i p) follows is = absurd (omega (arith, follows.1))
 first_form (Force i) follows is = absurd (omega (arith, follows, is.0))
+first_form (CheckBegin i) follows is = absurd (omega (arith, follows, is.0))
+first_form (CheckEnd i) follows is = absurd (omega (arith, follows, is.0))
 first_form (Fail i) follows is = absurd (omega (arith, follows, is.0))
 first_form (Fuse n) follows is = absurd (follows refl)
 first_form (Fault n) follows is = absurd (follows refl)
@@ -222,6 +229,8 @@ module _ (line : Line) (lines : List Line) where
   misplaced (Evict i p) is follows fit = no_verb i is.0 (codes "complex") (omega arith) fit.0
   misplaced (Flush i p) is follows fit = no_verb i is.0 (codes "complex") (omega arith) fit.0
   misplaced (Force i) is follows fit = no_verb i is (codes "complex") (omega arith) fit.0
+  misplaced (CheckBegin i) is follows fit = no_verb i is (codes "complex") (omega arith) fit.0
+  misplaced (CheckEnd i) is follows fit = no_verb i is (codes "complex") (omega arith) fit.0
   misplaced _ is follows fit = absurd (omega (arith, ap (λ (l : List ℕ). get_or l 3 0) fit.0, ap (λ (l : List ℕ). get_or l 0 0) fit.0))
 
 pub well_placed : (lines : List Line) (f : Form) → IsForm f → Follows lines f → ¬ IsMisplaced lines (form_words f)
@@ -238,25 +247,31 @@ table_room lines _ follows fit = absurd fit.1
 
 -- ---- a line that reads has no cause
 
-pub no_cause : (before : List Line) (bytes : List ℕ) (end : ℕ) (line : Line) → ReadsAs before bytes end line → (c : LineError)
-    → ¬ Holds before bytes end c
-no_cause before bytes end line reads c = at c where
+pub no_cause : (before : List Line) (bytes : List ℕ) (number end : ℕ) (line : Line) → ReadsAs before bytes number end line
+    → (c : LineError) → ¬ Holds before bytes number end c
+no_cause before bytes number end line reads c = at c where
   some : (k : LineKind) × Passes before (words_of bytes) cause.Unknown k
-  some = subst (λ (ws : List (List ℕ)). (k : LineKind) × Passes before ws cause.Unknown k) (sym reads.words)
-      (passes before line.form reads.form reads.follows)
+  some =
+      let fits = passes before line.form reads.form reads.follows in (
+        fits.0,
+        passes_stands before (words_of bytes) fits.0
+            (subst (λ (ws : List (List ℕ)). Passes before ws cause.Unknown fits.0) (sym reads.words) fits.1),
+      )
 
   each : (d : LineError) → Passes before (words_of bytes) d some.0
   each d = fit_up before d (parts_of some.0) [] (words_of bytes) some.1
 
-  at : (d : LineError) → ¬ Holds before bytes end d
+  at : (d : LineError) → ¬ Holds before bytes number end d
   at cause.Size holds = holds (record {
     bytes_most = reads.bytes_most;
-    lines_most = let n = reads.number in let most = reads.lines_most in omega arith;
+    lines_most = reads.lines_most;
     text_most = reads.text_most;
-    tables_most = λ fit. table_room before line.form reads.follows (subst (λ (ws : List (List ℕ)). Passes before ws cause.Word kind.Table) reads.words fit);
+    tables_most = λ fit. table_room before line.form reads.follows (subst (λ (ws : List (List ℕ)). Passes before ws cause.Word kind.Table) reads.words
+        (table_plain before (words_of bytes) fit));
   })
   at cause.Byte holds = holds reads.printed
-  at cause.Order holds = well_placed before line.form reads.form reads.follows (subst (IsMisplaced before) reads.words holds)
+  at cause.Order holds = well_placed before line.form reads.form reads.follows
+      (subst (IsMisplaced before) reads.words (misplaced_plain before (words_of bytes) holds))
   at cause.Word holds = holds some.0 (each cause.Word)
   at cause.Number holds = holds some.0 (each cause.Number)
   at cause.Name holds = holds some.0 (each cause.Name)
@@ -289,9 +304,9 @@ ranked cause.Place = refl
 ranked cause.Used = refl
 ranked cause.Unknown = refl
 
-pub one_cause : (before : List Line) (bytes : List ℕ) (end : ℕ) (c d : LineError) → IsCause before bytes end c
-    → IsCause before bytes end d → c ≡ d
-one_cause before bytes end c d a b =
+pub one_cause : (before : List Line) (bytes : List ℕ) (number end : ℕ) (c d : LineError) → IsCause before bytes number end c
+    → IsCause before bytes number end d → c ≡ d
+one_cause before bytes number end c d a b =
     ⊎_elim
     (λ lt. absurd (b.first c lt a.holds))
     (λ ge. ⊎_elim
@@ -302,29 +317,29 @@ one_cause before bytes end c d a b =
 
 -- ---- the first cause of the words is that of the line
 
-module _ (before : List Line) (bytes : List ℕ) (end : ℕ) where
-  pub by_size : ¬ IsAllowed before bytes end → IsCause before bytes end cause.Size
+module _ (before : List Line) (bytes : List ℕ) (number end : ℕ) where
+  pub by_size : ¬ IsAllowed before bytes number end → IsCause before bytes number end cause.Size
   by_size holds = record { holds = holds; first = λ other lt. absurd (omega (arith, lt)) }
 
-  earlier_byte : IsAllowed before bytes end → (other : LineError) → rank other < 1 → ¬ Holds before bytes end other
+  earlier_byte : IsAllowed before bytes number end → (other : LineError) → rank other < 1 → ¬ Holds before bytes number end other
   earlier_byte allowed cause.Size lt holds = holds allowed
   earlier_byte allowed _ lt holds = absurd (omega (arith, lt))
 
-  pub by_byte : IsAllowed before bytes end → ¬ ArePrinted bytes → IsCause before bytes end cause.Byte
+  pub by_byte : IsAllowed before bytes number end → ¬ ArePrinted bytes → IsCause before bytes number end cause.Byte
   by_byte allowed holds = record { holds = holds; first = earlier_byte allowed }
 
-  earlier_order : IsAllowed before bytes end → ArePrinted bytes → (other : LineError) → rank other < 2 → ¬ Holds before bytes end other
+  earlier_order : IsAllowed before bytes number end → ArePrinted bytes → (other : LineError) → rank other < 2 → ¬ Holds before bytes number end other
   earlier_order allowed printed cause.Size lt holds = holds allowed
   earlier_order allowed printed cause.Byte lt holds = holds printed
   earlier_order allowed printed _ lt holds = absurd (omega (arith, lt))
 
-  pub by_order : IsAllowed before bytes end → ArePrinted bytes → IsMisplaced before (words_of bytes)
-      → IsCause before bytes end cause.Order
+  pub by_order : IsAllowed before bytes number end → ArePrinted bytes → IsMisplaced before (words_of bytes)
+      → IsCause before bytes number end cause.Order
   by_order allowed printed holds = record { holds = holds; first = earlier_order allowed printed }
 
-  module _ (allowed : IsAllowed before bytes end) (printed : ArePrinted bytes) (placed : ¬ IsMisplaced before (words_of bytes)) where
+  module _ (allowed : IsAllowed before bytes number end) (printed : ArePrinted bytes) (placed : ¬ IsMisplaced before (words_of bytes)) where
     earlier : (limit : ℕ) → ((other : LineError) → 2 < rank other → rank other < limit → (k : LineKind) × Passes before (words_of bytes) other k)
-        → (other : LineError) → rank other < limit → ¬ Holds before bytes end other
+        → (other : LineError) → rank other < limit → ¬ Holds before bytes number end other
     earlier limit passed cause.Size lt holds = holds allowed
     earlier limit passed cause.Byte lt holds = holds printed
     earlier limit passed cause.Order lt holds = placed holds
@@ -335,7 +350,7 @@ module _ (before : List Line) (bytes : List ℕ) (end : ℕ) where
     earlier limit passed cause.Used lt holds = let by = passed cause.Used (omega arith) lt in holds by.0 by.1
     earlier limit passed cause.Unknown lt holds = let by = passed cause.Unknown (omega arith) lt in holds by.0 by.1
 
-    pub by_words : (c : LineError) → IsFirst before (words_of bytes) c → IsCause before bytes end c
+    pub by_words : (c : LineError) → IsFirst before (words_of bytes) c → IsCause before bytes number end c
     by_words cause.Size first = absurd (omega (arith, first.late))
     by_words cause.Byte first = absurd (omega (arith, first.late))
     by_words cause.Order first = absurd (omega (arith, first.late))

@@ -1,6 +1,7 @@
 pub mod Lines
 pub mod Ordinals
 pub mod Readings
+pub mod Scripts
 pub mod Remembering
 mod Taking
 pub mod Steps
@@ -17,3 +18,6 @@ pub mod FirstCause
 pub mod Causing
 mod Printed
 mod Trying
+mod Plain
+pub mod Passing
+mod Idle

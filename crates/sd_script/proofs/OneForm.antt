@@ -8,12 +8,12 @@ use Rattle.sd_base.specs.declared.ids.Rid.{Rid}
 use Rattle.sd_base.specs.declared.place.Mode.{Mode}
 use Rattle.sd_base.specs.declared.place.Mode.TheVariants.{Shared, Excl}
 use Rattle.sd_script.specs.declared.line.Form.{Form}
-use Rattle.sd_script.specs.declared.line.Form.TheVariants.{Complex, Begin, Read, Write, Add, Insert, Delete, Save, Back, Rollback, Commit, Ask, Give, Take, Evict, Flush, Force, Fail, Fuse, Fault, FailAll, Recover, Join, Reopen, RecoverAll, JoinAll, Where, Table}
+use Rattle.sd_script.specs.declared.line.Form.TheVariants.{Complex, Begin, Read, Write, Add, Insert, Delete, Save, Back, Rollback, Commit, Ask, Give, Take, Evict, Flush, Force, CheckBegin, CheckEnd, Fail, Fuse, Fault, FailAll, Recover, Join, Reopen, RecoverAll, JoinAll, Where, Table}
 use Rattle.sd_base.specs.declared.trouble.Pick.{Pick}
 use Rattle.sd_base.specs.declared.trouble.Pick.TheVariants.{Keep, Lose, Tear, Junk}
 use Rattle.sd_script.specs.Forms.{form_words, rid_word, mode_word, pick_word, number_words, IsForm, IsInst, IsKnownBy, IsAmount, AreSteps, HasRoom}
 use Rattle.sd_script.proofs.Spellings.{same_number, same_rid}
-use Rattle.sd_script.proofs.Shapes.{begin_is, ask_is, give_is, take_is, evict_is, flush_is, force_is, complex_is, read_is, delete_is, write_is, add_is, insert_is, save_is, back_is, rollback_is, commit_is, fail_is, fuse_is, fault_is, fail_all_is, reopen_is, recover_is, join_is, no_verb, recovery_is, where_is}
+use Rattle.sd_script.proofs.Shapes.{begin_is, ask_is, give_is, take_is, evict_is, flush_is, force_is, check_is, complex_is, read_is, delete_is, write_is, add_is, insert_is, save_is, back_is, rollback_is, commit_is, fail_is, fuse_is, fault_is, fail_all_is, reopen_is, recover_is, join_is, no_verb, recovery_is, where_is}
 
 same_ordinal : (m n : ℕ) (o : Option ℕ) → o ≡ Some m → o ≡ Some n → m ≡ n
 same_ordinal m n o a b = let both : Some m ≡ Some n = sym a ∙ b in cc
@@ -151,6 +151,10 @@ one_form known (Flush i p) g a b c d e =
     let page : p ≡ at.0 = same_number p at.0 (omega (arith, a.1)) (omega (arith, parts.1)) (sym at.2) in
     ap (λ (n : ℕ). Flush i n) page ∙ sym at.1
 one_form known (Force i) g a b c d e = sym (force_is g i b a (sym e))
+one_form known (CheckBegin i) g a b c d e = ⊎_elim (λ begins. sym begins.0)
+    (λ ends. absurd (omega (arith, ap (λ (l : List ℕ). get_or l 0 0) ends.1))) (check_is g i (codes "begin") b a (sym e))
+one_form known (CheckEnd i) g a b c d e = ⊎_elim (λ begins. absurd (omega (arith, ap (λ (l : List ℕ). get_or l 0 0) begins.1)))
+    (λ ends. sym ends.0) (check_is g i (codes "end") b a (sym e))
 one_form known (Fail i) g a b c d e =
     let at = fail_is g (decimal i) b (sym e) in
     let parts = subst IsForm at.1 b in

@@ -8,10 +8,9 @@ use Rattle.sd_base.specs.declared.refusal.LineError.{LineError}
 use Rattle.sd_script.specs.declared.line.Form.{Form}
 use Rattle.sd_script.specs.declared.line.Form.TheVariants.{Read, Write, Add, Insert, Delete, Save, Back, Rollback, Commit}
 use Rattle.sd_script.specs.declared.line.Line.{Line}
-use Rattle.sd_script.specs.Forms.{form_words, IsForm, IsKnownBy}
+use Rattle.sd_script.specs.Forms.{IsKnownBy}
 use Rattle.sd_script.specs.Order.{Follows, begun, ordinal_of}
-use Rattle.sd_script.specs.Text.{lines_of, end_of}
-use Rattle.sd_script.specs.Words.{words_of}
+use Rattle.sd_script.specs.Text.{Numbered, told_lines}
 use Rattle.sd_script.specs.Reading.{ReadsAs, Reads, IsRead, IsScript, IsBadAt, IsBadNext}
 use Rattle.sd_script.proofs.FirstCause.{no_cause, one_cause}
 use Rattle.sd_script.proofs.OneForm.{one_form}
@@ -33,23 +32,20 @@ ordinal_known before _ follows = tt
 abbrev made : ℕ → ℕ → Form → Line
 made number session form = record { number = number; session = session; form = form }
 
-pub one_line_as : (before : List Line) (bytes : List ℕ) (end : ℕ) (line other : Line) → ReadsAs before bytes end line → ReadsAs before bytes end other → line ≡ other
-one_line_as before bytes end line other a b =
+pub one_line_as : (before : List Line) (bytes : List ℕ) (number end : ℕ) (line other : Line) → ReadsAs before bytes number end line
+    → ReadsAs before bytes number end other → line ≡ other
+one_line_as before bytes number end line other a b =
     let form : line.form ≡ other.form = one_form (ordinal_of (begun before)) line.form other.form a.form b.form (ordinal_known before line.form a.follows) (ordinal_known before other.form b.follows) (sym a.words ∙ b.words) in
-    let number : line.number ≡ other.number = a.number ∙ sym b.number in
+    let numbers : line.number ≡ other.number = a.number_is ∙ sym b.number_is in
     let session : line.session ≡ other.session = a.session ∙ sym b.session in
-    ap (λ (n : ℕ). made n line.session line.form) number ∙ ap (λ (n : ℕ). made other.number n line.form) session
+    ap (λ (n : ℕ). made n line.session line.form) numbers ∙ ap (λ (n : ℕ). made other.number n line.form) session
     ∙ ap (λ (f : Form). made other.number other.session f) form
-
--- a line that reads has the form of the words
-pub form_is : (before : List Line) (bytes : List ℕ) (end : ℕ) (form : Form) → IsForm form → IsKnownBy (ordinal_of (begun before)) form → form_words form ≡ words_of bytes → (line : Line) → ReadsAs before bytes end line → line.form ≡ form
-form_is before bytes end form is known words line reads =
-    one_form (ordinal_of (begun before)) line.form form reads.form is (ordinal_known before line.form reads.follows) known (sym reads.words ∙ sym words)
 
 pub one_line : (text : List ℕ) (before : List Line) (line other : Line) → Reads text before line → Reads text before other → line ≡ other
 one_line text before line other a b =
-    let same : a.bytes ≡ b.bytes = let both : Some a.bytes ≡ Some b.bytes = sym a.stands ∙ b.stands in cc in
-    one_line_as before b.bytes (end_of text (length before + 1)) line other (subst (λ bytes. ReadsAs before bytes (end_of text (length before + 1)) line) same a.reads) b.reads
+    let same : a.at ≡ b.at = let both : Some a.at ≡ Some b.at = sym a.stands ∙ b.stands in cc in
+    one_line_as before b.at.bytes b.at.number b.at.end line other
+    (subst (λ (at : Numbered). ReadsAs before at.bytes at.number at.end line) same a.reads) b.reads
 
 -- what is read goes on by what reads behind it
 pub IsRead-push : (text : List ℕ) (before : List Line) (line : Line) → IsRead text before → Reads text before line → IsRead text (before ++ line ∷ [])
@@ -87,42 +83,42 @@ same_readings text lines others a b e =
     sym (take_all (length lines) lines (omega arith)) ∙ same_fronts text lines others a b (length lines) (omega arith) (omega arith) ∙ take_all (length lines) others (omega arith)
 
 -- no line reads behind the last line of the text
-pub none_behind : (text : List ℕ) (lines : List Line) (line : Line) → length (lines_of text) ≤ length lines → Reads text lines line → ⊥
+pub none_behind : (text : List ℕ) (lines : List Line) (line : Line) → length (told_lines text) ≤ length lines → Reads text lines line → ⊥
 none_behind text lines line le next =
-    let lt : length lines < length (lines_of text) = slice_get_within (lines_of text) (length lines) next.bytes next.stands in
+    let lt : length lines < length (told_lines text) = slice_get_within (told_lines text) (length lines) next.at next.stands in
     absurd (omega arith)
 
 -- no more lines read than the text has
-pub read-le : (text : List ℕ) (lines : List Line) → IsRead text lines → (n : ℕ) → n ≤ length lines → n ≤ length (lines_of text)
+pub read-le : (text : List ℕ) (lines : List Line) → IsRead text lines → (n : ℕ) → n ≤ length lines → n ≤ length (told_lines text)
 read-le text lines read zero le = omega arith
 read-le text lines read (suc n) le =
     let x = stands_at lines n (omega arith) in
     let last = read n x.0 x.1 in
-    let lt = slice_get_within (lines_of text) (length (take n lines)) last.bytes last.stands in
+    let lt = slice_get_within (told_lines text) (length (take n lines)) last.at last.stands in
     omega (arith, length-take n lines)
 
 pub one_reading : (text : List ℕ) (lines others : List Line) → IsScript text lines → IsScript text others → lines ≡ others
 one_reading text lines others a b = same_readings text lines others a.read b.read (a.whole ∙ sym b.whole)
 
 -- no line reads where one is bad
-next_unread : (text : List ℕ) (before : List Line) (at : Option (List ℕ)) (c : LineError) → IsBadNext text before at c
-    → slice_get (lines_of text) (length before) ≡ at → (line : Line) → ¬ Reads text before line
-next_unread text before None c bad at line next = let clash : Some next.bytes ≡ None = sym next.stands ∙ at in absurd (cc)
-next_unread text before (Some bytes) c bad at line next =
-    let same : next.bytes ≡ bytes = let both : Some next.bytes ≡ Some bytes = sym next.stands ∙ at in cc in
-    no_cause before bytes (end_of text (length before + 1)) line
-    (subst (λ (b : List ℕ). ReadsAs before b (end_of text (length before + 1)) line) same next.reads) c bad.holds
+next_unread : (text : List ℕ) (before : List Line) (at : Option Numbered) (n : ℕ) (c : LineError) → IsBadNext text before at n c
+    → slice_get (told_lines text) (length before) ≡ at → (line : Line) → ¬ Reads text before line
+next_unread text before None n c bad at line next = let clash : Some next.at ≡ None = sym next.stands ∙ at in absurd (cc)
+next_unread text before (Some here) n c bad at line next =
+    let same : next.at ≡ here = let both : Some next.at ≡ Some here = sym next.stands ∙ at in cc in
+    no_cause before here.bytes here.number here.end line
+    (subst (λ (a : Numbered). ReadsAs before a.bytes a.number a.end line) same next.reads) c bad.1.holds
 
 unread : (text : List ℕ) (n : ℕ) (c : LineError) (bad : IsBadAt text n c) (line : Line) → ¬ Reads text bad.before line
-unread text n c bad line = next_unread text bad.before (slice_get (lines_of text) (length bad.before)) c bad.next refl line
+unread text n c bad line = next_unread text bad.before (slice_get (told_lines text) (length bad.before)) n c bad.next refl line
 
-next_unfinished : (text : List ℕ) (before : List Line) (at : Option (List ℕ)) (c : LineError) → IsBadNext text before at c
-    → slice_get (lines_of text) (length before) ≡ at → ¬ IsScript text before
-next_unfinished text before None c bad at script =
+next_unfinished : (text : List ℕ) (before : List Line) (at : Option Numbered) (n : ℕ) (c : LineError) → IsBadNext text before at n c
+    → slice_get (told_lines text) (length before) ≡ at → ¬ IsScript text before
+next_unfinished text before None n c bad at script =
     let none : length before ≡ 0 = ap length bad.0 in
     omega (arith, none, script.some)
-next_unfinished text before (Some bytes) c bad at script =
-    omega (arith, slice_get_within (lines_of text) (length before) bytes at, script.whole)
+next_unfinished text before (Some here) n c bad at script =
+    omega (arith, slice_get_within (told_lines text) (length before) here at, script.whole)
 
 pub no_bad_script : (text : List ℕ) (lines : List Line) (n : ℕ) (c : LineError) → IsScript text lines → IsBadAt text n c → ⊥
 no_bad_script text lines n c script bad =
@@ -130,15 +126,15 @@ no_bad_script text lines n c script bad =
     (λ lt. let next = goes_on text bad.before lines bad.read script.read lt in unread text n c bad next.0 next.1)
     (λ ge. ⊎_elim
     (λ lt. let next = goes_on text lines bad.before script.read bad.read lt in none_behind text lines next.0 (omega (arith, script.whole)) next.1)
-    (λ le. next_unfinished text bad.before (slice_get (lines_of text) (length bad.before)) c bad.next refl
+    (λ le. next_unfinished text bad.before (slice_get (told_lines text) (length bad.before)) n c bad.next refl
     (subst (IsScript text) (same_readings text lines bad.before script.read bad.read (omega arith)) script))
     (cases_lt (length lines) (length bad.before)))
     (cases_lt (length bad.before) (length lines))
 
-one_next : (text : List ℕ) (before : List Line) (at : Option (List ℕ)) (c d : LineError) → IsBadNext text before at c
-    → IsBadNext text before at d → c ≡ d
-one_next text before None c d a b = a.1 ∙ sym b.1
-one_next text before (Some bytes) c d a b = one_cause before bytes (end_of text (length before + 1)) c d a b
+one_next : (text : List ℕ) (before : List Line) (at : Option Numbered) (m n : ℕ) (c d : LineError) → IsBadNext text before at m c
+    → IsBadNext text before at n d → (m ≡ n) × (c ≡ d)
+one_next text before None m n c d a b = (a.1 ∙ sym b.1, a.2 ∙ sym b.2)
+one_next text before (Some at) m n c d a b = (a.0 ∙ sym b.0, one_cause before at.bytes at.number at.end c d a.1 b.1)
 
 pub one_bad_line : (text : List ℕ) (m n : ℕ) (c d : LineError) → IsBadAt text m c → IsBadAt text n d → (m ≡ n) × (c ≡ d)
 one_bad_line text m n c d a b =
@@ -147,10 +143,8 @@ one_bad_line text m n c d a b =
     (λ ge. ⊎_elim
     (λ lt. let next = goes_on text b.before a.before b.read a.read lt in absurd (unread text n d b next.0 next.1))
     (λ le.
-    let same : a.before ≡ b.before = same_readings text a.before b.before a.read b.read (omega arith) in (
-      a.number_is ∙ ap (λ (l : List Line). length l + 1) same ∙ sym b.number_is,
-      one_next text b.before (slice_get (lines_of text) (length b.before)) c d
-          (subst (λ (l : List Line). IsBadNext text l (slice_get (lines_of text) (length l)) c) same a.next) b.next,
-    ))
+    let same : a.before ≡ b.before = same_readings text a.before b.before a.read b.read (omega arith) in
+    one_next text b.before (slice_get (told_lines text) (length b.before)) m n c d
+    (subst (λ (l : List Line). IsBadNext text l (slice_get (told_lines text) (length l)) m c) same a.next) b.next)
     (cases_lt (length b.before) (length a.before)))
     (cases_lt (length a.before) (length b.before))

@@ -7,10 +7,10 @@ use Rattle.std.specs.Str.{bytes_eq}
 use Rattle.sd_base.specs.declared.ids.Rid.{Rid}
 use Rattle.sd_base.specs.declared.place.Mode.{Mode}
 use Rattle.sd_script.specs.declared.line.Form.{Form}
-use Rattle.sd_script.specs.declared.line.Form.TheVariants.{Complex, Begin, Read, Write, Add, Insert, Delete, Save, Back, Rollback, Commit, Ask, Give, Take, Evict, Flush, Force, Fail, Fuse, Fault, FailAll, Recover, Join, Reopen, RecoverAll, JoinAll, Where, Table}
+use Rattle.sd_script.specs.declared.line.Form.TheVariants.{Complex, Begin, Read, Write, Add, Insert, Delete, Save, Back, Rollback, Commit, Ask, Give, Take, Evict, Flush, Force, CheckBegin, CheckEnd, Fail, Fuse, Fault, FailAll, Recover, Join, Reopen, RecoverAll, JoinAll, Where, Table}
 use Rattle.sd_base.specs.declared.trouble.Pick.{Pick}
 use Rattle.sd_script.specs.Forms.{form_words, rid_word, mode_word, pick_word, number_words, AreSteps, IsForm, IsKnownBy, IsName, IsValue, IsRid, IsAmount, IsCount, IsInst, IsNoInst, HasRoom}
-use Rattle.sd_script.proofs.Shapes.{verb_in, inst_led, begin_is, ask_is, give_is, take_is, evict_is, flush_is, complex_is, read_is, delete_is, write_is, add_is, insert_is, save_is, back_is, rollback_is, commit_is, fail_is, fuse_is, fault_is, fail_all_is, recover_is, join_is, recovery_is, where_is}
+use Rattle.sd_script.proofs.Shapes.{verb_in, inst_led, begin_is, ask_is, give_is, take_is, evict_is, flush_is, check_is, complex_is, read_is, delete_is, write_is, add_is, insert_is, save_is, back_is, rollback_is, commit_is, fail_is, fuse_is, fault_is, fail_all_is, recover_is, join_is, recovery_is, where_is}
 
 -- what a comparison of words tells
 pub is_word : (word bytes due : List ℕ) → bytes ≡ due → true ≡ bytes_eq word bytes → word ≡ due
@@ -46,15 +46,17 @@ no_force known i verb at force form is knows e = led form (inst_led form i (verb
   led _ first e = absurd (cc)
 
 pub no_three : (known : List ℕ → Option ℕ) (i : ℕ) (verb word : List ℕ) → IsInst i → verb ≢ codes "begin"
-    → verb ≢ codes "give" → verb ≢ codes "take" → verb ≢ codes "evict" → verb ≢ codes "flush" → (form : Form) → IsForm form
-    → IsKnownBy known form → form_words form ≡ decimal i ∷ verb ∷ word ∷ [] → ⊥
-no_three known i verb word at begin give take evict flush form is knows e = led form (inst_led form i (verb ∷ word ∷ []) at e) e where
+    → verb ≢ codes "give" → verb ≢ codes "take" → verb ≢ codes "evict" → verb ≢ codes "flush" → verb ≢ codes "check" → (form : Form)
+    → IsForm form → IsKnownBy known form → form_words form ≡ decimal i ∷ verb ∷ word ∷ [] → ⊥
+no_three known i verb word at begin give take evict flush check form is knows e = led form (inst_led form i (verb ∷ word ∷ []) at e) e where
   led : (f : Form) → verb_in f ≡ [] → form_words f ≡ decimal i ∷ verb ∷ word ∷ [] → ⊥
   led (Begin j name) first e = begin (cc)
   led (Give j page) first e = give (cc)
   led (Take j page) first e = take (cc)
   led (Evict j page) first e = evict (cc)
   led (Flush j page) first e = flush (cc)
+  led (CheckBegin j) first e = check (cc)
+  led (CheckEnd j) first e = check (cc)
   led _ first e = absurd (cc)
 
 pub no_ask : (known : List ℕ → Option ℕ) (i : ℕ) (verb page mode : List ℕ) → IsInst i → verb ≢ codes "ask" → (form : Form)
@@ -100,6 +102,8 @@ no_three_of known verb second third none read delete save back fail (Give i page
 no_three_of known verb second third none read delete save back fail (Take i page) is knows e = none i is.0 (cc)
 no_three_of known verb second third none read delete save back fail (Evict i page) is knows e = none i is.0 (cc)
 no_three_of known verb second third none read delete save back fail (Flush i page) is knows e = none i is.0 (cc)
+no_three_of known verb second third none read delete save back fail (CheckBegin i) is knows e = none i is (cc)
+no_three_of known verb second third none read delete save back fail (CheckEnd i) is knows e = none i is (cc)
 no_three_of known verb second third none read delete save back fail _ is knows e = absurd (cc)
 
 pub no_four : (known : List ℕ → Option ℕ) (verb second third fourth : List ℕ) → IsNoInst verb → verb ≢ codes "insert"
@@ -169,6 +173,11 @@ flush_none known i page at bad form is knows e =
     let words = flush_is form i page is at e in
     let parts = subst IsForm words.1 is in
     bad words.0 parts.1 words.2
+
+pub check_none : (known : List ℕ → Option ℕ) (i : ℕ) (word : List ℕ) → IsInst i → word ≢ codes "begin" → word ≢ codes "end"
+    → (form : Form) → IsForm form → IsKnownBy known form → form_words form ≡ decimal i ∷ codes "check" ∷ word ∷ [] → ⊥
+check_none known i word at begins ends form is knows e =
+    ⊎_elim (λ first. begins (sym first.1)) (λ last. ends (sym last.1)) (check_is form i word is at e)
 
 -- a verb's line whose parts are none
 pub complex_none : (known : List ℕ → Option ℕ) (insts pages frames : List ℕ) → ((i p f : ℕ) → IsInst i → IsCount p → IsCount f

@@ -7,7 +7,7 @@ use Rattle.sd_base.specs.declared.ids.Rid.{Rid}
 use Rattle.sd_base.specs.declared.place.Mode.{Mode}
 use Rattle.sd_base.specs.declared.trouble.Pick.{Pick}
 use Rattle.sd_script.specs.declared.line.Form.{Form}
-use Rattle.sd_script.specs.declared.line.Form.TheVariants.{Complex, Begin, Read, Write, Add, Insert, Delete, Save, Back, Rollback, Commit, Ask, Give, Take, Evict, Flush, Force, Fail, Fuse, Fault, FailAll, Recover, Join, Reopen, RecoverAll, JoinAll, Where, Table}
+use Rattle.sd_script.specs.declared.line.Form.TheVariants.{Complex, Begin, Read, Write, Add, Insert, Delete, Save, Back, Rollback, Commit, Ask, Give, Take, Evict, Flush, Force, CheckBegin, CheckEnd, Fail, Fuse, Fault, FailAll, Recover, Join, Reopen, RecoverAll, JoinAll, Where, Table}
 use Rattle.sd_script.specs.Forms.{form_words, rid_word, mode_word, pick_word, number_words, IsForm, IsInst, IsNoInst}
 
 -- the first word of a form, where it is a verb
@@ -44,6 +44,8 @@ order_in (Take inst page) = codes "take"
 order_in (Evict inst page) = codes "evict"
 order_in (Flush inst page) = codes "flush"
 order_in (Force inst) = codes "force"
+order_in (CheckBegin inst) = codes "check"
+order_in (CheckEnd inst) = codes "check"
 order_in _ = []
 
 -- an instance has one digit, so its word is no verb
@@ -68,6 +70,8 @@ verb_is (Take i page) verb rest is none e = absurd (none i is.0 (head_is (decima
 verb_is (Evict i page) verb rest is none e = absurd (none i is.0 (head_is (decimal i) verb _ rest e))
 verb_is (Flush i page) verb rest is none e = absurd (none i is.0 (head_is (decimal i) verb _ rest e))
 verb_is (Force i) verb rest is none e = absurd (none i is (head_is (decimal i) verb _ rest e))
+verb_is (CheckBegin i) verb rest is none e = absurd (none i is (head_is (decimal i) verb _ rest e))
+verb_is (CheckEnd i) verb rest is none e = absurd (none i is (head_is (decimal i) verb _ rest e))
 verb_is _ verb rest is none e = cc
 
 long_verb : (i : ℕ) → IsInst i → (verb : List ℕ) (xs ys : List (List ℕ)) → 1 < length verb → verb ∷ xs ≡ decimal i ∷ ys → ⊥
@@ -82,6 +86,8 @@ order_is (Take j page) i order rest is e = cc
 order_is (Evict j page) i order rest is e = cc
 order_is (Flush j page) i order rest is e = cc
 order_is (Force j) i order rest is e = cc
+order_is (CheckBegin j) i order rest is e = cc
+order_is (CheckEnd j) i order rest is e = cc
 order_is form i order rest is e = absurd (long_verb i is (verb_in form) _ (order ∷ rest) (lit< tt) e)
 
 pub inst_led : (form : Form) (i : ℕ) (rest : List (List ℕ)) → IsInst i → form_words form ≡ decimal i ∷ rest → verb_in form ≡ []
@@ -92,6 +98,8 @@ inst_led (Take j page) i rest is e = refl
 inst_led (Evict j page) i rest is e = refl
 inst_led (Flush j page) i rest is e = refl
 inst_led (Force j) i rest is e = refl
+inst_led (CheckBegin j) i rest is e = refl
+inst_led (CheckEnd j) i rest is e = refl
 inst_led form i rest is e = absurd (long_verb i is (verb_in form) _ rest (lit< tt) e)
 
 -- the instance of a form that begins with one
@@ -162,6 +170,15 @@ force_is form i is at e = with_order form is (order_is form i (codes "force") []
   with_order : (f : Form) → IsForm f → order_in f ≡ codes "force" → form_words f ≡ decimal i ∷ codes "force" ∷ [] → f ≡ Force i
   with_order (Force j) is order e = let inst : j ≡ i = inst_is j i _ _ is at e in ap (λ (x : ℕ). Force x) inst
   with_order _ is order e = absurd (omega (arith, ap (λ (l : List ℕ). get_or l 1 0) order))
+
+pub check_is : (form : Form) (i : ℕ) (word : List ℕ) → IsForm form → IsInst i → form_words form ≡ decimal i ∷ codes "check" ∷ word ∷ []
+    → ((form ≡ CheckBegin i) × (codes "begin" ≡ word)) ⊎ ((form ≡ CheckEnd i) × (codes "end" ≡ word))
+check_is form i word is at e = with_order form is (order_is form i (codes "check") (word ∷ []) at e) e where
+  with_order : (f : Form) → IsForm f → order_in f ≡ codes "check" → form_words f ≡ decimal i ∷ codes "check" ∷ word ∷ []
+      → ((f ≡ CheckBegin i) × (codes "begin" ≡ word)) ⊎ ((f ≡ CheckEnd i) × (codes "end" ≡ word))
+  with_order (CheckBegin j) is order e = let inst : j ≡ i = inst_is j i _ _ is at e in inl (ap (λ (x : ℕ). CheckBegin x) inst, cc)
+  with_order (CheckEnd j) is order e = let inst : j ≡ i = inst_is j i _ _ is at e in inr (ap (λ (x : ℕ). CheckEnd x) inst, cc)
+  with_order _ is order e = absurd (omega (arith, ap (λ (l : List ℕ). get_or l 0 0) order))
 
 -- the lines of a verb
 verb_found : (form : Form) (verb : List ℕ) (rest : List (List ℕ)) → 1 < length verb → IsForm form

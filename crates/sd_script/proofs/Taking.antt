@@ -1,5 +1,5 @@
 -- Words and the line that is taken of them. It serves the goals of form.rt and reader.rt.
-use Rattle.std.proofs.Common.{◌≡◌, ℕ, ◌+◌, Bool, true, false, List, Option, None, Some, length, refl, sym, ◌∙◌, subst}
+use Rattle.std.proofs.Common.{◌≡◌, ℕ, Bool, true, false, List, Option, None, Some, refl, sym, ◌∙◌, subst}
 use Rattle.std.specs.Prelude.{◌↔◌, Result, Ok, Err, IfOk, IsTrue}
 use Rattle.sd_script.specs.declared.line.Form.{Form}
 use Rattle.sd_script.specs.declared.line.Line.{Line}
@@ -11,8 +11,8 @@ use Rattle.sd_script.proofs.Readings.{ordinal_known}
 use Rattle.sd_script.proofs.Remembering.{known_from, ordinals_from, follows_from, fits_from, fresh_from}
 
 -- words of no form are taken as no line
-pub none_taken : (before : List Line) (words : List (List ℕ)) → IsFormOf (ordinal_of (begun before)) words None → IsTakenOf before words before false
-none_taken before words none = (λ form is follows e. none form is (ordinal_known before form follows) e, refl)
+pub none_taken : (before : List Line) (number : ℕ) (words : List (List ℕ)) → IsFormOf (ordinal_of (begun before)) words None → IsTakenOf before number words before false
+none_taken before number words none = (λ form is follows e. none form is (ordinal_known before form follows) e, refl)
 
 -- a form by what is known is a form by the ordinals
 pub by_ordinals : (before : List Line) (known : List ℕ → Option ℕ) → AreOrdinals before known → (words : List (List ℕ)) (found : Option Form) → IsFormOf known words found → IsFormOf (ordinal_of (begun before)) words found
@@ -24,8 +24,8 @@ the_form : (before : List Line) (words : List (List ℕ)) (form due : Form) → 
 the_form before words form due is follows e found = one_form (ordinal_of (begun before)) form due is found.0 (ordinal_known before form follows) found.1 (e ∙ sym found.2)
 
 -- where it doesn't fit none is taken
-pub none_fits : (before : List Line) (words : List (List ℕ)) (due : Form) → IsFormOf (ordinal_of (begun before)) words (Some due) → (FormFits before due → ⊥) → IsTakenOf before words before false
-none_fits before words due found misfit = (
+pub none_fits : (before : List Line) (number : ℕ) (words : List (List ℕ)) (due : Form) → IsFormOf (ordinal_of (begun before)) words (Some due) → (FormFits before due → ⊥) → IsTakenOf before number words before false
+none_fits before number words due found misfit = (
   λ form is follows e. misfit (fits_from before due (subst (Follows before) (the_form before words form due is follows e found) follows)),
   refl,
 )
@@ -34,20 +34,20 @@ may_follow : (before : List Line) (words : List (List ℕ)) (due : Form) → IsF
 may_follow before words due found fits fresh = follows_from before (ordinal_of (begun before)) (λ name is. refl) due found.0 found.1 fits fresh
 
 -- where it fits it is taken, unless it begins a name again
-pub taken : {E : Type 0} (before after : List Line) (line : Line) (words : List (List ℕ)) (answer : Result Bool E) → IfOk answer (IsTakenIf before line after)
-    → IsFormOf (ordinal_of (begun before)) words (Some line.form) → FormFits before line.form → line.number ≡ length before + 1 → line.session ≡ 0
-    → IfOk answer (IsTakenOf before words after)
-taken before after line words (Err e) took found fits number session = tt
-taken before after line words (Ok true) took found fits number session = record {
+pub taken : {E : Type 0} (before after : List Line) (number : ℕ) (line : Line) (words : List (List ℕ)) (answer : Result Bool E) → IfOk answer (IsTakenIf before line after)
+    → IsFormOf (ordinal_of (begun before)) words (Some line.form) → FormFits before line.form → line.number ≡ number → line.session ≡ 0
+    → IfOk answer (IsTakenOf before number words after)
+taken before after number line words (Err e) took found fits number_is session = tt
+taken before after number line words (Ok true) took found fits number_is session = record {
   line = line;
   is = took.1;
   words_are = found.2;
   form = found.0;
   follows = may_follow before words line.form found fits took.0;
-  number = number;
+  number_is = number_is;
   session = session;
 }
-taken before after line words (Ok false) took found fits number session = (
+taken before after number line words (Ok false) took found fits number_is session = (
   λ form is follows e. took.0 (fresh_from before line.form (subst (Follows before) (the_form before words form line.form is follows e found) follows)),
   took.1,
 )

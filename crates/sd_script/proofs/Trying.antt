@@ -3,8 +3,6 @@ use Rattle.std.proofs.Common.{◌≡◌, ◌==◌, Bool, true, false, not, ℕ, 
 use Rattle.std.proofs.lemmas.Bool.{cases_Bool, cases_lt, ne_eqb, true≢false}
 use Rattle.std.proofs.lemmas.Option.{get_or_from_slice_get}
 use Rattle.std.specs.Prelude.{IsTrue, ◌↔◌, ◌≤◌, codes, slice_get}
-use Rattle.std.specs.Cmp.Lexicographic.{bytes_decides}
-use Rattle.std.specs.Str.{bytes_eq}
 use Rattle.sd_base.specs.declared.refusal.LineError.{LineError}
 use Rattle.sd_base.specs.declared.refusal.LineError.TheVariants as cause
 use Rattle.sd_script.specs.declared.causes.TheConstants.{KINDS}
@@ -14,9 +12,7 @@ use Rattle.sd_script.specs.declared.kinds.LineKind.TheVariants as kind
 use Rattle.sd_script.specs.declared.line.Line.{Line}
 use Rattle.sd_script.specs.Causes.{Fit, IsMisplaced, Passes}
 use Rattle.sd_script.specs.Order.{IsBegun, IsOfBegun, begun, has_name, ordinal_of}
-use Rattle.sd_script.specs.Words.{words_of}
 use Rattle.sd_script.proofs.Ordinals.{has_none, no_ordinal}
-use Rattle.sd_script.proofs.Words.{some_word}
 
 -- a name was begun where it has an ordinal
 has_begun : (lines : List Line) (name : List ℕ) → IsBegun name lines → (o : ℕ) × IsOfBegun lines name o
@@ -40,25 +36,26 @@ unused_is lines name true is = (
 unused_is lines name false is = (λ _ had. true≢false (sym (is.1 (has_begun lines name had))), λ _. refl)
 
 -- no word is left
-pub fit_none : (lines : List Line) (c : LineError) (parts : List Part) (before : List ℕ) (empty : Bool)
-    → empty ≡ (length parts == 0) → IsTrue empty ↔ Fit lines c parts before []
-fit_none lines c [] before empty is = (λ _. tt, λ _. is)
-fit_none lines c (p ∷ parts) before empty is = (
-  λ yes. absurd (true≢false (sym yes ∙ is ∙ ne_eqb (length (p ∷ parts)) 0 (λ e. omega (arith, e)))),
-  λ fit. absurd fit,
-)
+pub fit_none : (lines : List Line) (c : LineError) (parts : List Part) (before : List ℕ) (words : List (List ℕ)) (empty : Bool)
+    → words ≡ [] → empty ≡ (length parts == 0) → IsTrue empty ↔ Fit lines c parts before words
+fit_none lines c parts before words empty none is =
+    subst (λ (l : List (List ℕ)). IsTrue empty ↔ Fit lines c parts before l) (sym none) (at parts is) where
+      at : (parts : List Part) → empty ≡ (length parts == 0) → IsTrue empty ↔ Fit lines c parts before []
+      at [] told = (λ _. tt, λ _. told)
+      at (p ∷ parts) told = (
+        λ yes. absurd (true≢false (sym yes ∙ told ∙ ne_eqb (length (p ∷ parts)) 0 (λ e. omega (arith, e)))),
+        λ fit. absurd fit,
+      )
 
 -- no part is left
-pub fit_over : (lines : List Line) (c : LineError) (parts : List Part) (before line : List ℕ) → length parts < 1
-    → ¬ Fit lines c parts before (words_of line)
-fit_over lines c [] before line few fit =
-    let words = some_word line in
-    subst (λ (l : List (List ℕ)). Fit lines c [] before l) words.2 fit
-fit_over lines c (p ∷ parts) before line few fit = absurd (omega (arith, few))
+pub fit_over : (lines : List Line) (c : LineError) (parts : List Part) (before : List ℕ) (words : List (List ℕ)) (first : List ℕ)
+    (rest : List (List ℕ)) → length parts < 1 → words ≡ first ∷ rest → ¬ Fit lines c parts before words
+fit_over lines c [] before words first rest few is fit = subst (λ (l : List (List ℕ)). Fit lines c [] before l) is fit
+fit_over lines c (p ∷ parts) before words first rest few is fit = absurd (omega (arith, few))
 
 -- ---- each kind is tried
 
-place_of : (k : LineKind) → (j : ℕ) × (j < 30) × (slice_get KINDS j ≡ Some k)
+place_of : (k : LineKind) → (j : ℕ) × (j < 32) × (slice_get KINDS j ≡ Some k)
 place_of kind.Complex = (0, lit< tt, refl)
 place_of kind.Begin = (1, lit< tt, refl)
 place_of kind.Read = (2, lit< tt, refl)
@@ -89,13 +86,15 @@ place_of kind.RecoverAll = (26, lit< tt, refl)
 place_of kind.JoinAll = (27, lit< tt, refl)
 place_of kind.Where = (28, lit< tt, refl)
 place_of kind.Table = (29, lit< tt, refl)
+place_of kind.CheckBegin = (30, lit< tt, refl)
+place_of kind.CheckEnd = (31, lit< tt, refl)
 
 -- the first so many kinds don't pass
 abbrev pub NonePass : List Line → List (List ℕ) → LineError → ℕ → Type 0
 NonePass lines words c count = (j : ℕ) (k : LineKind) → j < count → slice_get KINDS j ≡ Some k → ¬ Passes lines words c k
 
 pub none_passes : (lines : List Line) (words : List (List ℕ)) (c : LineError) (count : ℕ) → NonePass lines words c count
-    → 30 ≤ count → (k : LineKind) → ¬ Passes lines words c k
+    → 32 ≤ count → (k : LineKind) → ¬ Passes lines words c k
 none_passes lines words c count none all k = let at = place_of k in none at.0 k (omega (arith, at.1, all)) at.2
 
 pub one_more : (lines : List Line) (words : List (List ℕ)) (c : LineError) (count : ℕ) (k : LineKind)
@@ -109,15 +108,6 @@ one_more lines words c count k none fails j other lt at = ⊎_elim
     (cases_lt j count)
 
 -- ---- the first line begins with the word of a complex line, and no other is one
-
-pub begins_is : (words : List (List ℕ)) (first due : List ℕ) (rest : List (List ℕ)) (b : Bool) → words ≡ first ∷ rest
-    → due ≡ codes "complex" → b ≡ bytes_eq first due → IsTrue b ↔ ((r : List (List ℕ)) × (words ≡ codes "complex" ∷ r))
-begins_is words first due rest b is complex told = (
-  λ yes. let same : first ≡ due = (bytes_decides first due).0 (sym told ∙ yes) in
-      (rest, is ∙ ap (λ (w : List ℕ). w ∷ rest) (same ∙ complex)),
-  λ found. let same : first ∷ rest ≡ codes "complex" ∷ found.0 = sym is ∙ found.1 in
-      let head : first ≡ codes "complex" = cc in told ∙ (bytes_decides first due).1 (head ∙ sym complex),
-)
 
 pub misplaced_first : (lines : List Line) (words : List (List ℕ)) (b : Bool) → lines ≡ []
     → IsTrue b ↔ ((r : List (List ℕ)) × (words ≡ codes "complex" ∷ r)) → IsTrue (not b) ↔ IsMisplaced lines words

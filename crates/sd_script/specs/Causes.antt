@@ -14,7 +14,7 @@ use Rattle.sd_script.specs.declared.line.Line.{Line}
 use Rattle.sd_script.specs.Forms.{IsAmount, IsDigit, IsInst, IsName, IsRid, IsValue, mode_word, pick_word, rid_word}
 use Rattle.sd_script.specs.Kinds.{parts_of, text_of}
 use Rattle.sd_script.specs.Order.{IsBegun, IsOfBegun, insts_of, pages_of, table_count}
-use Rattle.sd_script.specs.Words.{words_of}
+use Rattle.sd_script.specs.Words.{plain_number, words_of}
 
 -- the word writes a number from the one to the other
 abbrev pub IsNumberIn : ℕ → ℕ → List ℕ → Type 0
@@ -44,7 +44,7 @@ IsNumbered part.Insts before word = IsNumberIn 1 8 word
 IsNumbered part.Count before word = IsNumberIn 1 1024 word
 IsNumbered part.Page before word = IsNumberIn 0 9999999999 word
 IsNumbered part.Record before word = IsWideRecord word
-IsNumbered part.Amount before word = (z : ℤ) × IsAmount z × (signed_decimal z ≡ word)
+IsNumbered part.Amount before word = (z : ℤ) × IsAmount z × (signed_decimal z ≡ plain_number word)
 IsNumbered part.Capacity before word = IsNumberIn (length before) 65535 word
 IsNumbered part.Calls before word = IsNumberIn 0 1000000 word
 IsNumbered part.Call before word = IsNumberIn 1 1000000 word
@@ -106,9 +106,9 @@ IsMisplaced [] words = (rest : List (List ℕ)) → words ≡ codes "complex" �
 IsMisplaced (line ∷ lines) words = Passes (line ∷ lines) words cause.Word kind.Complex
 
 -- the line is within the limits: its bytes, the lines, the bytes of the text up to its end, and the table lines
-pub record IsAllowed (before : List Line) (bytes : List ℕ) (end : ℕ) : Type 0 where
+pub record IsAllowed (before : List Line) (bytes : List ℕ) (number end : ℕ) : Type 0 where
   pub bytes_most : length bytes ≤ 1024
-  pub lines_most : length before < 100000
+  pub lines_most : number ≤ 100000
   pub text_most : end ≤ 4194304
   pub tables_most : Passes before (words_of bytes) cause.Word kind.Table → table_count before < 64
 
@@ -116,12 +116,12 @@ pub record IsAllowed (before : List Line) (bytes : List ℕ) (end : ℕ) : Type 
 abbrev pub ArePrinted : List ℕ → Type 0
 ArePrinted bytes = All (λ b. (32 ≤ b) × (b ≤ 126)) bytes
 
--- the cause holds of a line of these bytes, which ends at this byte of the text, behind these lines
-abbrev pub Holds : List Line → List ℕ → ℕ → LineError → Type 0
-Holds before bytes end cause.Size = ¬ IsAllowed before bytes end
-Holds before bytes end cause.Byte = ¬ ArePrinted bytes
-Holds before bytes end cause.Order = IsMisplaced before (words_of bytes)
-Holds before bytes end c = (k : LineKind) → ¬ Passes before (words_of bytes) c k
+-- the cause holds of a line of these bytes and this number, which ends at this byte of the text, behind these lines
+abbrev pub Holds : List Line → List ℕ → ℕ → ℕ → LineError → Type 0
+Holds before bytes number end cause.Size = ¬ IsAllowed before bytes number end
+Holds before bytes number end cause.Byte = ¬ ArePrinted bytes
+Holds before bytes number end cause.Order = IsMisplaced before (words_of bytes)
+Holds before bytes number end c = (k : LineKind) → ¬ Passes before (words_of bytes) c k
 
 -- the place of a cause in their order
 abbrev pub rank : LineError → ℕ
@@ -142,6 +142,6 @@ pub record IsFirst (lines : List Line) (words : List (List ℕ)) (c : LineError)
   pub passed : (other : LineError) → 2 < rank other → rank other < rank c → (k : LineKind) × Passes lines words other k
 
 -- the first cause that holds of the line
-pub record IsCause (before : List Line) (bytes : List ℕ) (end : ℕ) (c : LineError) : Type 0 where
-  pub holds : Holds before bytes end c
-  pub first : (other : LineError) → rank other < rank c → ¬ Holds before bytes end other
+pub record IsCause (before : List Line) (bytes : List ℕ) (number end : ℕ) (c : LineError) : Type 0 where
+  pub holds : Holds before bytes number end c
+  pub first : (other : LineError) → rank other < rank c → ¬ Holds before bytes number end other

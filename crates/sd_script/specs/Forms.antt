@@ -7,7 +7,7 @@ use Rattle.sd_base.specs.declared.place.Mode.TheVariants.{Shared, Excl}
 use Rattle.sd_base.specs.declared.trouble.Pick.{Pick}
 use Rattle.sd_base.specs.declared.trouble.Pick.TheVariants.{Keep, Lose, Tear, Junk}
 use Rattle.sd_script.specs.declared.line.Form.{Form}
-use Rattle.sd_script.specs.declared.line.Form.TheVariants.{Complex, Begin, Read, Write, Add, Insert, Delete, Save, Back, Rollback, Commit, Ask, Give, Take, Evict, Flush, Force, Fail, Fuse, Fault, FailAll, Recover, Join, Reopen, RecoverAll, JoinAll, Where, Table}
+use Rattle.sd_script.specs.declared.line.Form.TheVariants.{Complex, Begin, Read, Write, Add, Insert, Delete, Save, Back, Rollback, Commit, Ask, Give, Take, Evict, Flush, Force, CheckBegin, CheckEnd, Fail, Fuse, Fault, FailAll, Recover, Join, Reopen, RecoverAll, JoinAll, Where, Table}
 
 -- the word of a record: its page, a dot, its slot
 abbrev pub rid_word : Rid → List ℕ
@@ -49,6 +49,8 @@ form_words (Take inst page) = decimal inst ∷ codes "take" ∷ decimal page ∷
 form_words (Evict inst page) = decimal inst ∷ codes "evict" ∷ decimal page ∷ []
 form_words (Flush inst page) = decimal inst ∷ codes "flush" ∷ decimal page ∷ []
 form_words (Force inst) = decimal inst ∷ codes "force" ∷ []
+form_words (CheckBegin inst) = decimal inst ∷ codes "check" ∷ codes "begin" ∷ []
+form_words (CheckEnd inst) = decimal inst ∷ codes "check" ∷ codes "end" ∷ []
 form_words (Fail inst) = codes "fail" ∷ decimal inst ∷ []
 form_words (Fuse calls) = codes "fuse" ∷ decimal calls ∷ []
 form_words (Fault call) = codes "fault" ∷ decimal call ∷ []
@@ -131,6 +133,8 @@ IsForm (Take inst page) = IsInst inst × (page < 1024)
 IsForm (Evict inst page) = IsInst inst × (page < 1024)
 IsForm (Flush inst page) = IsInst inst × (page < 1024)
 IsForm (Force inst) = IsInst inst
+IsForm (CheckBegin inst) = IsInst inst
+IsForm (CheckEnd inst) = IsInst inst
 IsForm (Fail inst) = IsInst inst
 IsForm (Fuse calls) = calls ≤ 1000000
 IsForm (Fault call) = (1 ≤ call) × (call ≤ 1000000)

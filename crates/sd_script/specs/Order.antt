@@ -3,7 +3,7 @@ use Rattle.std.specs.Prelude.{◌≡◌, ◌≢◌, ℕ, ◌<◌, ◌≤◌, Boo
 use Rattle.std.specs.List.{list_any, flat_map}
 use Rattle.std.specs.Str.{bytes_eq}
 use Rattle.sd_script.specs.declared.line.Form.{Form}
-use Rattle.sd_script.specs.declared.line.Form.TheVariants.{Complex, Begin, Read, Write, Add, Insert, Delete, Save, Back, Rollback, Commit, Ask, Give, Take, Evict, Flush, Force, Fail, Fuse, Fault, FailAll, Recover, Join, Reopen, RecoverAll, JoinAll, Where, Table}
+use Rattle.sd_script.specs.declared.line.Form.TheVariants.{Complex, Begin, Read, Write, Add, Insert, Delete, Save, Back, Rollback, Commit, Ask, Give, Take, Evict, Flush, Force, CheckBegin, CheckEnd, Fail, Fuse, Fault, FailAll, Recover, Join, Reopen, RecoverAll, JoinAll, Where, Table}
 use Rattle.sd_script.specs.declared.line.Line.{Line}
 
 -- the name that a form begins
@@ -78,6 +78,8 @@ Follows before (Take inst page) = (inst ≤ insts_of before) × (page < pages_of
 Follows before (Evict inst page) = (inst ≤ insts_of before) × (page < pages_of before)
 Follows before (Flush inst page) = (inst ≤ insts_of before) × (page < pages_of before)
 Follows before (Force inst) = inst ≤ insts_of before
+Follows before (CheckBegin inst) = inst ≤ insts_of before
+Follows before (CheckEnd inst) = inst ≤ insts_of before
 Follows before (Fail inst) = inst ≤ insts_of before
 Follows before (Fuse calls) = before ≢ []
 Follows before (Fault call) = before ≢ []

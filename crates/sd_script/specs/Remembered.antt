@@ -1,16 +1,17 @@
 -- What the reader remembers of the lines so far, and what it answers at the next.
-use Rattle.std.specs.Prelude.{◌≡◌, ◌≢◌, ℕ, ◌+◌, ◌≤◌, ◌<◌, Bool, true, false, List, [], ◌∷◌, ◌++◌, length, Option, None, Some}
+use Rattle.std.specs.Prelude.{◌≡◌, ◌≢◌, ◌⊎◌, ℕ, ◌+◌, ◌≤◌, ◌<◌, Bool, true, false, List, [], ◌∷◌, ◌++◌, length, Option, None, Some}
 use Rattle.std.specs.Map.{update}
 use Rattle.std.specs.Str.{bytes_eq}
 use Rattle.sd_base.specs.declared.refusal.Refusal.{Refusal}
 use Rattle.sd_base.specs.declared.refusal.Refusal.TheVariants as refusal
 use Rattle.sd_script.specs.declared.line.Form.{Form}
-use Rattle.sd_script.specs.declared.line.Form.TheVariants.{Complex, Begin, Read, Write, Add, Insert, Delete, Save, Back, Rollback, Commit, Ask, Give, Take, Evict, Flush, Force, Fail, Fuse, Fault, FailAll, Recover, Join, Reopen, RecoverAll, JoinAll, Where, Table}
+use Rattle.sd_script.specs.declared.line.Form.TheVariants.{Complex, Begin, Read, Write, Add, Insert, Delete, Save, Back, Rollback, Commit, Ask, Give, Take, Evict, Flush, Force, CheckBegin, CheckEnd, Fail, Fuse, Fault, FailAll, Recover, Join, Reopen, RecoverAll, JoinAll, Where, Table}
 use Rattle.sd_script.specs.declared.line.Line.{Line}
 use Rattle.sd_script.specs.Forms.{IsForm, IsName, form_words}
 use Rattle.sd_script.specs.Order.{begun, ordinal_of, IsBegun, insts_of, pages_of, table_count, Follows}
 use Rattle.sd_script.specs.Causes.{IsCause}
 use Rattle.sd_script.specs.Reading.{ReadsAs}
+use Rattle.sd_script.specs.Text.{Numbered, is_passed_over}
 
 -- the ordinals that are known behind a line of this form, where so many names were begun before it
 abbrev pub known_after : (List ℕ → Option ℕ) → ℕ → Form → List ℕ → Option ℕ
@@ -76,6 +77,8 @@ FormFits before (Take inst page) = (inst ≤ insts_of before) × (page < pages_o
 FormFits before (Evict inst page) = (inst ≤ insts_of before) × (page < pages_of before)
 FormFits before (Flush inst page) = (inst ≤ insts_of before) × (page < pages_of before)
 FormFits before (Force inst) = inst ≤ insts_of before
+FormFits before (CheckBegin inst) = inst ≤ insts_of before
+FormFits before (CheckEnd inst) = inst ≤ insts_of before
 FormFits before (Fail inst) = inst ≤ insts_of before
 FormFits before (Fuse calls) = before ≢ []
 FormFits before (Fault call) = before ≢ []
@@ -93,29 +96,39 @@ abbrev pub IsTakenIf : List Line → Line → List Line → Bool → Type 0
 IsTakenIf before line after true = IsFresh before line.form × (after ≡ before ++ line ∷ [])
 IsTakenIf before line after false = (¬ IsFresh before line.form) × (after ≡ before)
 
--- the lines with one behind them that these words read as
-pub record IsTakenBehind (before : List Line) (words : List (List ℕ)) (after : List Line) : Type 0 where
+-- the lines with one of this number behind them that these words read as
+pub record IsTakenBehind (before : List Line) (number : ℕ) (words : List (List ℕ)) (after : List Line) : Type 0 where
   pub line : Line
   pub is : after ≡ before ++ line ∷ []
   pub words_are : form_words line.form ≡ words
   pub form : IsForm line.form
   pub follows : Follows before line.form
-  pub number : line.number ≡ length before + 1
+  pub number_is : line.number ≡ number
   pub session : line.session ≡ 0
 
--- as IsTakenBehind, if a line of these words was taken; it wasn't, if none may come next
-abbrev pub IsTakenOf : List Line → List (List ℕ) → List Line → Bool → Type 0
-IsTakenOf before words after true = IsTakenBehind before words after
-IsTakenOf before words after false = ((form : Form) → IsForm form → Follows before form → form_words form ≢ words) × (after ≡ before)
+-- no line of these words may come next
+abbrev pub NoneFollows : List Line → List (List ℕ) → Type 0
+NoneFollows before words = (form : Form) → IsForm form → Follows before form → form_words form ≢ words
 
--- the lines with the one as which these bytes read
-pub record GoesOn (before : List Line) (bytes : List ℕ) (end : ℕ) (lines : List Line) : Type 0 where
+-- as IsTakenBehind, if a line of these words was taken; it wasn't, if none may come next
+abbrev pub IsTakenOf : List Line → ℕ → List (List ℕ) → List Line → Bool → Type 0
+IsTakenOf before number words after true = IsTakenBehind before number words after
+IsTakenOf before number words after false = NoneFollows before words × (after ≡ before)
+
+-- the lines with the one as which this line of a text reads
+pub record GoesOnBy (before : List Line) (at : Numbered) (lines : List Line) : Type 0 where
   pub line : Line
   pub is : lines ≡ before ++ line ∷ []
-  pub reads : ReadsAs before bytes end line
+  pub reads : ReadsAs before at.bytes at.number at.end line
 
--- with what a line of these bytes is refused
-abbrev pub IsLineRefusedWith : List Line → List ℕ → ℕ → Refusal → Type 0
-IsLineRefusedWith before bytes end (refusal.BadLine number cause) = (number ≡ length before + 1) × IsCause before bytes end cause
-IsLineRefusedWith before bytes end refusal.Memory = Unit {0}
-IsLineRefusedWith before bytes end _ = ⊥
+-- the lines behind this line of a text: as before where it is passed over, else with one behind them
+abbrev pub GoesOn : List Line → Numbered → List Line → Type 0
+GoesOn before at lines =
+    ((is_passed_over at ≡ true) × (lines ≡ before)) ⊎ ((is_passed_over at ≡ false) × GoesOnBy before at lines)
+
+-- with what this line of a text is refused
+abbrev pub IsLineRefusedWith : List Line → Numbered → Refusal → Type 0
+IsLineRefusedWith before at (refusal.BadLine number cause) =
+    (is_passed_over at ≡ false) × (number ≡ at.number) × IsCause before at.bytes at.number at.end cause
+IsLineRefusedWith before at refusal.Memory = Unit {0}
+IsLineRefusedWith before at _ = ⊥

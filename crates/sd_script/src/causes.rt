@@ -1,7 +1,6 @@
 //! What is wrong with a line that can't be read: the first cause that holds. It is asked once in a run, and tries kind after kind.
 
 ghost use Rattle.std.specs.Prelude.{◌≡◌, ℕ, ◌<◌, ◌≤◌, ◌^◌, ◌↔◌, ◌∷◌, List, All, codes, length, false, IsTrue};
-ghost use Rattle.std.specs.Option.{option_copied};
 ghost use Rattle.std.specs.Fmt.{decimal};
 ghost use Rattle.sd_base.specs.declared.ids.Rid.{Rid};
 ghost use Rattle.sd_base.specs.declared.refusal.LineError.TheVariants as cause;
@@ -11,18 +10,18 @@ ghost use Rattle.sd_script.specs.Causes.{ArePrinted, Fit, IsCause, IsFirst, IsFo
 ghost use Rattle.sd_script.specs.Forms.{IsDigit, IsInst, IsName, IsRid, rid_word};
 ghost use Rattle.sd_script.specs.Kinds.{text_of};
 ghost use Rattle.sd_script.specs.Order.{IsOfBegun, insts_of, pages_of, table_count};
-ghost use Rattle.sd_script.specs.Remembered.{IsTakenOf};
-ghost use Rattle.sd_script.specs.Words.{words_behind, words_of};
+ghost use Rattle.sd_script.specs.Remembered.{NoneFollows};
+ghost use Rattle.sd_script.specs.Words.{plain, words_of};
 
-use crate::first_word;
 use crate::kinds::{Fixed, LineKind, Part, parts, text};
+use crate::next_word;
 use crate::parts::{amount_of, dot_in, inst_of, mode_of, ordinal_of, page_of, pick_of, rid_of};
 use crate::reader::Reader;
 use crate::word::{is_name, is_value, number_within};
 use sd_base::LineError;
 
 // Each kind of line.
-pub(crate) const KINDS: [LineKind; 30] = [
+pub(crate) const KINDS: [LineKind; 32] = [
     LineKind::Complex,
     LineKind::Begin,
     LineKind::Read,
@@ -53,6 +52,8 @@ pub(crate) const KINDS: [LineKind; 30] = [
     LineKind::JoinAll,
     LineKind::Where,
     LineKind::Table,
+    LineKind::CheckBegin,
+    LineKind::CheckEnd,
 ];
 
 /// The first cause that holds of a line that can't be read behind the reader's lines, though it is within the limits and its bytes
@@ -61,10 +62,9 @@ pub(crate) const KINDS: [LineKind; 30] = [
 #[inline(never)]
 pub(crate) fn cause_of(line: &[u8], reader: &Reader) -> LineError
     requires bytes { length line.now ≤ 1024 }
-    requires lines { length reader.now < 100000 }
     requires printed { ArePrinted line.now }
-    requires none { IsTakenOf reader.now (words_of line.now) reader.now false }
-    ensures { (end : ℕ) → end ≤ 4194304 → IsCause reader.now line.now end result }
+    requires none { NoneFollows reader.now (plain (words_of line.now)) }
+    ensures { (number end : ℕ) → number ≤ 100000 → end ≤ 4194304 → IsCause reader.now line.now number end result }
 {
     if is_one_table_too_many(line, reader) {
         LineError::Size
@@ -80,9 +80,8 @@ pub(crate) fn cause_of(line: &[u8], reader: &Reader) -> LineError
 #[inline(never)]
 pub(crate) fn cause_unprinted(line: &[u8], reader: &Reader) -> LineError
     requires bytes { length line.now ≤ 1024 }
-    requires lines { length reader.now < 100000 }
     requires printed { ArePrinted line.now → ⊥ }
-    ensures { (end : ℕ) → end ≤ 4194304 → IsCause reader.now line.now end result }
+    ensures { (number end : ℕ) → number ≤ 100000 → end ≤ 4194304 → IsCause reader.now line.now number end result }
 {
     if is_one_table_too_many(line, reader) {
         LineError::Size
@@ -110,7 +109,9 @@ fn is_misplaced(line: &[u8], reader: &Reader) -> bool
 fn begins_complex(line: &[u8]) -> bool
     ensures { IsTrue result ↔ ((rest : List (List ℕ)) × (words_of line.now ≡ codes "complex" ∷ rest)) }
 {
-    let (first, _) = first_word(line);
+    let Some((first, _)) = next_word(line) else {
+        return false;
+    };
     first == b"complex".as_slice()
 }
 
@@ -150,26 +151,19 @@ fn some_passes(reader: &Reader, line: &[u8], cause: LineError) -> bool
 fn passes(reader: &Reader, line: &[u8], cause: LineError, kind: LineKind) -> bool
     ensures { IsTrue result ↔ Passes reader.now (words_of line.now) cause kind }
 {
-    fit(reader, cause, parts(kind), b"", Some(line))
+    fit(reader, cause, parts(kind), b"", line)
 }
 
-// Whether each of the words that are left suits its part, where this is the word before them.
-fn fit(
-    reader: &Reader,
-    cause: LineError,
-    parts: &[Part],
-    before: &[u8],
-    rest: Option<&[u8]>,
-) -> bool
-    ensures { IsTrue result ↔ Fit reader.now cause parts.now before.now (words_behind (option_copied rest.entry)) }
+// Whether each of the words that are left on the line suits its part, where this is the word before them.
+fn fit(reader: &Reader, cause: LineError, parts: &[Part], before: &[u8], line: &[u8]) -> bool
+    ensures { IsTrue result ↔ Fit reader.now cause parts.now before.now (words_of line.now) }
 {
-    let Some(line) = rest else {
+    let Some((word, rest)) = next_word(line) else {
         return parts.is_empty();
     };
     let [part, parts @ ..] = parts else {
         return false;
     };
-    let (word, rest) = first_word(line);
     suits(reader, cause, *part, before, word) && fit(reader, cause, parts, word, rest)
 }
 

@@ -87,6 +87,19 @@ fn flush_of(inst: InstNo, page: &[u8]) -> Option<Form>
     Some(Form::Flush { inst, page })
 }
 
+fn check_of(inst: InstNo, word: &[u8]) -> Option<Form>
+    requires { IsInst inst }
+    ensures { (known : List ℕ → Option ℕ) → IsFormOf known (decimal inst ∷ codes "check" ∷ word.now ∷ []) result }
+{
+    if word == b"begin".as_slice() {
+        Some(Form::CheckBegin { inst })
+    } else if word == b"end".as_slice() {
+        Some(Form::CheckEnd { inst })
+    } else {
+        None
+    }
+}
+
 /// The form of two words of an instance's line, if there is one: a force line is the only one of so many.
 pub fn force_of(inst: InstNo, verb: &[u8]) -> Option<Form>
     requires { IsInst inst }
@@ -113,6 +126,8 @@ pub fn three_of_inst(inst: InstNo, verb: &[u8], word: &[u8]) -> Option<Form>
         evict_of(inst, word)
     } else if verb == b"flush".as_slice() {
         flush_of(inst, word)
+    } else if verb == b"check".as_slice() {
+        check_of(inst, word)
     } else {
         None
     }

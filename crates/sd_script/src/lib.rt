@@ -1,14 +1,15 @@
 //! Scripts: a text becomes lines, each of the form that its words spell, or the first bad line is told.
 //!
 //! Meaning: a `Form` is what a line asks for; `form_words` and `IsForm` (`specs/Forms.antt`) say by which words, and what its parts
-//! may be. A `Script` is a list of lines; `IsScript` and `IsBadAt` (`specs/Reading.antt`) say which text is which. The causes for
-//! which a line is bad (`IsCause`, `specs/Causes.antt`) are told kind of line by kind of line (`parts_of`, `specs/Kinds.antt`).
+//! may be. A `Script` is a list of lines; `IsScript` and `IsBadAt` (`specs/Reading.antt`) say which text is which. Blank lines
+//! and comments are passed over and counted (`told_lines`, `specs/Text.antt`). The causes for which a line is bad (`IsCause`,
+//! `specs/Causes.antt`) are told kind of line by kind of line (`parts_of`, `specs/Kinds.antt`).
 //! Keeps: in `Names` the ordinal of each name that was begun (`known`); nothing behind a call.
 //! Promises: `Script::read` reads each script and nothing else (`found`, `exact`); it names the first bad line and the first cause
 //! that holds of it (`bad`, `exact_bad`); a text has one reading (`one_reading`, `no_bad_script`, `one_bad_line`), a line one first
-//! cause, and one that reads none (`one_cause`, `no_cause_of_good`). Words are read as the form that they
-//! spell and no other, and as none only where they spell none; no two forms have the same words (`proofs/OneForm.antt`). A line of
-//! a transaction tells it by the ordinal of its begin line (`Follows`).
+//! cause, one that reads none, and a comment only that of a limit or a byte (`one_cause`, `no_cause_of_good`, `limits_of_idle`).
+//! Words are read as the form that they spell and no other, and as none only where they spell none; no two forms have the same
+//! words (`proofs/OneForm.antt`). A line of a transaction tells it by the ordinal of its begin line (`Follows`).
 //! Refuses: `BadLine`, and `Memory`.
 //! Knows nothing of: what a line does, replies, devices.
 //! Stands on: sd_base.
@@ -44,4 +45,4 @@ pub use verb_forms::{
     add_of, commit_of, complex_of, five_of_verb, insert_of, lone_of, read_of, recovery_of,
     three_of_verb, two_of_verb, write_of,
 };
-pub use word::{first_word, is_add, is_begin, is_commit, is_insert, is_read, is_write};
+pub use word::{is_add, is_begin, is_commit, is_insert, is_read, is_write, next_word};

@@ -104,6 +104,14 @@ pub enum Form {
     Force {
         inst: InstNo,
     },
+    /// `I check begin`: the instance begins a checkpoint.
+    CheckBegin {
+        inst: InstNo,
+    },
+    /// `I check end`: the instance ends the checkpoint that it began.
+    CheckEnd {
+        inst: InstNo,
+    },
     /// `fail I`: the instance fails.
     Fail {
         inst: InstNo,

@@ -7,9 +7,10 @@ ghost use Rattle.sd_base.specs.declared.place.Mode.{Mode};
 ghost use Rattle.sd_base.specs.declared.trouble.Pick.{Pick};
 ghost use Rattle.sd_script.specs.Forms.{rid_word, mode_word, pick_word, IsInst, IsNoInst, IsName, IsRid, IsAmount};
 ghost use Rattle.sd_script.specs.Known.{known};
+ghost use Rattle.sd_script.specs.Words.{plain_number};
 
 use crate::names::Names;
-use crate::word::{is_name, number_of, number_within};
+use crate::word::{is_minus_zero, is_name, number_of, number_within};
 use sd_base::{Bytes, InstNo, Memory, Mode, PageNo, Pick, Rid, Word};
 use std::alloc::Global;
 
@@ -58,8 +59,20 @@ pub(crate) fn dot_in(word: &[u8]) -> Option<usize>
     word.iter().position(|b| *b == b'.')
 }
 
-/// The number that an optional minus and a number write; `-0` is none.
+/// The number that an optional minus and a number write.
 pub(crate) fn amount_of(word: &[u8]) -> Option<i64>
+    ensures found { IfSome result (λ z. signed_decimal z ≡ plain_number word.now) }
+    ensures range { IfSome result IsAmount }
+    ensures none { IfNone result ((z : ℤ) → IsAmount z → signed_decimal z ≢ plain_number word.now) }
+{
+    if is_minus_zero(word) {
+        return Some(0);
+    }
+    signed_of(word)
+}
+
+// The same of a word other than `-0`, as it is spelled.
+fn signed_of(word: &[u8]) -> Option<i64>
     ensures found { IfSome result (λ z. signed_decimal z ≡ word.now) }
     ensures range { IfSome result IsAmount }
     ensures none { IfNone result ((z : ℤ) → IsAmount z → signed_decimal z ≢ word.now) }

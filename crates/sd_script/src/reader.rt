@@ -9,9 +9,12 @@ ghost use Rattle.sd_script.specs.Forms.{IsForm, IsFormOf, IsInst, IsName};
 ghost use Rattle.sd_script.specs.Known.{known};
 ghost use Rattle.sd_script.specs.Order.{begun, ordinal_of, is_table, insts_of, pages_of, table_count, Follows};
 ghost use Rattle.sd_script.specs.Remembered.{FormFits, GoesOn, IsFresh, IsLineRefusedWith, IsTakenIf, IsTakenOf, IsUnknown, begins_after, insts_after, known_after, pages_after, tables_after};
+ghost use Rattle.sd_script.specs.Text.{line_at};
+ghost use Rattle.sd_script.specs.Words.{plain_number};
 
 use crate::causes::{cause_of, cause_unprinted};
 use crate::form::take_line;
+use crate::text::is_idle;
 use crate::{Form, Line, Names, add_of, begin_of, commit_of, insert_of, read_of, write_of};
 use sd_base::{InstNo, LineError, Memory, PageNo, Refusal};
 use std::alloc::Global;
@@ -19,7 +22,7 @@ use std::marker::Model;
 
 const LINE_BYTES: usize = 1_024;
 
-pub(crate) const LINES: usize = 100_000;
+pub(crate) const LINES: u32 = 100_000;
 
 const TEXT_BYTES: usize = 4_194_304;
 
@@ -74,37 +77,33 @@ impl Reader {
         self.lines
     }
 
-    /// Reads these bytes, which end at this byte of the text, as the next line.
+    /// Reads the line of these bytes and this number, which ends at this byte of the text. A blank line or a comment is passed over.
     pub(crate) fn read_line(
         &mut self,
         alloc: Global,
         bytes: &[u8],
         printed: bool,
+        number: u32,
         end: usize,
     ) -> Result<(), Refusal>
-        requires few { length self.old ≤ 100000 }
+        requires few { length self.old < number }
         requires printed { IsTrue printed ↔ ArePrinted bytes.now }
-        ensures read { OnOk result (GoesOn self.old bytes.now end self.new) }
-        ensures refused { IfErr result (IsLineRefusedWith self.old bytes.now end) }
+        ensures read { OnOk result (GoesOn self.old (line_at bytes.now number end) self.new) }
+        ensures refused { IfErr result (IsLineRefusedWith self.old (line_at bytes.now number end)) }
     {
-        let number = self.lines.len() as u32 + 1;
-        if !self.has_room_for(bytes, end) {
+        if !has_room_for(bytes, number, end) {
             return Err(bad_line(number, LineError::Size));
         }
         if !printed {
             return Err(bad_line(number, cause_unprinted(bytes, self)));
         }
-        if !take_line(alloc, bytes, self)? {
+        if is_idle(bytes) {
+            return Ok(());
+        }
+        if !take_line(alloc, number, bytes, self)? {
             return Err(bad_line(number, cause_of(bytes, self)));
         }
         Ok(())
-    }
-
-    // Whether a line of these bytes, which ends at this byte of the text, is within the limits, be it no table line.
-    fn has_room_for(&self, bytes: &[u8], end: usize) -> bool
-        ensures { IsTrue result ↔ ((length bytes.now ≤ 1024) × (length self.now < 100000) × (end ≤ 4194304)) }
-    {
-        bytes.len() <= LINE_BYTES && self.lines.len() < LINES && end <= TEXT_BYTES
     }
 
     /// Whether a table line may come next.
@@ -129,15 +128,16 @@ impl Reader {
     pub(crate) fn take_begin(
         &mut self,
         alloc: Global,
+        number: u32,
         inst: InstNo,
         name: &[u8],
     ) -> Result<bool, Memory>
         requires few { length self.old < 100000 }
         requires inst { IsInst inst }
-        ensures { IfOk result (IsTakenOf self.old (decimal inst ∷ codes "begin" ∷ name.now ∷ []) self.new) }
+        ensures { IfOk result (IsTakenOf self.old number (decimal inst ∷ codes "begin" ∷ name.now ∷ []) self.new) }
     {
         let form = begin_of(alloc, inst, name)?;
-        self.take_form(form)
+        self.take_form(number, form)
     }
 
     /// Takes a read line.
@@ -145,14 +145,15 @@ impl Reader {
     pub(crate) fn take_read(
         &mut self,
         alloc: Global,
+        number: u32,
         name: &[u8],
         rid: &[u8],
     ) -> Result<bool, Memory>
         requires few { length self.old < 100000 }
-        ensures { IfOk result (IsTakenOf self.old (codes "read" ∷ name.now ∷ rid.now ∷ []) self.new) }
+        ensures { IfOk result (IsTakenOf self.old number (codes "read" ∷ name.now ∷ rid.now ∷ []) self.new) }
     {
         let form = read_of(alloc, name, rid, &self.begun)?;
-        self.take_form(form)
+        self.take_form(number, form)
     }
 
     /// Takes a write line.
@@ -160,15 +161,16 @@ impl Reader {
     pub(crate) fn take_write(
         &mut self,
         alloc: Global,
+        number: u32,
         name: &[u8],
         rid: &[u8],
         value: &[u8],
     ) -> Result<bool, Memory>
         requires few { length self.old < 100000 }
-        ensures { IfOk result (IsTakenOf self.old (codes "write" ∷ name.now ∷ rid.now ∷ value.now ∷ []) self.new) }
+        ensures { IfOk result (IsTakenOf self.old number (codes "write" ∷ name.now ∷ rid.now ∷ value.now ∷ []) self.new) }
     {
         let form = write_of(alloc, name, rid, value, &self.begun)?;
-        self.take_form(form)
+        self.take_form(number, form)
     }
 
     /// Takes an add line.
@@ -176,15 +178,16 @@ impl Reader {
     pub(crate) fn take_add(
         &mut self,
         alloc: Global,
+        number: u32,
         name: &[u8],
         rid: &[u8],
         by: &[u8],
     ) -> Result<bool, Memory>
         requires few { length self.old < 100000 }
-        ensures { IfOk result (IsTakenOf self.old (codes "add" ∷ name.now ∷ rid.now ∷ by.now ∷ []) self.new) }
+        ensures { IfOk result (IsTakenOf self.old number (codes "add" ∷ name.now ∷ rid.now ∷ plain_number by.now ∷ []) self.new) }
     {
         let form = add_of(alloc, name, rid, by, &self.begun)?;
-        self.take_form(form)
+        self.take_form(number, form)
     }
 
     /// Takes an insert line that gives no capacity.
@@ -192,44 +195,50 @@ impl Reader {
     pub(crate) fn take_insert(
         &mut self,
         alloc: Global,
+        number: u32,
         name: &[u8],
         page: &[u8],
         value: &[u8],
     ) -> Result<bool, Memory>
         requires few { length self.old < 100000 }
-        ensures { IfOk result (IsTakenOf self.old (codes "insert" ∷ name.now ∷ page.now ∷ value.now ∷ []) self.new) }
+        ensures { IfOk result (IsTakenOf self.old number (codes "insert" ∷ name.now ∷ page.now ∷ value.now ∷ []) self.new) }
     {
         let form = insert_of(alloc, name, page, value, None, &self.begun)?;
-        self.take_form(form)
+        self.take_form(number, form)
     }
 
     /// Takes a commit line.
     #[inline(never)]
-    pub(crate) fn take_commit(&mut self, alloc: Global, name: &[u8]) -> Result<bool, Memory>
+    pub(crate) fn take_commit(
+        &mut self,
+        alloc: Global,
+        number: u32,
+        name: &[u8],
+    ) -> Result<bool, Memory>
         requires few { length self.old < 100000 }
-        ensures { IfOk result (IsTakenOf self.old (codes "commit" ∷ name.now ∷ []) self.new) }
+        ensures { IfOk result (IsTakenOf self.old number (codes "commit" ∷ name.now ∷ []) self.new) }
     {
         let form = commit_of(alloc, name, &self.begun)?;
-        self.take_form(form)
+        self.take_form(number, form)
     }
 
     /// Takes a line of some form, which the names that were begun gave, if it may come next, and tells whether it did.
     #[inline(never)]
-    pub(crate) fn take_other(&mut self, form: Option<Form>) -> Result<bool, Memory>
+    pub(crate) fn take_other(&mut self, number: u32, form: Option<Form>) -> Result<bool, Memory>
         requires few { length self.old < 100000 }
         requires form { (words : List (List ℕ)) × IsFormOf (ordinal_of (begun self.old)) words form }
         ensures { (words : List (List ℕ)) → IsFormOf (ordinal_of (begun self.old)) words form →
-            IfOk result (IsTakenOf self.old words self.new) }
+            IfOk result (IsTakenOf self.old number words self.new) }
     {
-        self.take_form(form)
+        self.take_form(number, form)
     }
 
     #[inline(always)]
-    fn take_form(&mut self, form: Option<Form>) -> Result<bool, Memory>
+    fn take_form(&mut self, number: u32, form: Option<Form>) -> Result<bool, Memory>
         requires few { length self.old < 100000 }
         requires form { (words : List (List ℕ)) × IsFormOf (ordinal_of (begun self.old)) words form }
         ensures { (words : List (List ℕ)) → IsFormOf (ordinal_of (begun self.old)) words form →
-            IfOk result (IsTakenOf self.old words self.new) }
+            IfOk result (IsTakenOf self.old number words self.new) }
     {
         let Some(form) = form else {
             return Ok(false);
@@ -237,9 +246,8 @@ impl Reader {
         if !self.admits(&form) {
             return Ok(false);
         }
-        let before = self.lines.len() as u32;
         self.take(Line {
-            number: before + 1,
+            number,
             session: 0,
             form,
         })
@@ -272,9 +280,11 @@ impl Reader {
             | Form::Take { inst, page }
             | Form::Evict { inst, page }
             | Form::Flush { inst, page } => self.has_inst(*inst) && self.has_page(*page),
-            Form::Force { inst } | Form::Fail { inst } | Form::Join { inst } => self.has_inst(
-                *inst,
-            ),
+            Form::Force { inst }
+            | Form::CheckBegin { inst }
+            | Form::CheckEnd { inst }
+            | Form::Fail { inst }
+            | Form::Join { inst } => self.has_inst(*inst),
             Form::Recover { by, .. } => self.has_inst(*by),
             Form::Fuse { .. }
             | Form::Fault { .. }
@@ -345,6 +355,13 @@ fn make_ready(
 {
     lines.reserve(1)?;
     begin(names, begins, form)
+}
+
+// Whether a line of these bytes and this number, which ends at this byte of the text, is within the limits, be it no table line.
+fn has_room_for(bytes: &[u8], number: u32, end: usize) -> bool
+    ensures { IsTrue result ↔ ((length bytes.now ≤ 1024) × (number ≤ 100000) × (end ≤ 4194304)) }
+{
+    bytes.len() <= LINE_BYTES && number <= LINES && end <= TEXT_BYTES
 }
 
 fn bad_line(line: u32, cause: LineError) -> Refusal

@@ -2,7 +2,9 @@
 
 ghost use Rattle.std.specs.Prelude.{◌≡◌, ◌==◌, ◌+◌, ◌<◌, ◌∷◌, min, length, position, ltb, ◌||◌, IsTrue, ◌↔◌};
 ghost use Rattle.sd_script.specs.Causes.{ArePrinted};
-ghost use Rattle.sd_script.specs.Text.{lines_of};
+ghost use Rattle.sd_script.specs.Text.{is_idle, lines_of};
+
+use crate::next_word;
 
 /// The first line of a text without its LF, what follows it, and whether each byte of the line is printed or a space.
 pub(crate) fn first_line(text: &[u8]) -> (&[u8], &[u8], bool)
@@ -18,6 +20,16 @@ pub(crate) fn first_line(text: &[u8]) -> (&[u8], &[u8], bool)
             (line, rest, unprinted(line).is_none())
         }
         None => (text, &text[text.len()..], true),
+    }
+}
+
+/// Whether the line is blank or a comment.
+pub(crate) fn is_idle(line: &[u8]) -> bool
+    ensures { result ≡ is_idle line.now }
+{
+    match line {
+        [] => true,
+        [first, ..] => *first == b'#' || (*first == b' ' && next_word(line).is_none()),
     }
 }
 

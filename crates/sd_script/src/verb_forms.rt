@@ -3,6 +3,7 @@
 ghost use Rattle.std.specs.Prelude.{◌≢◌, ℕ, ◌≤◌, ◌∷◌, [], List, Option, codes, length, IfOk, IfSome};
 ghost use Rattle.sd_script.specs.Forms.{AreSteps, IsFormOf, IsNoInst, number_words};
 ghost use Rattle.sd_script.specs.Known.{known};
+ghost use Rattle.sd_script.specs.Words.{plain_number};
 
 use crate::Form;
 use crate::names::Names;
@@ -86,7 +87,7 @@ pub fn add_of(
     by: &[u8],
     begun: &Names,
 ) -> Result<Option<Form>, Memory>
-    ensures { IfOk result (IsFormOf (known begun.now) (codes "add" ∷ name.now ∷ rid.now ∷ by.now ∷ [])) }
+    ensures { IfOk result (IsFormOf (known begun.now) (codes "add" ∷ name.now ∷ rid.now ∷ plain_number by.now ∷ [])) }
 {
     let Some(by) = amount_of(by) else {
         return Ok(None);

@@ -1,20 +1,27 @@
 //! The words of a line: numbers, names and values.
 
-ghost use Rattle.std.specs.Prelude.{◌≡◌, ◌≢◌, codes, ◌==◌, ℕ, ◌<◌, ◌≤◌, ◌^◌, ◌↔◌, ◌⊎◌, ◌∷◌, length, position, slice_index, All, IsTrue, IfSome, IfNone};
-ghost use Rattle.std.specs.Option.{option_copied};
+ghost use Rattle.std.specs.Prelude.{◌≡◌, ◌≢◌, codes, ◌==◌, ℕ, ◌<◌, ◌≤◌, ◌^◌, ◌↔◌, ◌⊎◌, ◌∷◌, [], length, position, slice_index, All, IsTrue, IfSome, IfNone};
 ghost use Rattle.std.specs.Fmt.{decimal};
 ghost use Rattle.std.specs.Str.Parse.{AllDigits, digits_value};
-ghost use Rattle.sd_script.specs.Words.{words_of, words_behind};
+ghost use Rattle.sd_script.specs.Words.{words_of};
 ghost use Rattle.sd_script.specs.Forms.{IsLetter, IsDigit, IsName, IsValue};
 
-/// The first word of a line, and what follows its space; `None` where the word is the last.
-pub fn first_word(line: &[u8]) -> (&[u8], Option<&[u8]>)
-    ensures { words_of line.now ≡ result.0.now ∷ words_behind (option_copied result.1) }
+/// The first word of a line, and what follows it and its space; `None` where the line has no word.
+pub fn next_word(line: &[u8]) -> Option<(&[u8], &[u8])>
+    ensures found { IfSome result (λ f. words_of line.now ≡ f.0.now ∷ words_of f.1.now) }
+    ensures none { IfNone result (words_of line.now ≡ []) }
 {
-    match space_in(line) {
-        Some(end) => (&line[..end], Some(&line[end + 1..])),
-        None => (line, None),
+    let mut rest = line;
+    while let Some(end) = space_in(rest) {
+        if end > 0 {
+            return Some((&rest[..end], &rest[end + 1..]));
+        }
+        rest = &rest[1..];
     }
+    if rest.is_empty() {
+        return None;
+    }
+    Some((rest, &rest[rest.len()..]))
 }
 
 // A call of its own: where its loop stands inside of others, it counts along for each of them.
@@ -131,6 +138,13 @@ pub fn is_add(word: &[u8]) -> bool
     ensures { IsTrue result ↔ (word.now ≡ codes "add") }
 {
     matches!(word, [b'a', b'd', b'd'])
+}
+
+/// Whether the word is `-0`.
+pub(crate) fn is_minus_zero(word: &[u8]) -> bool
+    ensures { IsTrue result ↔ (word.now ≡ codes "-0") }
+{
+    matches!(word, [b'-', b'0'])
 }
 
 /// Whether the word is `insert`.

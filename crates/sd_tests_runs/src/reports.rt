@@ -35,7 +35,7 @@ const FIVE: Who = Who(5, 0, 0);
 const EIGHT: Who = Who(8, 0, 0);
 
 /// What is done.
-static REPLIES: [ReportedLine; 32] = [
+static REPLIES: [ReportedLine; 34] = [
     (
         b"complex 8 2 1\n",
         &[Help(Joined(1)), Help(Joined(1))],
@@ -65,6 +65,8 @@ static REPLIES: [ReportedLine; 32] = [
     (b"1 evict 1\n", &[Own(Did)], b"1 evicted 1\n"),
     (b"1 flush 0\n", &[Own(Did)], b"1 flushed 0\n"),
     (b"1 force\n", &[Own(Did)], b"1 forced\n"),
+    (b"1 check begin\n", &[Own(Did)], b"1 check begin\n"),
+    (b"2 check end\n", &[Own(Did)], b"2 check end\n"),
     (b"fail 8\n", &[Own(Did)], b"fail 8\n"),
     (b"fuse 0\n", &[Own(Did)], b"fuse 0\n"),
     (b"fuse 1000000\n", &[Own(Did)], b"fuse 1000000\n"),
@@ -273,7 +275,7 @@ static SURVIVORS: [ReportedLine; 14] = [
 ];
 
 /// What is refused, behind the lines of the other table.
-static REFUSALS: [ReportedLine; 38] = [
+static REFUSALS: [ReportedLine; 39] = [
     (b"commit a\n", &[Own(No(NoTxn))], b"a ended\n"),
     (b"1 begin b\n", &[Own(No(TooManyTxns))], b"b too many\n"),
     (b"read b 0.0\n", &[], b"b ended\n"),
@@ -326,7 +328,8 @@ static REFUSALS: [ReportedLine; 38] = [
     (b"1 give 1\n", &[Own(No(NeedPage))], b"1 need 1\n"),
     (b"2 take 1\n", &[Own(No(PoolFull))], b"2 pool full\n"),
     (b"1 flush 1\n", &[Own(No(NeedPage))], b"1 need 1\n"),
-    (b"1 flush 1\n", &[Own(No(NoCheck))], b"1 no check\n"),
+    (b"1 check end\n", &[Own(No(NoCheck))], b"1 no check\n"),
+    (b"1 check begin\n", &[Own(No(Down))], b"1 down\n"),
     (b"fail 8\n", &[Own(No(Down))], b"fail 8 down\n"),
     (b"1 force\n", &[Own(No(Up))], b"1 not down\n"),
     (b"1 force\n", &[Own(No(NotRecovered))], b"1 not recovered\n"),
@@ -465,6 +468,8 @@ fn page_event(rt: &impl Abort, form: &Form) -> Event {
             page: *page,
         },
         Form::Force { inst } => Event::Force { inst: *inst },
+        Form::CheckBegin { inst } => Event::CheckBegin { inst: *inst },
+        Form::CheckEnd { inst } => Event::CheckEnd { inst: *inst },
         Form::Fail { inst } => Event::Fail { inst: *inst },
         Form::Fuse { calls } => Event::Arm {
             trouble: Trouble::Fuse(u64::from(*calls)),

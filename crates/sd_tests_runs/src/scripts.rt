@@ -5,7 +5,7 @@ use sd_script::{Kind, Script};
 use std::test::Fail;
 
 /// Texts with the number of lines of a script, or of the first bad line.
-static TEXTS: [(&[u8], Result<usize, u32>); 130] = [
+static TEXTS: [(&[u8], Result<usize, u32>); 137] = [
     (
         b"complex 1 1 2\n1 begin a\ninsert a 0 red\ncommit a\ntable\n",
         Ok(5),
@@ -20,9 +20,9 @@ static TEXTS: [(&[u8], Result<usize, u32>); 130] = [
     (b"", Err(1)),
     (b"\x00\xff\x80\n", Err(1)),
     (b"complex 01 1 2", Err(1)),
-    (b"complex 1 1 2\n\ntable\n", Err(2)),
-    (b"complex 1 1 2\ntable \n", Err(2)),
-    (b"complex 1 1 2\n1  begin a\n", Err(2)),
+    (b"complex 1 1 2\n\ntable\n", Ok(2)),
+    (b"complex 1 1 2\ntable \n", Ok(2)),
+    (b"complex 1 1 2\n1  begin a\n", Ok(2)),
     (b"complex 1 1 2\r\n", Err(1)),
     (b"complex 1 1 2\n1 begin a\ninsert a 0 red blue\n", Err(3)),
     (b"complex 1 1 2\n1 begin a\ninsert a 0 r\x7fd\n", Err(3)),
@@ -67,7 +67,7 @@ static TEXTS: [(&[u8], Result<usize, u32>); 130] = [
     (b"complex 1 2 2\n1 begin a\nread b 0.0\n", Err(3)),
     (b"complex 1 2 2\n1 begin a\nwrite a 0.0\n", Err(3)),
     (b"complex 1 2 2\n1 begin a\nwrite a 0.0 x y\n", Err(3)),
-    (b"complex 1 2 2\n1 begin a\nadd a 0.0 -0\n", Err(3)),
+    (b"complex 1 2 2\n1 begin a\nadd a 0.0 -0\n", Ok(3)),
     (b"complex 1 2 2\n1 begin a\nadd a 0.0 --1\n", Err(3)),
     (b"complex 1 2 2\n1 begin a\nadd a 0.0 10000000000\n", Err(3)),
     (b"complex 1 2 2\n1 begin a\nadd a 0.0 1 1\n", Err(3)),
@@ -94,6 +94,13 @@ static TEXTS: [(&[u8], Result<usize, u32>); 130] = [
     (b"complex 1 2 2\n1 flush 01\n", Err(2)),
     (b"complex 1 2 2\n1 force 0\n", Err(2)),
     (b"complex 1 2 2\n2 force\n", Err(2)),
+    (b"complex 1 2 2\n1 check begin\n", Ok(2)),
+    (b"complex 1 2 2\n1 check end\n", Ok(2)),
+    (b"complex 1 2 2\n1 check\n", Err(2)),
+    (b"complex 1 2 2\n1 check ends\n", Err(2)),
+    (b"complex 1 2 2\n2 check begin\n", Err(2)),
+    (b"complex 1 2 2\n1 check end 0\n", Err(2)),
+    (b"1 check end\ncomplex 1 2 2\n", Err(1)),
     (b"complex 1 2 2\nwhere\n", Err(2)),
     (b"complex 1 2 2\nwhere 2\n", Err(2)),
     (b"complex 1 2 2\nwhere 0 0\n", Err(2)),

@@ -7,7 +7,7 @@ use Rattle.sd_script.specs.declared.line.Line.{Line}
 use Rattle.sd_report.specs.declared.txn_names.TxnNames.{TxnNames}
 use Rattle.sd_model.specs.Booked.{entries_in}
 use Rattle.sd_report.specs.Names.{name_in}
-use Rattle.sd_report.specs.Report.{gathered, report, reported, names_of}
+use Rattle.sd_report.specs.Report.{gathered, report, reported_in, names_of}
 use Rattle.sd_report.proofs.FewBytes.{none_tells}
 use Rattle.sd_report.proofs.Unnamed.{same_report}
 use Rattle.sd_report.proofs.report.names_for.Goals as goal
@@ -22,8 +22,8 @@ returns-else-any_whole_tells c =
 
 named_report : (lines : List Line) (entries : List Entry) (r : Result TxnNames Memory)
     → IfOk r (λ names. (t : TxnId) → name_in names t ≡ names_of lines entries t)
-    → IfOk r (λ names. gathered (reported (name_in names)) lines entries ≡ report lines entries)
-named_report lines entries (Ok names) same = λ i. gathered (reported (λ t. same t i)) lines entries
+    → IfOk r (λ names. gathered (reported_in (name_in names) entries) lines entries ≡ report lines entries)
+named_report lines entries (Ok names) same = λ i. gathered (reported_in (λ t. same t i) entries) lines entries
 named_report lines entries (Err e) same = tt
 
 pub returns-then-any_whole_tells : goal.returns-then-any_whole_tells

@@ -20,9 +20,14 @@ pub returns-then-eq-4 : goal.returns-then-eq-4
 returns-then-eq-4 c = λ known. subst (λ (v : List ℕ). IsFormOf known (decimal c.args.inst ∷ v ∷ c.args.word.now ∷ []) c.flush_of.result)
     (sym (is_word c.args.verb.now _ _ c.as_slice-else-eq-3.ensures c.if-eq-4.ensures)) (c.flush_of.ensures known)
 
-pub returns-else-eq-4 : goal.returns-else-eq-4
-returns-else-eq-4 c = λ known. no_three known c.args.inst c.args.verb.now c.args.word.now c.requires.inst c.requires.verb
+pub returns-then-eq-5 : goal.returns-then-eq-5
+returns-then-eq-5 c = λ known. subst (λ (v : List ℕ). IsFormOf known (decimal c.args.inst ∷ v ∷ c.args.word.now ∷ []) c.check_of.result)
+    (sym (is_word c.args.verb.now _ _ c.as_slice-else-eq-4.ensures c.if-eq-5.ensures)) (c.check_of.ensures known)
+
+pub returns-else-eq-5 : goal.returns-else-eq-5
+returns-else-eq-5 c = λ known. no_three known c.args.inst c.args.verb.now c.args.word.now c.requires.inst c.requires.verb
     (isnt_word c.args.verb.now _ _ c.as_slice.ensures c.if-eq.ensures)
     (isnt_word c.args.verb.now _ _ c.as_slice-else-eq.ensures c.if-eq-2.ensures)
     (isnt_word c.args.verb.now _ _ c.as_slice-else-eq-2.ensures c.if-eq-3.ensures)
     (isnt_word c.args.verb.now _ _ c.as_slice-else-eq-3.ensures c.if-eq-4.ensures)
+    (isnt_word c.args.verb.now _ _ c.as_slice-else-eq-4.ensures c.if-eq-5.ensures)
