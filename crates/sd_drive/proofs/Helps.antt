@@ -22,6 +22,16 @@ pub on-err-both : {X : Type 0} (r : Result X Memory) (P Q : Type 0) → OnErr r 
 on-err-both (Ok x) P Q p q = p
 on-err-both (Err e) P Q p q = (p, q)
 
+pub on-ok-both : {X : Type 0} (r : Result X Memory) (P Q : Type 0) → OnOk r P → OnOk r Q → OnOk r (P × Q)
+on-ok-both (Ok x) P Q p q = (p, q)
+on-ok-both (Err e) P Q p q = p
+
+-- a fact with its witness, and another one
+pub on-ok-with : {X Y : Type 0} (r : Result X Memory) (A B : Y → Type 0) (Q : Type 0) → OnOk r ((y : Y) × A y × B y) → OnOk r Q
+    → OnOk r ((y : Y) × A y × B y × Q)
+on-ok-with (Ok x) A B Q h q = (h.0, h.1, h.2, q)
+on-ok-with (Err e) A B Q h q = h
+
 pub on-ok-map : {X E : Type 0} (r : Result X E) (P Q : Type 0) → (P → Q) → OnOk r P → OnOk r Q
 on-ok-map (Ok x) P Q then h = then h
 on-ok-map (Err e) P Q then h = h

@@ -27,6 +27,7 @@ pub mod Needs
 pub mod Rooms
 pub mod Running
 pub mod Ways
+pub mod Lined
 pub mod Marks
 pub mod Steps
 pub mod Answering
@@ -37,3 +38,10 @@ pub mod Victims
 pub mod Operating
 pub mod Recovered
 pub mod Rounds
+mod Singles
+mod Quiet
+mod Stands
+mod Emptied
+pub mod Behind
+mod Onward
+mod Unused

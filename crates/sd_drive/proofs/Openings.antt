@@ -1,7 +1,7 @@
 -- The instances that are down recover, and then all join, before the first line; then pools are emptied. It serves the goals of `opening`,
 -- `restart`, `join`, `open_by` and of what goes over them in opening.rt.
-use Rattle.std.proofs.Common.{◌≡◌, inl, inr, ⊎_elim, ℕ, ◌+◌, ◌<◌, ◌≤◌, Bool, true, false, cond, ltb, List, [], ◌∷◌, refl, sym, ap, ap₂, ◌∙◌, subst, arith}
-use Rattle.std.specs.Prelude.{Option, None, Some, is_some}
+use Rattle.std.proofs.Common.{◌≡◌, inl, inr, ⊎_elim, ℕ, ◌+◌, ◌<◌, ◌≤◌, Bool, true, false, cond, ltb, List, [], refl, sym, ap, ap₂, ◌∙◌, subst, arith}
+use Rattle.std.specs.Prelude.{Option, None, Some}
 use Rattle.std.proofs.lemmas.Bool.{ltb-false, ltb-true}
 use Rattle.sd_base.specs.declared.refusal.Refusal.TheVariants as R
 use Rattle.sd_model.specs.declared.event.Entry.{Entry}
@@ -9,7 +9,6 @@ use Rattle.sd_model.specs.declared.event.Event.{Event}
 use Rattle.sd_model.specs.declared.event.Event.TheVariants as event
 use Rattle.sd_model.specs.declared.event.Reply.{Reply}
 use Rattle.sd_model.specs.declared.event.Reply.TheVariants as reply
-use Rattle.sd_model.specs.State.{State}
 use Rattle.sd_rig.specs.Devices.{DeviceImages, Leaves}
 use Rattle.sd_script.specs.declared.line.Line.{Line}
 use Rattle.sd_world.specs.Leading.{Leads}
@@ -24,7 +23,7 @@ use Rattle.sd_drive.specs.declared.recovery.Outcome.TheVariants as outcomes
 use Rattle.sd_drive.specs.declared.recovery.Owner.{Owner}
 use Rattle.sd_drive.specs.Bodies.{status_in}
 use Rattle.sd_drive.specs.Driven.{IsIn, StaysIn}
-use Rattle.sd_drive.specs.Driving.{Cursor, Known, TellsAt, Tells, Work, World, ahead, event_at, fails, followed, goes_on, leavers, left_from, next_down, opens, stays, untold, works_of}
+use Rattle.sd_drive.specs.Driving.{Cursor, IsUnderWay, Known, TellsAt, Tells, Work, World, event_at, fails, followed, goes_on, leavers, left_from, next_down, opens, stays, untold, works_of}
 use Rattle.sd_base.specs.Standing.{is_down}
 use Rattle.sd_drive.specs.Emptying.{BreaksBy, BreaksIn, IsAlone, OpensAt, OpensBy, OpensTo, StopsIn, pools_from}
 use Rattle.sd_drive.specs.Pulls.{Pull, is_pulling}
@@ -37,7 +36,8 @@ use Rattle.sd_drive.proofs.Running.{ran-start}
 use Rattle.sd_drive.proofs.Bodies.{fits-now, fits-some, status-is}
 use Rattle.sd_drive.proofs.Pools.{pools-none}
 use Rattle.sd_drive.proofs.Marks.{breaks-there}
-use Rattle.sd_drive.proofs.Finding.{down-behind, down-here}
+use Rattle.sd_drive.proofs.Finding.{down-behind, down-here, opening-first}
+use Rattle.sd_drive.proofs.Lined.{opening-due}
 use Rattle.sd_drive.proofs.Steps.{Moved, Noted, moved}
 use Rattle.sd_drive.proofs.Telling.{own-in-vain, tells-at, unfails}
 
@@ -45,16 +45,6 @@ use Rattle.sd_drive.proofs.Telling.{own-in-vain, tells-at, unfails}
 join-goes : (known : Known) (w : Core) (i : ℕ) (r : Reply) (b : Bool) → ltb i known.insts ≡ b
     → goes_on w known Work.Opening (Cursor.Joins i) r ≡ cond {A = Option Cursor} b (Some (Cursor.Joins (i + 1))) (leavers w 1 8)
 join-goes known w i r b is = ap (λ (x : Bool). cond {A = Option Cursor} x (Some (Cursor.Joins (i + 1))) (leavers w 1 8)) is
-
-opens-some : (o : Option ℕ) → is_some (opens o) ≡ true
-opens-some None = refl
-opens-some (Some i) = refl
-
--- the opening is the first work, where it has begun or not
-opening-first : (m : State) (known : Known) (o : Option Cursor) (works : List Work)
-    → left_from m known o (Work.Opening ∷ works) ≡ Work.Opening ∷ works
-opening-first m known None works = ap (λ (b : Bool). cond {A = List Work} b (Work.Opening ∷ works) (ahead m known works)) (opens-some (next_down m 1))
-opening-first m known (Some c) works = refl
 
 -- ---- before the first entry
 
@@ -77,6 +67,7 @@ module _ {G : Type 0} (tell : Telling G) (old : Rise G) (start : Core) (lines : 
         keeps = k;
         table = refl;
         marks = record { told = λ failed. absurd (cc); marked = λ rest c left at failed. absurd (cc) };
+        behind = λ opened. absurd (cc);
       }
 
   pub restarts-first : RestartsNext tell first lines old 1 first.world
@@ -342,7 +333,9 @@ module _ {G : Type 0} (tell : Telling G) (old here : Rise G) (i : ℕ) (on : InJ
       joins-next joins start w lines j = let h = joins-here start w lines j in joins start h.0 lines h.1
 
       pub joins-some : StaysIn tell here.hall new.hall → OpensSome tell old new 1
-      joins-some stays_in start w lines j = let h = joins-here start w lines j in (h.0, stays_in start h.0 h.1.opens.there)
+      joins-some stays_in start w lines j =
+          let h = joins-here start w lines j in
+          (h.0, stays_in start h.0 h.1.opens.there, opening-due tell start lines here (Cursor.Joins i) h.0 h.1.opens)
 
       pub joins-broken : JoinBreaks tell here new i → JoinBreaks tell old new 1
       joins-broken breaks start w lines j = let h = joins-here start w lines j in breaks start h.0 lines h.1
@@ -386,8 +379,20 @@ module _ {G : Type 0} (tell : Telling G) (old : Rise G) (empty : old.hall.book.e
       → Keeps tell start new.hall
   opened-keeps new on start k = let rig = rig-there start k in (on start [] rig.0 rig.1 k).1.keeps
 
-  pub restart-lost : (new : Rise G) → RestartsSome tell old new 1 → Opened (λ start lines w. IsIn tell start new.hall w)
-  restart-lost new some = restarted-from new (λ start lines w. IsIn tell start new.hall w) some
+  -- there was no memory for the rest, and it is still under way
+  abbrev pub Lost : Rise G → Type 0
+  Lost new = Opened (λ start lines w. IsIn tell start new.hall w × IsUnderWay Work.Opening (works_of lines) w)
+
+  pub restart-lost : (new : Rise G) → RestartsSome tell old new 1 → Lost new
+  restart-lost new some = restarted-from new (λ start lines w. IsIn tell start new.hall w × IsUnderWay Work.Opening (works_of lines) w)
+      (λ start w lines at. let h = some start w lines at in (h.0, (h.1, h.2)))
+
+  pub lost-in : (new : Rise G) → Lost new → (start : Core) (lines : List Line) (rig : G) → IsRigIn rig old.hall.body → Keeps tell start old.hall
+      → (w : World) × IsIn tell (begin_of old lines start rig) new.hall w × IsUnderWay Work.Opening (works_of lines) w
+  lost-in new lost start lines rig is k = let h = lost start lines rig is k in (h.0, h.1.0, h.1.1)
+
+  pub lost-keeps : (new : Rise G) → Lost new → (start : Core) → Keeps tell start old.hall → Keeps tell start new.hall
+  lost-keeps new lost = opened-keeps new (λ start lines rig is k. let h = lost start lines rig is k in (h.0, h.1.0))
 
   -- a device failed in it
   abbrev pub Fails : Rise G → Type 0
@@ -432,8 +437,9 @@ module _ {G : Type 0} (tell : Telling G) (old : Rise G) (empty : old.hall.book.e
         let h = on start w lines at in more start h.0 lines (joins-first start h.0 lines h.1))
 
     module _ (new : Rise G) where
-      pub joins-lost : OpensSome tell mid new 1 → Opened (λ start lines w. IsIn tell start new.hall w)
-      joins-lost lost = joined-from (λ start lines w. IsIn tell start new.hall w) lost
+      pub joins-lost : OpensSome tell mid new 1 → Lost new
+      joins-lost lost = joined-from (λ start lines w. IsIn tell start new.hall w × IsUnderWay Work.Opening (works_of lines) w)
+          (λ start w lines at. let h = lost start w lines at in (h.0, (h.1, h.2)))
 
       pub joins-fail : JoinBreaks tell mid new 1 → Fails new
       joins-fail breaks = joined-from (λ start lines w. IsIn tell start new.hall w × (w.told.failed ≡ true))
@@ -451,8 +457,9 @@ module _ {G : Type 0} (tell : Telling G) (old : Rise G) (empty : old.hall.book.e
       emptied-from P more = joined-from P (λ start w lines j. let h = all start w lines j in more start h.0 lines h.1)
 
       module _ (new : Rise G) where
-        pub pools-lost : StopsIn tell last new (pools_from 1) → Opened (λ start lines w. IsIn tell start new.hall w)
-        pools-lost lost = emptied-from (λ start lines w. IsIn tell start new.hall w) lost
+        pub pools-lost : StopsIn tell last new (pools_from 1) → Lost new
+        pools-lost lost = emptied-from (λ start lines w. IsIn tell start new.hall w × IsUnderWay Work.Opening (works_of lines) w)
+            (λ start w lines on. let h = lost start w lines on in (h.0, (h.1, h.2)))
 
         pub pools-fail : BreaksIn tell last new (pools_from 1) → Fails new
         pools-fail breaks = emptied-from (λ start lines w. IsIn tell start new.hall w × (w.told.failed ≡ true))

@@ -151,7 +151,8 @@ module _ {G : Type 0} (tell : Telling G) (session number : ℕ) (e : Event) wher
       module _ (new : Hall G) where
         pub pulled-some : PullsSome tell mid new (puller_in x) (Pull.Asks x.1) → OperatesSome tell old new session number e
         pulled-some some start w known line rest c i due =
-            let h = asks start w known line rest c i due in some start h.0 w (Work.Do line) rest c e h.1 h.2
+            let h = asks start w known line rest c i due in
+            let k = some start h.0 w (Work.Do line) rest c e h.1 h.2 in (k.0, k.1)
 
         pub then-some : (came : Bool) → PullsAll tell mid new (puller_in x) x.1 came → (last : Hall G) → StaysIn tell new last → OperatesSome tell old last session number e
         then-some came all last stays start w known line rest c i due =

@@ -26,6 +26,7 @@ use Rattle.sd_drive.specs.Rising.{OpensOn}
 use Rattle.sd_drive.specs.Running.{Start}
 use Rattle.sd_drive.proofs.Bodies.{entry-is, fits-now, status-is}
 use Rattle.sd_drive.proofs.Finding.{first-behind, first-here}
+use Rattle.sd_drive.proofs.Lined.{opening-due}
 
 -- ---- the next copy
 
@@ -199,8 +200,10 @@ module _ {G : Type 0} (tell : Telling G) (old : Rise G) (place : Core → Option
   pub opens-fit : OpensAt tell old place → (w : Core) × fits_in tell.seen tell.leaves old.hall.body w
   opens-fit a = (a.world.core, fits-now tell a.start old.hall a.world (on-there tell a.start a.lines old (place a.world.core) a.world a.on))
 
-  pub stays-stops : (new : Rise G) → StaysIn tell old.hall new.hall → StopsIn tell old new place
-  stays-stops new stays_in start w lines on = (w, stays_in start w (on-there tell start lines old (place w.core) w on))
+-- where an event of it is due the opening is under way
+pub stays-stops : {G : Type 0} (tell : Telling G) (old : Rise G) (c : Cursor) (new : Rise G) → StaysIn tell old.hall new.hall
+    → StopsIn tell old new (stands_at c)
+stays-stops tell old c new stays_in start w lines on = (w, stays_in start w on.there, opening-due tell start lines old c w on)
 
 module _ {G : Type 0} (tell : Telling G) (old mid : Rise G) (place next : Core → Option Cursor) (to : OpensTo tell old mid place next) where
   pub opens-in : OpensAt tell old place → OpensAt tell mid next

@@ -24,6 +24,7 @@ use Rattle.sd_drive.proofs.Acts.{ask-open, take-open}
 use Rattle.sd_drive.proofs.Answering.{ask-ends, asked-is, did-is, full-is, gave-is, give-ends, had-is, moving-is, take-ends}
 use Rattle.sd_drive.proofs.Bodies.{asks-are, entry-is, fits-now}
 use Rattle.sd_drive.proofs.Helps.{if-ok-then, on-err-then}
+use Rattle.sd_drive.proofs.Lined.{pulling-due}
 use Rattle.sd_drive.proofs.Measures.{same-distance}
 use Rattle.sd_drive.proofs.Nearing.{free-nearer, give-nearer, moving-nearer, take-nearer}
 use Rattle.sd_drive.proofs.Needs.{gets-holds}
@@ -49,10 +50,11 @@ module _ {G : Type 0} (tell : Telling G) (for : Puller) where
     then-some some start w at work rest c e i s = let h = on start w at work rest c e i s in some start h.0 at work rest c e h.1 h.2
 
     pub then-stays : StaysIn tell mid new → PullsSome tell old new for pull
-    then-stays stays start w at work rest c e i s = let h = on start w at work rest c e i s in (h.0, stays start h.0 h.1)
+    then-stays stays start w at work rest c e i s = let h = on start w at work rest c e i s in
+        (h.0, stays start h.0 h.1, pulling-due at work rest c e for next h.0 h.2)
 
   pub stays-some : (old new : Hall G) (pull : Pull) → StaysIn tell old new → PullsSome tell old new for pull
-  stays-some old new pull stays start w at work rest c e i s = (w, stays start w i)
+  stays-some old new pull stays start w at work rest c e i s = (w, stays start w i, pulling-due at work rest c e for pull w s)
 
   -- a pull in vain ends
   pub ends-all : (old new : Hall G) (p : ℕ) (P : Core → Core → Type 0) → PullsOn tell old new for (Pull.Asks p) Pull.Ends P → PullsAll tell old new for p false

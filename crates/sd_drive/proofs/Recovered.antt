@@ -34,6 +34,7 @@ use Rattle.sd_drive.specs.Running.{Start}
 use Rattle.sd_drive.specs.Standing.{IsBorne, Pulling}
 use Rattle.sd_drive.proofs.Acts.{wants-stays}
 use Rattle.sd_drive.proofs.Bodies.{fits-now}
+use Rattle.sd_drive.proofs.Lined.{pulling-due}
 use Rattle.sd_drive.proofs.Marks.{followed-fine, marked-same}
 use Rattle.sd_drive.proofs.Needs.{need-is}
 use Rattle.sd_drive.proofs.Steps.{Moved, Noted, moved}
@@ -204,7 +205,7 @@ module _ {G : Type 0} (tell : Telling G) (of : Owner) (old new : Hall G) (c : Cu
 
   -- nothing came
   pub none-some : StaysIn tell old new → DoesSome tell old new of c e
-  none-some stays start w work rest i due = (w, stays start w i)
+  none-some stays start w work rest i due = (w, stays start w i, due.stands.first)
 
 -- ---- the begin
 
@@ -377,7 +378,11 @@ module _ {G : Type 0} (tell : Telling G) (of : Owner) (i : ℕ) (most : Option �
     vain-kept s = let h = vain s.start s.at s.world s.work s.rest s.there s.wanted in (s.start, h.0, h.1)
 
     pub vain-some : (new : Hall G) → StaysIn tell mid new → PulledSome tell old new of i most by p
-    vain-some new stays start at here work rest k s = let h = vain start at here work rest k s in (h.0, stays start h.0 h.1)
+    vain-some new stays start at here work rest k s = let h = vain start at here work rest k s in (
+      h.0,
+      stays start h.0 h.1,
+      pulling-due at work rest (Cursor.Steps i most) (event.RecoverStep i) puller-is Pull.Ends h.0 h.2,
+    )
 
     -- a device failed, in the opening
     pub vain-broken : of.is_opening ≡ true → ends_failed mid.book.entries ≡ true → PulledAs tell old mid of i most by p (nexts.Over outcomes.Broken)
@@ -443,7 +448,8 @@ module _ {G : Type 0} (tell : Telling G) (of : Owner) (i : ℕ) (most left : Opt
 
   -- as far as memory went
   pub steps-part : DoesSome tell old here of (Cursor.Steps i most) (event.RecoverStep i)
-  steps-part start w work rest k due = let h = on start w work rest k due in (h.0, h.1)
+  steps-part start w work rest k due =
+      let h = on start w work rest k due in (h.0, h.1, (later-due w work rest h.0 h.2 due).stands.first)
 
   module _ (new : Hall G) where
     goes-on-as : (next : Next) → StepsAs tell here new of i left next → StepsAs tell old new of i most next

@@ -235,7 +235,7 @@ module _ {G : Type 0} (tell : Telling G) (old : Driver G) (line : Line) (is : li
         pub recover-some : DoesSome tell old.hall new.hall (owner_of line) (Cursor.Recovers i i None) (event.RecoverBegin i i) → RecoversSome tell old new line i
         recover-some some start w lines n at on =
             let waits = waits-now start w lines n at on in
-            some start w (Work.Do line) (works_of (drop (n + 1) lines)) waits.there (due-now start w lines n waits)
+            let h = some start w (Work.Do line) (works_of (drop (n + 1) lines)) waits.there (due-now start w lines n waits) in (h.0, h.1)
 
         module _ (same : IsSame old new) (txns : new.txns ≡ old.txns) where
           -- it came to its end, and the line goes on

@@ -109,7 +109,8 @@ module _ {G : Type 0} (tell : Telling G) (old : Driver G) (line : Line) (i by : 
   module _ (new : Driver G) where
     pub one-some : DoesSome tell old.hall new.hall (owner_of line) (Cursor.Recovers i by most) (event.RecoverBegin i by) → DrivesSome tell old new line
     one-some some start w lines n at d r =
-        some start w (Work.Do line) (works_of (drop (n + 1) lines)) r.there (one-due tell start lines n line at i by most is old w r)
+        let h = some start w (Work.Do line) (works_of (drop (n + 1) lines)) r.there (one-due tell start lines n line at i by most is old w r) in
+        (h.0, h.1)
 
     pub one-driven : (how : Outcome) → IsSame old new → new.txns ≡ old.txns → RecoversTo tell old.hall new.hall (owner_of line) i by most how
         → DrivesLine tell old new line

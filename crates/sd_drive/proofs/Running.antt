@@ -4,6 +4,7 @@ use Rattle.std.proofs.Common.{◌≡◌, ◌⊎◌, true, false, ⊎_elim, ℕ, 
 use Rattle.std.specs.Prelude.{None, min}
 use Rattle.sd_base.specs.Streams.{Rises}
 use Rattle.sd_base.specs.declared.place.Status.TheVariants as S
+use Rattle.sd_base.specs.declared.trouble.Pick.{Pick}
 use Rattle.sd_chain.specs.Bytes.{disk_page}
 use Rattle.sd_pagelock.specs.Directory.{entry_at}
 use Rattle.sd_pagelock.specs.Places.{PageEntry, changed, is_lost}
@@ -11,13 +12,15 @@ use Rattle.sd_chain.specs.Logs.{Outcomes}
 use Rattle.sd_state.specs.Parts.{Parts}
 use Rattle.sd_fits.specs.Fits.{Fits}
 use Rattle.sd_base.specs.declared.refusal.Refusal.TheVariants as R
-use Rattle.sd_rig.specs.Devices.{DeviceImages, Leaves}
+use Rattle.sd_rig.specs.Devices.{DeviceImages, Leaves, LeavesOnly}
 use Rattle.sd_rig.specs.Spans.{elapses-then}
 use Rattle.sd_model.specs.declared.event.Entry.{Entry}
 use Rattle.sd_model.specs.declared.event.Event.{Event}
-use Rattle.sd_model.specs.declared.event.Event.TheVariants.{FailAll}
+use Rattle.sd_model.specs.declared.event.Event.TheVariants.{FailAll, Reopen}
 use Rattle.sd_model.specs.declared.event.Reply.{Reply}
-use Rattle.sd_model.specs.declared.event.Reply.TheVariants.{Refused}
+use Rattle.sd_model.specs.declared.event.Reply.TheVariants.{Did, Refused}
+use Rattle.sd_hall.specs.Closed.{Lasts}
+use Rattle.sd_hall.specs.Found.{IsFound}
 use Rattle.sd_world.specs.Leading.{Leads}
 use Rattle.sd_world.specs.Serving.{Core, FaultsAre, FewFaults, KeepsEarlier, Passes, Telling}
 use Rattle.sd_state.specs.Complexes.{parts}
@@ -97,6 +100,9 @@ module _ {G : Type 0} (tell : Telling G) where
               told = subst (λ (n : ℕ). FaultsAre e.event e.reply n (tell.faults b)) before.quiet here.told;
               left = here.left;
               clean = here.clean;
+              found = here.found;
+              lasts = subst (λ (n : ℕ). (pick : Pick) → e.event ≡ FailAll pick → Rises n (tell.faults b)
+                  ⊎ ((d : ℕ) → d ≤ 8 → LeavesOnly (tell.seen b d) (tell.leaves b d))) before.quiet here.lasts;
             })
             g.1,
         (refl, inl refl),
@@ -148,23 +154,27 @@ module _ {G : Type 0} (tell : Telling G) (start : Start G) (entries : List Entry
       → ((img : DeviceImages) → Leaves (tell.leaves b) img → stands_for img w'.core.scene.state)
       → (((w'.core.scene.state.inst 1).status ≡ S.Closed → ⊥) → (p : ℕ) → changed (w'.core.pages.entry p) ≡ false
       → (bytes : List ℕ) → tell.leaves b 0 bytes → (disk_page bytes p).lsn ≡ w'.core.pages.number p)
-      → RunsOn tell start b (entries ++ e ∷ []) w'
-  passes-on e a b w' earlier r adv p f left clean = record {
+      → (e.event ≡ Reopen → e.reply ≡ Did → IsFound (tell.seen b) w'.core)
+      → ((pick : Pick) → e.event ≡ FailAll pick → Lasts tell a b) → RunsOn tell start b (entries ++ e ∷ []) w'
+  passes-on e a b w' earlier r adv p f left clean found lasts = record {
     time = elapses-then (tell.moment old) (tell.moment a) (tell.moment b) (tell.since old) (tell.since a) (tell.since b) earlier r.time p.time;
     stood = r.stood;
-    goes = goes-grow tell entries e start.world w w' old a b earlier r.goes adv (record { passes = p; told = f; left = left; clean = clean });
+    goes = goes-grow tell entries e start.world w w' old a b earlier r.goes adv
+        (record { passes = p; told = f; left = left; clean = clean; found = found; lasts = lasts });
   }
 
   -- The call of the entry was noted, and led to this core, where the entry is the one that is due.
   pub ran-noted : (e : Entry) (c c' : Body G) (w' : World) → KeepsEarlier tell (rig_of c') → Ran tell start c entries w → Advances w e w'
       → fits_body tell.seen tell.leaves c' w'.core
       → Passes tell stands_for (rig_of c) (rig_of c') w.core.scene.state w'.core.scene.state
-      → FaultsAre e.event e.reply (tell.faults (rig_of c)) (tell.faults (rig_of c')) → Ran tell start c' (entries ++ e ∷ []) w'
-  ran-noted e c c' w' earlier r adv fits passes faults = record {
+      → FaultsAre e.event e.reply (tell.faults (rig_of c)) (tell.faults (rig_of c'))
+      → (e.event ≡ Reopen → e.reply ≡ Did → IsFound (tell.seen (rig_of c')) w'.core)
+      → ((pick : Pick) → e.event ≡ FailAll pick → Lasts tell (rig_of c) (rig_of c')) → Ran tell start c' (entries ++ e ∷ []) w'
+  ran-noted e c c' w' earlier r adv fits passes faults found lasts = record {
     drives = drives-grow entries e start.world w w' r.drives adv;
     fits = fits;
     runs = passes-on e (rig_of c) (rig_of c') w' earlier r.runs adv passes faults (body-stands tell c' w'.core fits)
-        (body-clean tell c' w'.core fits);
+        (body-clean tell c' w'.core fits) found lasts;
   }
 
   -- The call found no memory.

@@ -16,7 +16,7 @@ use Rattle.sd_drive.specs.declared.pull.Answer.{Answer}
 use Rattle.sd_drive.specs.declared.pull.Answer.TheVariants as answers
 use Rattle.sd_drive.specs.declared.pull.Course.{Course}
 use Rattle.sd_drive.specs.declared.pull.Course.TheVariants as courses
-use Rattle.sd_drive.specs.Driving.{Cursor, Progress, Work, World}
+use Rattle.sd_drive.specs.Driving.{AreLines, Cursor, IsUnderWay, Progress, Work, World}
 use Rattle.sd_drive.specs.Measure.{GivesUp, IsNearer, copies_of}
 use Rattle.sd_drive.specs.Pulls.{IsDue, Pull, Puller, helped, is_pulling}
 use Rattle.sd_drive.specs.Standing.{Pulling}
@@ -38,7 +38,7 @@ pub record MarksLast (entries : List Entry) (at : Progress) : Type 0 where
   pub marked : (rest : List Work) (c : Cursor) → at.left ≡ Work.Opening ∷ rest → at.cursor ≡ Some c → ends_failed entries ≡ true → at.failed ≡ true
 
 -- The hall is in this world: its entries lead from the start there, the complex fits it, and the book began with the start's
--- table.
+-- table. Where the run has come to its lines, no opening is left.
 pub record IsIn {G : Type 0} (tell : Telling G) (start : Start G) (hall : Hall G) (w : World) : Type 0 where
   pub body : Body G
   pub is : hall.body ≡ Some body
@@ -46,6 +46,7 @@ pub record IsIn {G : Type 0} (tell : Telling G) (start : Start G) (hall : Hall G
   pub keeps : Keeps tell start.world.core hall
   pub table : hall.book.opening ≡ start.table
   pub marks : MarksLast hall.book.entries w.told
+  pub behind : start.opened ≡ true → AreLines w.told.left
 
 -- the hall is in some world
 abbrev pub IsSomewhere : {G : Type 0} → Telling G → Hall G → Type 0
@@ -74,11 +75,11 @@ pub record PulledIn {G : Type 0} (tell : Telling G) (hall : Hall G) (for : Pulle
   pub there : IsIn tell start hall world
   pub pulls : Pulling at work rest cursor own for pull world
 
--- it is driven on while it pulls a page, as far as memory is there
+-- it is driven on while it pulls a page, as far as memory is there; the work is still under way
 abbrev pub PullsSome : {G : Type 0} → Telling G → Hall G → Hall G → Puller → Pull → Type 0
 PullsSome {G} tell old new for pull =
     (start : Start G) (w : World) (at : World) (work : Work) (rest : List Work) (c : Cursor) (e : Event)
-    → IsIn tell start old w → Pulling at work rest c e for pull w → (w' : World) × IsIn tell start new w'
+    → IsIn tell start old w → Pulling at work rest c e for pull w → (w' : World) × IsIn tell start new w' × IsUnderWay work rest w'
 
 -- ---- the answers to helping events
 

@@ -299,6 +299,16 @@ pub record World : Type 0 where
   pub told : Progress
   pub core : Core
 
+-- this work is the one under way, or the next one that has an event
+abbrev pub IsUnderWay : Work → List Work → World → Type 0
+IsUnderWay work rest w = due_works w.core.scene.state w.told ≡ work ∷ rest
+
+-- no opening is among the works
+abbrev pub AreLines : List Work → Type 0
+AreLines [] = Unit {0}
+AreLines (Work.Opening ∷ works) = ⊥
+AreLines (Work.Do line ∷ works) = AreLines works
+
 -- the entry turns the core, and is the one that is due
 pub record Advances (old : World) (e : Entry) (new : World) : Type 0 where
   pub turns : Turns old.core e.event e.reply new.core

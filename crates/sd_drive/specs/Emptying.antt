@@ -7,7 +7,7 @@ use Rattle.sd_script.specs.declared.line.Line.{Line}
 use Rattle.sd_world.specs.Serving.{Core, Telling}
 use Rattle.sd_drive.specs.declared.opening.Rise.{Rise}
 use Rattle.sd_drive.specs.Driven.{IsIn}
-use Rattle.sd_drive.specs.Driving.{Cursor, Work, World, empties, event_at, goes_on, leavers}
+use Rattle.sd_drive.specs.Driving.{Cursor, IsUnderWay, Work, World, empties, event_at, goes_on, leavers, works_of}
 use Rattle.sd_drive.specs.Pulls.{puller}
 use Rattle.sd_drive.specs.Rising.{Opens, OpensOn}
 use Rattle.sd_drive.specs.Running.{Start}
@@ -39,10 +39,10 @@ abbrev pub OpensTo : {G : Type 0} → Telling G → Rise G → Rise G → (Core 
 OpensTo {G} tell old new place next = (start : Start G) (w : World) (lines : List Line) → OpensOn tell start lines old (place w.core) w
     → (w' : World) × OpensOn tell start lines new (next w'.core) w'
 
--- as much of it came as there was memory for
+-- as much of it came as there was memory for, and the opening is still under way
 abbrev pub StopsIn : {G : Type 0} → Telling G → Rise G → Rise G → (Core → Option Cursor) → Type 0
 StopsIn {G} tell old new place = (start : Start G) (w : World) (lines : List Line) → OpensOn tell start lines old (place w.core) w
-    → (w' : World) × IsIn tell start new.hall w'
+    → (w' : World) × IsIn tell start new.hall w' × IsUnderWay Work.Opening (works_of lines) w'
 
 -- a device failed
 abbrev pub BreaksIn : {G : Type 0} → Telling G → Rise G → Rise G → (Core → Option Cursor) → Type 0

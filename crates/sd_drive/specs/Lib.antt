@@ -15,3 +15,4 @@ pub mod Driven
 pub mod Operating
 pub mod Recoveries
 pub mod Resting
+pub mod Behind

@@ -19,7 +19,7 @@ use Rattle.sd_drive.specs.declared.recovery.Outcome.{Outcome}
 use Rattle.sd_drive.specs.declared.recovery.Outcome.TheVariants as outcomes
 use Rattle.sd_drive.specs.declared.recovery.Owner.{Owner}
 use Rattle.sd_drive.specs.Driven.{IsIn}
-use Rattle.sd_drive.specs.Driving.{Cursor, Work, World, behind, done, followed, goes_further, number_of, one_less, session_of, stays}
+use Rattle.sd_drive.specs.Driving.{Cursor, IsUnderWay, Work, World, behind, done, followed, goes_further, number_of, one_less, session_of, stays}
 use Rattle.sd_drive.specs.Pulls.{Pull}
 use Rattle.sd_drive.specs.Running.{Start}
 use Rattle.sd_drive.specs.Standing.{EventIsDue, Pulling}
@@ -44,11 +44,11 @@ pub record DueOf {G : Type 0} (tell : Telling G) (hall : Hall G) (of : Owner) (c
   pub there : IsIn tell start hall world
   pub due : IsDueOf of work rest c e world
 
--- as much of it came as there was memory for
+-- as much of it came as there was memory for, and the work is still under way
 abbrev pub DoesSome : {G : Type 0} → Telling G → Hall G → Hall G → Owner → Cursor → Event → Type 0
 DoesSome {G} tell old new of c e =
     (start : Start G) (w : World) (work : Work) (rest : List Work) → IsIn tell start old w → IsDueOf of work rest c e w
-    → (w' : World) × IsIn tell start new w'
+    → (w' : World) × IsIn tell start new w' × IsUnderWay work rest w'
 
 -- ---- how a recovery ends
 
@@ -149,7 +149,7 @@ PulledAs {G} tell old new of i most by p next =
 abbrev pub PulledSome : {G : Type 0} → Telling G → Hall G → Hall G → Owner → ℕ → Option ℕ → ℕ → ℕ → Type 0
 PulledSome {G} tell old new of i most by p =
     (start : Start G) (at here : World) (work : Work) (rest : List Work) → IsIn tell start old here
-    → IsWanted of i most by p work rest at here → (w' : World) × IsIn tell start new w'
+    → IsWanted of i most by p work rest at here → (w' : World) × IsIn tell start new w' × IsUnderWay work rest w'
 
 -- Who recovers i, and the page of the record that its recovery undoes next; none where no undo is next, or nobody recovers i.
 abbrev pub Waits : {G : Type 0} → Telling G → Option (Body G) → ℕ → Option (ℕ × ℕ) → Type 0

@@ -3,7 +3,7 @@ use Rattle.std.specs.Prelude.{◌≡◌, ℕ, true, false, List, ◌∷◌}
 use Rattle.sd_script.specs.declared.line.Line.{Line}
 use Rattle.sd_world.specs.Serving.{Telling}
 use Rattle.sd_drive.specs.Driven.{IsIn}
-use Rattle.sd_drive.specs.Driving.{Work, World, cursor_in, next_down, opens, untold, works_of}
+use Rattle.sd_drive.specs.Driving.{IsUnderWay, Work, World, cursor_in, next_down, opens, untold, works_of}
 use Rattle.sd_drive.specs.Pulls.{Pull}
 use Rattle.sd_drive.specs.Running.{Start}
 use Rattle.sd_drive.specs.declared.opening.Rise.{Rise}
@@ -30,10 +30,10 @@ abbrev pub Restarts : {G : Type 0} → Telling G → Rise G → Rise G → ℕ �
 Restarts {G} tell old new i j = (start : Start G) (w : World) (lines : List Line) → RestartsNext tell start lines old i w
     → (w' : World) × RestartsNext tell start lines new j w'
 
--- as much of it as there was memory for
+-- as much of it as there was memory for, and the opening is still under way
 abbrev pub RestartsSome : {G : Type 0} → Telling G → Rise G → Rise G → ℕ → Type 0
 RestartsSome {G} tell old new i = (start : Start G) (w : World) (lines : List Line) → RestartsNext tell start lines old i w
-    → (w' : World) × IsIn tell start new.hall w'
+    → (w' : World) × IsIn tell start new.hall w' × IsUnderWay Work.Opening (works_of lines) w'
 
 -- a device failed
 abbrev pub RestartBreaks : {G : Type 0} → Telling G → Rise G → Rise G → ℕ → Type 0

@@ -3,7 +3,7 @@ use Rattle.std.specs.Prelude.{◌≡◌, ◌⊎◌, ℕ, ◌+◌, ◌<◌, ◌�
 use Rattle.sd_script.specs.declared.line.Line.{Line}
 use Rattle.sd_world.specs.Serving.{Core, Telling}
 use Rattle.sd_drive.specs.Driven.{IsIn}
-use Rattle.sd_drive.specs.Driving.{Cursor, Work, World, cursor_in, leavers, untold, works_of}
+use Rattle.sd_drive.specs.Driving.{Cursor, IsUnderWay, Work, World, cursor_in, leavers, untold, works_of}
 use Rattle.sd_drive.specs.Pulls.{Pull}
 use Rattle.sd_drive.specs.Running.{Start}
 use Rattle.sd_drive.specs.declared.opening.Rise.{Rise}
@@ -15,7 +15,7 @@ before insts pages lines core = record { told = untold insts pages lines; core =
 -- where a hall rises from
 abbrev pub begin_of : {G : Type 0} → Rise G → List Line → Core → G → Start G
 begin_of rise lines core rig =
-    record { world = before rise.insts rise.pages lines core; rig = rig; table = rise.hall.book.opening }
+    record { world = before rise.insts rise.pages lines core; rig = rig; table = rise.hall.book.opening; opened = false }
 
 -- The opening stands there, and no page is pulled.
 pub record Opens {G : Type 0} (tell : Telling G) (start : Start G) (lines : List Line) (rise : Rise G) (c : Cursor) (w : World) : Type 0 where
@@ -61,10 +61,10 @@ abbrev pub HaveJoined : {G : Type 0} → Telling G → Start G → List Line →
 HaveJoined tell start lines rise i w =
     JoinsNext tell start lines rise i w ⊎ ((rise.insts < i) × AllJoined tell start lines rise w)
 
--- from the join of instance i on, as much came as there was memory for
+-- from the join of instance i on, as much came as there was memory for, and the opening is still under way
 abbrev pub OpensSome : {G : Type 0} → Telling G → Rise G → Rise G → ℕ → Type 0
 OpensSome {G} tell old new i = (start : Start G) (w : World) (lines : List Line) → JoinsNext tell start lines old i w
-    → (w' : World) × IsIn tell start new.hall w'
+    → (w' : World) × IsIn tell start new.hall w' × IsUnderWay Work.Opening (works_of lines) w'
 
 -- from there on all joined
 abbrev pub JoinsAll : {G : Type 0} → Telling G → Rise G → Rise G → ℕ → Type 0

@@ -1,24 +1,34 @@
 -- What a run is known to have done: to the book, to the complex, and to the devices all the while.
-use Rattle.std.specs.Prelude.{◌≡◌, ◌⊎◌, ℕ, true, false, List, [], ◌∷◌, ◌++◌}
+use Rattle.std.specs.Prelude.{◌≡◌, ◌⊎◌, ℕ, Bool, true, false, List, [], ◌∷◌, ◌++◌}
 use Rattle.sd_base.specs.declared.ids.Rid.{Rid}
 use Rattle.sd_base.specs.Streams.{Rises}
 use Rattle.sd_base.specs.declared.place.Status.TheVariants as S
+use Rattle.sd_base.specs.declared.trouble.Pick.{Pick}
 use Rattle.sd_chain.specs.Bytes.{disk_page}
 use Rattle.sd_pagelock.specs.Places.{changed}
 use Rattle.sd_rig.specs.Devices.{DeviceImages, Elapses, Leaves, Span}
 use Rattle.sd_model.specs.State.{State}
 use Rattle.sd_model.specs.declared.event.Entry.{Entry}
+use Rattle.sd_model.specs.declared.event.Event.TheVariants.{FailAll, Reopen}
+use Rattle.sd_model.specs.declared.event.Reply.TheVariants.{Did}
+use Rattle.sd_hall.specs.Closed.{Lasts}
+use Rattle.sd_hall.specs.Found.{IsFound}
 use Rattle.sd_world.specs.Serving.{FaultsAre, Passes, Telling}
 use Rattle.sd_fits.specs.Serving.{stands_for}
 use Rattle.sd_fits.specs.Bodies.{fits_body, rig_of}
 use Rattle.sd_fits.specs.declared.body.Body.{Body}
 use Rattle.sd_drive.specs.Driving.{Advances, Drives, World}
 
--- where a run began: in this world, with these devices and this table
+-- where a run began: in this world, with these devices and this table; opened: whether it has come to its lines since
 pub record Start (G : Type 0) : Type 0 where
   pub world : World
   pub rig : G
   pub table : List (Rid × List ℕ)
+  pub opened : Bool
+
+-- the same start, of a run that is told to have come to its lines, or isn't
+abbrev pub told_as : {G : Type 0} → Start G → Bool → Start G
+told_as start opened = record start { opened = opened }
 
 -- The entry was served on these devices: meanwhile a crash left what stands for the world before it or behind it, and whatever it may
 -- leave then stands for that behind it. A fault is told by the entry in which it came.
@@ -29,6 +39,10 @@ pub record ServesEntry {G : Type 0} (tell : Telling G) (e : Entry) (rig mid : G)
   -- while the complex is open, a page that is told as clean is on the data device, with the LSN that is told
   pub clean : ((next.core.scene.state.inst 1).status ≡ S.Closed → ⊥) → (p : ℕ) → changed (next.core.pages.entry p) ≡ false
       → (bytes : List ℕ) → tell.leaves mid 0 bytes → (disk_page bytes p).lsn ≡ next.core.pages.number p
+  -- behind a reopening that is done the world is what the devices tell
+  pub found : e.event ≡ Reopen → e.reply ≡ Did → IsFound (tell.seen mid) next.core
+  -- behind a failure of all what the devices read lasts, unless a fault was counted
+  pub lasts : (pick : Pick) → e.event ≡ FailAll pick → Lasts tell rig mid
 
 -- A call that found no memory passed: the devices stood for the same world meanwhile.
 pub record Stays {G : Type 0} (tell : Telling G) (rig rig' : G) (w : World) : Type 0 where

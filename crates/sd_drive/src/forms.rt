@@ -55,6 +55,8 @@ pub(crate) fn lone_event(form: &Form) -> Option<Event>
             page: *page,
         }),
         Form::Force { inst } => Some(Event::Force { inst: *inst }),
+        Form::CheckBegin { inst } => Some(Event::CheckBegin { inst: *inst }),
+        Form::CheckEnd { inst } => Some(Event::CheckEnd { inst: *inst }),
         Form::Fail { inst } => Some(Event::Fail { inst: *inst }),
         Form::Fuse { calls } => Some(Event::Arm {
             trouble: Trouble::Fuse(u64::from(*calls)),

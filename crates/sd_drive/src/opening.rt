@@ -10,7 +10,8 @@ ghost use Rattle.sd_hall.specs.Served.{IsServed};
 ghost use Rattle.sd_hall.specs.Keeping.{Keeps};
 ghost use Rattle.sd_drive.specs.Driven.{IsIn, IsSomewhere, StaysIn};
 ghost use Rattle.sd_model.specs.Replies.{is_did};
-ghost use Rattle.sd_drive.specs.Driving.{Cursor, World};
+ghost use Rattle.sd_drive.specs.Behind.{HasRecovered, IsUnused};
+ghost use Rattle.sd_drive.specs.Driving.{Cursor, IsUnderWay, Work, World, works_of};
 ghost use Rattle.sd_drive.specs.Running.{Breaks};
 ghost use Rattle.sd_drive.specs.Emptying.{BreaksBy, BreaksIn, IsAlone, OpensAt, OpensBy, OpensTo, StopsIn, copies_from, pools_from, stands_at};
 ghost use Rattle.sd_drive.specs.Restarting.{IsRestarting, RestartBreaks, Restarts, RestartsSome};
@@ -61,12 +62,16 @@ impl<G: Rig> Rise<G> {
     }
 
     /// Each instance that is down recovers itself, in rising order, with the pulls of the pages that this needs; then the
-    /// instances join, one after another; then each instance of the complex that isn't up lets its pages go, and writes one before
-    /// that it has changed. The entries have session 0 and line 0. A recovery or a join that is refused is noted, as one for want
-    /// of room or numbers, and the lines of its instance will be refused as Down.
+    /// instances join, one after another; then each instance of the complex that isn't up lets its pages go, and writes one
+    /// before that it has changed. The entries have session 0 and line 0. A join that is refused is noted, as one for want of
+    /// room or numbers, and the lines of its instance will be refused as Down.
     ///
-    /// `Failed` comes where a device failed: that event is noted, no other is made, and nothing is to be driven. After `Memory`
-    /// what happened so far is noted, each entry the one that was due.
+    /// A recovery comes to its end, or a device fails in it, and so does a copy that is to go: behind the opening of a hall in
+    /// which nobody is being recovered, with no page in a pool or asked for, no instance is down or being recovered, and only
+    /// instances that are up have pages.
+    ///
+    /// `Failed` comes where a device failed: that event is noted, no other is made, and nothing is to be driven. After `Memory`,
+    /// which comes only while the opening is under way, what happened so far is noted, each entry the one that was due.
     pub fn opening(&mut self) -> Result<(), Refusal>
         requires kept { (start : Core) × Keeps (telling G.seen G.leaves G.moment G.since G.faults) start self.old.hall }
         requires empty { self.old.hall.book.entries ≡ [] }
@@ -75,11 +80,13 @@ impl<G: Rig> Rise<G> {
         ensures opened { OnOk result ((start : Core) (lines : List Line) (rig : G) → IsRigIn rig self.old.hall.body
             → Keeps (telling G.seen G.leaves G.moment G.since G.faults) start self.old.hall
             → (w : World) × HasRisen (telling G.seen G.leaves G.moment G.since G.faults) (begin_of self.old lines start rig) lines self.new w) }
+        ensures recovered { OnOk result (IsUnused self.old.hall.body → HasRecovered self.new.hall.body) }
         ensures errors { IfErr result (λ n. (n ≡ R.Memory) ⊎ (n ≡ R.Failed)) }
         ensures memory { IsErrAnd result (λ n. n ≡ R.Memory) → (start : Core) (lines : List Line) (rig : G)
             → IsRigIn rig self.old.hall.body
             → Keeps (telling G.seen G.leaves G.moment G.since G.faults) start self.old.hall
-            → (w : World) × IsIn (telling G.seen G.leaves G.moment G.since G.faults) (begin_of self.old lines start rig) self.new.hall w }
+            → (w : World) × IsIn (telling G.seen G.leaves G.moment G.since G.faults) (begin_of self.old lines start rig) self.new.hall w
+            × IsUnderWay Work.Opening (works_of lines) w }
         ensures breaks { IsErrAnd result (λ n. n ≡ R.Failed) → (start : Core) (lines : List Line) (rig : G)
             → IsRigIn rig self.old.hall.body
             → Keeps (telling G.seen G.leaves G.moment G.since G.faults) start self.old.hall → (left : G) → IsRigIn left self.new.hall.body

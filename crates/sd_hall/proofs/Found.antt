@@ -94,8 +94,11 @@ opened-found seen leaves frames c opened w w' f turns = record {
 -- a complex that opened again is found so
 pub finds : {G : Type 0} (seen : G → DeviceImages) (leaves : G → ℕ → List ℕ → Type 0) (frames : ℕ) (c : Complex G)
     → AreOpened frames (seen c.rig) (parts c) → FindsIn seen leaves (Some (Body.Open c))
-finds {G} seen leaves frames c opened w w' rig is fits turns = subst (λ (d : G). IsFound (seen d) w') is
-    (opened-found (seen c.rig) (leaves c.rig) frames (parts c) opened w w' fits turns)
+finds {G} seen leaves frames c opened = (
+  λ p. (opened.pages p).first,
+  λ w w' rig is fits turns. subst (λ (d : G). IsFound (seen d) w') is
+      (opened-found (seen c.rig) (leaves c.rig) frames (parts c) opened w w' fits turns),
+)
 
 -- ---- which answers tell that nothing opened
 

@@ -8,5 +8,6 @@ mod Rolling
 mod Owing
 mod Fallen
 pub mod Found
+mod Closed
 pub mod LedgerOpening
 pub mod LedgerBodies

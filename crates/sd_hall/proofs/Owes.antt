@@ -17,7 +17,7 @@ use Rattle.sd_model.specs.declared.act.Inst.{Inst}
 use Rattle.sd_model.specs.declared.act.Life.{Life}
 use Rattle.sd_model.specs.declared.cause.Cause.{Cause}
 use Rattle.sd_model.specs.declared.event.Event.{Event}
-use Rattle.sd_model.specs.declared.event.Event.TheVariants.{Add, Arm, Ask, Back, Begin, Commit, Delete, Evict, Fail, FailAll, Flush, Force, Give, Insert, Join, List as Listing, Read, RecoverBegin, RecoverStep, Reopen, Save, Show, Take, Undo, Write}
+use Rattle.sd_model.specs.declared.event.Event.TheVariants.{Add, Arm, Ask, Back, Begin, CheckBegin, CheckEnd, Commit, Delete, Evict, Fail, FailAll, Flush, Force, Give, Insert, Join, List as Listing, Read, RecoverBegin, RecoverStep, Reopen, Save, Show, Take, Undo, Write}
 use Rattle.sd_model.specs.declared.event.Reply.{Reply}
 use Rattle.sd_model.specs.declared.event.Reply.TheVariants as reply
 use Rattle.sd_model.specs.Acts.{Puts, live, live_from, undone}
@@ -426,6 +426,8 @@ row-owed m (Take i p) reply.Did m' l s c h = stays-owed m m' h
 row-owed m (Evict i p) reply.Did m' l s c h = stays-owed m m' h
 row-owed m (Flush i p) reply.Did m' l s c h = stays-owed m m' h
 row-owed m (Force i) reply.Did m' l s c h = stays-owed m m' h
+row-owed m (CheckBegin i) reply.Did m' l s c h = stays-owed m m' h
+row-owed m (CheckEnd i) reply.Did m' l s c h = stays-owed m m' h
 row-owed m (Fail i) reply.Did m' l s c h = less-owed m (fall i m) m' h (fall-owed m i)
 row-owed m (Join i) (reply.Joined epoch) m' l s c h =
     equal-owed m (joined i epoch m) m' 1 h.2 (inst-owed m i (record {
@@ -452,6 +454,8 @@ row-owed m (Take i p) r m' l s c h = absurd h
 row-owed m (Evict i p) r m' l s c h = absurd h
 row-owed m (Flush i p) r m' l s c h = absurd h
 row-owed m (Force i) r m' l s c h = absurd h
+row-owed m (CheckBegin i) r m' l s c h = absurd h
+row-owed m (CheckEnd i) r m' l s c h = absurd h
 row-owed m (Fail i) r m' l s c h = absurd h
 row-owed m (Join i) r m' l s c h = absurd h
 row-owed m (Arm trouble) reply.Did m' l s c h = stays-owed m m' h
@@ -470,7 +474,6 @@ row-owed m (RecoverStep i) reply.Finished m' l s c h =
 row-owed m (RecoverStep i) r m' l s c h = absurd h
 row-owed m Reopen reply.Did m' l s c h = let none = reopened-none m m' h in omega (arith, none)
 row-owed m Reopen r m' l s c h = absurd h
-row-owed m e r m' l s c h = absurd s
 
 pub step-owed : (m : State) (e : Event) (r : Reply) (m' : State) → Listed m → IsServed e → Step m e r m'
     → entries_owed m' ≤ entries_owed m + owed_more e r

@@ -1,5 +1,5 @@
--- What a reopening finds: whom the devices leave open, with their claims, how the instances stand, and which pages are lost.
-use Rattle.std.specs.Prelude.{◌≡◌, ℕ, ◌≤◌, List, Option, Some}
+-- What an opening finds: whom the devices leave open, with their claims, how the instances stand, which pages are lost, and RecLSNs.
+use Rattle.std.specs.Prelude.{◌≡◌, ℕ, ◌<◌, ◌≤◌, List, Option, None, Some}
 use Rattle.sd_base.specs.declared.ids.Rid.{Rid}
 use Rattle.sd_base.specs.declared.ids.TxnId.{TxnId}
 use Rattle.sd_chain.specs.Bytes.{stable}
@@ -10,8 +10,9 @@ use Rattle.sd_model.specs.declared.event.Event.{Event}
 use Rattle.sd_model.specs.declared.event.Event.TheVariants.{Reopen}
 use Rattle.sd_model.specs.declared.event.Reply.{Reply}
 use Rattle.sd_model.specs.declared.event.Reply.TheVariants.{Did}
-use Rattle.sd_moves.specs.Opening.{claim_in, is_lost_in, life_in, status_in}
+use Rattle.sd_moves.specs.Opening.{RecLsnIsFirst, claim_in, is_lost_in, life_in, status_in}
 use Rattle.sd_rig.specs.Devices.{DeviceImages}
+use Rattle.sd_state.specs.Complexes.{parts}
 use Rattle.sd_world.specs.Pages.{place_of}
 use Rattle.sd_world.specs.Serving.{Core, Turns}
 
@@ -24,10 +25,17 @@ pub record IsFound (devices : DeviceImages) (w : Core) : Type 0 where
   pub statuses : (i : ℕ) → 1 ≤ i → i ≤ 8 → (w.scene.state.inst i).status ≡ status_in (stable devices) i
   pub pages : (p : ℕ) → w.pages.entry p ≡ place_of (is_lost_in (stable devices) p)
 
--- each world to which a reopening leads is what the devices tell then
+-- The complex is open, and each of its pages has the RecLSN that the devices tell: the LSN of the first record of its chain above its
+-- disk image, none where there is no such record.
+abbrev pub NotesFirst : {G : Type 0} → (G → DeviceImages) → Option (Body G) → Type 0
+NotesFirst seen None = ⊥
+NotesFirst seen (Some (Body.Open c)) = (p : ℕ) → p < 1024 → RecLsnIsFirst (stable (seen c.rig)) (parts c) p
+NotesFirst seen (Some (Body.Closed rig shape)) = ⊥
+
+-- each world to which a reopening leads is what the devices tell then, and so are the RecLSNs
 abbrev pub FindsIn : {G : Type 0} → (G → DeviceImages) → (G → ℕ → List ℕ → Type 0) → Option (Body G) → Type 0
-FindsIn {G} seen leaves new = (w w' : Core) (rig : G) → IsRigIn rig new → fits_in seen leaves new w' → Turns w Reopen Did w'
-    → IsFound (seen rig) w'
+FindsIn {G} seen leaves new = NotesFirst seen new
+    × ((w w' : Core) (rig : G) → IsRigIn rig new → fits_in seen leaves new w' → Turns w Reopen Did w' → IsFound (seen rig) w')
 
 -- so it is where a reopening is done
 abbrev pub IsFoundIn : {G : Type 0} → (G → DeviceImages) → (G → ℕ → List ℕ → Type 0) → Event → Option Reply → Option (Body G) → Type 0

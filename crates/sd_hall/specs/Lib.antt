@@ -4,3 +4,4 @@ pub mod Owed
 pub mod Bodies
 pub mod Ledger
 pub mod Found
+pub mod Closed

@@ -10,10 +10,8 @@ use Rattle.sd_model.specs.declared.event.Reply.{Reply}
 use Rattle.sd_model.specs.declared.event.Reply.TheVariants.{Refused}
 use Rattle.sd_state.specs.Parts.{Parts, status_at}
 
--- the event has a call: each but the two of a checkpoint
+-- the event has a call, as each has
 abbrev pub IsServed : Event → Type 0
-IsServed (CheckBegin i) = ⊥
-IsServed (CheckEnd i) = ⊥
 IsServed e = Unit {0}
 
 -- its call says no more than that it serves it
@@ -41,6 +39,8 @@ IsOfPlace (Take i p) = Unit {0}
 IsOfPlace (Evict i p) = Unit {0}
 IsOfPlace (Flush i p) = Unit {0}
 IsOfPlace (Force i) = Unit {0}
+IsOfPlace (CheckBegin i) = Unit {0}
+IsOfPlace (CheckEnd i) = Unit {0}
 IsOfPlace (Join i) = Unit {0}
 IsOfPlace (Arm trouble) = Unit {0}
 IsOfPlace (Show p) = Unit {0}

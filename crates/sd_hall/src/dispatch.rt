@@ -2,6 +2,7 @@
 
 ghost use Rattle.std.specs.Prelude.{◌≡◌, ◌≢◌, ℕ, None, Some};
 ghost use Rattle.sd_base.specs.declared.refusal.Refusal.TheVariants as R;
+ghost use Rattle.sd_model.specs.Few.{Few};
 ghost use Rattle.sd_model.specs.declared.event.Reply.{Reply};
 ghost use Rattle.sd_model.specs.declared.event.Reply.TheVariants as reply;
 ghost use Rattle.sd_state.specs.Complexes.{parts};
@@ -24,11 +25,13 @@ use sd_rig::Rig;
 use sd_state::Complex;
 
 /// Does the event on the complex, and puts its reply where a Did stands. Where an entry is owed for it there is memory. An undo
-/// that a device fails takes its instance down, and a step of a recovery that is told does a task.
+/// that a device fails takes its instance down, and a step of a recovery that is told does a task. An instance that may begin a
+/// checkpoint has at most 64 unresolved transactions.
 pub(crate) fn serve<G: Rig>(c: &mut Complex<G>, e: &Event, answer: &mut Reply) -> Result<(), Memory>
     requires served { IsServed e.now }
     requires within { NeitherClosesNorOpens e.now }
     requires fits { (w : Core) × Fits (G.seen c.old.rig) (G.leaves c.old.rig) (parts c.old) w }
+    requires few { (w : Core) × Fits (G.seen c.old.rig) (G.leaves c.old.rig) (parts c.old) w × Few w.scene.state }
     requires fresh { answer.old ≡ reply.Did }
     ensures served { Serving (telling G.seen G.leaves G.moment G.since G.faults) e.now (told_in result answer.new) c.old c.new }
     ensures there { (w : Core) → IsOwed w e.now → told_in result answer.new ≢ None }
@@ -51,6 +54,7 @@ fn serve_plain<G: Rig>(c: &mut Complex<G>, e: &Event, answer: &mut Reply) -> Res
     requires within { NeitherClosesNorOpens e.now }
     requires plain { IsPlain e.now }
     requires fits { (w : Core) × Fits (G.seen c.old.rig) (G.leaves c.old.rig) (parts c.old) w }
+    requires few { (w : Core) × Fits (G.seen c.old.rig) (G.leaves c.old.rig) (parts c.old) w × Few w.scene.state }
     requires fresh { answer.old ≡ reply.Did }
     ensures served { Serving (telling G.seen G.leaves G.moment G.since G.faults) e.now (told_in result answer.new) c.old c.new }
     ensures rest { IsHelping e.now → LeavesRest (parts c.old) (parts c.new) }
@@ -84,6 +88,7 @@ fn serve_plain<G: Rig>(c: &mut Complex<G>, e: &Event, answer: &mut Reply) -> Res
 fn serve_place<G: Rig>(c: &mut Complex<G>, e: &Event, answer: &mut Reply) -> Result<(), Memory>
     requires place { IsOfPlace e.now }
     requires fits { (w : Core) × Fits (G.seen c.old.rig) (G.leaves c.old.rig) (parts c.old) w }
+    requires few { (w : Core) × Fits (G.seen c.old.rig) (G.leaves c.old.rig) (parts c.old) w × Few w.scene.state }
     requires fresh { answer.old ≡ reply.Did }
     ensures served { Serving (telling G.seen G.leaves G.moment G.since G.faults) e.now (told_in result answer.new) c.old c.new }
     ensures rest { IsHelping e.now → LeavesRest (parts c.old) (parts c.new) }
@@ -98,6 +103,8 @@ fn serve_place<G: Rig>(c: &mut Complex<G>, e: &Event, answer: &mut Reply) -> Res
         Event::Evict { inst, page } => as_did(sd_transfer::evict(c, *inst, *page), answer),
         Event::Flush { inst, page } => as_did(sd_transfer::write_page(c, *inst, *page), answer),
         Event::Force { inst } => as_did(sd_transfer::force(c, *inst), answer),
+        Event::CheckBegin { inst } => as_did(sd_ckpt::check_begin(c, *inst), answer),
+        Event::CheckEnd { inst } => as_did(sd_ckpt::check_end(c, *inst), answer),
         Event::RecoverBegin { inst, by } => as_did(
             sd_recover::recover_begin(c, *inst, *by),
             answer,

@@ -4,6 +4,7 @@ ghost use Rattle.std.specs.Option.{option_copied};
 ghost use Rattle.std.specs.Prelude.{◌≡◌, ◌≢◌, ◌⊎◌, ℕ, ◌≤◌, ◌+◌, ◌++◌, ◌∷◌, [], List, Some, None, IfErr, IfOk, OnErr, OnOk};
 ghost use Rattle.sd_base.specs.Streams.{Rises};
 ghost use Rattle.sd_base.specs.declared.refusal.Refusal.TheVariants as R;
+ghost use Rattle.sd_model.specs.Few.{Few};
 ghost use Rattle.sd_model.specs.declared.event.Entry.{Entry};
 ghost use Rattle.sd_model.specs.declared.event.Event.TheVariants as event;
 ghost use Rattle.sd_model.specs.declared.event.Reply.{Reply};
@@ -17,7 +18,8 @@ ghost use Rattle.sd_fits.specs.Bodies.{rig_of};
 ghost use Rattle.sd_fits.specs.Opened.{opening_core};
 ghost use Rattle.sd_recover.specs.Closing.{NeitherClosesNorOpens};
 ghost use Rattle.sd_hall.specs.Bodies.{IsAwaited, IsAwaitedIn, IsDownAt, IsRigIn, IsWorked, IsWorkedIn, ServesIn, fits_in, open_in};
-ghost use Rattle.sd_hall.specs.Found.{FindsIn, IsFoundIn};
+ghost use Rattle.sd_hall.specs.Closed.{ClosesIn};
+ghost use Rattle.sd_hall.specs.Found.{FindsIn, IsFoundIn, NotesFirst};
 ghost use Rattle.sd_hall.specs.Owed.{IsOwed};
 ghost use Rattle.sd_hall.specs.Served.{IsServed, told_in};
 ghost use Rattle.sd_hall.specs.Keeping.{HasPlace, Keeps};
@@ -45,7 +47,8 @@ pub struct Hall<G> {
 
 impl<G: Rig> Hall<G> {
     /// A hall over the complex that opens from nine devices, whose book begins with the table that they stand for. Nobody is up
-    /// in it: whoever the devices leave open stays as a loser, until its instance is recovered.
+    /// in it: whoever the devices leave open stays as a loser, until its instance is recovered. A page that the data device lacks
+    /// is lost, and its RecLSN is the LSN of the first record that the device lacks of it.
     ///
     /// `Failed` comes where a sync or a read fails, `Damaged` exactly where the devices aren't sound, with the first place that fails;
     /// `Memory` for want of memory. None of them changes what the devices read. Each hands the rig back.
@@ -57,6 +60,7 @@ impl<G: Rig> Hall<G> {
             Keeps (telling G.seen G.leaves G.moment G.since G.faults) (opening_core shape.frames (G.seen rig)) hall) }
         ensures entries { IfOk result (λ hall. hall.book.entries ≡ []) }
         ensures recovered { IfOk result (λ hall. IsRecovered (G.seen rig) hall.book.opening) }
+        ensures first { IfOk result (λ hall. NotesFirst G.seen hall.body) }
         ensures sound { OnOk result (DevicesAreSound (G.seen rig)) }
 
         ensures calms { IfOk result (λ hall. (now : G) → IsRigIn now hall.body → Calms (G.seen rig) (G.seen now)
@@ -90,8 +94,9 @@ impl<G: Rig> Hall<G> {
     /// the next undo is its instance's alone, nor for the failure of an instance that is up. A step of a recovery that
     /// is replied to as one has done a task, and less is left to do; the last one is told where nothing is left, and one that wants
     /// a page changes nothing. An event by which a page is pulled leaves recoveries that are under way, whatever its reply. Behind a
-    /// reopening that is done the losers, their claims, the statuses and the lost pages are those that the devices tell. Each image
-    /// that a crash leaves meanwhile stands for the state before or after.
+    /// reopening that is done the losers, their claims, the statuses, the lost pages and their RecLSNs are those that the devices
+    /// tell. Behind a failure of all what the devices read is all that a further crash may leave, unless a fault was counted. Each
+    /// image that a crash leaves meanwhile stands for the state before or after.
     pub fn call(&mut self, session: u8, line: u32, e: Event) -> Result<(), Memory>
         requires served { IsServed e }
         requires kept { (start : Core) × Keeps (telling G.seen G.leaves G.moment G.since G.faults) start self.old }
@@ -110,6 +115,7 @@ impl<G: Rig> Hall<G> {
         ensures reopens { OnOk result
             (self.new.book.entries ≡ self.old.book.entries ++ record { session = session; line = line; event = e; reply = reply.Did } ∷ []
             → e ≡ event.Reopen → FindsIn G.seen G.leaves self.new.body) }
+        ensures closes { OnOk result (ClosesIn (telling G.seen G.leaves G.moment G.since G.faults) e self.old.body self.new.body) }
         ensures opening { self.new.book.opening ≡ self.old.book.opening }
         ensures keeps { (start : Core) → Keeps (telling G.seen G.leaves G.moment G.since G.faults) start self.old
             → Keeps (telling G.seen G.leaves G.moment G.since G.faults) start self.new }
@@ -128,6 +134,7 @@ impl<G: Rig> Hall<G> {
     fn turn(&mut self, e: &Event, answer: &mut Reply) -> Result<(), Memory>
         requires served { IsServed e.now }
         requires fits { (w : Core) × (fits_in G.seen G.leaves self.old.body w) × (w.pages.frames ≡ self.old.shape.frames) }
+        requires few { (w : Core) × fits_in G.seen G.leaves self.old.body w × Few w.scene.state }
         requires least { 1 ≤ self.old.shape.frames }
         requires most { self.old.shape.frames ≤ 1024 }
         requires fresh { answer.old ≡ reply.Did }
@@ -138,6 +145,7 @@ impl<G: Rig> Hall<G> {
         ensures awaits { IsAwaitedIn e.now (told_in result answer.new) self.old.body }
         ensures works { IsWorkedIn G.seen e.now (told_in result answer.new) self.old.body self.new.body }
         ensures reopens { IsFoundIn G.seen G.leaves e.now (told_in result answer.new) self.new.body }
+        ensures closes { ClosesIn (telling G.seen G.leaves G.moment G.since G.faults) e.now self.old.body self.new.body }
         ensures book { self.new.book ≡ self.old.book }
         ensures shape { self.new.shape ≡ self.old.shape }
         ensures owed { self.new.owed ≡ self.old.owed }
@@ -161,6 +169,7 @@ impl<G: Rig> Hall<G> {
         ensures served { ServesIn (telling G.seen G.leaves G.moment G.since G.faults) e.now (told_in result answer.new)
             self.old.body self.new.body }
         ensures reopens { IsFoundIn G.seen G.leaves e.now (told_in result answer.new) self.new.body }
+        ensures closes { ClosesIn (telling G.seen G.leaves G.moment G.since G.faults) e.now self.old.body self.new.body }
         ensures book { self.new.book ≡ self.old.book }
         ensures shape { self.new.shape ≡ self.old.shape }
         ensures owed { self.new.owed ≡ self.old.owed }

@@ -3,7 +3,7 @@
 //! Meaning: `Keeps` (`specs/Keeping.antt`): the entries lead from a start to a core that the complex fits, and the book has room
 //! for the entries that the hall owes: `entries_owed` (`specs/Ledger.antt`) counts for each transaction that runs its commit and
 //! its undos, for one that rolls back the rest of that, for each instance that is up its failure. `IsServed` (`specs/Served.antt`):
-//! the event has a call.
+//! the event has a call, as each has.
 //! Keeps: `Keeps`, through each call.
 //! Promises: a hall opens from sound devices alone, to the world of which they tell (`Hall::open`). An event that was done is noted
 //! with its reply, and no other is (`Hall::call`); it was served as sd_fits says, also while the complex is closed (`serve_body`,
@@ -15,8 +15,8 @@
 //! core behind it; as a hall opens, also `Failed` and `Damaged`.
 //! Knows nothing of: sessions, scripts, how a line is driven.
 //! Stands on: sd_base, sd_model, sd_page, sd_rig, sd_pool, sd_txn, sd_pagelock, sd_chain, sd_recovered, sd_world, sd_state,
-//! sd_update, sd_moves, sd_fits, sd_ops, sd_transfer, sd_recover, sd_restart.
-//! Held by the caller: that the event is one of those that are served (`IsServed`); that a pool has a frame, and at most 1,024.
+//! sd_update, sd_moves, sd_fits, sd_ops, sd_transfer, sd_ckpt, sd_recover, sd_restart.
+//! Held by the caller: that a pool has a frame, and at most 1,024; of `serve_body` and `turned`, what `Keeps` has of the complex.
 //!
 //! To change:
 //! - free: bodies, proofs

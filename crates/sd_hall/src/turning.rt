@@ -1,12 +1,14 @@
 //! One event served on a complex that is open or closed.
 
 ghost use Rattle.std.specs.Prelude.{◌≡◌, ◌≢◌, ◌≤◌, None, Some};
+ghost use Rattle.sd_model.specs.Few.{Few};
 ghost use Rattle.sd_model.specs.declared.event.Event.TheVariants as event;
 ghost use Rattle.sd_model.specs.declared.event.Reply.TheVariants as reply;
 ghost use Rattle.sd_world.specs.Serving.{Core, telling};
 ghost use Rattle.sd_fits.specs.Bodies.{ServingHall, fits_body};
 ghost use Rattle.sd_recover.specs.Closing.{NeitherClosesNorOpens};
 ghost use Rattle.sd_hall.specs.Bodies.{IsAwaitedIn, IsDownIn, IsWorkedIn};
+ghost use Rattle.sd_hall.specs.Closed.{ClosesIn};
 ghost use Rattle.sd_hall.specs.Found.{IsFoundIn};
 ghost use Rattle.sd_hall.specs.Owed.{IsOwed};
 ghost use Rattle.sd_hall.specs.Served.{IsServed, told, told_in};
@@ -22,7 +24,8 @@ use sd_state::Shape;
 use std::alloc::Global;
 
 /// Does a failure of all instances or a reopening, and tells its reply. Behind the one the complex is closed, and has this shape
-/// where it was open; behind the other it may be open, and is then what the devices tell.
+/// where it was open, and what the devices read lasts unless a fault was counted; behind the other it may be open, and is then what
+/// the devices tell.
 pub fn turned<G: Rig>(
     alloc: Global,
     body: Body<G>,
@@ -35,6 +38,7 @@ pub fn turned<G: Rig>(
     requires most { shape.frames ≤ 1024 }
     ensures served { ServingHall (telling G.seen G.leaves G.moment G.since G.faults) e.now (told result.0) body result.1 }
     ensures reopens { IsFoundIn G.seen G.leaves e.now (told result.0) (Some result.1) }
+    ensures closes { ClosesIn (telling G.seen G.leaves G.moment G.since G.faults) e.now (Some body) (Some result.1) }
 {
     match e {
         Event::FailAll { pick } => (Ok(Reply::Did), fail_all(body, *pick, shape)),
@@ -44,11 +48,12 @@ pub fn turned<G: Rig>(
 }
 
 /// Does an event that neither closes the complex nor opens it, and puts its reply where a Did stands. A closed one refuses it, but
-/// to arm the devices.
+/// to arm the devices. An instance that may begin a checkpoint has at most 64 unresolved transactions.
 pub fn serve_body<G: Rig>(body: &mut Body<G>, e: &Event, answer: &mut Reply) -> Result<(), Memory>
     requires served { IsServed e.now }
     requires within { NeitherClosesNorOpens e.now }
     requires fits { (w : Core) × fits_body G.seen G.leaves body.old w }
+    requires few { (w : Core) × fits_body G.seen G.leaves body.old w × Few w.scene.state }
     requires fresh { answer.old ≡ reply.Did }
     ensures served { ServingHall (telling G.seen G.leaves G.moment G.since G.faults) e.now (told_in result answer.new)
         body.old body.new }

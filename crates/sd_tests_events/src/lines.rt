@@ -68,6 +68,8 @@ pub enum Ask {
     Evict(u16),
     Flush(u16),
     Force,
+    CheckBegin,
+    CheckEnd,
     Fail,
     Join,
     /// This one begins to recover the instance.
@@ -152,6 +154,7 @@ pub enum Why {
     Failed,
     /// A device failed, and the commit is in doubt.
     Cut,
+    NoCheck,
     NoTxn,
 }
 
@@ -255,6 +258,8 @@ fn deed(inst: InstNo, ask: Ask) -> Option<Event>
     match ask {
         Ask::Begin => Some(Event::Begin { inst }),
         Ask::Force => Some(Event::Force { inst }),
+        Ask::CheckBegin => Some(Event::CheckBegin { inst }),
+        Ask::CheckEnd => Some(Event::CheckEnd { inst }),
         Ask::Fail => Some(Event::Fail { inst }),
         Ask::Join => Some(Event::Join { inst }),
         Ask::RecoverBy(other) => recovery(inst, other),
@@ -407,6 +412,7 @@ fn is_why(refusal: &Refusal, why: Why) -> bool {
         ) => by.get() == who.0,
         (Refusal::Failed, Why::Failed) => true,
         (Refusal::CutCommit, Why::Cut) => true,
+        (Refusal::NoCheck, Why::NoCheck) => true,
         (Refusal::NotRecovered { status }, Why::NotRecovered) => *status == Status::Down,
         _ => false,
     }

@@ -5,6 +5,7 @@ ghost use Rattle.sd_world.specs.Serving.{Core, telling};
 ghost use Rattle.sd_hall.specs.Keeping.{Keeps};
 ghost use Rattle.sd_hall.specs.Served.{IsServed};
 
+use crate::checkpoints::CHECKPOINTS;
 use crate::faults::FAULTS;
 use crate::faults::KEPT;
 use crate::faults::OWN_LOG;
@@ -664,6 +665,12 @@ fn a_commit_in_doubt_is_decided_by_its_log(rt: HostRuntime) -> Result<(), Fail> 
 fn a_device_fails_in_a_join_a_read_a_force_and_an_undo(rt: HostRuntime) -> Result<(), Fail> {
     assert_eq!(rt; agreed(rt.alloc(), 2, FAULTS)?, FAULTS.len());
     assert_eq!(rt; agreed(rt.alloc(), 2, OWN_LOG)?, OWN_LOG.len());
+    Ok(())
+}
+
+#[test]
+fn a_checkpoint_ends_with_its_end_or_a_fall(rt: HostRuntime) -> Result<(), Fail> {
+    assert_eq!(rt; agreed(rt.alloc(), 2, CHECKPOINTS)?, CHECKPOINTS.len());
     Ok(())
 }
 

@@ -8,7 +8,7 @@ use Rattle.sd_model.specs.declared.event.Reply.{Reply}
 use Rattle.sd_world.specs.Serving.{Telling, telling}
 use Rattle.sd_hall.specs.Served.{IsServed}
 use Rattle.sd_drive.specs.Standing.{Wants}
-use Rattle.sd_drive.proofs.Helps.{on-err-both, on-err-then, on-ok-then}
+use Rattle.sd_drive.proofs.Helps.{on-err-both, on-err-then, on-ok-both, on-ok-then, on-ok-with}
 use Rattle.sd_model.specs.Replies.{wants_page}
 use Rattle.sd_drive.proofs.Needs.{needs-none}
 use Rattle.sd_drive.proofs.Operating.{again-all, first-some, fits-mid, once-all, pull-in, pulled-some, somewhere, stays-some, then-some, wants-as}
@@ -29,7 +29,7 @@ returns-in-None-clause-done g c =
     let mid = c.call.new.self in
     let n = c.in_ok-call.ensures.noted in
     let entry : Entry = record { session = c.args.session; line = c.args.line; event = c.args.e; reply = n.0 } in
-    let noted : Noted tell old mid entry = record { entries = n.1; serves = n.2; keeps = c.call.ensures.keeps; opening = c.call.ensures.opening; earlier = λ rig t u img le s. g.met.G.Rig.earlier rig t u img le s } in
+    let noted : Noted tell old mid entry = record { entries = n.1; serves = n.2; keeps = c.call.ensures.keeps; opening = c.call.ensures.opening; earlier = λ rig t u img le s. g.met.G.Rig.earlier rig t u img le s; found = c.in_ok-call.ensures.reopens; closes = c.in_ok-call.ensures.closes } in
     let last : c.last_entry-last.result.now ≡ entry = c.last_entry-last.ensures old.book.entries entry n.1 in
     once-all tell c.args.session c.args.line c.args.e c.requires.names old mid n.0 noted
     (wants-as tell c.args.session c.args.line c.args.e c.requires.names old mid n.0 noted
@@ -42,7 +42,7 @@ wanted-requires g c =
     let mid = c.call.new.self in
     let n = c.in_ok-call.ensures.noted in
     let entry : Entry = record { session = c.args.session; line = c.args.line; event = c.args.e; reply = n.0 } in
-    let noted : Noted tell old mid entry = record { entries = n.1; serves = n.2; keeps = c.call.ensures.keeps; opening = c.call.ensures.opening; earlier = λ rig t u img le s. g.met.G.Rig.earlier rig t u img le s } in
+    let noted : Noted tell old mid entry = record { entries = n.1; serves = n.2; keeps = c.call.ensures.keeps; opening = c.call.ensures.opening; earlier = λ rig t u img le s. g.met.G.Rig.earlier rig t u img le s; found = c.in_ok-call.ensures.reopens; closes = c.in_ok-call.ensures.closes } in
     let last : c.last_entry-last.result.now ≡ entry = c.last_entry-last.ensures old.book.entries entry n.1 in
     let told : wants_page n.0 ≡ true =
     sym (ap wants_page (c.last.ensures old.book.entries entry n.1)) ∙ sym c.wants_page.ensures ∙ c.if-not-wants_page.false in
@@ -58,7 +58,7 @@ returns-in_err-again-in-Some-clause-memory g c =
     let mid = c.call.new.self in
     let n = c.in_ok-call.ensures.noted in
     let entry : Entry = record { session = c.args.session; line = c.args.line; event = c.args.e; reply = n.0 } in
-    let noted : Noted tell old mid entry = record { entries = n.1; serves = n.2; keeps = c.call.ensures.keeps; opening = c.call.ensures.opening; earlier = λ rig t u img le s. g.met.G.Rig.earlier rig t u img le s } in
+    let noted : Noted tell old mid entry = record { entries = n.1; serves = n.2; keeps = c.call.ensures.keeps; opening = c.call.ensures.opening; earlier = λ rig t u img le s. g.met.G.Rig.earlier rig t u img le s; found = c.in_ok-call.ensures.reopens; closes = c.in_ok-call.ensures.closes } in
     let last : c.last_entry-last.result.now ≡ entry = c.last_entry-last.ensures old.book.entries entry n.1 in
     let x : ℕ × ℕ × Mode = c.in-Some.need in
     let wants : Wants tell mid.body c.args.e n.0 (Some x) = wants-as tell c.args.session c.args.line c.args.e c.requires.names old mid n.0 noted
@@ -73,7 +73,7 @@ pull-requires g c =
     let mid = c.call.new.self in
     let n = c.in_ok-call.ensures.noted in
     let entry : Entry = record { session = c.args.session; line = c.args.line; event = c.args.e; reply = n.0 } in
-    let noted : Noted tell old mid entry = record { entries = n.1; serves = n.2; keeps = c.call.ensures.keeps; opening = c.call.ensures.opening; earlier = λ rig t u img le s. g.met.G.Rig.earlier rig t u img le s } in
+    let noted : Noted tell old mid entry = record { entries = n.1; serves = n.2; keeps = c.call.ensures.keeps; opening = c.call.ensures.opening; earlier = λ rig t u img le s. g.met.G.Rig.earlier rig t u img le s; found = c.in_ok-call.ensures.reopens; closes = c.in_ok-call.ensures.closes } in
     let last : c.last_entry-last.result.now ≡ entry = c.last_entry-last.ensures old.book.entries entry n.1 in
     let x : ℕ × ℕ × Mode = c.in-Some.need in
     let wants : Wants tell mid.body c.args.e n.0 (Some x) = wants-as tell c.args.session c.args.line c.args.e c.requires.names old mid n.0 noted
@@ -87,7 +87,7 @@ returns-in_err-_came-in-Some-clause-memory g c =
     let mid = c.call.new.self in
     let n = c.in_ok-call.ensures.noted in
     let entry : Entry = record { session = c.args.session; line = c.args.line; event = c.args.e; reply = n.0 } in
-    let noted : Noted tell old mid entry = record { entries = n.1; serves = n.2; keeps = c.call.ensures.keeps; opening = c.call.ensures.opening; earlier = λ rig t u img le s. g.met.G.Rig.earlier rig t u img le s } in
+    let noted : Noted tell old mid entry = record { entries = n.1; serves = n.2; keeps = c.call.ensures.keeps; opening = c.call.ensures.opening; earlier = λ rig t u img le s. g.met.G.Rig.earlier rig t u img le s; found = c.in_ok-call.ensures.reopens; closes = c.in_ok-call.ensures.closes } in
     let last : c.last_entry-last.result.now ≡ entry = c.last_entry-last.ensures old.book.entries entry n.1 in
     let x : ℕ × ℕ × Mode = c.in-Some.need in
     let wants : Wants tell mid.body c.args.e n.0 (Some x) = wants-as tell c.args.session c.args.line c.args.e c.requires.names old mid n.0 noted
@@ -102,7 +102,7 @@ call-requires-in-Some-clause-served g c =
     let mid = c.call.new.self in
     let n = c.in_ok-call.ensures.noted in
     let entry : Entry = record { session = c.args.session; line = c.args.line; event = c.args.e; reply = n.0 } in
-    let noted : Noted tell old mid entry = record { entries = n.1; serves = n.2; keeps = c.call.ensures.keeps; opening = c.call.ensures.opening; earlier = λ rig t u img le s. g.met.G.Rig.earlier rig t u img le s } in
+    let noted : Noted tell old mid entry = record { entries = n.1; serves = n.2; keeps = c.call.ensures.keeps; opening = c.call.ensures.opening; earlier = λ rig t u img le s. g.met.G.Rig.earlier rig t u img le s; found = c.in_ok-call.ensures.reopens; closes = c.in_ok-call.ensures.closes } in
     let last : c.last_entry-last.result.now ≡ entry = c.last_entry-last.ensures old.book.entries entry n.1 in
     let x : ℕ × ℕ × Mode = c.in-Some.need in
     let wants : Wants tell mid.body c.args.e n.0 (Some x) = wants-as tell c.args.session c.args.line c.args.e c.requires.names old mid n.0 noted
@@ -117,7 +117,7 @@ call-requires-in-Some-clause-kept g c =
     let mid = c.call.new.self in
     let n = c.in_ok-call.ensures.noted in
     let entry : Entry = record { session = c.args.session; line = c.args.line; event = c.args.e; reply = n.0 } in
-    let noted : Noted tell old mid entry = record { entries = n.1; serves = n.2; keeps = c.call.ensures.keeps; opening = c.call.ensures.opening; earlier = λ rig t u img le s. g.met.G.Rig.earlier rig t u img le s } in
+    let noted : Noted tell old mid entry = record { entries = n.1; serves = n.2; keeps = c.call.ensures.keeps; opening = c.call.ensures.opening; earlier = λ rig t u img le s. g.met.G.Rig.earlier rig t u img le s; found = c.in_ok-call.ensures.reopens; closes = c.in_ok-call.ensures.closes } in
     let last : c.last_entry-last.result.now ≡ entry = c.last_entry-last.ensures old.book.entries entry n.1 in
     let x : ℕ × ℕ × Mode = c.in-Some.need in
     let wants : Wants tell mid.body c.args.e n.0 (Some x) = wants-as tell c.args.session c.args.line c.args.e c.requires.names old mid n.0 noted
@@ -132,7 +132,7 @@ returns-in_ok-_came-in-Some-clause-done g c =
     let mid = c.call.new.self in
     let n = c.in_ok-call.ensures.noted in
     let entry : Entry = record { session = c.args.session; line = c.args.line; event = c.args.e; reply = n.0 } in
-    let noted : Noted tell old mid entry = record { entries = n.1; serves = n.2; keeps = c.call.ensures.keeps; opening = c.call.ensures.opening; earlier = λ rig t u img le s. g.met.G.Rig.earlier rig t u img le s } in
+    let noted : Noted tell old mid entry = record { entries = n.1; serves = n.2; keeps = c.call.ensures.keeps; opening = c.call.ensures.opening; earlier = λ rig t u img le s. g.met.G.Rig.earlier rig t u img le s; found = c.in_ok-call.ensures.reopens; closes = c.in_ok-call.ensures.closes } in
     let last : c.last_entry-last.result.now ≡ entry = c.last_entry-last.ensures old.book.entries entry n.1 in
     let x : ℕ × ℕ × Mode = c.in-Some.need in
     let wants : Wants tell mid.body c.args.e n.0 (Some x) = wants-as tell c.args.session c.args.line c.args.e c.requires.names old mid n.0 noted
@@ -141,7 +141,9 @@ returns-in_ok-_came-in-Some-clause-done g c =
     let noted_as : Event → Reply → Type 0 = λ y q. Noted tell c.pull.new.hall c.call-in-Some.new.self (record { session = c.args.session; line = c.args.line; event = y; reply = q }) in
     on-ok-then c.call-in-Some.result _ _ (λ m. again-all tell c.args.session c.args.line c.args.e c.requires.names old mid n.0 noted x wants c.pull.new.hall
     c.in_ok-_came-in-Some._came c.in_ok-_came-in-Some.ensures.pulled c.call-in-Some.new.self m.0
-    (subst (λ (y : Event). noted_as y m.0) same (record { entries = m.1; serves = m.2; keeps = c.call-in-Some.ensures.keeps; opening = c.call-in-Some.ensures.opening; earlier = λ rig t u img le s. g.met.G.Rig.earlier rig t u img le s }))) c.call-in-Some.ensures.noted
+    (subst (λ (y : Event). noted_as y m.0) same (record { entries = m.1; serves = m.2; keeps = c.call-in-Some.ensures.keeps; opening = c.call-in-Some.ensures.opening; earlier = λ rig t u img le s. g.met.G.Rig.earlier rig t u img le s; found = m.3.0; closes = m.3.1 })))
+    (on-ok-with c.call-in-Some.result _ _ _ c.call-in-Some.ensures.noted
+    (on-ok-both c.call-in-Some.result _ _ c.call-in-Some.ensures.reopens c.call-in-Some.ensures.closes))
 
 pub returns-in_ok-_came-in-Some-clause-memory : goal.returns-in_ok-_came-in-Some-clause-memory
 returns-in_ok-_came-in-Some-clause-memory g c =
@@ -150,7 +152,7 @@ returns-in_ok-_came-in-Some-clause-memory g c =
     let mid = c.call.new.self in
     let n = c.in_ok-call.ensures.noted in
     let entry : Entry = record { session = c.args.session; line = c.args.line; event = c.args.e; reply = n.0 } in
-    let noted : Noted tell old mid entry = record { entries = n.1; serves = n.2; keeps = c.call.ensures.keeps; opening = c.call.ensures.opening; earlier = λ rig t u img le s. g.met.G.Rig.earlier rig t u img le s } in
+    let noted : Noted tell old mid entry = record { entries = n.1; serves = n.2; keeps = c.call.ensures.keeps; opening = c.call.ensures.opening; earlier = λ rig t u img le s. g.met.G.Rig.earlier rig t u img le s; found = c.in_ok-call.ensures.reopens; closes = c.in_ok-call.ensures.closes } in
     let last : c.last_entry-last.result.now ≡ entry = c.last_entry-last.ensures old.book.entries entry n.1 in
     let x : ℕ × ℕ × Mode = c.in-Some.need in
     let wants : Wants tell mid.body c.args.e n.0 (Some x) = wants-as tell c.args.session c.args.line c.args.e c.requires.names old mid n.0 noted
@@ -186,7 +188,7 @@ returns-then-not-wants_page-clause-done g c =
     let mid = c.call.new.self in
     let n = c.in_ok-call.ensures.noted in
     let entry : Entry = record { session = c.args.session; line = c.args.line; event = c.args.e; reply = n.0 } in
-    let noted : Noted tell old mid entry = record { entries = n.1; serves = n.2; keeps = c.call.ensures.keeps; opening = c.call.ensures.opening; earlier = λ rig t u img le s. g.met.G.Rig.earlier rig t u img le s } in
+    let noted : Noted tell old mid entry = record { entries = n.1; serves = n.2; keeps = c.call.ensures.keeps; opening = c.call.ensures.opening; earlier = λ rig t u img le s. g.met.G.Rig.earlier rig t u img le s; found = c.in_ok-call.ensures.reopens; closes = c.in_ok-call.ensures.closes } in
     let plain : wants_page n.0 ≡ false =
     sym (ap wants_page (c.last.ensures old.book.entries entry n.1)) ∙ sym c.wants_page.ensures ∙ c.if-not-wants_page.true in
     once-all tell c.args.session c.args.line c.args.e c.requires.names old mid n.0 noted

@@ -26,7 +26,7 @@ returns-clause-helped g c =
       n.0,
       sym (c.answer_of.ensures ∙ ap answer_as last),
       helped-on tell c.args.hall.now c.call.new.self c.args.e n.0
-          (record { entries = n.1; serves = n.2; keeps = c.call.ensures.keeps; opening = c.call.ensures.opening; earlier = λ rig t u img le s. g.met.G.Rig.earlier rig t u img le s }),
+          (record { entries = n.1; serves = n.2; keeps = c.call.ensures.keeps; opening = c.call.ensures.opening; earlier = λ rig t u img le s. g.met.G.Rig.earlier rig t u img le s; found = c.in_ok-call.ensures.reopens; closes = c.in_ok-call.ensures.closes }),
     )
 
 pub call-requires-clause-served : goal.call-requires-clause-served
@@ -52,7 +52,7 @@ returns-clause-rests g c =
     let entry : Entry = record { session = 0; line = 0; event = c.args.e; reply = n.0 } in
     let at = c.requires.at in
     let m = moved tell c.args.hall.now c.call.new.self entry
-    (record { entries = n.1; serves = n.2; keeps = c.call.ensures.keeps; opening = c.call.ensures.opening; earlier = λ rig t u img le s. g.met.G.Rig.earlier rig t u img le s })
+    (record { entries = n.1; serves = n.2; keeps = c.call.ensures.keeps; opening = c.call.ensures.opening; earlier = λ rig t u img le s. g.met.G.Rig.earlier rig t u img le s; found = c.in_ok-call.ensures.reopens; closes = c.in_ok-call.ensures.closes })
     at.0 at.1 at.2 in
     rests-helped tell c.args.e n.0 c.args.hall.now.body c.call.new.self.body at.1.core m.core c.requires.helps (fits-now tell at.0 c.args.hall.now at.1 at.2)
     m.fits m.turns.plays.step (c.in_ok-call.ensures.works n.0 n.1)

@@ -26,6 +26,7 @@ returns-in_err-call-clause-memory g c =
       w,
       stays-in tell c.args.hall.now c.call.new.self (event.RecoverBegin c.args.inst c.args.by) c.in_err-call.ensures.same c.in_err-call.ensures.spared
           c.call.ensures.keeps c.call.ensures.opening (λ rig t u img le s. g.met.G.Rig.earlier rig t u img le s) start w i,
+      due.stands.first,
     ))
 
 pub returns-then-not-is_did-clause-recovered : goal.returns-then-not-is_did-clause-recovered
@@ -34,7 +35,7 @@ returns-then-not-is_did-clause-recovered g c =
     let n = c.in_ok-call.ensures.noted in
     let entry : Entry = record { session = c.args.of.session; line = c.args.of.line; event = event.RecoverBegin c.args.inst c.args.by; reply = n.0 } in
     let last = c.last.ensures c.args.hall.now.book.entries entry n.1 in
-    let noted : Noted tell c.args.hall.now c.call.new.self entry = record { entries = n.1; serves = n.2; keeps = c.call.ensures.keeps; opening = c.call.ensures.opening; earlier = λ rig t u img le s. g.met.G.Rig.earlier rig t u img le s } in
+    let noted : Noted tell c.args.hall.now c.call.new.self entry = record { entries = n.1; serves = n.2; keeps = c.call.ensures.keeps; opening = c.call.ensures.opening; earlier = λ rig t u img le s. g.met.G.Rig.earlier rig t u img le s; found = c.in_ok-call.ensures.reopens; closes = c.in_ok-call.ensures.closes } in
     let then = c.last-then-not-is_did.ensures c.args.hall.now.book.entries entry n.1 in
     let reply_is = ap (λ (r : Reply). refused_as r c.args.of.is_opening) then in
     subst (λ (how : Outcome). RecoversTo tell c.args.hall.now c.call.new.self c.args.of c.args.inst c.args.by c.args.most how) (sym (c.refused.ensures ∙ reply_is))
@@ -46,7 +47,7 @@ step_all-requires g c =
     let n = c.in_ok-call.ensures.noted in
     let entry : Entry = record { session = c.args.of.session; line = c.args.of.line; event = event.RecoverBegin c.args.inst c.args.by; reply = n.0 } in
     let last = c.last.ensures c.args.hall.now.book.entries entry n.1 in
-    let noted : Noted tell c.args.hall.now c.call.new.self entry = record { entries = n.1; serves = n.2; keeps = c.call.ensures.keeps; opening = c.call.ensures.opening; earlier = λ rig t u img le s. g.met.G.Rig.earlier rig t u img le s } in
+    let noted : Noted tell c.args.hall.now c.call.new.self entry = record { entries = n.1; serves = n.2; keeps = c.call.ensures.keeps; opening = c.call.ensures.opening; earlier = λ rig t u img le s. g.met.G.Rig.earlier rig t u img le s; found = c.in_ok-call.ensures.reopens; closes = c.in_ok-call.ensures.closes } in
     record {
       at = begun-due tell c.args.of c.args.inst c.args.by c.args.most c.args.hall.now c.call.new.self n.0 noted
           (sym (ap is_did last) ∙ sym c.is_did.ensures ∙ c.if-not-is_did.false) c.requires.at;
@@ -58,7 +59,7 @@ returns-clause-recovered g c =
     let n = c.in_ok-call.ensures.noted in
     let entry : Entry = record { session = c.args.of.session; line = c.args.of.line; event = event.RecoverBegin c.args.inst c.args.by; reply = n.0 } in
     let last = c.last.ensures c.args.hall.now.book.entries entry n.1 in
-    let noted : Noted tell c.args.hall.now c.call.new.self entry = record { entries = n.1; serves = n.2; keeps = c.call.ensures.keeps; opening = c.call.ensures.opening; earlier = λ rig t u img le s. g.met.G.Rig.earlier rig t u img le s } in
+    let noted : Noted tell c.args.hall.now c.call.new.self entry = record { entries = n.1; serves = n.2; keeps = c.call.ensures.keeps; opening = c.call.ensures.opening; earlier = λ rig t u img le s. g.met.G.Rig.earlier rig t u img le s; found = c.in_ok-call.ensures.reopens; closes = c.in_ok-call.ensures.closes } in
     if-ok-then c.step_all.result _ _ (λ how to. begun-to tell c.args.of c.args.inst c.args.by c.args.most c.args.hall.now c.call.new.self n.0 noted
     (sym (ap is_did last) ∙ sym c.is_did.ensures ∙ c.if-not-is_did.false) c.step_all.new.hall how to) c.step_all.ensures.recovered
 
@@ -68,7 +69,7 @@ returns-clause-memory g c =
     let n = c.in_ok-call.ensures.noted in
     let entry : Entry = record { session = c.args.of.session; line = c.args.of.line; event = event.RecoverBegin c.args.inst c.args.by; reply = n.0 } in
     let last = c.last.ensures c.args.hall.now.book.entries entry n.1 in
-    let noted : Noted tell c.args.hall.now c.call.new.self entry = record { entries = n.1; serves = n.2; keeps = c.call.ensures.keeps; opening = c.call.ensures.opening; earlier = λ rig t u img le s. g.met.G.Rig.earlier rig t u img le s } in
+    let noted : Noted tell c.args.hall.now c.call.new.self entry = record { entries = n.1; serves = n.2; keeps = c.call.ensures.keeps; opening = c.call.ensures.opening; earlier = λ rig t u img le s. g.met.G.Rig.earlier rig t u img le s; found = c.in_ok-call.ensures.reopens; closes = c.in_ok-call.ensures.closes } in
     on-err-then c.step_all.result _ _ (λ some. begun-some tell c.args.of c.args.inst c.args.by c.args.most c.args.hall.now c.call.new.self n.0 noted
     (sym (ap is_did last) ∙ sym c.is_did.ensures ∙ c.if-not-is_did.false) c.step_all.new.hall some) c.step_all.ensures.memory
 

@@ -32,6 +32,7 @@ returns-in_err-call-clause-memory g c =
       w,
       stays-in tell c.args.hall.now c.call.new.self (event.RecoverStep c.args.inst) c.in_err-call.ensures.same c.in_err-call.ensures.spared
           c.call.ensures.keeps c.call.ensures.opening (λ rig t u img le s. g.met.G.Rig.earlier rig t u img le s) start w i,
+      due.stands.first,
     ))
 
 pub returns-then-not-wants_page-clause-stepped : goal.returns-then-not-wants_page-clause-stepped
@@ -40,7 +41,7 @@ returns-then-not-wants_page-clause-stepped g c =
     let n = c.in_ok-call.ensures.noted in
     let entry : Entry = record { session = c.args.of.session; line = c.args.of.line; event = event.RecoverStep c.args.inst; reply = n.0 } in
     let last = c.last.ensures c.args.hall.now.book.entries entry n.1 in
-    let noted : Noted tell c.args.hall.now c.call.new.self entry = record { entries = n.1; serves = n.2; keeps = c.call.ensures.keeps; opening = c.call.ensures.opening; earlier = λ rig t u img le s. g.met.G.Rig.earlier rig t u img le s } in
+    let noted : Noted tell c.args.hall.now c.call.new.self entry = record { entries = n.1; serves = n.2; keeps = c.call.ensures.keeps; opening = c.call.ensures.opening; earlier = λ rig t u img le s. g.met.G.Rig.earlier rig t u img le s; found = c.in_ok-call.ensures.reopens; closes = c.in_ok-call.ensures.closes } in
     let then = c.last-then-not-wants_page.ensures c.args.hall.now.book.entries entry n.1 in
     subst (λ (next : Next). StepsAs tell c.args.hall.now c.call.new.self c.args.of c.args.inst c.args.most next)
     (sym (c.ending.ensures ∙ ap (λ (r : Reply). ending_as r c.args.of.is_opening c.args.most) then))
@@ -52,7 +53,7 @@ step_pulled-requires-clause-at g c =
     let n = c.in_ok-call.ensures.noted in
     let entry : Entry = record { session = c.args.of.session; line = c.args.of.line; event = event.RecoverStep c.args.inst; reply = n.0 } in
     let last = c.last.ensures c.args.hall.now.book.entries entry n.1 in
-    let noted : Noted tell c.args.hall.now c.call.new.self entry = record { entries = n.1; serves = n.2; keeps = c.call.ensures.keeps; opening = c.call.ensures.opening; earlier = λ rig t u img le s. g.met.G.Rig.earlier rig t u img le s } in
+    let noted : Noted tell c.args.hall.now c.call.new.self entry = record { entries = n.1; serves = n.2; keeps = c.call.ensures.keeps; opening = c.call.ensures.opening; earlier = λ rig t u img le s. g.met.G.Rig.earlier rig t u img le s; found = c.in_ok-call.ensures.reopens; closes = c.in_ok-call.ensures.closes } in
     let waits = subst (λ (o : Option (ℕ × ℕ)). Waits tell c.args.hall.now.body c.args.inst o) c.in-Some.is c.awaited-waits.ensures.waits in
     wants-of tell c.args.of c.args.inst c.args.most c.args.hall.now c.call.new.self n.0 noted (sym (ap wants_page last) ∙ sym c.wants_page.ensures ∙ c.if-not-wants_page.false) c.in-Some.wait.0 c.in-Some.wait.1 waits c.requires.at
 
@@ -62,7 +63,7 @@ returns-clause-stepped g c =
     let n = c.in_ok-call.ensures.noted in
     let entry : Entry = record { session = c.args.of.session; line = c.args.of.line; event = event.RecoverStep c.args.inst; reply = n.0 } in
     let last = c.last.ensures c.args.hall.now.book.entries entry n.1 in
-    let noted : Noted tell c.args.hall.now c.call.new.self entry = record { entries = n.1; serves = n.2; keeps = c.call.ensures.keeps; opening = c.call.ensures.opening; earlier = λ rig t u img le s. g.met.G.Rig.earlier rig t u img le s } in
+    let noted : Noted tell c.args.hall.now c.call.new.self entry = record { entries = n.1; serves = n.2; keeps = c.call.ensures.keeps; opening = c.call.ensures.opening; earlier = λ rig t u img le s. g.met.G.Rig.earlier rig t u img le s; found = c.in_ok-call.ensures.reopens; closes = c.in_ok-call.ensures.closes } in
     let waits = subst (λ (o : Option (ℕ × ℕ)). Waits tell c.args.hall.now.body c.args.inst o) c.in-Some.is c.awaited-waits.ensures.waits in
     if-ok-then c.step_pulled.result _ _ (λ next goes. wanted-as tell c.args.of c.args.inst c.args.most c.args.hall.now c.call.new.self n.0 noted (sym (ap wants_page last) ∙ sym c.wants_page.ensures ∙ c.if-not-wants_page.false)
     c.in-Some.wait.0 c.in-Some.wait.1 waits c.step_pulled.new.hall next goes) c.step_pulled.ensures.stepped
@@ -73,7 +74,7 @@ returns-clause-memory g c =
     let n = c.in_ok-call.ensures.noted in
     let entry : Entry = record { session = c.args.of.session; line = c.args.of.line; event = event.RecoverStep c.args.inst; reply = n.0 } in
     let last = c.last.ensures c.args.hall.now.book.entries entry n.1 in
-    let noted : Noted tell c.args.hall.now c.call.new.self entry = record { entries = n.1; serves = n.2; keeps = c.call.ensures.keeps; opening = c.call.ensures.opening; earlier = λ rig t u img le s. g.met.G.Rig.earlier rig t u img le s } in
+    let noted : Noted tell c.args.hall.now c.call.new.self entry = record { entries = n.1; serves = n.2; keeps = c.call.ensures.keeps; opening = c.call.ensures.opening; earlier = λ rig t u img le s. g.met.G.Rig.earlier rig t u img le s; found = c.in_ok-call.ensures.reopens; closes = c.in_ok-call.ensures.closes } in
     let waits = subst (λ (o : Option (ℕ × ℕ)). Waits tell c.args.hall.now.body c.args.inst o) c.in-Some.is c.awaited-waits.ensures.waits in
     on-err-then c.step_pulled.result _ _ (λ some. wanted-some tell c.args.of c.args.inst c.args.most c.args.hall.now c.call.new.self n.0 noted (sym (ap wants_page last) ∙ sym c.wants_page.ensures ∙ c.if-not-wants_page.false)
     c.in-Some.wait.0 c.in-Some.wait.1 waits c.step_pulled.new.hall some) c.step_pulled.ensures.memory
@@ -84,7 +85,7 @@ unreachable-requires g c =
     let n = c.in_ok-call.ensures.noted in
     let entry : Entry = record { session = c.args.of.session; line = c.args.of.line; event = event.RecoverStep c.args.inst; reply = n.0 } in
     let last = c.last.ensures c.args.hall.now.book.entries entry n.1 in
-    let noted : Noted tell c.args.hall.now c.call.new.self entry = record { entries = n.1; serves = n.2; keeps = c.call.ensures.keeps; opening = c.call.ensures.opening; earlier = λ rig t u img le s. g.met.G.Rig.earlier rig t u img le s } in
+    let noted : Noted tell c.args.hall.now c.call.new.self entry = record { entries = n.1; serves = n.2; keeps = c.call.ensures.keeps; opening = c.call.ensures.opening; earlier = λ rig t u img le s. g.met.G.Rig.earlier rig t u img le s; found = c.in_ok-call.ensures.reopens; closes = c.in_ok-call.ensures.closes } in
     let waits = subst (λ (o : Option (ℕ × ℕ)). Waits tell c.args.hall.now.body c.args.inst o) c.in-None.is c.awaited-waits.ensures.waits in
     never-unwanted tell c.args.of c.args.inst c.args.most c.args.hall.now c.call.new.self n.0 noted (sym (ap wants_page last) ∙ sym c.wants_page.ensures ∙ c.if-not-wants_page.false) c.requires.at waits (c.in_ok-call.ensures.awaits n.0 n.1)
 
@@ -118,7 +119,7 @@ step_pulled-requires-clause-lacks g c =
     let n = c.in_ok-call.ensures.noted in
     let entry : Entry = record { session = c.args.of.session; line = c.args.of.line; event = event.RecoverStep c.args.inst; reply = n.0 } in
     let last = c.last.ensures c.args.hall.now.book.entries entry n.1 in
-    let noted : Noted tell c.args.hall.now c.call.new.self entry = record { entries = n.1; serves = n.2; keeps = c.call.ensures.keeps; opening = c.call.ensures.opening; earlier = λ rig t u img le s. g.met.G.Rig.earlier rig t u img le s } in
+    let noted : Noted tell c.args.hall.now c.call.new.self entry = record { entries = n.1; serves = n.2; keeps = c.call.ensures.keeps; opening = c.call.ensures.opening; earlier = λ rig t u img le s. g.met.G.Rig.earlier rig t u img le s; found = c.in_ok-call.ensures.reopens; closes = c.in_ok-call.ensures.closes } in
     let at = c.requires.at in
     let m = moved tell c.args.hall.now c.call.new.self entry noted at.start at.world at.there in
     let wants = sym (ap wants_page last) ∙ sym c.wants_page.ensures ∙ c.if-not-wants_page.false in
@@ -133,7 +134,7 @@ returns-clause-nearer g c =
     let n = c.in_ok-call.ensures.noted in
     let entry : Entry = record { session = c.args.of.session; line = c.args.of.line; event = event.RecoverStep c.args.inst; reply = n.0 } in
     let last = c.last.ensures c.args.hall.now.book.entries entry n.1 in
-    let noted : Noted tell c.args.hall.now c.call.new.self entry = record { entries = n.1; serves = n.2; keeps = c.call.ensures.keeps; opening = c.call.ensures.opening; earlier = λ rig t u img le s. g.met.G.Rig.earlier rig t u img le s } in
+    let noted : Noted tell c.args.hall.now c.call.new.self entry = record { entries = n.1; serves = n.2; keeps = c.call.ensures.keeps; opening = c.call.ensures.opening; earlier = λ rig t u img le s. g.met.G.Rig.earlier rig t u img le s; found = c.in_ok-call.ensures.reopens; closes = c.in_ok-call.ensures.closes } in
     let at = c.requires.at in
     let m = moved tell c.args.hall.now c.call.new.self entry noted at.start at.world at.there in
     let wants = sym (ap wants_page last) ∙ sym c.wants_page.ensures ∙ c.if-not-wants_page.false in
@@ -147,7 +148,7 @@ returns-then-not-wants_page-clause-nearer g c =
     let tell : Telling _ = telling g.G.Rig.seen g.G.Rig.leaves g.G.Rig.moment g.G.Rig.since g.G.Rig.faults in
     let n = c.in_ok-call.ensures.noted in
     let entry : Entry = record { session = c.args.of.session; line = c.args.of.line; event = event.RecoverStep c.args.inst; reply = n.0 } in
-    let noted : Noted tell c.args.hall.now c.call.new.self entry = record { entries = n.1; serves = n.2; keeps = c.call.ensures.keeps; opening = c.call.ensures.opening; earlier = λ rig t u img le s. g.met.G.Rig.earlier rig t u img le s } in
+    let noted : Noted tell c.args.hall.now c.call.new.self entry = record { entries = n.1; serves = n.2; keeps = c.call.ensures.keeps; opening = c.call.ensures.opening; earlier = λ rig t u img le s. g.met.G.Rig.earlier rig t u img le s; found = c.in_ok-call.ensures.reopens; closes = c.in_ok-call.ensures.closes } in
     let then = c.last-then-not-wants_page.ensures c.args.hall.now.book.entries entry n.1 in
     let at = c.requires.at in
     let old = c.args.hall.now.body in

@@ -67,7 +67,7 @@ returns-clause-stepped g c =
     let n = c.in_ok-call.ensures.noted in
     let entry : Entry = record { session = c.args.of.session; line = c.args.of.line; event = event.RecoverStep c.args.inst; reply = n.0 } in
     let last = c.last.ensures c.pull.new.hall.book.entries entry n.1 in
-    let noted : Noted tell c.pull.new.hall c.call.new.self entry = record { entries = n.1; serves = n.2; keeps = c.call.ensures.keeps; opening = c.call.ensures.opening; earlier = λ rig t u img le s. g.met.G.Rig.earlier rig t u img le s } in
+    let noted : Noted tell c.pull.new.hall c.call.new.self entry = record { entries = n.1; serves = n.2; keeps = c.call.ensures.keeps; opening = c.call.ensures.opening; earlier = λ rig t u img le s. g.met.G.Rig.earlier rig t u img le s; found = c.in_ok-call.ensures.reopens; closes = c.in_ok-call.ensures.closes } in
     let fine : c.args.of.is_opening ≡ true → ends_failed c.pull.new.hall.book.entries ≡ false = elim c.else-of.branch [
       | else-of-via-then-of+else-ends_failed w ↦ λ opens. sym w.ends_failed.ensures ∙ w.if-ends_failed.false
       | else-of-via-else-of w ↦ λ opens. let isnt = w.if-of.false in absurd (cc)
@@ -115,7 +115,7 @@ returns-clause-nearer g c =
     let n = c.in_ok-call.ensures.noted in
     let entry : Entry = record { session = c.args.of.session; line = c.args.of.line; event = event.RecoverStep c.args.inst; reply = n.0 } in
     let last = c.last.ensures c.pull.new.hall.book.entries entry n.1 in
-    let noted : Noted tell c.pull.new.hall c.call.new.self entry = record { entries = n.1; serves = n.2; keeps = c.call.ensures.keeps; opening = c.call.ensures.opening; earlier = λ rig t u img le s. g.met.G.Rig.earlier rig t u img le s } in
+    let noted : Noted tell c.pull.new.hall c.call.new.self entry = record { entries = n.1; serves = n.2; keeps = c.call.ensures.keeps; opening = c.call.ensures.opening; earlier = λ rig t u img le s. g.met.G.Rig.earlier rig t u img le s; found = c.in_ok-call.ensures.reopens; closes = c.in_ok-call.ensures.closes } in
     let old = c.args.hall.now.body in
     let mid = c.pull.new.hall.body in
     let new = c.call.new.self.body in

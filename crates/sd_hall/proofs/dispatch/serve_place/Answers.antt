@@ -19,6 +19,8 @@ unreachable-requires g c = none c.args.e.now c.requires.place refl
     none (event.Evict i p) of is = c.in_default.not-Evict i p is
     none (event.Flush i p) of is = c.in_default.not-Flush i p is
     none (event.Force i) of is = c.in_default.not-Force i is
+    none (event.CheckBegin i) of is = c.in_default.not-CheckBegin i is
+    none (event.CheckEnd i) of is = c.in_default.not-CheckEnd i is
     none (event.RecoverBegin i by) of is = c.in_default.not-RecoverBegin i by is
     none (event.Join i) of is = c.in_default.not-Join i is
     none (event.Arm trouble) of is = c.in_default.not-Arm trouble is
@@ -54,6 +56,16 @@ pub returns-in-Force-clause-served : goal.returns-in-Force-clause-served
 returns-in-Force-clause-served g c =
     let tell : Telling _ = telling g.G.Rig.seen g.G.Rig.leaves g.G.Rig.moment g.G.Rig.since g.G.Rig.faults in
     served-as tell c.args.c.now c.force.new.c _ _ _ _ c.in-Force.is c.as_did-in-Force.ensures c.force.ensures.served
+
+pub returns-in-CheckBegin-clause-served : goal.returns-in-CheckBegin-clause-served
+returns-in-CheckBegin-clause-served g c =
+    let tell : Telling _ = telling g.G.Rig.seen g.G.Rig.leaves g.G.Rig.moment g.G.Rig.since g.G.Rig.faults in
+    served-as tell c.args.c.now c.check_begin.new.c _ _ _ _ c.in-CheckBegin.is c.as_did-in-CheckBegin.ensures c.check_begin.ensures.served
+
+pub returns-in-CheckEnd-clause-served : goal.returns-in-CheckEnd-clause-served
+returns-in-CheckEnd-clause-served g c =
+    let tell : Telling _ = telling g.G.Rig.seen g.G.Rig.leaves g.G.Rig.moment g.G.Rig.since g.G.Rig.faults in
+    served-as tell c.args.c.now c.check_end.new.c _ _ _ _ c.in-CheckEnd.is c.as_did-in-CheckEnd.ensures c.check_end.ensures.served
 
 pub returns-in-RecoverBegin-clause-served : goal.returns-in-RecoverBegin-clause-served
 returns-in-RecoverBegin-clause-served g c =
@@ -95,6 +107,12 @@ returns-in-Flush-clause-rest g c helps = c.write_page.ensures.rest
 
 pub returns-in-Force-clause-rest : goal.returns-in-Force-clause-rest
 returns-in-Force-clause-rest g c helps = absurd (subst IsHelping c.in-Force.is helps)
+
+pub returns-in-CheckBegin-clause-rest : goal.returns-in-CheckBegin-clause-rest
+returns-in-CheckBegin-clause-rest g c helps = absurd (subst IsHelping c.in-CheckBegin.is helps)
+
+pub returns-in-CheckEnd-clause-rest : goal.returns-in-CheckEnd-clause-rest
+returns-in-CheckEnd-clause-rest g c helps = absurd (subst IsHelping c.in-CheckEnd.is helps)
 
 pub returns-in-RecoverBegin-clause-rest : goal.returns-in-RecoverBegin-clause-rest
 returns-in-RecoverBegin-clause-rest g c helps = absurd (subst IsHelping c.in-RecoverBegin.is helps)

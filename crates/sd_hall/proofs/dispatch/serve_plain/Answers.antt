@@ -31,6 +31,8 @@ serve_place-requires-clause-place g c = place c.args.e.now c.requires.served c.r
     place (event.Evict i p) served within plain is = tt
     place (event.Flush i p) served within plain is = tt
     place (event.Force i) served within plain is = tt
+    place (event.CheckBegin i) served within plain is = tt
+    place (event.CheckEnd i) served within plain is = tt
     place (event.Fail i) served within plain is = plain
     place (event.Join i) served within plain is = tt
     place (event.Arm trouble) served within plain is = tt
@@ -39,7 +41,6 @@ serve_place-requires-clause-place g c = place c.args.e.now c.requires.served c.r
     place (event.RecoverStep i) served within plain is = plain
     place (event.FailAll pick) served within plain is = within
     place event.Reopen served within plain is = within
-    place e served within plain is = served
 
 pub returns-in-Begin-clause-served : goal.returns-in-Begin-clause-served
 returns-in-Begin-clause-served g c =

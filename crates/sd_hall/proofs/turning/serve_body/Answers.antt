@@ -1,12 +1,17 @@
 use Rattle.std.proofs.Common.{Some, sym, subst}
 use Rattle.sd_world.specs.Serving.{Telling, telling}
-use Rattle.sd_fits.specs.Bodies.{ServingHall}
+use Rattle.sd_fits.specs.Bodies.{ServingHall, fits_body}
 use Rattle.sd_fits.specs.declared.body.Body.{Body}
 use Rattle.sd_fits.proofs.Bodies.{open-served}
 use Rattle.sd_hall.specs.Bodies.{AwaitsIn, IsWorked}
 use Rattle.sd_hall.specs.Served.{told_in}
 use Rattle.sd_hall.proofs.Answering.{closed-worked}
 use Rattle.sd_hall.proofs.turning.serve_body.Goals as goal
+
+pub serve-requires-clause-few : goal.serve-requires-clause-few
+serve-requires-clause-few g c =
+    let few = c.requires.few in
+    (few.0, subst (λ b. fits_body g.G.Rig.seen g.G.Rig.leaves b few.0) c.in-Open.is few.1, few.2)
 
 pub returns-in-Open-clause-served : goal.returns-in-Open-clause-served
 returns-in-Open-clause-served g c =

@@ -18,7 +18,7 @@ pub returns-in_err-open_by-clause-memory : goal.returns-in_err-open_by-clause-me
 returns-in_err-open_by-clause-memory g c =
     let tell : Telling g.row.G.Denot = telling g.G.Rig.seen g.G.Rig.leaves g.G.Rig.moment g.G.Rig.since g.G.Rig.faults in
     let p = err_from_is_err_and c.from_residual.result c.from_residual.ensures.1 in
-    rw (p.1, p.2) (λ is. stays-stops tell c.args.self.now (stands_at (Cursor.Evicts c.args.inst c.args.page)) c.open_by.new.self (c.in_err-open_by.ensures.memory is))
+    rw (p.1, p.2) (λ is. stays-stops tell c.args.self.now (Cursor.Evicts c.args.inst c.args.page) c.open_by.new.self (c.in_err-open_by.ensures.memory is))
 
 pub returns-in_err-open_by-clause-breaks : goal.returns-in_err-open_by-clause-breaks
 returns-in_err-open_by-clause-breaks g c =

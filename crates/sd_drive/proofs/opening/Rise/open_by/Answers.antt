@@ -75,6 +75,8 @@ returns-then-is_failed-clause-breaks g c = λ is.
       keeps = c.call.ensures.keeps;
       opening = c.call.ensures.opening;
       earlier = λ rig t u img le s. g.met.G.Rig.earlier rig t u img le s;
+      found = c.in_ok-call.ensures.reopens;
+      closes = c.in_ok-call.ensures.closes;
     } in
     breaks-by tell c.args.self.now (record c.args.self.now { hall = c.call.new.self }) c.args.e c.requires.alone (refl, refl)
     (subst (λ (r : Reply). Noted tell old c.call.new.self (entry r)) (failed-is n.0 failed) made)
@@ -94,6 +96,8 @@ returns-clause-done g c =
       keeps = c.call.ensures.keeps;
       opening = c.call.ensures.opening;
       earlier = λ rig t u img le s. g.met.G.Rig.earlier rig t u img le s;
+      found = c.in_ok-call.ensures.reopens;
+      closes = c.in_ok-call.ensures.closes;
     } in (
       n.0,
       sym (ap is_did last-2) ∙ sym c.is_did.ensures,

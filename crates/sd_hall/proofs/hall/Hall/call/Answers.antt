@@ -5,6 +5,7 @@ use Rattle.sd_model.specs.declared.event.Reply.{Reply}
 use Rattle.sd_model.specs.declared.event.Reply.TheVariants as reply
 use Rattle.sd_world.specs.Serving.{Telling, telling}
 use Rattle.sd_state.specs.declared.complex.Shape.{Shape}
+use Rattle.sd_hall.specs.Closed.{ClosesIn}
 use Rattle.sd_hall.specs.Bodies.{IsAwaited, IsAwaitedIn, IsWorked, IsWorkedIn, ServesIn, fits_in}
 use Rattle.sd_hall.proofs.LedgerBodies.{spared-in}
 use Rattle.sd_hall.proofs.Keeping.{awaited-of, has-room, keeps-more, keeps-same, more-one, no-place, same-reply, worked-of}
@@ -39,6 +40,11 @@ turn-requires-clause-fits g c =
       subst (λ b. fits_in g.G.Rig.seen g.G.Rig.leaves b k.core) (sym place.body) k.fits,
       k.frames ∙ sym (ap (λ (s : Shape). s.frames) place.shape),
     )
+
+pub turn-requires-clause-few : goal.turn-requires-clause-few
+turn-requires-clause-few g c =
+    let k = c.requires.kept.1 in
+    (k.core, subst (λ b. fits_in g.G.Rig.seen g.G.Rig.leaves b k.core) (sym c.take_place.ensures.body) k.fits, k.few)
 
 pub returns-in_err-turn-clause-same : goal.returns-in_err-turn-clause-same
 returns-in_err-turn-clause-same g c =
@@ -127,6 +133,11 @@ returns-clause-reopens g c = λ again is.
     (ap (λ b. b.entries) c.turn.ensures.book ∙ c.take_place.ensures.entries) in
     c.in_ok-turn.ensures.reopens is (ap (λ (r : Reply). Some r)
     (same-reply c.note.new.self.entries c.args.self.now.book.entries entry other noted again))
+
+pub returns-clause-closes : goal.returns-clause-closes
+returns-clause-closes g c =
+    let tell : Telling _ = telling g.G.Rig.seen g.G.Rig.leaves g.G.Rig.moment g.G.Rig.since g.G.Rig.faults in
+    subst (λ b. ClosesIn tell c.args.e b c.turn.new.self.body) c.take_place.ensures.body c.turn.ensures.closes
 
 pub returns-clause-opening : goal.returns-clause-opening
 returns-clause-opening g c =

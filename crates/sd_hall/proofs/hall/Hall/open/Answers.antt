@@ -35,3 +35,13 @@ returns-clause-keeps g c =
 pub returns-clause-recovered : goal.returns-clause-recovered
 returns-clause-recovered g c =
     subst (λ table. IsRecovered (g.G.Rig.seen c.args.rig) table) (sym c.new.ensures.opening) c.in_ok-complex.ensures.recovered
+
+pub returns-clause-first : goal.returns-clause-first
+returns-clause-first g c =
+    let tell : Telling _ = telling g.G.Rig.seen g.G.Rig.leaves g.G.Rig.moment g.G.Rig.since g.G.Rig.faults in
+    let old = c.args.rig in
+    let x = c.in_ok-complex.complex in
+    let k = c.in_ok-complex.ensures in
+    let size = g.met.G.Rig.whole old 0 (g.G.Rig.seen old 0) (omega arith) (g.met.G.Rig.leaves_seen old 0 (omega arith)) in
+    let on = opened-on tell old x.rig k.calms c.args.shape.frames (parts x) size k.settled k.opened in
+    λ p. (on.opened.pages p).first
