@@ -2,7 +2,7 @@
 
 use sd_base::{MemSink, MemSource, OpenGate, Pick, Trouble};
 use sd_rig::{MemRig, Rig};
-use sd_top::{Status, place, top};
+use sd_top::{Status, note_bad_line, place, top};
 use std::alloc::Global;
 use std::test::Fail;
 
@@ -127,6 +127,101 @@ fn a_stream_that_fails_and_other_words_write_nothing(rt: HostRuntime) -> Result<
         assert!(rt; written.is_empty());
     }
     Ok(())
+}
+
+// The source isn't asked: its first call would fail.
+#[test]
+fn a_number_gives_a_run_with_its_summary(rt: HostRuntime) -> Result<(), Fail> {
+    let commands: [(&[&str], &[u8]); 4] = [
+        (
+            &["gen", "7", "0"],
+            b"gen 7 0\ncommits 0\nrollbacks 0\nfailures 0\ntotal 1000\n",
+        ),
+        (
+            &["gen", "007", "0"],
+            b"gen 7 0\ncommits 0\nrollbacks 0\nfailures 0\ntotal 1000\n",
+        ),
+        (
+            &["gen", "7", "100"],
+            b"gen 7 100\ncommits 82\nrollbacks 14\nfailures 4\ntotal 1000\n",
+        ),
+        (
+            &["--dir=b", "gen", "00000000000000000007", "0007"],
+            b"gen 7 7\ncommits 6\nrollbacks 1\nfailures 0\ntotal 1000\n",
+        ),
+    ];
+    for (words, summary) in commands {
+        let (ended, written) = ran(rt.alloc(), words, FIVE_LINES, &[1], &[], Trouble::Clear)?;
+        assert_eq!(rt; ended, Status::Done, "{words:?}");
+        assert_eq!(rt; &written[..], summary);
+    }
+    Ok(())
+}
+
+#[test]
+fn a_number_or_a_count_out_of_its_range_is_no_command(rt: HostRuntime) -> Result<(), Fail> {
+    let commands: [&[&str]; 10] = [
+        &["gen"],
+        &["gen", "7"],
+        &["gen", "7", "1", "1"],
+        &["gen", "7", "2001"],
+        &["gen", "7", "00007"],
+        &["gen", "+7", "1"],
+        &["gen", "7x", "1"],
+        &["gen", "", "1"],
+        &["gen", "18446744073709551616", "1"],
+        &["gen", "000000000000000000007", "1"],
+    ];
+    for words in commands {
+        let (ended, written) = ran(rt.alloc(), words, FIVE_LINES, &[], &[], Trouble::Clear)?;
+        assert_eq!(rt; ended, Status::Usage, "{words:?}");
+        assert!(rt; written.is_empty());
+    }
+    Ok(())
+}
+
+// The report says the cause in a word, and a person is told it in a sentence, with the line.
+#[test]
+fn a_bad_line_is_told_to_a_person(rt: HostRuntime) -> Result<(), Fail> {
+    let texts: [(&[u8], &[u8]); 3] = [
+        (
+            b"complex 1 1 2\n1 begin a\n1 begin a\ntable\n",
+            b"sdaries: line 3 is bad: an earlier line has begun a transaction of its name.\n    1 begin a\n",
+        ),
+        (
+            b"complex 1 1 2\nt\xc3\xa4ble",
+            b"sdaries: line 2 is bad: it has a byte that is neither a printed one of ASCII nor a space.\n    t\\xc3\\xa4ble\n",
+        ),
+        (
+            b"",
+            b"sdaries: line 1 is bad: the script begins with one line `complex N P F`, and has no other.\n",
+        ),
+    ];
+    for (text, note) in texts {
+        assert_eq!(rt; &noted(rt.alloc(), text)?[..], note);
+    }
+    assert!(rt; noted(rt.alloc(), FIVE_LINES)?.is_empty());
+    Ok(())
+}
+
+// What a person is told of a script over blank devices.
+fn noted(alloc: Global, text: &[u8]) -> Result<Vec<u8>, Fail> {
+    let words = given(alloc, REPLAY)?;
+    let mut source = MemSource::new(text.to_vec(alloc)?, Vec::new(alloc));
+    let mut sink = MemSink::new(alloc, 4_096, Vec::new(alloc))?;
+    let mut told = MemSink::new(alloc, 4_096, Vec::new(alloc))?;
+    let done = top(
+        alloc,
+        &words,
+        &mut source,
+        &mut sink,
+        MemRig::blank(alloc)?,
+        &OpenGate,
+    );
+    if let Some(bad) = &done.bad {
+        note_bad_line(alloc, bad, &mut told)?;
+    }
+    Ok(told.text().to_vec(alloc)?)
 }
 
 // A call over given devices doesn't use the folder.

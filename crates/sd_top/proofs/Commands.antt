@@ -1,14 +1,19 @@
 -- What clap's answers say of the words. It serves the goals of words.rt.
-use Rattle.std.proofs.Common.{◌≡◌, Bool, true, false, not, List, [], ◌∷◌, refl, sym, ap, ◌∙◌, subst, ⊎_elim}
-use Rattle.std.specs.Prelude.{Ok, Err, Option, None, Some, option_map, is_some, codes}
-use Rattle.std.specs.Str.{bytes_eq}
-use Rattle.std.specs.Cmp.Lexicographic.{bytes_decides}
-use Rattle.clap.specs.Words.{App, FailsBy, HasMatchesOf, IsAmong, Kinds, Text, fault_of, found_of, is_simple, is_simple_and_free, kind_of, matches_of, rows_of}
+use Rattle.std.proofs.Common.{◌≡◌, ℕ, ◌<◌, ◌≤◌, ◌^◌, ◌&&◌, Bool, true, false, List, [], ◌∷◌, length, refl, sym, ap, ◌∙◌, subst, ⊎_elim, arith}
+use Rattle.std.specs.Prelude.{Result, Ok, Err, MatchResult, Option, None, Some, codes, nat_lt, nat_le, if◌then◌else◌}
+use Rattle.std.specs.Result.{OkIff}
+use Rattle.std.specs.Str.{all_ascii_digits}
+use Rattle.std.specs.Str.Parse.{ParsesUnsigned, digits_value}
+use Rattle.std.proofs.lemmas.Bool.{and_from, cases_lt, le-leb, leb-true, lt-leb, lt-ltb}
+use Rattle.std.proofs.lemmas.Str.Parse.{IsNumeralModel, numerals_by_value, parse_digits, tells_all_ascii_digits}
+use Rattle.clap.specs.Words.{App, FailsBy, HasMatchesOf, IsAmong, Kinds, Row, Text, fault_of, found_of, is_simple, is_simple_and_free, kind_of, matches_of, rows_of}
 use Rattle.clap.specs.declared.error.Error.{Error}
 use Rattle.clap.specs.declared.error.kind.ErrorKind.TheVariants as kind
 use Rattle.clap.specs.declared.parser.matches.ArgMatches.{ArgMatches}
 use Rattle.clap.proofs.OnLiterals.{clap_on_literals}
-use Rattle.sd_top.specs.Words.{IsCommand, IsPlace, command, faults_in, found_in}
+use Rattle.sd_top.specs.declared.words.Request.{Request}
+use Rattle.sd_top.specs.declared.words.Request.TheVariants as want
+use Rattle.sd_top.specs.Words.{IsPlace, asked_in, asked_of, command, faults_in, found_in, number_in, unless_faulty}
 
 -- clap's contracts tell all of the command
 is_told : is_simple command ≡ true
@@ -35,34 +40,88 @@ refuses_words app words e is fails other none =
     ⊎_elim other (λ among. subst (λ (kinds : Kinds). IsAmong (kind_of e) kinds) (ap (λ (a : App). fault_of a words) is ∙ none) among)
     (fails (ap is_simple_and_free is ∙ is_free))
 
--- an argument without a word, and one with this word
-pub absent : {X : Type 0} (f : X → Text) (o : Option X) (given : Option Text) (b : Bool) → is_some o ≡ not b → option_map f o ≡ given
-    → (b ≡ true → given ≡ None) × (given ≡ None → b ≡ true)
-absent f None given true e is = (λ _. sym is, λ _. refl)
-absent f None given false e is = absurd (cc)
-absent f (Some x) given true e is = absurd (cc)
-absent f (Some x) given false e is = (λ h. absurd (cc), λ h. absurd (cc))
+-- what is asked for, where clap finds no fault, or some
+pub asked_found : (words : List Text) (rows : List Row) (what : Option Request) → what ≡ asked_in rows
+    → (faults_in words ≡ []) × (rows ≡ found_in words) → asked_of words ≡ what
+asked_found words rows what is taken =
+    ap (λ (k : Kinds). unless_faulty k (asked_in (found_in words))) taken.0 ∙ sym (ap asked_in taken.1) ∙ sym is
 
-pub same_word : (text word : Text) (given : Option Text) (b : Bool) → b ≡ bytes_eq text word → Some text ≡ given
-    → (b ≡ true → given ≡ Some word) × (given ≡ Some word → b ≡ true)
-same_word text word given b e is = (
-  λ yes. sym is ∙ ap (λ (t : Text). Some t) ((bytes_decides text word).0 (sym e ∙ yes)),
-  λ same. let here : text ≡ word = cc in e ∙ (bytes_decides text word).1 here,
-)
+pub asked_none : (words : List Text) → (faults_in words ≡ [] → ⊥) → asked_of words ≡ None
+asked_none words some = go (faults_in words) some where
+  go : (k : Kinds) → (k ≡ [] → ⊥) → unless_faulty k (asked_in (found_in words)) ≡ None
+  go [] never = absurd (never refl)
+  go (fault ∷ faults) never = refl
 
-pub other_word : (word : Text) (given : Option Text) → None ≡ given → (false ≡ true → given ≡ Some word) × (given ≡ Some word → false ≡ true)
-other_word word given is = (λ h. absurd (cc), λ h. absurd (cc))
+-- what a text parses to is its number, where it is of digits
+pub number_parsed : {E : Type 0} (digits greatest : ℕ) (word : List ℕ) (r : Result ℕ E) → ParsesUnsigned 64 10 word r
+    → all_ascii_digits word ≡ true → 0 < length word → length word ≤ digits → greatest < 2 ^ 64
+    → MatchResult r (λ n. (nat_le n greatest ≡ true → Some n ≡ number_in digits greatest word)
+    × (nat_le n greatest ≡ false → None ≡ number_in digits greatest word)) (λ e. None ≡ number_in digits greatest word)
+number_parsed {E} digits greatest word r parses all some few most = go r (parse_digits own 64 word r parses all) where
+  own : IsNumeralModel (λ ds. all_ascii_digits ds ≡ true) (digits_value 10)
+  own = numerals_by_value (λ ds. all_ascii_digits ds ≡ true) tells_all_ascii_digits
+
+  front : (nat_lt 0 (length word) && nat_le (length word) digits && all_ascii_digits word) ≡ true
+  front = and_from (nat_lt 0 (length word) && nat_le (length word) digits) (all_ascii_digits word)
+      (and_from (nat_lt 0 (length word)) (nat_le (length word) digits) (lt-ltb 0 (length word) some) (le-leb (length word) digits few)) all
+
+  by_value : (b : Bool) → nat_le (digits_value 10 word) greatest ≡ b
+      → number_in digits greatest word ≡ (if b then Some (digits_value 10 word) else None)
+  by_value b is = ap (λ (x : Bool). if x then Some (digits_value 10 word) else None)
+      (ap (λ (x : Bool). x && nat_le (digits_value 10 word) greatest) front ∙ is)
+
+  go : (r : Result ℕ E) → OkIff r ((0 < length word) × (digits_value 10 word < 2 ^ 64)) (digits_value 10 word)
+      → MatchResult r (λ n. (nat_le n greatest ≡ true → Some n ≡ number_in digits greatest word)
+      × (nat_le n greatest ≡ false → None ≡ number_in digits greatest word)) (λ e. None ≡ number_in digits greatest word)
+  go (Ok n) is = (
+    λ yes. ap (λ (k : ℕ). Some k) is.1 ∙ sym (by_value true (sym (ap (λ (k : ℕ). nat_le k greatest) is.1) ∙ yes)),
+    λ no_more. sym (by_value false (sym (ap (λ (k : ℕ). nat_le k greatest) is.1) ∙ no_more)),
+  )
+  go (Err e) is = sym (by_value false (lt-leb (digits_value 10 word) greatest
+      (let big : 2 ^ 64 ≤ digits_value 10 word = ⊎_elim (λ lt. absurd (is (some, lt))) (λ le. le) (cases_lt (digits_value 10 word) (2 ^ 64)) in
+      omega (arith, big, most))))
+
+-- a word that isn't of so many digits has no number
+pub no_number : (digits greatest : ℕ) (word : List ℕ)
+    → (nat_lt 0 (length word) && nat_le (length word) digits && all_ascii_digits word) ≡ false → None ≡ number_in digits greatest word
+no_number digits greatest word is = sym (ap (λ (x : Bool). if x && nat_le (digits_value 10 word) greatest then Some (digits_value 10 word) else None) is)
+
+-- a number that was found is at most the greatest
+pub number_most : (digits greatest n : ℕ) (word : List ℕ) → number_in digits greatest word ≡ Some n → n ≤ greatest
+number_most digits greatest n word is =
+    go (nat_lt 0 (length word) && nat_le (length word) digits && all_ascii_digits word) (nat_le (digits_value 10 word) greatest) refl is
+  where
+    go : (a b : Bool) → nat_le (digits_value 10 word) greatest ≡ b → (if a && b then Some (digits_value 10 word) else None) ≡ Some n → n ≤ greatest
+    go true true le found = let same : digits_value 10 word ≡ n = cc in omega (arith, same, leb-true (digits_value 10 word) greatest le)
+    go true false le found = absurd (cc)
+    go false b le found = absurd (cc)
 
 -- ---- words that are written out
 
-alone : IsCommand (codes "replay" ∷ []) × IsPlace (codes "replay" ∷ []) None
+alone : (asked_of (codes "replay" ∷ []) ≡ Some want.Replay) × IsPlace (codes "replay" ∷ []) None
 unfolding clap_on_literals faults_in found_in
-alone = (record { taken = refl; replay = record { mode = refl; number = refl; count = refl } }, λ is. refl)
+alone = (refl, λ is. refl)
+
+with_zeros : asked_of (codes "gen" ∷ codes "007" ∷ codes "0" ∷ []) ≡ Some (want.Gen 7 0)
+unfolding clap_on_literals faults_in found_in
+with_zeros = refl
+
+too_many : asked_of (codes "gen" ∷ codes "7" ∷ codes "2001" ∷ []) ≡ None
+unfolding clap_on_literals faults_in found_in
+too_many = refl
+
+no_count : asked_of (codes "gen" ∷ codes "7" ∷ []) ≡ None
+unfolding clap_on_literals faults_in found_in
+no_count = refl
+
+beyond_bits : asked_of (codes "gen" ∷ codes "18446744073709551616" ∷ codes "1" ∷ []) ≡ None
+unfolding clap_on_literals faults_in found_in
+beyond_bits = refl
 
 in_folder : IsPlace (codes "replay" ∷ codes "--dir" ∷ codes "disks/a" ∷ []) (Some (codes "disks/a"))
 unfolding clap_on_literals faults_in found_in
-in_folder = (record { taken = refl; replay = record { mode = refl; number = refl; count = refl } }, refl)
+in_folder = (refl, refl)
 
 folder_first : IsPlace (codes "--dir=disks/a" ∷ codes "replay" ∷ []) (Some (codes "disks/a"))
 unfolding clap_on_literals faults_in found_in
-folder_first = (record { taken = refl; replay = record { mode = refl; number = refl; count = refl } }, refl)
+folder_first = (refl, refl)

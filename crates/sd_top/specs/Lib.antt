@@ -1,5 +1,8 @@
 pub mod Opening
 pub mod Unopened
+pub mod Asking
+pub mod FirstBad
+pub mod Notes
 pub mod Outcome
 pub mod Sides
 pub mod Input

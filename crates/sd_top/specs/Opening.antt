@@ -1,5 +1,5 @@
 -- Where the run of a script starts: what its first line gives, and what the reading of the devices finds.
-use Rattle.std.specs.Prelude.{◌≡◌, ◌⊎◌, ℕ, List, [], ◌∷◌}
+use Rattle.std.specs.Prelude.{◌≡◌, ◌⊎◌, ℕ, false, List, [], ◌∷◌}
 use Rattle.sd_base.specs.declared.ids.Rid.{Rid}
 use Rattle.sd_rig.specs.Devices.{DeviceImages, Leaves, Span}
 use Rattle.sd_chain.specs.Checks.{DevicesAreSound}
@@ -31,7 +31,7 @@ opening_world lines devices = before (insts_of lines) (pages_of lines) lines (op
 
 -- the start of a script's run on devices that read so, which are `now` behind their reading, and stand for this table
 abbrev pub opening : {G : Type 0} → List Line → DeviceImages → G → List (Rid × List ℕ) → Start G
-opening lines devices now table = record { world = opening_world lines devices; rig = now; table = table }
+opening lines devices now table = record { world = opening_world lines devices; rig = now; table = table; opened = false }
 
 -- The devices were synced and read: they read as before, and a crash leaves nothing that it might not have left before.
 abbrev pub AreRead : {G : Type 0} → Telling G → G → G → Type 0

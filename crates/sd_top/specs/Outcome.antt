@@ -2,34 +2,31 @@
 use Rattle.std.specs.Prelude.{◌≡◌, ◌⊎◌, ℕ, ◌<◌, true, List, Option, None, Some, length}
 use Rattle.sd_base.specs.Streams.{Appends, Rises}
 use Rattle.sd_base.specs.declared.ids.Rid.{Rid}
-use Rattle.sd_base.specs.declared.refusal.LineError.{LineError}
 use Rattle.sd_model.specs.Acts.{Serial}
 use Rattle.sd_model.specs.History.{History}
 use Rattle.sd_model.specs.declared.event.Entry.{Entry}
 use Rattle.sd_chain.specs.Checks.{DevicesAreSound}
 use Rattle.sd_chain.specs.Faults.{FailsFirstAt}
 use Rattle.sd_script.specs.declared.line.Line.{Line}
-use Rattle.sd_script.specs.Reading.{IsScript, IsBadAt}
+use Rattle.sd_script.specs.Reading.{IsScript}
 use Rattle.sd_world.specs.Serving.{Telling}
-use Rattle.sd_report.specs.Report.{bad_text, damaged_text, report}
+use Rattle.sd_report.specs.Report.{bad_text, damaged_text}
+use Rattle.sd_top.specs.declared.words.Request.{Request}
+use Rattle.sd_top.specs.Asking.{GivesText, ReadFails, told_by}
 use Rattle.sd_top.specs.declared.status.Status.{Status}
 use Rattle.sd_top.specs.declared.status.Status.TheVariants as status
+use Rattle.sd_top.specs.declared.first_bad.BadLine.{BadLine}
+use Rattle.sd_top.specs.FirstBad.{IsFirstBad}
 use Rattle.sd_top.specs.Sides.{SourceSide, SinkSide}
-use Rattle.sd_top.specs.Input.{Taken, IsAtEnd}
 use Rattle.sd_top.specs.Output.{AppendsFront}
 use Rattle.sd_top.specs.Reporting.{WrittenUnless, device_text}
-use Rattle.sd_drive.specs.Driving.{IsTold, World}
+use Rattle.sd_drive.specs.Driving.{IsTold, IsUnderWay, Work, World, works_of}
 use Rattle.sd_top.specs.Opening.{AreRead, LedFrom}
 
 -- What a script that was read may change: the sink, and the devices.
 pub record Ends (G : Type 0) : Type 0 where
   pub sink : SinkSide
   pub rig : G
-
--- The source gave this text: all that it had, or 4,194,305 bytes, which is more than a script has.
-pub record Gave (source source' : SourceSide) (text : List ℕ) : Type 0 where
-  pub taken : Taken source.left text source'.left
-  pub whole : length text < 4194305 → IsAtEnd source'.left
 
 -- The text is a script of these lines. The book begins with the table that the devices stood for, and its entries lead from the
 -- world that they told to this one, in which each committed transaction has read what it reads where they run one after another.
@@ -43,21 +40,21 @@ pub record Replayed {G : Type 0} (tell : Telling G) (rig rig' : G) (book : Optio
   pub led : LedFrom tell lines rig rig' history.opening history.entries world
   pub serial : Serial world.core.scene.state.start world.core.scene.state.done
 
--- Each line has its reply, and the sink has got the report of this book and nothing else.
-pub record Reported (sink sink' : SinkSide) (lines : List Line) (history : History) (world : World) : Type 0 where
+-- Each line has its reply, and the sink has got what is told of this book, the report or the summary, and nothing else.
+pub record Reported (asked : Request) (sink sink' : SinkSide) (lines : List Line) (history : History) (world : World) : Type 0 where
   pub told : IsTold world.core.scene.state world.told
-  pub report : Appends sink.written (report lines history.entries) sink'.written
+  pub report : Appends sink.written (told_by asked lines history.entries) sink'.written
 
--- Each line has its reply. The sink failed, and has got a front of the report.
-pub record CutShort (sink sink' : SinkSide) (lines : List Line) (history : History) (world : World) : Type 0 where
+-- Each line has its reply. The sink failed, and has got a front of what is told.
+pub record CutShort (asked : Request) (sink sink' : SinkSide) (lines : List Line) (history : History) (world : World) : Type 0 where
   pub told : IsTold world.core.scene.state world.told
-  pub front : AppendsFront sink.written (report lines history.entries) sink'.written
+  pub front : AppendsFront sink.written (told_by asked lines history.entries) sink'.written
   pub failed : Rises sink.faults sink'.faults
 
--- the text is bad at a line first, for a cause, and the sink has got just these
-abbrev pub WritesFirst : List ℕ → SinkSide → SinkSide → Type 0
-WritesFirst text sink sink' =
-    (line : ℕ) × (cause : LineError) × IsBadAt text line cause × WrittenUnless sink (bad_text line cause) sink'
+-- this is the first bad line of the text, and the sink has got its number and its cause
+abbrev pub WritesFirst : List ℕ → Option BadLine → SinkSide → SinkSide → Type 0
+WritesFirst text None sink sink' = ⊥
+WritesFirst text (Some bad) sink sink' = IsFirstBad text bad × WrittenUnless sink (bad_text bad.line bad.cause) sink'
 
 -- A device failed in the reading of the devices, which read as before.
 pub record FailsAtOnce {G : Type 0} (tell : Telling G) (rig rig' : G) : Type 0 where
@@ -99,7 +96,8 @@ pub record HalfRead {G : Type 0} (tell : Telling G) (text : List ℕ) (rig rig' 
   pub read : AreRead tell rig rig'
   pub quiet : tell.faults rig' ≡ tell.faults rig
 
--- The text is a script, and the opening behind the reading found no memory: its entries so far lead to this world.
+-- The text is a script, and the opening behind the reading found no memory: its entries so far lead to this world, in which it is still
+-- under way.
 pub record HalfOpened {G : Type 0} (tell : Telling G) (text : List ℕ) (rig rig' : G) : Type 0 where
   pub lines : List Line
   pub script : IsScript text lines
@@ -107,43 +105,47 @@ pub record HalfOpened {G : Type 0} (tell : Telling G) (text : List ℕ) (rig rig
   pub entries : List Entry
   pub world : World
   pub led : LedFrom tell lines rig rig' table entries world
+  pub opening : IsUnderWay Work.Opening (works_of lines) world
 
--- a book that is there has the replies so far; none is there before the opening and in it
+-- A book that is there has the replies so far, and the opening is done; none is there before the opening and in it.
 abbrev pub IsPartial : {G : Type 0} → Telling G → List ℕ → G → G → Option History → Type 0
 IsPartial tell text rig rig' None = (rig' ≡ rig) ⊎ (HalfRead tell text rig rig' ⊎ HalfOpened tell text rig rig')
 IsPartial tell text rig rig' (Some history) =
     (lines : List Line) × (world : World) × Replayed tell rig rig' (Some history) text lines history world
+    × ((rest : List Work) → IsUnderWay Work.Opening rest world → ⊥)
 
--- What each status says of a text that was read, of the sink and the devices before and after, and of the book.
-abbrev pub Answers : {G : Type 0} → Telling G → Status → List ℕ → Ends G → Ends G → Option History → Type 0
-Answers tell status.Done text old new book = (lines : List Line) × (history : History) × (world : World)
-    × Replayed tell old.rig new.rig book text lines history world × Reported old.sink new.sink lines history world
-Answers tell status.BadLine text old new book = WritesFirst text old.sink new.sink × (book ≡ None) × (new.rig ≡ old.rig)
-Answers tell status.WriteFault text old new book = (lines : List Line) × (history : History) × (world : World)
-    × Replayed tell old.rig new.rig book text lines history world × CutShort old.sink new.sink lines history world
-Answers tell status.NoMemory text old new book =
+-- What each status says of a text that was read or generated, of the sink and the devices before and after, of the book, and of the bad
+-- line that is handed back.
+abbrev pub Answers : {G : Type 0} → Telling G → Request → Status → List ℕ → Ends G → Ends G → Option History → Option BadLine → Type 0
+Answers tell asked status.Done text old new book bad = (lines : List Line) × (history : History) × (world : World)
+    × Replayed tell old.rig new.rig book text lines history world × Reported asked old.sink new.sink lines history world
+Answers tell asked status.BadLine text old new book bad = WritesFirst text bad old.sink new.sink × (book ≡ None) × (new.rig ≡ old.rig)
+Answers tell asked status.WriteFault text old new book bad = (lines : List Line) × (history : History) × (world : World)
+    × Replayed tell old.rig new.rig book text lines history world × CutShort asked old.sink new.sink lines history world
+Answers tell asked status.NoMemory text old new book bad =
     IsPartial tell text old.rig new.rig book × (new.sink.written ≡ old.sink.written)
-Answers tell status.Damaged text old new book = FoundDamaged tell text old new × (book ≡ None)
-Answers tell status.Device text old new book = FailedOpening tell text old new × (book ≡ None)
-Answers tell status.Usage text old new book = ⊥
-Answers tell status.ReadFault text old new book = ⊥
+Answers tell asked status.Damaged text old new book bad = FoundDamaged tell text old new × (book ≡ None)
+Answers tell asked status.Device text old new book bad = FailedOpening tell text old new × (book ≡ None)
+Answers tell asked status.Usage text old new book bad = ⊥
+Answers tell asked status.ReadFault text old new book bad = ⊥
 
--- the source gave a text, and the status says this of it
-abbrev pub AnswersAll : {G : Type 0} → Telling G → Status → SourceSide → SourceSide → Ends G → Ends G → Option History
+-- the source or the number gave a text, and the status says this of it
+abbrev pub AnswersAll : {G : Type 0} → Telling G → Request → Status → SourceSide → SourceSide → Ends G → Ends G → Option History → Option BadLine
     → Type 0
-AnswersAll tell s source source' old new book =
-    (text : List ℕ) × Gave source source' text × Answers tell s text old new book
+AnswersAll tell asked s source source' old new book bad =
+    (text : List ℕ) × GivesText asked source source' text × Answers tell asked s text old new book bad
 
 -- no script was read: nothing is written, there is no book, and the devices are as they were
 abbrev pub IsUntouched : {G : Type 0} → Ends G → Ends G → Option History → Type 0
 IsUntouched old new book = (book ≡ None) × (new.sink.written ≡ old.sink.written) × (new.rig ≡ old.rig)
 
--- What each status says of a call whose words are a command: of the source, the sink and the devices, before and after, and of
--- the book.
-abbrev pub Outcome : {G : Type 0} → Telling G → Status → SourceSide → SourceSide → Ends G → Ends G → Option History
+-- What each status says of a call whose words ask for this: of the source, the sink and the devices, before and after, of the book, and
+-- of the bad line that is handed back.
+abbrev pub Outcome : {G : Type 0} → Telling G → Request → Status → SourceSide → SourceSide → Ends G → Ends G → Option History → Option BadLine
     → Type 0
-Outcome tell status.ReadFault source source' old new book = Rises source.faults source'.faults × IsUntouched old new book
-Outcome tell status.NoMemory source source' old new book =
-    IsUntouched old new book ⊎ AnswersAll tell status.NoMemory source source' old new book
-Outcome tell status.Usage source source' old new book = ⊥
-Outcome tell s source source' old new book = AnswersAll tell s source source' old new book
+Outcome tell asked status.ReadFault source source' old new book bad =
+    ReadFails asked source.faults source'.faults × IsUntouched old new book
+Outcome tell asked status.NoMemory source source' old new book bad =
+    IsUntouched old new book ⊎ AnswersAll tell asked status.NoMemory source source' old new book bad
+Outcome tell asked status.Usage source source' old new book bad = ⊥
+Outcome tell asked s source source' old new book bad = AnswersAll tell asked s source source' old new book bad

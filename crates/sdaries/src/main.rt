@@ -17,7 +17,7 @@
 use sd_base::{Memory, OpenGate, Refusal, StdSink, StdSource};
 use sd_filerig::FileRig;
 use sd_rig::{MemRig, Rig};
-use sd_top::{Status, place, report_unopened, top};
+use sd_top::{Status, note_bad_line, place, report_unopened, top};
 use std::process::ExitCode;
 use std::{env, io};
 
@@ -65,9 +65,13 @@ fn files_in(rt: &HostRuntime, folder: &str) -> Result<FileRig, Refusal> {
     FileRig::at(rt, rt.alloc(), folder)
 }
 
-// Runs the command on these devices, between the standard streams.
+// Runs the command on these devices, between the standard streams. What is wrong with a bad line is said on standard error.
 fn run_on<G: Rig + Drop>(rt: &HostRuntime, words: &[String], rig: G) -> Status {
     let mut source = StdSource::new(rt.stdin());
     let mut sink = StdSink::new(rt.stdout());
-    top(rt.alloc(), words, &mut source, &mut sink, rig, &OpenGate).status
+    let done = top(rt.alloc(), words, &mut source, &mut sink, rig, &OpenGate);
+    if let Some(bad) = &done.bad {
+        let _ = note_bad_line(rt.alloc(), bad, &mut StdSink::new(rt.stderr()));
+    }
+    done.status
 }

@@ -37,8 +37,8 @@ run-requires-clause-unopened g c =
     (c.«new-rise».ensures.insts ∙ c.shape-shape.ensures.insts) (c.«new-rise».ensures.pages ∙ c.shape-shape.ensures.pages) in
     (c.args.rig, unopened)
 
-pub returns-in-Ok : goal.returns-in-Ok
-returns-in-Ok g c = λ text script.
+pub returns-in-Ok-clause-outcome : goal.returns-in-Ok-clause-outcome
+returns-in-Ok-clause-outcome g c = λ text script.
     let tell : Telling g.row.G.Denot = telling g.G.Rig.seen g.G.Rig.leaves g.G.Rig.moment g.G.Rig.since g.G.Rig.faults in
     let start = opening_core (frames_of c.args.lines.now) (g.G.Rig.seen c.args.rig) in
     let kept = subst (λ (n : ℕ). Keeps tell (opening_core n (g.G.Rig.seen c.args.rig)) c.in-Ok.hall) c.shape-shape.ensures.frames c.in-Ok.ensures.keeps in
@@ -50,18 +50,18 @@ returns-in-Ok g c = λ text script.
     (ap (λ (h : Hall g.row.G.Denot). h.book.opening) is ∙ c.expect.ensures.opening)
     (ap (λ (h : Hall g.row.G.Denot). h.book.entries) is ∙ c.expect.ensures.entries ∙ c.in-Ok.ensures.entries)
     (c.«new-rise».ensures.insts ∙ c.shape-shape.ensures.insts) (c.«new-rise».ensures.pages ∙ c.shape-shape.ensures.pages) in
-    c.run.ensures text c.args.rig script unopened
+    c.run.ensures.outcome text c.args.rig script unopened
 
-pub returns-in-Err : goal.returns-in-Err
-returns-in-Err g c = λ text script.
+pub returns-in-Err-clause-outcome : goal.returns-in-Err-clause-outcome
+returns-in-Err-clause-outcome g c = λ text script.
     let tell : Telling g.row.G.Denot = telling g.G.Rig.seen g.G.Rig.leaves g.G.Rig.moment g.G.Rig.since g.G.Rig.faults in
     let rig = c.args.rig in
     let left = c.in-Err.rig in
     let sink : SinkSide = record { written = g.K.Sink.written c.args.sink.now; faults = g.K.Sink.faults c.args.sink.now } in
     let after : SinkSide = record { written = g.K.Sink.written c.report_unopened.new.sink; faults = g.K.Sink.faults c.report_unopened.new.sink } in
-    answers_same tell text (record { sink = sink; rig = rig }) c.report_unopened.result c.without_book.result.status after after left
-    c.without_book.result.rig None c.without_book.result.book c.without_book.ensures.status refl c.without_book.ensures.rig
-    c.without_book.ensures.book
-    (answers_unread tell text c.args.lines.now sink after rig left script c.in-Err.ensures.calms_err c.in-Err.refusal c.report_unopened.result
+    answers_same tell c.args.asked text (record { sink = sink; rig = rig }) c.report_unopened.result c.without_book.result.status after after left
+    c.without_book.result.rig None c.without_book.result.book None c.without_book.result.bad c.without_book.ensures.status refl c.without_book.ensures.rig
+    c.without_book.ensures.book c.without_book.ensures.bad
+    (answers_unread tell c.args.asked text c.args.lines.now sink after rig left script c.in-Err.ensures.calms_err c.in-Err.refusal c.report_unopened.result
     c.report_unopened.ensures c.in-Err.ensures.refusals c.in-Err.ensures.cause c.in-Err.ensures.quiet_err c.in-Err.ensures.unsound
     c.in-Err.ensures.place)
