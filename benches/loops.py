@@ -53,13 +53,19 @@ def build():
     BUILT.write_text(told)
 
 
-def spent(words, text=None):
-    """Processor seconds and the greatest resident set in MB of one run with this text as its input."""
+def used(words, text=None):
+    """What one run with this text as its input took of the machine."""
     child = subprocess.Popen(words, stdin=text, stdout=subprocess.DEVNULL)
     _, status, usage = os.wait4(child.pid, 0)
     child.returncode = os.waitstatus_to_exitcode(status)
     if child.returncode != 0:
         sys.exit(f"benches: {' '.join(map(str, words))} ended with {child.returncode}")
+    return usage
+
+
+def spent(words, text=None):
+    """Processor seconds and the greatest resident set in MB of one run with this text as its input."""
+    usage = used(words, text)
     return usage.ru_utime + usage.ru_stime, usage.ru_maxrss / 1024
 
 
