@@ -1,1 +1,3 @@
 mod Following
+mod Told
+pub mod Scripted

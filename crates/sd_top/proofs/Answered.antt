@@ -21,6 +21,8 @@ use Rattle.sd_base.specs.declared.refusal.LineError.{LineError}
 use Rattle.sd_script.specs.Reading.{IsScript, IsBadAt}
 use Rattle.sd_script.proofs.Readings.{no_bad_script}
 use Rattle.sd_script.proofs.Scripts.{script_ends}
+use Rattle.sd_gen.specs.Generated.{gen_text}
+use Rattle.sd_gen.proofs.Scripted.{generated}
 use Rattle.sd_world.specs.Serving.{Core, Telling}
 use Rattle.sd_world.proofs.Leading.{leads-run}
 use Rattle.sd_fits.specs.declared.body.Body.{Body}
@@ -371,6 +373,16 @@ no_bad : (asked : Request) (source source' : SourceSide) (text : List ℕ) (line
 no_bad asked source source' text lines due script got gave bad =
     let same : got ≡ text = due_text asked source source' got text gave due (script_ends text lines script) in
     no_bad_script text lines bad.0 bad.1 script (subst (λ (t : List ℕ). IsBadAt t bad.0 bad.1) same bad.2)
+
+-- no line is bad where a number gives the text
+pub fine_of_number : {G : Type 0} (tell : Telling G) (number count : ℕ) (s : Status) (source source' : SourceSide) (old new : Ends G)
+    (book : Option History) (bad : Option BadLine) → count ≤ 2000 → Outcome tell (want.Gen number count) s source source' old new book bad
+    → s ≡ status.BadLine → ⊥
+fine_of_number tell number count s source source' old new book bad few outcome is =
+    let (text, gives, answers) = subst (λ (x : Status). Outcome tell (want.Gen number count) x source source' old new book bad) is outcome in
+    let (line, cause, at) = bad_line_in text bad old.sink new.sink answers.0 in
+    let (lines, script) = generated number count few in
+    no_bad_script (gen_text number count) lines line cause script (subst (λ (t : List ℕ). IsBadAt t line cause) gives at)
 
 -- what is said of a text is said of the call that had it
 pub outcome_of : {G : Type 0} (tell : Telling G) (asked : Request) (s : Status) (source source' : SourceSide) (old new : Ends G) (book : Option History) (bad : Option BadLine)

@@ -1,19 +1,19 @@
--- What clap's answers say of the words. It serves the goals of words.rt.
+-- What clap's answers say of the words. It serves the goals of words.rt and replaying.rt.
 use Rattle.std.proofs.Common.{◌≡◌, ℕ, ◌<◌, ◌≤◌, ◌^◌, ◌&&◌, Bool, true, false, List, [], ◌∷◌, length, refl, sym, ap, ◌∙◌, subst, ⊎_elim, arith}
 use Rattle.std.specs.Prelude.{Result, Ok, Err, MatchResult, Option, None, Some, codes, nat_lt, nat_le, if◌then◌else◌}
 use Rattle.std.specs.Result.{OkIff}
-use Rattle.std.specs.Str.{all_ascii_digits}
+use Rattle.std.specs.Str.{all_ascii_digits, bytes_eq}
 use Rattle.std.specs.Str.Parse.{ParsesUnsigned, digits_value}
 use Rattle.std.proofs.lemmas.Bool.{and_from, cases_lt, le-leb, leb-true, lt-leb, lt-ltb}
 use Rattle.std.proofs.lemmas.Str.Parse.{IsNumeralModel, numerals_by_value, parse_digits, tells_all_ascii_digits}
-use Rattle.clap.specs.Words.{App, FailsBy, HasMatchesOf, IsAmong, Kinds, Row, Text, fault_of, found_of, is_simple, is_simple_and_free, kind_of, matches_of, rows_of}
+use Rattle.clap.specs.Words.{App, FailsBy, HasMatchesOf, IsAmong, Kinds, Row, Text, fault_of, first_of, found_of, is_simple, is_simple_and_free, kind_of, matches_of, rows_of}
 use Rattle.clap.specs.declared.error.Error.{Error}
 use Rattle.clap.specs.declared.error.kind.ErrorKind.TheVariants as kind
 use Rattle.clap.specs.declared.parser.matches.ArgMatches.{ArgMatches}
 use Rattle.clap.proofs.OnLiterals.{clap_on_literals}
 use Rattle.sd_top.specs.declared.words.Request.{Request}
 use Rattle.sd_top.specs.declared.words.Request.TheVariants as want
-use Rattle.sd_top.specs.Words.{IsPlace, asked_in, asked_of, command, faults_in, found_in, number_in, unless_faulty}
+use Rattle.sd_top.specs.Words.{IsPlace, asked_alone, asked_both, asked_by, asked_in, asked_of, command, count_in, faults_in, found_in, generated, number_in, seed_in, unless_faulty}
 
 -- clap's contracts tell all of the command
 is_told : is_simple command ≡ true
@@ -95,6 +95,39 @@ number_most digits greatest n word is =
     go true true le found = let same : digits_value 10 word ≡ n = cc in omega (arith, same, leb-true (digits_value 10 word) greatest le)
     go true false le found = absurd (cc)
     go false b le found = absurd (cc)
+
+-- ---- how many transfers are asked for at most
+
+most_of : (number count : Option ℕ) (n k : ℕ) → generated number count ≡ Some (want.Gen n k) → count ≡ Some k
+most_of (Some number) (Some count) n k is = let same : count ≡ k = cc in ap (λ (j : ℕ). Some j) same
+most_of (Some number) None n k is = absurd (cc)
+most_of None count n k is = absurd (cc)
+
+most_alone : (number count : Option Text) (n k : ℕ) → asked_alone number count ≡ Some (want.Gen n k) → k ≤ 2000
+most_alone None None n k is = absurd (cc)
+most_alone None (Some count) n k is = absurd (cc)
+most_alone (Some number) count n k is = absurd (cc)
+
+most_both : (number count : Option Text) (n k : ℕ) → asked_both number count ≡ Some (want.Gen n k) → k ≤ 2000
+most_both (Some number) (Some count) n k is = number_most 4 2000 k count (most_of (seed_in number) (count_in count) n k is)
+most_both (Some number) None n k is = absurd (cc)
+most_both None count n k is = absurd (cc)
+
+most_by : (mode number count : Option Text) (n k : ℕ) → asked_by mode number count ≡ Some (want.Gen n k) → k ≤ 2000
+most_by None number count n k is = absurd (cc)
+most_by (Some word) number count n k is = go (bytes_eq word (codes "replay")) (bytes_eq word (codes "gen")) is where
+  go : (replay gen : Bool)
+      → (if replay then asked_alone number count else if gen then asked_both number count else None) ≡ Some (want.Gen n k) → k ≤ 2000
+  go true gen asked = most_alone number count n k asked
+  go false true asked = most_both number count n k asked
+  go false false asked = absurd (cc)
+
+pub count_most : (words : List Text) (n k : ℕ) → asked_of words ≡ Some (want.Gen n k) → k ≤ 2000
+count_most words n k is = go (faults_in words) is where
+  go : (faults : Kinds) → unless_faulty faults (asked_in (found_in words)) ≡ Some (want.Gen n k) → k ≤ 2000
+  go [] asked = most_by (first_of (codes "MODE") (found_in words)) (first_of (codes "NUMBER") (found_in words))
+      (first_of (codes "COUNT") (found_in words)) n k asked
+  go (fault ∷ faults) asked = absurd (cc)
 
 -- ---- words that are written out
 

@@ -8,8 +8,9 @@
 //! its cause, the committed transactions read as if they ran one after another, the report is the book's, and what a crash may
 //! leave at any moment was left before or stands for a world on the way (`outcome`); over sound devices a script is done unless a
 //! stream fails, a device fails in the opening, or memory wants (`complete`), and over others it tells them damaged (`damaged`);
-//! other words touch nothing (`usage`, `untouched`), and a generated script takes nothing from the source (`unread`). `place` tells
-//! the folder of `--dir PATH`. A text is written whole, or a front of it where the sink fails (`report_book` and those beside it).
+//! other words touch nothing (`usage`, `untouched`), and a generated script takes nothing from the source and has no bad line
+//! (`unread`, `generated`). `place` tells the folder of `--dir PATH`. A text is written whole, or a front of it where the sink
+//! fails (`report_book` and those beside it).
 //! Refuses: bad lines with `BadLine`, other words with `Usage`, devices that aren't sound with `Damaged`; faults and want of memory
 //! have their own status.
 //! Knows nothing of: how a line is driven, how an event is served, how a report is worded, which files or streams there are.

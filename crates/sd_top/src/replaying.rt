@@ -70,6 +70,10 @@ pub fn top<S: Source, K: Sink, G: Rig, T: Gate>(
     // No other status hands a bad line back.
     ensures fine { (result.status ≡ status.BadLine → ⊥) → result.bad ≡ None }
 
+    // A generated script has no bad line.
+    ensures generated { (number count : ℕ) → asked_of (map string_bytes words.now) ≡ Some (want.Gen number count)
+        → result.status ≡ status.BadLine → ⊥ }
+
     // Words that are a command are no faulty ones, and others are, where there is memory to read them.
     ensures usage { (result.status ≡ status.Usage → IsCommand (map string_bytes words.now) → ⊥)
         × ((IsCommand (map string_bytes words.now) → ⊥) → (result.status ≡ status.Usage) ⊎ (result.status ≡ status.NoMemory)) }

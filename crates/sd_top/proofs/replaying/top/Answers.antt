@@ -4,9 +4,11 @@ use Rattle.sd_world.specs.Serving.{Telling, telling}
 use Rattle.sd_top.specs.Sides.{SourceSide}
 use Rattle.sd_top.specs.declared.status.Status.TheVariants as status
 use Rattle.sd_top.specs.declared.words.Request.{Request}
+use Rattle.sd_top.specs.declared.words.Request.TheVariants as want
 use Rattle.sd_top.specs.Words.{asked_of}
 use Rattle.sd_top.specs.Outcome.{Ends}
-use Rattle.sd_top.proofs.Answered.{answers_unbegun, completes, damages, is_command, never_both, no_command, other_asked, tells_no_usage, tells_unsound, unread_as, unread_same, untaken}
+use Rattle.sd_top.proofs.Answered.{answers_unbegun, completes, damages, fine_of_number, is_command, never_both, no_command, other_asked, tells_no_usage, tells_unsound, unread_as, unread_same, untaken}
+use Rattle.sd_top.proofs.Commands.{count_most}
 use Rattle.sd_top.proofs.replaying.top.Goals as goal
 
 pub returns-in-Ok-Some-clause-outcome : goal.returns-in-Ok-Some-clause-outcome
@@ -25,6 +27,25 @@ returns-in-Ok-Some-clause-outcome g c =
     let is : asked_of words ≡ Some c.in-Ok-Some.asked = sym c.in-Ok-Some.ensures ∙ c.in-Ok-Some.field-0-is in
     λ asked due. other_asked tell c.in-Ok-Some.asked asked c.run_asked.result.status from left old new c.run_asked.result.book c.run_asked.result.bad
     (sym is ∙ due) c.run_asked.ensures.outcome
+
+pub returns-in-Ok-Some-clause-generated : goal.returns-in-Ok-Some-clause-generated
+returns-in-Ok-Some-clause-generated g c =
+    let source = c.args.source.now in
+    let sink = c.args.sink.now in
+    let tell : Telling g.row.G.Denot = telling g.G.Rig.seen g.G.Rig.leaves g.G.Rig.moment g.G.Rig.since g.G.Rig.faults in
+    let from : SourceSide = record { left = g.S.Source.left source; faults = g.S.Source.faults source } in
+    let left : SourceSide = record { left = g.S.Source.left c.run_asked.new.source; faults = g.S.Source.faults c.run_asked.new.source } in
+    let old : Ends g.row.G.Denot = record { sink = record { written = g.K.Sink.written sink; faults = g.K.Sink.faults sink }; rig = c.args.rig } in
+    let new : Ends g.row.G.Denot = record {
+      sink = record { written = g.K.Sink.written c.run_asked.new.sink; faults = g.K.Sink.faults c.run_asked.new.sink };
+      rig = c.run_asked.result.rig;
+    } in
+    let words = map string_bytes c.args.words.now in
+    let is : asked_of words ≡ Some c.in-Ok-Some.asked = sym c.in-Ok-Some.ensures ∙ c.in-Ok-Some.field-0-is in
+    λ number count due. fine_of_number tell number count c.run_asked.result.status from left old new c.run_asked.result.book c.run_asked.result.bad
+    (count_most words number count due)
+    (other_asked tell c.in-Ok-Some.asked (want.Gen number count) c.run_asked.result.status from left old new c.run_asked.result.book c.run_asked.result.bad
+    (sym is ∙ due) c.run_asked.ensures.outcome)
 
 pub returns-in-Ok-Some-clause-complete : goal.returns-in-Ok-Some-clause-complete
 returns-in-Ok-Some-clause-complete g c =
@@ -132,6 +153,11 @@ returns-in-Ok-None-clause-untouched g c = λ faulty.
 pub returns-in-Ok-None-clause-bounded : goal.returns-in-Ok-None-clause-bounded
 returns-in-Ok-None-clause-bounded g c = untaken (g.S.Source.left c.args.source.now)
 
+pub returns-in-Ok-None-clause-generated : goal.returns-in-Ok-None-clause-generated
+returns-in-Ok-None-clause-generated g c =
+    let none : asked_of (map string_bytes c.args.words.now) ≡ None = sym c.in-Ok-None.ensures ∙ c.in-Ok-None.field-0-is in
+    λ number count due. absurd (never_both none due)
+
 pub returns-in-Ok-None-clause-complete : goal.returns-in-Ok-None-clause-complete
 returns-in-Ok-None-clause-complete g c =
     let none : asked_of (map string_bytes c.args.words.now) ≡ None = sym c.in-Ok-None.ensures ∙ c.in-Ok-None.field-0-is in
@@ -173,6 +199,10 @@ returns-in-Err-clause-untouched g c = λ faulty.
 
 pub returns-in-Err-clause-bounded : goal.returns-in-Err-clause-bounded
 returns-in-Err-clause-bounded g c = untaken (g.S.Source.left c.args.source.now)
+
+pub returns-in-Err-clause-generated : goal.returns-in-Err-clause-generated
+returns-in-Err-clause-generated g c = λ number count due is.
+    let differ : status.NoMemory ≡ status.BadLine = sym c.without_book-in-Err.ensures.status ∙ is in cc
 
 pub returns-in-Err-clause-complete : goal.returns-in-Err-clause-complete
 returns-in-Err-clause-complete g c = λ asked text lines due given script sound reads writes. inr (inl c.without_book-in-Err.ensures.status)
