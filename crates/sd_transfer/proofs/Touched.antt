@@ -210,6 +210,11 @@ module _ (j : ℕ) (failed : ℕ → Bool) (old mid new : Parts) (low : 1 ≤ j)
     recs = λ p none. fallen.rec_lsns p ∙ ap (λ (x : Parts). rec_lsn_at x.directory p) stays;
   }
 
+-- a mark stays, whether more is marked or not
+still-marked : (b c : Bool) → c ≡ true → cond b true c ≡ true
+still-marked true c is = refl
+still-marked false c is = is
+
 -- The force of its log failed.
 module _ (i a : ℕ) (old mid new : Parts) (low : 1 ≤ i) (high : i ≤ 8) (nine : length old.loose ≡ 9) (failed : mid ≡ with_failed a i old) where
   other-mark : (d : ℕ) → d ≢ i → is_loose mid d ≡ is_loose old d
@@ -217,6 +222,10 @@ module _ (i a : ℕ) (old mid new : Parts) (low : 1 ≤ i) (high : i ≤ 8) (nin
 
   own-mark : is_loose mid i ≡ true
   own-mark = ap (λ (k : Parts). is_loose k i) failed ∙ get_or-set_same old.loose i true true (omega (arith, nine, high))
+
+  -- the fall leaves the mark
+  pub force-marks : IsFallen i mid new → is_loose new i ≡ true
+  force-marks fallen = fallen.loose i ∙ still-marked (unsettles_at i mid i) (is_loose mid i) own-mark
 
   pub force-touches : new ≡ with_fallen i new mid → IsFallen i mid new → FallTouches i (only i) none_of old new
   force-touches is fallen = fell-touches i (only i) old mid new low
@@ -241,11 +250,7 @@ module _ (i : ℕ) (old mid new : Parts) (low : 1 ≤ i) (nine : length old.loos
 
   -- the fall leaves the mark
   pub put-marks : IsFallen i mid new → is_loose new 0 ≡ true
-  put-marks fallen = fallen.loose 0 ∙ either (unsettles_at i mid 0) (is_loose mid 0) disk-mark
-    where
-      either : (b c : Bool) → c ≡ true → cond b true c ≡ true
-      either true c is = refl
-      either false c is = is
+  put-marks fallen = fallen.loose 0 ∙ still-marked (unsettles_at i mid 0) (is_loose mid 0) disk-mark
 
   pub put-touches : new ≡ with_fallen i new mid → IsFallen i mid new → FallTouches i (only 0) none_of old new
   put-touches is fallen = fell-touches i (only 0) old mid new low

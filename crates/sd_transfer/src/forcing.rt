@@ -54,8 +54,8 @@ pub fn force<G: Rig>(c: &mut Complex<G>, i: InstNo) -> Result<(), Refusal>
 /// forced before it goes on. A log that isn't settled takes no call, nor does one without a tail, and else a force makes four writes and
 /// syncs. It takes no memory, and leaves the data device and the logs of others as they were.
 ///
-/// `Failed` comes where the device failed, so only where there is something to force; the instance has fallen then, and the event is
-/// served so.
+/// `Failed` comes where the device failed, so only where there is something to force; the instance has fallen then, its log isn't
+/// settled, and the event is served so.
 pub fn force_or_fall<G: Rig>(c: &mut Complex<G>, i: InstNo) -> Result<(), Refusal>
     requires fits { (w : Core) × Fits (G.seen c.old.rig) (G.leaves c.old.rig) (parts c.old) w }
     requires active { is_active (parts c.old) i ≡ true }
@@ -70,6 +70,7 @@ pub fn force_or_fall<G: Rig>(c: &mut Complex<G>, i: InstNo) -> Result<(), Refusa
         → Serving (telling G.seen G.leaves G.moment G.since G.faults) e (Some (reply.Refused R.Failed)) c.old c.new) }
     ensures only { IfErr result (λ n. n ≡ R.Failed) }
     ensures down { OnErr result (status_at (parts c.new) i ≡ S.Down) }
+    ensures marks { OnErr result (is_loose (parts c.new) i ≡ true) }
 
     ensures untouched { Touches i none_of result (parts c.old) (parts c.new) }
     ensures rest { LeavesRest (parts c.old) (parts c.new) }

@@ -33,8 +33,9 @@ use sd_state::Complex;
 ///
 /// `Down` comes where the instance isn't active, `Lost` where the page is lost, and `NeedPage` where its write isn't the
 /// instance's: the first of these that applies, which changes nothing. `Failed` comes where a device failed. The instance has
-/// fallen then, unless it was a read that failed: its log is forced then, the data device settled, and all else as it was. Where
-/// the log has nothing to force, it falls only where the data device isn't settled behind it, as a read leaves it.
+/// fallen then, unless it was a read that failed: its log is forced then, the data device settled, and all else as it was. It falls
+/// only where its log or the data device isn't settled behind it, as a write or a sync that fails leaves them, and a read doesn't;
+/// where the log has nothing to force, only for the data device.
 pub fn write_page<G: Rig>(c: &mut Complex<G>, i: InstNo, p: PageNo) -> Result<(), Refusal>
     requires fits { (w : Core) × Fits (G.seen c.old.rig) (G.leaves c.old.rig) (parts c.old) w }
     ensures served { Serving (telling G.seen G.leaves G.moment G.since G.faults) (event.Flush i p) (did result) c.old c.new }
@@ -44,6 +45,8 @@ pub fn write_page<G: Rig>(c: &mut Complex<G>, i: InstNo, p: PageNo) -> Result<()
         → (status_at (parts c.new) i ≡ S.Down) ⊎ IsUnread i (parts c.old) (parts c.new) }
     ensures spared { result ≡ Err R.Failed → force_calls i (parts c.old) ≡ 0
         → status_at (parts c.new) i ≡ S.Down → is_loose (parts c.new) 0 ≡ true }
+    ensures unsettled { result ≡ Err R.Failed → status_at (parts c.new) i ≡ S.Down
+        → (is_loose (parts c.new) 0 ≡ true) ⊎ (is_loose (parts c.new) i ≡ true) }
     ensures clean { rows.may_write (entry_at (parts c.old).directory p) ≡ false
         → (parts c.new ≡ parts c.old) × (c.new.rig ≡ c.old.rig) }
     ensures refused { IfErr result (λ n. n ≢ R.Failed → (parts c.new ≡ parts c.old) × (c.new.rig ≡ c.old.rig)) }

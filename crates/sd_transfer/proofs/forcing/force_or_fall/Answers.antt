@@ -15,7 +15,7 @@ use Rattle.sd_world.specs.Serving.{telling}
 use Rattle.sd_transfer.specs.Forcing.{OnlyLogs, OthersKeepLogs}
 use Rattle.sd_transfer.proofs.Forced.{force-due, force-fails, force-loose, force-spares, forced-logs, forced-others, forced-ticks, idle-rig, same-logs, was-err, was-settled}
 use Rattle.sd_transfer.proofs.Rested.{fell-rests, logs-rest, of-log}
-use Rattle.sd_transfer.proofs.Touched.{force-touches, logs-untouched}
+use Rattle.sd_transfer.proofs.Touched.{force-marks, force-touches, logs-untouched}
 use Rattle.sd_transfer.proofs.forcing.force_or_fall.Goals as goal
 
 pub down-requires-clause-good : goal.down-requires-clause-good
@@ -97,6 +97,13 @@ returns-then-is_err-clause-disk_leaves g c =
 
 pub returns-then-is_err-clause-down : goal.returns-then-is_err-clause-down
 returns-then-is_err-clause-down g c = search (rules, fallen-down)
+
+pub returns-then-is_err-clause-marks : goal.returns-then-is_err-clause-marks
+returns-then-is_err-clause-marks g c =
+    let old : Parts = parts c.args.c.now in
+    force-marks c.args.i (actor old c.args.i) old (parts c.force_log.new.self) (parts c.down.new.c) c.keeps.ensures.low
+    c.keeps.ensures.high c.requires.fits.1.good.shape.loose
+    (was-err c.force_log.result _ c.if-is_err.ensures.value c.force_log.ensures.failed) c.down.ensures.fallen
 
 pub returns-clause-others : goal.returns-clause-others
 returns-clause-others g c = go (is_loose (parts c.args.c.now) c.args.i) refl

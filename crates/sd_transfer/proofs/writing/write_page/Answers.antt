@@ -136,6 +136,18 @@ returns-in_err-force_or_fall-clause-spared g c e calls down =
 pub returns-clause-spared : goal.returns-clause-spared
 returns-clause-spared g c e calls down = c.put_or_fall.ensures.spared e down
 
+pub returns-in_err-may_put-clause-unsettled : goal.returns-in_err-may_put-clause-unsettled
+returns-in_err-may_put-clause-unsettled g c = λ e.
+    let p = err_from_is_err_and c.from_residual.result c.from_residual.ensures.1 in
+    let same : c.in_err-may_put.field-0.0 ≡ R.Failed = cc (p.1, p.2) in
+    absurd (subst (StaysUnwritten (parts c.args.c.now) c.args.i c.args.p) same c.in_err-may_put.ensures.refused)
+
+pub returns-in_err-force_or_fall-clause-unsettled : goal.returns-in_err-force_or_fall-clause-unsettled
+returns-in_err-force_or_fall-clause-unsettled g c e down = inr c.in_err-force_or_fall.ensures.marks
+
+pub returns-clause-unsettled : goal.returns-clause-unsettled
+returns-clause-unsettled g c e down = inl (c.put_or_fall.ensures.spared e down)
+
 -- ---- a page that isn't changed, what no world has, and a recovery that is under way
 
 pub returns-in_err-may_put-clause-refused : goal.returns-in_err-may_put-clause-refused
