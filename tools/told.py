@@ -74,11 +74,11 @@ class Told:
     `tables` are those that it may be: one, and for each commit that was cut those with it and those without, until a read, a change or a table
     shows which. There are none where no table fits the replies. A change comes into them with the commit of its transaction, behind all that
     committed before, as nobody else finds it earlier: its record is locked. So one that is rolled back, falls or is left open leaves nothing.
-    `records` are those that were ever inserted.
+    `records` are those that were ever inserted. Where the devices weren't blank, `table` is what they stood for.
     """
 
-    def __init__(self, script, report):
-        self.tables, self.records = [{}], set()
+    def __init__(self, script, report, table=None):
+        self.tables, self.records = [dict(table or {})], set()
         self.changes, self.marks = {}, {}
         for line, reply in replies(script, report):
             if line == "table":
